@@ -1,0 +1,56 @@
+-- What an address, a peer and an entry of a message are.
+use Rattle.std.specs.Prelude.{◌≡◌, ◌≢◌, ℕ, ◌<◌, List, [], ◌∷◌, ◌++◌, length, All, IsTrue, Bool, true, false, ◌&&◌, ◌||◌, not, ◌==◌}
+use Rattle.std.specs.List.{flat_map, starts_with}
+use Rattle.net_addr.specs.declared.net.Net.{Net}
+use Rattle.net_addr.specs.declared.net.Net.TheVariants.{Unroutable, Ipv4, Ipv6, Onion, I2p, Cjdns, Internal}
+
+-- a network, and the address's bytes in the order of the wire (BIP 155)
+pub record Address : Type 0 where
+  pub net : Net
+  pub bytes : List ℕ
+
+-- how many bytes an address of the network has (BIP 155; an internal name has ten, `CNetAddr::SetInternal` in netaddress.cpp)
+abbrev pub length_of : Net → ℕ
+length_of Unroutable = 0
+length_of Ipv4 = 4
+length_of Ipv6 = 16
+length_of Onion = 32
+length_of I2p = 32
+length_of Cjdns = 16
+length_of Internal = 10
+
+-- the number of a network, in the order of the variants (`enum Network` in netaddress.h)
+abbrev pub number_of : Net → ℕ
+number_of Unroutable = 0
+number_of Ipv4 = 1
+number_of Ipv6 = 2
+number_of Onion = 3
+number_of I2p = 4
+number_of Cjdns = 5
+number_of Internal = 6
+
+-- what an IPv4 address begins with in the old sixteen-byte form (`IPV4_IN_IPV6_PREFIX`)
+abbrev pub mapped_prefix : List ℕ
+mapped_prefix = 0 ∷ 0 ∷ 0 ∷ 0 ∷ 0 ∷ 0 ∷ 0 ∷ 0 ∷ 0 ∷ 0 ∷ 0xff ∷ 0xff ∷ []
+
+-- what an internal name begins with there (`INTERNAL_IN_IPV6_PREFIX`)
+abbrev pub internal_prefix : List ℕ
+internal_prefix = 0xfd ∷ 0x6b ∷ 0x88 ∷ 0xc0 ∷ 0x87 ∷ 0x24 ∷ []
+
+-- what a Tor v2 address began with there (`TORV2_IN_IPV6_PREFIX`)
+abbrev pub torv2_prefix : List ℕ
+torv2_prefix = 0xfd ∷ 0x87 ∷ 0xd8 ∷ 0x7e ∷ 0xeb ∷ 0x43 ∷ []
+
+abbrev pub begins_with : List ℕ → List ℕ → Bool
+begins_with bytes prefix = starts_with ◌==◌ bytes prefix
+
+-- sixteen bytes that stand for something else than an IPv6 address
+abbrev pub is_old_form : List ℕ → Bool
+is_old_form bytes = begins_with bytes mapped_prefix || begins_with bytes internal_prefix || begins_with bytes torv2_prefix
+
+-- an address of one of the six networks: the network's length, bytes, and no IPv6 value that stands for something else
+pub record IsAddress (a : Address) : Type 0 where
+  pub network : a.net ≢ Unroutable
+  pub length : length a.bytes ≡ length_of a.net
+  pub bytes : All (λ b. b < 256) a.bytes
+  pub own_form : a.net ≡ Ipv6 → is_old_form a.bytes ≡ false

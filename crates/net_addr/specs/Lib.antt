@@ -1,0 +1,4 @@
+pub mod Address
+pub mod Ranges
+pub mod OldForm
+pub mod Text

@@ -1,0 +1,50 @@
+-- The network group of an address (`NetGroupManager::GetGroup` in netgroup.cpp of Bitcoin Core).
+use Rattle.std.specs.Prelude.{ℕ, ◌+◌, ◌-◌, ◌*◌, ◌/◌, ◌%◌, ◌^◌, List, [], ◌∷◌, ◌++◌, take, Option, Some, None, option_map, unwrap_or, slice_index, ◌==◌, if◌then◌else◌}
+use Rattle.std.specs.Int.{w32, w128, to_le_bytes, from_be_bytes}
+use Rattle.net_addr.specs.Address.{Address, mapped_prefix, number_of}
+use Rattle.net_addr.specs.Ranges.{Range, range, in_range, linked_ipv4, net_class}
+use Rattle.net_addr.specs.declared.net.Net.{Net}
+use Rattle.net_addr.specs.declared.net.Net.TheVariants.{Unroutable, Ipv4, Ipv6, Onion, I2p, Cjdns, Internal}
+
+-- the first n bits of a byte, and ones after them
+abbrev pub ones_after : ℕ → ℕ → ℕ
+ones_after n b = b / 2 ^ (8 - n) * 2 ^ (8 - n) + (2 ^ (8 - n) - 1)
+
+-- the first n bits of the bytes; in a last, partial byte the unused low bits are ones
+abbrev pub first_bits : ℕ → List ℕ → List ℕ
+first_bits n bytes = take (n / 8) bytes ++ (if n % 8 == 0 then [] else ones_after (n % 8) (slice_index bytes (n / 8)) ∷ [])
+
+-- Hurricane Electric's 2001:470::/32, whose users have a longer prefix each
+abbrev pub he_net : Range
+he_net = range (0x20 ∷ 0x01 ∷ 0x04 ∷ 0x70 ∷ []) 32
+
+-- the part of an address that its class groups by
+abbrev pub part_by : Net → Address → List ℕ
+part_by Unroutable a = []
+part_by Ipv4 a = take 2 (unwrap_or (linked_ipv4 a) [])
+part_by Ipv6 a = first_bits (if in_range he_net a.bytes then 36 else 32) a.bytes
+part_by Onion a = first_bits 4 a.bytes
+part_by I2p a = first_bits 4 a.bytes
+part_by Cjdns a = first_bits 12 a.bytes
+part_by Internal a = a.bytes
+
+-- by the AS number where there is one: 2, the number of the network IPv6, and the AS number with its low byte first; else by class and part
+abbrev pub group_of : Address → ℕ → List ℕ
+group_of a asn = if asn == 0 then number_of (net_class a) ∷ part_by (net_class a) a else 2 ∷ to_le_bytes w32 asn
+
+-- the 128 bits that are looked up: a linked IPv4 address behind ::ffff:0:0, else the sixteen bytes
+abbrev pub looked_up : Address → ℕ
+looked_up a = from_be_bytes w128 (unwrap_or (option_map (λ ipv4. mapped_prefix ++ ipv4) (linked_ipv4 a)) a.bytes)
+
+abbrev pub asmap_by : Net → Address → Option ℕ
+asmap_by Ipv4 a = Some (looked_up a)
+asmap_by Ipv6 a = Some (looked_up a)
+asmap_by Unroutable a = None
+asmap_by Onion a = None
+asmap_by I2p a = None
+asmap_by Cjdns a = None
+asmap_by Internal a = None
+
+-- what of an address is looked up in an asmap, the highest bit first (`NetGroupManager::GetMappedAS`)
+abbrev pub asmap_bits : Address → Option ℕ
+asmap_bits a = asmap_by (net_class a) a
