@@ -1,0 +1,2 @@
+//! The messages by which nodes tell each other of peers.
+#![tactic(auto)]

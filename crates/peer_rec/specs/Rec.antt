@@ -1,0 +1,43 @@
+-- What a record says of its peer.
+use Rattle.std.specs.Prelude.{◌≡◌, ℕ, ◌+◌, ◌<◌, ◌≤◌, List, [], ◌∷◌, length, Bool, true, false, ◌&&◌, ◌||◌, not, ◌==◌, nat_lt, nat_le, if◌then◌else◌, All}
+use Rattle.std.specs.List.Sorted.{IsStrictlyIncreasing}
+use Rattle.peer_rec.specs.declared.rec.Rec.{Rec}
+use Rattle.peer_rec.specs.declared.place.Place.{Place}
+use Rattle.peer_rec.specs.declared.place.Place.TheVariants.{New, Tried}
+
+abbrev pub buckets_by : Place → List ℕ
+buckets_by (New buckets) = buckets
+buckets_by Tried = []
+
+-- the buckets of the new table that list the record
+abbrev pub buckets_of : Rec → List ℕ
+buckets_of r = buckets_by r.place
+
+abbrev pub tried_by : Place → Bool
+tried_by (New buckets) = false
+tried_by Tried = true
+
+abbrev pub is_tried : Rec → Bool
+is_tried r = tried_by r.place
+
+-- one to eight buckets below 1024, which rise
+pub record AreBuckets (buckets : List ℕ) : Type 0 where
+  pub some : 0 < length buckets
+  pub most : length buckets ≤ 8
+  pub below : All (λ b. b < 1024) buckets
+  pub rising : IsStrictlyIncreasing buckets
+
+abbrev pub IsPlace : Place → Type 0
+IsPlace (New buckets) = AreBuckets buckets
+IsPlace Tried = Unit {0}
+
+-- A record that is not worth keeping (`AddrInfo::IsTerrible`): not one tried in the last minute, but one seen more
+-- than ten minutes ahead, one not seen for thirty days, one that failed three times and never succeeded, and one
+-- that failed ten times with no success for a week.
+abbrev pub is_terrible : Rec → ℕ → Bool
+is_terrible r now =
+    not (nat_le now (r.last_try + 60)) && (
+      nat_lt (now + 600) r.time ||
+      nat_lt (r.time + 2592000) now ||
+      (r.last_success == 0 && nat_le 3 r.attempts) ||
+      (nat_lt (r.last_success + 604800) now && nat_le 10 r.attempts))

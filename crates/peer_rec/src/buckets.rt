@@ -1,0 +1,41 @@
+ghost use Rattle.std.specs.Prelude.{◌≡◌, ◌∷◌, []};
+
+use arrayvec::ArrayVec;
+use std::marker::Model;
+
+/// The buckets of the new table that list a record: at most eight numbers.
+#[derive(Drop)]
+pub struct Buckets {
+    items: ArrayVec<u16, 8>,
+}
+
+impl Model for Buckets {
+    ghost use Rattle.std.specs.Prelude.{ℕ, List};
+
+    ghost Value = { List ℕ };
+
+    ghost view = { λ b. b.items.items };
+}
+
+impl Buckets {
+    pub fn of(items: ArrayVec<u16, 8>) -> Buckets
+        ensures { result ≡ items.items }
+    {
+        Buckets { items }
+    }
+
+    /// One bucket alone.
+    pub fn one(bucket: u16) -> Buckets
+        ensures { result ≡ bucket ∷ [] }
+    {
+        let mut items = ArrayVec::new();
+        items.push(bucket);
+        Buckets::of(items)
+    }
+
+    pub fn items(&self) -> &[u16]
+        ensures { result.now ≡ self.now }
+    {
+        self.items.as_slice()
+    }
+}

@@ -1,0 +1,83 @@
+-- Buckets and slots: where in the tables a peer may stand (`AddrInfo::GetNewBucket`, `GetTriedBucket` and
+-- `GetBucketPosition` in addrman.cpp of Bitcoin Core).
+use Rattle.std.specs.Prelude.{ℕ, ◌%◌, List, [], ◌∷◌, ◌++◌, length, take, map, Option, Some, None}
+use Rattle.std.specs.Int.{w32, w64, to_le_bytes, from_le_bytes}
+use Rattle.std.specs.List.{concat, range_with_len}
+use Rattle.sha2.specs.Sha256.{sha256}
+use Rattle.wire_num.specs.CompactSize.{compact_size}
+use Rattle.net_addr.specs.Address.{Address}
+use Rattle.net_addr.specs.OldForm.{key_bytes}
+use Rattle.net_addr.specs.declared.peer.Peer.{Peer}
+use Rattle.net_group.specs.Group.{group_of}
+
+-- SHA-256 of SHA-256 (FIPS 180-4)
+unfoldable pub double_sha256 : List ℕ → List ℕ
+double_sha256 bytes = sha256 (sha256 bytes)
+
+-- the first eight bytes of the double hash, the low byte first (`HashWriter::GetCheapHash`)
+unfoldable pub cheap_hash : List ℕ → ℕ
+cheap_hash bytes = from_le_bytes w64 (take 8 (double_sha256 bytes))
+
+-- a byte list in a hash stands behind its length
+abbrev pub sized : List ℕ → List ℕ
+sized bytes = compact_size (length bytes) ++ bytes
+
+-- the hash of some parts in order
+abbrev pub hash_of : List (List ℕ) → ℕ
+hash_of parts = cheap_hash (concat parts)
+
+-- what places depend on: a node's secret key of 32 bytes, and the bytes of its asmap where it has one
+pub record Places : Type 0 where
+  pub key : List ℕ
+  pub map : Option (List ℕ)
+
+-- the number of the autonomous system that announces the address, 0 where there is none
+abbrev pub asn : Option (List ℕ) → Address → ℕ
+asn None a = 0
+asn (Some file) a = 0
+
+-- the group of an address by the node's asmap
+abbrev pub group : Places → Address → List ℕ
+group places a = group_of a (asn places.map a)
+
+-- the buckets of the new table that peers told of by a source of this group can be in
+abbrev pub source_bucket : Places → List ℕ → ℕ → ℕ
+source_bucket places source_group i = hash_of (places.key ∷ sized source_group ∷ to_le_bytes w64 i ∷ []) % 1024
+
+abbrev pub source_buckets : Places → List ℕ → List ℕ
+source_buckets places source_group = map (source_bucket places source_group) (range_with_len 0 64)
+
+-- the buckets of the tried table that peers of this group can be in
+abbrev pub group_bucket : Places → List ℕ → ℕ → ℕ
+group_bucket places peer_group i = hash_of (places.key ∷ sized peer_group ∷ to_le_bytes w64 i ∷ []) % 256
+
+abbrev pub group_buckets : Places → List ℕ → List ℕ
+group_buckets places peer_group = map (group_bucket places peer_group) (range_with_len 0 8)
+
+-- which of the source's 64 buckets a peer of one group told of by a source of another is in
+abbrev pub source_choice : Places → List ℕ → List ℕ → ℕ
+source_choice places peer_group source_group = hash_of (places.key ∷ sized peer_group ∷ sized source_group ∷ []) % 64
+
+-- the bucket of the new table for a peer told of by a source, below 1024
+unfoldable pub new_bucket : Places → Peer → Address → ℕ
+new_bucket places peer source =
+    source_bucket places (group places source) (source_choice places (group places peer.addr) (group places source))
+
+-- which of its group's 8 buckets a peer is in
+abbrev pub group_choice : Places → Peer → ℕ
+group_choice places peer = hash_of (places.key ∷ sized (key_bytes peer) ∷ []) % 8
+
+-- the bucket of the tried table for a peer, below 256
+unfoldable pub tried_bucket : Places → Peer → ℕ
+tried_bucket places peer = group_bucket places (group places peer.addr) (group_choice places peer)
+
+-- the slot of a peer in a bucket, below 64; the letter of the table is N for new and K for tried
+abbrev pub slot : ℕ → Places → Peer → ℕ → ℕ
+slot letter places peer bucket =
+    hash_of (places.key ∷ (letter ∷ []) ∷ to_le_bytes w32 bucket ∷ sized (key_bytes peer) ∷ []) % 64
+
+unfoldable pub new_slot : Places → Peer → ℕ → ℕ
+new_slot places peer bucket = slot 0x4e places peer bucket
+
+unfoldable pub tried_slot : Places → Peer → ℕ → ℕ
+tried_slot places peer bucket = slot 0x4b places peer bucket

@@ -1,0 +1,40 @@
+-- What holds of every state between two lines of a log.
+use Rattle.std.specs.Prelude.{◌≡◌, ◌≢◌, ℕ, ◌<◌, ◌≤◌, List, length, map, All, AllPairs, Contains, true, IsSome, Some, IfSome, IsPermutation}
+use Rattle.std.specs.List.Sorted.{IsStrictlyIncreasing}
+use Rattle.net_addr.specs.Address.{IsAddress}
+use Rattle.net_addr.specs.Ranges.{is_valid}
+use Rattle.placing.specs.Places.{tried_bucket, tried_slot}
+use Rattle.peer_rec.specs.Rec.{IsPlace}
+use Rattle.peer_rec.specs.declared.rec.Rec.{Rec}
+use Rattle.table_machine.specs.State.{State, numbered, is_new_at, is_tried_at, tried_occupant}
+
+-- two records that say they are at one slot are one record
+abbrev pub AloneInNew : State → Type 0
+AloneInNew st = (bucket at : ℕ) (r q : Rec) → Contains st.records r → Contains st.records q →
+    is_new_at st.places bucket at r ≡ true → is_new_at st.places bucket at q ≡ true → r.number ≡ q.number
+
+abbrev pub AloneInTried : State → Type 0
+AloneInTried st = (bucket at : ℕ) (r q : Rec) → Contains st.records r → Contains st.records q →
+    is_tried_at st.places bucket at r ≡ true → is_tried_at st.places bucket at q ≡ true → r.number ≡ q.number
+
+-- the tried slot of a newcomer that waits is occupied
+abbrev pub HasOpponent : State → ℕ → Type 0
+HasOpponent st number = IfSome (numbered st number) (λ r.
+    let bucket = tried_bucket st.places r.peer in
+    IsSome (tried_occupant st bucket (tried_slot st.places r.peer bucket)))
+
+pub record IsSound (st : State) : Type 0 where
+  pub new_slots : AloneInNew st
+  pub tried_slots : AloneInTried st
+  pub places : All (λ r. IsPlace r.place) st.records
+  pub order : IsPermutation (map (λ r. r.number) st.records) st.order
+  pub peers : AllPairs (λ r q. r.peer ≢ q.peer) st.records
+  pub addresses : All (λ r. IsAddress r.peer.addr) st.records
+  pub valid : All (λ r. is_valid r.peer.addr ≡ true) st.records
+  pub rising : IsStrictlyIncreasing (map (λ r. r.number) st.records)
+  pub below_next : All (λ r. r.number < st.next_number) st.records
+  pub collisions : IsStrictlyIncreasing st.collisions
+  pub few_collisions : length st.collisions ≤ 10
+  pub collisions_below_next : All (λ n. n < st.next_number) st.collisions
+  pub opponents : All (HasOpponent st) st.collisions
+  pub attempts : All (λ r. r.attempts ≤ 2147483647) st.records
