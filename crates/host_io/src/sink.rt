@@ -33,10 +33,9 @@ pub fn write_all<K: Sink>(sink: &mut K, bytes: &[u8]) -> Result<(), Failed>
     ensures cause { OnErr result (Rose (K.faults sink.old) (K.faults sink.new)) }
     ensures never_falls { K.faults sink.old ≤ K.faults sink.new }
 {
-    let mut rest = bytes;
-    while !rest.is_empty() {
-        let taken = sink.write(rest)?;
-        rest = &rest[taken..];
+    let mut done = 0;
+    while done < bytes.len() {
+        done += sink.write(&bytes[done..])?;
     }
     Ok(())
 }
