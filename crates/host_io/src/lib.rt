@@ -5,9 +5,23 @@
 #![tactic(auto)]
 
 mod failed;
+mod mem_sink;
+mod mem_source;
+mod memory;
 mod sink;
 mod source;
+mod std_sink;
+mod std_source;
+mod sure_sink;
+mod sure_source;
 
 pub use failed::Failed;
+pub use mem_sink::MemSink;
+pub use mem_source::MemSource;
+pub use memory::Memory;
 pub use sink::{Sink, write_all};
 pub use source::Source;
+pub use std_sink::StdSink;
+pub use std_source::StdSource;
+pub use sure_sink::SureSink;
+pub use sure_source::SureSource;
