@@ -4,10 +4,14 @@
 //! so a caller can show that a fault of its own had a cause outside.
 #![tactic(auto)]
 
+mod bytes;
 mod failed;
+mod folder;
 mod mem_sink;
 mod mem_source;
 mod memory;
+mod name;
+mod per_name;
 mod sink;
 mod source;
 mod std_sink;
@@ -15,10 +19,13 @@ mod std_source;
 mod sure_sink;
 mod sure_source;
 
+pub use bytes::Bytes;
 pub use failed::Failed;
+pub use folder::Folder;
 pub use mem_sink::MemSink;
 pub use mem_source::MemSource;
 pub use memory::Memory;
+pub use name::Name;
 pub use sink::{Sink, write_all};
 pub use source::Source;
 pub use std_sink::StdSink;
