@@ -1,5 +1,5 @@
 -- A folder in memory: its files, and which of its calls fail.
-use Rattle.std.specs.Prelude.{◌≡◌, ℕ, List, Bool, Option, map}
+use Rattle.std.specs.Prelude.{◌≡◌, ℕ, List, Bool, Option, Any}
 use Rattle.host_io.specs.Outside.{raised}
 use Rattle.host_io.specs.declared.name.Name.{Name}
 use Rattle.host_io.specs.declared.name.Name.TheVariants.{Peers, PeersTemp, Asmap, AsmapTemp, Prefixes, Bans, BansTemp}
@@ -23,9 +23,9 @@ pub record FolderState : Type 0 where
   pub faults : ℕ
   pub starved : ℕ
 
--- The numbers of the calls that fail.
-abbrev pub failing : FolderState → List ℕ
-failing folder = map (λ fail. fail.0) folder.fails
+-- The next call is one of those that fail.
+abbrev pub NextFails : FolderState → Type 0
+NextFails folder = Any (λ fail. fail.0 ≡ folder.calls) folder.fails
 
 -- The folder after a call that only read it.
 abbrev pub folder_after_reading : FolderState → FolderState

@@ -7,6 +7,7 @@
 mod bytes;
 mod failed;
 mod folder;
+mod mem_folder;
 mod mem_sink;
 mod mem_source;
 mod memory;
@@ -22,6 +23,7 @@ mod sure_source;
 pub use bytes::Bytes;
 pub use failed::Failed;
 pub use folder::Folder;
+pub use mem_folder::MemFolder;
 pub use mem_sink::MemSink;
 pub use mem_source::MemSource;
 pub use memory::Memory;
