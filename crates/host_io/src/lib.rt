@@ -1,0 +1,36 @@
+//! The outside of a program: where bytes come from, where they go, and a folder of files.
+//!
+//! Each trait counts its faults. A call says `Failed` only where that count rose in the call,
+//! so a caller can show that a fault of its own had a cause outside.
+#![tactic(auto)]
+
+mod bytes;
+mod failed;
+mod folder;
+mod mem_folder;
+mod mem_sink;
+mod mem_source;
+mod memory;
+mod name;
+mod per_name;
+mod sink;
+mod source;
+mod std_sink;
+mod std_source;
+mod sure_sink;
+mod sure_source;
+
+pub use bytes::Bytes;
+pub use failed::Failed;
+pub use folder::Folder;
+pub use mem_folder::MemFolder;
+pub use mem_sink::MemSink;
+pub use mem_source::MemSource;
+pub use memory::Memory;
+pub use name::Name;
+pub use sink::{Sink, write_all};
+pub use source::Source;
+pub use std_sink::StdSink;
+pub use std_source::StdSource;
+pub use sure_sink::SureSink;
+pub use sure_source::SureSource;

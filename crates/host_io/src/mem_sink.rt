@@ -1,0 +1,97 @@
+ghost use Rattle.std.specs.Prelude.{◌≡◌, ℕ, ◌<◌, ◌≤◌, ◌++◌, List, [], length, take, Contains, IsErr, IfOk, OnOk, OnErr, Some};
+ghost use Rattle.host_io.specs.MemSink.{sink_after_write, sink_after_fault, sink_after_want};
+ghost use Rattle.host_io.specs.Outside.{Rose};
+
+use std::alloc::Global;
+use std::marker::Model;
+
+use crate::failed::Failed;
+use crate::memory::Memory;
+use crate::sink::Sink;
+
+/// A sink that keeps its bytes in memory, and fails the calls that its maker chose.
+#[derive(Debug, Drop)]
+pub struct MemSink {
+    bytes: Vec<u8>,
+    fails: Vec<u64>,
+    calls: u64,
+    faults: u64,
+    starved: u64,
+}
+
+impl Model for MemSink {
+    ghost use Rattle.host_io.specs.MemSink.{SinkState};
+
+    ghost Value = { SinkState };
+
+    ghost view = { λ s. record {
+        bytes = s.bytes.items;
+        fails = s.fails.items;
+        calls = s.calls;
+        faults = s.faults;
+        starved = s.starved
+    } };
+}
+
+impl MemSink {
+    /// An empty sink. The calls of `write` whose numbers, from 0, are in `fails` will fail.
+    pub fn make(alloc: Global, fails: &[u64]) -> Result<MemSink, Memory>
+        ensures { IfOk result (λ sink. sink ≡ record {
+            bytes = []; fails = fails.now; calls = 0; faults = 0; starved = 0 }) }
+    {
+        Ok(MemSink {
+            bytes: Vec::new(alloc),
+            fails: fails.to_vec(alloc)?,
+            calls: 0,
+            faults: 0,
+            starved: 0,
+        })
+    }
+
+    /// The bytes that were written.
+    pub fn bytes(&self) -> &[u8]
+        ensures { result.now ≡ self.now.bytes }
+    {
+        &self.bytes
+    }
+
+    /// How many calls found no memory for their piece; the count stands still at its type's end.
+    pub fn starved(&self) -> u64
+        ensures { result ≡ self.now.starved }
+    {
+        self.starved
+    }
+}
+
+impl Sink for MemSink {
+    ghost written = { λ s. Some s.bytes };
+
+    ghost faults = { λ s. s.faults };
+
+    /// Takes the whole piece. It fails where the call was chosen to, and otherwise only where no
+    /// memory is found for the piece.
+    fn write(&mut self, piece: &[u8]) -> Result<usize, Failed>
+        requires { 0 < length piece.now }
+        ensures whole { IfOk result (λ n. n ≡ length piece.now) }
+        ensures kept { OnOk result (self.new ≡ sink_after_write self.old piece.now) }
+        ensures chosen_fails { Contains self.old.fails self.old.calls → IsErr result }
+        ensures chosen { Contains self.old.fails self.old.calls → self.new ≡ sink_after_fault self.old }
+        ensures starved { OnErr result (¬ Contains self.old.fails self.old.calls → self.new ≡ sink_after_want self.old) }
+        ensures failed { OnErr result (self.new.bytes ≡ self.old.bytes) }
+        ensures cause { OnErr result (Rose self.old.faults self.new.faults) }
+        ensures never_falls { self.old.faults ≤ self.new.faults }
+    {
+        let chosen = self.fails.contains(&self.calls);
+        self.calls = self.calls.saturating_add(1);
+        if chosen {
+            self.faults = self.faults.saturating_add(1);
+            return Err(Failed);
+        }
+        if self.bytes.extend_from_slice(piece).is_err() {
+            self.starved = self.starved.saturating_add(1);
+            self.faults = self.faults.saturating_add(1);
+            return Err(Failed);
+        }
+        Ok(piece.len())
+    }
+}

@@ -1,0 +1,31 @@
+/// The files of the folder. Each temporary name is where the file before it is written first.
+#[derive(Clone, Copy, PartialEq, Eq, Debug)]
+pub enum Name {
+    Peers,
+    PeersTemp,
+    Asmap,
+    AsmapTemp,
+    Prefixes,
+    Bans,
+    BansTemp,
+}
+
+impl Name {
+    ghost use Rattle.std.specs.Prelude.{◌≡◌};
+    ghost use Rattle.host_io.specs.Names.{file_name_of};
+
+    /// The name of the file in its folder.
+    pub fn file_name(self) -> &'static str
+        ensures { result.now ≡ file_name_of self }
+    {
+        match self {
+            Name::Peers => "peers.dat",
+            Name::PeersTemp => "peers.tmp",
+            Name::Asmap => "asmap.dat",
+            Name::AsmapTemp => "asmap.tmp",
+            Name::Prefixes => "prefixes.txt",
+            Name::Bans => "banlist.json",
+            Name::BansTemp => "banlist.tmp",
+        }
+    }
+}
