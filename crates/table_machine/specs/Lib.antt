@@ -1,3 +1,4 @@
 pub mod State
 pub mod Sound
 pub mod Entries
+pub mod Built

@@ -1,0 +1,30 @@
+-- What a replay is asked for, and what it writes.
+use Rattle.std.specs.Prelude.{◌≡◌, ℕ, List, [], ◌∷◌, ◌++◌, length, take, Ok, None, codes, ◌+◌}
+use Rattle.hex.specs.Hex.{decode_of}
+use Rattle.log_lines.specs.Lines.{lines_of}
+use Rattle.table_machine.specs.State.{State, empty_state}
+use Rattle.addrman_run.specs.Run.{Run, IsNotBuilt}
+
+-- the words are replay, --key and the key in hexadecimal
+abbrev pub IsReplay : List (List ℕ) → List ℕ → Type 0
+IsReplay words key =
+    (digits : List ℕ) × (words ≡ codes "replay" ∷ codes "--key" ∷ digits ∷ []) × (decode_of digits ≡ Ok key) × (length key ≡ 32)
+
+-- the state that a replay begins with
+abbrev pub opening : List ℕ → State
+opening key = empty_state (record { key = key; map = None })
+
+-- the replies to all lines of the log
+abbrev pub AnswersAll : List ℕ → List ℕ → List ℕ → Type 0
+AnswersAll key log text = (end : State) × Run (opening key) (lines_of log) text end
+
+-- the replies to the first lines of the log, as far as they are written
+abbrev pub AnswersFront : List ℕ → List ℕ → List ℕ → Type 0
+AnswersFront key log text =
+    (n : ℕ) × (rest : List ℕ) × (end : State) × Run (opening key) (take n (lines_of log)) (text ++ rest) end
+
+-- the replies to the lines before line n, counted from 1, which is not built
+abbrev pub AnswersUpTo : List ℕ → List ℕ → ℕ → List ℕ → Type 0
+AnswersUpTo key log n text =
+    (line : List ℕ) × (before : List (List ℕ)) × (after : List (List ℕ)) × (end : State) ×
+    (lines_of log ≡ before ++ line ∷ after) × (n ≡ length before + 1) × Run (opening key) before text end × IsNotBuilt end line

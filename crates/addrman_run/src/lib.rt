@@ -1,0 +1,2 @@
+//! The runs of the program: words, log and output in, a status out.
+#![tactic(auto)]

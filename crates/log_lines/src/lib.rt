@@ -1,0 +1,12 @@
+//! The lines of a log, read as commands, and the replies to them, as text.
+#![tactic(auto)]
+
+mod command;
+mod fault;
+mod reply;
+mod words;
+
+pub use command::Command;
+pub use fault::LineFault;
+pub use reply::Reply;
+pub use words::Words;
