@@ -3,10 +3,12 @@
 
 mod command;
 mod fault;
+mod lines;
 mod reply;
 mod words;
 
 pub use command::Command;
 pub use fault::LineFault;
+pub use lines::{LINE_FEED, split_line};
 pub use reply::Reply;
 pub use words::Words;

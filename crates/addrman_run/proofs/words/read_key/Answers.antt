@@ -1,0 +1,7 @@
+use Rattle.addrman_run.proofs.words.read_key.Goals as goal
+
+pub returns-clause-found : goal.returns-clause-found
+returns-clause-found c = ?
+
+pub returns-clause-none : goal.returns-clause-none
+returns-clause-none c = ?
