@@ -5,6 +5,7 @@
 #![tactic(auto)]
 
 mod bytes;
+mod dir_folder;
 mod failed;
 mod folder;
 mod mem_folder;
@@ -17,10 +18,12 @@ mod sink;
 mod source;
 mod std_sink;
 mod std_source;
+mod sure_folder;
 mod sure_sink;
 mod sure_source;
 
 pub use bytes::Bytes;
+pub use dir_folder::DirFolder;
 pub use failed::Failed;
 pub use folder::Folder;
 pub use mem_folder::MemFolder;
@@ -32,5 +35,6 @@ pub use sink::{Sink, write_all};
 pub use source::Source;
 pub use std_sink::StdSink;
 pub use std_source::StdSource;
+pub use sure_folder::SureFolder;
 pub use sure_sink::SureSink;
 pub use sure_source::SureSource;
