@@ -1,8 +1,10 @@
-ghost use Rattle.std.specs.Prelude.{◌≡◌, ℕ, ◌≤◌, length, IfOk, None};
+ghost use Rattle.std.specs.Prelude.{◌≡◌, ℕ, ◌<◌, ◌≤◌, length, IfOk, OnOk, OnErr, None};
+ghost use Rattle.host_io.specs.Outside.{Rose, raised};
 
 use std::fs;
 use std::io;
 use std::io::{ErrorKind, Read, Seek, SeekFrom};
+use std::marker::Model;
 use std::rt::Files;
 
 use crate::failed::Failed;
@@ -16,9 +18,17 @@ pub struct DirFolder<'a, R> {
     faults: u64,
 }
 
+impl<'a, R> Model for DirFolder<'a, R> {
+    ghost Value = { ℕ };
+
+    ghost view = { λ f. f.faults };
+}
+
 impl<'a, R: Files + Alloc> DirFolder<'a, R> {
-    /// The current folder as `rt` reaches it.
-    pub fn make(rt: &'a R) -> DirFolder<'a, R> {
+    /// The current folder as `rt` reaches it. Contracts see it as its count of faults.
+    pub fn make(rt: &'a R) -> DirFolder<'a, R>
+        ensures { result ≡ 0 }
+    {
         DirFolder { rt, faults: 0 }
     }
 }
@@ -26,11 +36,16 @@ impl<'a, R: Files + Alloc> DirFolder<'a, R> {
 impl<'a, R: Files + Alloc> Folder for DirFolder<'a, R> {
     ghost files = { λ _. None };
 
-    ghost faults = { λ f. f.faults };
+    ghost faults = { λ f. f };
 
     /// `None` where no file of this name is found; each other error is a fault. A directory of
     /// this name is there, and fails to be read.
-    fn size(&mut self, name: Name) -> Result<Option<u64>, Failed> {
+    fn size(&mut self, name: Name) -> Result<Option<u64>, Failed>
+        ensures steady { OnOk result (self.new ≡ self.old) }
+        ensures counted { OnErr result (self.new ≡ raised self.old) }
+        ensures cause { OnErr result (Rose self.old self.new) }
+        ensures never_falls { self.old ≤ self.new }
+    {
         match self.rt.metadata(name.file_name()) {
             Ok(metadata) => Ok(Some(metadata.len())),
             Err(error) if error.kind() == ErrorKind::NotFound => Ok(None),
@@ -42,7 +57,14 @@ impl<'a, R: Files + Alloc> Folder for DirFolder<'a, R> {
     }
 
     /// Opens the file, goes to `at` and reads once. Each error is a fault.
-    fn read(&mut self, name: Name, at: u64, buf: &mut [u8]) -> Result<usize, Failed> {
+    fn read(&mut self, name: Name, at: u64, buf: &mut [u8]) -> Result<usize, Failed>
+        requires { 0 < length buf.old }
+        ensures within { IfOk result (λ n. n ≤ length buf.old) }
+        ensures steady { OnOk result (self.new ≡ self.old) }
+        ensures counted { OnErr result (self.new ≡ raised self.old) }
+        ensures cause { OnErr result (Rose self.old self.new) }
+        ensures never_falls { self.old ≤ self.new }
+    {
         match read_at(self.rt, name.file_name(), at, buf) {
             Ok(count) => Ok(count),
             Err(_) => {

@@ -24,7 +24,7 @@ mod sure_source;
 
 pub use bytes::Bytes;
 pub use dir_folder::DirFolder;
-pub use failed::Failed;
+pub use failed::{Failed, still_count_has_not_risen};
 pub use folder::Folder;
 pub use mem_folder::MemFolder;
 pub use mem_sink::MemSink;

@@ -161,7 +161,7 @@ impl Folder for MemFolder {
         self.begin()?;
         match self.files.get(name) {
             Some(bytes) => Ok(copy_from(bytes.items(), at, buf)),
-            None => Ok(0),
+            None => unreachable!(),
         }
     }
 }
