@@ -1,15 +1,13 @@
 ghost use Rattle.std.specs.Prelude.{◌≡◌, ℕ, ◌<◌, ◌≤◌, length, IfOk, OnOk, OnErr, None};
 ghost use Rattle.host_io.specs.Outside.{Rose, raised};
 
-use std::fs;
-use std::io;
-use std::io::{ErrorKind, Read, Seek, SeekFrom};
-use std::marker::Model;
-use std::rt::Files;
-
 use crate::failed::Failed;
 use crate::folder::Folder;
 use crate::name::Name;
+use std::io::{ErrorKind, Read, Seek, SeekFrom};
+use std::marker::Model;
+use std::rt::Files;
+use std::{fs, io};
 
 /// The current folder of the process. It tells nothing of the files.
 #[derive(Drop)]
@@ -82,4 +80,36 @@ fn read_at<R: Files>(rt: &R, path: &str, at: u64, buf: &mut [u8]) -> io::Result<
     let mut file = fs::open(rt, path)?;
     file.seek(SeekFrom::Start(at))?;
     file.read(buf)
+}
+
+#[cfg(test)]
+mod tests {
+    use super::*;
+    use std::test::Fail;
+
+    #[test]
+    fn reads_the_files_of_the_current_folder(rt: HostRuntime) -> Result<(), Fail> {
+        let mut buf = [0u8; 4];
+        let mut folder = DirFolder::make(&rt);
+        assert_eq!(rt; folder.size(Name::Asmap), Ok(None));
+        fs::write(&rt, "asmap.dat", "bitcoin")?;
+        assert_eq!(rt; folder.size(Name::Asmap), Ok(Some(7)));
+        assert_eq!(rt; folder.read(Name::Asmap, 3, &mut buf), Ok(4));
+        assert_eq!(rt; buf.as_slice(), b"coin".as_slice());
+        assert_eq!(rt; folder.read(Name::Asmap, 7, &mut buf), Ok(0));
+        fs::remove_file(&rt, "asmap.dat")?;
+        assert_eq!(rt; folder.faults, 0);
+
+        // An absent file and a directory of the name fail to be read.
+        assert_eq!(rt; folder.read(Name::Prefixes, 0, &mut buf), Err(Failed));
+        fs::create_dir(&rt, "prefixes.txt")?;
+        assert_eq!(rt;
+            folder.size(Name::Prefixes).is_ok_and(|size| size.is_some()),
+            true
+        );
+        assert_eq!(rt; folder.read(Name::Prefixes, 0, &mut buf), Err(Failed));
+        fs::remove_dir(&rt, "prefixes.txt")?;
+        assert_eq!(rt; folder.faults, 2);
+        Ok(())
+    }
 }

@@ -7,5 +7,4 @@ pub struct Failed;
 /// So an object whose count of faults is a constant, as those that never fail, never says `Failed`.
 pub fn still_count_has_not_risen()
     ensures { StillCountHasNotRisen }
-{
-}
+{}

@@ -38,3 +38,6 @@ pub use std_source::StdSource;
 pub use sure_folder::SureFolder;
 pub use sure_sink::SureSink;
 pub use sure_source::SureSource;
+
+#[cfg(test)]
+mod tests;

@@ -4,15 +4,14 @@ ghost use Rattle.host_io.specs.Outside.{Rose};
 ghost use Rattle.host_io.specs.MemFolder.{under, NextFails, folder_after_reading, folder_after_fault};
 ghost use Rattle.host_io.specs.declared.name.Name.{Name};
 
-use std::alloc::Global;
-use std::marker::Model;
-
 use crate::bytes::Bytes;
 use crate::failed::Failed;
 use crate::folder::Folder;
 use crate::memory::Memory;
 use crate::name::Name;
 use crate::per_name::PerName;
+use std::alloc::Global;
+use std::marker::Model;
 
 /// A folder in memory. It fails the calls that its maker chose.
 #[derive(Debug, Drop)]
@@ -31,11 +30,11 @@ impl Model for MemFolder {
     ghost Value = { FolderState };
 
     ghost view = { λ f. record {
-        files = f.files;
-        fails = f.fails.items;
-        calls = f.calls;
-        faults = f.faults;
-        starved = f.starved
+      files = f.files;
+      fails = f.fails.items;
+      calls = f.calls;
+      faults = f.faults;
+      starved = f.starved;
     } };
 }
 

@@ -1,11 +1,10 @@
 ghost use Rattle.std.specs.Prelude.{◌≡◌, ℕ, ◌<◌, ◌≤◌, length, IfOk, OnOk, OnErr, None};
 ghost use Rattle.host_io.specs.Outside.{Rose, raised};
 
-use std::io::Write;
-use std::marker::Model;
-
 use crate::failed::Failed;
 use crate::sink::Sink;
+use std::io::Write;
+use std::marker::Model;
 
 /// A sink over any writer, as standard output. It tells nothing of the bytes.
 #[derive(Debug, Drop)]
@@ -51,5 +50,39 @@ impl<W: Write> Sink for StdSink<W> {
                 Err(Failed)
             }
         }
+    }
+}
+
+#[cfg(test)]
+mod tests {
+    use super::*;
+    use std::io;
+
+    /// A writer that takes no byte.
+    struct FullWriter;
+
+    impl Write for FullWriter {
+        fn write(&mut self, _buf: &[u8]) -> io::Result<usize> {
+            Ok(0)
+        }
+
+        fn flush(&mut self) -> io::Result<()> {
+            Ok(())
+        }
+    }
+
+    #[test]
+    fn writes_all_and_counts_a_refused_piece(rt: HostRuntime) {
+        let mut sink = StdSink::make(Vec::new(rt.alloc()));
+        assert_eq!(rt; sink.write(b"bit"), Ok(3));
+        assert_eq!(rt; sink.write(b"coin"), Ok(4));
+        assert_eq!(rt; sink.writer.as_slice(), b"bitcoin".as_slice());
+        assert_eq!(rt; sink.faults, 0);
+
+        let mut full = StdSink::make(FullWriter);
+        assert_eq!(rt; full.write(b"bit"), Err(Failed));
+        assert_eq!(rt; full.faults, 1);
+        let StdSink { writer, faults: _ } = full;
+        let FullWriter = writer;
     }
 }
