@@ -9,17 +9,17 @@ the_rest bytes done = grind (arith, common_steps)
 
 -- a write of the first bytes of the rest adds them to those that were written before
 pub written-step : (old now new : Option (List ℕ)) (bytes : List ℕ) (done more : ℕ)
-  → IfSome old (λ before. now ≡ Some (before ++ take done bytes))
-  → IfSome now (λ sofar. new ≡ Some (sofar ++ take more (take (length bytes - done) (drop done bytes))))
-  → IfSome old (λ before. new ≡ Some (before ++ take (done + more) bytes))
+    → IfSome old (λ before. now ≡ Some (before ++ take done bytes))
+    → IfSome now (λ sofar. new ≡ Some (sofar ++ take more (take (length bytes - done) (drop done bytes))))
+    → IfSome old (λ before. new ≡ Some (before ++ take (done + more) bytes))
 written-step None now new bytes done more h k = tt
 written-step (Some before) now new bytes done more h k =
     (rw h at k) ∙ ap Some (ap (λ xs. (before ++ take done bytes) ++ take more xs) (the_rest bytes done)
-      ∙ append_assoc before (take done bytes) (take more (drop done bytes))
-      ∙ ap (λ xs. before ++ xs) (sym (take-add done more bytes)))
+    ∙ append_assoc before (take done bytes) (take more (drop done bytes))
+    ∙ ap (λ xs. before ++ xs) (sym (take-add done more bytes)))
 
 -- a sink that does not tell never tells
 pub untold-step : (old now new : Option (List ℕ))
-  → IfNone old (now ≡ None) → IfNone now (new ≡ None) → IfNone old (new ≡ None)
+    → IfNone old (now ≡ None) → IfNone now (new ≡ None) → IfNone old (new ≡ None)
 untold-step (Some before) now new h k = tt
 untold-step None now new h k = rw h at k

@@ -21,4 +21,7 @@ sink_after_fault sink = record sink { calls = raised sink.calls; faults = raised
 -- The sink after a call that found no memory for its piece.
 abbrev pub sink_after_want : SinkState → SinkState
 sink_after_want sink = record sink {
-  calls = raised sink.calls; faults = raised sink.faults; starved = raised sink.starved }
+  calls = raised sink.calls;
+  faults = raised sink.faults;
+  starved = raised sink.starved;
+}

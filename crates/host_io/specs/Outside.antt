@@ -8,3 +8,7 @@ Rose before after = (before < after) ⊎ (after ≡ 2 ^ 64 - 1)
 -- A count after one more; it stands still at the end of its type.
 abbrev pub raised : ℕ → ℕ
 raised count = min (count + 1) (2 ^ 64 - 1)
+
+-- A count that stands still below the end of its type has not risen.
+abbrev pub StillCountHasNotRisen : Type 0
+StillCountHasNotRisen = (count : ℕ) → count < 2 ^ 64 - 1 → ¬ Rose count count

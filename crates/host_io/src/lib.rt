@@ -5,6 +5,7 @@
 #![tactic(auto)]
 
 mod bytes;
+mod dir_folder;
 mod failed;
 mod folder;
 mod mem_folder;
@@ -17,11 +18,13 @@ mod sink;
 mod source;
 mod std_sink;
 mod std_source;
+mod sure_folder;
 mod sure_sink;
 mod sure_source;
 
 pub use bytes::Bytes;
-pub use failed::Failed;
+pub use dir_folder::DirFolder;
+pub use failed::{Failed, still_count_has_not_risen};
 pub use folder::Folder;
 pub use mem_folder::MemFolder;
 pub use mem_sink::MemSink;
@@ -32,5 +35,9 @@ pub use sink::{Sink, write_all};
 pub use source::Source;
 pub use std_sink::StdSink;
 pub use std_source::StdSource;
+pub use sure_folder::SureFolder;
 pub use sure_sink::SureSink;
 pub use sure_source::SureSource;
+
+#[cfg(test)]
+mod tests;

@@ -4,15 +4,14 @@ ghost use Rattle.host_io.specs.Outside.{Rose};
 ghost use Rattle.host_io.specs.MemFolder.{under, NextFails, folder_after_reading, folder_after_fault};
 ghost use Rattle.host_io.specs.declared.name.Name.{Name};
 
-use std::alloc::Global;
-use std::marker::Model;
-
 use crate::bytes::Bytes;
 use crate::failed::Failed;
 use crate::folder::Folder;
 use crate::memory::Memory;
 use crate::name::Name;
 use crate::per_name::PerName;
+use std::alloc::Global;
+use std::marker::Model;
 
 /// A folder in memory. It fails the calls that its maker chose.
 #[derive(Debug, Drop)]
@@ -31,11 +30,11 @@ impl Model for MemFolder {
     ghost Value = { FolderState };
 
     ghost view = { λ f. record {
-        files = f.files;
-        fails = f.fails.items;
-        calls = f.calls;
-        faults = f.faults;
-        starved = f.starved
+      files = f.files;
+      fails = f.fails.items;
+      calls = f.calls;
+      faults = f.faults;
+      starved = f.starved;
     } };
 }
 
@@ -108,6 +107,7 @@ impl MemFolder {
         ensures chosen { IsErr result ↔ NextFails self.old }
         ensures counted { OnOk result (self.new ≡ folder_after_reading self.old) }
         ensures failed { OnErr result (self.new ≡ folder_after_fault self.old) }
+        ensures never_falls { self.old.faults ≤ self.new.faults }
     {
         let chosen = is_chosen(&self.fails, self.calls);
         self.calls = self.calls.saturating_add(1);
@@ -117,6 +117,64 @@ impl MemFolder {
         }
         Ok(())
     }
+}
+
+impl Folder for MemFolder {
+    ghost files = { λ f. Some (λ name. under f.files name) };
+
+    ghost faults = { λ f. f.faults };
+
+    /// Fails where the call was chosen to.
+    fn size(&mut self, name: Name) -> Result<Option<u64>, Failed>
+        ensures chosen { IsErr result ↔ NextFails self.old }
+        ensures exact { IfOk result (λ size. size ≡ option_map length (under self.old.files name)) }
+        ensures found { IfOk result (λ size. IfSome size (λ _. IsSome (under self.old.files name))) }
+        ensures counted { OnOk result (self.new ≡ folder_after_reading self.old) }
+        ensures failed { OnErr result (self.new ≡ folder_after_fault self.old) }
+        ensures same { self.new.files ≡ self.old.files }
+        ensures cause { OnErr result (Rose self.old.faults self.new.faults) }
+        ensures never_falls { self.old.faults ≤ self.new.faults }
+    {
+        self.begin()?;
+        match self.files.get(name) {
+            Some(bytes) => Ok(Some(bytes.items().len() as u64)),
+            None => Ok(None),
+        }
+    }
+
+    /// Gives as many bytes as are asked for and stand there. Fails where the call was chosen to.
+    fn read(&mut self, name: Name, at: u64, buf: &mut [u8]) -> Result<usize, Failed>
+        requires room { 0 < length buf.old }
+        requires there { IsSome (under self.old.files name) }
+        ensures chosen { IsErr result ↔ NextFails self.old }
+        ensures many { IfOk result (λ n. IfSome (under self.old.files name) (λ bytes.
+            n ≡ min (length buf.old) (length (drop at bytes)))) }
+        ensures copied { IfOk result (λ n. IfSome (under self.old.files name) (λ bytes.
+            buf.new ≡ take n (drop at bytes) ++ drop n buf.old)) }
+        ensures counted { OnOk result (self.new ≡ folder_after_reading self.old) }
+        ensures failed { OnErr result (self.new ≡ folder_after_fault self.old) }
+        ensures same { self.new.files ≡ self.old.files }
+        ensures cause { OnErr result (Rose self.old.faults self.new.faults) }
+        ensures never_falls { self.old.faults ≤ self.new.faults }
+    {
+        self.begin()?;
+        match self.files.get(name) {
+            Some(bytes) => Ok(copy_from(bytes.items(), at, buf)),
+            None => unreachable!(),
+        }
+    }
+}
+
+/// Copies what stands at `at` into the front of `buf`, as much as there is and as fits.
+fn copy_from(bytes: &[u8], at: u64, buf: &mut [u8]) -> usize
+    ensures many { result ≡ min (length buf.old) (length (drop at bytes.now)) }
+    ensures copied { buf.new ≡ take result (drop at bytes.now) ++ drop result buf.old }
+{
+    let start = bytes.len().min(at as usize);
+    let rest = &bytes[start..];
+    let count = buf.len().min(rest.len());
+    buf[..count].copy_from_slice(&rest[..count]);
+    count
 }
 
 /// The call of this number is among those that fail.

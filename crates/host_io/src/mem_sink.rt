@@ -2,12 +2,11 @@ ghost use Rattle.std.specs.Prelude.{◌≡◌, ℕ, ◌<◌, ◌≤◌, ◌++◌
 ghost use Rattle.host_io.specs.MemSink.{sink_after_write, sink_after_fault, sink_after_want};
 ghost use Rattle.host_io.specs.Outside.{Rose};
 
-use std::alloc::Global;
-use std::marker::Model;
-
 use crate::failed::Failed;
 use crate::memory::Memory;
 use crate::sink::Sink;
+use std::alloc::Global;
+use std::marker::Model;
 
 /// A sink that keeps its bytes in memory, and fails the calls that its maker chose.
 #[derive(Debug, Drop)]
@@ -25,11 +24,11 @@ impl Model for MemSink {
     ghost Value = { SinkState };
 
     ghost view = { λ s. record {
-        bytes = s.bytes.items;
-        fails = s.fails.items;
-        calls = s.calls;
-        faults = s.faults;
-        starved = s.starved
+      bytes = s.bytes.items;
+      fails = s.fails.items;
+      calls = s.calls;
+      faults = s.faults;
+      starved = s.starved;
     } };
 }
 
@@ -37,7 +36,12 @@ impl MemSink {
     /// An empty sink. The calls of `write` whose numbers, from 0, are in `fails` will fail.
     pub fn make(alloc: Global, fails: &[u64]) -> Result<MemSink, Memory>
         ensures { IfOk result (λ sink. sink ≡ record {
-            bytes = []; fails = fails.now; calls = 0; faults = 0; starved = 0 }) }
+          bytes = [];
+          fails = fails.now;
+          calls = 0;
+          faults = 0;
+          starved = 0;
+        }) }
     {
         Ok(MemSink {
             bytes: Vec::new(alloc),

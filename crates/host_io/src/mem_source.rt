@@ -2,12 +2,11 @@ ghost use Rattle.std.specs.Prelude.{◌≡◌, ℕ, ◌<◌, ◌≤◌, ◌↔�
 ghost use Rattle.host_io.specs.MemSource.{source_after_read, source_after_fault};
 ghost use Rattle.host_io.specs.Outside.{Rose};
 
-use std::alloc::Global;
-use std::marker::Model;
-
 use crate::failed::Failed;
 use crate::memory::Memory;
 use crate::source::Source;
+use std::alloc::Global;
+use std::marker::Model;
 
 /// A source over bytes in memory. It gives them piece by piece, and fails the calls that its
 /// maker chose.
@@ -28,11 +27,11 @@ impl Model for MemSource {
     ghost Value = { SourceState };
 
     ghost view = { λ s. record {
-        left = drop s.at s.bytes.items;
-        piece = s.piece;
-        fails = s.fails.items;
-        calls = s.calls;
-        faults = s.faults
+      left = drop s.at s.bytes.items;
+      piece = s.piece;
+      fails = s.fails.items;
+      calls = s.calls;
+      faults = s.faults;
     } };
 
     ghost invariant = { λ s. (s.at ≤ vec_len s.bytes) × (1 ≤ s.piece) };
@@ -49,7 +48,12 @@ impl MemSource {
     ) -> Result<MemSource, Memory>
         requires { 1 ≤ piece }
         ensures { IfOk result (λ source. source ≡ record {
-            left = bytes.now; piece = piece; fails = fails.now; calls = 0; faults = 0 }) }
+          left = bytes.now;
+          piece = piece;
+          fails = fails.now;
+          calls = 0;
+          faults = 0;
+        }) }
     {
         Ok(MemSource {
             bytes: bytes.to_vec(alloc)?,

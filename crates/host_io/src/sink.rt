@@ -35,7 +35,8 @@ pub fn write_all<K: Sink>(sink: &mut K, bytes: &[u8]) -> Result<(), Failed>
 {
     let mut done = 0;
     while done < bytes.len() {
-        done += sink.write(&bytes[done..])?;
+        let taken = sink.write(&bytes[done..])?;
+        done += taken;
     }
     Ok(())
 }

@@ -1,9 +1,10 @@
-ghost use Rattle.std.specs.Prelude.{◌≡◌, ℕ, None};
-
-use std::io::Write;
+ghost use Rattle.std.specs.Prelude.{◌≡◌, ℕ, ◌<◌, ◌≤◌, length, IfOk, OnOk, OnErr, None};
+ghost use Rattle.host_io.specs.Outside.{Rose, raised};
 
 use crate::failed::Failed;
 use crate::sink::Sink;
+use std::io::Write;
+use std::marker::Model;
 
 /// A sink over any writer, as standard output. It tells nothing of the bytes.
 #[derive(Debug, Drop)]
@@ -12,9 +13,17 @@ pub struct StdSink<W> {
     faults: u64,
 }
 
+impl<W> Model for StdSink<W> {
+    ghost Value = { ℕ };
+
+    ghost view = { λ s. s.faults };
+}
+
 impl<W: Write> StdSink<W> {
-    /// A sink that writes to `writer`.
-    pub fn make(writer: W) -> StdSink<W> {
+    /// A sink that writes to `writer`. Contracts see it as its count of faults.
+    pub fn make(writer: W) -> StdSink<W>
+        ensures { result ≡ 0 }
+    {
         StdSink { writer, faults: 0 }
     }
 }
@@ -22,16 +31,58 @@ impl<W: Write> StdSink<W> {
 impl<W: Write> Sink for StdSink<W> {
     ghost written = { λ _. None };
 
-    ghost faults = { λ s. s.faults };
+    ghost faults = { λ s. s };
 
-    /// One write to the writer. Each of its errors is a fault, and so is a write that takes no byte.
-    fn write(&mut self, piece: &[u8]) -> Result<usize, Failed> {
+    /// One write to the writer, which is flushed, so that no byte is held back. Each error is a
+    /// fault, and so is a write that takes no byte.
+    fn write(&mut self, piece: &[u8]) -> Result<usize, Failed>
+        requires { 0 < length piece.now }
+        ensures some { IfOk result (λ n. (0 < n) × (n ≤ length piece.now)) }
+        ensures steady { OnOk result (self.new ≡ self.old) }
+        ensures counted { OnErr result (self.new ≡ raised self.old) }
+        ensures cause { OnErr result (Rose self.old self.new) }
+        ensures never_falls { self.old ≤ self.new }
+    {
         match self.writer.write(piece) {
-            Ok(count) if 0 < count => Ok(count),
+            Ok(count) if 0 < count && self.writer.flush().is_ok() => Ok(count),
             _ => {
                 self.faults = self.faults.saturating_add(1);
                 Err(Failed)
             }
         }
+    }
+}
+
+#[cfg(test)]
+mod tests {
+    use super::*;
+    use std::io;
+
+    /// A writer that takes no byte.
+    struct FullWriter;
+
+    impl Write for FullWriter {
+        fn write(&mut self, _buf: &[u8]) -> io::Result<usize> {
+            Ok(0)
+        }
+
+        fn flush(&mut self) -> io::Result<()> {
+            Ok(())
+        }
+    }
+
+    #[test]
+    fn writes_all_and_counts_a_refused_piece(rt: HostRuntime) {
+        let mut sink = StdSink::make(Vec::new(rt.alloc()));
+        assert_eq!(rt; sink.write(b"bit"), Ok(3));
+        assert_eq!(rt; sink.write(b"coin"), Ok(4));
+        assert_eq!(rt; sink.writer.as_slice(), b"bitcoin".as_slice());
+        assert_eq!(rt; sink.faults, 0);
+
+        let mut full = StdSink::make(FullWriter);
+        assert_eq!(rt; full.write(b"bit"), Err(Failed));
+        assert_eq!(rt; full.faults, 1);
+        let StdSink { writer, faults: _ } = full;
+        let FullWriter = writer;
     }
 }

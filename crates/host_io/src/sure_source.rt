@@ -1,9 +1,8 @@
 ghost use Rattle.std.specs.Prelude.{◌≡◌, ℕ, ◌<◌, ◌≤◌, ◌↔◌, ◌++◌, List, [], length, min, take, drop, IsOk, IfOk, Some};
 
-use std::marker::Model;
-
 use crate::failed::Failed;
 use crate::source::Source;
+use std::marker::Model;
 
 /// A source over a lent slice. It never fails.
 #[derive(Debug, Drop)]

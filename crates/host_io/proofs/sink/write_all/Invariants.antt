@@ -7,7 +7,7 @@ invariant-loop-done g l = record {
   within : l.done ≤ length l.bytes;
   told : IfSome (g.K.Sink.written l.fn.sink) (λ before. g.K.Sink.written l.sink ≡ Some (before ++ take l.done l.bytes));
   untold : IfNone (g.K.Sink.written l.fn.sink) (g.K.Sink.written l.sink ≡ None);
-  never_falls : g.K.Sink.faults l.fn.sink ≤ g.K.Sink.faults l.sink
+  never_falls : g.K.Sink.faults l.fn.sink ≤ g.K.Sink.faults l.sink;
 }
 
 abbrev pub decreases-loop-done : goal.decreases-loop-done

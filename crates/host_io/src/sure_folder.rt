@@ -1,0 +1,38 @@
+ghost use Rattle.std.specs.Prelude.{◌≡◌, ℕ, ◌<◌, length, None, Ok};
+
+use crate::failed::Failed;
+use crate::folder::Folder;
+use crate::name::Name;
+
+/// A folder without files. It never fails, and tells nothing of their bytes.
+#[derive(Clone, Copy, PartialEq, Eq, Debug)]
+pub struct SureFolder;
+
+impl SureFolder {
+    /// A folder without files.
+    pub fn make() -> SureFolder {
+        SureFolder
+    }
+}
+
+impl Folder for SureFolder {
+    ghost files = { λ _. None };
+
+    ghost faults = { λ _. 0 };
+
+    /// Every file is absent.
+    fn size(&mut self, _name: Name) -> Result<Option<u64>, Failed>
+        ensures absent { result ≡ Ok None }
+    {
+        Ok(None)
+    }
+
+    /// Every file is at its end.
+    fn read(&mut self, _name: Name, _at: u64, buf: &mut [u8]) -> Result<usize, Failed>
+        requires { 0 < length buf.old }
+        ensures nothing { result ≡ Ok 0 }
+        ensures kept { buf.new ≡ buf.old }
+    {
+        Ok(0)
+    }
+}
