@@ -1,4 +1,4 @@
-ghost use Rattle.std.specs.Prelude.{◌≡◌, ◌++◌, ◌∷◌, List, ℕ, ◌<◌, length, take};
+ghost use Rattle.std.specs.Prelude.{◌≡◌, ◌++◌, List, ℕ, ◌<◌, length};
 ghost use Rattle.placing.specs.Places.{double_sha256, cheap_hash, sized};
 
 use sha2::{Digest, Sha256};
@@ -13,10 +13,29 @@ pub fn double_sha256(bytes: &[u8]) -> [u8; 32]
 
 /// The first eight bytes of the double hash as a number, the low byte first
 /// (`HashWriter::GetCheapHash` in hash.h of Bitcoin Core).
-#[tactic(auto, unfolding(crate::specs::Places::cheap_hash))]
 pub fn cheap(bytes: &[u8]) -> u64
     ensures { result ≡ cheap_hash bytes.now }
 {
-    let [a, b, c, d, e, f, g, h, ..] = double_sha256(bytes);
+    let mut hasher = Sha256::new();
+    hasher.update(bytes);
+    finish(hasher)
+}
+
+/// A byte list in a hash stands behind its length.
+#[tactic(auto, unfolding(wire_num::specs::CompactSize::compact_size))]
+pub(crate) fn add_sized(hasher: &mut Sha256, bytes: &[u8])
+    requires { length bytes.now < 253 }
+    ensures { (m : List ℕ) → ⟦<Sha256 as Digest>⟧.holds hasher.old m → ⟦<Sha256 as Digest>⟧.holds hasher.new (m ++ sized bytes.now) }
+{
+    hasher.update([bytes.len() as u8]);
+    hasher.update(bytes);
+}
+
+/// The hash of what the hasher was fed with.
+#[tactic(auto, unfolding(crate::specs::Places::cheap_hash, crate::specs::Places::double_sha256))]
+pub(crate) fn finish(hasher: Sha256) -> u64
+    ensures { (m : List ℕ) → ⟦<Sha256 as Digest>⟧.holds hasher m → result ≡ cheap_hash m }
+{
+    let [a, b, c, d, e, f, g, h, ..] = Sha256::digest(hasher.finalize().as_slice());
     u64::from_le_bytes([a, b, c, d, e, f, g, h])
 }

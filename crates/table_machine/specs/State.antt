@@ -2,7 +2,7 @@
 -- occupied only because a record says so.
 use Rattle.std.specs.Prelude.{◌≡◌, ℕ, List, [], ◌∷◌, Bool, true, false, ◌&&◌, ◌==◌, Option, Some, None, find}
 use Rattle.std.specs.List.{list_any}
-use Rattle.net_addr.specs.Same.{same_peer}
+use Rattle.net_addr.specs.Same.{same_address}
 use Rattle.net_addr.specs.declared.peer.Peer.{Peer}
 use Rattle.placing.specs.Places.{Places, new_slot, tried_bucket, tried_slot}
 use Rattle.peer_rec.specs.Rec.{buckets_of, is_tried}
@@ -31,6 +31,10 @@ empty_state places = record {
   clock = 0;
   next_number = 0;
 }
+
+-- the same address and the same port
+abbrev pub same_peer : Peer → Peer → Bool
+same_peer p q = same_address p.addr q.addr && p.port == q.port
 
 -- the peer's record
 abbrev pub find_peer : State → Peer → Option Rec
