@@ -1,0 +1,2 @@
+//! Bitcoin Core's asmap file, as in `util/asmap.cpp`.
+#![tactic(auto)]

@@ -1,0 +1,7 @@
+pub mod FileBits
+pub mod Digits
+pub mod ReadingLaws
+pub mod Places
+pub mod Classes
+pub mod Coders
+pub mod Answering

@@ -1,0 +1,3 @@
+pub mod Coder
+pub mod Reading
+pub mod Seen
