@@ -2,11 +2,19 @@
 #![tactic(auto)]
 
 mod address;
+mod address_traits;
 mod entry;
+mod memory;
 mod net;
 mod peer;
+mod print;
+mod ranges;
+mod read;
 
 pub use address::NetAddr;
 pub use entry::Entry;
+pub use memory::Memory;
 pub use net::Net;
 pub use peer::Peer;
+pub use print::{put_addr, put_ipv4, put_peer};
+pub use read::{parse_addr, parse_ipv4, parse_number, parse_peer};

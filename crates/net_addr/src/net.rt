@@ -10,3 +10,16 @@ pub enum Net {
     Cjdns,
     Internal,
 }
+
+impl Net {
+    ghost use Rattle.std.specs.Prelude.{◌≡◌};
+    ghost use Rattle.net_addr.specs.Address.{number_of};
+
+    /// The number of the network, 0 to 6 in the order of the variants (`enum Network` in
+    /// netaddress.h of Bitcoin Core).
+    pub fn number(self) -> u8
+        ensures { result ≡ number_of self }
+    {
+        self as u8
+    }
+}

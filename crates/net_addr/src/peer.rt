@@ -1,8 +1,30 @@
 use crate::NetAddr;
+use arrayvec::ArrayVec;
 
 /// An address and a port.
-#[derive(Clone, Copy)]
+#[derive(Clone, Copy, Debug, PartialEq, Eq, Hash)]
 pub struct Peer {
     pub addr: NetAddr,
     pub port: u16,
+}
+
+impl Peer {
+    ghost use Rattle.std.specs.Prelude.{◌≡◌, ◌↔◌, IsTrue};
+    ghost use Rattle.net_addr.specs.OldForm.{key_bytes};
+
+    /// The bytes by which a peer is hashed: the old form of its address where it has one, else the
+    /// address's bytes, and the port with its high byte first (`CService::GetKey` in netaddress.cpp
+    /// of Bitcoin Core).
+    pub fn key_bytes(&self) -> ArrayVec<u8, 34>
+        ensures { result.items ≡ key_bytes self.now }
+    {
+        todo
+    }
+
+    /// Whether the two are the same address and port.
+    pub fn is_same(&self, other: &Peer) -> bool
+        ensures { IsTrue result ↔ (self.now ≡ other.now) }
+    {
+        self.addr.is_same(&other.addr) && self.port == other.port
+    }
 }

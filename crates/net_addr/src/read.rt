@@ -1,0 +1,44 @@
+ghost use Rattle.std.specs.Prelude.{◌≡◌, ℕ, ◌<◌, ◌≤◌, ◌^◌, IfSome, Some, decimal};
+ghost use Rattle.std.specs.Int.{w32, to_be_bytes};
+ghost use Rattle.net_addr.specs.Address.{Address, IsAddress};
+ghost use Rattle.net_addr.specs.Text.{ipv4_text, IsAddrText, IsPeerText};
+ghost use Rattle.net_addr.specs.declared.peer.Peer.{Peer};
+
+use crate::{NetAddr, Peer};
+use std::net::Ipv4Addr;
+
+/// The number that the text writes in decimal digits, without a sign and without leading zeros, if
+/// it is at most `most`.
+pub fn parse_number(text: &[u8], most: u64) -> Option<u64>
+    ensures found { IfSome result (λ n. (n ≤ most) × (text.now ≡ decimal n)) }
+    ensures only { (n : ℕ) → n ≤ most → text.now ≡ decimal n → result ≡ Some n }
+{
+    todo
+}
+
+/// The IPv4 address that the text writes as four numbers from 0 to 255 with dots between them, none
+/// with leading zeros; the first of its four bytes is the highest.
+pub fn parse_ipv4(text: &[u8]) -> Option<u32>
+    ensures found { IfSome result (λ n. text.now ≡ ipv4_text (to_be_bytes w32 n)) }
+    ensures only { (n : ℕ) → n < 2 ^ 32 → text.now ≡ ipv4_text (to_be_bytes w32 n) → result ≡ Some n }
+{
+    let address = Ipv4Addr::parse_ascii(text).ok()?;
+    Some(address.to_bits())
+}
+
+/// The address that the text writes.
+pub fn parse_addr(text: &[u8]) -> Option<NetAddr>
+    ensures found { IfSome result (λ a. IsAddrText text.now a) }
+    ensures only { (a : Address) → IsAddress a → IsAddrText text.now a → result ≡ Some a }
+{
+    let bits = parse_ipv4(text)?;
+    Some(NetAddr::ipv4(bits.to_be_bytes()))
+}
+
+/// The peer that the text writes: an address, a colon, and a port from 0 to 65535.
+pub fn parse_peer(text: &[u8]) -> Option<Peer>
+    ensures found { IfSome result (λ p. IsPeerText text.now p) }
+    ensures only { (p : Peer) → IsAddress p.addr → p.port < 2 ^ 16 → IsPeerText text.now p → result ≡ Some p }
+{
+    todo
+}
