@@ -2,3 +2,4 @@ pub mod Address
 pub mod Ranges
 pub mod OldForm
 pub mod Text
+pub mod Same

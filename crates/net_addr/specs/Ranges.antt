@@ -22,7 +22,7 @@ abbrev pub range : List ℕ → ℕ → Range
 range base bits = record { base = base; bits = bits }
 
 -- the bytes begin with the range's bits
-abbrev pub in_range : Range → List ℕ → Bool
+unfoldable pub in_range : Range → List ℕ → Bool
 in_range r bytes = starts_with ◌==◌ (bits_of bytes) (take r.bits (bits_of r.base))
 
 abbrev pub in_some : List Range → List ℕ → Bool

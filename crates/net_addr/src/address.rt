@@ -1,9 +1,12 @@
+ghost use Rattle.std.specs.Prelude.{◌≡◌, ◌++◌, length};
+ghost use Rattle.net_addr.specs.Address.{mapped_prefix, internal_prefix};
+
 use crate::Net;
-use crate::ranges::{in_range, in_some, reserved};
+use crate::ranges::{carried, is_cjdns, is_ipv4_invalid, is_ipv4_local, is_ipv4_reserved, is_ipv6_invalid, is_ipv6_local, is_ipv6_reserved};
 use std::marker::Model;
 
 /// An address of one of the six networks.
-#[derive(Clone, Copy)]
+#[derive(Clone, Copy, Debug)]
 pub struct NetAddr {
     net: Net,
     bytes: [u8; 32],
@@ -28,7 +31,7 @@ impl NetAddr {
     ghost use Rattle.std.specs.Int.{w32, from_be_bytes};
     ghost use Rattle.net_addr.specs.declared.net.Net.TheVariants.{Ipv4};
     ghost use Rattle.net_addr.specs.Address.{IsAddress};
-    ghost use Rattle.net_addr.specs.Ranges.{is_valid, is_local, is_routable, linked_ipv4, net_class};
+    ghost use Rattle.net_addr.specs.Ranges.{is_valid, is_local, is_routable, reserved_by, linked_by, linked_ipv4, net_class};
     ghost use Rattle.net_addr.specs.OldForm.{address, v1_bytes};
 
     /// The IPv4 address of four bytes, as they stand on the wire.
@@ -47,6 +50,13 @@ impl NetAddr {
         }
     }
 
+    // The bytes of the address, which is an IPv4 address.
+    pub(crate) fn ipv4_bytes(&self) -> [u8; 4]
+        ensures { self.now ≡ address Ipv4 result }
+    {
+        [self.bytes[0], self.bytes[1], self.bytes[2], self.bytes[3]]
+    }
+
     pub fn net(&self) -> Net
         ensures { result ≡ self.now.net }
     {
@@ -58,7 +68,7 @@ impl NetAddr {
         ensures value { result.now ≡ self.now.bytes }
         ensures address { IsAddress self.now }
     {
-        &self.bytes[..4]
+        &self.bytes[..self.net.len()]
     }
 
     /// Whether the two are the same address of the same network.
@@ -73,21 +83,53 @@ impl NetAddr {
     pub fn is_valid(&self) -> bool
         ensures { result ≡ is_valid self.now }
     {
-        todo
+        match self.net() {
+            Net::Unroutable | Net::Internal => false,
+            Net::Ipv4 => !is_ipv4_invalid(self.bytes()),
+            Net::Ipv6 => !is_ipv6_invalid(self.bytes()),
+            Net::Onion | Net::I2p => true,
+            Net::Cjdns => is_cjdns(self.bytes()),
+        }
     }
 
     /// Whether the address is this host (`CNetAddr::IsLocal`).
     pub fn is_local(&self) -> bool
         ensures { result ≡ is_local self.now }
     {
-        todo
+        match self.net() {
+            Net::Ipv4 => is_ipv4_local(self.bytes()),
+            Net::Ipv6 => is_ipv6_local(self.bytes()),
+            Net::Unroutable | Net::Onion | Net::I2p | Net::Cjdns | Net::Internal => false,
+        }
     }
 
     /// Whether the address can be reached over the public network (`CNetAddr::IsRoutable`).
     pub fn is_routable(&self) -> bool
         ensures { result ≡ is_routable self.now }
     {
-        todo
+        self.is_valid() && !self.is_local() && !self.is_reserved()
+    }
+
+    // Whether the address is in a range that is not routed.
+    fn is_reserved(&self) -> bool
+        ensures { result ≡ reserved_by self.now.net self.now.bytes }
+    {
+        match self.net() {
+            Net::Ipv4 => is_ipv4_reserved(self.bytes()),
+            Net::Ipv6 => is_ipv6_reserved(self.bytes()),
+            Net::Unroutable | Net::Onion | Net::I2p | Net::Cjdns | Net::Internal => false,
+        }
+    }
+
+    // The four bytes of the IPv4 address that the address is or carries, if it is routable.
+    fn linked_bytes(&self) -> Option<[u8; 4]>
+        ensures { result ≡ linked_by self.now.net self.now.bytes }
+    {
+        match self.net() {
+            Net::Ipv4 => Some(four(self.bytes())),
+            Net::Ipv6 => carried(self.bytes()),
+            Net::Unroutable | Net::Onion | Net::I2p | Net::Cjdns | Net::Internal => None,
+        }
     }
 
     /// The IPv4 address that a routable address is or carries, the first of its four bytes the
@@ -95,14 +137,23 @@ impl NetAddr {
     pub fn linked_ipv4(&self) -> Option<u32>
         ensures { result ≡ option_map (from_be_bytes w32) (linked_ipv4 self.now) }
     {
-        todo
+        if !self.is_routable() {
+            return None;
+        }
+        let bytes = self.linked_bytes()?;
+        Some(u32::from_be_bytes(bytes))
     }
 
     /// The network that the address is reached through (`CNetAddr::GetNetClass`).
     pub fn net_class(&self) -> Net
         ensures { result ≡ net_class self.now }
     {
-        todo
+        match self.net() {
+            Net::Internal => Net::Internal,
+            _ if !self.is_routable() => Net::Unroutable,
+            Net::Ipv6 if self.linked_ipv4().is_some() => Net::Ipv4,
+            net => net,
+        }
     }
 
     /// The sixteen bytes of the form that messages had before BIP 155, where the address has one
@@ -110,6 +161,49 @@ impl NetAddr {
     pub fn v1_bytes(&self) -> Option<[u8; 16]>
         ensures { result ≡ v1_bytes self.now }
     {
-        todo
+        match self.net() {
+            Net::Ipv4 => Some(mapped(self.bytes())),
+            Net::Ipv6 => Some(sixteen(self.bytes())),
+            Net::Internal => Some(internal(self.bytes())),
+            Net::Unroutable | Net::Onion | Net::I2p | Net::Cjdns => None,
+        }
     }
+}
+
+// The four bytes of an IPv4 address.
+fn four(bytes: &[u8]) -> [u8; 4]
+    requires { length bytes.now ≡ 4 }
+    ensures { result ≡ bytes.now }
+{
+    [bytes[0], bytes[1], bytes[2], bytes[3]]
+}
+
+// The old form of an IPv4 address.
+fn mapped(bytes: &[u8]) -> [u8; 16]
+    requires { length bytes.now ≡ 4 }
+    ensures { result ≡ mapped_prefix ++ bytes.now }
+{
+    let [a, b, c, d] = four(bytes);
+    [0, 0, 0, 0, 0, 0, 0, 0, 0, 0, 0xff, 0xff, a, b, c, d]
+}
+
+// The sixteen bytes of an IPv6 address.
+fn sixteen(bytes: &[u8]) -> [u8; 16]
+    requires { length bytes.now ≡ 16 }
+    ensures { result ≡ bytes.now }
+{
+    let mut all = [0; 16];
+    all.copy_from_slice(bytes);
+    all
+}
+
+// The old form of an internal name.
+fn internal(bytes: &[u8]) -> [u8; 16]
+    requires { length bytes.now ≡ 10 }
+    ensures { result ≡ internal_prefix ++ bytes.now }
+{
+    let mut all = [0; 16];
+    all[..6].copy_from_slice(&[0xfd, 0x6b, 0x88, 0xc0, 0x87, 0x24]);
+    all[6..].copy_from_slice(bytes);
+    all
 }

@@ -3,6 +3,7 @@
 
 mod address;
 mod address_traits;
+mod append;
 mod entry;
 mod memory;
 mod net;

@@ -13,7 +13,7 @@ pub enum Net {
 
 impl Net {
     ghost use Rattle.std.specs.Prelude.{◌≡◌};
-    ghost use Rattle.net_addr.specs.Address.{number_of};
+    ghost use Rattle.net_addr.specs.Address.{number_of, length_of};
 
     /// The number of the network, 0 to 6 in the order of the variants (`enum Network` in
     /// netaddress.h of Bitcoin Core).
@@ -21,5 +21,18 @@ impl Net {
         ensures { result ≡ number_of self }
     {
         self as u8
+    }
+
+    // How many bytes an address of the network has.
+    pub(crate) fn len(self) -> usize
+        ensures { result ≡ length_of self }
+    {
+        match self {
+            Net::Unroutable => 0,
+            Net::Ipv4 => 4,
+            Net::Ipv6 | Net::Cjdns => 16,
+            Net::Onion | Net::I2p => 32,
+            Net::Internal => 10,
+        }
     }
 }

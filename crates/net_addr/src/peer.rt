@@ -1,3 +1,4 @@
+use crate::append::append;
 use crate::NetAddr;
 use arrayvec::ArrayVec;
 
@@ -18,7 +19,13 @@ impl Peer {
     pub fn key_bytes(&self) -> ArrayVec<u8, 34>
         ensures { result.items ≡ key_bytes self.now }
     {
-        todo
+        let mut key = ArrayVec::new();
+        match self.addr.v1_bytes() {
+            Some(old_form) => append(&mut key, &old_form),
+            None => append(&mut key, self.addr.bytes()),
+        }
+        append(&mut key, &self.port.to_be_bytes());
+        key
     }
 
     /// Whether the two are the same address and port.

@@ -1,5 +1,5 @@
-ghost use Rattle.std.specs.Prelude.{◌≡◌, ℕ, ◌<◌, ◌≤◌, ◌^◌, IfSome, Some, decimal};
-ghost use Rattle.std.specs.Int.{w32, to_be_bytes};
+ghost use Rattle.std.specs.Prelude.{◌≡◌, ◌≢◌, ℕ, ◌+◌, ◌-◌, ◌*◌, ◌<◌, ◌≤◌, ◌^◌, IfSome, IfNone, Some, decimal, slice_get};
+ghost use Rattle.std.specs.Int.{w32, to_be_bytes, IsInRange};
 ghost use Rattle.net_addr.specs.Address.{Address, IsAddress};
 ghost use Rattle.net_addr.specs.Text.{ipv4_text, IsAddrText, IsPeerText};
 ghost use Rattle.net_addr.specs.declared.peer.Peer.{Peer};
@@ -13,7 +13,14 @@ pub fn parse_number(text: &[u8], most: u64) -> Option<u64>
     ensures found { IfSome result (λ n. (n ≤ most) × (text.now ≡ decimal n)) }
     ensures only { (n : ℕ) → n ≤ most → text.now ≡ decimal n → result ≡ Some n }
 {
-    todo
+    if text.len() > 1 && text[0] == b'0' {
+        return None;
+    }
+    let mut value = 0;
+    for byte in text {
+        value = with_digit(value, *byte, most)?;
+    }
+    if text.is_empty() { None } else { Some(value) }
 }
 
 /// The IPv4 address that the text writes as four numbers from 0 to 255 with dots between them, none
@@ -40,5 +47,38 @@ pub fn parse_peer(text: &[u8]) -> Option<Peer>
     ensures found { IfSome result (λ p. IsPeerText text.now p) }
     ensures only { (p : Peer) → IsAddress p.addr → p.port < 2 ^ 16 → IsPeerText text.now p → result ≡ Some p }
 {
-    todo
+    let colon = last_colon(text)?;
+    let addr = parse_addr(&text[..colon])?;
+    let port = parse_number(&text[colon + 1..], 65535)?;
+    Some(Peer {
+        addr,
+        port: port as u16,
+    })
+}
+
+// The number with one more decimal digit, if the byte is a digit and the number is at most `most`.
+fn with_digit(value: u64, byte: u8, most: u64) -> Option<u64>
+    requires { value ≤ most }
+    ensures found { IfSome result (λ n. (IsInRange 48 57 byte) × (n ≡ value * 10 + (byte - 48)) × (n ≤ most)) }
+    ensures none { IfNone result (IsInRange 48 57 byte → most < value * 10 + (byte - 48)) }
+{
+    if !byte.is_ascii_digit() {
+        return None;
+    }
+    let next = value.checked_mul(10)?.checked_add(u64::from(byte - b'0'))?;
+    if next <= most { Some(next) } else { None }
+}
+
+// Where the last colon of the text is.
+fn last_colon(text: &[u8]) -> Option<usize>
+    ensures found { IfSome result (λ i. slice_get text.now i ≡ Some 58) }
+    ensures last { IfSome result (λ i. (k : ℕ) → i < k → slice_get text.now k ≢ Some 58) }
+    ensures none { IfNone result ((k : ℕ) → slice_get text.now k ≢ Some 58) }
+{
+    for i in (0..text.len()).rev() {
+        if text[i] == b':' {
+            return Some(i);
+        }
+    }
+    None
 }

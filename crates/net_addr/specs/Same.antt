@@ -1,0 +1,69 @@
+-- When two addresses are the same: what `==` computes, and that it is true exactly where they are one.
+use Rattle.std.specs.Prelude.{◌≡◌, ℕ, zero, suc, Bool, List, ◌∷◌, ◌++◌, drop, slice_index, bytes_eq, IsTrue, refl}
+use Rattle.std.specs.Bool.{Decides}
+use Rattle.std.specs.Cmp.{IsEquivalence, IsPartialEquivalence, partial_equiv_from_equiv, on_equiv}
+use Rattle.std.specs.Cmp.Lexicographic.{nat_list_eq_equiv}
+use Rattle.std.specs.Hash as fed
+use Rattle.std.proofs.Common.{sym, ap, ◌∙◌}
+use Rattle.std.proofs.lemmas.Slice.Eq.{bytes_eq-Decides}
+use Rattle.net_addr.specs.Address.{Address, number_of}
+use Rattle.net_addr.specs.declared.net.Net.{Net}
+use Rattle.net_addr.specs.declared.net.Net.TheVariants.{Unroutable, Ipv4, Ipv6, Onion, I2p, Cjdns, Internal}
+
+-- the number of the network before the bytes, which tell an address from each other one
+abbrev pub told_by : Address → List ℕ
+told_by a = number_of a.net ∷ a.bytes
+
+-- the two are the same address of the same network
+unfoldable pub same_address : Address → Address → Bool
+same_address a b = bytes_eq (told_by a) (told_by b)
+
+-- the network of a number
+abbrev network : ℕ → Net
+network zero = Unroutable
+network (suc zero) = Ipv4
+network (suc (suc zero)) = Ipv6
+network (suc (suc (suc zero))) = Onion
+network (suc (suc (suc (suc zero)))) = I2p
+network (suc (suc (suc (suc (suc zero))))) = Cjdns
+network (suc (suc (suc (suc (suc (suc n)))))) = Internal
+
+network-number_of : (n : Net) → network (number_of n) ≡ n
+network-number_of Unroutable = refl
+network-number_of Ipv4 = refl
+network-number_of Ipv6 = refl
+network-number_of Onion = refl
+network-number_of I2p = refl
+network-number_of Cjdns = refl
+network-number_of Internal = refl
+
+pub number_of_injective : (m n : Net) → number_of m ≡ number_of n → m ≡ n
+number_of_injective m n e = sym (network-number_of m) ∙ ap network e ∙ network-number_of n
+
+same_parts : (a b : Address) → a.net ≡ b.net → a.bytes ≡ b.bytes → a ≡ b
+same_parts a b e f = λ i. record { net = e i; bytes = f i }
+
+told_by_injective : (a b : Address) → told_by a ≡ told_by b → a ≡ b
+told_by_injective a b e =
+    same_parts a b (number_of_injective a.net b.net (ap (λ xs. slice_index xs 0) e)) (ap (λ xs. drop 1 xs) e)
+
+-- `==` of two addresses is true exactly where they are one
+pub same_address-Decides : (a b : Address) → Decides (same_address a b) (a ≡ b)
+unfolding same_address
+same_address-Decides a b =
+    let d = bytes_eq-Decides (told_by a) (told_by b) in
+    (λ h. told_by_injective a b (d.0 h), λ e. d.1 (ap told_by e))
+
+pub same_address-equiv : IsEquivalence same_address
+unfolding same_address
+same_address-equiv = on_equiv told_by nat_list_eq_equiv
+
+pub same_address-per : IsPartialEquivalence same_address
+same_address-per = partial_equiv_from_equiv same_address-equiv
+
+-- what `hash` feeds a hasher
+abbrev pub hashed : Address → List (List ℕ)
+hashed a = fed.u8 (number_of a.net) ++ fed.slice fed.u8 a.bytes
+
+pub same_address-hashed : (a b : Address) → IsTrue (same_address a b) → hashed a ≡ hashed b
+same_address-hashed a b h = ap hashed ((same_address-Decides a b).0 h)
