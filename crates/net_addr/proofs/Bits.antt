@@ -1,5 +1,5 @@
 -- A range of bits, by whole bytes and the high bits of one more.
-use Rattle.std.proofs.Common.{◌≡◌, ℕ, zero, suc, ◌+◌, ◌-◌, ◌*◌, ◌/◌, ◌%◌, ◌^◌, ◌<◌, ◌≤◌, Bool, true, false, ◌&&◌, List, [], ◌∷◌, length, get_or, take, drop, refl, sym, ap, ◌∙◌, arith, eqb}
+use Rattle.std.proofs.Common.{◌≡◌, ℕ, zero, suc, ◌+◌, ◌-◌, ◌*◌, ◌/◌, ◌%◌, ◌^◌, ◌<◌, ◌≤◌, Bool, true, false, ◌&&◌, List, [], ◌∷◌, length, get_or, take, drop, refl, sym, ap, ◌∙◌, arith, eqb, drop-cons}
 use Rattle.std.proofs.lemmas.Bool.Decides.{nat_tests}
 use Rattle.std.proofs.Math.Bool.{and_assoc}
 use Rattle.std.specs.Int.{bit_at}
@@ -80,3 +80,28 @@ whole_and_bits (suc n) r (c ∷ bytes) (b ∷ base) h k l m =
     let more : 8 * suc n + r ≡ suc (suc (suc (suc (suc (suc (suc (suc (8 * n + r)))))))) = omega arith in
     let later = whole_and_bits n r bytes base (λ i. h (suc i)) (λ i. k (suc i)) (omega arith) (omega arith) in
     rw more (bits_8 b c (k 0) (h 0) (starts_with eqb (bits_of bytes) (take (8 * n + r) (bits_of base))) ∙ ap (λ t. eqb b c && t) later ∙ sym (and_assoc (eqb b c) _ _))
+
+-- a range is the whole bytes of its base, and then the bits of one more
+in_range_is : (bytes base : List ℕ) (bits : ℕ) → AllBytes bytes → AllBytes base → bits ≤ 8 * length base → length base ≤ length bytes → in_range (range base bits) bytes ≡ (starts_with eqb bytes (take (bits / 8) base) && starts_with eqb (bits_of (drop (bits / 8) bytes)) (take (bits % 8) (bits_of (drop (bits / 8) base))))
+unfolding in_range
+in_range_is bytes base bits h k l m =
+    let parts : bits ≡ 8 * (bits / 8) + bits % 8 = omega arith in
+    ap (λ n. starts_with eqb (bits_of bytes) (take n (bits_of base))) parts ∙ whole_and_bits (bits / 8) (bits % 8) bytes base h k (omega arith) (omega arith)
+
+-- the whole bytes differ
+pub in_range_other : (bytes base : List ℕ) (bits : ℕ) → AllBytes bytes → AllBytes base → bits ≤ 8 * length base → length base ≤ length bytes → starts_with eqb bytes (take (bits / 8) base) ≡ false → in_range (range base bits) bytes ≡ false
+in_range_other bytes base bits h k l m e = in_range_is bytes base bits h k l m ∙ ap (λ t. t && starts_with eqb (bits_of (drop (bits / 8) bytes)) (take (bits % 8) (bits_of (drop (bits / 8) base)))) e
+
+-- the whole bytes are equal, and there is no more
+pub in_range_whole : (bytes base : List ℕ) (bits : ℕ) → AllBytes bytes → AllBytes base → bits ≤ 8 * length base → length base ≤ length bytes → starts_with eqb bytes (take (bits / 8) base) ≡ true → bits % 8 ≡ 0 → in_range (range base bits) bytes ≡ true
+in_range_whole bytes base bits h k l m e none =
+    in_range_is bytes base bits h k l m ∙ ap (λ t. t && starts_with eqb (bits_of (drop (bits / 8) bytes)) (take (bits % 8) (bits_of (drop (bits / 8) base)))) e ∙ ap (λ r. starts_with eqb (bits_of (drop (bits / 8) bytes)) (take r (bits_of (drop (bits / 8) base)))) none
+
+-- the whole bytes are equal, and the bits of the next byte decide
+pub in_range_part : (bytes base : List ℕ) (bits : ℕ) → AllBytes bytes → AllBytes base → bits ≤ 8 * length base → length base ≤ length bytes → starts_with eqb bytes (take (bits / 8) base) ≡ true → 0 < bits % 8 → in_range (range base bits) bytes ≡ eqb (get_or base (bits / 8) 0 / 2 ^ (8 - bits % 8)) (get_or bytes (bits / 8) 0 / 2 ^ (8 - bits % 8))
+in_range_part bytes base bits h k l m e some =
+    let n = bits / 8 in
+    let r = bits % 8 in
+    let in_base : n < length base = omega arith in
+    let in_bytes : n < length bytes = omega arith in
+    in_range_is bytes base bits h k l m ∙ ap (λ t. t && starts_with eqb (bits_of (drop n bytes)) (take r (bits_of (drop n base)))) e ∙ ap (λ xs. starts_with eqb (bits_of xs) (take r (bits_of (drop n base)))) (drop-cons bytes n 0 in_bytes) ∙ ap (λ xs. starts_with eqb (bits_of (get_or bytes n 0 ∷ drop (suc n) bytes)) (take r (bits_of xs))) (drop-cons base n 0 in_base) ∙ high_bits (get_or base n 0) (get_or bytes n 0) (k n) (h n) r (drop (suc n) base) (drop (suc n) bytes) some (omega arith)

@@ -1,4 +1,4 @@
-ghost use Rattle.std.specs.Prelude.{◌≡◌, ◌++◌, length};
+ghost use Rattle.std.specs.Prelude.{◌≡◌, ◌<◌, ◌≤◌, ◌++◌, length, take, All};
 ghost use Rattle.net_addr.specs.Address.{mapped_prefix, internal_prefix};
 
 use crate::Net;
@@ -68,7 +68,7 @@ impl NetAddr {
         ensures value { result.now ≡ self.now.bytes }
         ensures address { IsAddress self.now }
     {
-        &self.bytes[..self.net.len()]
+        front(&self.bytes, self.net.len())
     }
 
     /// Whether the two are the same address of the same network.
@@ -168,6 +168,15 @@ impl NetAddr {
             Net::Unroutable | Net::Onion | Net::I2p | Net::Cjdns => None,
         }
     }
+}
+
+// The first bytes of these.
+fn front(bytes: &[u8], len: usize) -> &[u8]
+    requires { len ≤ length bytes.now }
+    ensures value { result.now ≡ take len bytes.now }
+    ensures all { All (λ b. b < 256) bytes.now }
+{
+    &bytes[..len]
 }
 
 // The four bytes of an IPv4 address.
