@@ -1,2 +1,4 @@
 pub mod Bits
 pub mod Bytes
+pub mod Numbers
+pub mod Texts

@@ -29,8 +29,10 @@ pub fn parse_ipv4(text: &[u8]) -> Option<u32>
     ensures found { IfSome result (λ n. text.now ≡ ipv4_text (to_be_bytes w32 n)) }
     ensures only { (n : ℕ) → n < 2 ^ 32 → text.now ≡ ipv4_text (to_be_bytes w32 n) → result ≡ Some n }
 {
-    let address = Ipv4Addr::parse_ascii(text).ok()?;
-    Some(address.to_bits())
+    match Ipv4Addr::parse_ascii(text) {
+        Ok(address) => Some(address.to_bits()),
+        Err(_) => None,
+    }
 }
 
 /// The address that the text writes.
