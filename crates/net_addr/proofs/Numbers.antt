@@ -1,11 +1,12 @@
 -- Decimal numbers, digit by digit.
-use Rattle.std.proofs.Common.{◌≡◌, ℕ, zero, suc, ◌+◌, ◌-◌, ◌*◌, ◌<◌, ◌≤◌, ◌^◌, List, [], ◌∷◌, length, get_or, take, decimal, refl, sym, ap, ◌∙◌, subst, arith, inl, inr, rules}
+use Rattle.std.proofs.Common.{◌≡◌, ◌≢◌, ℕ, zero, suc, ◌+◌, ◌-◌, ◌*◌, ◌<◌, ◌≤◌, ◌^◌, All, List, [], ◌∷◌, length, get_or, take, decimal, refl, sym, ap, ◌∙◌, subst, arith, inl, inr, rules}
 use Rattle.std.proofs.lemmas.Bool.{cases_lt}
 use Rattle.std.proofs.lemmas.Fmt.{decimal_is_IsNumeral, decimal_digit, first_decimal, decimal-digits_value}
 use Rattle.std.proofs.lemmas.Int.Digits.{digits_value_more, digits_more}
 use Rattle.std.proofs.lemmas.Str.{digit_value_digit}
 use Rattle.std.proofs.lemmas.Str.Parse.{IsNumeralModel, numerals_by_value, tells_digits, digit_at, digits_value-take-le}
 use Rattle.std.proofs.lemmas.List.{take_all}
+use Rattle.std.proofs.lemmas.List.Elements.{All-from_get_or}
 use Rattle.std.specs.Char.{digit_value}
 use Rattle.std.specs.Int.{IsInRange}
 use Rattle.std.specs.Str.Parse.{IsNumeral, AllDigits, digits_value}
@@ -68,3 +69,10 @@ decimal-all text n value e h so_far =
 -- a number has a digit
 pub decimal-some : (text : List ℕ) (n : ℕ) → text ≡ decimal n → n < 2 ^ 64 → 0 < length text
 decimal-some text n e h = (numeral text n e h).0.0
+
+-- no digit is a colon
+pub decimal-no_colon : (n : ℕ) → n < 2 ^ 64 → All (λ c. c ≢ 58) (decimal n)
+decimal-no_colon n h =
+    All-from_get_or (λ c. c ≢ 58) (decimal n) 0 λ i lt.
+    let digit = digit_at (decimal n) i (decimal_is_IsNumeral n h).0.1 lt in
+    omega arith

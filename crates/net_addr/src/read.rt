@@ -1,4 +1,4 @@
-ghost use Rattle.std.specs.Prelude.{◌≡◌, ◌≢◌, ℕ, ◌+◌, ◌-◌, ◌*◌, ◌<◌, ◌≤◌, ◌^◌, IfSome, IfNone, Some, decimal, slice_get};
+ghost use Rattle.std.specs.Prelude.{◌≡◌, ◌≢◌, ℕ, ◌+◌, ◌-◌, ◌*◌, ◌<◌, ◌≤◌, ◌^◌, IfSome, IfNone, Some, decimal, ◌∷◌, ◌++◌, All};
 ghost use Rattle.std.specs.Int.{w32, to_be_bytes, IsInRange};
 ghost use Rattle.net_addr.specs.Address.{Address, IsAddress};
 ghost use Rattle.net_addr.specs.Text.{ipv4_text, IsAddrText, IsPeerText};
@@ -49,9 +49,9 @@ pub fn parse_peer(text: &[u8]) -> Option<Peer>
     ensures found { IfSome result (λ p. IsPeerText text.now p) }
     ensures only { (p : Peer) → IsAddress p.addr → p.port < 2 ^ 16 → IsPeerText text.now p → result ≡ Some p }
 {
-    let colon = last_colon(text)?;
-    let addr = parse_addr(&text[..colon])?;
-    let port = parse_number(&text[colon + 1..], 65535)?;
+    let (addr, port) = around_last_colon(text)?;
+    let addr = parse_addr(addr)?;
+    let port = parse_number(port, 65535)?;
     Some(Peer {
         addr,
         port: port as u16,
@@ -71,15 +71,15 @@ fn with_digit(value: u64, byte: u8, most: u64) -> Option<u64>
     if next <= most { Some(next) } else { None }
 }
 
-// Where the last colon of the text is.
-fn last_colon(text: &[u8]) -> Option<usize>
-    ensures found { IfSome result (λ i. slice_get text.now i ≡ Some 58) }
-    ensures last { IfSome result (λ i. (k : ℕ) → i < k → slice_get text.now k ≢ Some 58) }
-    ensures none { IfNone result ((k : ℕ) → slice_get text.now k ≢ Some 58) }
+// What stands before the last colon of the text, and after it.
+fn around_last_colon(text: &[u8]) -> Option<(&[u8], &[u8])>
+    ensures cut { IfSome result (λ parts. text.now ≡ parts.0.now ++ 58 ∷ parts.1.now) }
+    ensures last { IfSome result (λ parts. All (λ c. c ≢ 58) parts.1.now) }
+    ensures none { IfNone result (All (λ c. c ≢ 58) text.now) }
 {
     for i in (0..text.len()).rev() {
         if text[i] == b':' {
-            return Some(i);
+            return Some((&text[..i], &text[i + 1..]));
         }
     }
     None
