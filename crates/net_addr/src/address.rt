@@ -2,7 +2,10 @@ ghost use Rattle.std.specs.Prelude.{◌≡◌, ◌<◌, ◌≤◌, ◌++◌, len
 ghost use Rattle.net_addr.specs.Address.{mapped_prefix, internal_prefix};
 
 use crate::Net;
-use crate::ranges::{carried, is_cjdns, is_ipv4_invalid, is_ipv4_local, is_ipv4_reserved, is_ipv6_invalid, is_ipv6_local, is_ipv6_reserved};
+use crate::ranges::{
+    carried, is_cjdns, is_ipv4_invalid, is_ipv4_local, is_ipv4_reserved, is_ipv6_invalid,
+    is_ipv6_local, is_ipv6_reserved,
+};
 use std::marker::Model;
 
 /// An address of one of the six networks.
