@@ -2,7 +2,7 @@ ghost use Rattle.std.specs.Prelude.{◌≡◌, ◌*◌, ◌≤◌, ◌||◌, len
 ghost use Rattle.net_addr.specs.Ranges.{range, in_range, in_some, ipv4_invalid, ipv6_invalid, ipv4_local, ipv6_local, ipv4_reserved, ipv6_reserved, cjdns_range, nat64, siit, carried};
 
 // Whether the bytes begin with the first `bits` bits of the base.
-fn in_range(bytes: &[u8], base: &[u8], bits: usize) -> bool
+pub(crate) fn in_range(bytes: &[u8], base: &[u8], bits: usize) -> bool
     requires base_holds { bits ≤ 8 * length base.now }
     requires bytes_hold { length base.now ≤ length bytes.now }
     ensures { result ≡ in_range (range base.now bits) bytes.now }
