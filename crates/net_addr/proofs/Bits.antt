@@ -4,7 +4,7 @@ use Rattle.std.proofs.lemmas.Bool.Decides.{nat_tests}
 use Rattle.std.proofs.Math.Bool.{and_assoc}
 use Rattle.std.specs.Int.{bit_at}
 use Rattle.std.specs.List.{starts_with}
-use Rattle.net_addr.specs.Ranges.{byte_bits, bits_of, range, in_range}
+use Rattle.net_addr.specs.Ranges.{bits_of, range, in_range}
 
 -- what the first bits tell, once one more bit is told
 one_more : (x y x' y' : ℕ) (t : Bool) → x' ≡ x / 2 → y' ≡ y / 2 → (eqb x' y' && (eqb (x % 2) (y % 2) && t)) ≡ (eqb x y && t)

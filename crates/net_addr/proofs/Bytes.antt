@@ -1,10 +1,9 @@
 -- Lists of four and sixteen bytes, and addresses.
-use Rattle.std.proofs.Common.{◌≡◌, ℕ, zero, suc, ◌+◌, ◌-◌, ◌<◌, Bool, true, false, ◌||◌, List, [], ◌∷◌, length, get_or, take, drop, map, Some, All, refl, sym, ap, ◌∙◌, arith, rules}
+use Rattle.std.proofs.Common.{◌≡◌, ℕ, suc, ◌-◌, ◌<◌, true, false, ◌||◌, List, [], ◌∷◌, length, get_or, take, drop, map, Some, All, sym, ap, ◌∙◌, arith, rules}
 use Rattle.std.proofs.lemmas.List.{drop_more, drop_all, length-take}
 use Rattle.std.proofs.lemmas.List.Elements.{All-take}
 use Rattle.net_addr.specs.Address.{Address, IsAddress, length_of}
 use Rattle.net_addr.specs.Ranges.{in_range, nat64, siit, six_to_four, teredo, carried}
-use Rattle.net_addr.specs.declared.net.Net.{Net}
 use Rattle.net_addr.specs.declared.net.Net.TheVariants.{Unroutable, Ipv4, Ipv6}
 use Rattle.net_addr.proofs.Bits.{AllBytes}
 

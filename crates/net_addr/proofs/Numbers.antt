@@ -1,5 +1,5 @@
 -- Decimal numbers, digit by digit.
-use Rattle.std.proofs.Common.{◌≡◌, ◌≢◌, ℕ, zero, suc, ◌+◌, ◌-◌, ◌*◌, ◌<◌, ◌≤◌, ◌^◌, All, List, [], ◌∷◌, length, get_or, take, decimal, refl, sym, ap, ◌∙◌, subst, arith, inl, inr, rules}
+use Rattle.std.proofs.Common.{◌≡◌, ◌≢◌, ℕ, ◌+◌, ◌-◌, ◌*◌, ◌<◌, ◌≤◌, ◌^◌, All, List, length, get_or, take, decimal, refl, sym, ap, ◌∙◌, subst, arith, inl, inr}
 use Rattle.std.proofs.lemmas.Bool.{cases_lt}
 use Rattle.std.proofs.lemmas.Fmt.{decimal_is_IsNumeral, decimal_digit, first_decimal, decimal-digits_value}
 use Rattle.std.proofs.lemmas.Int.Digits.{digits_value_more, digits_more}
@@ -49,8 +49,8 @@ decimal-no_zero_first text n e h zero_first =
     elim (cases_lt 0 n) [
       | inl some ↦ absurd (omega (arith, first_decimal n some h, ap (λ ds. get_or ds 0 0) e))
       | inr none ↦
-        let zero_itself : n ≡ 0 = omega arith in
-        ap length (e ∙ ap decimal zero_itself ∙ decimal_digit 0 (omega arith))
+          let zero_itself : n ≡ 0 = omega arith in
+          ap length (e ∙ ap decimal zero_itself ∙ decimal_digit 0 (omega arith))
     ]
 
 -- at each place of a number there is a digit, and no prefix is larger

@@ -1,11 +1,11 @@
 -- The text of IPv4 addresses, by what std's parser reads.
-use Rattle.std.proofs.Common.{◌≡◌, ◌≢◌, ℕ, zero, suc, ◌+◌, ◌/◌, ◌%◌, ◌<◌, ◌^◌, List, [], ◌∷◌, ◌++◌, length, get_or, drop, All,  decimal, refl, sym, ap, ◌∙◌, subst, arith, append_assoc}
+use Rattle.std.proofs.Common.{◌≡◌, ◌≢◌, ℕ, zero, suc, ◌/◌, ◌%◌, ◌<◌, ◌^◌, List, [], ◌∷◌, ◌++◌, length, get_or, drop, All, decimal, refl, sym, ap, ◌∙◌, subst, arith, append_assoc}
 use Rattle.std.proofs.lemmas.Nat.{from_be_bytes-to_be_bytes_4, be_bytes_4}
 use Rattle.std.proofs.lemmas.List.Elements.{All-head, All-tail}
 use Rattle.std.proofs.NetLemmas.Theorems.{IsIpv4Text_unique}
 use Rattle.std.specs.Int.{w32, to_be_bytes, from_be_bytes}
-use Rattle.std.specs.Net.Addr.{ipv4_octets, ipv4_bits}
-use Rattle.std.specs.Net.Grammar.{IsDotted, IsIpv4Text}
+use Rattle.std.specs.Net.Addr.{ipv4_bits}
+use Rattle.std.specs.Net.Grammar.{IsIpv4Text}
 use Rattle.std.specs.Net.Text.{dotted_text}
 use Rattle.std.specs.declared.net.ipv4_addr.Ipv4Addr.{Ipv4Addr}
 use Rattle.net_addr.specs.Address.{Address, IsAddress, length_of}

@@ -1,6 +1,6 @@
 -- What an address, a peer and an entry of a message are.
-use Rattle.std.specs.Prelude.{◌≡◌, ◌≢◌, ℕ, ◌<◌, List, [], ◌∷◌, ◌++◌, length, All, IsTrue, Bool, true, false, ◌&&◌, ◌||◌, not, ◌==◌}
-use Rattle.std.specs.List.{flat_map, starts_with}
+use Rattle.std.specs.Prelude.{◌≡◌, ◌≢◌, ℕ, ◌<◌, List, [], ◌∷◌, length, All, Bool, false, ◌||◌, ◌==◌}
+use Rattle.std.specs.List.{starts_with}
 use Rattle.net_addr.specs.declared.net.Net.{Net}
 use Rattle.net_addr.specs.declared.net.Net.TheVariants.{Unroutable, Ipv4, Ipv6, Onion, I2p, Cjdns, Internal}
 

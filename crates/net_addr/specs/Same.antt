@@ -1,13 +1,15 @@
 -- When two addresses are the same: what `==` computes, and that it is true exactly where they are one.
-use Rattle.std.specs.Prelude.{◌≡◌, ℕ, zero, suc, Bool, List, ◌∷◌, ◌++◌, drop, slice_index, bytes_eq, IsTrue, refl}
+use Rattle.std.specs.Prelude.{◌≡◌, ℕ, zero, suc, Bool, List, ◌∷◌, ◌++◌, ◌&&◌, ◌==◌, drop, slice_index, bytes_eq, IsTrue, refl}
 use Rattle.std.specs.Bool.{Decides}
 use Rattle.std.specs.Cmp.{IsEquivalence, IsPartialEquivalence, partial_equiv_from_equiv, on_equiv}
 use Rattle.std.specs.Cmp.Lexicographic.{nat_list_eq_equiv}
 use Rattle.std.specs.Hash as fed
 use Rattle.std.proofs.Common.{sym, ap, ◌∙◌}
 use Rattle.std.proofs.lemmas.Slice.Eq.{bytes_eq-Decides}
+use Rattle.std.proofs.lemmas.Bool.Decides.{Decides-and, Decides-eqb}
 use Rattle.net_addr.specs.Address.{Address, number_of}
 use Rattle.net_addr.specs.declared.net.Net.{Net}
+use Rattle.net_addr.specs.declared.peer.Peer.{Peer}
 use Rattle.net_addr.specs.declared.net.Net.TheVariants.{Unroutable, Ipv4, Ipv6, Onion, I2p, Cjdns, Internal}
 
 -- the number of the network before the bytes, which tell an address from each other one
@@ -67,3 +69,16 @@ hashed a = fed.u8 (number_of a.net) ++ fed.slice fed.u8 a.bytes
 
 pub same_address-hashed : (a b : Address) → IsTrue (same_address a b) → hashed a ≡ hashed b
 same_address-hashed a b h = ap hashed ((same_address-Decides a b).0 h)
+
+-- the two are the same address and port: what `==` of two peers computes
+abbrev pub same_peer : Peer → Peer → Bool
+same_peer p q = same_address p.addr q.addr && p.port == q.port
+
+same_peer_parts : (p q : Peer) → p.addr ≡ q.addr → p.port ≡ q.port → p ≡ q
+same_peer_parts p q e f = λ i. record { addr = e i; port = f i }
+
+-- `==` of two peers is true exactly where they are one
+pub same_peer-Decides : (p q : Peer) → Decides (same_peer p q) (p ≡ q)
+same_peer-Decides p q =
+    let d = Decides-and (same_address p.addr q.addr) (p.port == q.port) (same_address-Decides p.addr q.addr) (Decides-eqb p.port q.port) in
+    (λ h. same_peer_parts p q (d.0 h).0 (d.0 h).1, λ e. d.1 (ap (λ r. r.addr) e, ap (λ r. r.port) e))

@@ -2,7 +2,10 @@ ghost use Rattle.std.specs.Prelude.{◌≡◌, ◌<◌, ◌≤◌, ◌++◌, len
 ghost use Rattle.net_addr.specs.Address.{mapped_prefix, internal_prefix};
 
 use crate::Net;
-use crate::ranges::{carried, is_cjdns, is_ipv4_invalid, is_ipv4_local, is_ipv4_reserved, is_ipv6_invalid, is_ipv6_local, is_ipv6_reserved};
+use crate::ranges::{
+    carried, in_range, is_cjdns, is_ipv4_invalid, is_ipv4_local, is_ipv4_reserved, is_ipv6_invalid,
+    is_ipv6_local, is_ipv6_reserved,
+};
 use std::marker::Model;
 
 /// An address of one of the six networks.
@@ -27,11 +30,11 @@ impl Model for NetAddr {
 }
 
 impl NetAddr {
-    ghost use Rattle.std.specs.Prelude.{◌≡◌, ◌↔◌, IsTrue, option_map};
-    ghost use Rattle.std.specs.Int.{w32, from_be_bytes};
+    ghost use Rattle.std.specs.Prelude.{◌≡◌, ◌*◌, ◌≤◌, ◌↔◌, IsTrue, length, option_map};
+    ghost use Rattle.std.specs.Int.{w32, from_be_bytes, to_be_bytes};
     ghost use Rattle.net_addr.specs.declared.net.Net.TheVariants.{Ipv4};
     ghost use Rattle.net_addr.specs.Address.{IsAddress};
-    ghost use Rattle.net_addr.specs.Ranges.{is_valid, is_local, is_routable, reserved_by, linked_by, linked_ipv4, net_class};
+    ghost use Rattle.net_addr.specs.Ranges.{range, in_range, is_valid, is_local, is_routable, reserved_by, linked_by, linked_ipv4, net_class};
     ghost use Rattle.net_addr.specs.OldForm.{address, v1_bytes};
 
     /// The IPv4 address of four bytes, as they stand on the wire.
@@ -110,6 +113,15 @@ impl NetAddr {
         self.is_valid() && !self.is_local() && !self.is_reserved()
     }
 
+    /// Whether the address begins with the first `bits` bits of the base.
+    pub fn is_in_range(&self, base: &[u8], bits: usize) -> bool
+        requires base_holds { bits ≤ 8 * length base.now }
+        requires address_holds { length base.now ≤ length self.now.bytes }
+        ensures { result ≡ in_range (range base.now bits) self.now.bytes }
+    {
+        in_range(self.bytes(), base, bits)
+    }
+
     // Whether the address is in a range that is not routed.
     fn is_reserved(&self) -> bool
         ensures { result ≡ reserved_by self.now.net self.now.bytes }
@@ -135,7 +147,8 @@ impl NetAddr {
     /// The IPv4 address that a routable address is or carries, the first of its four bytes the
     /// highest (`CNetAddr::GetLinkedIPv4`).
     pub fn linked_ipv4(&self) -> Option<u32>
-        ensures { result ≡ option_map (from_be_bytes w32) (linked_ipv4 self.now) }
+        ensures value { result ≡ option_map (from_be_bytes w32) (linked_ipv4 self.now) }
+        ensures bytes { linked_ipv4 self.now ≡ option_map (to_be_bytes w32) result }
     {
         if !self.is_routable() {
             return None;

@@ -1,5 +1,5 @@
-use crate::append::append;
 use crate::NetAddr;
+use crate::append::append;
 use arrayvec::ArrayVec;
 
 /// An address and a port.
@@ -32,6 +32,6 @@ impl Peer {
     pub fn is_same(&self, other: &Peer) -> bool
         ensures { IsTrue result ↔ (self.now ≡ other.now) }
     {
-        self.addr.is_same(&other.addr) && self.port == other.port
+        self == other
     }
 }

@@ -2,7 +2,7 @@ ghost use Rattle.std.specs.Prelude.{◌≡◌, ◌*◌, ◌≤◌, ◌||◌, len
 ghost use Rattle.net_addr.specs.Ranges.{range, in_range, in_some, ipv4_invalid, ipv6_invalid, ipv4_local, ipv6_local, ipv4_reserved, ipv6_reserved, cjdns_range, nat64, siit, carried};
 
 // Whether the bytes begin with the first `bits` bits of the base.
-fn in_range(bytes: &[u8], base: &[u8], bits: usize) -> bool
+pub(crate) fn in_range(bytes: &[u8], base: &[u8], bits: usize) -> bool
     requires base_holds { bits ≤ 8 * length base.now }
     requires bytes_hold { length base.now ≤ length bytes.now }
     ensures { result ≡ in_range (range base.now bits) bytes.now }
@@ -28,8 +28,11 @@ pub(crate) fn is_ipv6_invalid(bytes: &[u8]) -> bool
     requires { length bytes.now ≡ 16 }
     ensures { result ≡ in_some ipv6_invalid bytes.now }
 {
-    in_range(bytes, &[0, 0, 0, 0, 0, 0, 0, 0, 0, 0, 0, 0, 0, 0, 0, 0], 128)
-        || in_range(bytes, &[0x20, 0x01, 0x0d, 0xb8], 32)
+    in_range(
+        bytes,
+        &[0, 0, 0, 0, 0, 0, 0, 0, 0, 0, 0, 0, 0, 0, 0, 0],
+        128,
+    ) || in_range(bytes, &[0x20, 0x01, 0x0d, 0xb8], 32)
 }
 
 // 127.0.0.0/8 and 0.0.0.0/8
@@ -45,7 +48,11 @@ pub(crate) fn is_ipv6_local(bytes: &[u8]) -> bool
     requires { length bytes.now ≡ 16 }
     ensures { result ≡ in_some ipv6_local bytes.now }
 {
-    in_range(bytes, &[0, 0, 0, 0, 0, 0, 0, 0, 0, 0, 0, 0, 0, 0, 0, 1], 128)
+    in_range(
+        bytes,
+        &[0, 0, 0, 0, 0, 0, 0, 0, 0, 0, 0, 0, 0, 0, 0, 1],
+        128,
+    )
 }
 
 // The ranges of RFC 1918, 2544, 3927, 6598 and 5737.
@@ -102,7 +109,12 @@ pub(crate) fn carried(bytes: &[u8]) -> Option<[u8; 4]>
     } else if in_range(bytes, &[0x20, 0x02], 16) {
         Some([bytes[2], bytes[3], bytes[4], bytes[5]])
     } else if in_range(bytes, &[0x20, 0x01, 0, 0], 32) {
-        Some([255 - bytes[12], 255 - bytes[13], 255 - bytes[14], 255 - bytes[15]])
+        Some([
+            255 - bytes[12],
+            255 - bytes[13],
+            255 - bytes[14],
+            255 - bytes[15],
+        ])
     } else {
         None
     }
