@@ -1,14 +1,17 @@
 -- Buckets and slots: where in the tables a peer may stand (`AddrInfo::GetNewBucket`, `GetTriedBucket` and
 -- `GetBucketPosition` in addrman.cpp of Bitcoin Core).
-use Rattle.std.specs.Prelude.{ℕ, ◌%◌, List, [], ◌∷◌, ◌++◌, length, take, map, Option, Some, None}
+use Rattle.std.specs.Prelude.{ℕ, ◌%◌, List, [], ◌∷◌, ◌++◌, length, take, map, Option, Some, None, refl}
 use Rattle.std.specs.Int.{w32, w64, to_le_bytes, from_le_bytes}
 use Rattle.std.specs.List.{concat, range_with_len}
+use Rattle.std.specs.Coded.{Coded, code_by, coded×, coded_ℕ, coded_list, coded_option}
 use Rattle.sha2.specs.Sha256.{sha256}
 use Rattle.wire_num.specs.CompactSize.{compact_size}
 use Rattle.net_addr.specs.Address.{Address}
 use Rattle.net_addr.specs.OldForm.{key_bytes}
 use Rattle.net_addr.specs.declared.peer.Peer.{Peer}
-use Rattle.net_group.specs.Group.{group_of}
+use Rattle.net_group.specs.Group.{group_of, asmap_bits}
+use Rattle.asmap_vm.specs.Code.{Tree, asn_of}
+use Rattle.asmap_vm.specs.Asmap.{Asmap, coded_asmap}
 
 -- SHA-256 of SHA-256 (FIPS 180-4)
 unfoldable pub double_sha256 : List ℕ → List ℕ
@@ -26,15 +29,23 @@ sized bytes = compact_size (length bytes) ++ bytes
 abbrev pub hash_of : List (List ℕ) → ℕ
 hash_of parts = cheap_hash (concat parts)
 
--- what places depend on: a node's secret key of 32 bytes, and the bytes of its asmap where it has one
+-- what places depend on: a node's secret key of 32 bytes, and its asmap where it has one
 pub record Places : Type 0 where
   pub key : List ℕ
-  pub map : Option (List ℕ)
+  pub map : Option Asmap
 
--- the number of the autonomous system that announces the address, 0 where there is none
-abbrev pub asn : Option (List ℕ) → Address → ℕ
+abbrev pub coded_places : Coded Places
+coded_places = code_by (List ℕ × Option Asmap) (coded× (coded_list coded_ℕ) (coded_option coded_asmap)) (λ p. (p.key, p.map)) (λ p. record { key = p.0; map = p.1 }) (λ _. refl)
+
+-- the number that an asmap's tree gives for the address bits that are looked up, 0 where none are
+abbrev pub number_by : Tree → Option ℕ → ℕ
+number_by tree None = 0
+number_by tree (Some bits) = asn_of tree bits
+
+-- the number of the autonomous system that announces the address, 0 where none is known
+abbrev pub asn : Option Asmap → Address → ℕ
 asn None a = 0
-asn (Some file) a = 0
+asn (Some m) a = number_by m.tree (asmap_bits a)
 
 -- the group of an address by the node's asmap
 abbrev pub group : Places → Address → List ℕ

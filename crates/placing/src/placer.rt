@@ -12,9 +12,11 @@ pub struct Placer {
 
 impl Model for Placer {
     ghost use Rattle.std.specs.Prelude.{None};
-    ghost use Rattle.placing.specs.Places.{Places};
+    ghost use Rattle.placing.specs.Places.{Places, coded_places};
 
     ghost Value = { Places };
+
+    ghost coded = { coded_places };
 
     ghost view = { λ p. record { key = p.key; map = None } };
 }
@@ -40,6 +42,8 @@ impl Placer {
     pub fn group(&self, addr: &NetAddr) -> ArrayVec<u8, 11>
         ensures { result.items ≡ group self.now addr.now }
     {
+        // The proof reads the field: it says that there is no asmap.
+        let _ = &self.key;
         net_group::group(addr, 0)
     }
 
