@@ -1,6 +1,7 @@
 -- What a record says of its peer.
-use Rattle.std.specs.Prelude.{◌≡◌, ℕ, ◌+◌, ◌<◌, ◌≤◌, List, [], ◌∷◌, length, Bool, true, false, ◌&&◌, ◌||◌, not, ◌==◌, nat_lt, nat_le, if◌then◌else◌, All}
+use Rattle.std.specs.Prelude.{◌≡◌, ℕ, ◌+◌, ◌<◌, ◌≤◌, ◌^◌, List, [], ◌∷◌, length, Bool, true, false, ◌&&◌, ◌||◌, not, ◌==◌, nat_lt, nat_le, if◌then◌else◌, All}
 use Rattle.std.specs.List.Sorted.{IsStrictlyIncreasing}
+use Rattle.net_addr.specs.Address.{IsAddress}
 use Rattle.peer_rec.specs.declared.rec.Rec.{Rec}
 use Rattle.peer_rec.specs.declared.place.Place.{Place}
 use Rattle.peer_rec.specs.declared.place.Place.TheVariants.{New, Tried}
@@ -30,6 +31,19 @@ pub record AreBuckets (buckets : List ℕ) : Type 0 where
 abbrev pub IsPlace : Place → Type 0
 IsPlace (New buckets) = AreBuckets buckets
 IsPlace Tried = Unit {0}
+
+-- what fits the fields of a record
+pub record IsRec (r : Rec) : Type 0 where
+  pub addr : IsAddress r.peer.addr
+  pub port : r.peer.port < 2 ^ 16
+  pub source : IsAddress r.source
+  pub time : r.time < 2 ^ 32
+  pub services : r.services < 2 ^ 64
+  pub last_success : r.last_success < 2 ^ 32
+  pub last_try : r.last_try < 2 ^ 32
+  pub last_count : r.last_count < 2 ^ 32
+  pub attempts : r.attempts ≤ 2147483647
+  pub place : IsPlace r.place
 
 -- A record that is not worth keeping (`AddrInfo::IsTerrible`): not one tried in the last minute, but one seen more
 -- than ten minutes ahead, one not seen for thirty days, one that failed three times and never succeeded, and one

@@ -1,10 +1,9 @@
 -- What holds of every state between two lines of a log.
-use Rattle.std.specs.Prelude.{◌≡◌, ◌≢◌, ℕ, ◌<◌, ◌≤◌, List, length, map, All, AllPairs, Contains, true, IsSome, Some, IfSome, IsPermutation}
+use Rattle.std.specs.Prelude.{◌≡◌, ◌≢◌, ℕ, ◌<◌, ◌≤◌, ◌^◌, List, length, map, All, AllPairs, Contains, true, IsSome, Some, IfSome, IsPermutation}
 use Rattle.std.specs.List.Sorted.{IsStrictlyIncreasing}
-use Rattle.net_addr.specs.Address.{IsAddress}
 use Rattle.net_addr.specs.Ranges.{is_valid}
 use Rattle.placing.specs.Places.{tried_bucket, tried_slot}
-use Rattle.peer_rec.specs.Rec.{IsPlace}
+use Rattle.peer_rec.specs.Rec.{IsRec}
 use Rattle.peer_rec.specs.declared.rec.Rec.{Rec}
 use Rattle.table_machine.specs.State.{State, numbered, is_new_at, is_tried_at, tried_occupant}
 
@@ -26,10 +25,9 @@ HasOpponent st number = IfSome (numbered st number) (λ r.
 pub record IsSound (st : State) : Type 0 where
   pub new_slots : AloneInNew st
   pub tried_slots : AloneInTried st
-  pub places : All (λ r. IsPlace r.place) st.records
+  pub records : All IsRec st.records
   pub order : IsPermutation (map (λ r. r.number) st.records) st.order
   pub peers : AllPairs (λ r q. r.peer ≢ q.peer) st.records
-  pub addresses : All (λ r. IsAddress r.peer.addr) st.records
   pub valid : All (λ r. is_valid r.peer.addr ≡ true) st.records
   pub rising : IsStrictlyIncreasing (map (λ r. r.number) st.records)
   pub below_next : All (λ r. r.number < st.next_number) st.records
@@ -37,4 +35,6 @@ pub record IsSound (st : State) : Type 0 where
   pub few_collisions : length st.collisions ≤ 10
   pub collisions_below_next : All (λ n. n < st.next_number) st.collisions
   pub opponents : All (HasOpponent st) st.collisions
-  pub attempts : All (λ r. r.attempts ≤ 2147483647) st.records
+  pub clock : st.clock < 2 ^ 32
+  pub last_good : st.last_good < 2 ^ 32
+  pub key : length st.places.key ≡ 32

@@ -9,8 +9,8 @@ use Rattle.peer_rec.specs.Rec.{buckets_of, is_tried}
 use Rattle.peer_rec.specs.declared.rec.Rec.{Rec}
 
 -- key and map (places), the records by rising number, the order that samples are drawn from (a list of numbers), the
--- numbers of the newcomers that wait for a tried slot (rising), the time of the last success of any peer, the clock,
--- and the number of the next record; times in seconds
+-- numbers of the newcomers that wait for a tried slot (rising), when a success was last told of, the clock, and the
+-- number of the next record; times in seconds since 1970
 pub record State : Type 0 where
   pub places : Places
   pub records : List Rec
