@@ -1,3 +1,5 @@
+ghost use Rattle.std.specs.Prelude.{◌≡◌};
+
 use crate::Place;
 use net_addr::{NetAddr, Peer};
 
@@ -20,4 +22,24 @@ pub struct Rec {
     /// Tries since the last success, at most 2147483647.
     pub attempts: u32,
     pub place: Place,
+}
+
+impl Rec {
+    /// The same record; it takes no memory.
+    pub fn copy(&self) -> Rec
+        ensures { result ≡ self.now }
+    {
+        Rec {
+            number: self.number,
+            peer: self.peer,
+            source: self.source,
+            time: self.time,
+            services: self.services,
+            last_success: self.last_success,
+            last_try: self.last_try,
+            last_count: self.last_count,
+            attempts: self.attempts,
+            place: self.place.copy(),
+        }
+    }
 }
