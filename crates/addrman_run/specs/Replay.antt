@@ -4,6 +4,8 @@ use Rattle.hex.specs.Hex.{decode_of}
 use Rattle.log_lines.specs.Lines.{lines_of}
 use Rattle.table_machine.specs.State.{State, empty_state}
 use Rattle.addrman_run.specs.Run.{Run, IsNotBuilt}
+use Rattle.addrman_run.specs.declared.status.Status.{Status}
+use Rattle.addrman_run.specs.declared.status.Status.TheVariants.{Done, Usage, ReadFault, WriteFault, LogTooLong, Memory, NotBuilt}
 
 -- the words are replay, --key and the key in hexadecimal
 abbrev pub IsReplay : List (List ℕ) → List ℕ → Type 0
@@ -14,17 +16,27 @@ IsReplay words key =
 abbrev pub opening : List ℕ → State
 opening key = empty_state (record { key = key; map = None })
 
--- the replies to all lines of the log
-abbrev pub AnswersAll : List ℕ → List ℕ → List ℕ → Type 0
-AnswersAll key log text = (end : State) × Run (opening key) (lines_of log) text end
+-- from a state on, the text is the replies to all lines of the log
+abbrev pub AnswersAll : State → List ℕ → List ℕ → Type 0
+AnswersAll start log text = (end : State) × Run start (lines_of log) text end
 
--- the replies to the first lines of the log, as far as they are written
-abbrev pub AnswersFront : List ℕ → List ℕ → List ℕ → Type 0
-AnswersFront key log text =
-    (n : ℕ) × (rest : List ℕ) × (end : State) × Run (opening key) (take n (lines_of log)) (text ++ rest) end
+-- the text is the replies to the first lines of the log, or the front of them
+abbrev pub AnswersFront : State → List ℕ → List ℕ → Type 0
+AnswersFront start log text =
+    (n : ℕ) × (rest : List ℕ) × (end : State) × Run start (take n (lines_of log)) (text ++ rest) end
 
--- the replies to the lines before line n, counted from 1, which is not built
-abbrev pub AnswersUpTo : List ℕ → List ℕ → ℕ → List ℕ → Type 0
-AnswersUpTo key log n text =
+-- the text is the replies to the lines before line n, counted from 1, which is not built
+abbrev pub AnswersUpTo : State → List ℕ → ℕ → List ℕ → Type 0
+AnswersUpTo start log n text =
     (line : List ℕ) × (before : List (List ℕ)) × (after : List (List ℕ)) × (end : State) ×
-    (lines_of log ≡ before ++ line ∷ after) × (n ≡ length before + 1) × Run (opening key) before text end × IsNotBuilt end line
+    (lines_of log ≡ before ++ line ∷ after) × (n ≡ length before + 1) × Run start before text end × IsNotBuilt end line
+
+-- how a replay ends whose log was read
+abbrev pub IsAnswer : Status → Type 0
+IsAnswer Done = Unit {0}
+IsAnswer WriteFault = Unit {0}
+IsAnswer Memory = Unit {0}
+IsAnswer (NotBuilt n) = Unit {0}
+IsAnswer Usage = ⊥
+IsAnswer ReadFault = ⊥
+IsAnswer LogTooLong = ⊥
