@@ -2,5 +2,6 @@ pub mod Folder
 pub mod MemFolder
 pub mod MemSink
 pub mod MemSource
-pub mod Names
+pub mod Name
 pub mod Outside
+pub mod PerName

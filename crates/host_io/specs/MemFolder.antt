@@ -1,19 +1,7 @@
 -- A folder in memory: its files, and which of its calls fail.
 use Rattle.std.specs.Prelude.{◌≡◌, ℕ, List, Bool, Option, Any}
 use Rattle.host_io.specs.Outside.{raised}
-use Rattle.host_io.specs.declared.name.Name.{Name}
-use Rattle.host_io.specs.declared.name.Name.TheVariants.{Peers, PeersTemp, Asmap, AsmapTemp, Prefixes, Bans, BansTemp}
 use Rattle.host_io.specs.declared.per_name.PerName.{PerName}
-
--- What stands under a name.
-abbrev pub under : {T : Type 0} → PerName T → Name → T
-under all Peers = all.peers
-under all PeersTemp = all.peers_temp
-under all Asmap = all.asmap
-under all AsmapTemp = all.asmap_temp
-under all Prefixes = all.prefixes
-under all Bans = all.bans
-under all BansTemp = all.bans_temp
 
 -- The files, the calls that fail (each by its number, and whether it changes the folder all the same), the two counts, and how often memory was wanting.
 pub record FolderState : Type 0 where

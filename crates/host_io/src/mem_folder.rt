@@ -1,7 +1,8 @@
-ghost use Rattle.std.specs.Prelude.{◌≡◌, ◌≢◌, ℕ, ◌<◌, ◌≤◌, ◌↔◌, ◌++◌, List, [], length, min, take, drop, Option, Any, IsTrue, IsErr, IsOk, IsSome, IfOk, IfSome, OnOk, OnErr, Some, None};
+ghost use Rattle.std.specs.Prelude.{◌≡◌, ◌≢◌, ◌<◌, ◌≤◌, ◌↔◌, ◌++◌, length, min, take, drop, Any, IsTrue, IsErr, IsSome, IfOk, IfSome, OnOk, OnErr, Some, None};
 ghost use Rattle.std.specs.Option.{option_map};
 ghost use Rattle.host_io.specs.Outside.{Rose};
-ghost use Rattle.host_io.specs.MemFolder.{under, NextFails, folder_after_reading, folder_after_fault};
+ghost use Rattle.host_io.specs.MemFolder.{NextFails, folder_after_reading, folder_after_fault};
+ghost use Rattle.host_io.specs.PerName.{under};
 ghost use Rattle.host_io.specs.declared.name.Name.{Name};
 
 use crate::bytes::Bytes;

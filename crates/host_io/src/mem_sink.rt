@@ -1,4 +1,4 @@
-ghost use Rattle.std.specs.Prelude.{◌≡◌, ℕ, ◌<◌, ◌≤◌, ◌++◌, List, [], length, take, Contains, IsErr, IfOk, OnOk, OnErr, Some};
+ghost use Rattle.std.specs.Prelude.{◌≡◌, ◌<◌, ◌≤◌, [], length, Contains, IsErr, IfOk, OnOk, OnErr, Some};
 ghost use Rattle.host_io.specs.MemSink.{sink_after_write, sink_after_fault, sink_after_want};
 ghost use Rattle.host_io.specs.Outside.{Rose};
 

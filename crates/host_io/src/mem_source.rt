@@ -1,4 +1,4 @@
-ghost use Rattle.std.specs.Prelude.{◌≡◌, ℕ, ◌<◌, ◌≤◌, ◌↔◌, ◌++◌, List, [], length, min, take, drop, vec_len, Contains, IsErr, IfOk, OnOk, OnErr, Some};
+ghost use Rattle.std.specs.Prelude.{◌≡◌, ◌<◌, ◌≤◌, ◌↔◌, ◌++◌, [], length, min, take, drop, vec_len, Contains, IsErr, IfOk, OnErr, Some};
 ghost use Rattle.host_io.specs.MemSource.{source_after_read, source_after_fault};
 ghost use Rattle.host_io.specs.Outside.{Rose};
 

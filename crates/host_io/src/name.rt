@@ -12,7 +12,7 @@ pub enum Name {
 
 impl Name {
     ghost use Rattle.std.specs.Prelude.{◌≡◌};
-    ghost use Rattle.host_io.specs.Names.{file_name_of};
+    ghost use Rattle.host_io.specs.Name.{file_name_of};
 
     /// The name of the file in its folder.
     pub fn file_name(self) -> &'static str

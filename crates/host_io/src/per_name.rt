@@ -14,7 +14,7 @@ pub struct PerName<T> {
 
 impl<T> PerName<T> {
     ghost use Rattle.std.specs.Prelude.{◌≡◌, ◌≢◌};
-    ghost use Rattle.host_io.specs.MemFolder.{under};
+    ghost use Rattle.host_io.specs.PerName.{under};
     ghost use Rattle.host_io.specs.declared.name.Name.{Name};
 
     /// What stands under `name`.

@@ -1,4 +1,4 @@
-ghost use Rattle.std.specs.Prelude.{◌≡◌, ℕ, ◌<◌, length, None, Ok};
+ghost use Rattle.std.specs.Prelude.{◌≡◌, ◌<◌, length, None, Ok};
 
 use crate::failed::Failed;
 use crate::folder::Folder;

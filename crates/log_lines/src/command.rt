@@ -6,7 +6,9 @@ use net_addr::{NetAddr, Peer};
 #[derive(Drop)]
 pub enum Command {
     /// The clock is set, in seconds since 1970.
-    Now { time: u32 },
+    Now {
+        time: u32,
+    },
     /// An `addr` message came from a source; each of its entries takes one of the random words.
     Addr {
         source: NetAddr,
@@ -14,5 +16,7 @@ pub enum Command {
         words: Words,
     },
     /// What is known of a peer is asked for.
-    Find { peer: Peer },
+    Find {
+        peer: Peer,
+    },
 }
