@@ -33,11 +33,16 @@ other_network e = cc
 other_version : Ipv4 ≡ Ipv6 → ⊥
 other_version e = cc
 
--- an IPv4 address is its first four bytes
-pub IsAddress-ipv4 : (a : Address) (all : List ℕ) → a.net ≡ Ipv4 → length all ≡ 32 → All (λ b. b < 256) all → a.bytes ≡ take 4 all → IsAddress a
-IsAddress-ipv4 a all e l h b = record {
+-- an IPv4 address has four bytes
+pub IsAddress-ipv4 : (a : Address) → a.net ≡ Ipv4 → length a.bytes ≡ 4 → All (λ b. b < 256) a.bytes → IsAddress a
+IsAddress-ipv4 a e l h = record {
   network = λ u. absurd (other_network (sym e ∙ u));
-  length = ap length b ∙ omega (arith, length-take 4 all) ∙ ap length_of (sym e);
-  bytes = rw b (All-take (λ n. n < 256) 4 all h);
+  length = l ∙ ap length_of (sym e);
+  bytes = h;
   own_form = λ u. absurd (other_version (sym e ∙ u));
 }
+
+-- it is the first four of these
+pub IsAddress-front : (a : Address) (all : List ℕ) → a.net ≡ Ipv4 → length all ≡ 32 → All (λ b. b < 256) all → a.bytes ≡ take 4 all → IsAddress a
+IsAddress-front a all e l h b =
+    IsAddress-ipv4 a e (ap length b ∙ omega (arith, length-take 4 all)) (rw b (All-take (λ n. n < 256) 4 all h))

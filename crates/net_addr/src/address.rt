@@ -24,9 +24,12 @@ impl Model for NetAddr {
 
     ghost view = { λ a. record { net = a.net; bytes = take (length_of a.net) a.bytes } };
 
-    ghost invariant = { λ a. (a.net ≡ Ipv4) × (drop (length_of a.net) a.bytes ≡ replicate (32 - length_of a.net) 0) };
+    ghost invariant = { λ a.
+        (a.net ≡ Ipv4)
+        × (drop (length_of a.net) a.bytes ≡ replicate (32 - length_of a.net) 0) };
 
-    ghost inverse = { λ a. record { net = a.net; bytes = a.bytes ++ replicate (32 - length_of a.net) 0 } };
+    ghost inverse = { λ a.
+        record { net = a.net; bytes = a.bytes ++ replicate (32 - length_of a.net) 0 } };
 }
 
 impl NetAddr {
@@ -39,7 +42,8 @@ impl NetAddr {
 
     /// The IPv4 address of four bytes, as they stand on the wire.
     pub fn ipv4(bytes: [u8; 4]) -> NetAddr
-        ensures { result ≡ address Ipv4 bytes }
+        ensures value { result ≡ address Ipv4 bytes }
+        ensures address { IsAddress result }
     {
         let [a, b, c, d] = bytes;
         let mut all = [0; 32];
@@ -60,6 +64,7 @@ impl NetAddr {
         [self.bytes[0], self.bytes[1], self.bytes[2], self.bytes[3]]
     }
 
+    /// The network of the address.
     pub fn net(&self) -> Net
         ensures { result ≡ self.now.net }
     {

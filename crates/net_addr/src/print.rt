@@ -1,4 +1,4 @@
-ghost use Rattle.std.specs.Prelude.{◌≡◌, ◌+◌, ◌≤◌, ◌++◌, length, decimal, OnOk, OnErr};
+ghost use Rattle.std.specs.Prelude.{◌≡◌, ◌+◌, ◌≤◌, ◌∷◌, ◌++◌, length, decimal, OnOk, OnErr};
 ghost use Rattle.std.specs.Int.{w32, to_be_bytes};
 ghost use Rattle.net_addr.specs.Text.{ipv4_text, addr_text, peer_text};
 ghost use Rattle.arrayvec.specs.ArrayVec.{array_vec_len};
@@ -55,13 +55,20 @@ fn dotted(bytes: [u8; 4]) -> ArrayVec<u8, 15>
     let [a, b, c, d] = bytes;
     let mut text = ArrayVec::new();
     append_byte(&mut text, a);
-    append(&mut text, b".");
-    append_byte(&mut text, b);
-    append(&mut text, b".");
-    append_byte(&mut text, c);
-    append(&mut text, b".");
-    append_byte(&mut text, d);
+    append_dotted(&mut text, b);
+    append_dotted(&mut text, c);
+    append_dotted(&mut text, d);
     text
+}
+
+// Appends a dot and a byte in decimal, for which there is room.
+fn append_dotted<const N: usize>(out: &mut ArrayVec<u8, N>, byte: u8)
+    requires { array_vec_len out.old + 4 ≤ N }
+    ensures items { out.new.items ≡ out.old.items ++ 46 ∷ decimal byte }
+    ensures short { array_vec_len out.new ≤ array_vec_len out.old + 4 }
+{
+    append(out, b".");
+    append_byte(out, byte);
 }
 
 // Appends a byte in decimal, for which there is room.

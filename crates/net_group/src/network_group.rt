@@ -53,7 +53,7 @@ fn ipv6_bits(addr: &NetAddr) -> usize
 
 // Appends the first two bytes of the linked IPv4 address.
 fn append_linked(group: &mut ArrayVec<u8, 11>, addr: &NetAddr)
-    requires { array_vec_len group.old ≤ 9 }
+    requires { array_vec_len group.old ≤ 1 }
     ensures { group.new.items ≡ group.old.items ++ take 2 (unwrap_or (linked_ipv4 addr.now) []) }
 {
     if let Some(bits) = addr.linked_ipv4() {

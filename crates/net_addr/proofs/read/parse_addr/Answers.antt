@@ -15,4 +15,4 @@ returns-clause-only c = λ a h spelled.
     let found = c.in_ok-bits.ensures.only known.bits known.small known.spelled in
     let same : c.in_ok-bits.bits ≡ known.bits = cc in
     let bytes = c.to_be_bytes.ensures ∙ ap (to_be_bytes w32) same ∙ known.bytes in
-    ap Some (c.ipv4.ensures ∙ ipv4_address a c.to_be_bytes.result spelled.0 bytes)
+    ap Some (c.ipv4.ensures.value ∙ ipv4_address a c.to_be_bytes.result spelled.0 bytes)
