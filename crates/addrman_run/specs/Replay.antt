@@ -40,3 +40,23 @@ IsAnswer (NotBuilt n) = Unit {0}
 IsAnswer Usage = ⊥
 IsAnswer ReadFault = ⊥
 IsAnswer LogTooLong = ⊥
+
+-- the statuses that only a log which was read to its end leads to
+abbrev pub IsAnswered : Status → Type 0
+IsAnswered Done = Unit {0}
+IsAnswered WriteFault = Unit {0}
+IsAnswered (NotBuilt n) = Unit {0}
+IsAnswered Memory = ⊥
+IsAnswered Usage = ⊥
+IsAnswered ReadFault = ⊥
+IsAnswered LogTooLong = ⊥
+
+-- the statuses that come before anything is written
+abbrev pub WritesNothing : Status → Type 0
+WritesNothing Usage = Unit {0}
+WritesNothing ReadFault = Unit {0}
+WritesNothing LogTooLong = Unit {0}
+WritesNothing Done = ⊥
+WritesNothing WriteFault = ⊥
+WritesNothing (NotBuilt n) = ⊥
+WritesNothing Memory = ⊥

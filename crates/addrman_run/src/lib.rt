@@ -2,7 +2,12 @@
 #![tactic(auto)]
 
 mod log;
+mod replay;
+
 mod status;
+mod step;
+mod top;
 mod words;
 
+pub use top::run;
 pub use status::Status;

@@ -24,7 +24,7 @@ returns-clause-found c =
     let small : AreBytes c.args.bytes.now = λ i. let f = c.type_inv.bytes i in omega (arith, f) in
     let reads = reads_by_parts c.args.bytes.now _ _ _ _ _ _ _ small time.0 time.1 time.2 services.0 services.1 services.2 prefix addr.0 addr.1 addr.2 last.long in
     let known = read_spelled _ _ _ _ _ _ _ _ reads c.from_le_bytes.ensures c.from_le_bytes-2.ensures port (omega arith) (omega arith) (omega arith) in
-    rw c.ipv4.ensures (refl, known.0, known.1)
+    rw c.ipv4.ensures.value (refl, known.0, known.1)
 
 pub returns-clause-only : goal.returns-clause-only
 returns-clause-only c = λ e net fit h.
@@ -37,4 +37,4 @@ returns-clause-only c = λ e net fit h.
     let small : AreBytes c.args.bytes.now = λ i. let f = c.type_inv.bytes i in omega (arith, f) in
     let reads = reads_by_parts c.args.bytes.now _ _ _ _ _ _ _ small time.0 time.1 time.2 services.0 services.1 services.2 prefix addr.0 addr.1 addr.2 last.long in
     let parts = parts_of c.args.bytes.now e net fit h in
-    rw c.ipv4.ensures (ap Some (spelled_read _ _ _ _ _ _ _ _ e reads parts c.from_le_bytes.ensures c.from_le_bytes-2.ensures port))
+    rw c.ipv4.ensures.value (ap Some (spelled_read _ _ _ _ _ _ _ _ e reads parts c.from_le_bytes.ensures c.from_le_bytes-2.ensures port))
