@@ -30,7 +30,7 @@ fn read_ipv4_entry(bytes: &[u8]) -> Option<Entry>
     let (services, bytes) = bytes.split_first_chunk::<8>()?;
     let bytes = bytes.strip_prefix(&MAPPED_PREFIX)?;
     let (addr, bytes) = bytes.split_first_chunk::<4>()?;
-    let port = bytes.try_into().ok()?;
+    let port: [u8; 2] = bytes.try_into().ok()?;
     Some(Entry {
         time: u32::from_le_bytes(*time),
         services: u64::from_le_bytes(*services),

@@ -1,3 +1,4 @@
 pub mod Run
 pub mod Replay
 pub mod Reading
+pub mod Report

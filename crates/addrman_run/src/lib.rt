@@ -2,12 +2,15 @@
 #![tactic(auto)]
 
 mod log;
+mod memory;
 mod replay;
-
+mod report;
 mod status;
 mod step;
 mod top;
 mod words;
 
-pub use top::run;
+pub use memory::Memory;
+pub use report::{code, status_line};
 pub use status::Status;
+pub use top::run;

@@ -17,6 +17,7 @@ pub fn read_line(alloc: Global, line: &[u8]) -> Result<Option<Command>, LineFaul
     ensures passed { result ≡ Ok None ↔ IsPassedOver line.now }
     ensures found { IfOk result (λ read. IfSome read (λ c. Spells line.now c)) }
     ensures only { (c : Command) → Spells line.now c → (result ≡ Ok (Some c)) ⊎ (result ≡ Err LineFault.Memory) }
+    ensures not_built { result ≡ Err LineFault.NotBuilt → (c : Command) → ¬ Spells line.now c }
 {
     if is_passed_over(line) {
         return Ok(None);

@@ -1,4 +1,4 @@
-use Rattle.std.proofs.Common.{◌≡◌, Ok, Err, sym, ap, ◌∙◌, inl, inr}
+use Rattle.std.proofs.Common.{Err, ap, inl, inr}
 use Rattle.std.proofs.lemmas.Result.{err_from_is_err_and}
 use Rattle.log_lines.proofs.Fields.{addr_fields, addr_one_space, addr_spelled}
 use Rattle.log_lines.proofs.read.read_addr.Goals as goal

@@ -1,8 +1,7 @@
-use Rattle.std.proofs.Common.{◌≡◌, List, ℕ, Option, Some, None, Result, codes, IfSome, IfOk, sym, subst}
+use Rattle.std.proofs.Common.{Option, Some, None, codes, IfSome, IfOk}
 use Rattle.std.specs.Option.{ok_or}
 use Rattle.std.proofs.lemmas.Bool.Decides.{Decides-eqb}
 use Rattle.std.proofs.lemmas.Slice.Eq.{strip_prefix_is}
-use Rattle.log_lines.specs.Spelling.{Spells}
 use Rattle.log_lines.proofs.read.read_command.Goals as goal
 
 IfOk-ok_or : {T E : Type 0} (o : Option T) (e : E) (P : T → Type 0) → IfSome o P → IfOk (ok_or o e) P
