@@ -67,3 +67,11 @@ IsAddrText text a = (a.net ≡ Ipv4) × (text ≡ ipv4_text a.bytes)
 -- a text that is read as the peer: an address, a colon and the port
 abbrev pub IsPeerText : List ℕ → Peer → Type 0
 IsPeerText text p = (addr : List ℕ) × IsAddrText addr p.addr × (text ≡ addr ++ codes ":" ++ decimal p.port)
+
+-- what is printed of an address is read as the address; so far of IPv4 alone
+abbrev pub PrintedAddressIsRead : Type 0
+PrintedAddressIsRead = (a : Address) → a.net ≡ Ipv4 → IsAddrText (addr_text a) a
+
+-- what is printed of a peer is read as the peer
+abbrev pub PrintedPeerIsRead : Type 0
+PrintedPeerIsRead = (p : Peer) → p.addr.net ≡ Ipv4 → IsPeerText (peer_text p) p

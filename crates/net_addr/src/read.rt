@@ -1,7 +1,7 @@
 ghost use Rattle.std.specs.Prelude.{◌≡◌, ◌≢◌, ℕ, ◌+◌, ◌-◌, ◌*◌, ◌<◌, ◌≤◌, ◌^◌, ◌↔◌, length, slice_index, IsTrue, IfSome, IfNone, Some, decimal, ◌∷◌, ◌++◌, All};
 ghost use Rattle.std.specs.Int.{w32, to_be_bytes, IsInRange};
 ghost use Rattle.net_addr.specs.Address.{Address, IsAddress};
-ghost use Rattle.net_addr.specs.Text.{ipv4_text, IsAddrText, IsPeerText};
+ghost use Rattle.net_addr.specs.Text.{ipv4_text, IsAddrText, IsPeerText, PrintedAddressIsRead, PrintedPeerIsRead};
 ghost use Rattle.net_addr.specs.declared.peer.Peer.{Peer};
 
 use crate::{NetAddr, Peer};
@@ -66,6 +66,13 @@ pub fn parse_peer(text: &[u8]) -> Option<Peer>
         port: port as u16,
     })
 }
+
+/// A law of the texts that the calls above read and those of `print` append: what is printed is read
+/// as itself.
+pub fn printed_is_read()
+    ensures address { PrintedAddressIsRead }
+    ensures peer { PrintedPeerIsRead }
+{}
 
 // Whether more digits stand after a zero at the front.
 fn is_padded(text: &[u8]) -> bool

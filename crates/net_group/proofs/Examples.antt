@@ -1,5 +1,5 @@
 -- Worked examples of the definitions, each computed.
-use Rattle.std.specs.Prelude.{◌≡◌, ℕ, List, [], ◌∷◌, ◌++◌, replicate, Some, None, refl}
+use Rattle.std.specs.Prelude.{◌≡◌, ℕ, [], ◌∷◌, replicate, Some, None, refl}
 use Rattle.net_addr.specs.Address.{Address}
 use Rattle.net_addr.specs.OldForm.{address}
 use Rattle.net_addr.specs.Ranges.{in_range}
