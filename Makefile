@@ -1,19 +1,18 @@
 # make: builds the proved program and puts it at bin/addrman
-# make demo: runs the main job on the files of examples/
+# make demo: replays the small log of examples/
 # make test: the gate
 
-PROGRAM := bin/addrman
 ZERO_KEY := 0000000000000000000000000000000000000000000000000000000000000000
 
 .PHONY: all demo test
 
 all:
 	mkdir -p bin
-	cd crates/addrman && rt check && rt run -- > /dev/null 2>&1; test -x out/addrman
-	cp crates/addrman/out/addrman $(PROGRAM)
+	cd crates/addrman && rt run -- replay --key $(ZERO_KEY) < /dev/null
+	cp crates/addrman/out/addrman bin/addrman
 
 demo: all
-	$(PROGRAM) replay --key $(ZERO_KEY) < examples/one-address.log
+	bin/addrman replay --key $(ZERO_KEY) < examples/one-address.log
 
 test:
 	rt ci

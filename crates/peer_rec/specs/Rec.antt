@@ -1,5 +1,5 @@
 -- What a record says of its peer.
-use Rattle.std.specs.Prelude.{◌≡◌, ℕ, ◌+◌, ◌<◌, ◌≤◌, ◌^◌, List, [], ◌∷◌, length, Bool, true, false, ◌&&◌, ◌||◌, not, ◌==◌, nat_lt, nat_le, if◌then◌else◌, All}
+use Rattle.std.specs.Prelude.{ℕ, ◌+◌, ◌<◌, ◌≤◌, ◌^◌, List, [], length, Bool, true, false, ◌&&◌, ◌||◌, not, ◌==◌, nat_lt, nat_le, All}
 use Rattle.std.specs.List.Sorted.{IsStrictlyIncreasing}
 use Rattle.net_addr.specs.Address.{IsAddress}
 use Rattle.peer_rec.specs.declared.rec.Rec.{Rec}
@@ -51,7 +51,7 @@ pub record IsRec (r : Rec) : Type 0 where
 abbrev pub is_terrible : Rec → ℕ → Bool
 is_terrible r now =
     not (nat_le now (r.last_try + 60)) && (
-      nat_lt (now + 600) r.time ||
-      nat_lt (r.time + 2592000) now ||
-      (r.last_success == 0 && nat_le 3 r.attempts) ||
-      (nat_lt (r.last_success + 604800) now && nat_le 10 r.attempts))
+    nat_lt (now + 600) r.time ||
+    nat_lt (r.time + 2592000) now ||
+    (r.last_success == 0 && nat_le 3 r.attempts) ||
+    (nat_lt (r.last_success + 604800) now && nat_le 10 r.attempts))
