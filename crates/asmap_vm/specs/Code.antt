@@ -1,7 +1,7 @@
 -- What an asmap file says: a tree of instructions, its spelling in bits, which trees are sane, and the number that a
 -- tree gives for an address. The rules are those of `Interpret` and `SanityCheckASMap` in Bitcoin Core's util/asmap.cpp,
 -- at 128 address bits.
-use Rattle.std.specs.Prelude.{◌≡◌, ◌==◌, ℕ, ◌+◌, ◌-◌, ◌<◌, ◌≤◌, Bool, true, false, List, [], ◌∷◌, ◌++◌, if◌then◌else◌, IsTrue, nat_lt, length, drop, replicate, ⊤}
+use Rattle.std.specs.Prelude.{◌≡◌, ℕ, ◌+◌, ◌-◌, ◌<◌, ◌≤◌, Bool, true, false, List, [], ◌∷◌, ◌++◌, if◌then◌else◌, length, drop, replicate, ⊤}
 use Rattle.bit_code.specs.Coder.{digits, number_of, file_bits, spelling, HasValue}
 use Rattle.bit_code.specs.declared.coder.Coder.TheVariants as coders
 

@@ -1,2 +1,10 @@
 pub mod Code
+pub mod Instructions
+pub mod Matches
+pub mod Scanning
+pub mod TreeOf
+pub mod SaneProps
+pub mod Walking
+pub mod Held
+pub mod CodedTree
 pub mod Asmap

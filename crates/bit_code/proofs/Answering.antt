@@ -1,5 +1,5 @@
 -- From what reading gives on lists to what a reader of bits answers.
-use Rattle.std.proofs.Common.{◌≡◌, ℕ, ◌+◌, ◌<◌, ◌≤◌, Bool, List, length, drop, Option, Some, None, IfSome, IfNone, IsSomeAnd, refl, ap, sym, ◌∙◌, arith}
+use Rattle.std.proofs.Common.{◌≡◌, ℕ, Bool, List, drop, Option, Some, None, IfSome, IfNone, IsSomeAnd, ap, sym, ◌∙◌}
 use Rattle.bit_code.specs.declared.coder.Coder.{Coder}
 use Rattle.bit_code.specs.Coder.{Spells}
 use Rattle.bit_code.specs.Seen.{seen}

@@ -1,5 +1,5 @@
 -- Reading goes on from one class to the next.
-use Rattle.std.proofs.Common.{◌≡◌, ℕ, zero, suc, ◌+◌, ◌-◌, ◌*◌, ◌%◌, ◌^◌, ◌<◌, ◌≤◌, Bool, true, false, List, [], ◌∷◌, length, get_or, take, drop, Option, None, Some, IfSome, refl, ap, sym, ◌∙◌, arith, add-one}
+use Rattle.std.proofs.Common.{◌≡◌, ℕ, zero, suc, ◌+◌, ◌*◌, ◌%◌, ◌^◌, ◌<◌, ◌≤◌, Bool, true, false, List, [], ◌∷◌, length, get_or, drop, Option, None, Some, IfSome, refl, ap, sym, ◌∙◌, arith, add-one}
 use Rattle.std.specs.List.{slice_get}
 use Rattle.std.proofs.Math.ListN.{drop_of_length-le}
 use Rattle.std.proofs.lemmas.Nat.{pow_pos, one_shl}
@@ -72,7 +72,7 @@ module _ (bits : List Bool) (at : ℕ) (sizes : List ℕ) (least class value pla
         from = omega (arith, reads.from);
         within = omega arith;
         same = rw add-one (sym (after_twice value (2 ^ get_or sizes class 0) (read_by (drop (suc class) sizes) (drop (place + 1) bits))) ∙ ap (after_values value) (sym later) ∙ (rw (front, e) at reads.same));
-        fits = rw add-one (omega (arith, reads.fits, whole))
+        fits = rw add-one (omega (arith, reads.fits, whole));
       }
 
   pub read_next : (b : Bool) → suc class < length sizes → slice_get bits place ≡ Some b → place < length bits → b ≡ true → get_or sizes class 0 < 32 → StillReads bits at sizes least (class + 1) (value + 1 * 2 ^ get_or sizes class 0 % 2 ^ 32) (place + 1)

@@ -1,8 +1,7 @@
 -- Binary digits and the numbers that they stand for.
-use Rattle.std.proofs.Common.{◌≡◌, ℕ, zero, suc, ◌+◌, ◌-◌, ◌*◌, ◌/◌, ◌%◌, ◌^◌, ◌<◌, ◌≤◌, Bool, true, false, List, [], ◌∷◌, ◌++◌, length, refl, ap, sym, ◌∙◌, inl, inr, arith, length-append, cond, eqb}
+use Rattle.std.proofs.Common.{◌≡◌, ℕ, zero, suc, ◌+◌, ◌-◌, ◌*◌, ◌^◌, ◌<◌, ◌≤◌, Bool, true, false, List, [], ◌∷◌, ◌++◌, length, refl, ap, ◌∙◌, inl, inr, arith, length-append, eqb}
 use Rattle.std.specs.Int.{bit_at}
 use Rattle.std.proofs.Math.Nat.{pow-suc}
-use Rattle.std.proofs.lemmas.Nat.{pow_pos}
 use Rattle.std.proofs.lemmas.Nat.Bits.{bit_at_cat_low, bit_at_cat_high}
 use Rattle.std.proofs.lemmas.Bool.{cases_lt}
 use Rattle.bit_code.specs.Coder.{has_bit, digits, number_of}
@@ -62,7 +61,7 @@ data Split (k n : ℕ) : Type 0 where
 split_at : (k n : ℕ) → n < 2 ^ suc k → Split k n
 split_at k n h =
     elim (cases_lt n (2 ^ k)) [
-      inl low ↦ split false n low (omega arith)
+      | inl low ↦ split false n low (omega arith)
       | inr high ↦ split true (n - 2 ^ k) (omega (arith, pow-suc 2 k)) (omega arith)
     ]
 

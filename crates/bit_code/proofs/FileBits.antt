@@ -1,9 +1,8 @@
 -- The bits of a file by their places.
-use Rattle.std.proofs.Common.{◌≡◌, ℕ, zero, suc, ◌+◌, ◌*◌, ◌/◌, ◌%◌, ◌<◌, ◌≤◌, Bool, true, List, [], ◌∷◌, ◌++◌, length, get_or, Some, refl, ap, ◌∙◌, inl, inr, arith, ◌-◌, length-append}
+use Rattle.std.proofs.Common.{◌≡◌, ℕ, zero, suc, ◌+◌, ◌*◌, ◌/◌, ◌%◌, ◌<◌, Bool, true, List, [], ◌∷◌, ◌++◌, length, get_or, Some, refl, ap, ◌∙◌, inl, inr, arith, ◌-◌, length-append}
 use Rattle.std.specs.List.{slice_get}
 use Rattle.std.proofs.Math.ListN.{get_or-append}
-use Rattle.std.proofs.Math.Seq.{get_or-append_seam}
-use Rattle.std.proofs.lemmas.List.{get_or-append-add, get_or-append_right}
+use Rattle.std.proofs.lemmas.List.{get_or-append_right}
 use Rattle.std.proofs.lemmas.Option.{slice_get-get_or}
 use Rattle.std.proofs.lemmas.Bool.{cases_lt}
 use Rattle.bit_code.specs.Coder.{has_bit, low_digits, file_bits}
@@ -32,7 +31,7 @@ unfolding low_digits
 get_or-low_digits zero n i d h = absurd (omega arith)
 get_or-low_digits (suc k) n i d h =
     elim (cases_lt i k) [
-      inl below ↦ get_or-append (low_digits k n) (has_bit n k ∷ []) d i (omega (arith, length-low_digits k n)) ∙ get_or-low_digits k n i d below
+      | inl below ↦ get_or-append (low_digits k n) (has_bit n k ∷ []) d i (omega (arith, length-low_digits k n)) ∙ get_or-low_digits k n i d below
       | inr last ↦ low_digits_last k n i d (omega arith)
     ]
 

@@ -1,3 +1,4 @@
+pub mod Examples
 pub mod FileBits
 pub mod Digits
 pub mod ReadingLaws

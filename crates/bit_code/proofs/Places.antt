@@ -1,15 +1,14 @@
 -- What a reader meets from a place of the bits on.
-use Rattle.std.proofs.Common.{◌≡◌, ℕ, suc, ◌+◌, ◌-◌, ◌*◌, ◌^◌, ◌<◌, ◌≤◌, Bool, true, false, List, [], ◌∷◌, ◌++◌, length, get_or, take, drop, Some, refl, ap, sym, ◌∙◌, arith, length-take, length-drop, get_or-drop, drop-cons, add-one}
+use Rattle.std.proofs.Common.{◌≡◌, ℕ, suc, ◌+◌, ◌-◌, ◌*◌, ◌^◌, ◌<◌, ◌≤◌, Bool, true, false, List, ◌∷◌, length, get_or, take, drop, Some, refl, arith, length-drop, get_or-drop, drop-cons, add-one}
 use Rattle.std.specs.List.{slice_get}
 use Rattle.std.proofs.lemmas.Option.{slice_get_within, get_or_from_slice_get}
 use Rattle.std.proofs.lemmas.List.{take_more, drop-drop}
 use Rattle.std.proofs.lemmas.Bool.{le-ltb}
 use Rattle.bit_code.specs.Reading.{digits_at, after_values}
-use Rattle.std.proofs.lemmas.Nat.{pow_below}
 use Rattle.std.proofs.Math.Nat.{pow-suc}
 use Rattle.std.proofs.Math.Pow.{pow_mono}
 use Rattle.bit_code.specs.Coder.{number_of}
-use Rattle.bit_code.proofs.Digits.{bit, number_of-lt, number_of_push}
+use Rattle.bit_code.proofs.Digits.{bit, number_of_push}
 
 -- the bits from a place on are the bit there and those after it
 pub drop_at : (bits : List Bool) (at : ℕ) (b : Bool) → slice_get bits at ≡ Some b → drop at bits ≡ b ∷ drop (at + 1) bits
@@ -48,7 +47,7 @@ Digits_more bits at place digits b h here d =
     let next : place + 1 - at ≡ suc (place - at) = omega arith in
     record {
       same = rw next (omega (arith, d.same, rw add-one at step));
-      below = rw next (omega (arith, d.below, bit-lt b, pow-suc 2 (place - at)))
+      below = rw next (omega (arith, d.below, bit-lt b, pow-suc 2 (place - at)));
     }
 
 -- digits before the last place fit 31 bits

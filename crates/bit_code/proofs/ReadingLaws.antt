@@ -1,11 +1,11 @@
 -- Reading a number and its spelling undo each other.
-use Rattle.std.proofs.Common.{◌≡◌, ℕ, zero, suc, ◌+◌, ◌-◌, ◌^◌, ◌<◌, ◌≤◌, Bool, true, false, List, [], ◌∷◌, ◌++◌, length, take, drop, refl, ap, sym, ◌∙◌, inl, inr, arith, length-append, length-take, append_assoc, cond, ltb, nat_lt, Option, Some, None}
+use Rattle.std.proofs.Common.{◌≡◌, ℕ, ◌+◌, ◌-◌, ◌^◌, ◌<◌, ◌≤◌, Bool, true, false, List, [], ◌∷◌, ◌++◌, length, take, drop, refl, ap, inl, inr, arith, length-append, length-take, cond, nat_lt, Option, Some, None}
 use Rattle.std.proofs.Math.Seq.{take-append_seam, drop-append_seam}
 use Rattle.std.proofs.lemmas.List.{take-append-drop}
 use Rattle.std.proofs.lemmas.List.Sums.{sum_by-cons}
 use Rattle.std.proofs.lemmas.Bool.{cases_lt, lt-ltb, le-ltb, ltb-false}
 use Rattle.bit_code.specs.declared.coder.Coder.{Coder}
-use Rattle.bit_code.specs.Coder.{digits, number_of, values_of, spelling_by, spelling, sizes, least, HasValue, Spells}
+use Rattle.bit_code.specs.Coder.{digits, number_of, values_of, spelling_by, spelling, sizes, least, Spells}
 use Rattle.bit_code.specs.Reading.{digits_at, read_by, read_front, after_values}
 use Rattle.bit_code.proofs.Digits.{length-digits, number_of-lt, digits-number_of, number_of-digits}
 
@@ -43,7 +43,7 @@ digits_at-takes size n bits rest h =
     let front : digits size n ≡ take size bits = rw (len, same_n) at (digits-number_of (take size bits)) in
     record {
       below = rw (len, same_n) at (number_of-lt (take size bits));
-      spelled = rw (front, ← same_rest, take-append-drop) refl
+      spelled = rw (front, ← same_rest, take-append-drop) refl;
     }
 
 -- the value and the rest, behind a test of the class
@@ -69,10 +69,10 @@ read_by-again [] n rest h = absurd (omega (arith, values_of_none))
 read_by-again (size ∷ []) n rest h = digits_at-again size n rest (omega (arith, values_of_cons size [], values_of_none))
 read_by-again (size ∷ next ∷ more) n rest h =
     elim (cases_lt n (2 ^ size)) [
-      inl here ↦ rw (lt-ltb n (2 ^ size) here) (digits_at-again size n rest here)
+      | inl here ↦ rw (lt-ltb n (2 ^ size) here) (digits_at-again size n rest here)
       | inr later ↦
-        let e : 2 ^ size + (n - 2 ^ size) ≡ n = omega arith in
-        rw (le-ltb n (2 ^ size) later, read_by-again (next ∷ more) (n - 2 ^ size) rest (omega (arith, values_of_cons size (next ∷ more)))) (ap (λ m. Some (m, rest)) e)
+          let e : 2 ^ size + (n - 2 ^ size) ≡ n = omega arith in
+          rw (le-ltb n (2 ^ size) later, read_by-again (next ∷ more) (n - 2 ^ size) rest (omega (arith, values_of_cons size (next ∷ more)))) (ap (λ m. Some (m, rest)) e)
     ]
 
 -- what is read is spelled there
@@ -93,7 +93,7 @@ read_by-takes (size ∷ next ∷ more) n (true ∷ bits) rest h =
     let later : 2 ^ size ≤ n = omega (arith, a.2) in
     record {
       below = omega (arith, d.below, a.2, values_of_cons size (next ∷ more));
-      spelled = rw (le-ltb n (2 ^ size) later, less) (ap (λ x. true ∷ x) d.spelled)
+      spelled = rw (le-ltb n (2 ^ size) later, less) (ap (λ x. true ∷ x) d.spelled);
     }
 
 -- the value that is spelled is read again, whatever follows it
@@ -112,5 +112,5 @@ read_front-takes coder n bits rest h =
     let less : n - least coder ≡ a.0 = omega (arith, a.2) in
     record {
       value = record { low = omega (arith, a.2); high = omega (arith, a.2, d.below) };
-      spelled = rw less d.spelled
+      spelled = rw less d.spelled;
     }

@@ -2,8 +2,11 @@ ghost use Rattle.std.specs.Prelude.{◌≡◌};
 ghost use Rattle.bit_code.specs.Coder.{least, sizes};
 
 static KIND_SIZES: [u8; 3] = [0, 0, 1];
+
 static ASN_SIZES: [u8; 10] = [15, 16, 17, 18, 19, 20, 21, 22, 23, 24];
+
 static MATCH_SIZES: [u8; 8] = [1, 2, 3, 4, 5, 6, 7, 8];
+
 static JUMP_SIZES: [u8; 26] = [
     5, 6, 7, 8, 9, 10, 11, 12, 13, 14, 15, 16, 17, 18, 19, 20, 21, 22, 23, 24, 25, 26, 27, 28, 29,
     30,

@@ -1,4 +1,4 @@
-use Rattle.std.proofs.Common.{◌≡◌, ◌+◌, ◌-◌, ◌<◌, suc, length, get_or, arith, rules, sym, ◌∙◌}
+use Rattle.std.proofs.Common.{◌≡◌, ◌+◌, ◌-◌, length, arith, rules, ◌∙◌}
 use Rattle.bit_code.proofs.Classes.{beyond, read_next, read_found, read_end, read_rest, class_fits, step_fits}
 use Rattle.bit_code.proofs.number.read_class.Goals as goal
 

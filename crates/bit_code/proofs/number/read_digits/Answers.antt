@@ -1,4 +1,4 @@
-use Rattle.std.proofs.Common.{◌≡◌, ◌+◌, ◌-◌, ◌<◌, ◌≤◌, length, drop, sym, refl, arith, length-drop}
+use Rattle.std.proofs.Common.{◌<◌, length, drop, refl, arith, length-drop}
 use Rattle.std.proofs.lemmas.Bool.{lt-ltb}
 use Rattle.bit_code.specs.Reading.{digits_at}
 use Rattle.bit_code.proofs.Places.{Digits_none, Digits_more, Digits_small, Digits_whole, bit-lt}

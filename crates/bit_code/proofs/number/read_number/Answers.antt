@@ -1,6 +1,6 @@
-use Rattle.std.proofs.Common.{◌≡◌, ℕ, drop, sym, ap, ◌∙◌}
+use Rattle.std.proofs.Common.{◌≡◌, drop}
 use Rattle.bit_code.specs.Seen.{seen}
-use Rattle.bit_code.specs.Reading.{read_front, read_by, after_values}
+use Rattle.bit_code.specs.Reading.{read_front}
 use Rattle.bit_code.proofs.Answering.{found, only, none}
 use Rattle.bit_code.proofs.Coders.{coder_fits, coder_several, coder_small}
 use Rattle.bit_code.proofs.number.read_number.Goals as goal

@@ -1,4 +1,4 @@
-use Rattle.std.proofs.Common.{arith, sym}
+use Rattle.std.proofs.Common.{sym}
 use Rattle.bit_code.proofs.FileBits.{length-file_bits}
 use Rattle.bit_code.proofs.bits.Bits.len.Goals as goal
 

@@ -1,0 +1,84 @@
+-- The bits of an address from some place on.
+use Rattle.std.proofs.Common.{◌≡◌, ℕ, zero, suc, ◌+◌, ◌-◌, ◌*◌, ◌/◌, ◌%◌, ◌^◌, ◌<◌, ◌≤◌, Bool, true, false, List, [], ◌∷◌, ◌++◌, length, take, drop, refl, ap, sym, ◌∙◌, arith, eqb, eq-eqb, bit_and}
+use Rattle.std.proofs.Math.Seq.{take-append_seam, drop-append_seam}
+use Rattle.std.proofs.lemmas.Nat.{shr-shr, shr_split, pow_pos, one_shl, and_mask}
+use Rattle.std.proofs.lemmas.Bool.{eqb-true}
+use Rattle.bit_code.specs.Coder.{has_bit, digits, number_of}
+use Rattle.bit_code.proofs.Digits.{length-digits, digits_low, number_of-digits}
+use Rattle.asmap_vm.specs.Code.{begins_with}
+
+pub digits_cons : (k n : ℕ) → digits (suc k) n ≡ has_bit n k ∷ digits k n
+unfolding digits
+digits_cons k n = refl
+
+same_shift : (size left a : ℕ) → a / 2 ^ (size + left) ≡ a / 2 ^ left / 2 ^ size
+same_shift size left a = let e : size + left ≡ left + size = omega arith in rw e (sym (shr-shr a left size))
+
+-- the digits above the lowest ones, and then those
+pub digits_above : (size left a : ℕ) → digits (size + left) a ≡ digits size (a / 2 ^ left) ++ digits left a
+digits_above zero left a = let e : 0 + left ≡ left = omega arith in rw e (unfold digits in refl)
+digits_above (suc size) left a =
+    let e : suc size + left ≡ suc (size + left) = omega arith in
+    let top : has_bit a (size + left) ≡ has_bit (a / 2 ^ left) size = ap (λ n. eqb (n % 2) 1) (same_shift size left a) in
+    rw e (digits_cons (size + left) a ∙ ap (λ b. b ∷ digits (size + left) a) top ∙ ap (λ xs. has_bit (a / 2 ^ left) size ∷ xs) (digits_above size left a) ∙ sym (ap (λ xs. xs ++ digits left a) (digits_cons size (a / 2 ^ left))))
+
+-- the low digits of a number are those of its low part
+digits_mod : (k n : ℕ) → digits k n ≡ digits k (n % 2 ^ k)
+digits_mod k n = ap (digits k) (sym (shr_split n k)) ∙ digits_low k k (n / 2 ^ k) (n % 2 ^ k) (omega arith)
+
+number_of-mod : (k n : ℕ) → number_of (digits k n) ≡ n % 2 ^ k
+number_of-mod k n = ap number_of (digits_mod k n) ∙ number_of-digits k (n % 2 ^ k) (omega (arith, pow_pos k))
+
+begins_with_front : (xs ys : List Bool) → begins_with (xs ++ ys) xs ≡ true
+unfolding begins_with
+begins_with_front [] ys = refl
+begins_with_front (true ∷ xs) ys = begins_with_front xs ys
+begins_with_front (false ∷ xs) ys = begins_with_front xs ys
+
+front_begins : (bits wanted : List Bool) → begins_with bits wanted ≡ true → take (length wanted) bits ≡ wanted
+unfolding begins_with
+front_begins bits [] h = refl
+front_begins [] (w ∷ wanted) h = cc
+front_begins (true ∷ bits) (true ∷ wanted) h = ap (λ xs. true ∷ xs) (front_begins bits wanted h)
+front_begins (false ∷ bits) (false ∷ wanted) h = ap (λ xs. false ∷ xs) (front_begins bits wanted h)
+front_begins (true ∷ bits) (false ∷ wanted) h = cc
+front_begins (false ∷ bits) (true ∷ wanted) h = cc
+
+same_tests : (b w : Bool) → (b ≡ true → w ≡ true) → (w ≡ true → b ≡ true) → b ≡ w
+same_tests true true f g = refl
+same_tests true false f g = sym (f refl)
+same_tests false true f g = g refl
+same_tests false false f g = refl
+
+there : (size left a n : ℕ) → eqb (a / 2 ^ left % 2 ^ size) (n % 2 ^ size) ≡ true → begins_with (digits size (a / 2 ^ left) ++ digits left a) (digits size n) ≡ true
+there size left a n h =
+    let same = eqb-true (a / 2 ^ left % 2 ^ size) (n % 2 ^ size) h in
+    let e : digits size n ≡ digits size (a / 2 ^ left) = digits_mod size n ∙ ap (digits size) (sym same) ∙ sym (digits_mod size (a / 2 ^ left)) in
+    rw e (begins_with_front (digits size (a / 2 ^ left)) (digits left a))
+
+back : (size left a n : ℕ) → begins_with (digits size (a / 2 ^ left) ++ digits left a) (digits size n) ≡ true → eqb (a / 2 ^ left % 2 ^ size) (n % 2 ^ size) ≡ true
+back size left a n h =
+    let front = front_begins (digits size (a / 2 ^ left) ++ digits left a) (digits size n) h in
+    let size_is : length (digits size n) ≡ length (digits size (a / 2 ^ left)) = length-digits size n ∙ sym (length-digits size (a / 2 ^ left)) in
+    let e : digits size (a / 2 ^ left) ≡ digits size n = sym (take-append_seam (digits size (a / 2 ^ left)) (digits left a)) ∙ (rw size_is at front) in
+    eq-eqb (a / 2 ^ left % 2 ^ size) (n % 2 ^ size) (sym (number_of-mod size (a / 2 ^ left)) ∙ ap number_of e ∙ number_of-mod size n)
+
+-- the address bits begin with those of a number where the two agree in so many low digits
+pub begins_with_digits : (size left a n : ℕ) → eqb (a / 2 ^ left % 2 ^ size) (n % 2 ^ size) ≡ begins_with (digits (left + size) a) (digits size n)
+begins_with_digits size left a n =
+    let e : left + size ≡ size + left = omega arith in
+    rw (e, digits_above)
+    (same_tests (eqb (a / 2 ^ left % 2 ^ size) (n % 2 ^ size)) (begins_with (digits size (a / 2 ^ left) ++ digits left a) (digits size n)) (there size left a n) (back size left a n))
+
+-- the digits after the top ones
+pub digits_past : (size left a : ℕ) → size ≤ left → drop size (digits left a) ≡ digits (left - size) a
+digits_past size left a h =
+    let e : left ≡ size + (left - size) = omega arith in
+    let whole : digits left a ≡ digits size (a / 2 ^ (left - size)) ++ digits (left - size) a = ap (λ n. digits n a) e ∙ digits_above size (left - size) a in
+    let seam = drop-append_seam (digits size (a / 2 ^ (left - size))) (digits (left - size) a) in
+    rw whole (rw length-digits at seam)
+
+-- the test of the code
+pub is_matched_by : (size left a n : ℕ) → size < 128 → eqb (bit_and (a / 2 ^ left) (1 * 2 ^ size % 2 ^ 128 - 1)) (bit_and n (1 * 2 ^ size % 2 ^ 128 - 1)) ≡ begins_with (digits (left + size) a) (digits size n)
+is_matched_by size left a n small =
+    rw (one_shl size 128 small, and_mask, and_mask) (begins_with_digits size left a n)

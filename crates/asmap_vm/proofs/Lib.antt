@@ -1,0 +1,10 @@
+pub mod Examples
+pub mod InstructionLaws
+pub mod MatchLaws
+pub mod PaddingLaws
+pub mod PartLaws
+pub mod StepLaws
+pub mod TreeLaws
+pub mod FileLaws
+pub mod AddressLaws
+pub mod WalkLaws

@@ -1,0 +1,224 @@
+-- A part of a file by its first instruction.
+use Rattle.std.proofs.Common.{◌≡◌, ◌≢◌, ℕ, ◌+◌, ◌-◌, ◌<◌, ◌≤◌, Bool, true, List, ◌∷◌, ◌++◌, length, refl, ap, sym, ◌∙◌, inl, inr, arith, append_assoc, append-nil, length-append}
+use Rattle.std.proofs.lemmas.Bool.{cases_lt, lt-ltb, le-ltb}
+use Rattle.bit_code.specs.Coder.{number_of, spelling, HasValue}
+use Rattle.bit_code.specs.declared.coder.Coder.TheVariants as coders
+use Rattle.bit_code.proofs.Digits.{length-digits}
+use Rattle.asmap_vm.specs.Code.{Tree, Return, Jump, Match, Default, code, IsSaneWithin, IsMatch, IsNoShortMatch, TakesDefault}
+use Rattle.asmap_vm.specs.Instructions.{kind_of, coder_of, number_in, Stands, head, tail}
+use Rattle.asmap_vm.specs.Matches.{match_size, match_bits}
+use Rattle.asmap_vm.specs.Scanning.{Suits, IsPart, after_match}
+use Rattle.asmap_vm.specs.declared.instruction.Instruction.{Instruction}
+use Rattle.asmap_vm.specs.declared.instruction.Instruction.TheVariants as instructions
+use Rattle.asmap_vm.specs.declared.scan.Before.{Before}
+use Rattle.asmap_vm.specs.declared.scan.Before.TheVariants as befores
+use Rattle.asmap_vm.proofs.MatchLaws.{match_size-wanted, match_value, number_of-match_bits, leads_at}
+
+-- a tree is spelled by its first instruction and the parts after it
+code_is : (t : Tree) → code t ≡ spelling coders.Kind (kind_of (head t)) ++ (spelling (coder_of (head t)) (number_in (head t)) ++ tail t)
+unfolding code
+code_is (Return n) = simp append-nil
+code_is (Jump l r) = simp append_assoc
+code_is (Match wanted t) = simp append_assoc
+code_is (Default n t) = simp append_assoc
+
+head_value : (left : ℕ) (t : Tree) → IsSaneWithin left t → HasValue (coder_of (head t)) (number_in (head t))
+unfolding IsSaneWithin
+head_value left (Return n) h = h
+head_value left (Jump l r) h = h.1
+head_value left (Match wanted t) h = match_value wanted h.0.some h.0.most
+head_value left (Default n t) h = h.0
+
+-- a part whose first instruction was read
+pub record Opened (i : Instruction) (before : Before) (left : ℕ) (after rest : List Bool) : Type 0 where
+  pub tree : Tree
+  pub sane : IsSaneWithin left tree
+  pub suits : Suits before tree
+  pub head_is : head tree ≡ i
+  pub tail_is : after ≡ tail tree ++ rest
+
+-- the first instruction of a part stands there
+pub part_stands : (before : Before) (left : ℕ) (bits rest : List Bool) (part : IsPart before left bits rest) → Stands (head part.tree) bits (tail part.tree ++ rest)
+part_stands before left bits rest part =
+    record {
+      value = head_value left part.tree part.sane;
+      spelled = part.spelled ∙ ap (λ x. x ++ rest) (code_is part.tree) ∙ simp append_assoc;
+    }
+
+module _ (i : Instruction) (before : Before) (left : ℕ) (bits after rest : List Bool) where
+  pub opens : ((j : Instruction) (r : List Bool) → Stands j bits r → (i ≡ j) × (after ≡ r)) → IsPart before left bits rest → Opened i before left after rest
+  opens only part =
+      let same = only (head part.tree) (tail part.tree ++ rest) (part_stands before left bits rest part) in
+      record { tree = part.tree; sane = part.sane; suits = part.suits; head_is = sym same.0; tail_is = same.1 }
+
+  pub closes : Stands i bits after → Opened i before left after rest → IsPart before left bits rest
+  closes stands part =
+      let whole : spelling coders.Kind (kind_of i) ++ (spelling (coder_of i) (number_in i) ++ (tail part.tree ++ rest)) ≡ code part.tree ++ rest =
+      rw (← part.head_is, code_is part.tree) (simp append_assoc) in
+      record { tree = part.tree; sane = part.sane; suits = part.suits; spelled = stands.spelled ∙ (rw part.tail_is whole) }
+
+-- a return stands where no default does, and nothing of its tree follows it
+suits_return : (before : Before) (n : ℕ) → Suits before (Return n) → before ≢ befores.Default
+suits_return befores.Nothing n h e = cc
+suits_return befores.ShortMatch n h e = cc
+suits_return befores.Default n h e = h
+
+suits_default : (before : Before) (n : ℕ) (t : Tree) → Suits before (Default n t) → before ≢ befores.Default
+suits_default befores.Nothing n t h e = cc
+suits_default befores.ShortMatch n t h e = cc
+suits_default befores.Default n t h e = h
+
+return_suits : (before : Before) (n : ℕ) → before ≢ befores.Default → Suits before (Return n)
+return_suits befores.Nothing n h = tt
+return_suits befores.ShortMatch n h = tt
+return_suits befores.Default n h = absurd (h refl)
+
+default_suits : (before : Before) (n : ℕ) (t : Tree) → before ≢ befores.Default → Suits before (Default n t)
+default_suits befores.Nothing n t h = tt
+default_suits befores.ShortMatch n t h = tt
+default_suits befores.Default n t h = absurd (h refl)
+
+jump_suits : (before : Before) (l r : Tree) → Suits before (Jump l r)
+jump_suits befores.Nothing l r = tt
+jump_suits befores.ShortMatch l r = tt
+jump_suits befores.Default l r = tt
+
+-- a short match stands where no short match does
+suits_match : (before : Before) (wanted : List Bool) (t : Tree) → Suits before (Match wanted t) → length wanted < 8 → before ≢ befores.ShortMatch
+suits_match befores.Nothing wanted t h short e = cc
+suits_match befores.ShortMatch wanted t h short e = omega arith
+suits_match befores.Default wanted t h short e = cc
+
+match_suits : (before : Before) (wanted : List Bool) (t : Tree) → (length wanted < 8 → before ≢ befores.ShortMatch) → Suits before (Match wanted t)
+match_suits befores.Nothing wanted t h = tt
+match_suits befores.ShortMatch wanted t h = elim (cases_lt (length wanted) 8) [ inl short ↦ absurd (h short refl) | inr long ↦ long ]
+match_suits befores.Default wanted t h = tt
+
+after_suits : (size : ℕ) (t : Tree) → (size < 8 → IsNoShortMatch t) → Suits (after_match size) t
+after_suits size t h =
+    elim (cases_lt size 8) [ inl short ↦ rw (lt-ltb size 8 short) (h short) | inr long ↦ rw (le-ltb size 8 long) tt ]
+
+suits_after : (size : ℕ) (t : Tree) → Suits (after_match size) t → size < 8 → IsNoShortMatch t
+suits_after size t h short = rw (lt-ltb size 8 short) at h
+
+-- ---- what makes a tree sane, and the parts of each instruction
+
+sane_return : (left n : ℕ) → HasValue coders.Asn n → IsSaneWithin left (Return n)
+unfolding IsSaneWithin
+sane_return left n value = value
+
+sane_default : (left n : ℕ) (t : Tree) → HasValue coders.Asn n → TakesDefault t → IsSaneWithin left t → IsSaneWithin left (Default n t)
+unfolding IsSaneWithin
+sane_default left n t value takes sane = (value, takes, sane)
+
+sane_jump : (left : ℕ) (l r : Tree) → 0 < left → HasValue coders.Jump (length (code l)) → IsSaneWithin (left - 1) l → IsSaneWithin (left - 1) r → IsSaneWithin left (Jump l r)
+unfolding IsSaneWithin
+sane_jump left l r room value sane_l sane_r = (room, value, sane_l, sane_r)
+
+sane_match : (left : ℕ) (wanted : List Bool) (t : Tree) → IsMatch wanted t → length wanted ≤ left → IsSaneWithin (left - length wanted) t → IsSaneWithin left (Match wanted t)
+unfolding IsSaneWithin
+sane_match left wanted t m fits sane = (m, fits, sane)
+
+pub split_return : (t : Tree) (n : ℕ) (before : Before) (after rest : List Bool) → head t ≡ instructions.Return n → Suits before t → after ≡ tail t ++ rest → (before ≢ befores.Default) × (after ≡ rest)
+split_return (Return m) n before after rest e s h = (suits_return before m s, h)
+split_return (Jump l r) n before after rest e s h = cc
+split_return (Match wanted t) n before after rest e s h = cc
+split_return (Default m t) n before after rest e s h = cc
+
+pub join_return : (n : ℕ) (before : Before) (left : ℕ) (after : List Bool) → HasValue coders.Asn n → before ≢ befores.Default → Opened (instructions.Return n) before left after after
+join_return n before left after value h =
+    record { tree = Return n; sane = sane_return left n value; suits = return_suits before n h; head_is = refl; tail_is = refl }
+
+pub record DefaultPart (before : Before) (left : ℕ) (after rest : List Bool) : Type 0 where
+  pub first : before ≢ befores.Default
+  pub part : IsPart befores.Default left after rest
+
+pub split_default : (t : Tree) (n : ℕ) (before : Before) (left : ℕ) (after rest : List Bool) → head t ≡ instructions.Default n → IsSaneWithin left t → Suits before t → after ≡ tail t ++ rest → DefaultPart before left after rest
+unfolding IsSaneWithin
+split_default (Return m) n before left after rest e sane s h = cc
+split_default (Jump l r) n before left after rest e sane s h = cc
+split_default (Match wanted t) n before left after rest e sane s h = cc
+split_default (Default m t) n before left after rest e sane s h =
+    record {
+      first = suits_default before m t s;
+      part = record { tree = t; sane = sane.2; suits = sane.1; spelled = h };
+    }
+
+pub join_default : (n : ℕ) (before : Before) (left : ℕ) (after rest : List Bool) → HasValue coders.Asn n → DefaultPart before left after rest → Opened (instructions.Default n) before left after rest
+join_default n before left after rest value d =
+    record {
+      tree = Default n d.part.tree;
+      sane = sane_default left n d.part.tree value d.part.suits d.part.sane;
+      suits = default_suits before n d.part.tree d.first;
+      head_is = refl;
+      tail_is = d.part.spelled;
+    }
+
+pub record JumpParts (over left : ℕ) (after rest : List Bool) : Type 0 where
+  pub room : 0 < left
+  pub middle : List Bool
+  pub left_part : IsPart befores.Nothing (left - 1) after middle
+  pub right_part : IsPart befores.Nothing (left - 1) middle rest
+  pub over_is : over + length middle ≡ length after
+
+pub split_jump : (t : Tree) (over left : ℕ) (after rest : List Bool) → head t ≡ instructions.Jump over → IsSaneWithin left t → after ≡ tail t ++ rest → JumpParts over left after rest
+unfolding IsSaneWithin
+split_jump (Return m) over left after rest e sane h = cc
+split_jump (Match wanted t) over left after rest e sane h = cc
+split_jump (Default m t) over left after rest e sane h = cc
+split_jump (Jump l r) over left after rest e sane h =
+    let same : length (code l) ≡ over = cc in
+    let parts : after ≡ code l ++ (code r ++ rest) = h ∙ append_assoc (code l) (code r) rest in
+    record {
+      room = sane.0;
+      middle = code r ++ rest;
+      left_part = record { tree = l; sane = sane.2; suits = tt; spelled = parts };
+      right_part = record { tree = r; sane = sane.3; suits = tt; spelled = refl };
+      over_is = rw parts (omega (arith, length-append (code l) (code r ++ rest)));
+    }
+
+pub join_jump : (over : ℕ) (before : Before) (left : ℕ) (after rest : List Bool) → HasValue coders.Jump over → JumpParts over left after rest → Opened (instructions.Jump over) before left after rest
+join_jump over before left after rest value p =
+    let l = p.left_part.tree in
+    let r = p.right_part.tree in
+    let size : length (code l) ≡ over = omega (arith, p.over_is, ap length p.left_part.spelled, length-append (code l) p.middle) in
+    record {
+      tree = Jump l r;
+      sane = sane_jump left l r p.room (rw size value) p.left_part.sane p.right_part.sane;
+      suits = jump_suits before l r;
+      head_is = ap instructions.Jump size;
+      tail_is = p.left_part.spelled ∙ (rw (p.right_part.spelled) (sym (append_assoc (code l) (code r) rest)));
+    }
+
+pub record MatchPart (n : ℕ) (before : Before) (left : ℕ) (after rest : List Bool) : Type 0 where
+  pub fits : match_size n ≤ left
+  pub joined : match_size n < 8 → before ≢ befores.ShortMatch
+  pub part : IsPart (after_match (match_size n)) (left - match_size n) after rest
+
+pub split_match : (t : Tree) (n : ℕ) (before : Before) (left : ℕ) (after rest : List Bool) → head t ≡ instructions.Match n → IsSaneWithin left t → Suits before t → after ≡ tail t ++ rest → MatchPart n before left after rest
+unfolding IsSaneWithin
+split_match (Return m) n before left after rest e sane s h = cc
+split_match (Jump l r) n before left after rest e sane s h = cc
+split_match (Default m t) n before left after rest e sane s h = cc
+split_match (Match wanted t) n before left after rest e sane s h =
+    let number : number_of (true ∷ wanted) ≡ n = cc in
+    let size : match_size n ≡ length wanted = rw number at (match_size-wanted wanted sane.0.most) in
+    record {
+      fits = rw size sane.1;
+      joined = rw size (suits_match before wanted t s);
+      part = rw size (record { tree = t; sane = sane.2; suits = after_suits (length wanted) t sane.0.joined; spelled = h });
+    }
+
+pub join_match : (n : ℕ) (before : Before) (left : ℕ) (after rest : List Bool) → 2 ≤ n → n < 512 → MatchPart n before left after rest → Opened (instructions.Match n) before left after rest
+join_match n before left after rest low high p =
+    let size : length (match_bits n) ≡ match_size n = unfold match_bits in length-digits (match_size n) n in
+    let lead = leads_at n low high in
+    record {
+      tree = Match (match_bits n) p.part.tree;
+      sane = sane_match left (match_bits n) p.part.tree
+          (record { some = rw size lead.some; most = rw size lead.most; joined = rw size (suits_after (match_size n) p.part.tree p.part.suits) })
+          (rw size p.fits) (rw size p.part.sane);
+      suits = match_suits before (match_bits n) p.part.tree (rw size p.joined);
+      head_is = ap instructions.Match (number_of-match_bits n low high);
+      tail_is = p.part.spelled;
+    }

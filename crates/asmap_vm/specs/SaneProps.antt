@@ -1,0 +1,35 @@
+-- That a file is sane has one proof at most.
+use Rattle.std.specs.Prelude.{ℕ, ◌-◌, List, length, Bool}
+use Rattle.std.specs.Coded.{Unit-prop, le_prop}
+use Rattle.std.proofs.Props.{props}
+use Rattle.bit_code.specs.Coder.{HasValue}
+use Rattle.bit_code.specs.declared.coder.Coder.{Coder}
+use Rattle.asmap_vm.specs.Code.{Tree, Return, Jump, Match, Default, IsSaneWithin, IsMatch, IsNoShortMatch, TakesDefault, IsSaneFile}
+
+TakesDefault-prop : (t : Tree) → IsProp (TakesDefault t)
+TakesDefault-prop (Return n) = hlevel
+TakesDefault-prop (Jump l r) = Unit-prop
+TakesDefault-prop (Match wanted t) = Unit-prop
+TakesDefault-prop (Default n t) = hlevel
+
+IsNoShortMatch-prop : (t : Tree) → IsProp (IsNoShortMatch t)
+IsNoShortMatch-prop (Return n) = Unit-prop
+IsNoShortMatch-prop (Jump l r) = Unit-prop
+IsNoShortMatch-prop (Match wanted t) = le_prop
+IsNoShortMatch-prop (Default n t) = Unit-prop
+
+HasValue-prop : (coder : Coder) (n : ℕ) → IsProp (HasValue coder n)
+HasValue-prop coder n = hlevel props
+
+IsMatch-prop : (wanted : List Bool) (t : Tree) → IsProp (IsMatch wanted t)
+IsMatch-prop wanted t = hlevel (props, IsNoShortMatch-prop)
+
+IsSaneWithin-prop : (left : ℕ) (t : Tree) → IsProp (IsSaneWithin left t)
+unfolding IsSaneWithin
+IsSaneWithin-prop left (Return n) = hlevel props
+IsSaneWithin-prop left (Jump l r) = hlevel (props, IsSaneWithin-prop (left - 1) l, IsSaneWithin-prop (left - 1) r)
+IsSaneWithin-prop left (Match wanted t) = hlevel (props, IsMatch-prop wanted t, IsSaneWithin-prop (left - length wanted) t)
+IsSaneWithin-prop left (Default n t) = hlevel (props, TakesDefault-prop t, IsSaneWithin-prop left t)
+
+pub IsSaneFile-prop : (t : Tree) (bytes : List ℕ) → IsProp (IsSaneFile t bytes)
+IsSaneFile-prop t bytes = hlevel (props, IsSaneWithin-prop 128 t)

@@ -1,0 +1,47 @@
+ghost use Rattle.std.specs.Prelude.{◌≡◌, ℕ, ◌<◌, ◌≤◌, ◌↔◌, length, IfOk, IsOk, Err};
+ghost use Rattle.asmap_vm.specs.declared.checking.TheConstants.{MAX_BYTES};
+ghost use Rattle.asmap_vm.specs.Code.{Tree, IsSaneFile};
+ghost use Rattle.asmap_vm.specs.Held.{bytes_held, tree_held};
+ghost use Rattle.asmap_vm.specs.TreeOf.{tree_of, FilesHaveOneTree};
+
+use crate::fault::CodeFault;
+use crate::sane::Sane;
+use crate::scan::Scan;
+use bit_code::Bits;
+
+/// The most bytes that a file may have.
+const MAX_BYTES: usize = 8_388_608;
+
+/// Checks that the bytes are the file of a sane tree. The rules are those of `SanityCheckASMap` in Bitcoin Core's
+/// `util/asmap.cpp` at 128 address bits; the limit on the size is our own.
+pub fn check(code: &[u8]) -> Result<Sane<'_>, CodeFault>
+    // What is accepted is the file of a sane tree, and the value holds its bytes.
+    ensures sane { IfOk result (λ s. (bytes_held s ≡ code.now) × (length code.now ≤ MAX_BYTES)
+        × IsSaneFile (tree_held s) code.now) }
+
+    // Every such file is accepted.
+    ensures accepted { (t : Tree) → IsSaneFile t code.now → length code.now ≤ MAX_BYTES → IsOk result }
+
+    // No two sane trees have the same file.
+    ensures one_tree { (t : Tree) → IsSaneFile t code.now → t ≡ tree_of code.now }
+    ensures too_large { (size : ℕ) → (result ≡ Err (CodeFault.TooLarge size))
+        ↔ ((MAX_BYTES < length code.now) × (size ≡ length code.now)) }
+    ensures insane { (result ≡ Err CodeFault.Insane)
+        ↔ ((length code.now ≤ MAX_BYTES) × ((t : Tree) → IsSaneFile t code.now → ⊥)) }
+{
+    if code.len() > MAX_BYTES {
+        return Err(CodeFault::TooLarge {
+            size: code.len() as u64,
+        });
+    }
+    if Scan::is_sane(&Bits::of(code)) {
+        Ok(Sane { code })
+    } else {
+        Err(CodeFault::Insane)
+    }
+}
+
+/// No two sane trees have the same file.
+pub fn one_tree()
+    ensures { FilesHaveOneTree }
+{}

@@ -1,0 +1,11 @@
+/// Why a file is refused.
+#[derive(Clone, Copy, Debug, PartialEq, Eq)]
+pub enum CodeFault {
+    /// The file has more than 8,388,608 bytes.
+    TooLarge {
+        /// How many bytes it has.
+        size: u64,
+    },
+    /// The file is that of no sane tree.
+    Insane,
+}

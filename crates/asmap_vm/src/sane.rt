@@ -1,0 +1,36 @@
+ghost use Rattle.std.specs.Prelude.{length, ◌≤◌};
+ghost use Rattle.asmap_vm.specs.Code.{IsSaneFile};
+ghost use Rattle.asmap_vm.specs.TreeOf.{tree_of};
+ghost use Rattle.asmap_vm.specs.SaneProps.{IsSaneFile-prop};
+
+use crate::walk::Walk;
+use bit_code::Bits;
+
+/// The bytes of a sane file, which `check` gives.
+#[derive(Clone, Copy, Debug)]
+pub struct Sane<'a> {
+    pub(crate) code: &'a [u8],
+    pub ghost small: { length code.now ≤ 8388608 },
+    pub ghost sane: { IsSaneFile (tree_of code.now) code.now } by { IsSaneFile-prop (tree_of code.now) code.now },
+}
+
+impl<'a> Sane<'a> {
+    ghost use Rattle.std.specs.Prelude.{◌≡◌};
+    ghost use Rattle.asmap_vm.specs.Code.{asn_of};
+    ghost use Rattle.asmap_vm.specs.Held.{bytes_held, tree_held};
+
+    /// The number of an address, read from its high bit on: that of the autonomous system that the file names for
+    /// it, or 0. This is `Interpret` of Bitcoin Core's `util/asmap.cpp`.
+    pub fn asn(&self, address: u128) -> u32
+        ensures { result ≡ asn_of (tree_held self.now) address }
+    {
+        Walk::follow(&Bits::of(self.code), address)
+    }
+
+    /// The bytes of the file.
+    pub fn code(&self) -> &'a [u8]
+        ensures { result.now ≡ bytes_held self.now }
+    {
+        self.code
+    }
+}

@@ -1,0 +1,93 @@
+ghost use Rattle.std.specs.Prelude.{◌≡◌, ℕ, ◌+◌, ◌^◌, ◌<◌, ◌≤◌, Bool, length, IfNone};
+ghost use Rattle.bit_code.specs.Coder.{has_bit, digits};
+ghost use Rattle.asmap_vm.specs.Code.{begins_with};
+ghost use Rattle.asmap_vm.specs.Matches.{match_bits, match_size};
+ghost use Rattle.asmap_vm.specs.Walking.{Answers, GivesOn, set_out};
+
+use crate::instruction::{Instruction, read_instruction};
+use crate::scan::match_size;
+use bit_code::Bits;
+
+/// How far an address was followed.
+#[derive(Clone, Copy, Debug)]
+pub(crate) struct Walk {
+    /// The place of the next instruction.
+    pub place: usize,
+    /// How many address bits are left.
+    pub left: u8,
+    /// The answer where a match fails.
+    pub default: u32,
+}
+
+/// Whether a bit of the address is one, counted from the low one.
+#[inline]
+fn has_bit(address: u128, k: u8) -> bool
+    requires { k < 128 }
+    ensures { result ≡ has_bit address k }
+{
+    (address >> k) & 1 == 1
+}
+
+/// Whether the address bits above the `left` lowest begin with the bits of a match.
+#[inline]
+fn is_matched(address: u128, left: u8, number: u32) -> bool
+    requires low { 2 ≤ number }
+    requires high { number < 512 }
+    requires room { left + match_size number ≤ 128 }
+    ensures { result ≡ begins_with (digits (left + match_size number) address) (match_bits number) }
+{
+    let mask = (1u128 << match_size(number)) - 1;
+    (address >> left) & mask == u128::from(number) & mask
+}
+
+impl Walk {
+    /// Follows one instruction, and gives the answer where it ends there.
+    fn step(&mut self, bits: &Bits<'_>, address: u128) -> Option<u32>
+        requires size { length bits.now < 2 ^ 32 }
+        requires place { self.old.place ≤ length bits.now }
+        requires ahead { (answer : ℕ) × Answers bits.now address self.old answer }
+        ensures place { IfNone result ((self.old.place < self.new.place) × (self.new.place ≤ length bits.now)) }
+        ensures gives { (answer : ℕ) → Answers bits.now address self.old answer
+            → GivesOn bits.now address self.new result answer }
+    {
+        let Some((instruction, next)) = read_instruction(bits, self.place) else {
+            unreachable!()
+        };
+        self.place = next;
+        match instruction {
+            Instruction::Return(asn) => return Some(asn),
+            Instruction::Default(asn) => self.default = asn,
+            Instruction::Jump(over) => {
+                self.left -= 1;
+                if has_bit(address, self.left) {
+                    self.place += over as usize;
+                }
+            }
+            Instruction::Match(number) => {
+                self.left -= match_size(number);
+                if !is_matched(address, self.left, number) {
+                    return Some(self.default);
+                }
+            }
+        }
+        None
+    }
+
+    /// Follows an address to its answer.
+    pub fn follow(bits: &Bits<'_>, address: u128) -> u32
+        requires size { length bits.now < 2 ^ 32 }
+        requires ahead { (answer : ℕ) × Answers bits.now address set_out answer }
+        ensures { (answer : ℕ) → Answers bits.now address set_out answer → result ≡ answer }
+    {
+        let mut walk = Walk {
+            place: 0,
+            left: 128,
+            default: 0,
+        };
+        loop {
+            if let Some(answer) = walk.step(bits, address) {
+                return answer;
+            }
+        }
+    }
+}
