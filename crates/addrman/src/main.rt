@@ -3,10 +3,9 @@
 
 use addrman_run::{Status, code, run, status_line};
 use host_io::{StdSink, StdSource};
-use std::env;
-use std::io;
 use std::process::ExitCode;
 use std::rt::Env;
+use std::{env, io};
 
 /// The words after the program's name.
 fn words_of(rt: &(impl Env + AllocGlobal)) -> io::Result<Vec<String>> {

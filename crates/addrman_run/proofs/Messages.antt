@@ -41,9 +41,10 @@ one_step st source payload words entry told word next accepted one single mendin
     let answer' = ap (λ (o : Outcome). cond o.added 1 0) (sym outcome) ∙ answer in
     let state' = state ∙ ap (λ (o : Outcome). o.state) outcome in
     let within' = sym (mended_beyond st source entry) ∙ ap (λ (e : Entry). is_beyond st e source) (sym mending) ∙ within in
-    subst (λ (ws : List ℕ). IsBuilt st (Addr source payload ws) × Step st (Addr source payload ws) (Added accepted 1) next) (sym one)
-    ((refl, (entry, single, within')),
-     (Some entry ∷ [], single.1, omega arith, ap (λ n. Added n 1) (sym answer' ∙ sym (add-zero (cond (add st (mended entry st.clock) source 7200 word).added 1 0))), state'))
+    subst (λ (ws : List ℕ). IsBuilt st (Addr source payload ws) × Step st (Addr source payload ws) (Added accepted 1) next) (sym one) (
+      (refl, (entry, single, within')),
+      (Some entry ∷ [], single.1, omega arith, ap (λ n. Added n 1) (sym answer' ∙ sym (add-zero (cond (add st (mended entry st.clock) source 7200 word).added 1 0))), state'),
+    )
 
 -- an entry that is beyond what is built makes its message not built
 pub none_built : (st : State) (source : Address) (payload words : List ℕ) (entry told : Entry) →

@@ -48,10 +48,13 @@ all_answered start now log (b ∷ rest) answered text s h = absurd (omega arith)
 -- what is answered is a front of the log, also where the last reply is cut short
 pub front_answered : (start now : State) (log rest : List ℕ) (answered : ℕ) (text : List ℕ) →
     SoFar start now log rest answered text → (front more : List ℕ) → text ≡ front ++ more → AnswersFront start log front
-front_answered start now log rest answered text s front more cut =
-    (length s.lines, more, now,
-     subst (λ ls. Run start ls (front ++ more) now) (sym (ap (take (length s.lines)) s.split ∙ take-append_seam s.lines (lines_of rest)))
-     (subst (λ t. Run start s.lines t now) cut s.run))
+front_answered start now log rest answered text s front more cut = (
+  length s.lines,
+  more,
+  now,
+  subst (λ ls. Run start ls (front ++ more) now) (sym (ap (take (length s.lines)) s.split ∙ take-append_seam s.lines (lines_of rest)))
+      (subst (λ t. Run start s.lines t now) cut s.run),
+)
 
 -- the line after those that are answered is not built
 pub stopped : (start now : State) (log rest line after : List ℕ) (answered : ℕ) (text : List ℕ) →

@@ -13,12 +13,7 @@ use table_machine::PlainTables;
 
 /// Runs the program on its words, those after its name: `replay --key HEX64` answers the lines of
 /// the log one after another, from empty tables under that key.
-pub fn run<L: Source, K: Sink>(
-    alloc: Global,
-    words: &[String],
-    log: &mut L,
-    out: &mut K,
-) -> Status
+pub fn run<L: Source, K: Sink>(alloc: Global, words: &[String], log: &mut L, out: &mut K) -> Status
     // The words are in form, or the status says that they are not.
     ensures usage { result ≡ Status.Usage → (key : List ℕ) → IsReplay (map string_bytes words.now) key → ⊥ }
     ensures in_form { result ≢ Status.Usage → (key : List ℕ) × IsReplay (map string_bytes words.now) key }

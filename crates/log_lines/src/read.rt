@@ -1,6 +1,4 @@
 ghost use Rattle.std.specs.Prelude.{◌≡◌, ◌≢◌, ◌↔◌, ◌⊎◌, ℕ, List, ◌∷◌, ◌++◌, codes, All, IfOk, IfSome, IfNone, Some, None, Ok, Err, IsTrue};
-ghost use Rattle.net_addr.specs.Address.{Address, IsAddress};
-ghost use Rattle.net_addr.specs.Text.{IsAddrText};
 ghost use Rattle.log_lines.specs.Lines.{IsPassedOver};
 ghost use Rattle.log_lines.specs.Spelling.{IsHex, AreWords, Spells};
 ghost use Rattle.log_lines.specs.declared.command.Command.{Command};
@@ -8,7 +6,7 @@ ghost use Rattle.log_lines.specs.declared.command.Command.{Command};
 use crate::{Command, LineFault, Words};
 use hex::FromHexError;
 use host_io::Bytes;
-use net_addr::{NetAddr, parse_addr, parse_number, parse_peer};
+use net_addr::{parse_addr, parse_number, parse_peer};
 use std::alloc::Global;
 
 /// The command that a line spells, or `None` for a line that is passed over: an empty one, or one
@@ -74,7 +72,7 @@ fn read_addr(alloc: Global, fields: &[u8]) -> Result<Command, LineFault>
 {
     let (source, fields) = split_at_space(fields).ok_or(LineFault::NotBuilt)?;
     let (payload, words) = split_at_space(fields).ok_or(LineFault::NotBuilt)?;
-    let source = read_source(source).ok_or(LineFault::NotBuilt)?;
+    let source = parse_addr(source).ok_or(LineFault::NotBuilt)?;
     let payload = read_hex(alloc, payload)?;
     let words = read_words(alloc, words)?;
     Ok(Command::Addr {
@@ -82,15 +80,6 @@ fn read_addr(alloc: Global, fields: &[u8]) -> Result<Command, LineFault>
         payload,
         words,
     })
-}
-
-// The address that a text writes.
-fn read_source(text: &[u8]) -> Option<NetAddr>
-    ensures found { IfSome result (λ a. IsAddress a × IsAddrText text.now a) }
-    ensures only { (a : Address) → IsAddress a → IsAddrText text.now a → result ≡ Some a }
-{
-    let source = parse_addr(text)?;
-    Some(source)
 }
 
 // The bytes that a text writes in hexadecimal.

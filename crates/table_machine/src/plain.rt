@@ -91,7 +91,13 @@ impl PlainTables {
     /// Adds an entry that a source tells of (`AddrManImpl::AddSingle` in addrman.cpp of Bitcoin
     /// Core). The penalty is taken off the time, in seconds. An entry that the plain tables do not
     /// take yet changes nothing, and neither does want of memory.
-    pub fn add(&mut self, entry: &Entry, source: &NetAddr, penalty: u32, word: u64) -> Result<Added, Memory>
+    pub fn add(
+        &mut self,
+        entry: &Entry,
+        source: &NetAddr,
+        penalty: u32,
+        word: u64,
+    ) -> Result<Added, Memory>
         ensures beyond { result ≡ Ok Added.NotBuilt → is_beyond self.old entry.now source.now ≡ true }
         ensures within { IfOk result (λ a. a ≢ Added.NotBuilt → is_beyond self.old entry.now source.now ≡ false) }
         ensures answer { IfOk result (λ a. a ≢ Added.NotBuilt → is_yes a ≡ (add self.old entry.now source.now penalty word).added) }
@@ -117,7 +123,11 @@ impl PlainTables {
 fn new_record(number: u64, entry: &Entry, source: &NetAddr, penalty: u32, bucket: u16) -> Rec
     ensures { result ≡ listed_record number entry.now source.now penalty bucket }
 {
-    let penalty = if entry.peer.addr == *source { 0 } else { penalty };
+    let penalty = if entry.peer.addr == *source {
+        0
+    } else {
+        penalty
+    };
     Rec {
         number,
         peer: entry.peer,

@@ -40,7 +40,5 @@ pub(crate) fn record_at<'a>(
 ) -> Option<&'a Rec>
     ensures { option_copied result ≡ find (is_new_at placer.now bucket slot) records.now }
 {
-    records
-        .iter()
-        .find(|r| is_new_at(placer, bucket, slot, r))
+    records.iter().find(|r| is_new_at(placer, bucket, slot, r))
 }

@@ -11,13 +11,13 @@ pub returns-in-Err-NotBuilt-clause-front : goal.returns-in-Err-NotBuilt-clause-f
 returns-in-Err-NotBuilt-clause-front g c =
     let i = c.loop-rest.invariant in
     wrote (g.K.Sink.written c.args.out.now) (g.K.Sink.written c.loop-rest.out) (AnswersFront c.args.tables.now c.args.log.now) i.text i.written
-        (front_answered _ _ _ _ _ _ i.so_far i.text [] (sym (append-nil i.text)))
+    (front_answered _ _ _ _ _ _ i.so_far i.text [] (sym (append-nil i.text)))
 
 pub returns-in-Err-Memory-clause-front : goal.returns-in-Err-Memory-clause-front
 returns-in-Err-Memory-clause-front g c =
     let i = c.loop-rest.invariant in
     wrote (g.K.Sink.written c.args.out.now) (g.K.Sink.written c.loop-rest.out) (AnswersFront c.args.tables.now c.args.log.now) i.text i.written
-        (front_answered _ _ _ _ _ _ i.so_far i.text [] (sym (append-nil i.text)))
+    (front_answered _ _ _ _ _ _ i.so_far i.text [] (sym (append-nil i.text)))
 
 pub returns-then-is_err-clause-front : goal.returns-then-is_err-clause-front
 returns-then-is_err-clause-front g c =
@@ -25,8 +25,8 @@ returns-then-is_err-clause-front g c =
     let reply = c.as_slice.result.now in
     let step = subst (λ t. LineStep c.loop-rest.tables c.split_line.result.0.now t c.carry_out.new.tables) (sym c.as_slice.ensures.value) c.in-Ok.ensures.step in
     wrote_part (g.K.Sink.written c.args.out.now) (g.K.Sink.written c.loop-rest.out) (g.K.Sink.written c.write_all.new.sink) c.args.tables.now c.args.log.now i.text reply
-        (front_of_next _ _ _ _ _ _ _ _ _ _ i.so_far c.split_line.ensures.first step)
-        i.written (on_err c.write_all.result _ (sym c.is_err.ensures.value ∙ c.if-is_err.true) c.write_all.ensures.part)
+    (front_of_next _ _ _ _ _ _ _ _ _ _ i.so_far c.split_line.ensures.first step)
+    i.written (on_err c.write_all.result _ (sym c.is_err.ensures.value ∙ c.if-is_err.true) c.write_all.ensures.part)
 
 pub loop-rest-preserved : goal.loop-rest-preserved
 loop-rest-preserved g c =
@@ -48,10 +48,10 @@ pub returns-clause-done : goal.returns-clause-done
 returns-clause-done g c = λ _.
     let i = c.loop-rest.invariant in
     wrote (g.K.Sink.written c.args.out.now) (g.K.Sink.written c.loop-rest.out) (AnswersAll c.args.tables.now c.args.log.now) i.text i.written
-        (all_answered _ _ _ _ _ _ i.so_far (eqb-true (length c.loop-rest.rest.now) 0 (sym c.is_empty.ensures ∙ c.loop-rest-test.false)))
+    (all_answered _ _ _ _ _ _ i.so_far (eqb-true (length c.loop-rest.rest.now) 0 (sym c.is_empty.ensures ∙ c.loop-rest-test.false)))
 
 pub returns-clause-front : goal.returns-clause-front
 returns-clause-front g c =
     let i = c.loop-rest.invariant in
     wrote (g.K.Sink.written c.args.out.now) (g.K.Sink.written c.loop-rest.out) (AnswersFront c.args.tables.now c.args.log.now) i.text i.written
-        (front_answered _ _ _ _ _ _ i.so_far i.text [] (sym (append-nil i.text)))
+    (front_answered _ _ _ _ _ _ i.so_far i.text [] (sym (append-nil i.text)))

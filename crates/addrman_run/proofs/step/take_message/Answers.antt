@@ -18,8 +18,8 @@ returns-in-Ok-Yes-clause-step c =
     let single = subst (λ bytes. IsSingleIpv4 bytes c.in-Some.entry) c.items-2.ensures c.in-Some.ensures.found in
     let mending = c.mend-entry.ensures ∙ ap (mended c.in-Some.entry) c.clock.ensures in
     one_step c.args.tables.now c.args.source.now c.args.payload.now c.args.words.now c.in-Some.entry c.mend-entry.result (get_or c.items.result.now 0 0) c.add.new.self 1
-        one single mending (c.in-Ok-Yes.ensures.within (λ e. cc))
-        (ap (λ b. cond b 1 0) (sym (c.in-Ok-Yes.ensures.answer (λ e. cc)) ∙ ap is_yes c.in-Ok-Yes.field-0-is)) (c.in-Ok-Yes.ensures.state (λ e. cc))
+    one single mending (c.in-Ok-Yes.ensures.within (λ e. cc))
+    (ap (λ b. cond b 1 0) (sym (c.in-Ok-Yes.ensures.answer (λ e. cc)) ∙ ap is_yes c.in-Ok-Yes.field-0-is)) (c.in-Ok-Yes.ensures.state (λ e. cc))
 
 pub returns-in-Ok-No-clause-step : goal.returns-in-Ok-No-clause-step
 returns-in-Ok-No-clause-step c =
@@ -27,12 +27,12 @@ returns-in-Ok-No-clause-step c =
     let single = subst (λ bytes. IsSingleIpv4 bytes c.in-Some.entry) c.items-2.ensures c.in-Some.ensures.found in
     let mending = c.mend-entry.ensures ∙ ap (mended c.in-Some.entry) c.clock.ensures in
     one_step c.args.tables.now c.args.source.now c.args.payload.now c.args.words.now c.in-Some.entry c.mend-entry.result (get_or c.items.result.now 0 0) c.add.new.self 0
-        one single mending (c.in-Ok-No.ensures.within (λ e. cc))
-        (ap (λ b. cond b 1 0) (sym (c.in-Ok-No.ensures.answer (λ e. cc)) ∙ ap is_yes c.in-Ok-No.field-0-is)) (c.in-Ok-No.ensures.state (λ e. cc))
+    one single mending (c.in-Ok-No.ensures.within (λ e. cc))
+    (ap (λ b. cond b 1 0) (sym (c.in-Ok-No.ensures.answer (λ e. cc)) ∙ ap is_yes c.in-Ok-No.field-0-is)) (c.in-Ok-No.ensures.state (λ e. cc))
 
 pub returns-in-Ok-NotBuilt-clause-not_built : goal.returns-in-Ok-NotBuilt-clause-not_built
 returns-in-Ok-NotBuilt-clause-not_built c = λ _.
     let mending = c.mend-entry.ensures ∙ ap (mended c.in-Some.entry) c.clock.ensures in
     none_built c.args.tables.now c.args.source.now c.args.payload.now c.args.words.now c.in-Some.entry c.mend-entry.result
-        (λ e single. let read = c.read_single.ensures.only e (subst (λ bytes. IsSingleIpv4 bytes e) (sym c.items-2.ensures) single) in cc)
-        mending (c.in-Ok-NotBuilt.ensures.beyond (cc))
+    (λ e single. let read = c.read_single.ensures.only e (subst (λ bytes. IsSingleIpv4 bytes e) (sym c.items-2.ensures) single) in cc)
+    mending (c.in-Ok-NotBuilt.ensures.beyond (cc))

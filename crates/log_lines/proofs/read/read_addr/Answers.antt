@@ -17,7 +17,7 @@ returns-in_err-source-2-clause-only c = λ c' h.
     let cut-2 = rw c.in_ok-payload.ensures.ok_part at c.split_at_space-2.ensures.cut in
     let first-2 = rw c.in_ok-payload.ensures.ok_part at c.split_at_space-2.ensures.first in
     let known = addr_fields _ _ _ _ _ c' cut first cut-2 first-2 h in
-    let found = c.read_source.ensures.only known.from known.known known.addr in
+    let found = c.parse_addr.ensures.only known.from known.known known.addr in
     let none = c.in_err-source-2.ensures.ok_part in
     cc
 
@@ -47,8 +47,9 @@ pub returns-clause-found : goal.returns-clause-found
 returns-clause-found c =
     let cut = rw c.in_ok-source.ensures.ok_part at c.split_at_space.ensures.cut in
     let cut-2 = rw c.in_ok-payload.ensures.ok_part at c.split_at_space-2.ensures.cut in
-    let source = rw c.in_ok-source-2.ensures.ok_part at c.read_source.ensures.found in
-    addr_spelled _ _ _ _ _ _ _ _ cut cut-2 source.0 source.1 c.in_ok-payload-2.ensures.found c.in_ok-words.ensures.found
+    let source = rw c.in_ok-source-2.ensures.ok_part at c.parse_addr.ensures.found in
+    let known = rw c.in_ok-source-2.ensures.ok_part at c.parse_addr.ensures.address in
+    addr_spelled _ _ _ _ _ _ _ _ cut cut-2 known source c.in_ok-payload-2.ensures.found c.in_ok-words.ensures.found
 
 pub returns-clause-only : goal.returns-clause-only
 returns-clause-only c = λ c' h.
@@ -57,7 +58,7 @@ returns-clause-only c = λ c' h.
     let cut-2 = rw c.in_ok-payload.ensures.ok_part at c.split_at_space-2.ensures.cut in
     let first-2 = rw c.in_ok-payload.ensures.ok_part at c.split_at_space-2.ensures.first in
     let known = addr_fields _ _ _ _ _ c' cut first cut-2 first-2 h in
-    let found = c.read_source.ensures.only known.from known.known known.addr in
+    let found = c.parse_addr.ensures.only known.from known.known known.addr in
     let source = c.in_ok-source-2.ensures.ok_part in
     let payload = c.in_ok-payload-2.ensures.only known.bytes known.hex in
     let words = c.in_ok-words.ensures.only known.numbers known.random in
