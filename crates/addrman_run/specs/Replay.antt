@@ -4,8 +4,6 @@ use Rattle.hex.specs.Hex.{decode_of}
 use Rattle.log_lines.specs.Lines.{lines_of}
 use Rattle.table_machine.specs.State.{State, empty_state}
 use Rattle.addrman_run.specs.Run.{Run, IsNotBuilt}
-use Rattle.addrman_run.specs.declared.status.Status.{Status}
-use Rattle.addrman_run.specs.declared.status.Status.TheVariants.{Done, Usage, ReadFault, WriteFault, LogTooLong, Memory, NotBuilt}
 
 -- the words are replay, --key and the key in hexadecimal
 abbrev pub IsReplay : List (List ℕ) → List ℕ → Type 0
@@ -30,33 +28,3 @@ abbrev pub AnswersUpTo : State → List ℕ → ℕ → List ℕ → Type 0
 AnswersUpTo start log n text =
     (line : List ℕ) × (before : List (List ℕ)) × (after : List (List ℕ)) × (end : State) ×
     (lines_of log ≡ before ++ line ∷ after) × (n ≡ length before + 1) × Run start before text end × IsNotBuilt end line
-
--- how a replay ends whose log was read
-abbrev pub IsAnswer : Status → Type 0
-IsAnswer Done = Unit {0}
-IsAnswer WriteFault = Unit {0}
-IsAnswer Memory = Unit {0}
-IsAnswer (NotBuilt n) = Unit {0}
-IsAnswer Usage = ⊥
-IsAnswer ReadFault = ⊥
-IsAnswer LogTooLong = ⊥
-
--- the statuses that only a log which was read to its end leads to
-abbrev pub IsAnswered : Status → Type 0
-IsAnswered Done = Unit {0}
-IsAnswered WriteFault = Unit {0}
-IsAnswered (NotBuilt n) = Unit {0}
-IsAnswered Memory = ⊥
-IsAnswered Usage = ⊥
-IsAnswered ReadFault = ⊥
-IsAnswered LogTooLong = ⊥
-
--- the statuses that come before anything is written
-abbrev pub WritesNothing : Status → Type 0
-WritesNothing Usage = Unit {0}
-WritesNothing ReadFault = Unit {0}
-WritesNothing LogTooLong = Unit {0}
-WritesNothing Done = ⊥
-WritesNothing WriteFault = ⊥
-WritesNothing (NotBuilt n) = ⊥
-WritesNothing Memory = ⊥

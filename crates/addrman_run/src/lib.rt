@@ -2,6 +2,7 @@
 #![tactic(auto)]
 
 mod log;
+mod lookup;
 mod memory;
 mod replay;
 mod report;

@@ -1,7 +1,8 @@
 ghost use Rattle.std.specs.Prelude.{◌≡◌, ℕ, List, ◌++◌, ◌≤◌, IfSome, Some};
 ghost use Rattle.host_io.specs.Outside.{Rose};
 ghost use Rattle.log_lines.specs.Lines.{lines_of};
-ghost use Rattle.addrman_run.specs.Replay.{AnswersAll, AnswersFront, AnswersUpTo, IsAnswer};
+ghost use Rattle.addrman_run.specs.Statuses.{IsAnswer};
+ghost use Rattle.addrman_run.specs.Replay.{AnswersAll, AnswersFront, AnswersUpTo};
 
 use crate::Status;
 use crate::step::{Stop, carry_out};
