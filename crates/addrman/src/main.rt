@@ -1,8 +1,9 @@
-//! The address manager of a Bitcoin node, as a tool: it replays a log of events.
+//! The address manager of a Bitcoin node, as a tool: it replays logs of events and looks addresses
+//! up in an asmap.
 #![tactic(auto)]
 
 use addrman_run::{Status, code, run, status_line};
-use host_io::{StdSink, StdSource};
+use host_io::{DirFolder, StdSink, StdSource};
 use std::process::ExitCode;
 use std::rt::Env;
 use std::{env, io};
@@ -32,7 +33,8 @@ fn main(rt: HostRuntime) -> ExitCode {
     };
     let mut log = StdSource::make(rt.reader());
     let mut out = StdSink::make(io::writer(&rt));
-    let status = run(rt.alloc(), words.as_slice(), &mut log, &mut out);
+    let mut folder = DirFolder::make(&rt);
+    let status = run(rt.alloc(), words.as_slice(), &mut log, &mut folder, &mut out);
     report(&rt, &status);
     ExitCode::from(code(&status))
 }

@@ -20,20 +20,27 @@ coder_several Asn = omega arith
 coder_several Match = omega arith
 coder_several Jump = omega arith
 
-range_small : (from count : ℕ) → from + count ≤ 32 → All (λ size. size < 32) (range_with_len from count)
+range_small : (from count : ℕ) → from + count ≤ 31 → All (λ size. size < 31) (range_with_len from count)
 range_small from count h k d within =
     let inside : k < count = omega (arith, length-range_with_len from count) in
     rw (get_or-range_with_len from count k d inside) (omega arith)
 
-kind_small : All (λ size. size < 32) (0 ∷ 0 ∷ 1 ∷ [])
+kind_small : All (λ size. size < 31) (0 ∷ 0 ∷ 1 ∷ [])
 kind_small zero d within = omega arith
 kind_small (suc zero) d within = omega arith
 kind_small (suc (suc zero)) d within = omega arith
 kind_small (suc (suc (suc k))) d within = absurd (omega arith)
 
-pub coder_small : (coder : Coder) → All (λ size. size < 32) (sizes coder)
+pub coder_small : (coder : Coder) → All (λ size. size < 31) (sizes coder)
 unfolding sizes
 coder_small Kind = kind_small
 coder_small Asn = range_small 15 10 (omega arith)
 coder_small Match = range_small 1 8 (omega arith)
 coder_small Jump = range_small 5 26 (omega arith)
+
+pub coder_few : (coder : Coder) → length (sizes coder) ≤ 26
+unfolding sizes
+coder_few Kind = omega arith
+coder_few Asn = omega arith
+coder_few Match = omega arith
+coder_few Jump = omega arith

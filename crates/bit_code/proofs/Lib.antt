@@ -3,6 +3,8 @@ pub mod FileBits
 pub mod Digits
 pub mod ReadingLaws
 pub mod Places
+pub mod Windows
+pub mod WindowClasses
 pub mod Classes
 pub mod Coders
 pub mod Answering

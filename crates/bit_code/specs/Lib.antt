@@ -1,3 +1,4 @@
 pub mod Coder
 pub mod Reading
 pub mod Seen
+pub mod Window

@@ -1,5 +1,7 @@
-ghost use Rattle.std.specs.Prelude.{◌≡◌, ◌<◌, ◌≤◌, Some, length, slice_get};
+ghost use Rattle.std.specs.Prelude.{◌≡◌, ◌+◌, ◌<◌, ◌≤◌, Some, length, slice_get};
 ghost use Rattle.bit_code.specs.Coder.{file_bits};
+ghost use Rattle.std.specs.Int.{from_le_bytes, w64};
+ghost use Rattle.bit_code.specs.Window.{IsWindow, AreBytes, eight};
 
 use std::marker::Model;
 
@@ -46,4 +48,32 @@ impl<'a> Bits<'a> {
     {
         (self.bytes[at / 8] >> (at % 8)) & 1 == 1
     }
+
+    /// The next bits from a place on, at least 57 of them, the first as the lowest.
+    #[inline]
+    pub(crate) fn window(&self, at: usize) -> u64
+        requires { at + 64 ≤ length self.now }
+        ensures { IsWindow self.now at result }
+    {
+        word_at(self.bytes, at / 8) >> (at % 8)
+    }
+}
+
+/// Eight bytes from a place on, the first as the lowest.
+#[inline]
+fn word_at(bytes: &[u8], q: usize) -> u64
+    requires { q + 8 ≤ length bytes.now }
+    ensures bytes { AreBytes (eight bytes.now q) }
+    ensures word { result ≡ from_le_bytes w64 (eight bytes.now q) }
+{
+    u64::from_le_bytes([
+        bytes[q],
+        bytes[q + 1],
+        bytes[q + 2],
+        bytes[q + 3],
+        bytes[q + 4],
+        bytes[q + 5],
+        bytes[q + 6],
+        bytes[q + 7],
+    ])
 }

@@ -1,5 +1,5 @@
-ghost use Rattle.std.specs.Prelude.{◌≡◌, ℕ, ◌+◌, ◌^◌, ◌<◌, ◌≤◌, Bool, List, [], length, drop, IfSome, IfNone, IsSomeAnd, All};
-ghost use Rattle.bit_code.specs.Coder.{Spells, values_of};
+ghost use Rattle.std.specs.Prelude.{◌≡◌, ℕ, ◌+◌, ◌^◌, ◌<◌, ◌≤◌, Bool, List, [], length, drop, IfSome, IfNone, IsSomeAnd, All, Some};
+ghost use Rattle.bit_code.specs.Coder.{Spells, values_of, number_of, low_digits};
 ghost use Rattle.bit_code.specs.Reading.{read_front, read_by, digits_at, after_values};
 ghost use Rattle.bit_code.specs.Seen.{seen};
 
@@ -23,11 +23,15 @@ pub fn read_number(bits: &Bits<'_>, at: usize, coder: Coder) -> Option<(u32, usi
 fn read_class(bits: &Bits<'_>, at: usize, sizes: &[u8], least: u32) -> Option<(u32, usize)>
     requires within { at ≤ length bits.now }
     requires several { 1 < length sizes.now }
-    requires small { All (λ size. size < 32) sizes.now }
+    requires few { length sizes.now ≤ 26 }
+    requires small { All (λ size. size < 31) sizes.now }
     requires fits { least + values_of sizes.now ≤ 2 ^ 32 }
     ensures place { IfSome result (λ read. (at < read.1) × (read.1 ≤ length bits.now)) }
     ensures value { seen bits.now result ≡ after_values least (read_by sizes.now (drop at bits.now)) }
 {
+    if bits.len() - at >= 64 {
+        return Some(read_ahead(bits, at, sizes, least));
+    }
     let last = sizes.len() - 1;
     let mut value = least;
     let mut place = at;
@@ -63,4 +67,46 @@ fn read_digits(bits: &Bits<'_>, at: usize, size: u8, least: u32) -> Option<(u32,
         digits = digits * 2 + bits.get(place) as u32;
     }
     Some((least + digits, at + size))
+}
+
+/// The same where at least 64 bits are left, from a window of the bits.
+#[inline]
+fn read_ahead(bits: &Bits<'_>, at: usize, sizes: &[u8], least: u32) -> (u32, usize)
+    requires room { at + 64 ≤ length bits.now }
+    requires size { length bits.now < 2 ^ 64 }
+    requires several { 1 < length sizes.now }
+    requires few { length sizes.now ≤ 26 }
+    requires small { All (λ size. size < 31) sizes.now }
+    requires fits { least + values_of sizes.now ≤ 2 ^ 32 }
+    ensures place { (at < result.1) × (result.1 ≤ length bits.now) }
+    ensures value { seen bits.now (Some result) ≡ after_values least (read_by sizes.now (drop at bits.now)) }
+{
+    let window = bits.window(at);
+    let later = sizes.len() - 1;
+    let mut value = least;
+    for class in 0..later {
+        let size = sizes[class];
+        if (window >> class) & 1 == 0 {
+            let digits = front_digits(window >> (class + 1), size);
+            return (value + digits, at + class + 1 + size as usize);
+        }
+        value += 1 << size;
+    }
+    let size = sizes[later];
+    let digits = front_digits(window >> later, size);
+    (value + digits, at + later + size as usize)
+}
+
+/// The number that the lowest bits spell, the first digit being the lowest bit.
+#[inline]
+fn front_digits(window: u64, size: u8) -> u32
+    requires { size < 31 }
+    ensures small { result < 2 ^ size }
+    ensures value { result ≡ number_of (low_digits size window) }
+{
+    let mut digits: u32 = 0;
+    for k in 0..size {
+        digits = digits * 2 + ((window >> k) & 1) as u32;
+    }
+    digits
 }

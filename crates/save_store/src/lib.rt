@@ -6,3 +6,6 @@ mod loading;
 
 pub use load_fault::LoadFault;
 pub use loading::load;
+
+#[cfg(test)]
+mod tests;

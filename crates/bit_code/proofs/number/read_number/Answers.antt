@@ -2,11 +2,14 @@ use Rattle.std.proofs.Common.{◌≡◌, drop}
 use Rattle.bit_code.specs.Seen.{seen}
 use Rattle.bit_code.specs.Reading.{read_front}
 use Rattle.bit_code.proofs.Answering.{found, only, none}
-use Rattle.bit_code.proofs.Coders.{coder_fits, coder_several, coder_small}
+use Rattle.bit_code.proofs.Coders.{coder_fits, coder_few, coder_several, coder_small}
 use Rattle.bit_code.proofs.number.read_number.Goals as goal
 
 pub read_class-requires-clause-several : goal.read_class-requires-clause-several
 read_class-requires-clause-several c = rw c.sizes.ensures (coder_several c.args.coder)
+
+pub read_class-requires-clause-few : goal.read_class-requires-clause-few
+read_class-requires-clause-few c = rw c.sizes.ensures (coder_few c.args.coder)
 
 pub read_class-requires-clause-small : goal.read_class-requires-clause-small
 read_class-requires-clause-small c = rw c.sizes.ensures (coder_small c.args.coder)
