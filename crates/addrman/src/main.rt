@@ -34,7 +34,13 @@ fn main(rt: HostRuntime) -> ExitCode {
     let mut log = StdSource::make(rt.reader());
     let mut out = StdSink::make(io::writer(&rt));
     let mut folder = DirFolder::make(&rt);
-    let status = run(rt.alloc(), words.as_slice(), &mut log, &mut folder, &mut out);
+    let status = run(
+        rt.alloc(),
+        words.as_slice(),
+        &mut log,
+        &mut folder,
+        &mut out,
+    );
     report(&rt, &status);
     ExitCode::from(code(&status))
 }

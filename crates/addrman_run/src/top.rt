@@ -20,12 +20,7 @@ use std::alloc::Global;
 use table_machine::PlainTables;
 
 /// Reads the log whole, and answers its lines from empty tables under the key.
-fn replay_log<L: Source, K: Sink>(
-    alloc: Global,
-    key: [u8; 32],
-    log: &mut L,
-    out: &mut K,
-) -> Status
+fn replay_log<L: Source, K: Sink>(alloc: Global, key: [u8; 32], log: &mut L, out: &mut K) -> Status
     ensures prefix { IfSome (L.left log.old) (λ bytes. IfSome (K.written out.old) (λ before.
         (text : List ℕ) × (K.written out.new ≡ Some (before ++ text)) × AnswersFront (opening key) bytes text)) }
     ensures done { result ≡ Status.Done → IfSome (L.left log.old) (λ bytes. IfSome (K.written out.old) (λ before.

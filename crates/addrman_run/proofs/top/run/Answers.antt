@@ -16,14 +16,14 @@ returns-in-Some-peer_of-clause-looked_up g c = λ is peer form.
     let read = c.peer_of.ensures.only peer form in
     let same : c.in-Some-peer_of.peer ≡ peer = cc in
     subst (λ (p : Peer). IfSome (g.F.Folder.files c.args.folder.now) (λ files. IfSome (g.K.Sink.written c.args.out.now) (λ before.
-        (m : Asmap) × HasAsmap files m × (g.K.Sink.written c.lookup.new.out ≡ Some (before ++ lookup_text m p.addr))))) same (c.lookup.ensures.done is)
+    (m : Asmap) × HasAsmap files m × (g.K.Sink.written c.lookup.new.out ≡ Some (before ++ lookup_text m p.addr))))) same (c.lookup.ensures.done is)
 
 pub returns-in-Some-peer_of-clause-lookup_front : goal.returns-in-Some-peer_of-clause-lookup_front
 returns-in-Some-peer_of-clause-lookup_front g c = λ is peer form.
     let read = c.peer_of.ensures.only peer form in
     let same : c.in-Some-peer_of.peer ≡ peer = cc in
     subst (λ (p : Peer). IfSome (g.F.Folder.files c.args.folder.now) (λ files. IfSome (g.K.Sink.written c.args.out.now) (λ before.
-        (text : List ℕ) × (g.K.Sink.written c.lookup.new.out ≡ Some (before ++ text)) × LooksUpFront files p text))) same (c.lookup.ensures.write_front is)
+    (text : List ℕ) × (g.K.Sink.written c.lookup.new.out ≡ Some (before ++ text)) × LooksUpFront files p text))) same (c.lookup.ensures.write_front is)
 
 pub returns-in-None-clause-absent : goal.returns-in-None-clause-absent
 returns-in-None-clause-absent g c = λ peer form.

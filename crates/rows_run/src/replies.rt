@@ -1,0 +1,93 @@
+// Whole replays and their replies.
+use crate::log_text::{FIRST_LINES, FIRST_REPLIES, payload, told_log};
+use crate::runs::assert_run;
+use addrman_run::Status;
+use std::process::Abort;
+use std::test::Fail;
+
+#[test]
+fn an_empty_log_gives_no_output(rt: HostRuntime) -> Result<(), Fail> {
+    assert_run(&rt, "", Status::Done, "")
+}
+
+#[test]
+fn a_peer_told_of_is_found(rt: HostRuntime) -> Result<(), Fail> {
+    let log = format!(in rt.alloc(); "{FIRST_LINES}find 9.9.9.9:8333\nfind 8.8.8.8:8333\n")?;
+    let text = format!(in rt.alloc();
+        "{FIRST_REPLIES}unknown\npeer 8.8.8.8:8333 source 1.2.3.4 time 1699992800 services 1 success 0 try 0 attempts 0 new 87\n"
+    )?;
+    assert_run(&rt, log.as_str(), Status::Done, text.as_str())
+}
+
+// 8.8.8.8:8333, told of by the source with the entry's time, is found with the stored time and in
+// the bucket.
+fn assert_stored(
+    rt: &(impl Abort + AllocGlobal),
+    (clock, source, time): (u32, &str, u32),
+    (stored, bucket): (u32, u16),
+) -> Result<(), Fail> {
+    let log = told_log(rt.alloc(), clock, source, time)?;
+    let text = format!(in rt.alloc();
+        "now {clock}\nadded 1 of 1\npeer 8.8.8.8:8333 source {source} time {stored} services 1 success 0 try 0 attempts 0 new {bucket}\n"
+    )?;
+    assert_run(rt, log.as_str(), Status::Done, text.as_str())
+}
+
+#[test]
+fn odd_times_are_mended_and_a_penalty_is_taken(rt: HostRuntime) -> Result<(), Fail> {
+    let rows = [
+        ((1700000000, "1.2.3.4", 1700000000), (1699992800, 87)),
+        ((1700000000, "1.2.3.4", 100000000), (1699560800, 87)),
+        ((1700000000, "1.2.3.4", 100000001), (99992801, 87)),
+        ((1700000000, "1.2.3.4", 1700000600), (1699993400, 87)),
+        ((1700000000, "1.2.3.4", 1700000601), (1699560800, 87)),
+        ((5000, "1.2.3.4", 0), (0, 87)),
+        ((1700000000, "8.8.8.8", 1700000000), (1700000000, 803)),
+    ];
+    for (told, stored) in rows {
+        assert_stored(&rt, told, stored)?;
+    }
+    Ok(())
+}
+
+// The address, as text and as its four bytes in hexadecimal, is refused, and stays unknown.
+fn assert_refused(
+    rt: &(impl Abort + AllocGlobal),
+    (addr, bytes): (&str, &str),
+) -> Result<(), Fail> {
+    let payload = payload(rt.alloc(), 1700000000, bytes, 8333)?;
+    let log = format!(in rt.alloc();
+        "now 1700000000\naddr 1.2.3.4 {payload} 0\nfind {addr}:8333\n"
+    )?;
+    assert_run(
+        rt,
+        log.as_str(),
+        Status::Done,
+        "now 1700000000\nadded 0 of 1\nunknown\n",
+    )
+}
+
+#[test]
+fn addresses_that_are_not_routed_are_refused(rt: HostRuntime) -> Result<(), Fail> {
+    let rows = [
+        ("0.0.0.0", "00000000"),
+        ("0.1.2.3", "00010203"),
+        ("10.0.0.1", "0a000001"),
+        ("100.64.0.1", "64400001"),
+        ("127.0.0.1", "7f000001"),
+        ("169.254.0.1", "a9fe0001"),
+        ("172.16.0.1", "ac100001"),
+        ("172.31.255.255", "ac1fffff"),
+        ("192.0.2.1", "c0000201"),
+        ("192.168.1.1", "c0a80101"),
+        ("198.18.0.1", "c6120001"),
+        ("198.19.255.255", "c613ffff"),
+        ("198.51.100.1", "c6336401"),
+        ("203.0.113.1", "cb007101"),
+        ("255.255.255.255", "ffffffff"),
+    ];
+    for row in rows {
+        assert_refused(&rt, row)?;
+    }
+    Ok(())
+}
