@@ -28,11 +28,6 @@ fn a_comment_of_16777216_bytes_is_passed_over(rt: HostRuntime) -> Result<(), Fai
 }
 
 #[test]
-fn as_many_line_feeds_are_passed_over(rt: HostRuntime) -> Result<(), Fail> {
-    assert_size(&rt, b'\n', 16_777_216, Status::Done)
-}
-
-#[test]
 fn a_log_of_one_byte_more_is_too_long(rt: HostRuntime) -> Result<(), Fail> {
     assert_size(&rt, b'\n', 16_777_217, Status::LogTooLong)
 }
