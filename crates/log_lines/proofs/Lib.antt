@@ -1,3 +1,4 @@
+mod Examples
 pub mod Fields
 pub mod LineLemmas
 pub mod Numbers
