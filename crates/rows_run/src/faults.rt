@@ -9,7 +9,7 @@ use std::alloc::{AllocError, Global};
 use std::process::Abort;
 use std::test::Fail;
 
-// Three lines that are answered, two that are passed over, and no line feed at the end: 126 bytes.
+// Three lines that are answered, two that are passed over, and no line feed at the end: 123 bytes.
 fn three_lines(alloc: Global) -> Result<String, AllocError> {
     format!(in alloc; "# a comment\n{FIRST_LINES}\nfind 9.9.9.9:8333")
 }

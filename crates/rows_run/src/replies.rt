@@ -1,6 +1,6 @@
 // Whole replays and their replies.
 use crate::log_text::{FIRST_LINES, FIRST_REPLIES, payload, told_log};
-use crate::runs::assert_run;
+use crate::runs::{assert_run, assert_run_by, owned};
 use addrman_run::Status;
 use std::process::Abort;
 use std::test::Fail;
@@ -17,6 +17,21 @@ fn a_peer_told_of_is_found(rt: HostRuntime) -> Result<(), Fail> {
         "{FIRST_REPLIES}unknown\npeer 8.8.8.8:8333 source 1.2.3.4 time 1699992800 services 1 success 0 try 0 attempts 0 new 87\n"
     )?;
     assert_run(&rt, log.as_str(), Status::Done, text.as_str())
+}
+
+// The key of Bitcoin Core's own tests, SHA-256 of SHA-256 of the bytes 01 00 00 00, and the bucket
+// that they have (`caddrinfo_get_new_bucket_legacy` in addrman_tests.cpp).
+#[test]
+fn the_key_chooses_the_bucket(rt: HostRuntime) -> Result<(), Fail> {
+    let key = "41f758f2e5cc078d3795b4fc0cb60c2d735fa92cc020572bdc982dd2d564d11b";
+    let words = owned(rt.alloc(), &["replay", "--key", key])?;
+    let payload = payload(rt.alloc(), 1700000000, "fa010201", 8333)?;
+    let log = format!(in rt.alloc();
+        "now 1700000000\naddr 250.1.2.1 {payload} 0\nfind 250.1.2.1:8333\n"
+    )?;
+    let text =
+        "now 1700000000\nadded 1 of 1\npeer 250.1.2.1:8333 source 250.1.2.1 time 1700000000 services 1 success 0 try 0 attempts 0 new 786\n";
+    assert_run_by(&rt, words.as_slice(), log.as_str(), Status::Done, text)
 }
 
 // 8.8.8.8:8333, told of by the source with the entry's time, is found with the stored time and in

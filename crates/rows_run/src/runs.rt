@@ -30,6 +30,22 @@ pub(crate) fn replay_words(alloc: Global) -> Result<Vec<String>, AllocError> {
     owned(alloc, &["replay", "--key", ZERO_KEY])
 }
 
+// A replay by these words ends so, and writes that.
+pub(crate) fn assert_run_by(
+    rt: &(impl Abort + AllocGlobal),
+    words: &[String],
+    log: &str,
+    want: Status,
+    text: &str,
+) -> Result<(), Fail> {
+    let mut source = MemSource::make(rt.alloc(), log.as_bytes(), 4096, &[])?;
+    let mut sink = MemSink::make(rt.alloc(), &[])?;
+    let status = run_over(rt.alloc(), words, &mut source, &mut sink);
+    assert_eq!(rt; sink.bytes(), text.as_bytes(), "written for {log:?}");
+    assert_eq!(rt; status, want, "status for {log:?}");
+    Ok(())
+}
+
 // A replay under the key of 64 zeros ends so, and writes that.
 pub(crate) fn assert_run(
     rt: &(impl Abort + AllocGlobal),
@@ -38,10 +54,5 @@ pub(crate) fn assert_run(
     text: &str,
 ) -> Result<(), Fail> {
     let words = replay_words(rt.alloc())?;
-    let mut source = MemSource::make(rt.alloc(), log.as_bytes(), 4096, &[])?;
-    let mut sink = MemSink::make(rt.alloc(), &[])?;
-    let status = run_over(rt.alloc(), words.as_slice(), &mut source, &mut sink);
-    assert_eq!(rt; sink.bytes(), text.as_bytes(), "written for {log:?}");
-    assert_eq!(rt; status, want, "status for {log:?}");
-    Ok(())
+    assert_run_by(rt, words.as_slice(), log, want, text)
 }

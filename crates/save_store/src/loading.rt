@@ -44,6 +44,7 @@ pub fn load<F: Folder>(
 }
 
 /// The first `size` bytes of a file, or fewer where a read gives none before.
+#[tactic(auto, using(crate::proofs::Fronts::full_step))]
 fn read_file<F: Folder>(
     alloc: Global,
     folder: &mut F,
@@ -73,6 +74,7 @@ fn read_file<F: Folder>(
 
 /// Appends what one read gives of the file from the byte after those that are there, and says how
 /// many bytes that were; none are the end.
+#[tactic(auto, using(crate::proofs::Fronts::whole_step))]
 fn read_piece<F: Folder>(
     folder: &mut F,
     name: Name,
