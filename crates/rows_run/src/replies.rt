@@ -1,13 +1,21 @@
 // Whole replays and their replies.
 use crate::log_text::{FIRST_LINES, FIRST_REPLIES, payload, told_log};
-use crate::runs::{assert_run, assert_run_by, owned};
-use addrman_run::Status;
+use crate::runs::{assert_run, assert_run_by, owned, replay_words};
+use addrman_run::{Status, run_surely};
 use std::process::Abort;
 use std::test::Fail;
 
 #[test]
 fn an_empty_log_gives_no_output(rt: HostRuntime) -> Result<(), Fail> {
     assert_run(&rt, "", Status::Done, "")
+}
+
+#[test]
+fn a_run_that_nothing_can_stop_is_done(rt: HostRuntime) -> Result<(), Fail> {
+    let words = replay_words(rt.alloc())?;
+    let status = run_surely(rt.alloc(), words.as_slice(), FIRST_LINES.as_bytes());
+    assert_eq!(rt; status, Status::Done, "status over an outside that never fails");
+    Ok(())
 }
 
 #[test]
