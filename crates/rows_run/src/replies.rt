@@ -14,7 +14,11 @@ fn an_empty_log_gives_no_output(rt: HostRuntime) -> Result<(), Fail> {
 fn a_run_that_nothing_can_stop_is_done(rt: HostRuntime) -> Result<(), Fail> {
     let words = replay_words(rt.alloc())?;
     let status = run_surely(rt.alloc(), words.as_slice(), FIRST_LINES.as_bytes());
-    assert_eq!(rt; status, Status::Done, "status over an outside that never fails");
+    assert_eq!(rt;
+        status,
+        Status::Done,
+        "status over an outside that never fails"
+    );
     Ok(())
 }
 
