@@ -1,5 +1,5 @@
 -- What a lookup writes, from what its calls say.
-use Rattle.std.proofs.Common.{◌≡◌, ℕ, ◌<◌, List, ◌++◌, length, take, refl, sym, ap, ◌∙◌, subst}
+use Rattle.std.proofs.Common.{◌≡◌, ℕ, ◌<◌, List, ◌++◌, length, take, sym, ap, ◌∙◌}
 use Rattle.std.specs.Prelude.{Option, Some, None, IfSome}
 use Rattle.host_io.specs.declared.name.Name.{Name}
 use Rattle.host_io.specs.declared.name.Name.TheVariants as name

@@ -1,13 +1,13 @@
 -- Runs over lines, one after another.
-use Rattle.std.proofs.Common.{◌≡◌, ℕ, suc, ◌+◌, ◌<◌, ◌≤◌, List, [], ◌∷◌, ◌++◌, length, take, drop, refl, sym, ap, ◌∙◌, subst, append_assoc, arith, add-one}
-use Rattle.std.specs.Prelude.{Option, Some, None, IfSome, Result, Ok, Err, OnOk, OnErr, Bool, true, false}
+use Rattle.std.proofs.Common.{◌≡◌, ℕ, ◌+◌, ◌<◌, List, [], ◌∷◌, ◌++◌, length, take, drop, refl, sym, ap, ◌∙◌, subst, append_assoc, arith}
+use Rattle.std.specs.Prelude.{Option, Some, None, IfSome, Result, Ok, Err, OnOk, OnErr, true, false}
 use Rattle.std.specs.Result.{is_err}
 use Rattle.std.proofs.lemmas.List.{length-append, append-nil, take-append-drop}
 use Rattle.std.proofs.Math.Seq.{take-append_seam}
 use Rattle.log_lines.specs.Lines.{lines_of}
 use Rattle.table_machine.specs.State.{State}
 use Rattle.addrman_run.specs.Run.{Run, LineStep, IsNotBuilt}
-use Rattle.addrman_run.specs.Replay.{AnswersAll, AnswersFront, AnswersUpTo}
+use Rattle.addrman_run.specs.Replay.{AnswersAll, AnswersFront, AnswersUpTo, StopsInReply}
 
 -- a run goes on by one line
 pub Run-more : (done : List (List ℕ)) (a b c : State) (line text reply : List ℕ) → Run a done text b → LineStep b line reply c → Run a (done ++ line ∷ []) (text ++ reply) c
@@ -74,13 +74,13 @@ pub wrote : (old new : Option (List ℕ)) (P : List ℕ → Type 0) (text : List
 wrote old new P text told holds = if_some old _ (λ before e. (text, told before e, holds))
 
 -- the reply to one more line is written in part
-pub wrote_part : (old mid new : Option (List ℕ)) (start : State) (log text reply : List ℕ) → ((n : ℕ) → AnswersFront start log (text ++ take n reply)) →
+pub wrote_part : (old mid new : Option (List ℕ)) (P : List ℕ → Type 0) (text reply : List ℕ) → ((n : ℕ) → P (text ++ take n reply)) →
     ((before : List ℕ) → old ≡ Some before → mid ≡ Some (before ++ text)) →
     IfSome mid (λ b. (n : ℕ) × (n < length reply) × (new ≡ Some (b ++ take n reply))) →
-    IfSome old (λ before. (x : List ℕ) × (new ≡ Some (before ++ x)) × AnswersFront start log x)
-wrote_part old mid new start log text reply fronts told part = if_some old _ (λ before e. part_of before (subst (λ o. IfSome o (λ b. (n : ℕ) × (n < length reply) × (new ≡ Some (b ++ take n reply)))) (told before e) part))
+    IfSome old (λ before. (x : List ℕ) × (new ≡ Some (before ++ x)) × P x)
+wrote_part old mid new P text reply fronts told part = if_some old _ (λ before e. part_of before (subst (λ o. IfSome o (λ b. (n : ℕ) × (n < length reply) × (new ≡ Some (b ++ take n reply)))) (told before e) part))
   where
-    part_of : (before : List ℕ) → (n : ℕ) × (n < length reply) × (new ≡ Some ((before ++ text) ++ take n reply)) → (x : List ℕ) × (new ≡ Some (before ++ x)) × AnswersFront start log x
+    part_of : (before : List ℕ) → (n : ℕ) × (n < length reply) × (new ≡ Some ((before ++ text) ++ take n reply)) → (x : List ℕ) × (new ≡ Some (before ++ x)) × P x
     part_of before p = (text ++ take p.0 reply, p.2 ∙ ap Some (append_assoc before text (take p.0 reply)), fronts p.0)
 
 -- the replies so far and a front of the next
@@ -91,6 +91,24 @@ front_of_next start now next log rest line after answered text reply s first ste
     front_answered start next log after (answered + 1) (text ++ reply) (one_more start now next log rest line after answered text reply s first step)
     (text ++ take n reply) (drop n reply)
     (ap (λ r. text ++ r) (sym (take-append-drop n reply)) ∙ sym (append_assoc text (take n reply) (drop n reply)))
+
+-- a run that stops in the reply to the next line
+pub stops_in_reply : (start now next : State) (log rest line after : List ℕ) (answered : ℕ) (text reply : List ℕ) →
+    SoFar start now log rest answered text → lines_of rest ≡ line ∷ lines_of after → LineStep now line reply next →
+    (n : ℕ) → StopsInReply start log (text ++ take n reply) next
+stops_in_reply start now next log rest line after answered text reply s first step n = (
+  line,
+  s.lines,
+  lines_of after,
+  now,
+  text,
+  take n reply,
+  drop n reply,
+  s.split ∙ ap (λ ls. s.lines ++ ls) first,
+  s.run,
+  subst (λ r. LineStep now line r next) (sym (take-append-drop n reply)) step,
+  refl,
+)
 
 pub on_err : {A E : Type 0} (r : Result A E) (P : Type 0) → is_err r ≡ true → OnErr r P → P
 on_err (Ok x) P h p = absurd (cc)

@@ -3,7 +3,7 @@ use Rattle.std.specs.Prelude.{◌≡◌, ℕ, List, [], ◌∷◌, ◌++◌, len
 use Rattle.hex.specs.Hex.{decode_of}
 use Rattle.log_lines.specs.Lines.{lines_of}
 use Rattle.table_machine.specs.State.{State, empty_state}
-use Rattle.addrman_run.specs.Run.{Run, IsNotBuilt}
+use Rattle.addrman_run.specs.Run.{Run, LineStep, IsNotBuilt}
 
 -- the words are replay, --key and the key in hexadecimal
 abbrev pub IsReplay : List (List ℕ) → List ℕ → Type 0
@@ -28,3 +28,9 @@ abbrev pub AnswersUpTo : State → List ℕ → ℕ → List ℕ → Type 0
 AnswersUpTo start log n text =
     (line : List ℕ) × (before : List (List ℕ)) × (after : List (List ℕ)) × (end : State) ×
     (lines_of log ≡ before ++ line ∷ after) × (n ≡ length before + 1) × Run start before text end × IsNotBuilt end line
+
+-- the replies to the lines before one are written whole, and a front of its own; the state is that after it, so no later line is carried out
+abbrev pub StopsInReply : State → List ℕ → List ℕ → State → Type 0
+StopsInReply start log text now =
+    (line : List ℕ) × (before : List (List ℕ)) × (after : List (List ℕ)) × (mid : State) × (whole : List ℕ) × (front : List ℕ) × (rest : List ℕ) ×
+    (lines_of log ≡ before ++ line ∷ after) × Run start before whole mid × LineStep mid line (front ++ rest) now × (text ≡ whole ++ front)

@@ -2,7 +2,7 @@ ghost use Rattle.std.specs.Prelude.{◌≡◌, ℕ, List, ◌++◌, ◌≤◌, I
 ghost use Rattle.host_io.specs.Outside.{Rose};
 ghost use Rattle.log_lines.specs.Lines.{lines_of};
 ghost use Rattle.addrman_run.specs.Statuses.{IsAnswer};
-ghost use Rattle.addrman_run.specs.Replay.{AnswersAll, AnswersFront, AnswersUpTo};
+ghost use Rattle.addrman_run.specs.Replay.{AnswersAll, AnswersFront, AnswersUpTo, StopsInReply};
 
 use crate::Status;
 use crate::step::{Stop, carry_out};
@@ -22,6 +22,8 @@ pub(crate) fn replay<K: Sink>(
         (text : List ℕ) × (K.written out.new ≡ Some (before ++ text)) × AnswersAll tables.old log.now text) }
     ensures front { IfSome (K.written out.old) (λ before.
         (text : List ℕ) × (K.written out.new ≡ Some (before ++ text)) × AnswersFront tables.old log.now text) }
+    ensures in_step { result ≡ Status.WriteFault → IfSome (K.written out.old) (λ before.
+        (text : List ℕ) × (K.written out.new ≡ Some (before ++ text)) × StopsInReply tables.old log.now text tables.new) }
     ensures not_built { (n : ℕ) → result ≡ Status.NotBuilt n → IfSome (K.written out.old) (λ before.
         (text : List ℕ) × (K.written out.new ≡ Some (before ++ text)) × AnswersUpTo tables.old log.now n text) }
     ensures cause { result ≡ Status.WriteFault → Rose (K.faults out.old) (K.faults out.new) }

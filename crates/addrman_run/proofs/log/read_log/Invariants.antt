@@ -1,4 +1,4 @@
-use Rattle.std.proofs.Common.{◌≡◌, ℕ, ◌-◌, ◌≤◌, vec_len, []}
+use Rattle.std.proofs.Common.{◌≡◌, ◌-◌, ◌≤◌, vec_len, []}
 use Rattle.addrman_run.specs.Reading.{MovesBytes}
 use Rattle.addrman_run.proofs.log.read_log.Given as goal
 

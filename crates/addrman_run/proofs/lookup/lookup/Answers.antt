@@ -1,4 +1,4 @@
-use Rattle.std.proofs.Common.{◌≡◌, ℕ, ◌<◌, List, ◌++◌, Some, length, take, sym, ap, ◌∙◌, subst}
+use Rattle.std.proofs.Common.{◌≡◌, ◌∙◌, subst}
 use Rattle.std.specs.Prelude.{IfSome}
 use Rattle.host_io.specs.declared.name.Name.TheVariants as name
 use Rattle.asmap_vm.specs.Code.{IsSaneFile}

@@ -1,8 +1,7 @@
-use Rattle.std.proofs.Common.{◌≡◌, ℕ, ◌<◌, List, [], ◌∷◌, length, get_or, Some, true, false, cond, refl, sym, ap, ◌∙◌, subst, arith}
-use Rattle.net_addr.specs.declared.entry.Entry.{Entry}
+use Rattle.std.proofs.Common.{get_or, cond, sym, ap, ◌∙◌, subst, arith}
 use Rattle.addr_codecs.specs.Message.{IsSingleIpv4}
 use Rattle.table_machine.specs.Entries.{mended}
-use Rattle.table_machine.specs.Built.{is_beyond, is_yes}
+use Rattle.table_machine.specs.Built.{is_yes}
 use Rattle.addrman_run.proofs.Messages.{list_of_one, none_built, one_step}
 use Rattle.addrman_run.proofs.step.take_message.Goals as goal
 
