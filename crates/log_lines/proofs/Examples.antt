@@ -1,11 +1,11 @@
 -- Worked examples, computed over the definitions.
-use Rattle.std.proofs.Common.{◌≡◌, ℕ, List, [], ◌∷◌, Some, None, refl}
+use Rattle.std.proofs.Common.{◌≡◌, [], ◌∷◌, Some, None, refl}
 use Rattle.std.specs.Prelude.{codes}
 use Rattle.std.specs.Fmt.{digits}
 use Rattle.net_addr.specs.OldForm.{address}
 use Rattle.net_addr.specs.declared.net.Net.TheVariants.{Ipv4}
 use Rattle.peer_rec.specs.declared.rec.Rec.{Rec}
-use Rattle.peer_rec.specs.declared.place.Place.TheVariants.{New, Tried}
+use Rattle.peer_rec.specs.declared.place.Place.TheVariants.{New}
 use Rattle.log_lines.specs.Lines.{lines_of}
 use Rattle.log_lines.specs.Replies.{reply_text, place_text}
 use Rattle.log_lines.specs.declared.reply.Reply.TheVariants.{Now, Added, Found}

@@ -1,5 +1,5 @@
 -- What adding an entry of an unknown peer into an empty slot comes to.
-use Rattle.std.proofs.Common.{◌≡◌, ℕ, ◌+◌, ◌<◌, List, [], ◌∷◌, ◌++◌, length, map, Option, Some, None, true, false, ◌||◌, Bool, cond, eqb, refl, sym, ap, ◌∙◌, subst, arith}
+use Rattle.std.proofs.Common.{◌≡◌, ℕ, ◌<◌, List, [], ◌∷◌, ◌++◌, Option, Some, None, true, false, ◌||◌, Bool, cond, refl, ap, ◌∙◌, arith}
 use Rattle.std.specs.Prelude.{find, All, is_some}
 use Rattle.std.proofs.lemmas.Bool.{ne_eqb, eq-eqb}
 use Rattle.std.specs.List.{AllByRecursion}
@@ -12,7 +12,7 @@ use Rattle.peer_rec.specs.declared.rec.Rec.{Rec}
 use Rattle.peer_rec.specs.declared.place.Place.TheVariants.{New}
 use Rattle.placing.specs.Places.{new_bucket, new_slot}
 use Rattle.table_machine.specs.State.{State, find_peer, is_new_at, new_occupant}
-use Rattle.table_machine.specs.Entries.{Outcome, accepted, add, changed, into_slot, made_record, penalty_of, refused, to_found, with_new}
+use Rattle.table_machine.specs.Entries.{accepted, add, changed, into_slot, made_record, penalty_of, refused, to_found, with_new}
 use Rattle.table_machine.specs.Built.{is_slot_taken, listed_record}
 
 -- a search that finds nothing finds nothing with one more that does not pass

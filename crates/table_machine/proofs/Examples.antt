@@ -1,5 +1,5 @@
 -- Worked examples, computed over the definitions.
-use Rattle.std.proofs.Common.{◌≡◌, ℕ, ◌-◌, List, [], ◌∷◌, true, false, refl}
+use Rattle.std.proofs.Common.{◌≡◌, ℕ, ◌-◌, [], ◌∷◌, true, false, refl}
 use Rattle.net_addr.specs.Address.{Address}
 use Rattle.net_addr.specs.OldForm.{address}
 use Rattle.net_addr.specs.Same.{same_address}

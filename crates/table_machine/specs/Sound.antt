@@ -1,5 +1,5 @@
 -- What holds of every state between two lines of a log.
-use Rattle.std.specs.Prelude.{◌≡◌, ◌≢◌, ℕ, ◌<◌, ◌≤◌, ◌^◌, List, length, map, All, AllPairs, Contains, true, IsSome, Some, IfSome, IsPermutation}
+use Rattle.std.specs.Prelude.{◌≡◌, ◌≢◌, ℕ, ◌<◌, ◌≤◌, ◌^◌, length, map, All, AllPairs, Contains, true, IsSome, IfSome, IsPermutation}
 use Rattle.std.specs.List.Sorted.{IsStrictlyIncreasing}
 use Rattle.net_addr.specs.Ranges.{is_valid}
 use Rattle.placing.specs.Places.{tried_bucket, tried_slot}

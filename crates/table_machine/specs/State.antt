@@ -1,6 +1,6 @@
 -- The state of the address manager (`AddrManImpl` in addrman_impl.h of Bitcoin Core), with no slot arrays: a slot is
 -- occupied only because a record says so.
-use Rattle.std.specs.Prelude.{◌≡◌, ℕ, List, [], ◌∷◌, Bool, true, false, ◌&&◌, ◌==◌, Option, Some, None, find}
+use Rattle.std.specs.Prelude.{ℕ, List, [], Bool, ◌&&◌, ◌==◌, Option, find}
 use Rattle.std.specs.List.{list_any}
 use Rattle.net_addr.specs.Same.{same_address}
 use Rattle.net_addr.specs.declared.peer.Peer.{Peer}

@@ -1,6 +1,5 @@
-use Rattle.std.proofs.Common.{◌≡◌, ◌<◌, Bool, true, false, ◌||◌, sym, ap, ◌∙◌, subst, refl}
+use Rattle.std.proofs.Common.{◌≡◌, ◌<◌, false, ◌||◌, sym, ap, ◌∙◌, subst}
 use Rattle.std.specs.Prelude.{All, is_some}
-use Rattle.net_addr.specs.Ranges.{is_routable}
 use Rattle.placing.specs.Places.{new_bucket, new_slot}
 use Rattle.table_machine.specs.State.{State, find_peer, new_occupant}
 use Rattle.table_machine.specs.Entries.{Outcome, accepted, add, with_new}
