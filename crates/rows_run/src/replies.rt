@@ -32,7 +32,7 @@ fn a_peer_told_of_is_found(rt: HostRuntime) -> Result<(), Fail> {
 }
 
 // The key of Bitcoin Core's own tests, SHA-256 of SHA-256 of the bytes 01 00 00 00, and the bucket
-// that they have (`caddrinfo_get_new_bucket_legacy` in addrman_tests.cpp).
+// that they have (addrman_tests.cpp).
 #[test]
 fn the_key_chooses_the_bucket(rt: HostRuntime) -> Result<(), Fail> {
     let key = "41f758f2e5cc078d3795b4fc0cb60c2d735fa92cc020572bdc982dd2d564d11b";
