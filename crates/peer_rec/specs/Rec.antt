@@ -1,5 +1,5 @@
 -- What a record says of its peer.
-use Rattle.std.specs.Prelude.{ℕ, ◌+◌, ◌<◌, ◌≤◌, ◌^◌, List, [], length, Bool, true, false, ◌&&◌, ◌||◌, not, ◌==◌, nat_lt, nat_le, All}
+use Rattle.std.specs.Prelude.{ℕ, ◌+◌, ◌<◌, ◌≤◌, ◌*◌, ◌/◌, ◌^◌, min, if◌then◌else◌, List, [], length, Bool, true, false, ◌&&◌, ◌||◌, not, ◌==◌, nat_lt, nat_le, All}
 use Rattle.std.specs.List.Sorted.{IsStrictlyIncreasing}
 use Rattle.net_addr.specs.Address.{IsAddress}
 use Rattle.peer_rec.specs.declared.rec.Rec.{Rec}
@@ -55,3 +55,12 @@ is_terrible r now =
     nat_lt (r.time + 2592000) now ||
     (r.last_success == 0 && nat_le 3 r.attempts) ||
     (nat_lt (r.last_success + 604800) now && nat_le 10 r.attempts))
+
+-- How likely a record is to be picked (`AddrInfo::GetChance`), here in whole parts of 2^30, each time rounded down: 66
+-- in 100 for each try since the last success, of which eight count at most, and of that a hundredth for one tried in the
+-- last ten minutes.
+abbrev pub chance : Rec → ℕ → ℕ
+chance r now =
+    let tries = min r.attempts 8 in
+    let parts = 2 ^ 30 * 66 ^ tries / 100 ^ tries in
+    if nat_lt now (r.last_try + 600) then parts / 100 else parts

@@ -1,7 +1,22 @@
-ghost use Rattle.std.specs.Prelude.{◌≡◌};
+ghost use Rattle.std.specs.Prelude.{◌≡◌, ◌*◌, ◌/◌, ◌^◌, min};
 
 use crate::Place;
 use net_addr::{NetAddr, Peer};
+
+/// Seconds for which a record stays after it was tried.
+const LAST_MINUTE: u64 = 60;
+/// Seconds that a time may lie ahead of the clock.
+const AHEAD: u64 = 600;
+/// Seconds after which a peer that was not seen is forgotten (`ADDRMAN_HORIZON` in addrman.h).
+const HORIZON: u64 = 2_592_000;
+/// Failures of a peer that never succeeded (`ADDRMAN_RETRIES`).
+const RETRIES: u32 = 3;
+/// Seconds without a success (`ADDRMAN_MIN_FAIL`) in which this many failures are too many.
+const MIN_FAIL: u64 = 604_800;
+/// Those failures (`ADDRMAN_MAX_FAILURES`).
+const MAX_FAILURES: u32 = 10;
+/// Seconds in which a try counts as recent.
+const RECENT: u64 = 600;
 
 /// What is known of a peer. Times are seconds since 1970, 0 where the event has not been
 /// (`AddrInfo` in addrman_impl.h of Bitcoin Core).
@@ -25,6 +40,8 @@ pub struct Rec {
 }
 
 impl Rec {
+    ghost use Rattle.peer_rec.specs.Rec.{is_terrible, chance};
+
     /// The same record; it takes no memory.
     pub fn copy(&self) -> Rec
         ensures { result ≡ self.now }
@@ -41,5 +58,48 @@ impl Rec {
             attempts: self.attempts,
             place: self.place.copy(),
         }
+    }
+    /// Whether the record is not worth keeping at this time (`AddrInfo::IsTerrible`).
+    pub fn terrible(&self, now: u32) -> bool
+        ensures { result ≡ is_terrible self.now now }
+    {
+        let now = u64::from(now);
+        if now <= u64::from(self.last_try) + LAST_MINUTE {
+            return false;
+        }
+        now + AHEAD < u64::from(self.time)
+            || u64::from(self.time) + HORIZON < now
+            || (self.last_success == 0 && self.attempts >= RETRIES)
+            || (u64::from(self.last_success) + MIN_FAIL < now && self.attempts >= MAX_FAILURES)
+    }
+
+    /// How likely the record is to be picked at this time, in parts of 2^30
+    /// (`AddrInfo::GetChance`, there a fraction).
+    pub fn chance(&self, now: u32) -> u64
+        ensures { result ≡ chance self.now now }
+    {
+        let parts = parts_after(self.attempts);
+        if u64::from(now) < u64::from(self.last_try) + RECENT {
+            parts / 100
+        } else {
+            parts
+        }
+    }
+}
+
+// What so many tries leave of 2^30 parts, each of the first eight 66 in 100.
+fn parts_after(attempts: u32) -> u64
+    ensures { let tries = min attempts 8 in result ≡ 2 ^ 30 * 66 ^ tries / 100 ^ tries }
+{
+    match attempts {
+        0 => 1_073_741_824,
+        1 => 708_669_603,
+        2 => 467_721_938,
+        3 => 308_696_479,
+        4 => 203_739_676,
+        5 => 134_468_186,
+        6 => 88_749_003,
+        7 => 58_574_342,
+        _ => 38_659_065,
     }
 }

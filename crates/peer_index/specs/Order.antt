@@ -1,0 +1,50 @@
+-- The order of the records of the tables, from which samples are drawn: a list of records, each with its id (`vRandom`
+-- in addrman_impl.h of Bitcoin Core, which has the ids alone, with `mapInfo` and `mapAddr` for the records).
+use Rattle.std.specs.Prelude.{◌≢◌, ℕ, ◌++◌, ◌==◌, List, [], ◌∷◌, map, find, position, swap_remove, AllPairs, Option, if◌then◌else◌}
+use Rattle.std.specs.Option.{option_map, option_map_or}
+use Rattle.net_addr.specs.Same.{same_peer}
+use Rattle.net_addr.specs.declared.peer.Peer.{Peer}
+use Rattle.peer_rec.specs.declared.rec.Rec.{Rec}
+
+-- a record and its id
+pub record Listed : Type 0 where
+  pub id : ℕ
+  pub rec : Rec
+
+abbrev pub Order : Type 0
+Order = List Listed
+
+-- no two records have one id, and no two have one peer
+pub record IsOrder (order : Order) : Type 0 where
+  pub ids : AllPairs (λ k l. k.id ≢ l.id) order
+  pub peers : AllPairs (λ k l. k.rec.peer ≢ l.rec.peer) order
+
+-- the id of the peer's record
+abbrev pub id_of : Order → Peer → Option ℕ
+id_of order peer = option_map (λ l. l.id) (find (λ l. same_peer peer l.rec.peer) order)
+
+-- the record with the id
+abbrev pub rec_of : Order → ℕ → Option Rec
+rec_of order id = option_map (λ l. l.rec) (find (λ l. l.id == id) order)
+
+-- the ids in their order
+abbrev pub ids : Order → List ℕ
+ids order = map (λ l. l.id) order
+
+-- the order with a record put last
+abbrev pub with_last : Order → ℕ → Rec → Order
+with_last order id rec = order ++ record { id = id; rec = rec } ∷ []
+
+-- the order with another record under the id
+abbrev pub with_rec : Order → ℕ → Rec → Order
+with_rec order id rec = map (λ l. if l.id == id then record l { rec = rec } else l) order
+
+-- the last takes the place of another, and the order is one shorter
+abbrev pub without_place : Order → ℕ → Order
+without_place [] place = []
+without_place (l ∷ order) place = swap_remove (l ∷ order) place l
+
+-- the order without the peer's record (`AddrManImpl::Delete`)
+abbrev pub without : Order → Peer → Order
+without order peer =
+    option_map_or (without_place order) order (position (λ l. same_peer peer l.rec.peer) order)

@@ -1,0 +1,134 @@
+ghost use Rattle.std.specs.Prelude.{◌≡◌};
+
+use crate::Memory;
+use indexmap::IndexMap;
+use net_addr::Peer;
+use peer_rec::Rec;
+use slab::Slab;
+use std::alloc::Global;
+use std::hash::BuildHasher;
+use std::marker::Model;
+
+/// The records of the tables in an order, each with an id that it keeps until it is removed. Only
+/// `add` takes memory, and each search is one look-up under the caller's hasher.
+#[derive(Drop)]
+pub struct PeerIndex<H: BuildHasher> {
+    recs: Slab<Rec>,
+    order: IndexMap<Peer, usize, H>,
+}
+
+impl<H: BuildHasher> Model for PeerIndex<H> {
+    ghost use Rattle.std.specs.Coded.{codes};
+    ghost use Rattle.peer_index.specs.Order.{Order};
+    ghost use Rattle.peer_index.specs.Inside.{order_of, IsKept};
+
+    ghost Value = { Order };
+
+    ghost coded = { Prim.hlevel codes };
+
+    ghost view = { λ i. order_of i.recs i.order.entries };
+
+    ghost invariant = { λ i. IsKept i.recs i.order.entries };
+}
+
+impl<H: BuildHasher> PeerIndex<H> {
+    ghost use Rattle.std.specs.Prelude.{◌≡◌, ◌<◌, ◌^◌, length, [], None, Some, IsSome, IsSomeAnd, IfOk, OnErr, swap, slice_get};
+    ghost use Rattle.peer_index.specs.Order.{IsOrder, id_of, rec_of, ids, with_last, with_rec, without};
+
+    /// No records.
+    pub fn make(alloc: Global, hasher: H) -> PeerIndex<H>
+        ensures { result ≡ [] }
+    {
+        PeerIndex {
+            recs: Slab::new(alloc),
+            order: IndexMap::with_hasher(alloc, hasher),
+        }
+    }
+
+    /// How many records there are.
+    pub fn len(&self) -> usize
+        ensures count { result ≡ length self.now }
+        ensures order { IsOrder self.now }
+    {
+        self.order.len()
+    }
+
+    /// The id of the peer's record.
+    pub fn find(&self, peer: &Peer) -> Option<usize>
+        ensures found { result ≡ id_of self.now peer.now }
+        ensures order { IsOrder self.now }
+    {
+        self.order.get(peer).copied()
+    }
+
+    /// The record with an id.
+    pub fn get(&self, id: usize) -> &Rec
+        requires { IsSome (rec_of self.now id) }
+        ensures found { rec_of self.now id ≡ Some result.now }
+        ensures order { IsOrder self.now }
+    {
+        self.recs.get(id).unwrap()
+    }
+
+    /// Puts another record of the same peer under an id.
+    pub fn set(&mut self, id: usize, rec: Rec)
+        requires { IsSomeAnd (rec_of self.old id) (λ r. r.peer ≡ rec.peer) }
+        ensures set { self.new ≡ with_rec self.old id rec }
+        ensures order { IsOrder self.new }
+    {
+        if let Some(stored) = self.recs.get_mut(id) {
+            *stored = rec;
+        }
+    }
+
+    /// Puts the record of a new peer last, and gives its id. Where there is no memory, nothing
+    /// changes.
+    pub fn add(&mut self, rec: Rec) -> Result<usize, Memory>
+        requires few { length self.old < 2 ^ 31 }
+        requires absent { id_of self.old rec.peer ≡ None }
+        ensures added { IfOk result (λ id. self.new ≡ with_last self.old id rec) }
+        ensures fresh { IfOk result (λ id. rec_of self.old id ≡ None) }
+        ensures order { IsOrder self.new }
+        ensures err { OnErr result (self.new ≡ self.old) }
+    {
+        let peer = rec.peer;
+        let id = self.recs.insert(rec)?;
+        match self.order.insert(peer, id) {
+            Ok(_) => Ok(id),
+            Err(_) => {
+                let _ = self.recs.try_remove(id);
+                Err(Memory)
+            }
+        }
+    }
+
+    /// Takes the peer's record out. The last of the order takes its place.
+    pub fn remove(&mut self, peer: &Peer)
+        requires { IsSome (id_of self.old peer.now) }
+        ensures removed { self.new ≡ without self.old peer.now }
+        ensures order { IsOrder self.new }
+    {
+        if let Some(id) = self.order.swap_remove(peer) {
+            let _ = self.recs.try_remove(id);
+        }
+    }
+
+    /// The id of the record at a place of the order.
+    pub fn at(&self, place: usize) -> usize
+        requires { place < length self.now }
+        ensures found { slice_get (ids self.now) place ≡ Some result }
+        ensures order { IsOrder self.now }
+    {
+        self.order[place]
+    }
+
+    /// Exchanges two places of the order.
+    pub fn swap(&mut self, i: usize, j: usize)
+        requires i { i < length self.old }
+        requires j { j < length self.old }
+        ensures swapped { self.new ≡ swap self.old i j }
+        ensures order { IsOrder self.new }
+    {
+        self.order.swap_indices(i, j);
+    }
+}

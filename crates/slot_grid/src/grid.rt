@@ -1,0 +1,91 @@
+ghost use Rattle.std.specs.Prelude.{◌≡◌, length, All, None, IfOk, vec_len};
+
+use crate::Memory;
+use std::alloc::{AllocError, Global};
+use std::marker::Model;
+
+/// The buckets of the new table (`ADDRMAN_NEW_BUCKET_COUNT` in addrman_impl.h of Bitcoin Core).
+const NEW_BUCKETS: usize = 1024;
+/// The buckets of both tables, those of the tried table (`ADDRMAN_TRIED_BUCKET_COUNT`) last.
+const BUCKETS: usize = NEW_BUCKETS + 256;
+/// The slots of a bucket (`ADDRMAN_BUCKET_SIZE`).
+const SLOTS: usize = 64;
+
+/// The slots of the new and of the tried table: which record, by its id, stands in each. An id is
+/// any number. Only `make` takes memory.
+#[derive(Drop)]
+pub struct Grid {
+    ids: Vec<Option<usize>>,
+}
+
+impl Model for Grid {
+    ghost use Rattle.std.specs.Prelude.{◌≡◌, length};
+    ghost use Rattle.slot_grid.specs.Slots.{Slots};
+
+    ghost Value = { Slots };
+
+    ghost view = { λ g. g.ids.items };
+
+    ghost invariant = { λ g. length g.ids.items ≡ 81920 };
+}
+
+impl Grid {
+    ghost use Rattle.std.specs.Prelude.{◌≡◌, ◌<◌, IfOk};
+    ghost use Rattle.slot_grid.specs.Slots.{new_id, tried_id, AreEmpty, SameNew, SameTried, OtherNew, OtherTried};
+
+    /// All slots empty.
+    pub fn make(alloc: Global) -> Result<Grid, Memory>
+        ensures { IfOk result AreEmpty }
+    {
+        let ids = empty_slots(alloc, BUCKETS * SLOTS)?;
+        Ok(Grid { ids })
+    }
+
+    /// The record in a slot of the new table: buckets count to 1024, and slots to 64.
+    pub fn new_at(&self, bucket: u16, slot: u8) -> Option<usize>
+        requires bucket { bucket < 1024 }
+        requires slot { slot < 64 }
+        ensures { result ≡ new_id self.now bucket slot }
+    {
+        self.ids[usize::from(bucket) * SLOTS + usize::from(slot)]
+    }
+
+    /// Puts a record into a slot of the new table, or with None empties it.
+    pub fn set_new(&mut self, bucket: u16, slot: u8, id: Option<usize>)
+        requires bucket { bucket < 1024 }
+        requires slot { slot < 64 }
+        ensures written { new_id self.new bucket slot ≡ id }
+        ensures others { OtherNew self.old self.new bucket slot }
+        ensures tried { SameTried self.old self.new }
+    {
+        self.ids[usize::from(bucket) * SLOTS + usize::from(slot)] = id;
+    }
+
+    /// The record in a slot of the tried table: buckets count to 256, and slots to 64.
+    pub fn tried_at(&self, bucket: u16, slot: u8) -> Option<usize>
+        requires bucket { bucket < 256 }
+        requires slot { slot < 64 }
+        ensures { result ≡ tried_id self.now bucket slot }
+    {
+        self.ids[(NEW_BUCKETS + usize::from(bucket)) * SLOTS + usize::from(slot)]
+    }
+
+    /// Puts a record into a slot of the tried table, or with None empties it.
+    pub fn set_tried(&mut self, bucket: u16, slot: u8, id: Option<usize>)
+        requires bucket { bucket < 256 }
+        requires slot { slot < 64 }
+        ensures written { tried_id self.new bucket slot ≡ id }
+        ensures others { OtherTried self.old self.new bucket slot }
+        ensures new { SameNew self.old self.new }
+    {
+        self.ids[(NEW_BUCKETS + usize::from(bucket)) * SLOTS + usize::from(slot)] = id;
+    }
+}
+
+/// So many slots with nothing in them.
+fn empty_slots(alloc: Global, count: usize) -> Result<Vec<Option<usize>>, AllocError>
+    ensures length { IfOk result (λ v. vec_len v ≡ count) }
+    ensures empty { IfOk result (λ v. All (λ id. id ≡ None) v.items) }
+{
+    vec![in alloc; None; count]
+}
