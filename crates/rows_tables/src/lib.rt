@@ -1,0 +1,21 @@
+//! Tests of the slots and of the order of records, against plain lists that are seen to be right.
+#![tactic(auto)]
+
+#[cfg(test)]
+mod entry;
+#[cfg(test)]
+mod four_classes;
+#[cfg(test)]
+mod grids;
+#[cfg(test)]
+mod large_order;
+#[cfg(test)]
+mod little_memory;
+#[cfg(test)]
+mod orders;
+#[cfg(test)]
+mod plain_grid;
+#[cfg(test)]
+mod plain_index;
+#[cfg(test)]
+mod samples;
