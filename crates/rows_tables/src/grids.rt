@@ -7,7 +7,7 @@ use std::process::Abort;
 use std::test::Fail;
 
 /// How many writes the walk makes.
-const WRITES: u32 = 2_500;
+const WRITES: u32 = 2_000;
 /// How many slots it writes to.
 const SLOTS: u32 = 128;
 

@@ -8,7 +8,7 @@ mod four_classes;
 #[cfg(test)]
 mod grids;
 #[cfg(test)]
-mod large_order;
+mod known_orders;
 #[cfg(test)]
 mod little_memory;
 #[cfg(test)]

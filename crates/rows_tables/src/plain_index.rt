@@ -1,4 +1,4 @@
-use crate::entry::Entry;
+use crate::entry::{Entry, put};
 use net_addr::Peer;
 use peer_rec::Rec;
 use std::alloc::{AllocError, Global};
@@ -19,7 +19,8 @@ impl Model for PlainIndex {
 }
 
 impl PlainIndex {
-    ghost use Rattle.std.specs.Prelude.{◌≡◌, ◌<◌, length, [], Some, IsSome, OnOk, OnErr, swap, slice_get, option_copied};
+    ghost use Rattle.std.specs.Prelude.{◌≡◌, ◌<◌, length, [], Some, IsSome, OnOk, OnErr, swap, slice_get, position, option_copied};
+    ghost use Rattle.net_addr.specs.Same.{same_peer};
     ghost use Rattle.peer_index.specs.Order.{id_of, rec_of, ids, with_last, with_rec, without};
 
     /// No records.
@@ -67,9 +68,7 @@ impl PlainIndex {
         ensures { self.new ≡ with_rec self.old id rec.now }
     {
         for entry in self.entries.iter_mut() {
-            if entry.id == id {
-                entry.rec = rec.copy();
-            }
+            put(entry, id, rec);
         }
     }
 
@@ -82,11 +81,18 @@ impl PlainIndex {
         Ok(())
     }
 
+    // The place of the peer's record.
+    fn place_of(&self, peer: &Peer) -> Option<usize>
+        ensures { result ≡ position (λ e. same_peer peer.now e.rec.peer) self.now }
+    {
+        self.entries.iter().position(|e| *peer == e.rec.peer)
+    }
+
     /// Takes the peer's record out. The last of the order takes its place.
     pub fn remove(&mut self, peer: &Peer)
         ensures { self.new ≡ without self.old peer.now }
     {
-        if let Some(place) = self.entries.iter().position(|e| *peer == e.rec.peer) {
+        if let Some(place) = self.place_of(peer) {
             let _ = self.entries.swap_remove(place);
         }
     }
