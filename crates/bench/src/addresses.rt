@@ -1,3 +1,8 @@
+use net_addr::{NetAddr, Peer};
+
+/// What is added to the state for each word.
+const STEP: u64 = 0x9E37_79B9_7F4A_7C15;
+
 /// Addresses to look up. The words they are made of are those of SplitMix64, by Steele, Lea and Flood.
 #[derive(Debug, Drop)]
 pub(crate) struct Addresses {
@@ -10,9 +15,16 @@ impl Addresses {
         Addresses { state }
     }
 
+    /// Those that are left after so many words.
+    pub fn from_place(seed: u64, words: u64) -> Addresses {
+        Addresses {
+            state: seed.wrapping_add(words.wrapping_mul(STEP)),
+        }
+    }
+
     /// The next word.
     fn next_word(&mut self) -> u64 {
-        self.state = self.state.wrapping_add(0x9E37_79B9_7F4A_7C15);
+        self.state = self.state.wrapping_add(STEP);
         let mut word = self.state;
         word = (word ^ (word >> 30)).wrapping_mul(0xBF58_476D_1CE4_E5B9);
         word = (word ^ (word >> 27)).wrapping_mul(0x94D0_49BB_1331_11EB);
@@ -23,6 +35,16 @@ impl Addresses {
     pub fn next_ipv4(&mut self) -> u128 {
         let low = self.next_word() >> 32;
         0xFFFF_0000_0000 | u128::from(low)
+    }
+
+    /// Some IPv4 address and port.
+    pub fn next_peer(&mut self) -> Peer {
+        let word = self.next_word();
+        let address = (word >> 32) as u32;
+        Peer {
+            addr: NetAddr::ipv4(address.to_be_bytes()),
+            port: (word % 65_536) as u16,
+        }
     }
 
     /// Some address of 2000::/3, the global unicast addresses of RFC 4291.

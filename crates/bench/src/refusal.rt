@@ -11,6 +11,10 @@ pub(crate) enum Refusal {
     NotLoaded,
     /// The file is that of no sane tree.
     Insane,
+    /// There are too many records, or two of one peer.
+    NotAdded,
+    /// There is no memory for the records or the slots.
+    NoMemory,
     /// The output failed.
     NotPrinted,
 }
@@ -20,10 +24,14 @@ impl Refusal {
     pub fn text(self) -> &'static str {
         match self {
             Refusal::NoWords => "the words cannot be read",
-            Refusal::Usage => "usage: bench asmap LOOKUPS, or bench check TIMES",
+            Refusal::Usage => {
+                "usage: bench asmap LOOKUPS, check TIMES, tables RECORDS, or index-adds, index-finds or index-removes with RECORDS TIMES"
+            }
             Refusal::NoAsmap => "asmap.dat is missing",
             Refusal::NotLoaded => "asmap.dat cannot be loaded",
             Refusal::Insane => "asmap.dat is insane",
+            Refusal::NotAdded => "too many records, or two of one peer",
+            Refusal::NoMemory => "out of memory",
             Refusal::NotPrinted => "output cannot be written",
         }
     }
