@@ -1,15 +1,18 @@
--- How an index keeps the order: the records in a slab under their ids, and beside it the peers in order, each with the
+-- How an index keeps the order, which no public clause cites: the records in a slab under their ids, and beside it the peers in order, each with the
 -- id of its record.
-use Rattle.std.specs.Prelude.{◌≡◌, ◌≢◌, ℕ, List, [], ◌∷◌, map, length, All, AllPairs, unwrap_or, IsSomeAnd}
-use Rattle.slab.specs.Slab.{Slab, get, slab_len}
+use Rattle.std.specs.Prelude.{◌≡◌, ℕ, List, map, unwrap_or, Some, IsSomeAnd}
+use Rattle.std.specs.List.{IsDistinct}
+use Rattle.std.specs.Map.{lookup, keys_of}
+use Rattle.slab.specs.Slab.{Slab, get}
+use Rattle.net_addr.specs.Same.{same_peer}
 use Rattle.net_addr.specs.declared.peer.Peer.{Peer}
 use Rattle.peer_rec.specs.declared.rec.Rec.{Rec}
 use Rattle.peer_rec.specs.declared.place.Place.TheVariants.{Tried}
-use Rattle.peer_index.specs.Order.{Listed, Order}
+use Rattle.peer_index.specs.Order.{Item, Order}
 
 -- what would stand for a record that is missing, which none is
-abbrev pub blank : Peer → Rec
-blank peer = record {
+abbrev pub blank_record : Peer → Rec
+blank_record peer = record {
   number = 0;
   peer = peer;
   source = peer.addr;
@@ -23,15 +26,15 @@ blank peer = record {
 }
 
 -- a peer's record and its id
-abbrev pub listed : Slab Rec → Peer × ℕ → Listed
-listed recs entry = record { id = entry.1; rec = unwrap_or (get recs entry.1) (blank entry.0) }
+abbrev pub item_of : Slab Rec → Peer × ℕ → Item
+item_of recs entry = record { id = entry.1; rec = unwrap_or (get recs entry.1) (blank_record entry.0) }
 
 abbrev pub order_of : Slab Rec → List (Peer × ℕ) → Order
-order_of recs entries = map (listed recs) entries
+order_of recs entries = map (item_of recs) entries
 
--- each peer's id leads to its record, no two have one, and the slab has no record besides
+-- no peer stands twice, each peer's id leads to its record, and each record of the slab stands in the order
 pub record IsKept (recs : Slab Rec) (entries : List (Peer × ℕ)) : Type 0 where
-  pub found : All (λ e. IsSomeAnd (get recs e.1) (λ r. r.peer ≡ e.0)) entries
-  pub ids : AllPairs (λ e f. e.1 ≢ f.1) entries
-  pub peers : AllPairs (λ e f. e.0 ≢ f.0) entries
-  pub all : slab_len recs ≡ length entries
+  pub found : (peer : Peer) (id : ℕ) → lookup (same_peer peer) entries ≡ Some id →
+      IsSomeAnd (get recs id) (λ r. r.peer ≡ peer)
+  pub peers : IsDistinct same_peer (keys_of entries)
+  pub stored : (id : ℕ) (rec : Rec) → get recs id ≡ Some rec → lookup (same_peer rec.peer) entries ≡ Some id

@@ -1,18 +1,19 @@
 -- The order of the records of the tables, from which samples are drawn: a list of records, each with its id (`vRandom`
--- in addrman_impl.h of Bitcoin Core, which has the ids alone, with `mapInfo` and `mapAddr` for the records).
-use Rattle.std.specs.Prelude.{◌≢◌, ℕ, ◌++◌, ◌==◌, List, [], ◌∷◌, map, find, position, swap_remove, AllPairs, Option, if◌then◌else◌}
+-- in addrman_impl.h of Bitcoin Core, which has the ids alone, with `mapInfo` for their records and `mapAddr` for the id
+-- of an address).
+use Rattle.std.specs.Prelude.{◌≡◌, ◌≢◌, ℕ, ◌++◌, ◌==◌, List, [], ◌∷◌, map, find, position, swap_remove, AllPairs, Option, if◌then◌else◌}
 use Rattle.std.specs.Option.{option_map, option_map_or}
 use Rattle.net_addr.specs.Same.{same_peer}
 use Rattle.net_addr.specs.declared.peer.Peer.{Peer}
 use Rattle.peer_rec.specs.declared.rec.Rec.{Rec}
 
 -- a record and its id
-pub record Listed : Type 0 where
+pub record Item : Type 0 where
   pub id : ℕ
   pub rec : Rec
 
 abbrev pub Order : Type 0
-Order = List Listed
+Order = List Item
 
 -- no two records have one id, and no two have one peer
 pub record IsOrder (order : Order) : Type 0 where
@@ -27,17 +28,29 @@ id_of order peer = option_map (λ l. l.id) (find (λ l. same_peer peer l.rec.pee
 abbrev pub rec_of : Order → ℕ → Option Rec
 rec_of order id = option_map (λ l. l.rec) (find (λ l. l.id == id) order)
 
+-- each other id leads to the record that it led to
+abbrev pub SameOthers : Order → Order → ℕ → Type 0
+SameOthers old new id = (other : ℕ) → other ≢ id → rec_of new other ≡ rec_of old other
+
 -- the ids in their order
 abbrev pub ids : Order → List ℕ
 ids order = map (λ l. l.id) order
+
+-- the records in their order
+abbrev pub recs : Order → List Rec
+recs order = map (λ l. l.rec) order
 
 -- the order with a record put last
 abbrev pub with_last : Order → ℕ → Rec → Order
 with_last order id rec = order ++ record { id = id; rec = rec } ∷ []
 
+-- the item, with another record where it has the id
+abbrev pub with_own_rec : ℕ → Rec → Item → Item
+with_own_rec id rec l = if l.id == id then record { id = id; rec = rec } else l
+
 -- the order with another record under the id
 abbrev pub with_rec : Order → ℕ → Rec → Order
-with_rec order id rec = map (λ l. if l.id == id then record l { rec = rec } else l) order
+with_rec order id rec = map (with_own_rec id rec) order
 
 -- the last takes the place of another, and the order is one shorter
 abbrev pub without_place : Order → ℕ → Order
@@ -47,4 +60,4 @@ without_place (l ∷ order) place = swap_remove (l ∷ order) place l
 -- the order without the peer's record (`AddrManImpl::Delete`)
 abbrev pub without : Order → Peer → Order
 without order peer =
-    option_map_or (without_place order) order (position (λ l. same_peer peer l.rec.peer) order)
+    option_map_or (without_place order) (position (λ l. same_peer peer l.rec.peer) order) order

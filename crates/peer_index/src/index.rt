@@ -32,8 +32,9 @@ impl<H: BuildHasher> Model for PeerIndex<H> {
 }
 
 impl<H: BuildHasher> PeerIndex<H> {
-    ghost use Rattle.std.specs.Prelude.{◌≡◌, ◌<◌, ◌^◌, length, [], None, Some, IsSome, IsSomeAnd, IfOk, OnErr, swap, slice_get};
-    ghost use Rattle.peer_index.specs.Order.{IsOrder, id_of, rec_of, ids, with_last, with_rec, without};
+    ghost use Rattle.std.specs.Prelude.{◌≡◌, ℕ, ◌<◌, ◌^◌, length, [], None, Some, IsSome, IfSome, IsSomeAnd, IfOk, OnErr, swap, slice_get};
+    ghost use Rattle.std.specs.Option.{ForSome};
+    ghost use Rattle.peer_index.specs.Order.{IsOrder, SameOthers, id_of, rec_of, ids, recs, with_last, with_rec, without};
 
     /// No records.
     pub fn make(alloc: Global, hasher: H) -> PeerIndex<H>
@@ -53,9 +54,10 @@ impl<H: BuildHasher> PeerIndex<H> {
         self.order.len()
     }
 
-    /// The id of the peer's record.
+    /// The id of the peer's record, None where there is none.
     pub fn find(&self, peer: &Peer) -> Option<usize>
         ensures found { result ≡ id_of self.now peer.now }
+        ensures live { IfSome result (λ id. IsSomeAnd (rec_of self.now id) (λ r. r.peer ≡ peer.now)) }
         ensures order { IsOrder self.now }
     {
         self.order.get(peer).copied()
@@ -72,8 +74,11 @@ impl<H: BuildHasher> PeerIndex<H> {
 
     /// Puts another record of the same peer under an id.
     pub fn set(&mut self, id: usize, rec: Rec)
-        requires { IsSomeAnd (rec_of self.old id) (λ r. r.peer ≡ rec.peer) }
+        requires live { IsSome (rec_of self.old id) }
+        requires peer { ForSome (rec_of self.old id) (λ r. r.peer ≡ rec.peer) }
         ensures set { self.new ≡ with_rec self.old id rec }
+        ensures stored { rec_of self.new id ≡ Some rec }
+        ensures others { SameOthers self.old self.new id }
         ensures order { IsOrder self.new }
     {
         if let Some(stored) = self.recs.get_mut(id) {
@@ -88,6 +93,8 @@ impl<H: BuildHasher> PeerIndex<H> {
         requires absent { id_of self.old rec.peer ≡ None }
         ensures added { IfOk result (λ id. self.new ≡ with_last self.old id rec) }
         ensures fresh { IfOk result (λ id. rec_of self.old id ≡ None) }
+        ensures stored { IfOk result (λ id. rec_of self.new id ≡ Some rec) }
+        ensures others { IfOk result (SameOthers self.old self.new) }
         ensures order { IsOrder self.new }
         ensures err { OnErr result (self.new ≡ self.old) }
     {
@@ -106,6 +113,8 @@ impl<H: BuildHasher> PeerIndex<H> {
     pub fn remove(&mut self, peer: &Peer)
         requires { IsSome (id_of self.old peer.now) }
         ensures removed { self.new ≡ without self.old peer.now }
+        ensures gone { IfSome (id_of self.old peer.now) (λ id. rec_of self.new id ≡ None) }
+        ensures others { IfSome (id_of self.old peer.now) (SameOthers self.old self.new) }
         ensures order { IsOrder self.new }
     {
         if let Some(id) = self.order.swap_remove(peer) {
@@ -117,6 +126,7 @@ impl<H: BuildHasher> PeerIndex<H> {
     pub fn at(&self, place: usize) -> usize
         requires { place < length self.now }
         ensures found { slice_get (ids self.now) place ≡ Some result }
+        ensures rec { rec_of self.now result ≡ slice_get (recs self.now) place }
         ensures order { IsOrder self.now }
     {
         self.order[place]
@@ -127,6 +137,7 @@ impl<H: BuildHasher> PeerIndex<H> {
         requires i { i < length self.old }
         requires j { j < length self.old }
         ensures swapped { self.new ≡ swap self.old i j }
+        ensures ids { (id : ℕ) → rec_of self.new id ≡ rec_of self.old id }
         ensures order { IsOrder self.new }
     {
         self.order.swap_indices(i, j);

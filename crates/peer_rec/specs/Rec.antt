@@ -45,9 +45,9 @@ pub record IsRec (r : Rec) : Type 0 where
   pub attempts : r.attempts ≤ 2147483647
   pub place : IsPlace r.place
 
--- A record that is not worth keeping (`AddrInfo::IsTerrible`): not one tried in the last minute, but one seen more
--- than ten minutes ahead, one not seen for thirty days, one that failed three times and never succeeded, and one
--- that failed ten times with no success for a week.
+-- A record that is not worth keeping (`AddrInfo::IsTerrible`): never one tried in the last minute or ahead of the clock,
+-- but one seen more than ten minutes ahead, one not seen for more than thirty days, one that failed three times or more
+-- and never succeeded, and one that failed ten times or more with no success for more than a week.
 abbrev pub is_terrible : Rec → ℕ → Bool
 is_terrible r now =
     not (nat_le now (r.last_try + 60)) && (
@@ -56,11 +56,11 @@ is_terrible r now =
     (r.last_success == 0 && nat_le 3 r.attempts) ||
     (nat_lt (r.last_success + 604800) now && nat_le 10 r.attempts))
 
--- How likely a record is to be picked (`AddrInfo::GetChance`), here in whole parts of 2^30, each time rounded down: 66
--- in 100 for each try since the last success, of which eight count at most, and of that a hundredth for one tried in the
--- last ten minutes.
+-- How likely a record is to be picked (`AddrInfo::GetChance`), here in parts of 2^30: 66 in 100 to the power of the
+-- tries since the last success, of which eight count at most, rounded down once; and of that a hundredth, rounded down
+-- again, for one tried less than ten minutes ago.
 abbrev pub chance : Rec → ℕ → ℕ
 chance r now =
     let tries = min r.attempts 8 in
-    let parts = 2 ^ 30 * 66 ^ tries / 100 ^ tries in
+    let parts = (2 ^ 30 * 66 ^ tries) / 100 ^ tries in
     if nat_lt now (r.last_try + 600) then parts / 100 else parts

@@ -1,4 +1,4 @@
-ghost use Rattle.std.specs.Prelude.{◌≡◌, ◌∷◌, []};
+ghost use Rattle.std.specs.Prelude.{◌≡◌, ◌≤◌, ◌∷◌, [], length};
 
 use arrayvec::ArrayVec;
 use std::marker::Model;
@@ -18,6 +18,7 @@ impl Model for Buckets {
 }
 
 impl Buckets {
+    /// The buckets of a list of at most eight.
     pub fn of(items: ArrayVec<u16, 8>) -> Buckets
         ensures { result ≡ items.items }
     {
@@ -33,8 +34,10 @@ impl Buckets {
         Buckets::of(items)
     }
 
+    /// The buckets as a slice.
     pub fn items(&self) -> &[u16]
-        ensures { result.now ≡ self.now }
+        ensures items { result.now ≡ self.now }
+        ensures few { length self.now ≤ 8 }
     {
         self.items.as_slice()
     }

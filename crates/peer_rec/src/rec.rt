@@ -7,7 +7,8 @@ use net_addr::{NetAddr, Peer};
 const LAST_MINUTE: u64 = 60;
 /// Seconds that a time may lie ahead of the clock.
 const AHEAD: u64 = 600;
-/// Seconds after which a peer that was not seen is forgotten (`ADDRMAN_HORIZON` in addrman.h).
+/// Seconds after which a peer that was not seen is forgotten (`ADDRMAN_HORIZON` in addrman.cpp of
+/// Bitcoin Core).
 const HORIZON: u64 = 2_592_000;
 /// Failures of a peer that never succeeded (`ADDRMAN_RETRIES`).
 const RETRIES: u32 = 3;
@@ -59,7 +60,9 @@ impl Rec {
             place: self.place.copy(),
         }
     }
-    /// Whether the record is not worth keeping at this time (`AddrInfo::IsTerrible`).
+
+    /// Whether the record is not worth keeping at a time, in seconds since 1970
+    /// (`AddrInfo::IsTerrible`).
     pub fn terrible(&self, now: u32) -> bool
         ensures { result ≡ is_terrible self.now now }
     {
@@ -73,8 +76,8 @@ impl Rec {
             || (u64::from(self.last_success) + MIN_FAIL < now && self.attempts >= MAX_FAILURES)
     }
 
-    /// How likely the record is to be picked at this time, in parts of 2^30
-    /// (`AddrInfo::GetChance`, there a fraction).
+    /// How likely the record is to be picked at a time, in seconds since 1970. The chance is in
+    /// parts of 2^30 (`AddrInfo::GetChance`, there a fraction).
     pub fn chance(&self, now: u32) -> u64
         ensures { result ≡ chance self.now now }
     {
@@ -87,9 +90,9 @@ impl Rec {
     }
 }
 
-// What so many tries leave of 2^30 parts, each of the first eight 66 in 100.
+// What so many tries leave of 2^30 parts, each of the first eight 66 in 100, rounded down once.
 fn parts_after(attempts: u32) -> u64
-    ensures { let tries = min attempts 8 in result ≡ 2 ^ 30 * 66 ^ tries / 100 ^ tries }
+    ensures { let tries = min attempts 8 in result ≡ (2 ^ 30 * 66 ^ tries) / 100 ^ tries }
 {
     match attempts {
         0 => 1_073_741_824,

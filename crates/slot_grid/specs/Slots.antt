@@ -28,11 +28,11 @@ abbrev pub SameTried : Slots → Slots → Type 0
 SameTried old new = (bucket slot : ℕ) → bucket < 256 → slot < 64 → tried_id new bucket slot ≡ tried_id old bucket slot
 
 -- each other slot of the new table has what it had
-abbrev pub OtherNew : Slots → Slots → ℕ → ℕ → Type 0
-OtherNew old new at_bucket at_slot = (bucket slot : ℕ) → bucket < 1024 → slot < 64 →
+abbrev pub SameOtherNew : Slots → Slots → ℕ → ℕ → Type 0
+SameOtherNew old new at_bucket at_slot = (bucket slot : ℕ) → bucket < 1024 → slot < 64 →
     (bucket ≢ at_bucket) ⊎ (slot ≢ at_slot) → new_id new bucket slot ≡ new_id old bucket slot
 
 -- each other slot of the tried table has what it had
-abbrev pub OtherTried : Slots → Slots → ℕ → ℕ → Type 0
-OtherTried old new at_bucket at_slot = (bucket slot : ℕ) → bucket < 256 → slot < 64 →
+abbrev pub SameOtherTried : Slots → Slots → ℕ → ℕ → Type 0
+SameOtherTried old new at_bucket at_slot = (bucket slot : ℕ) → bucket < 256 → slot < 64 →
     (bucket ≢ at_bucket) ⊎ (slot ≢ at_slot) → tried_id new bucket slot ≡ tried_id old bucket slot

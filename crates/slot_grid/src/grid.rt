@@ -1,4 +1,4 @@
-ghost use Rattle.std.specs.Prelude.{◌≡◌, length, All, None, IfOk, vec_len};
+ghost use Rattle.std.specs.Prelude.{◌≡◌, All, None, IfOk, vec_len};
 
 use crate::Memory;
 use std::alloc::{AllocError, Global};
@@ -31,7 +31,7 @@ impl Model for Grid {
 
 impl Grid {
     ghost use Rattle.std.specs.Prelude.{◌≡◌, ◌<◌, IfOk};
-    ghost use Rattle.slot_grid.specs.Slots.{new_id, tried_id, AreEmpty, SameNew, SameTried, OtherNew, OtherTried};
+    ghost use Rattle.slot_grid.specs.Slots.{new_id, tried_id, AreEmpty, SameNew, SameTried, SameOtherNew, SameOtherTried};
 
     /// All slots empty.
     pub fn make(alloc: Global) -> Result<Grid, Memory>
@@ -41,7 +41,8 @@ impl Grid {
         Ok(Grid { ids })
     }
 
-    /// The record in a slot of the new table: buckets count to 1024, and slots to 64.
+    /// The record in a slot of the new table, None where it is empty. The bucket is below 1024 and
+    /// the slot below 64.
     pub fn new_at(&self, bucket: u16, slot: u8) -> Option<usize>
         requires bucket { bucket < 1024 }
         requires slot { slot < 64 }
@@ -55,13 +56,14 @@ impl Grid {
         requires bucket { bucket < 1024 }
         requires slot { slot < 64 }
         ensures written { new_id self.new bucket slot ≡ id }
-        ensures others { OtherNew self.old self.new bucket slot }
+        ensures others { SameOtherNew self.old self.new bucket slot }
         ensures tried { SameTried self.old self.new }
     {
         self.ids[usize::from(bucket) * SLOTS + usize::from(slot)] = id;
     }
 
-    /// The record in a slot of the tried table: buckets count to 256, and slots to 64.
+    /// The record in a slot of the tried table, None where it is empty. The bucket is below 256 and
+    /// the slot below 64.
     pub fn tried_at(&self, bucket: u16, slot: u8) -> Option<usize>
         requires bucket { bucket < 256 }
         requires slot { slot < 64 }
@@ -75,7 +77,7 @@ impl Grid {
         requires bucket { bucket < 256 }
         requires slot { slot < 64 }
         ensures written { tried_id self.new bucket slot ≡ id }
-        ensures others { OtherTried self.old self.new bucket slot }
+        ensures others { SameOtherTried self.old self.new bucket slot }
         ensures new { SameNew self.old self.new }
     {
         self.ids[(NEW_BUCKETS + usize::from(bucket)) * SLOTS + usize::from(slot)] = id;
