@@ -69,7 +69,7 @@ impl<H: BuildHasher> PeerIndex<H> {
         ensures found { rec_of self.now id ≡ Some result.now }
         ensures order { IsOrder self.now }
     {
-        self.recs.get(id).unwrap()
+        &self.recs[id]
     }
 
     /// Puts another record of the same peer under an id.
@@ -81,9 +81,7 @@ impl<H: BuildHasher> PeerIndex<H> {
         ensures others { SameOthers self.old self.new id }
         ensures order { IsOrder self.new }
     {
-        if let Some(stored) = self.recs.get_mut(id) {
-            *stored = rec;
-        }
+        self.recs[id] = rec;
     }
 
     /// Puts the record of a new peer last, and gives its id. Where there is no memory, nothing
@@ -103,7 +101,7 @@ impl<H: BuildHasher> PeerIndex<H> {
         match self.order.insert(peer, id) {
             Ok(_) => Ok(id),
             Err(_) => {
-                let _ = self.recs.try_remove(id);
+                let _ = self.recs.remove(id);
                 Err(Memory)
             }
         }
@@ -117,9 +115,8 @@ impl<H: BuildHasher> PeerIndex<H> {
         ensures others { IfSome (id_of self.old peer.now) (SameOthers self.old self.new) }
         ensures order { IsOrder self.new }
     {
-        if let Some(id) = self.order.swap_remove(peer) {
-            let _ = self.recs.try_remove(id);
-        }
+        let id = self.order.swap_remove(peer).unwrap();
+        let _ = self.recs.remove(id);
     }
 
     /// The id of the record at a place of the order.
