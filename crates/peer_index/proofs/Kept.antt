@@ -1,7 +1,6 @@
 -- What a slab of records beside a map of ids stands for, and what each change of the two leaves.
-use Rattle.std.proofs.Common.{◌≡◌, ◌≢◌, ◌⊎◌, ℕ, zero, suc, ◌+◌, ◌<◌, Bool, true, false, cond, List, [], ◌∷◌, ◌++◌, length, get_or, map, Option, Some, None, refl, sym, ap, subst, ◌∙◌, inl, inr, arith, true≢false, ◌==◌, if◌then◌else◌}
-use Rattle.std.specs.Prelude.{find, All, AllPairs, IsSomeAnd, unwrap_or, slice_get, position, swap, nat_lt, not, IfSome, IsSome, is_some, option_copied}
-use Rattle.std.specs.Bool.{Decides}
+use Rattle.std.proofs.Common.{◌≡◌, ◌≢◌, ℕ, zero, suc, ◌+◌, ◌<◌, Bool, true, false, cond, List, [], ◌∷◌, ◌++◌, length, get_or, Option, Some, None, refl, sym, ap, subst, ◌∙◌, inl, inr, arith, true≢false, ◌==◌, if◌then◌else◌}
+use Rattle.std.specs.Prelude.{find, All, IsSomeAnd, unwrap_or, slice_get, position, swap, nat_lt, not, IfSome, IsSome, is_some, option_copied}
 use Rattle.std.specs.Borrow.{Bor}
 use Rattle.std.specs.Cmp.{IsEquivalence}
 use Rattle.std.specs.List.{IsDistinct, position_or_len}
@@ -22,7 +21,7 @@ use Rattle.slab.specs.Slab.{Slab, get, ContainsKey, Updates}
 use Rattle.net_addr.specs.Same.{same_peer, same_peer-Decides}
 use Rattle.net_addr.specs.declared.peer.Peer.{Peer}
 use Rattle.peer_rec.specs.declared.rec.Rec.{Rec}
-use Rattle.peer_index.specs.Order.{Item, Order, IsOrder, id_of, rec_of, ids, recs, with_last, with_rec, with_own_rec, without, without_place}
+use Rattle.peer_index.specs.Order.{Item, Order, IsOrder, id_of, rec_of, ids, recs, with_last, with_rec, without, without_place}
 use Rattle.peer_index.specs.Inside.{blank_record, item_of, order_of, IsKept}
 
 -- `==` of peers is an equivalence

@@ -115,8 +115,8 @@ impl<H: BuildHasher> PeerIndex<H> {
         ensures others { IfSome (id_of self.old peer.now) (SameOthers self.old self.new) }
         ensures order { IsOrder self.new }
     {
-        let id = self.order.swap_remove(peer).unwrap();
-        let _ = self.recs.remove(id);
+        let gone = self.order.swap_remove(peer).unwrap();
+        self.recs.remove(gone);
     }
 
     /// The id of the record at a place of the order.

@@ -1,4 +1,4 @@
-use Rattle.std.proofs.Common.{◌≡◌, ◌∙◌, ℕ, None, Some, ap, sym, subst}
+use Rattle.std.proofs.Common.{◌≡◌, ◌∙◌, None, Some, ap, sym, subst}
 use Rattle.peer_index.specs.Inside.{order_of, IsKept}
 use Rattle.peer_index.specs.Order.{IsOrder, with_last}
 use Rattle.indexmap.proofs.CallerLemmas.{insert_entry-new}

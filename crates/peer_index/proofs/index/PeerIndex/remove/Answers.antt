@@ -8,23 +8,23 @@ use Rattle.peer_index.proofs.Kept.{IsOrder-order_of, IsKept-remove, order_of-rem
 use Rattle.peer_index.proofs.index.PeerIndex.remove.Given as given
 use Rattle.peer_index.proofs.index.PeerIndex.remove.Goals as goal
 
-pub unwrap-id-requires : goal.unwrap-id-requires
-unwrap-id-requires g c =
+pub unwrap-gone-requires : goal.unwrap-gone-requires
+unwrap-gone-requires g c =
     ap is_some (c.swap_remove.ensures.value ∙ sym (id_of-value c.self.inside.recs c.self.inside.order.entries c.args.self.now c.self.view_is c.self.invariant c.args.peer.now))
     ∙ c.requires
 
 pub remove-requires : goal.remove-requires
 remove-requires g c =
-    ContainsKey-from_lookup c.self.inside.recs c.self.inside.order.entries c.args.peer.now c.unwrap-id.result c.self.invariant
-    (sym c.swap_remove.ensures.value ∙ c.unwrap-id.ensures)
+    ContainsKey-from_lookup c.self.inside.recs c.self.inside.order.entries c.args.peer.now c.unwrap-gone.result c.self.invariant
+    (sym c.swap_remove.ensures.value ∙ c.unwrap-gone.ensures)
 
 -- the id that the map had for the peer
-found : (g : given.Over) (c : goal.After-remove g) → lookup (same_peer c.args.peer.now) c.self.inside.order.entries ≡ Some c.unwrap-id.result
-found g c = sym c.swap_remove.ensures.value ∙ c.unwrap-id.ensures
+found : (g : given.Over) (c : goal.After-remove g) → lookup (same_peer c.args.peer.now) c.self.inside.order.entries ≡ Some c.unwrap-gone.result
+found g c = sym c.swap_remove.ensures.value ∙ c.unwrap-gone.ensures
 
 kept : (g : given.Over) (c : goal.After-remove g) → IsKept c.remove.new.self c.swap_remove.new.self.entries
 kept g c =
-    IsKept-remove c.self.inside.recs c.remove.new.self c.self.inside.order.entries c.swap_remove.new.self.entries c.unwrap-id.result c.args.peer.now
+    IsKept-remove c.self.inside.recs c.remove.new.self c.self.inside.order.entries c.swap_remove.new.self.entries c.unwrap-gone.result c.args.peer.now
     c.self.invariant c.remove.ensures.updates (found g c) c.swap_remove.ensures.unique c.swap_remove.ensures.updates.0
 
 pub invariant_of-self : goal.invariant_of-self
@@ -34,14 +34,14 @@ pub returns-clause-removed : goal.returns-clause-removed
 returns-clause-removed g c =
     let left = subst (λ es. IsKept c.remove.new.self es) c.swap_remove.ensures.entries (kept g c) in
     ap (order_of c.remove.new.self) c.swap_remove.ensures.entries
-    ∙ order_of-remove c.self.inside.recs c.remove.new.self c.self.inside.order.entries c.unwrap-id.result c.args.peer.now c.self.invariant c.remove.ensures.updates left
+    ∙ order_of-remove c.self.inside.recs c.remove.new.self c.self.inside.order.entries c.unwrap-gone.result c.args.peer.now c.self.invariant c.remove.ensures.updates left
     ∙ ap (λ o. without o c.args.peer.now) c.self.view_is
 
 pub returns-clause-gone : goal.returns-clause-gone
 returns-clause-gone g c =
     let at = id_of-value c.self.inside.recs c.self.inside.order.entries c.args.self.now c.self.view_is c.self.invariant c.args.peer.now ∙ found g c in
     subst (λ o. IfSome o (λ id. rec_of (order_of c.remove.new.self c.swap_remove.new.self.entries) id ≡ None)) (sym at)
-    (rec_of-order_of c.remove.new.self c.swap_remove.new.self.entries (kept g c) c.unwrap-id.result ∙ c.remove.ensures.updates.changed)
+    (rec_of-order_of c.remove.new.self c.swap_remove.new.self.entries (kept g c) c.unwrap-gone.result ∙ c.remove.ensures.updates.changed)
 
 pub returns-clause-others : goal.returns-clause-others
 returns-clause-others g c =
