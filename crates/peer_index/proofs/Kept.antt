@@ -21,7 +21,7 @@ use Rattle.slab.specs.Slab.{Slab, get, ContainsKey, Updates}
 use Rattle.net_addr.specs.Same.{same_peer, same_peer-Decides}
 use Rattle.net_addr.specs.declared.peer.Peer.{Peer}
 use Rattle.peer_rec.specs.declared.rec.Rec.{Rec}
-use Rattle.peer_index.specs.Order.{Item, Order, IsOrder, id_of, rec_of, ids, recs, with_last, with_rec, without, without_place}
+use Rattle.peer_index.specs.Order.{Item, Order, IsOrder, id_of, rec_of, ids, records, with_last, with_rec, without, without_place}
 use Rattle.peer_index.specs.Inside.{blank_record, item_of, order_of, IsKept}
 
 -- `==` of peers is an equivalence
@@ -95,6 +95,10 @@ module _ (recs : Slab Rec) (es : List (Peer × ℕ)) (kept : IsKept recs es) whe
         ap (λ l. l.rec.peer) (at_item j d inside) ∙ peer-item_of recs f (HasRec-each recs es kept j _ inside) in
         distinct_peers i j (d.rec.peer, d.id) before inside (sym first ∙ same ∙ second);
   }
+
+-- the same of a map with the same entries
+pub IsOrder-entries : (recs : Slab Rec) (es fs : List (Peer × ℕ)) → fs ≡ es → IsKept recs es → IsOrder (order_of recs fs)
+IsOrder-entries recs es fs same kept = subst (λ ds. IsOrder (order_of recs ds)) (sym same) (IsOrder-order_of recs es kept)
 
 -- a look-up of the map is a search of the order by peer
 pub id_of-order_of : (recs : Slab Rec) (es : List (Peer × ℕ)) (peer : Peer) → All (HasRec recs) es → id_of (order_of recs es) peer ≡ lookup (same_peer peer) es
@@ -367,17 +371,17 @@ ids-order_of recs [] = refl
 ids-order_of recs (e ∷ es) = ap (λ ns. e.1 ∷ ns) (ids-order_of recs es)
 
 -- the id at a place leads to the record at the place
-pub rec_of-place : (order : Order) (place id : ℕ) → IsOrder order → slice_get (ids order) place ≡ Some id → rec_of order id ≡ slice_get (recs order) place
+pub rec_of-place : (order : Order) (place id : ℕ) → IsOrder order → slice_get (ids order) place ≡ Some id → rec_of order id ≡ slice_get (records order) place
 rec_of-place [] place id sound at = absurd (cc)
 rec_of-place (l ∷ order) place id sound at =
     let within : place < length (l ∷ order) = simp length-map at (slice_get_within (ids (l ∷ order)) place id at) in
     let here : (get_or (l ∷ order) place l).id ≡ id =
     sym (get_or-map (λ m. m.id) (l ∷ order) place l l.id within) ∙ get_or_from_slice_get (ids (l ∷ order)) place id l.id at in
     let found = rec_of-at (l ∷ order) place l (λ j before. sound.ids j place l before within) within in
-    let inside : place < length (recs (l ∷ order)) = simp length-map within in
+    let inside : place < length (records (l ∷ order)) = simp length-map within in
     ap (rec_of (l ∷ order)) (sym here) ∙ found
     ∙ ap Some (sym (get_or-map (λ m. m.rec) (l ∷ order) place l l.rec within))
-    ∙ sym (slice_get-get_or (recs (l ∷ order)) place l.rec inside)
+    ∙ sym (slice_get-get_or (records (l ∷ order)) place l.rec inside)
 
 -- the same ids in another order keep the same records
 pub IsKept-reordered : (slab : Slab Rec) (es fs : List (Peer × ℕ)) → IsDistinct same_peer (keys_of fs) → ((q : Peer) → lookup (same_peer q) fs ≡ lookup (same_peer q) es)

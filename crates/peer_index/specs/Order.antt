@@ -37,8 +37,8 @@ abbrev pub ids : Order → List ℕ
 ids order = map (λ l. l.id) order
 
 -- the records in their order
-abbrev pub recs : Order → List Rec
-recs order = map (λ l. l.rec) order
+abbrev pub records : Order → List Rec
+records order = map (λ l. l.rec) order
 
 -- the order with a record put last
 abbrev pub with_last : Order → ℕ → Rec → Order

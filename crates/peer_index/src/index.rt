@@ -34,7 +34,7 @@ impl<H: BuildHasher> Model for PeerIndex<H> {
 impl<H: BuildHasher> PeerIndex<H> {
     ghost use Rattle.std.specs.Prelude.{◌≡◌, ℕ, ◌<◌, ◌^◌, length, [], None, Some, IsSome, IfSome, IsSomeAnd, IfOk, OnErr, swap, slice_get};
     ghost use Rattle.std.specs.Option.{ForSome};
-    ghost use Rattle.peer_index.specs.Order.{IsOrder, SameOthers, id_of, rec_of, ids, recs, with_last, with_rec, without};
+    ghost use Rattle.peer_index.specs.Order.{IsOrder, SameOthers, id_of, rec_of, ids, records, with_last, with_rec, without};
 
     /// No records.
     pub fn make(alloc: Global, hasher: H) -> PeerIndex<H>
@@ -123,7 +123,7 @@ impl<H: BuildHasher> PeerIndex<H> {
     pub fn at(&self, place: usize) -> usize
         requires { place < length self.now }
         ensures found { slice_get (ids self.now) place ≡ Some result }
-        ensures rec { rec_of self.now result ≡ slice_get (recs self.now) place }
+        ensures rec { rec_of self.now result ≡ slice_get (records self.now) place }
         ensures order { IsOrder self.now }
     {
         self.order[place]

@@ -2,7 +2,7 @@
 -- occupied only because a record says so.
 use Rattle.std.specs.Prelude.{ℕ, List, [], Bool, ◌&&◌, ◌==◌, Option, find}
 use Rattle.std.specs.List.{list_any}
-use Rattle.net_addr.specs.Same.{same_address}
+use Rattle.net_addr.specs.Same.{same_peer}
 use Rattle.net_addr.specs.declared.peer.Peer.{Peer}
 use Rattle.placing.specs.Places.{Places, new_slot, tried_bucket, tried_slot}
 use Rattle.peer_rec.specs.Rec.{buckets_of, is_tried}
@@ -32,13 +32,9 @@ empty_state places = record {
   next_number = 0;
 }
 
--- the same address and the same port
-abbrev pub same_peer : Peer → Peer → Bool
-same_peer p q = same_address p.addr q.addr && p.port == q.port
-
 -- the peer's record
 abbrev pub find_peer : State → Peer → Option Rec
-find_peer st peer = find (λ r. same_peer r.peer peer) st.records
+find_peer st peer = find (λ r. same_peer peer r.peer) st.records
 
 abbrev pub numbered : State → ℕ → Option Rec
 numbered st number = find (λ r. r.number == number) st.records

@@ -1,22 +1,16 @@
 ghost use Rattle.std.specs.Prelude.{◌≡◌, option_copied, find};
-ghost use Rattle.table_machine.specs.State.{same_peer, is_new_at};
+ghost use Rattle.net_addr.specs.Same.{same_peer};
+ghost use Rattle.table_machine.specs.State.{is_new_at};
 
 use net_addr::Peer;
 use peer_rec::{Place, Rec};
 use placing::Placer;
 
-/// Whether two peers have one address and one port.
-pub(crate) fn is_same_peer(a: &Peer, b: &Peer) -> bool
-    ensures { result ≡ same_peer a.now b.now }
-{
-    a.addr == b.addr && a.port == b.port
-}
-
 /// The record of the peer.
 pub(crate) fn record_of<'a>(records: &'a [Rec], peer: &Peer) -> Option<&'a Rec>
-    ensures { option_copied result ≡ find (λ r. same_peer r.peer peer.now) records.now }
+    ensures { option_copied result ≡ find (λ r. same_peer peer.now r.peer) records.now }
 {
-    records.iter().find(|r| is_same_peer(&r.peer, peer))
+    records.iter().find(|r| *peer == r.peer)
 }
 
 /// Whether the record is listed in the new table's bucket, with its peer's slot at this one.

@@ -1,11 +1,11 @@
-use Rattle.std.proofs.Common.{◌≡◌, ◌∙◌, None, Some, ap, sym, subst}
+use Rattle.std.proofs.Common.{◌≡◌, ◌∙◌, None, Some, ap, sym}
 use Rattle.peer_index.specs.Inside.{order_of, IsKept}
-use Rattle.peer_index.specs.Order.{IsOrder, with_last}
+use Rattle.peer_index.specs.Order.{with_last}
 use Rattle.indexmap.proofs.CallerLemmas.{insert_entry-new}
 use Rattle.std.specs.Map.{lookup}
 use Rattle.net_addr.specs.Same.{same_peer}
 use Rattle.slab.specs.Slab.{get}
-use Rattle.peer_index.proofs.Kept.{IsOrder-order_of, IsKept-same, IsKept-add, order_of-add, rec_of-order_of, rec_of-value, id_of-value, taken_back}
+use Rattle.peer_index.proofs.Kept.{IsOrder-order_of, IsOrder-entries, IsKept-same, IsKept-add, order_of-add, rec_of-order_of, rec_of-value, id_of-value, taken_back}
 use Rattle.peer_index.proofs.index.PeerIndex.add.Given as given
 use Rattle.peer_index.proofs.index.PeerIndex.add.Goals as goal
 
@@ -52,4 +52,4 @@ pub returns-in-Err-clause-order : goal.returns-in-Err-clause-order
 returns-in-Err-clause-order g c =
     let same = taken_back c.self.inside.recs c.insert.new.self c.remove.new.self c.in_ok-id.id (Some c.args.rec) c.in_ok-id.ensures.was_vacant c.in_ok-id.ensures.updates c.remove.ensures.updates in
     let kept = IsKept-same c.self.inside.recs c.remove.new.self c.self.inside.order.entries same c.self.invariant in
-    subst (λ es. IsOrder (order_of c.remove.new.self es)) (sym c.in-Err.ensures.err) (IsOrder-order_of c.remove.new.self c.self.inside.order.entries kept)
+    IsOrder-entries c.remove.new.self c.self.inside.order.entries c.insert-2.new.self.entries c.in-Err.ensures.err kept
