@@ -2,7 +2,7 @@
 use Rattle.std.proofs.Common.{◌≡◌, ℕ, ◌+◌, ◌<◌, List, [], ◌∷◌, ◌++◌, length, take, drop, refl, sym, ap, ◌∙◌, subst, append_assoc, arith}
 use Rattle.std.specs.Prelude.{Option, Some, None, IfSome, Result, Ok, Err, OnOk, OnErr, true, false}
 use Rattle.std.specs.Result.{is_err}
-use Rattle.std.proofs.lemmas.List.{length-append, append-nil, take-append-drop}
+use Rattle.std.proofs.lemmas.List.{length-append, length-drop, append-nil, take-append-drop}
 use Rattle.std.proofs.Math.Seq.{take-append_seam}
 use Rattle.log_lines.specs.Lines.{lines_of}
 use Rattle.table_machine.specs.State.{State}
@@ -74,20 +74,20 @@ pub wrote : (old new : Option (List ℕ)) (P : List ℕ → Type 0) (text : List
 wrote old new P text told holds = if_some old _ (λ before e. (text, told before e, holds))
 
 -- the reply to one more line is written in part
-pub wrote_part : (old mid new : Option (List ℕ)) (P : List ℕ → Type 0) (text reply : List ℕ) → ((n : ℕ) → P (text ++ take n reply)) →
+pub wrote_part : (old mid new : Option (List ℕ)) (P : List ℕ → Type 0) (text reply : List ℕ) → ((n : ℕ) → n < length reply → P (text ++ take n reply)) →
     ((before : List ℕ) → old ≡ Some before → mid ≡ Some (before ++ text)) →
     IfSome mid (λ b. (n : ℕ) × (n < length reply) × (new ≡ Some (b ++ take n reply))) →
     IfSome old (λ before. (x : List ℕ) × (new ≡ Some (before ++ x)) × P x)
 wrote_part old mid new P text reply fronts told part = if_some old _ (λ before e. part_of before (subst (λ o. IfSome o (λ b. (n : ℕ) × (n < length reply) × (new ≡ Some (b ++ take n reply)))) (told before e) part))
   where
     part_of : (before : List ℕ) → (n : ℕ) × (n < length reply) × (new ≡ Some ((before ++ text) ++ take n reply)) → (x : List ℕ) × (new ≡ Some (before ++ x)) × P x
-    part_of before p = (text ++ take p.0 reply, p.2 ∙ ap Some (append_assoc before text (take p.0 reply)), fronts p.0)
+    part_of before p = (text ++ take p.0 reply, p.2 ∙ ap Some (append_assoc before text (take p.0 reply)), fronts p.0 p.1)
 
 -- the replies so far and a front of the next
 pub front_of_next : (start now next : State) (log rest line after : List ℕ) (answered : ℕ) (text reply : List ℕ) →
     SoFar start now log rest answered text → lines_of rest ≡ line ∷ lines_of after → LineStep now line reply next →
-    (n : ℕ) → AnswersFront start log (text ++ take n reply)
-front_of_next start now next log rest line after answered text reply s first step n =
+    (n : ℕ) → n < length reply → AnswersFront start log (text ++ take n reply)
+front_of_next start now next log rest line after answered text reply s first step n short =
     front_answered start next log after (answered + 1) (text ++ reply) (one_more start now next log rest line after answered text reply s first step)
     (text ++ take n reply) (drop n reply)
     (ap (λ r. text ++ r) (sym (take-append-drop n reply)) ∙ sym (append_assoc text (take n reply) (drop n reply)))
@@ -95,8 +95,8 @@ front_of_next start now next log rest line after answered text reply s first ste
 -- a run that stops in the reply to the next line
 pub stops_in_reply : (start now next : State) (log rest line after : List ℕ) (answered : ℕ) (text reply : List ℕ) →
     SoFar start now log rest answered text → lines_of rest ≡ line ∷ lines_of after → LineStep now line reply next →
-    (n : ℕ) → StopsInReply start log (text ++ take n reply) next
-stops_in_reply start now next log rest line after answered text reply s first step n = (
+    (n : ℕ) → n < length reply → StopsInReply start log (text ++ take n reply) next
+stops_in_reply start now next log rest line after answered text reply s first step n short = (
   line,
   s.lines,
   lines_of after,
@@ -108,6 +108,7 @@ stops_in_reply start now next log rest line after answered text reply s first st
   s.run,
   subst (λ r. LineStep now line r next) (sym (take-append-drop n reply)) step,
   refl,
+  λ none. omega (arith, length-drop n reply, ap length none),
 )
 
 pub on_err : {A E : Type 0} (r : Result A E) (P : Type 0) → is_err r ≡ true → OnErr r P → P

@@ -1,5 +1,5 @@
 -- What a replay is asked for, and what it writes.
-use Rattle.std.specs.Prelude.{◌≡◌, ℕ, List, [], ◌∷◌, ◌++◌, length, take, Ok, None, codes, ◌+◌}
+use Rattle.std.specs.Prelude.{◌≡◌, ◌≢◌, ℕ, List, [], ◌∷◌, ◌++◌, length, take, Ok, None, codes, ◌+◌}
 use Rattle.hex.specs.Hex.{decode_of}
 use Rattle.log_lines.specs.Lines.{lines_of}
 use Rattle.table_machine.specs.State.{State, empty_state}
@@ -29,8 +29,8 @@ AnswersUpTo start log n text =
     (line : List ℕ) × (before : List (List ℕ)) × (after : List (List ℕ)) × (end : State) ×
     (lines_of log ≡ before ++ line ∷ after) × (n ≡ length before + 1) × Run start before text end × IsNotBuilt end line
 
--- the replies to the lines before one are written whole, and of its own a front or all; the state is that after it, so no later line has changed it
+-- the replies to the lines before one are written whole, and of its own a front that lacks some; the state is that after it, so no later line has changed it
 abbrev pub StopsInReply : State → List ℕ → List ℕ → State → Type 0
 StopsInReply start log text now =
     (line : List ℕ) × (before : List (List ℕ)) × (after : List (List ℕ)) × (mid : State) × (whole : List ℕ) × (front : List ℕ) × (rest : List ℕ) ×
-    (lines_of log ≡ before ++ line ∷ after) × Run start before whole mid × LineStep mid line (front ++ rest) now × (text ≡ whole ++ front)
+    (lines_of log ≡ before ++ line ∷ after) × Run start before whole mid × LineStep mid line (front ++ rest) now × (text ≡ whole ++ front) × (rest ≢ [])
