@@ -22,17 +22,22 @@ const STEP: u64 = 7_919;
 pub(crate) enum Kind {
     /// So many times an index is made and filled.
     Adds,
-    /// An index is made and filled once, and so many times each record is found.
+    /// An index is made and filled once, and so many times some of its records are found.
     Finds,
-    /// So many times an index is made and filled, and each record is removed.
+    /// So many times an index is made and filled, and some of its records are removed.
     Removes,
+    /// An index is made and filled once, and so many times some of its records are removed and
+    /// added again.
+    Turns,
 }
 
-/// Work on an index: how many records it has, and how often the work is done.
+/// Work on an index: how many records it has, how many of them are found or removed, and how often
+/// the work is done.
 #[derive(Clone, Copy, Debug, PartialEq, Eq)]
 pub(crate) struct IndexWork {
     pub kind: Kind,
     pub records: u32,
+    pub some: u32,
     pub times: u64,
 }
 
@@ -40,29 +45,99 @@ impl IndexWork {
     /// Does the work, and gives a sum of what was found.
     pub fn run(self, alloc: Global) -> Result<u64, Refusal> {
         match self.kind {
-            Kind::Adds => fill_often(alloc, self.records, self.times),
-            Kind::Finds => find_often(&filled(alloc, self.records)?, self.records, self.times),
-            Kind::Removes => empty_often(alloc, self.records, self.times),
+            Kind::Adds => self.fill_often(alloc),
+            Kind::Finds => self.find_often(alloc),
+            Kind::Removes => self.remove_often(alloc),
+            Kind::Turns => self.turn_often(alloc),
         }
+    }
+
+    // The peer of the record that comes at a turn.
+    fn peer(self, turn: u32) -> Peer {
+        peer_of(number_at(turn, self.records))
+    }
+
+    // The sum of the sizes of as many indexes as are made and filled.
+    fn fill_often(self, alloc: Global) -> Result<u64, Refusal> {
+        let mut sum: u64 = 0;
+        for _ in 0..self.times {
+            sum = sum.wrapping_add(filled(alloc, self.records)?.len() as u64);
+        }
+        Ok(sum)
+    }
+
+    // The sum of the ids of some records.
+    fn find_some(self, index: &Index) -> u64 {
+        let mut sum: u64 = 0;
+        for turn in 0..self.some {
+            if let Some(id) = index.find(&self.peer(turn)) {
+                sum = sum.wrapping_add(id as u64);
+            }
+        }
+        sum
+    }
+
+    // That sum, so many times.
+    fn find_often(self, alloc: Global) -> Result<u64, Refusal> {
+        let index = filled(alloc, self.records)?;
+        let mut sum: u64 = 0;
+        for _ in 0..self.times {
+            sum = sum.wrapping_add(self.find_some(&index));
+        }
+        Ok(sum)
+    }
+
+    // Removes some records.
+    fn remove_some(self, index: &mut Index) {
+        for turn in 0..self.some {
+            let peer = self.peer(turn);
+            if index.find(&peer).is_some() {
+                index.remove(&peer);
+            }
+        }
+    }
+
+    // The sum of the records that are left where so many indexes are filled and some of their
+    // records removed.
+    fn remove_often(self, alloc: Global) -> Result<u64, Refusal> {
+        let mut sum: u64 = 0;
+        for _ in 0..self.times {
+            let mut index = filled(alloc, self.records)?;
+            self.remove_some(&mut index);
+            sum = sum.wrapping_add(index.len() as u64);
+        }
+        Ok(sum)
+    }
+
+    // Removes some records so many times, and adds them again. Gives the size of the index.
+    fn turn_often(self, alloc: Global) -> Result<u64, Refusal> {
+        let mut index = filled(alloc, self.records)?;
+        for _ in 0..self.times {
+            self.remove_some(&mut index);
+            for turn in 0..self.some {
+                add(&mut index, number_at(turn, self.records))?;
+            }
+        }
+        Ok(index.len() as u64)
     }
 }
 
-// The peer of the record at a place.
-fn peer_at(place: u64) -> Peer {
-    Addresses::from_place(1, place).next_peer()
+// The peer of the record of a number.
+fn peer_of(number: u64) -> Peer {
+    Addresses::from_place(1, number).next_peer()
 }
 
-// The place of the record that comes at a turn.
-fn place_at(turn: u32, records: u32) -> u64 {
+// The number of the record that comes at a turn.
+fn number_at(turn: u32, records: u32) -> u64 {
     u64::from(turn) * STEP % u64::from(records).max(1)
 }
 
 // A record of the peer.
-fn record(number: u32, peer: Peer) -> Rec
+fn record(number: u64, peer: Peer) -> Rec
     ensures { result.peer ≡ peer }
 {
     Rec {
-        number: u64::from(number),
+        number,
         peer,
         source: peer.addr,
         time: 0,
@@ -75,9 +150,9 @@ fn record(number: u32, peer: Peer) -> Rec
     }
 }
 
-// Puts a record into the index. Its peer has to be new.
-fn add(index: &mut Index, number: u32) -> Result<(), Refusal> {
-    let peer = peer_at(u64::from(number));
+// Puts the record of a number into the index. Its peer has to be new.
+fn add(index: &mut Index, number: u64) -> Result<(), Refusal> {
+    let peer = peer_of(number);
     if index.len() >= MOST_RECORDS || index.find(&peer).is_some() {
         return Err(Refusal::NotAdded);
     }
@@ -91,57 +166,7 @@ fn add(index: &mut Index, number: u32) -> Result<(), Refusal> {
 pub(crate) fn filled(alloc: Global, records: u32) -> Result<Index, Refusal> {
     let mut index = PeerIndex::make(alloc, BuildHasherDefault::new());
     for number in 0..records {
-        add(&mut index, number)?;
+        add(&mut index, u64::from(number))?;
     }
     Ok(index)
-}
-
-// The sum of the sizes of as many indexes as are made and filled.
-fn fill_often(alloc: Global, records: u32, times: u64) -> Result<u64, Refusal> {
-    let mut sum: u64 = 0;
-    for _ in 0..times {
-        sum = sum.wrapping_add(filled(alloc, records)?.len() as u64);
-    }
-    Ok(sum)
-}
-
-// The sum of the ids of all records.
-fn find_all(index: &Index, records: u32) -> u64 {
-    let mut sum: u64 = 0;
-    for turn in 0..records {
-        if let Some(id) = index.find(&peer_at(place_at(turn, records))) {
-            sum = sum.wrapping_add(id as u64);
-        }
-    }
-    sum
-}
-
-// That sum, so many times.
-fn find_often(index: &Index, records: u32, times: u64) -> Result<u64, Refusal> {
-    let mut sum: u64 = 0;
-    for _ in 0..times {
-        sum = sum.wrapping_add(find_all(index, records));
-    }
-    Ok(sum)
-}
-
-// Removes all records.
-fn remove_all(index: &mut Index, records: u32) {
-    for turn in 0..records {
-        let peer = peer_at(place_at(turn, records));
-        if index.find(&peer).is_some() {
-            index.remove(&peer);
-        }
-    }
-}
-
-// Fills and empties an index so many times. Gives the sum of the records that are left.
-fn empty_often(alloc: Global, records: u32, times: u64) -> Result<u64, Refusal> {
-    let mut sum: u64 = 0;
-    for _ in 0..times {
-        let mut index = filled(alloc, records)?;
-        remove_all(&mut index, records);
-        sum = sum.wrapping_add(index.len() as u64);
-    }
-    Ok(sum)
 }

@@ -24,9 +24,8 @@ impl Refusal {
     pub fn text(self) -> &'static str {
         match self {
             Refusal::NoWords => "the words cannot be read",
-            Refusal::Usage => {
-                "usage: bench asmap LOOKUPS, check TIMES, tables RECORDS, or index-adds, index-finds or index-removes with RECORDS TIMES"
-            }
+            Refusal::Usage =>
+                "usage: bench asmap N, check TIMES, tables N, index-adds N TIMES, index-removes N TIMES, index-finds N SOME TIMES, or index-turns N SOME TIMES",
             Refusal::NoAsmap => "asmap.dat is missing",
             Refusal::NotLoaded => "asmap.dat cannot be loaded",
             Refusal::Insane => "asmap.dat is insane",

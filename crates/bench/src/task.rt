@@ -23,19 +23,9 @@ fn records_of(word: &String) -> Result<u32, Refusal> {
     word.as_str().parse::<u32>().map_err(|_| Refusal::Usage)
 }
 
-// The kind of work on an index that a word names.
-fn kind_of(word: &str) -> Result<Kind, Refusal> {
-    match word {
-        "index-adds" => Ok(Kind::Adds),
-        "index-finds" => Ok(Kind::Finds),
-        "index-removes" => Ok(Kind::Removes),
-        _ => Err(Refusal::Usage),
-    }
-}
-
 impl Task {
     /// The task that the words name: `asmap N`, `check N`, `tables N`, `index-adds N TIMES`,
-    /// `index-finds N TIMES` or `index-removes N TIMES`.
+    /// `index-removes N TIMES`, `index-finds N SOME TIMES` or `index-turns N SOME TIMES`.
     pub fn of(words: &[String]) -> Result<Task, Refusal> {
         match words {
             [command, count] => match command.as_str() {
@@ -44,12 +34,36 @@ impl Task {
                 "tables" => Ok(Task::Tables(records_of(count)?)),
                 _ => Err(Refusal::Usage),
             },
-            [command, records, times] => Ok(Task::Index(IndexWork {
-                kind: kind_of(command.as_str())?,
-                records: records_of(records)?,
-                times: number(times)?,
-            })),
+            [command, records, times] => {
+                let records = records_of(records)?;
+                let kind = match command.as_str() {
+                    "index-adds" => Kind::Adds,
+                    "index-removes" => Kind::Removes,
+                    _ => return Err(Refusal::Usage),
+                };
+                Ok(Task::on_index(kind, records, records, number(times)?))
+            }
+            [command, records, some, times] => {
+                let kind = match command.as_str() {
+                    "index-finds" => Kind::Finds,
+                    "index-turns" => Kind::Turns,
+                    _ => return Err(Refusal::Usage),
+                };
+                let records = records_of(records)?;
+                let some = records_of(some)?;
+                Ok(Task::on_index(kind, records, some, number(times)?))
+            }
             _ => Err(Refusal::Usage),
         }
+    }
+
+    // Work on an index.
+    fn on_index(kind: Kind, records: u32, some: u32, times: u64) -> Task {
+        Task::Index(IndexWork {
+            kind,
+            records,
+            some,
+            times,
+        })
     }
 }
