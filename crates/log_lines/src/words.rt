@@ -1,30 +1,36 @@
-ghost use Rattle.std.specs.Prelude.{◌≡◌};
+ghost use Rattle.std.specs.Prelude.{◌≡◌, ◌<◌, ◌^◌, length};
 
 use std::marker::Model;
 
-/// Random 64-bit words that a line hands in.
+/// Random 64-bit words that a line hands in, fewer than 2^32.
 #[derive(Drop)]
 pub struct Words {
     items: Vec<u64>,
 }
 
 impl Model for Words {
-    ghost use Rattle.std.specs.Prelude.{ℕ, List};
+    ghost use Rattle.std.specs.Prelude.{ℕ, ◌<◌, ◌^◌, List, length};
 
     ghost Value = { List ℕ };
 
     ghost view = { λ w. w.items.items };
+
+    ghost invariant = { λ w. length w.items.items < 2 ^ 32 };
 }
 
 impl Words {
+    /// The words of a vector. Takes no memory.
     pub fn of(items: Vec<u64>) -> Words
+        requires { length items.items < 2 ^ 32 }
         ensures { result ≡ items.items }
     {
         Words { items }
     }
 
+    /// The words as a slice.
     pub fn items(&self) -> &[u64]
-        ensures { result.now ≡ self.now }
+        ensures items { result.now ≡ self.now }
+        ensures few { length self.now < 2 ^ 32 }
     {
         &self.items
     }
