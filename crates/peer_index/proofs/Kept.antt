@@ -419,3 +419,7 @@ ContainsKey-from_lookup recs es peer id kept at = by (get recs id) (kept.found p
     by : (o : Option Rec) → IsSomeAnd o (λ r. r.peer ≡ peer) → IsSome o
     by None h = absurd h
     by (Some r) h = refl
+
+-- the order is as long as the map
+pub length-order_of : (recs : Slab Rec) (es : List (Peer × ℕ)) → length (order_of recs es) ≡ length es
+length-order_of recs es = length-map es (item_of recs)

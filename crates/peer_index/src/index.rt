@@ -32,7 +32,7 @@ impl<H: BuildHasher> Model for PeerIndex<H> {
 }
 
 impl<H: BuildHasher> PeerIndex<H> {
-    ghost use Rattle.std.specs.Prelude.{◌≡◌, ℕ, ◌<◌, ◌^◌, length, [], None, Some, IsSome, IfSome, IsSomeAnd, IfOk, OnErr, swap, slice_get};
+    ghost use Rattle.std.specs.Prelude.{◌≡◌, ℕ, ◌+◌, ◌<◌, ◌^◌, length, [], None, Some, IsSome, IfSome, IsSomeAnd, IfOk, OnErr, swap, slice_get};
     ghost use Rattle.std.specs.Option.{ForSome};
     ghost use Rattle.peer_index.specs.Order.{IsOrder, SameOthers, id_of, rec_of, ids, records, with_last, with_rec, without};
 
@@ -111,6 +111,7 @@ impl<H: BuildHasher> PeerIndex<H> {
     pub fn remove(&mut self, peer: &Peer)
         requires { IsSome (id_of self.old peer.now) }
         ensures removed { self.new ≡ without self.old peer.now }
+        ensures shorter { length self.new + 1 ≡ length self.old }
         ensures gone { IfSome (id_of self.old peer.now) (λ id. rec_of self.new id ≡ None) }
         ensures others { IfSome (id_of self.old peer.now) (SameOthers self.old self.new) }
         ensures order { IsOrder self.new }

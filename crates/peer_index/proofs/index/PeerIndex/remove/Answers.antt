@@ -1,10 +1,10 @@
-use Rattle.std.proofs.Common.{◌≡◌, ◌∙◌, Some, None, is_some, ap, sym, subst}
+use Rattle.std.proofs.Common.{◌≡◌, ◌∙◌, ◌+◌, length, if◌then◌else◌, Some, None, is_some, ap, sym, subst}
 use Rattle.std.specs.Prelude.{IfSome}
 use Rattle.std.specs.Map.{lookup}
 use Rattle.net_addr.specs.Same.{same_peer}
 use Rattle.peer_index.specs.Order.{SameOthers, rec_of, without}
 use Rattle.peer_index.specs.Inside.{order_of, IsKept}
-use Rattle.peer_index.proofs.Kept.{IsOrder-order_of, IsKept-remove, order_of-remove, rec_of-order_of, rec_of-value, id_of-value, ContainsKey-from_lookup}
+use Rattle.peer_index.proofs.Kept.{IsOrder-order_of, length-order_of, IsKept-remove, order_of-remove, rec_of-order_of, rec_of-value, id_of-value, ContainsKey-from_lookup}
 use Rattle.peer_index.proofs.index.PeerIndex.remove.Given as given
 use Rattle.peer_index.proofs.index.PeerIndex.remove.Goals as goal
 
@@ -36,6 +36,14 @@ returns-clause-removed g c =
     ap (order_of c.remove.new.self) c.swap_remove.ensures.entries
     ∙ order_of-remove c.self.inside.recs c.remove.new.self c.self.inside.order.entries c.unwrap-gone.result c.args.peer.now c.self.invariant c.remove.ensures.updates left
     ∙ ap (λ o. without o c.args.peer.now) c.self.view_is
+
+pub returns-clause-shorter : goal.returns-clause-shorter
+returns-clause-shorter g c =
+    ap (λ n. n + 1) (length-order_of c.remove.new.self c.swap_remove.new.self.entries)
+    ∙ ap (λ o. length c.swap_remove.new.self.entries + (if is_some o then 1 else 0)) (sym c.unwrap-gone.ensures)
+    ∙ c.swap_remove.ensures.len
+    ∙ sym (length-order_of c.self.inside.recs c.self.inside.order.entries)
+    ∙ ap length c.self.view_is
 
 pub returns-clause-gone : goal.returns-clause-gone
 returns-clause-gone g c =
