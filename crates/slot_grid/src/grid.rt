@@ -1,4 +1,4 @@
-ghost use Rattle.std.specs.Prelude.{◌≡◌, All, None, IfOk, vec_len};
+ghost use Rattle.std.specs.Prelude.{◌≡◌, ◌+◌, ◌*◌, All, None, IfOk, vec_len};
 
 use crate::Memory;
 use std::alloc::{AllocError, Global};
@@ -48,7 +48,7 @@ impl Grid {
         requires slot { slot < 64 }
         ensures { result ≡ new_id self.now bucket slot }
     {
-        self.ids[usize::from(bucket) * SLOTS + usize::from(slot)]
+        self.ids[new_place(bucket, slot)]
     }
 
     /// Puts a record into a slot of the new table, or with None empties it.
@@ -59,7 +59,8 @@ impl Grid {
         ensures others { SameOtherNew self.old self.new bucket slot }
         ensures tried { SameTried self.old self.new }
     {
-        self.ids[usize::from(bucket) * SLOTS + usize::from(slot)] = id;
+        let place = new_place(bucket, slot);
+        self.ids[place] = id;
     }
 
     /// The record in a slot of the tried table, None where it is empty. The bucket is below 256 and
@@ -69,7 +70,7 @@ impl Grid {
         requires slot { slot < 64 }
         ensures { result ≡ tried_id self.now bucket slot }
     {
-        self.ids[(NEW_BUCKETS + usize::from(bucket)) * SLOTS + usize::from(slot)]
+        self.ids[tried_place(bucket, slot)]
     }
 
     /// Puts a record into a slot of the tried table, or with None empties it.
@@ -80,11 +81,26 @@ impl Grid {
         ensures others { SameOtherTried self.old self.new bucket slot }
         ensures new { SameNew self.old self.new }
     {
-        self.ids[(NEW_BUCKETS + usize::from(bucket)) * SLOTS + usize::from(slot)] = id;
+        let place = tried_place(bucket, slot);
+        self.ids[place] = id;
     }
 }
 
-/// So many slots with nothing in them.
+// Where a slot of the new table stands among all.
+fn new_place(bucket: u16, slot: u8) -> usize
+    ensures { result ≡ 64 * bucket + slot }
+{
+    usize::from(bucket) * SLOTS + usize::from(slot)
+}
+
+// Where a slot of the tried table stands among all.
+fn tried_place(bucket: u16, slot: u8) -> usize
+    ensures { result ≡ 64 * (1024 + bucket) + slot }
+{
+    (NEW_BUCKETS + usize::from(bucket)) * SLOTS + usize::from(slot)
+}
+
+// So many slots with nothing in them.
 fn empty_slots(alloc: Global, count: usize) -> Result<Vec<Option<usize>>, AllocError>
     ensures length { IfOk result (λ v. vec_len v ≡ count) }
     ensures empty { IfOk result (λ v. All (λ id. id ≡ None) v.items) }

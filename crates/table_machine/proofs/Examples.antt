@@ -1,13 +1,10 @@
 -- Worked examples, computed over the definitions.
-use Rattle.std.proofs.Common.{◌≡◌, ℕ, ◌-◌, [], ◌∷◌, true, false, refl}
+use Rattle.std.proofs.Common.{◌≡◌, ℕ, ◌-◌, [], ◌∷◌, refl}
 use Rattle.net_addr.specs.Address.{Address}
 use Rattle.net_addr.specs.OldForm.{address}
 use Rattle.net_addr.specs.Same.{same_address}
 use Rattle.net_addr.specs.declared.net.Net.TheVariants.{Ipv4}
 use Rattle.net_addr.specs.declared.entry.Entry.{Entry}
-use Rattle.peer_rec.specs.Rec.{is_terrible}
-use Rattle.peer_rec.specs.declared.rec.Rec.{Rec}
-use Rattle.peer_rec.specs.declared.place.Place.TheVariants.{New}
 use Rattle.table_machine.specs.Entries.{lag, mended, penalty_of, with_bucket, without}
 
 abbrev dns : Address
@@ -63,31 +60,3 @@ last_moves = refl
 
 last_goes : without 4 (1 ∷ 2 ∷ 3 ∷ 4 ∷ []) ≡ 1 ∷ 2 ∷ 3 ∷ []
 last_goes = refl
-
-abbrev kept : ℕ → ℕ → ℕ → ℕ → Rec
-kept time last_success last_try attempts = record {
-  number = 0;
-  peer = record { addr = dns; port = 8333 };
-  source = teller;
-  time = time;
-  services = 1;
-  last_success = last_success;
-  last_try = last_try;
-  last_count = 0;
-  attempts = attempts;
-  place = New (87 ∷ []);
-}
-
--- thirty days without being seen, and a second more
-thirty_days : is_terrible (kept 1700000000 0 0 0) 1702592000 ≡ false
-thirty_days = refl
-
-longer : is_terrible (kept 1700000000 0 0 0) 1702592001 ≡ true
-longer = refl
-
--- three failures with no success, but not within a minute of the last try
-three_failures : is_terrible (kept 1700000000 0 1700000000 3) 1700000061 ≡ true
-three_failures = refl
-
-within_a_minute : is_terrible (kept 1700000000 0 1700000000 3) 1700000060 ≡ false
-within_a_minute = refl
