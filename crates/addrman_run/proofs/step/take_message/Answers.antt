@@ -13,7 +13,7 @@ returns-in_default-read_single-clause-not_built c = λ _ built.
 
 pub returns-in-Ok-Yes-clause-step : goal.returns-in-Ok-Yes-clause-step
 returns-in-Ok-Yes-clause-step c =
-    let one = sym c.items.ensures ∙ list_of_one c.items.result.now (omega arith) in
+    let one = sym c.items.ensures.items ∙ list_of_one c.items.result.now (omega arith) in
     let single = subst (λ bytes. IsSingleIpv4 bytes c.in-Some.entry) c.items-2.ensures c.in-Some.ensures.found in
     let mending = c.mend-entry.ensures ∙ ap (mended c.in-Some.entry) c.clock.ensures in
     one_step c.args.tables.now c.args.source.now c.args.payload.now c.args.words.now c.in-Some.entry c.mend-entry.result (get_or c.items.result.now 0 0) c.add.new.self 1
@@ -22,7 +22,7 @@ returns-in-Ok-Yes-clause-step c =
 
 pub returns-in-Ok-No-clause-step : goal.returns-in-Ok-No-clause-step
 returns-in-Ok-No-clause-step c =
-    let one = sym c.items.ensures ∙ list_of_one c.items.result.now (omega arith) in
+    let one = sym c.items.ensures.items ∙ list_of_one c.items.result.now (omega arith) in
     let single = subst (λ bytes. IsSingleIpv4 bytes c.in-Some.entry) c.items-2.ensures c.in-Some.ensures.found in
     let mending = c.mend-entry.ensures ∙ ap (mended c.in-Some.entry) c.clock.ensures in
     one_step c.args.tables.now c.args.source.now c.args.payload.now c.args.words.now c.in-Some.entry c.mend-entry.result (get_or c.items.result.now 0 0) c.add.new.self 0
