@@ -19,7 +19,7 @@ impl Model for PlainIndex {
 }
 
 impl PlainIndex {
-    ghost use Rattle.std.specs.Prelude.{◌≡◌, ◌<◌, length, [], Some, IsSome, OnOk, OnErr, swap, slice_get, position, option_copied};
+    ghost use Rattle.std.specs.Prelude.{◌≡◌, ◌<◌, length, [], Some, OnOk, OnErr, swap, slice_get, position, option_copied};
     ghost use Rattle.net_addr.specs.Same.{same_peer};
     ghost use Rattle.peer_index.specs.Order.{id_of, rec_of, ids, with_last, with_rec, without};
 
