@@ -29,7 +29,8 @@ AnswersUpTo start log n text =
     (line : List ℕ) × (before : List (List ℕ)) × (after : List (List ℕ)) × (end : State) ×
     (lines_of log ≡ before ++ line ∷ after) × (n ≡ length before + 1) × Run start before text end × IsNotBuilt end line
 
--- the replies to the lines before one are written whole, and of its own a front that lacks some; the state is that after it, so no later line has changed it
+-- The replies to the lines before one are written whole, and of its own reply a front that is not all of it. The state is
+-- that after the line, so no later line has changed it.
 abbrev pub StopsInReply : State → List ℕ → List ℕ → State → Type 0
 StopsInReply start log text now =
     (line : List ℕ) × (before : List (List ℕ)) × (after : List (List ℕ)) × (mid : State) × (whole : List ℕ) × (front : List ℕ) × (rest : List ℕ) ×

@@ -1,4 +1,4 @@
-ghost use Rattle.std.specs.Prelude.{◌≡◌, ◌<◌, ◌^◌, length};
+ghost use Rattle.std.specs.Prelude.{◌≡◌, ◌<◌, ◌^◌, length, vec_len};
 
 use std::marker::Model;
 
@@ -21,7 +21,7 @@ impl Model for Words {
 impl Words {
     /// The words of a vector. Takes no memory.
     pub fn of(items: Vec<u64>) -> Words
-        requires { length items.items < 2 ^ 32 }
+        requires { vec_len items < 2 ^ 32 }
         ensures { result ≡ items.items }
     {
         Words { items }

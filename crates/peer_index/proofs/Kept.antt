@@ -423,3 +423,17 @@ ContainsKey-from_lookup recs es peer id kept at = by (get recs id) (kept.found p
 -- the order is as long as the map
 pub length-order_of : (recs : Slab Rec) (es : List (Peer × ℕ)) → length (order_of recs es) ≡ length es
 length-order_of recs es = length-map es (item_of recs)
+
+pub id_of-kept : (recs : Slab Rec) (es : List (Peer × ℕ)) (peer : Peer) → IsKept recs es → id_of (order_of recs es) peer ≡ lookup (same_peer peer) es
+id_of-kept recs es peer kept = id_of-order_of recs es peer (HasRec-each recs es kept)
+
+-- two peers that are not one are not the same
+pub same_peer-differs : (p q : Peer) → q ≢ p → same_peer p q ≡ false
+same_peer-differs p q differs = by (same_peer p q) refl
+  where
+    by : (b : Bool) → same_peer p q ≡ b → b ≡ false
+    by true h = absurd (differs (sym ((same_peer-Decides p q).0 h)))
+    by false h = refl
+
+pub same_peer-self : (p : Peer) → same_peer p p ≡ true
+same_peer-self p = (same_peer-Decides p p).1 refl

@@ -1,5 +1,5 @@
--- How an index keeps the order, which no public clause cites: the records in a slab under their ids, and beside it the peers in order, each with the
--- id of its record.
+-- How an index keeps the order, which no public clause cites: the records in a slab under their ids, and beside it the
+-- peers in order, each with the id of its record.
 use Rattle.std.specs.Prelude.{◌≡◌, ℕ, List, map, unwrap_or, Some, IsSomeAnd}
 use Rattle.std.specs.List.{IsDistinct}
 use Rattle.std.specs.Map.{lookup, keys_of}

@@ -28,9 +28,21 @@ id_of order peer = option_map (λ l. l.id) (find (λ l. same_peer peer l.rec.pee
 abbrev pub rec_of : Order → ℕ → Option Rec
 rec_of order id = option_map (λ l. l.rec) (find (λ l. l.id == id) order)
 
--- each other id leads to the record that it led to
+-- each id leads to the record that it led to
+abbrev pub SameRecs : Order → Order → Type 0
+SameRecs old new = (id : ℕ) → rec_of new id ≡ rec_of old id
+
+-- and each other id does
 abbrev pub SameOthers : Order → Order → ℕ → Type 0
 SameOthers old new id = (other : ℕ) → other ≢ id → rec_of new other ≡ rec_of old other
+
+-- each peer's record has the id that it had
+abbrev pub SameIds : Order → Order → Type 0
+SameIds old new = (peer : Peer) → id_of new peer ≡ id_of old peer
+
+-- and each other peer's does
+abbrev pub SameOtherIds : Order → Order → Peer → Type 0
+SameOtherIds old new peer = (other : Peer) → other ≢ peer → id_of new other ≡ id_of old other
 
 -- the ids in their order
 abbrev pub ids : Order → List ℕ

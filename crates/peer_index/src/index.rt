@@ -10,7 +10,7 @@ use std::hash::BuildHasher;
 use std::marker::Model;
 
 /// The records of the tables in an order, each with an id that it keeps until it is removed. Only
-/// `add` takes memory, and each search is one look-up under the caller's hasher.
+/// `add` takes memory, and a peer is found by one look-up under the caller's hasher.
 #[derive(Drop)]
 pub struct PeerIndex<H: BuildHasher> {
     recs: Slab<Rec>,
@@ -32,9 +32,9 @@ impl<H: BuildHasher> Model for PeerIndex<H> {
 }
 
 impl<H: BuildHasher> PeerIndex<H> {
-    ghost use Rattle.std.specs.Prelude.{◌≡◌, ℕ, ◌+◌, ◌<◌, ◌^◌, length, [], None, Some, IsSome, IfSome, IsSomeAnd, IfOk, OnErr, swap, slice_get};
+    ghost use Rattle.std.specs.Prelude.{◌≡◌, ◌+◌, ◌<◌, ◌^◌, length, [], None, Some, IsSome, IfSome, IsSomeAnd, IfOk, OnOk, OnErr, swap, slice_get};
     ghost use Rattle.std.specs.Option.{ForSome};
-    ghost use Rattle.peer_index.specs.Order.{IsOrder, SameOthers, id_of, rec_of, ids, records, with_last, with_rec, without};
+    ghost use Rattle.peer_index.specs.Order.{IsOrder, SameRecs, SameOthers, SameIds, SameOtherIds, id_of, rec_of, ids, records, with_last, with_rec, without};
 
     /// No records.
     pub fn make(alloc: Global, hasher: H) -> PeerIndex<H>
@@ -79,6 +79,7 @@ impl<H: BuildHasher> PeerIndex<H> {
         ensures set { self.new ≡ with_rec self.old id rec }
         ensures stored { rec_of self.new id ≡ Some rec }
         ensures others { SameOthers self.old self.new id }
+        ensures same_ids { SameIds self.old self.new }
         ensures order { IsOrder self.new }
     {
         self.recs[id] = rec;
@@ -93,6 +94,8 @@ impl<H: BuildHasher> PeerIndex<H> {
         ensures fresh { IfOk result (λ id. rec_of self.old id ≡ None) }
         ensures stored { IfOk result (λ id. rec_of self.new id ≡ Some rec) }
         ensures others { IfOk result (SameOthers self.old self.new) }
+        ensures known { IfOk result (λ id. id_of self.new rec.peer ≡ Some id) }
+        ensures other_ids { OnOk result (SameOtherIds self.old self.new rec.peer) }
         ensures order { IsOrder self.new }
         ensures err { OnErr result (self.new ≡ self.old) }
     {
@@ -114,6 +117,8 @@ impl<H: BuildHasher> PeerIndex<H> {
         ensures shorter { length self.new + 1 ≡ length self.old }
         ensures gone { IfSome (id_of self.old peer.now) (λ id. rec_of self.new id ≡ None) }
         ensures others { IfSome (id_of self.old peer.now) (SameOthers self.old self.new) }
+        ensures absent { id_of self.new peer.now ≡ None }
+        ensures other_ids { SameOtherIds self.old self.new peer.now }
         ensures order { IsOrder self.new }
     {
         let gone = self.order.swap_remove(peer).unwrap();
@@ -135,7 +140,8 @@ impl<H: BuildHasher> PeerIndex<H> {
         requires i { i < length self.old }
         requires j { j < length self.old }
         ensures swapped { self.new ≡ swap self.old i j }
-        ensures ids { (id : ℕ) → rec_of self.new id ≡ rec_of self.old id }
+        ensures same_recs { SameRecs self.old self.new }
+        ensures same_ids { SameIds self.old self.new }
         ensures order { IsOrder self.new }
     {
         self.order.swap_indices(i, j);

@@ -10,11 +10,12 @@ const AHEAD: u64 = 600;
 /// Seconds after which a peer that was not seen is forgotten (`ADDRMAN_HORIZON` in addrman.cpp of
 /// Bitcoin Core).
 const HORIZON: u64 = 2_592_000;
-/// Failures of a peer that never succeeded (`ADDRMAN_RETRIES`).
+/// From so many tries on, a peer that never succeeded is given up (`ADDRMAN_RETRIES`).
 const RETRIES: u32 = 3;
-/// Seconds without a success (`ADDRMAN_MIN_FAIL`) in which this many failures are too many.
+/// More seconds than this without a success are too many, with as many tries as below
+/// (`ADDRMAN_MIN_FAIL`).
 const MIN_FAIL: u64 = 604_800;
-/// Those failures (`ADDRMAN_MAX_FAILURES`).
+/// So many tries (`ADDRMAN_MAX_FAILURES`).
 const MAX_FAILURES: u32 = 10;
 /// Seconds in which a try counts as recent.
 const RECENT: u64 = 600;

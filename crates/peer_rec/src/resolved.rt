@@ -4,7 +4,7 @@
 pub struct Resolved {
     /// Those that wait no more and got no slot.
     pub erased: u32,
-    /// Those that took the slot.
+    /// Those that have the slot now.
     pub moved: u32,
     /// Those that wait on.
     pub kept: u32,

@@ -10,6 +10,8 @@ mod grids;
 #[cfg(test)]
 mod known_orders;
 #[cfg(test)]
+mod last_word;
+#[cfg(test)]
 mod little_memory;
 #[cfg(test)]
 mod orders;

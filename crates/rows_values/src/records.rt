@@ -103,7 +103,7 @@ fn a_chance_falls_with_eight_tries_and_for_ten_minutes_after_one(rt: HostRuntime
 }
 
 #[test]
-fn a_record_is_terrible_from_each_bound_on(rt: HostRuntime) {
+fn each_test_of_a_terrible_record_at_its_bound(rt: HostRuntime) {
     // Time, last success, last try and tries.
     let rows = [
         // Tried a minute ago.
@@ -120,6 +120,7 @@ fn a_record_is_terrible_from_each_bound_on(rt: HostRuntime) {
         (NOW, 0, 0, 3, true),
         (NOW, 1, 0, 3, false),
         // Failed ten times, with no success for a week.
+        (NOW, NOW - 604_800, 0, 9, false),
         (NOW, NOW - 604_801, 0, 9, false),
         (NOW, NOW - 604_801, 0, 10, true),
         (NOW, NOW - 604_800, 0, 10, false),

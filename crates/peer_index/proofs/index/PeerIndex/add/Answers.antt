@@ -1,11 +1,11 @@
-use Rattle.std.proofs.Common.{◌≡◌, ◌∙◌, None, Some, ap, sym}
+use Rattle.std.proofs.Common.{◌≡◌, ◌∙◌, cond, None, Some, ap, sym}
 use Rattle.peer_index.specs.Inside.{order_of, IsKept}
 use Rattle.peer_index.specs.Order.{with_last}
 use Rattle.indexmap.proofs.CallerLemmas.{insert_entry-new}
 use Rattle.std.specs.Map.{lookup}
 use Rattle.net_addr.specs.Same.{same_peer}
 use Rattle.slab.specs.Slab.{get}
-use Rattle.peer_index.proofs.Kept.{IsOrder-order_of, IsOrder-entries, IsKept-same, IsKept-add, order_of-add, rec_of-order_of, rec_of-value, id_of-value, taken_back}
+use Rattle.peer_index.proofs.Kept.{IsOrder-order_of, IsOrder-entries, IsKept-same, IsKept-add, order_of-add, rec_of-order_of, rec_of-value, id_of-kept, id_of-value, same_peer-differs, same_peer-self, taken_back}
 use Rattle.peer_index.proofs.index.PeerIndex.add.Given as given
 use Rattle.peer_index.proofs.index.PeerIndex.add.Goals as goal
 
@@ -44,6 +44,19 @@ returns-in-Ok-clause-others g c other differs =
     rec_of-order_of c.insert.new.self c.insert-2.new.self.entries (kept g c) other
     ∙ c.in_ok-id.ensures.updates.others other differs
     ∙ sym (rec_of-value c.self.inside.recs c.self.inside.order.entries c.args.self.now c.self.view_is c.self.invariant other)
+
+pub returns-in-Ok-clause-known : goal.returns-in-Ok-clause-known
+returns-in-Ok-clause-known g c =
+    id_of-kept c.insert.new.self c.insert-2.new.self.entries c.args.rec.peer (kept g c)
+    ∙ c.in-Ok.ensures.updates.0 c.args.rec.peer
+    ∙ ap (λ b. cond b (Some c.in_ok-id.id) (lookup (same_peer c.args.rec.peer) c.self.inside.order.entries)) (same_peer-self c.args.rec.peer)
+
+pub returns-in-Ok-clause-other_ids : goal.returns-in-Ok-clause-other_ids
+returns-in-Ok-clause-other_ids g c other differs =
+    id_of-kept c.insert.new.self c.insert-2.new.self.entries other (kept g c)
+    ∙ c.in-Ok.ensures.updates.0 other
+    ∙ ap (λ b. cond b (Some c.in_ok-id.id) (lookup (same_peer other) c.self.inside.order.entries)) (same_peer-differs c.args.rec.peer other differs)
+    ∙ sym (id_of-value c.self.inside.recs c.self.inside.order.entries c.args.self.now c.self.view_is c.self.invariant other)
 
 pub returns-in-Ok-clause-order : goal.returns-in-Ok-clause-order
 returns-in-Ok-clause-order g c = IsOrder-order_of c.insert.new.self c.insert-2.new.self.entries (kept g c)

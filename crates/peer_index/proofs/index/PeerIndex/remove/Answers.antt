@@ -1,10 +1,10 @@
-use Rattle.std.proofs.Common.{◌≡◌, ◌∙◌, ◌+◌, length, if◌then◌else◌, Some, None, is_some, ap, sym, subst}
+use Rattle.std.proofs.Common.{◌≡◌, ◌∙◌, ◌+◌, cond, length, if◌then◌else◌, Some, None, is_some, ap, sym, subst}
 use Rattle.std.specs.Prelude.{IfSome}
 use Rattle.std.specs.Map.{lookup}
 use Rattle.net_addr.specs.Same.{same_peer}
 use Rattle.peer_index.specs.Order.{SameOthers, rec_of, without}
 use Rattle.peer_index.specs.Inside.{order_of, IsKept}
-use Rattle.peer_index.proofs.Kept.{IsOrder-order_of, length-order_of, IsKept-remove, order_of-remove, rec_of-order_of, rec_of-value, id_of-value, ContainsKey-from_lookup}
+use Rattle.peer_index.proofs.Kept.{IsOrder-order_of, length-order_of, IsKept-remove, order_of-remove, rec_of-order_of, rec_of-value, id_of-kept, id_of-value, same_peer-differs, ContainsKey-from_lookup}
 use Rattle.peer_index.proofs.index.PeerIndex.remove.Given as given
 use Rattle.peer_index.proofs.index.PeerIndex.remove.Goals as goal
 
@@ -59,6 +59,18 @@ returns-clause-others g c =
     rec_of-order_of c.remove.new.self c.swap_remove.new.self.entries (kept g c) other
     ∙ c.remove.ensures.updates.others other differs
     ∙ sym (rec_of-value c.self.inside.recs c.self.inside.order.entries c.args.self.now c.self.view_is c.self.invariant other))
+
+pub returns-clause-absent : goal.returns-clause-absent
+returns-clause-absent g c =
+    id_of-kept c.remove.new.self c.swap_remove.new.self.entries c.args.peer.now (kept g c)
+    ∙ c.swap_remove.ensures.updates.1
+
+pub returns-clause-other_ids : goal.returns-clause-other_ids
+returns-clause-other_ids g c other differs =
+    id_of-kept c.remove.new.self c.swap_remove.new.self.entries other (kept g c)
+    ∙ c.swap_remove.ensures.updates.0 other
+    ∙ ap (λ b. cond b None (lookup (same_peer other) c.self.inside.order.entries)) (same_peer-differs c.args.peer.now other differs)
+    ∙ sym (id_of-value c.self.inside.recs c.self.inside.order.entries c.args.self.now c.self.view_is c.self.invariant other)
 
 pub returns-clause-order : goal.returns-clause-order
 returns-clause-order g c = IsOrder-order_of c.remove.new.self c.swap_remove.new.self.entries (kept g c)

@@ -3,7 +3,7 @@ use Rattle.slab.specs.Slab.{Updates, with_value}
 use Rattle.slab.proofs.SlabLemmas.{Updates-with_value}
 use Rattle.peer_index.specs.Order.{with_rec}
 use Rattle.peer_index.specs.Inside.{IsKept}
-use Rattle.peer_index.proofs.Kept.{IsOrder-order_of, IsKept-set, order_of-set, rec_of-order_of, rec_of-value, ContainsKey-from_rec_of}
+use Rattle.peer_index.proofs.Kept.{IsOrder-order_of, IsKept-set, order_of-set, rec_of-order_of, rec_of-value, id_of-kept, id_of-value, ContainsKey-from_rec_of}
 use Rattle.peer_index.proofs.index.PeerIndex.set.Given as given
 use Rattle.peer_index.proofs.index.PeerIndex.set.Goals as goal
 
@@ -41,6 +41,11 @@ returns-clause-others g c other differs =
     rec_of-order_of (with_value c.self.inside.recs c.args.id c.args.rec) c.self.inside.order.entries (kept g c) other
     ∙ (updates g c).others other differs
     ∙ sym (rec_of-value c.self.inside.recs c.self.inside.order.entries c.args.self.now c.self.view_is c.self.invariant other)
+
+pub returns-clause-same_ids : goal.returns-clause-same_ids
+returns-clause-same_ids g c peer =
+    id_of-kept (with_value c.self.inside.recs c.args.id c.args.rec) c.self.inside.order.entries peer (kept g c)
+    ∙ sym (id_of-value c.self.inside.recs c.self.inside.order.entries c.args.self.now c.self.view_is c.self.invariant peer)
 
 pub returns-clause-order : goal.returns-clause-order
 returns-clause-order g c = IsOrder-order_of (with_value c.self.inside.recs c.args.id c.args.rec) c.self.inside.order.entries (kept g c)
