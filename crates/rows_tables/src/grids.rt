@@ -1,8 +1,9 @@
 // Each write of a grid beside the same write of a plain list.
-use crate::plain_grid::{PlainGrid, Slot, Table};
+use crate::plain_grid::PlainGrid;
 use rand_core::{Rng, SeedableRng};
 use rand_xoshiro::Xoshiro256PlusPlus;
 use slot_grid::Grid;
+use std::alloc::AllocError;
 use std::process::Abort;
 use std::test::Fail;
 
@@ -18,6 +19,21 @@ const TRIED_BUCKETS: [u16; 8] = [0, 1, 2, 63, 64, 127, 254, 255];
 
 const PLACES: [u8; 8] = [0, 1, 2, 31, 32, 61, 62, 63];
 
+// One of the two tables.
+#[derive(Clone, Copy, Debug, PartialEq, Eq)]
+enum Table {
+    New,
+    Tried,
+}
+
+// A slot of a bucket of a table.
+#[derive(Clone, Copy, Debug, PartialEq, Eq)]
+struct Slot {
+    table: Table,
+    bucket: u16,
+    place: u8,
+}
+
 // What the grid has in a slot.
 fn read(grid: &Grid, slot: Slot) -> Option<usize> {
     match slot.table {
@@ -31,6 +47,22 @@ fn write(grid: &mut Grid, slot: Slot, id: Option<usize>) {
     match slot.table {
         Table::New => grid.set_new(slot.bucket % 1024, slot.place % 64, id),
         Table::Tried => grid.set_tried(slot.bucket % 256, slot.place % 64, id),
+    }
+}
+
+// What the plain grid has in a slot.
+fn read_plain(plain: &PlainGrid, slot: Slot) -> Option<usize> {
+    match slot.table {
+        Table::New => plain.new_at(slot.bucket % 1024, slot.place % 64),
+        Table::Tried => plain.tried_at(slot.bucket % 256, slot.place % 64),
+    }
+}
+
+// Puts a record into a slot of the plain grid.
+fn write_plain(plain: &mut PlainGrid, slot: Slot, id: Option<usize>) -> Result<(), AllocError> {
+    match slot.table {
+        Table::New => plain.set_new(slot.bucket % 1024, slot.place % 64, id),
+        Table::Tried => plain.set_tried(slot.bucket % 256, slot.place % 64, id),
     }
 }
 
@@ -55,7 +87,7 @@ fn slot_of(number: u32) -> Slot {
 
 // Both have the same in a slot.
 fn assert_same_at(rt: &impl Abort, grid: &Grid, plain: &PlainGrid, slot: Slot) {
-    assert_eq!(rt; read(grid, slot), plain.at(slot), "in {slot:?}");
+    assert_eq!(rt; read(grid, slot), read_plain(plain, slot), "in {slot:?}");
 }
 
 // Both have the same in the slots that are written to.
@@ -84,7 +116,9 @@ fn assert_same_table(rt: &impl Abort, grid: &Grid, plain: &PlainGrid, table: Tab
 }
 
 #[test]
-fn after_each_write_the_slots_are_those_of_a_plain_list(rt: HostRuntime) -> Result<(), Fail> {
+fn after_each_write_the_written_slots_are_those_of_a_plain_list(
+    rt: HostRuntime,
+) -> Result<(), Fail> {
     let mut words = Xoshiro256PlusPlus::seed_from_u64(3);
     let mut grid = Grid::make(rt.alloc())?;
     let mut plain = PlainGrid::make(rt.alloc());
@@ -98,7 +132,7 @@ fn after_each_write_the_slots_are_those_of_a_plain_list(rt: HostRuntime) -> Resu
             Some(word as usize)
         };
         write(&mut grid, slot, id);
-        plain.set(slot, id)?;
+        write_plain(&mut plain, slot, id)?;
         assert_same_written(&rt, &grid, &plain);
     }
     assert_same_table(&rt, &grid, &plain, Table::New, 1024);
