@@ -1,7 +1,10 @@
-pub mod Folder
+pub mod Faults
+pub mod Files
 pub mod MemFolder
 pub mod MemSink
 pub mod MemSource
 pub mod Name
 pub mod Outside
 pub mod PerName
+pub mod Reading
+pub mod Writing

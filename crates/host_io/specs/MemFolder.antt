@@ -1,12 +1,17 @@
 -- A folder in memory: its files, and which of its calls fail.
-use Rattle.std.specs.Prelude.{◌≡◌, ℕ, List, Bool, Option, Any}
-use Rattle.host_io.specs.Outside.{raised}
-use Rattle.host_io.specs.declared.per_name.PerName.{PerName}
+use Rattle.std.specs.Prelude.{◌≡◌, ℕ, List, [], ◌∷◌, ◌++◌, Bool, Any, ◌⊎◌}
+use Rattle.host_io.specs.Faults.{raised}
+use Rattle.host_io.specs.Files.{Files}
+use Rattle.host_io.specs.declared.call.Call.{Call}
+use Rattle.host_io.specs.declared.call.Action.{Action}
 
--- The files, the calls that fail (each by its number, and whether it changes the folder all the same), the two counts, and how often memory was wanting.
+-- The files; the calls that fail, each by its number, and whether it changes the folder all the
+-- same; the calls so far; how many they were, how many of them failed, and how many of them found
+-- no memory for what they keep.
 pub record FolderState : Type 0 where
-  pub files : PerName (Option (List ℕ))
+  pub files : Files
   pub fails : List (ℕ × Bool)
+  pub history : List Call
   pub calls : ℕ
   pub faults : ℕ
   pub starved : ℕ
@@ -15,10 +20,35 @@ pub record FolderState : Type 0 where
 abbrev pub NextFails : FolderState → Type 0
 NextFails folder = Any (λ fail. fail.0 ≡ folder.calls) folder.fails
 
--- The folder after a call that only read it.
-abbrev pub folder_after_reading : FolderState → FolderState
-folder_after_reading folder = record folder { calls = raised folder.calls }
+-- The calls so far and the next one.
+abbrev pub history_with : FolderState → Action → List Call
+history_with folder action =
+    folder.history ++ record { number = folder.calls; action = action } ∷ []
+
+-- The folder after a call that changed no file.
+abbrev pub folder_after_call : FolderState → Action → FolderState
+folder_after_call folder action = record folder {
+  history = history_with folder action;
+  calls = raised folder.calls;
+}
 
 -- The folder after a call that failed and changed no file.
-abbrev pub folder_after_fault : FolderState → FolderState
-folder_after_fault folder = record folder { calls = raised folder.calls; faults = raised folder.faults }
+abbrev pub folder_after_fault : FolderState → Action → FolderState
+folder_after_fault folder action = record folder {
+  history = history_with folder action;
+  calls = raised folder.calls;
+  faults = raised folder.faults;
+}
+
+-- The folder after a call that found no memory for what it keeps. Nothing of it is recorded.
+abbrev pub folder_after_want : FolderState → FolderState
+folder_after_want folder = record folder {
+  calls = raised folder.calls;
+  faults = raised folder.faults;
+  starved = raised folder.starved;
+}
+
+-- A call fails that changes no file: as its maker chose, or out of memory.
+abbrev pub FailsWithoutChange : FolderState → Action → FolderState → Type 0
+FailsWithoutChange old action new =
+    (NextFails old × (new ≡ folder_after_fault old action)) ⊎ (new ≡ folder_after_want old)

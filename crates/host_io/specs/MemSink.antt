@@ -1,8 +1,9 @@
 -- A sink in memory: the bytes that it keeps, and which of its calls fail.
 use Rattle.std.specs.Prelude.{ℕ, List, ◌++◌}
-use Rattle.host_io.specs.Outside.{raised}
+use Rattle.host_io.specs.Faults.{raised}
 
--- The bytes kept, the numbers of the calls that fail, the two counts, and how often memory was wanting.
+-- The bytes kept; the numbers of the calls that fail; how many calls there were, how many of them
+-- failed, and how many of them found no memory for their piece.
 pub record SinkState : Type 0 where
   pub bytes : List ℕ
   pub fails : List ℕ

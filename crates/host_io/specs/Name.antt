@@ -3,7 +3,8 @@ use Rattle.std.specs.Prelude.{ℕ, List, codes}
 use Rattle.host_io.specs.declared.name.Name.{Name}
 use Rattle.host_io.specs.declared.name.Name.TheVariants.{Peers, PeersTemp, Asmap, AsmapTemp, Prefixes, Bans, BansTemp}
 
--- Bitcoin Core's names of the files that it has too (`peers.dat`, `banlist.json`), and this project's own for the rest.
+-- The file names: those of Bitcoin Core for the files that it has too (`peers.dat`,
+-- `banlist.json`), our own for the others.
 abbrev pub file_name_of : Name → List ℕ
 file_name_of Peers = codes "peers.dat"
 file_name_of PeersTemp = codes "peers.tmp"

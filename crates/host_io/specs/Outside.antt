@@ -1,14 +1,28 @@
--- How the outside may fail: an object counts its faults, and says `Failed` only where its count rose.
-use Rattle.std.specs.Prelude.{◌≡◌, ℕ, ◌+◌, ◌-◌, ◌^◌, ◌<◌, ◌⊎◌, min}
+-- What the outside of a program tells at one moment.
+use Rattle.std.specs.Prelude.{ℕ, List, Option}
+use Rattle.host_io.specs.Files.{Files}
+use Rattle.host_io.specs.declared.source.Source as source
+use Rattle.host_io.specs.declared.folder.Folder as folder
+use Rattle.host_io.specs.declared.sink.Sink as sink
 
--- The count of faults rose: it is greater than before, or stands at the end of its type.
-abbrev pub Rose : ℕ → ℕ → Type 0
-Rose before after = (before < after) ⊎ (after ≡ 2 ^ 64 - 1)
+-- The bytes left in the log, the bytes written to the output, the files of the folder, each if it
+-- is told, and how often each of the three has failed.
+pub record Outside : Type 0 where
+  pub left : Option (List ℕ)
+  pub written : Option (List ℕ)
+  pub files : Option Files
+  pub log_faults : ℕ
+  pub out_faults : ℕ
+  pub folder_faults : ℕ
 
--- A count after one more; it stands still at the end of its type.
-abbrev pub raised : ℕ → ℕ
-raised count = min (count + 1) (2 ^ 64 - 1)
-
--- A count that stands still below the end of its type has not risen.
-abbrev pub StillCountHasNotRisen : Type 0
-StillCountHasNotRisen = (count : ℕ) → count < 2 ^ 64 - 1 → ¬ Rose count count
+-- What a log, a folder and an output tell.
+abbrev pub outside : {L F K : Type 0} → source.Ghosts L → folder.Ghosts F → sink.Ghosts K →
+    L → F → K → Outside
+outside source folder sink log files out = record {
+  left = source.left log;
+  written = sink.written out;
+  files = folder.files files;
+  log_faults = source.faults log;
+  out_faults = sink.faults out;
+  folder_faults = folder.faults files;
+}

@@ -3,7 +3,7 @@ use Rattle.host_io.specs.declared.name.Name.{Name}
 use Rattle.host_io.specs.declared.name.Name.TheVariants.{Peers, PeersTemp, Asmap, AsmapTemp, Prefixes, Bans, BansTemp}
 use Rattle.host_io.specs.declared.per_name.PerName.{PerName}
 
--- What stands under a name.
+-- The value of a name.
 abbrev pub under : {T : Type 0} → PerName T → Name → T
 under all Peers = all.peers
 under all PeersTemp = all.peers_temp

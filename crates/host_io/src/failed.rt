@@ -1,4 +1,4 @@
-ghost use Rattle.host_io.specs.Outside.{StillCountHasNotRisen};
+ghost use Rattle.host_io.specs.Faults.{StillCountHasNotRisen};
 
 /// The outside failed a call. The object's count of faults rose in it.
 #[derive(Clone, Copy, PartialEq, Eq, Debug)]

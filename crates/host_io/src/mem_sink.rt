@@ -1,6 +1,6 @@
 ghost use Rattle.std.specs.Prelude.{◌≡◌, ◌<◌, ◌≤◌, [], length, Contains, IsErr, IfOk, OnOk, OnErr, Some};
 ghost use Rattle.host_io.specs.MemSink.{sink_after_write, sink_after_fault, sink_after_want};
-ghost use Rattle.host_io.specs.Outside.{Rose};
+ghost use Rattle.host_io.specs.Faults.{Rose};
 
 use crate::failed::Failed;
 use crate::memory::Memory;
@@ -59,7 +59,7 @@ impl MemSink {
         &self.bytes
     }
 
-    /// How many calls found no memory for their piece; the count stands still at its type's end.
+    /// How many calls found no memory for their piece; the count stays at 2^64 - 1 once it is there.
     pub fn starved(&self) -> u64
         ensures { result ≡ self.now.starved }
     {
@@ -72,16 +72,18 @@ impl Sink for MemSink {
 
     ghost faults = { λ s. s.faults };
 
-    /// Takes the whole piece. It fails where the call was chosen to, and otherwise only where no
-    /// memory is found for the piece.
+    /// Takes the whole piece. Fails if the call was chosen to, and otherwise only if there is no
+    /// memory for the piece.
     fn write(&mut self, piece: &[u8]) -> Result<usize, Failed>
         requires { 0 < length piece.now }
         ensures whole { IfOk result (λ n. n ≡ length piece.now) }
         ensures kept { OnOk result (self.new ≡ sink_after_write self.old piece.now) }
         ensures chosen_fails { Contains self.old.fails self.old.calls → IsErr result }
-        ensures chosen { Contains self.old.fails self.old.calls → self.new ≡ sink_after_fault self.old }
-        ensures starved { OnErr result (¬ Contains self.old.fails self.old.calls → self.new ≡ sink_after_want self.old) }
-        ensures failed { OnErr result (self.new.bytes ≡ self.old.bytes) }
+        ensures chosen { Contains self.old.fails self.old.calls →
+            self.new ≡ sink_after_fault self.old }
+        ensures starved { OnErr result (¬ Contains self.old.fails self.old.calls →
+            self.new ≡ sink_after_want self.old) }
+        ensures err { OnErr result (self.new.bytes ≡ self.old.bytes) }
         ensures cause { OnErr result (Rose self.old.faults self.new.faults) }
         ensures never_falls { self.old.faults ≤ self.new.faults }
     {

@@ -1,6 +1,6 @@
 ghost use Rattle.std.specs.Prelude.{◌≡◌, ◌<◌, ◌≤◌, ◌↔◌, ◌++◌, [], length, min, take, drop, vec_len, Contains, IsErr, IfOk, OnErr, Some};
 ghost use Rattle.host_io.specs.MemSource.{source_after_read, source_after_fault};
-ghost use Rattle.host_io.specs.Outside.{Rose};
+ghost use Rattle.host_io.specs.Faults.{Rose};
 
 use crate::failed::Failed;
 use crate::memory::Memory;
@@ -75,7 +75,8 @@ impl Source for MemSource {
     fn read(&mut self, buf: &mut [u8]) -> Result<usize, Failed>
         requires { 0 < length buf.old }
         ensures chosen { IsErr result ↔ Contains self.old.fails self.old.calls }
-        ensures many { IfOk result (λ n. n ≡ min (min self.old.piece (length buf.old)) (length self.old.left)) }
+        ensures many { IfOk result (λ n.
+            n ≡ min (min self.old.piece (length buf.old)) (length self.old.left)) }
         ensures copied { IfOk result (λ n. buf.new ≡ take n self.old.left ++ drop n buf.old) }
         ensures advanced { IfOk result (λ n. self.new ≡ source_after_read self.old n) }
         ensures counted { OnErr result (self.new ≡ source_after_fault self.old) }

@@ -1,6 +1,6 @@
 use std::alloc::AllocError;
 
-/// There is no memory for what is to be kept.
+/// Out of memory.
 #[derive(Clone, Copy, PartialEq, Eq, Debug)]
 pub struct Memory;
 

@@ -1,4 +1,5 @@
-/// The files of the folder. Each temporary name is where the file before it is written first.
+/// The names of the files of a folder. A file is first written under the temporary name after its
+/// own.
 #[derive(Clone, Copy, PartialEq, Eq, Debug)]
 pub enum Name {
     Peers,

@@ -17,7 +17,7 @@ impl<T> PerName<T> {
     ghost use Rattle.host_io.specs.PerName.{under};
     ghost use Rattle.host_io.specs.declared.name.Name.{Name};
 
-    /// What stands under `name`.
+    /// The value of `name`.
     pub fn get(&self, name: Name) -> &T
         ensures { result.now ≡ under self.now name }
     {
@@ -37,7 +37,8 @@ impl<T> PerName<T> {
     where
         T: Drop,
         ensures set { under self.new name ≡ value }
-        ensures others { (other : Name) → other ≢ name → under self.new other ≡ under self.old other }
+        ensures same { (other : Name) → other ≢ name →
+            under self.new other ≡ under self.old other }
     {
         match name {
             Name::Peers => self.peers = value,

@@ -1,27 +1,27 @@
 ghost use Rattle.std.specs.Prelude.{◌≡◌, ℕ, ◌<◌, ◌≤◌, ◌↔◌, ◌++◌, List, [], length, take, drop, IfOk, IfSome, IfNone, OnErr, Option};
-ghost use Rattle.host_io.specs.Outside.{Rose};
+ghost use Rattle.host_io.specs.Faults.{Rose};
 
 use crate::failed::Failed;
 
 /// Where bytes come from, as the input of a program.
 pub trait Source {
-    /// The bytes that are left, where it tells them.
+    /// The bytes that are left, if it tells them.
     ghost left: { Self → Option (List ℕ) };
 
-    /// How often it has failed; the count stands still at 2^64 - 1.
+    /// How often it has failed; the count stays at 2^64 - 1 once it is there.
     ghost faults: { Self → ℕ };
 
-    /// Puts the next bytes into the front of `buf`; 0 is the end of the input.
+    /// Moves the next bytes to the start of `buf` and returns how many; 0 is the end of the input.
     fn read(&mut self, buf: &mut [u8]) -> Result<usize, Failed>
         requires { 0 < length buf.old }
         ensures within { IfOk result (λ n. n ≤ length buf.old) }
-        ensures there { IfOk result (λ n. IfSome (left self.old) (λ bytes. n ≤ length bytes)) }
+        ensures available { IfOk result (λ n. IfSome (left self.old) (λ bytes. n ≤ length bytes)) }
         ensures taken { IfOk result (λ n. IfSome (left self.old) (λ bytes.
             left self.new ≡ Some (drop n bytes))) }
         ensures copied { IfOk result (λ n. IfSome (left self.old) (λ bytes.
             buf.new ≡ take n bytes ++ drop n buf.old)) }
         ensures end { IfOk result (λ n. IfSome (left self.old) (λ bytes. (n ≡ 0) ↔ (bytes ≡ []))) }
-        ensures failed { OnErr result (left self.new ≡ left self.old) }
+        ensures err { OnErr result (left self.new ≡ left self.old) }
         ensures untold { IfNone (left self.old) (left self.new ≡ None) }
         ensures cause { OnErr result (Rose (faults self.old) (faults self.new)) }
         ensures never_falls { faults self.old ≤ faults self.new };

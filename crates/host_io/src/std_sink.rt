@@ -1,5 +1,5 @@
 ghost use Rattle.std.specs.Prelude.{◌≡◌, ℕ, ◌<◌, ◌≤◌, length, IfOk, OnOk, OnErr, None};
-ghost use Rattle.host_io.specs.Outside.{Rose, raised};
+ghost use Rattle.host_io.specs.Faults.{Rose, raised};
 
 use crate::failed::Failed;
 use crate::sink::Sink;
@@ -58,31 +58,43 @@ mod tests {
     use super::*;
     use std::io;
 
-    /// A writer that takes no byte.
-    struct FullWriter;
+    /// A writer that takes at most `room` bytes, two a write, and counts its flushes.
+    struct Gauge {
+        room: usize,
+        flushes: usize,
+    }
 
-    impl Write for FullWriter {
-        fn write(&mut self, _buf: &[u8]) -> io::Result<usize> {
-            Ok(0)
+    impl Write for Gauge {
+        fn write(&mut self, buf: &[u8]) -> io::Result<usize> {
+            let count = buf.len().min(self.room).min(2);
+            self.room -= count;
+            Ok(count)
         }
 
         fn flush(&mut self) -> io::Result<()> {
+            self.flushes = self.flushes.saturating_add(1);
             Ok(())
         }
     }
 
     #[test]
-    fn writes_all_and_counts_a_refused_piece(rt: HostRuntime) {
-        let mut sink = StdSink::make(Vec::new(rt.alloc()));
-        assert_eq!(rt; sink.write(b"bit"), Ok(3));
-        assert_eq!(rt; sink.write(b"coin"), Ok(4));
-        assert_eq!(rt; sink.writer.as_slice(), b"bitcoin".as_slice());
+    fn flushes_each_write_and_counts_a_refused_piece(rt: HostRuntime) {
+        let gauge = Gauge {
+            room: 3,
+            flushes: 0,
+        };
+        let mut sink = StdSink::make(gauge);
+        assert_eq!(rt; sink.write(b"bit"), Ok(2));
+        assert_eq!(rt; sink.writer.flushes, 1);
+        assert_eq!(rt; sink.write(b"t"), Ok(1));
+        assert_eq!(rt; sink.writer.flushes, 2);
         assert_eq!(rt; sink.faults, 0);
-
-        let mut full = StdSink::make(FullWriter);
-        assert_eq!(rt; full.write(b"bit"), Err(Failed));
-        assert_eq!(rt; full.faults, 1);
-        let StdSink { writer, faults: _ } = full;
-        let FullWriter = writer;
+        assert_eq!(rt; sink.write(b"coin"), Err(Failed));
+        assert_eq!(rt; sink.faults, 1);
+        let StdSink { writer, faults: _ } = sink;
+        let Gauge {
+            room: _,
+            flushes: _,
+        } = writer;
     }
 }

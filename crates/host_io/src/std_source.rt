@@ -1,5 +1,5 @@
 ghost use Rattle.std.specs.Prelude.{◌≡◌, ℕ, ◌<◌, ◌≤◌, length, IfOk, OnOk, OnErr, None};
-ghost use Rattle.host_io.specs.Outside.{Rose, raised};
+ghost use Rattle.host_io.specs.Faults.{Rose, raised};
 
 use crate::failed::Failed;
 use crate::source::Source;

@@ -1,4 +1,4 @@
-// Each call that takes memory answers Ok once, where there is ample memory.
+// Each call that takes memory answers Ok once, with ample memory.
 use super::*;
 use std::test::Fail;
 
@@ -10,6 +10,26 @@ fn a_source_in_memory_gives_pieces(rt: HostRuntime) -> Result<(), Fail> {
     assert_eq!(rt; source.read(&mut buf), Err(Failed));
     assert_eq!(rt; source.read(&mut buf), Ok(3));
     assert_eq!(rt; buf.as_slice(), b"coi\0".as_slice());
+    Ok(())
+}
+
+#[test]
+fn a_source_is_read_to_its_end_up_to_a_limit(rt: HostRuntime) -> Result<(), Fail> {
+    let mut source = MemSource::make(rt.alloc(), b"bitcoin", 3, &[5])?;
+    assert_eq!(rt;
+        read_to_end(rt.alloc(), &mut source, 7)?.items(),
+        b"bitcoin".as_slice()
+    );
+    assert_eq!(rt; read_to_end(rt.alloc(), &mut source, 0)?.items().len(), 0);
+    assert_eq!(rt;
+        read_to_end(rt.alloc(), &mut source, 0).err(),
+        Some(ToEndFault::Failed)
+    );
+    let mut source = SureSource::make(b"bitcoin");
+    assert_eq!(rt;
+        read_to_end(rt.alloc(), &mut source, 6).err(),
+        Some(ToEndFault::TooLong)
+    );
     Ok(())
 }
 
@@ -38,6 +58,19 @@ fn a_folder_in_memory_reads_as_it_was_filled(rt: HostRuntime) -> Result<(), Fail
     }
     assert_eq!(rt; buf.as_slice(), b"oin\0".as_slice());
     assert_eq!(rt; folder.calls(), 4);
+    assert_eq!(rt; folder.starved(), 0);
+    assert_eq!(rt; folder.history().len(), 4);
+    assert_eq!(rt;
+        folder.history().last()
+            == Some(&Call {
+                number: 3,
+                action: Action::Read {
+                    name: Name::Asmap,
+                    at: 4
+                }
+            }),
+        true
+    );
     Ok(())
 }
 

@@ -1,0 +1,18 @@
+-- The files of a folder, each under one of a few names.
+use Rattle.std.specs.Prelude.{ℕ, List, Option, None, Some, IsSome, IfSome}
+use Rattle.host_io.specs.PerName.{under}
+use Rattle.host_io.specs.declared.name.Name.{Name}
+use Rattle.host_io.specs.declared.per_name.PerName.{PerName}
+
+-- The bytes of each file, or None if it is absent.
+abbrev pub Files : Type 0
+Files = PerName (Option (List ℕ))
+
+-- The bytes of a file, if the folder tells its files and this one is there.
+abbrev pub told_bytes : Option Files → Name → Option (List ℕ)
+told_bytes None name = None
+told_bytes (Some files) name = under files name
+
+-- The file is there, if the folder tells its files.
+abbrev pub IsThere : Option Files → Name → Type 0
+IsThere told name = IfSome told (λ files. IsSome (under files name))

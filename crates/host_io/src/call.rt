@@ -1,0 +1,27 @@
+use crate::name::Name;
+
+/// A call of `Folder`, as a folder in memory records it.
+#[derive(PartialEq, Eq, Debug, Drop)]
+pub struct Call {
+    /// The number of the call, from 0.
+    pub number: u64,
+    /// What was asked for.
+    pub action: Action,
+}
+
+/// What a call of `Folder` asks for.
+#[derive(PartialEq, Eq, Debug, Drop)]
+pub enum Action {
+    /// The length of a file.
+    Size {
+        /// The name of the file.
+        name: Name,
+    },
+    /// The bytes of a file.
+    Read {
+        /// The name of the file.
+        name: Name,
+        /// The offset in bytes of the first byte.
+        at: u64,
+    },
+}
