@@ -1,2 +1,5 @@
 pub mod Numbers
 pub mod CompactSize
+pub mod Format
+pub mod Fields
+pub mod Readings

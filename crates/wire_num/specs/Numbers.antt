@@ -1,6 +1,9 @@
--- Numbers of a fixed width at a place of some bytes, None where too few bytes stand there.
+-- Numbers of a fixed width at an offset, None where fewer bytes are there.
 use Rattle.std.specs.Prelude.{ℕ, List, length, take, drop, Option, Some, None, nat_lt, if◌then◌else◌}
 use Rattle.std.specs.Int.{w16, w32, w64, from_le_bytes, from_be_bytes}
+
+abbrev pub le16_at : List ℕ → ℕ → Option ℕ
+le16_at bytes at = if nat_lt (length (drop at bytes)) 2 then None else Some (from_le_bytes w16 (take 2 (drop at bytes)))
 
 abbrev pub le32_at : List ℕ → ℕ → Option ℕ
 le32_at bytes at = if nat_lt (length (drop at bytes)) 4 then None else Some (from_le_bytes w32 (take 4 (drop at bytes)))

@@ -1,29 +1,17 @@
-//! Numbers as they stand in messages and files.
+//! Numbers of messages and files: of fixed width, and in the Bitcoin protocol's CompactSize.
+//!
+//! `read_` functions read at an offset. `take_` functions read a field from the front of some bytes
+//! and hand back the bytes after it.
 #![tactic(auto)]
 
-ghost use Rattle.std.specs.Prelude.{◌≡◌};
-ghost use Rattle.wire_num.specs.Numbers.{le32_at, le64_at, be16_at};
+mod compact;
+mod fault;
+mod memory;
+mod numbers;
+mod take;
 
-/// Four bytes from `at` on, the low byte first.
-pub fn read_le32(bytes: &[u8], at: usize) -> Option<u32>
-    ensures { result ≡ le32_at bytes.now at }
-{
-    let (number, _) = bytes.get(at..)?.split_first_chunk::<4>()?;
-    Some(u32::from_le_bytes(*number))
-}
-
-/// Eight bytes from `at` on, the low byte first.
-pub fn read_le64(bytes: &[u8], at: usize) -> Option<u64>
-    ensures { result ≡ le64_at bytes.now at }
-{
-    let (number, _) = bytes.get(at..)?.split_first_chunk::<8>()?;
-    Some(u64::from_le_bytes(*number))
-}
-
-/// Two bytes from `at` on, the high byte first.
-pub fn read_be16(bytes: &[u8], at: usize) -> Option<u16>
-    ensures { result ≡ be16_at bytes.now at }
-{
-    let (number, _) = bytes.get(at..)?.split_first_chunk::<2>()?;
-    Some(u16::from_be_bytes(*number))
-}
+pub use compact::{put_compact, read_compact};
+pub use fault::WireFault;
+pub use memory::Memory;
+pub use numbers::{read_be16, read_le32, read_le64};
+pub use take::{take_be16, take_byte, take_bytes, take_compact, take_le32, take_le64};

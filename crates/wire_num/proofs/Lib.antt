@@ -1,0 +1,5 @@
+pub mod ReadingLaws
+pub mod FieldLaws
+pub mod CompactLaws
+pub mod Examples
+pub mod LoopLaws

@@ -1,0 +1,67 @@
+-- What reading from the front gives: a value and the bytes after it, or the fault.
+use Rattle.std.specs.Prelude.{◌≡◌, ℕ, zero, suc, ◌≤◌, ◌^◌, List, [], ◌∷◌, length, take, drop, Result, Ok, Err, nat_lt, nat_le, ◌==◌, if◌then◌else◌}
+use Rattle.std.specs.Int.{Width, w16, w32, w64, byte_len, from_le_bytes, from_be_bytes}
+use Rattle.wire_num.specs.declared.fault.WireFault.{WireFault}
+use Rattle.wire_num.specs.declared.fault.WireFault.TheVariants.{Truncated, NonCanonical}
+
+infixl 10 ◌>>=◌
+abbrev pub ◌>>=◌ : {F A B : Type 0} → Result A F → (A → Result B F) → Result B F
+(Ok x) >>= f = f x
+(Err e) >>= f = Err e
+
+-- so many values of one reading
+unfoldable pub times_at : {F A : Type 0} → ℕ → (List ℕ → Result (A × List ℕ) F) → List ℕ → Result (List A × List ℕ) F
+times_at zero r bytes = Ok ([], bytes)
+times_at (suc n) r bytes = r bytes >>= λ first. times_at n r first.1 >>= λ others. Ok (first.0 ∷ others.0, others.1)
+
+-- a value after which nothing may follow
+abbrev pub last : {F A : Type 0} → F → A → List ℕ → Result A F
+last trailing a [] = Ok a
+last trailing a (b ∷ rest) = Err trailing
+
+-- all of the bytes
+abbrev pub all_of : {F A : Type 0} → (List ℕ → Result (A × List ℕ) F) → F → List ℕ → Result A F
+all_of r trailing bytes = r bytes >>= λ x. last trailing x.0 x.1
+
+-- the fault under another name
+abbrev pub fault_as : {E F A : Type 0} → (E → F) → Result A E → Result A F
+fault_as name (Ok x) = Ok x
+fault_as name (Err e) = Err (name e)
+
+abbrev pub bytes_at : ℕ → List ℕ → Result (List ℕ × List ℕ) WireFault
+bytes_at n bytes = if nat_lt (length bytes) n then Err Truncated else Ok (take n bytes, drop n bytes)
+
+abbrev pub byte_at : List ℕ → Result (ℕ × List ℕ) WireFault
+byte_at [] = Err Truncated
+byte_at (b ∷ rest) = Ok (b, rest)
+
+abbrev pub number_at : Width → (List ℕ → ℕ) → List ℕ → Result (ℕ × List ℕ) WireFault
+number_at w number_of bytes = if nat_lt (length bytes) (byte_len w) then Err Truncated else Ok (number_of (take (byte_len w) bytes), drop (byte_len w) bytes)
+
+abbrev pub le_at : Width → List ℕ → Result (ℕ × List ℕ) WireFault
+le_at w bytes = number_at w (from_le_bytes w) bytes
+
+abbrev pub be_at : Width → List ℕ → Result (ℕ × List ℕ) WireFault
+be_at w bytes = number_at w (from_be_bytes w) bytes
+
+-- a number of a width that is not below `least`
+abbrev pub wide_at : Width → ℕ → List ℕ → Result (ℕ × List ℕ) WireFault
+wide_at w least bytes = le_at w bytes >>= λ n. if nat_le least n.0 then Ok n else Err NonCanonical
+
+unfoldable pub compact_at : List ℕ → Result (ℕ × List ℕ) WireFault
+compact_at [] = Err Truncated
+compact_at (b ∷ rest) =
+    if nat_lt b 253 then Ok (b, rest)
+    else if b == 253 then wide_at w16 253 rest
+    else if b == 254 then wide_at w32 (2 ^ 16) rest
+    else wide_at w64 (2 ^ 32) rest
+
+-- An answer, seen by view, is what the reading gives.
+abbrev pub Gives : {F X Y : Type 0} → (X → Y) → Result X F → Result Y F → Type 0
+Gives view (Ok x) read = read ≡ Ok (view x)
+Gives view (Err e) read = read ≡ Err e
+
+-- An answer with the number of bytes that were taken is what the reading of the bytes gives.
+abbrev pub GivesLength : {F X : Type 0} → Result (X × ℕ) F → List ℕ → Result (X × List ℕ) F → Type 0
+GivesLength (Ok x) bytes read = (x.1 ≤ length bytes) × (read ≡ Ok (x.0, drop x.1 bytes))
+GivesLength (Err e) bytes read = read ≡ Err e
