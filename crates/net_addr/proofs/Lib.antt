@@ -3,3 +3,9 @@ pub mod Bytes
 pub mod Examples
 pub mod Numbers
 pub mod Texts
+pub mod Words
+pub mod Printed
+pub mod Forms
+pub mod Digits
+pub mod RangeExamples
+pub mod ReadExamples

@@ -9,7 +9,8 @@ pub record Address : Type 0 where
   pub net : Net
   pub bytes : List ℕ
 
--- how many bytes an address of the network has (BIP 155; an internal name has ten, `CNetAddr::SetInternal` in netaddress.cpp)
+-- how many bytes an address of the network has (BIP 155; an internal name has ten,
+-- `CNetAddr::SetInternal` in netaddress.cpp)
 abbrev pub length_of : Net → ℕ
 length_of Unroutable = 0
 length_of Ipv4 = 4
@@ -48,7 +49,8 @@ begins_with bytes prefix = starts_with ◌==◌ bytes prefix
 abbrev pub is_old_form : List ℕ → Bool
 is_old_form bytes = begins_with bytes mapped_prefix || begins_with bytes internal_prefix || begins_with bytes torv2_prefix
 
--- an address of one of the six networks: the network's length, bytes, and no IPv6 value that stands for something else
+-- an address of one of the six networks: the network's length, bytes, and no IPv6 value that stands
+-- for something else
 pub record IsAddress (a : Address) : Type 0 where
   pub network : a.net ≢ Unroutable
   pub length : length a.bytes ≡ length_of a.net

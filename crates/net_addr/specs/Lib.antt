@@ -2,4 +2,5 @@ pub mod Address
 pub mod Ranges
 pub mod OldForm
 pub mod Text
+pub mod Inside
 pub mod Same

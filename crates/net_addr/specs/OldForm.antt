@@ -8,7 +8,8 @@ use Rattle.net_addr.specs.declared.peer.Peer.{Peer}
 abbrev pub address : Net → List ℕ → Address
 address net bytes = record { net = net; bytes = bytes }
 
--- sixteen bytes as they stood in messages before BIP 155 (`CNetAddr::SetLegacyIPv6`): a Tor v2 address is read as IPv6 all zero
+-- what sixteen bytes stood for in messages before BIP 155 (`CNetAddr::SetLegacyIPv6`); a Tor v2
+-- address becomes the IPv6 address `::`
 abbrev pub from_v1 : List ℕ → Address
 from_v1 bytes =
     if begins_with bytes mapped_prefix then address Ipv4 (drop 12 bytes)

@@ -32,7 +32,8 @@ in_some ranges bytes = list_any (λ r. in_range r bytes) ranges
 abbrev pub four : ℕ → ℕ → ℕ → ℕ → ℕ → Range
 four a b c d n = range (a ∷ b ∷ c ∷ d ∷ []) n
 
--- IPv4 values that are no address: 0.0.0.0 and 255.255.255.255 (`CNetAddr::IsValid` in netaddress.cpp)
+-- IPv4 values that are no address: 0.0.0.0 and 255.255.255.255 (`CNetAddr::IsValid` in
+-- netaddress.cpp)
 abbrev pub ipv4_invalid : List Range
 ipv4_invalid = four 0 0 0 0 32 ∷ four 255 255 255 255 32 ∷ []
 
@@ -55,7 +56,8 @@ ipv4_reserved =
     four 10 0 0 0 8 ∷ four 172 16 0 0 12 ∷ four 192 168 0 0 16 ∷ four 198 18 0 0 15 ∷ four 169 254 0 0 16 ∷
     four 100 64 0 0 10 ∷ four 192 0 2 0 24 ∷ four 198 51 100 0 24 ∷ four 203 0 113 0 24 ∷ []
 
--- IPv6 ranges that are not routed: fe80::/64, fc00::/7, 2001:10::/28, 2001:20::/28 (RFC 4862, 4193, 4843, 7343)
+-- IPv6 ranges that are not routed: fe80::/64, fc00::/7, 2001:10::/28, 2001:20::/28 (RFC 4862, 4193,
+-- 4843, 7343)
 abbrev pub ipv6_reserved : List Range
 ipv6_reserved =
     range (0xfe ∷ 0x80 ∷ 0 ∷ 0 ∷ 0 ∷ 0 ∷ 0 ∷ 0 ∷ []) 64 ∷ range (0xfc ∷ []) 7 ∷
@@ -104,7 +106,8 @@ reserved_by Internal bytes = false
 abbrev pub is_routable : Address → Bool
 is_routable a = is_valid a && not (is_local a) && not (reserved_by a.net a.bytes)
 
--- NAT64 64:ff9b::/96, SIIT ::ffff:0:0:0/96, 6to4 2002::/16 and Teredo 2001:0::/32 (RFC 6052, 6145, 3964, 4380)
+-- NAT64 64:ff9b::/96, SIIT ::ffff:0:0:0/96, 6to4 2002::/16 and Teredo 2001:0::/32 (RFC 6052, 6145,
+-- 3964, 4380)
 abbrev pub nat64 : Range
 nat64 = range (0 ∷ 0x64 ∷ 0xff ∷ 0x9b ∷ 0 ∷ 0 ∷ 0 ∷ 0 ∷ 0 ∷ 0 ∷ 0 ∷ 0 ∷ []) 96
 
@@ -117,7 +120,8 @@ six_to_four = range (0x20 ∷ 0x02 ∷ []) 16
 abbrev pub teredo : Range
 teredo = range (0x20 ∷ 0x01 ∷ 0 ∷ 0 ∷ []) 32
 
--- the IPv4 address that a routable IPv6 address carries: the last four bytes, those after the first two, or the complement of the last four
+-- the IPv4 address that an IPv6 address carries, by its range: the last four bytes, the four bytes
+-- after the first two, or the complement of the last four
 abbrev pub carried : List ℕ → Option (List ℕ)
 carried bytes =
     if in_range nat64 bytes || in_range siit bytes then Some (drop 12 bytes)
@@ -134,7 +138,8 @@ linked_by I2p bytes = None
 linked_by Cjdns bytes = None
 linked_by Internal bytes = None
 
--- the four bytes of the IPv4 address that a routable address is or carries (`CNetAddr::HasLinkedIPv4`, `GetLinkedIPv4`)
+-- the four bytes of the IPv4 address that a routable address is or carries
+-- (`CNetAddr::HasLinkedIPv4`, `GetLinkedIPv4`)
 abbrev pub linked_ipv4 : Address → Option (List ℕ)
 linked_ipv4 a = if is_routable a then linked_by a.net a.bytes else None
 

@@ -1,5 +1,6 @@
--- When two addresses are the same: what `==` computes, and that it is true exactly where they are one.
-use Rattle.std.specs.Prelude.{◌≡◌, ℕ, zero, suc, Bool, List, ◌∷◌, ◌++◌, ◌&&◌, ◌==◌, drop, slice_index, bytes_eq, IsTrue, refl}
+-- When two addresses are the same: what `==` computes, and that it is true exactly where they are
+-- one.
+use Rattle.std.specs.Prelude.{◌≡◌, ℕ, zero, suc, Bool, List, [], ◌∷◌, ◌++◌, ◌&&◌, ◌==◌, drop, slice_index, bytes_eq, IsTrue, refl}
 use Rattle.std.specs.Bool.{Decides}
 use Rattle.std.specs.Cmp.{IsEquivalence, IsPartialEquivalence, partial_equiv_from_equiv, on_equiv}
 use Rattle.std.specs.Cmp.Lexicographic.{nat_list_eq_equiv}
@@ -12,7 +13,7 @@ use Rattle.net_addr.specs.declared.net.Net.{Net}
 use Rattle.net_addr.specs.declared.peer.Peer.{Peer}
 use Rattle.net_addr.specs.declared.net.Net.TheVariants.{Unroutable, Ipv4, Ipv6, Onion, I2p, Cjdns, Internal}
 
--- the number of the network before the bytes, which tell an address from each other one
+-- the number of the network and then the bytes, by which two addresses differ
 abbrev pub told_by : Address → List ℕ
 told_by a = number_of a.net ∷ a.bytes
 
@@ -63,9 +64,9 @@ same_address-equiv = on_equiv told_by nat_list_eq_equiv
 pub same_address-per : IsPartialEquivalence same_address
 same_address-per = partial_equiv_from_equiv same_address-equiv
 
--- what `hash` feeds a hasher
+-- what `hash` feeds a hasher, in two writes: the network's number, and the bytes
 abbrev pub hashed : Address → List (List ℕ)
-hashed a = fed.u8 (number_of a.net) ++ fed.slice fed.u8 a.bytes
+hashed a = fed.u8 (number_of a.net) ++ a.bytes ∷ []
 
 pub same_address-hashed : (a b : Address) → IsTrue (same_address a b) → hashed a ≡ hashed b
 same_address-hashed a b h = ap hashed ((same_address-Decides a b).0 h)

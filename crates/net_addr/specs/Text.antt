@@ -1,9 +1,13 @@
--- The text of addresses and peers.
-use Rattle.std.specs.Prelude.{◌≡◌, ℕ, zero, suc, false, ◌+◌, ◌*◌, List, [], ◌∷◌, ◌++◌, take, drop, map, fold, max, nat_lt, ◌==◌, codes, decimal, if◌then◌else◌}
-use Rattle.std.specs.Fmt.{digits}
-use Rattle.std.specs.List.{join_with_byte, position_or_len}
-use Rattle.hex.specs.Hex.{encode_lower}
-use Rattle.net_addr.specs.Address.{Address}
+-- The text of addresses and peers: how each is printed, and which texts are read.
+use Rattle.std.specs.Prelude.{◌≡◌, ◌≢◌, ℕ, ◌^◌, ◌<◌, List, [], ◌++◌, map, All, codes, decimal, Ok}
+use Rattle.std.specs.Int.{w32, w128, to_be_bytes}
+use Rattle.std.specs.List.{join_with_byte}
+use Rattle.std.specs.Net.Addr.{segments_of}
+use Rattle.std.specs.Net.Grammar.{IsColonHex}
+use Rattle.std.specs.Net.Text.{hex_groups_text}
+use Rattle.hex.specs.Hex.{encode_lower, decode_sized}
+use Rattle.net_addr.specs.Address.{Address, length_of}
+use Rattle.net_addr.specs.OldForm.{address, from_v1}
 use Rattle.net_addr.specs.declared.net.Net.{Net}
 use Rattle.net_addr.specs.declared.net.Net.TheVariants.{Unroutable, Ipv4, Ipv6, Onion, I2p, Cjdns, Internal}
 use Rattle.net_addr.specs.declared.peer.Peer.{Peer}
@@ -12,45 +16,29 @@ use Rattle.net_addr.specs.declared.peer.Peer.{Peer}
 abbrev pub ipv4_text : List ℕ → List ℕ
 ipv4_text bytes = join_with_byte 46 (map decimal bytes)
 
--- sixteen bytes as eight numbers, the high byte of each first
-abbrev pub groups_of : List ℕ → List ℕ
-groups_of (high ∷ low ∷ bytes) = (256 * high + low) ∷ groups_of bytes
-groups_of (odd ∷ []) = []
-groups_of [] = []
-
--- how many zero groups stand at the front
-abbrev pub zeros : List ℕ → ℕ
-zeros [] = 0
-zeros (zero ∷ groups) = suc (zeros groups)
-zeros (suc n ∷ groups) = 0
-
--- the run of zero groups that begins at each place
-abbrev pub runs : List ℕ → List ℕ
-runs [] = []
-runs (g ∷ groups) = zeros (g ∷ groups) ∷ runs groups
-
-abbrev pub colons : List ℕ → List ℕ
-colons groups = join_with_byte 58 (map (digits 16 false) groups)
-
--- the groups with the run of that length at that place left out
-abbrev pub shortened : List ℕ → ℕ → ℕ → List ℕ
-shortened groups at len = colons (take at groups) ++ codes "::" ++ colons (drop (at + len) groups)
-
--- eight groups in lower case; the first of the longest runs of two or more zero groups is `::` (RFC 5952)
+-- eight groups, lower case and with no leading zeros, between colons. A run of at least two zero
+-- groups is `::`: the longest one, and the first where several are as long (RFC 5952)
 abbrev pub ipv6_text : List ℕ → List ℕ
-ipv6_text bytes =
-    let groups = groups_of bytes in
-    let longest = fold max 0 (runs groups) in
-    if nat_lt longest 2 then colons groups else shortened groups (position_or_len (λ run. run == longest) (runs groups)) longest
+ipv6_text bytes = hex_groups_text (segments_of bytes)
+
+-- the word before the hexadecimal digits of an address that is written by them
+abbrev pub label_of : Net → List ℕ
+label_of Onion = codes "onion:"
+label_of I2p = codes "i2p:"
+label_of Cjdns = codes "cjdns:"
+label_of Internal = codes "internal:"
+label_of Unroutable = []
+label_of Ipv4 = []
+label_of Ipv6 = []
 
 abbrev pub text_by : Net → List ℕ → List ℕ
-text_by Unroutable bytes = []
 text_by Ipv4 bytes = ipv4_text bytes
 text_by Ipv6 bytes = codes "[" ++ ipv6_text bytes ++ codes "]"
-text_by Onion bytes = codes "onion:" ++ encode_lower bytes
-text_by I2p bytes = codes "i2p:" ++ encode_lower bytes
-text_by Cjdns bytes = codes "cjdns:" ++ encode_lower bytes
-text_by Internal bytes = codes "internal:" ++ encode_lower bytes
+text_by Onion bytes = label_of Onion ++ encode_lower bytes
+text_by I2p bytes = label_of I2p ++ encode_lower bytes
+text_by Cjdns bytes = label_of Cjdns ++ encode_lower bytes
+text_by Internal bytes = label_of Internal ++ encode_lower bytes
+text_by Unroutable bytes = []
 
 -- how an address is printed
 abbrev pub addr_text : Address → List ℕ
@@ -60,18 +48,57 @@ addr_text a = text_by a.net a.bytes
 abbrev pub peer_text : Peer → List ℕ
 peer_text p = addr_text p.addr ++ codes ":" ++ decimal p.port
 
--- a text that is read as the address; so far IPv4 alone
-abbrev pub IsAddrText : List ℕ → Address → Type 0
-IsAddrText text a = (a.net ≡ Ipv4) × (text ≡ ipv4_text a.bytes)
+-- the text of an IPv4 address of 32 bits: its four bytes in decimal, no leading zeros, between dots
+abbrev pub IsIpv4Text : List ℕ → ℕ → Type 0
+IsIpv4Text text bits = (bits < 2 ^ 32) × (text ≡ ipv4_text (to_be_bytes w32 bits))
 
--- a text that is read as the peer: an address, a colon and the port
-abbrev pub IsPeerText : List ℕ → Peer → Type 0
-IsPeerText text p = (addr : List ℕ) × IsAddrText addr p.addr × (text ≡ addr ++ codes ":" ++ decimal p.port)
+-- a text that is read as an IPv6 address of 128 bits. Groups of one to four hexadecimal digits, in
+-- either case, are divided by colons, and one `::` may stand for a zero group or more (forms 1 and
+-- 2 of RFC 4291, 2.2). Form 3, whose last two groups are an IPv4 address, is not read, so the text
+-- has no dot
+pub record IsIpv6Text (text : List ℕ) (bits : ℕ) : Type 0 where
+  pub small : bits < 2 ^ 128
+  pub groups : IsColonHex text (segments_of (to_be_bytes w128 bits))
+  pub no_dots : All (λ c. c ≢ 46) text
 
--- what is printed of an address is read as the address; so far of IPv4 alone
-abbrev pub PrintedAddressIsRead : Type 0
-PrintedAddressIsRead = (a : Address) → a.net ≡ Ipv4 → IsAddrText (addr_text a) a
+-- the hexadecimal digits of an address of the network, two a byte and in either case
+pub record IsHexOf (net : Net) (digits : List ℕ) (a : Address) : Type 0 where
+  pub network : a.net ≡ net
+  pub bytes : decode_sized digits (length_of net) ≡ Ok a.bytes
 
--- what is printed of a peer is read as the peer
-abbrev pub PrintedPeerIsRead : Type 0
-PrintedPeerIsRead = (p : Peer) → p.addr.net ≡ Ipv4 → IsPeerText (peer_text p) p
+-- the network's word, and the digits
+pub record IsHexText (net : Net) (text : List ℕ) (a : Address) : Type 0 where
+  pub digits : List ℕ
+  pub spelled : text ≡ label_of net ++ digits
+  pub hex : IsHexOf net digits a
+
+-- an IPv6 text in square brackets; its bytes are read by the old form, so that a mapped IPv4
+-- address is that IPv4 address
+pub record IsBracketText (text : List ℕ) (a : Address) : Type 0 where
+  pub inner : List ℕ
+  pub bits : ℕ
+  pub spelled : text ≡ codes "[" ++ inner ++ codes "]"
+  pub bits_text : IsIpv6Text inner bits
+  pub address : a ≡ from_v1 (to_be_bytes w128 bits)
+
+-- an IPv4 text
+pub record IsDottedText (text : List ℕ) (a : Address) : Type 0 where
+  pub bits : ℕ
+  pub bits_text : IsIpv4Text text bits
+  pub address : a ≡ address Ipv4 (to_be_bytes w32 bits)
+
+-- a text that is read as the address
+pub data IsAddrText (text : List ℕ) (a : Address) : Type 0 where
+  dotted : IsDottedText text a → IsAddrText text a
+  bracketed : IsBracketText text a → IsAddrText text a
+  onion : IsHexText Onion text a → IsAddrText text a
+  i2p : IsHexText I2p text a → IsAddrText text a
+  cjdns : IsHexText Cjdns text a → IsAddrText text a
+  internal : IsHexText Internal text a → IsAddrText text a
+
+-- a text that is read as the peer: an address, a colon, and a port of 16 bits
+pub record IsPeerText (text : List ℕ) (p : Peer) : Type 0 where
+  pub addr : List ℕ
+  pub addr_text : IsAddrText addr p.addr
+  pub port : p.port < 2 ^ 16
+  pub spelled : text ≡ addr ++ codes ":" ++ decimal p.port

@@ -1,89 +1,143 @@
-ghost use Rattle.std.specs.Prelude.{◌≡◌, ◌<◌, ◌≤◌, ◌++◌, length, take, All};
+ghost use Rattle.std.specs.Prelude.{◌≡◌, ◌<◌, ◌++◌, length, take, All};
 ghost use Rattle.net_addr.specs.Address.{mapped_prefix, internal_prefix};
 
 use crate::Net;
+use crate::old_form::{
+    INTERNAL_PREFIX, MAPPED_PREFIX, TORV2_PREFIX, four, internal, is_old_form, mapped, ten,
+};
 use crate::ranges::{
     carried, in_range, is_cjdns, is_ipv4_invalid, is_ipv4_local, is_ipv4_reserved, is_ipv6_invalid,
     is_ipv6_local, is_ipv6_reserved,
 };
 use std::marker::Model;
 
+/// The bytes of an address in the order of the wire, by its network.
+#[derive(Clone, Copy, Debug)]
+enum Bytes {
+    Ipv4([u8; 4]),
+    Ipv6([u8; 16]),
+    Onion([u8; 32]),
+    I2p([u8; 32]),
+    Cjdns([u8; 16]),
+    Internal([u8; 10]),
+}
+
 /// An address of one of the six networks.
 #[derive(Clone, Copy, Debug)]
 pub struct NetAddr {
-    net: Net,
-    bytes: [u8; 32],
+    bytes: Bytes,
 }
 
 impl Model for NetAddr {
-    ghost use Rattle.std.specs.Prelude.{◌≡◌, ℕ, ◌-◌, ◌++◌, take, drop, replicate, length};
-    ghost use Rattle.net_addr.specs.Address.{Address, IsAddress, length_of};
-    ghost use Rattle.net_addr.specs.declared.net.Net.TheVariants.{Ipv4};
+    ghost use Rattle.std.specs.Prelude.{◌≡◌};
+    ghost use Rattle.std.proofs.Common.{ap};
+    ghost use Rattle.net_addr.specs.Address.{Address};
+    ghost use Rattle.net_addr.specs.Inside.{address_of, bytes_of, IsOwnForm, bytes_of-address_of};
 
     ghost Value = { Address };
 
-    ghost view = { λ a. record { net = a.net; bytes = take (length_of a.net) a.bytes } };
+    ghost view = { λ a. address_of a.bytes };
 
-    ghost invariant = { λ a.
-        (a.net ≡ Ipv4)
-        × (drop (length_of a.net) a.bytes ≡ replicate (32 - length_of a.net) 0) };
+    ghost invariant = { λ a. IsOwnForm a.bytes };
 
-    ghost inverse = { λ a.
-        record { net = a.net; bytes = a.bytes ++ replicate (32 - length_of a.net) 0 } };
+    ghost inverse = { λ a. record { bytes = bytes_of a } };
+
+    ghost inverse_ok = { λ a h. λ i. record { bytes = bytes_of-address_of a.bytes i } };
 }
 
 impl NetAddr {
-    ghost use Rattle.std.specs.Prelude.{◌≡◌, ◌*◌, ◌≤◌, ◌↔◌, IsTrue, length, option_map};
+    ghost use Rattle.std.specs.Prelude.{◌≡◌, ◌*◌, ◌≤◌, length, option_map, IfSome, IfNone};
     ghost use Rattle.std.specs.Int.{w32, from_be_bytes, to_be_bytes};
     ghost use Rattle.net_addr.specs.declared.net.Net.TheVariants.{Ipv4};
     ghost use Rattle.net_addr.specs.Address.{IsAddress};
     ghost use Rattle.net_addr.specs.Ranges.{range, in_range, is_valid, is_local, is_routable, reserved_by, linked_by, linked_ipv4, net_class};
-    ghost use Rattle.net_addr.specs.OldForm.{address, v1_bytes};
+    ghost use Rattle.net_addr.specs.OldForm.{address, from_v1, v1_bytes};
 
-    /// The IPv4 address of four bytes, as they stand on the wire.
+    /// The address of a network and its bytes in the order of the wire. `None` for the network
+    /// `Unroutable`, for another number of bytes than the network's addresses have, and for IPv6
+    /// bytes that stand for an address of another kind in the old form.
+    pub fn of(net: Net, bytes: &[u8]) -> Option<NetAddr>
+        ensures found { IfSome result (λ a. a ≡ address net bytes.now) }
+        ensures address { IfSome result IsAddress }
+        ensures only { IsAddress (address net bytes.now) → result ≡ Some (address net bytes.now) }
+        ensures none { IfNone result (¬ (IsAddress (address net bytes.now))) }
+    {
+        let bytes = match net {
+            Net::Unroutable => return None,
+            Net::Ipv4 => Bytes::Ipv4(<[u8; 4]>::try_from(bytes).ok()?),
+            Net::Ipv6 if is_old_form(bytes) => return None,
+            Net::Ipv6 => Bytes::Ipv6(<[u8; 16]>::try_from(bytes).ok()?),
+            Net::Onion => Bytes::Onion(<[u8; 32]>::try_from(bytes).ok()?),
+            Net::I2p => Bytes::I2p(<[u8; 32]>::try_from(bytes).ok()?),
+            Net::Cjdns => Bytes::Cjdns(<[u8; 16]>::try_from(bytes).ok()?),
+            Net::Internal => Bytes::Internal(<[u8; 10]>::try_from(bytes).ok()?),
+        };
+        Some(NetAddr { bytes })
+    }
+
+    /// The IPv4 address of four bytes in the order of the wire.
     pub fn ipv4(bytes: [u8; 4]) -> NetAddr
         ensures value { result ≡ address Ipv4 bytes }
         ensures address { IsAddress result }
     {
-        let [a, b, c, d] = bytes;
-        let mut all = [0; 32];
-        all[0] = a;
-        all[1] = b;
-        all[2] = c;
-        all[3] = d;
         NetAddr {
-            net: Net::Ipv4,
-            bytes: all,
+            bytes: Bytes::Ipv4(bytes),
         }
     }
 
-    // The bytes of the address, which is an IPv4 address.
-    pub(crate) fn ipv4_bytes(&self) -> [u8; 4]
-        ensures { self.now ≡ address Ipv4 result }
+    /// The address of sixteen bytes of the old form (`CNetAddr::SetLegacyIPv6` in netaddress.cpp
+    /// of Bitcoin Core).
+    pub fn from_v1(bytes: &[u8; 16]) -> NetAddr
+        ensures value { result ≡ from_v1 bytes.now }
+        ensures address { IsAddress result }
     {
-        [self.bytes[0], self.bytes[1], self.bytes[2], self.bytes[3]]
+        if bytes.starts_with(&MAPPED_PREFIX) {
+            return NetAddr {
+                bytes: Bytes::Ipv4(four(&bytes[12..])),
+            };
+        }
+        if bytes.starts_with(&INTERNAL_PREFIX) {
+            return NetAddr {
+                bytes: Bytes::Internal(ten(&bytes[6..])),
+            };
+        }
+        if bytes.starts_with(&TORV2_PREFIX) {
+            return NetAddr {
+                bytes: Bytes::Ipv6([0; 16]),
+            };
+        }
+        NetAddr {
+            bytes: Bytes::Ipv6(*bytes),
+        }
     }
 
     /// The network of the address.
     pub fn net(&self) -> Net
         ensures { result ≡ self.now.net }
     {
-        self.net
+        match self.bytes {
+            Bytes::Ipv4(_) => Net::Ipv4,
+            Bytes::Ipv6(_) => Net::Ipv6,
+            Bytes::Onion(_) => Net::Onion,
+            Bytes::I2p(_) => Net::I2p,
+            Bytes::Cjdns(_) => Net::Cjdns,
+            Bytes::Internal(_) => Net::Internal,
+        }
     }
 
-    /// The address's own bytes, as many as its network has, in the order of the wire.
+    /// The bytes of the address, as many as its network has, in the order of the wire.
     pub fn bytes(&self) -> &[u8]
         ensures value { result.now ≡ self.now.bytes }
         ensures address { IsAddress self.now }
     {
-        front(&self.bytes, self.net.len())
-    }
-
-    /// Whether the two are the same address of the same network.
-    pub fn is_same(&self, other: &NetAddr) -> bool
-        ensures { IsTrue result ↔ (self.now ≡ other.now) }
-    {
-        self == other
+        match &self.bytes {
+            Bytes::Ipv4(bytes) => lent(bytes),
+            Bytes::Ipv6(bytes) => lent(bytes),
+            Bytes::Onion(bytes) => lent(bytes),
+            Bytes::I2p(bytes) => lent(bytes),
+            Bytes::Cjdns(bytes) => lent(bytes),
+            Bytes::Internal(bytes) => lent(bytes),
+        }
     }
 
     /// Whether the bytes can be an address at all (`CNetAddr::IsValid` in netaddress.cpp of
@@ -91,12 +145,12 @@ impl NetAddr {
     pub fn is_valid(&self) -> bool
         ensures { result ≡ is_valid self.now }
     {
-        match self.net() {
-            Net::Unroutable | Net::Internal => false,
-            Net::Ipv4 => !is_ipv4_invalid(self.bytes()),
-            Net::Ipv6 => !is_ipv6_invalid(self.bytes()),
-            Net::Onion | Net::I2p => true,
-            Net::Cjdns => is_cjdns(self.bytes()),
+        match &self.bytes {
+            Bytes::Ipv4(bytes) => !is_ipv4_invalid(bytes),
+            Bytes::Ipv6(bytes) => !is_ipv6_invalid(bytes),
+            Bytes::Onion(_) | Bytes::I2p(_) => true,
+            Bytes::Cjdns(bytes) => is_cjdns(bytes),
+            Bytes::Internal(_) => false,
         }
     }
 
@@ -104,10 +158,10 @@ impl NetAddr {
     pub fn is_local(&self) -> bool
         ensures { result ≡ is_local self.now }
     {
-        match self.net() {
-            Net::Ipv4 => is_ipv4_local(self.bytes()),
-            Net::Ipv6 => is_ipv6_local(self.bytes()),
-            Net::Unroutable | Net::Onion | Net::I2p | Net::Cjdns | Net::Internal => false,
+        match &self.bytes {
+            Bytes::Ipv4(bytes) => is_ipv4_local(bytes),
+            Bytes::Ipv6(bytes) => is_ipv6_local(bytes),
+            Bytes::Onion(_) | Bytes::I2p(_) | Bytes::Cjdns(_) | Bytes::Internal(_) => false,
         }
     }
 
@@ -127,25 +181,26 @@ impl NetAddr {
         in_range(self.bytes(), base, bits)
     }
 
-    // Whether the address is in a range that is not routed.
+    /// Whether the address is in a range that is not routed.
     fn is_reserved(&self) -> bool
         ensures { result ≡ reserved_by self.now.net self.now.bytes }
     {
-        match self.net() {
-            Net::Ipv4 => is_ipv4_reserved(self.bytes()),
-            Net::Ipv6 => is_ipv6_reserved(self.bytes()),
-            Net::Unroutable | Net::Onion | Net::I2p | Net::Cjdns | Net::Internal => false,
+        match &self.bytes {
+            Bytes::Ipv4(bytes) => is_ipv4_reserved(bytes),
+            Bytes::Ipv6(bytes) => is_ipv6_reserved(bytes),
+            Bytes::Onion(_) | Bytes::I2p(_) | Bytes::Cjdns(_) | Bytes::Internal(_) => false,
         }
     }
 
-    // The four bytes of the IPv4 address that the address is or carries, if it is routable.
-    fn linked_bytes(&self) -> Option<[u8; 4]>
+    /// The four bytes of the IPv4 address that the address is or carries, whether or not it is
+    /// routable.
+    pub fn linked_bytes(&self) -> Option<[u8; 4]>
         ensures { result ≡ linked_by self.now.net self.now.bytes }
     {
-        match self.net() {
-            Net::Ipv4 => Some(four(self.bytes())),
-            Net::Ipv6 => carried(self.bytes()),
-            Net::Unroutable | Net::Onion | Net::I2p | Net::Cjdns | Net::Internal => None,
+        match &self.bytes {
+            Bytes::Ipv4(bytes) => Some(*bytes),
+            Bytes::Ipv6(bytes) => carried(bytes),
+            Bytes::Onion(_) | Bytes::I2p(_) | Bytes::Cjdns(_) | Bytes::Internal(_) => None,
         }
     }
 
@@ -169,7 +224,7 @@ impl NetAddr {
         match self.net() {
             Net::Internal => Net::Internal,
             _ if !self.is_routable() => Net::Unroutable,
-            Net::Ipv6 if self.linked_ipv4().is_some() => Net::Ipv4,
+            Net::Ipv6 if self.linked_bytes().is_some() => Net::Ipv4,
             net => net,
         }
     }
@@ -179,58 +234,28 @@ impl NetAddr {
     pub fn v1_bytes(&self) -> Option<[u8; 16]>
         ensures { result ≡ v1_bytes self.now }
     {
-        match self.net() {
-            Net::Ipv4 => Some(mapped(self.bytes())),
-            Net::Ipv6 => Some(sixteen(self.bytes())),
-            Net::Internal => Some(internal(self.bytes())),
-            Net::Unroutable | Net::Onion | Net::I2p | Net::Cjdns => None,
+        match &self.bytes {
+            Bytes::Ipv4(bytes) => Some(mapped(bytes)),
+            Bytes::Ipv6(bytes) => Some(*bytes),
+            Bytes::Internal(bytes) => Some(internal(bytes)),
+            Bytes::Onion(_) | Bytes::I2p(_) | Bytes::Cjdns(_) => None,
         }
     }
 }
 
-// The first bytes of these.
-fn front(bytes: &[u8], len: usize) -> &[u8]
-    requires { len ≤ length bytes.now }
-    ensures value { result.now ≡ take len bytes.now }
+/// The bytes of an array.
+fn lent<const N: usize>(bytes: &[u8; N]) -> &[u8]
+    ensures value { result.now ≡ bytes.now }
+    ensures len { length bytes.now ≡ N }
     ensures all { All (λ b. b < 256) bytes.now }
 {
-    &bytes[..len]
+    same(bytes.as_slice())
 }
 
-// The four bytes of an IPv4 address.
-fn four(bytes: &[u8]) -> [u8; 4]
-    requires { length bytes.now ≡ 4 }
-    ensures { result ≡ bytes.now }
+/// The bytes themselves, of which the contract says that they are below 256.
+fn same(bytes: &[u8]) -> &[u8]
+    ensures value { result.now ≡ bytes.now }
+    ensures all { All (λ b. b < 256) bytes.now }
 {
-    [bytes[0], bytes[1], bytes[2], bytes[3]]
-}
-
-// The old form of an IPv4 address.
-fn mapped(bytes: &[u8]) -> [u8; 16]
-    requires { length bytes.now ≡ 4 }
-    ensures { result ≡ mapped_prefix ++ bytes.now }
-{
-    let [a, b, c, d] = four(bytes);
-    [0, 0, 0, 0, 0, 0, 0, 0, 0, 0, 0xff, 0xff, a, b, c, d]
-}
-
-// The sixteen bytes of an IPv6 address.
-fn sixteen(bytes: &[u8]) -> [u8; 16]
-    requires { length bytes.now ≡ 16 }
-    ensures { result ≡ bytes.now }
-{
-    let mut all = [0; 16];
-    all.copy_from_slice(bytes);
-    all
-}
-
-// The old form of an internal name.
-fn internal(bytes: &[u8]) -> [u8; 16]
-    requires { length bytes.now ≡ 10 }
-    ensures { result ≡ internal_prefix ++ bytes.now }
-{
-    let mut all = [0; 16];
-    all[..6].copy_from_slice(&[0xfd, 0x6b, 0x88, 0xc0, 0x87, 0x24]);
-    all[6..].copy_from_slice(bytes);
-    all
+    bytes
 }

@@ -24,6 +24,6 @@ impl Hash for NetAddr {
 
     fn hash<H: Hasher>(&self, state: &mut H) {
         self.net().number().hash(state);
-        self.bytes().hash(state);
+        state.write(self.bytes());
     }
 }

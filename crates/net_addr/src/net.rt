@@ -15,8 +15,8 @@ impl Net {
     ghost use Rattle.std.specs.Prelude.{◌≡◌};
     ghost use Rattle.net_addr.specs.Address.{number_of, length_of};
 
-    /// The number of the network, 0 to 6 in the order of the variants (`enum Network` in
-    /// netaddress.h of Bitcoin Core).
+    /// The number of the network as `enum Network` in netaddress.h of Bitcoin Core has it: 0 for
+    /// `Unroutable` up to 6 for `Internal`.
     pub fn number(self) -> u8
         ensures { result ≡ number_of self }
     {

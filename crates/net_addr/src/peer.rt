@@ -10,7 +10,7 @@ pub struct Peer {
 }
 
 impl Peer {
-    ghost use Rattle.std.specs.Prelude.{◌≡◌, ◌↔◌, IsTrue};
+    ghost use Rattle.std.specs.Prelude.{◌≡◌};
     ghost use Rattle.net_addr.specs.OldForm.{key_bytes};
 
     /// The bytes by which a peer is hashed: the old form of its address where it has one, else the
@@ -26,12 +26,5 @@ impl Peer {
         }
         append(&mut key, &self.port.to_be_bytes());
         key
-    }
-
-    /// Whether the two are the same address and port.
-    pub fn is_same(&self, other: &Peer) -> bool
-        ensures { IsTrue result ↔ (self.now ≡ other.now) }
-    {
-        self == other
     }
 }

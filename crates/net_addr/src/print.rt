@@ -1,54 +1,131 @@
-ghost use Rattle.std.specs.Prelude.{◌≡◌, ◌+◌, ◌≤◌, ◌∷◌, ◌++◌, length, decimal, OnOk, OnErr};
-ghost use Rattle.std.specs.Int.{w32, to_be_bytes};
-ghost use Rattle.net_addr.specs.Text.{ipv4_text, addr_text, peer_text};
+ghost use Rattle.std.specs.Prelude.{◌≡◌, ◌+◌, ◌<◌, ◌≤◌, ◌^◌, ◌∷◌, ◌++◌, length, codes, decimal, IfOk, OnOk, OnErr};
+ghost use Rattle.std.specs.Int.{w32, w128, to_be_bytes};
+ghost use Rattle.hex.specs.Hex.{encode_lower};
+ghost use Rattle.net_addr.specs.Address.{IsAddress};
+ghost use Rattle.net_addr.specs.Text.{ipv4_text, ipv6_text, addr_text, peer_text, IsIpv4Text, IsIpv6Text, IsAddrText, IsPeerText};
+ghost use Rattle.std.specs.String.{string_bytes};
 ghost use Rattle.arrayvec.specs.ArrayVec.{array_vec_len};
 
 use crate::append::append;
-use crate::{Memory, NetAddr, Peer};
+use crate::old_form::{four, sixteen};
+use crate::{Memory, Net, NetAddr, Peer};
 use arrayvec::ArrayVec;
 use itoa::Buffer;
+use std::alloc::{AllocError, Global};
+use std::net::Ipv6Addr;
 
 /// Appends the text of an IPv4 address, the first of its four bytes the highest.
 pub fn put_ipv4(bits: u32, out: &mut Vec<u8>) -> Result<(), Memory>
     ensures ok { OnOk result (out.new.items ≡ out.old.items ++ ipv4_text (to_be_bytes w32 bits)) }
     ensures err { OnErr result (out.new.items ≡ out.old.items) }
+    ensures reads_back { IsIpv4Text (ipv4_text (to_be_bytes w32 bits)) bits }
 {
     out.extend_from_slice(dotted(bits.to_be_bytes()).as_slice())?;
     Ok(())
+}
+
+/// Appends the text of an IPv6 address in the form of RFC 5952, without brackets and always in
+/// hexadecimal; the first of its sixteen bytes is the highest.
+pub fn put_ipv6(bits: u128, out: &mut Vec<u8>) -> Result<(), Memory>
+    ensures ok { OnOk result (out.new.items ≡ out.old.items ++ ipv6_text (to_be_bytes w128 bits)) }
+    ensures err { OnErr result (out.new.items ≡ out.old.items) }
+    ensures reads_back { IsIpv6Text (ipv6_text (to_be_bytes w128 bits)) bits }
+{
+    let text = groups(bits.to_be_bytes(), *out.allocator())?;
+    put(text.as_bytes(), out)
 }
 
 /// Appends the text of an address.
 pub fn put_addr(addr: &NetAddr, out: &mut Vec<u8>) -> Result<(), Memory>
     ensures ok { OnOk result (out.new.items ≡ out.old.items ++ addr_text addr.now) }
     ensures err { OnErr result (out.new.items ≡ out.old.items) }
+    ensures reads_back { IsAddrText (addr_text addr.now) addr.now }
 {
-    out.extend_from_slice(text_of(addr).as_slice())?;
-    Ok(())
+    let text = text_of(addr, *out.allocator())?;
+    put(text.as_slice(), out)
 }
 
 /// Appends the text of a peer.
 pub fn put_peer(peer: &Peer, out: &mut Vec<u8>) -> Result<(), Memory>
     ensures ok { OnOk result (out.new.items ≡ out.old.items ++ peer_text peer.now) }
     ensures err { OnErr result (out.new.items ≡ out.old.items) }
+    ensures reads_back { IsPeerText (peer_text peer.now) peer.now }
 {
-    let mut text = text_of(&peer.addr);
-    append(&mut text, b":");
-    append_number(&mut text, peer.port);
-    out.extend_from_slice(text.as_slice())?;
+    let text = text_of_peer(peer, *out.allocator())?;
+    put(text.as_slice(), out)
+}
+
+/// Appends the text.
+fn put(text: &[u8], out: &mut Vec<u8>) -> Result<(), Memory>
+    ensures ok { OnOk result (out.new.items ≡ out.old.items ++ text.now) }
+    ensures err { OnErr result (out.new.items ≡ out.old.items) }
+{
+    out.extend_from_slice(text)?;
     Ok(())
 }
 
-// The text of an address, which leaves room for a port.
-fn text_of(addr: &NetAddr) -> ArrayVec<u8, 76>
-    ensures text { result.items ≡ addr_text addr.now }
-    ensures short { length result.items ≤ 70 }
+/// The text of a peer.
+fn text_of_peer(peer: &Peer, alloc: Global) -> Result<Vec<u8>, AllocError>
+    ensures text { IfOk result (λ text. text.items ≡ peer_text peer.now) }
+    ensures address { IsAddress peer.now.addr }
+    ensures port { peer.now.port < 2 ^ 16 }
 {
-    let mut text = ArrayVec::new();
-    append(&mut text, dotted(addr.ipv4_bytes()).as_slice());
-    text
+    let port = peer.port;
+    let mut text = text_of(&peer.addr, alloc)?;
+    text.extend_from_slice(b":")?;
+    text.extend_from_slice(Buffer::new().format(port).as_bytes())?;
+    Ok(text)
 }
 
-// Four decimal numbers with dots between them.
+/// The text of an address.
+fn text_of(addr: &NetAddr, alloc: Global) -> Result<Vec<u8>, AllocError>
+    ensures text { IfOk result (λ text. text.items ≡ addr_text addr.now) }
+    ensures address { IsAddress addr.now }
+{
+    let bytes = addr.bytes();
+    match addr.net() {
+        Net::Ipv4 => Vec::from_slice(alloc, dotted(four(bytes)).as_slice()),
+        Net::Ipv6 => bracketed(bytes, alloc),
+        Net::Onion => labelled("onion:", bytes, alloc),
+        Net::I2p => labelled("i2p:", bytes, alloc),
+        Net::Cjdns => labelled("cjdns:", bytes, alloc),
+        Net::Internal => labelled("internal:", bytes, alloc),
+        Net::Unroutable => Ok(Vec::new(alloc)),
+    }
+}
+
+/// Sixteen bytes as groups of hexadecimal digits with colons between them.
+fn groups(bytes: [u8; 16], alloc: Global) -> Result<String, AllocError>
+    ensures { IfOk result (λ text. string_bytes text ≡ ipv6_text bytes) }
+{
+    format!(in alloc; "{}", Ipv6Addr::from_octets(bytes).hex_groups())
+}
+
+/// The text of an IPv6 address in square brackets.
+fn bracketed(bytes: &[u8], alloc: Global) -> Result<Vec<u8>, AllocError>
+    requires { length bytes.now ≡ 16 }
+    ensures { IfOk result (λ text. text.items ≡ codes "[" ++ ipv6_text bytes.now ++ codes "]") }
+{
+    let inner = groups(sixteen(bytes), alloc)?;
+    let mut text = Vec::new(alloc);
+    text.extend_from_slice(b"[")?;
+    text.extend_from_slice(inner.as_bytes())?;
+    text.extend_from_slice(b"]")?;
+    Ok(text)
+}
+
+/// A word and the hexadecimal digits of the bytes.
+fn labelled(label: &str, bytes: &[u8], alloc: Global) -> Result<Vec<u8>, AllocError>
+    ensures { IfOk result (λ text. text.items ≡ label.now ++ encode_lower bytes.now) }
+{
+    let digits = hex::encode(alloc, bytes)?;
+    let mut text = Vec::new(alloc);
+    text.extend_from_slice(label.as_bytes())?;
+    text.extend_from_slice(digits.as_bytes())?;
+    Ok(text)
+}
+
+/// Four decimal numbers with dots between them.
 fn dotted(bytes: [u8; 4]) -> ArrayVec<u8, 15>
     ensures { result.items ≡ ipv4_text bytes }
 {
@@ -61,7 +138,7 @@ fn dotted(bytes: [u8; 4]) -> ArrayVec<u8, 15>
     text
 }
 
-// Appends a dot and a byte in decimal, for which there is room.
+/// Appends a dot and a byte in decimal, for which there is room.
 fn append_dotted<const N: usize>(out: &mut ArrayVec<u8, N>, byte: u8)
     requires { array_vec_len out.old + 4 ≤ N }
     ensures items { out.new.items ≡ out.old.items ++ 46 ∷ decimal byte }
@@ -71,19 +148,11 @@ fn append_dotted<const N: usize>(out: &mut ArrayVec<u8, N>, byte: u8)
     append_byte(out, byte);
 }
 
-// Appends a byte in decimal, for which there is room.
+/// Appends a byte in decimal, for which there is room.
 fn append_byte<const N: usize>(out: &mut ArrayVec<u8, N>, byte: u8)
     requires { array_vec_len out.old + 3 ≤ N }
     ensures items { out.new.items ≡ out.old.items ++ decimal byte }
     ensures short { array_vec_len out.new ≤ array_vec_len out.old + 3 }
 {
     append(out, Buffer::new().format(byte).as_bytes());
-}
-
-// Appends a number of 16 bits in decimal, for which there is room.
-fn append_number<const N: usize>(out: &mut ArrayVec<u8, N>, number: u16)
-    requires { array_vec_len out.old + 5 ≤ N }
-    ensures { out.new.items ≡ out.old.items ++ decimal number }
-{
-    append(out, Buffer::new().format(number).as_bytes());
 }

@@ -1,16 +1,18 @@
 ghost use Rattle.std.specs.Prelude.{◌≡◌, ◌≢◌, ℕ, ◌+◌, ◌-◌, ◌*◌, ◌<◌, ◌≤◌, ◌^◌, ◌↔◌, length, slice_index, IsTrue, IfSome, IfNone, Some, decimal, ◌∷◌, ◌++◌, All};
-ghost use Rattle.std.specs.Int.{w32, to_be_bytes, IsInRange};
+ghost use Rattle.std.specs.Bool.{MatchBool};
+ghost use Rattle.std.specs.Int.{w128, to_be_bytes, from_be_bytes, IsInRange};
 ghost use Rattle.net_addr.specs.Address.{Address, IsAddress};
-ghost use Rattle.net_addr.specs.Text.{ipv4_text, IsAddrText, IsPeerText, PrintedAddressIsRead, PrintedPeerIsRead};
+ghost use Rattle.net_addr.specs.Text.{IsIpv4Text, IsIpv6Text, IsHexOf, IsBracketText, IsAddrText, IsPeerText};
+ghost use Rattle.net_addr.specs.declared.net.Net.TheVariants.{Unroutable, Ipv6};
 ghost use Rattle.net_addr.specs.declared.peer.Peer.{Peer};
 
-use crate::{NetAddr, Peer};
-use std::net::Ipv4Addr;
+use crate::{Net, NetAddr, Peer};
+use std::net::{Ipv4Addr, Ipv6Addr};
 
 const COLON: u8 = b':';
 
-/// The number that the text writes in decimal digits, without a sign and without leading zeros, if
-/// it is at most `most`.
+/// The number that the text writes in decimal, if it is at most `most`. A sign or a leading zero is
+/// not read.
 pub fn parse_number(text: &[u8], most: u64) -> Option<u64>
     ensures found { IfSome result (λ n. (n ≤ most) × (text.now ≡ decimal n)) }
     ensures only { (n : ℕ) → n ≤ most → text.now ≡ decimal n → result ≡ Some n }
@@ -28,15 +30,30 @@ pub fn parse_number(text: &[u8], most: u64) -> Option<u64>
     Some(value)
 }
 
-/// The IPv4 address that the text writes as four numbers from 0 to 255 with dots between them, none
-/// with leading zeros; the first of its four bytes is the highest.
+/// The IPv4 address that the text writes as its four bytes in decimal, divided by dots and with no
+/// leading zeros; the first byte is the highest.
 pub fn parse_ipv4(text: &[u8]) -> Option<u32>
-    ensures found { IfSome result (λ n. text.now ≡ ipv4_text (to_be_bytes w32 n)) }
-    ensures only { (n : ℕ) → n < 2 ^ 32 → text.now ≡ ipv4_text (to_be_bytes w32 n)
-        → result ≡ Some n }
+    ensures found { IfSome result (λ n. IsIpv4Text text.now n) }
+    ensures only { (n : ℕ) → IsIpv4Text text.now n → result ≡ Some n }
 {
     match Ipv4Addr::parse_ascii(text) {
         Ok(address) => Some(address.to_bits()),
+        Err(_) => None,
+    }
+}
+
+/// The IPv6 address that the text writes as groups of hexadecimal digits, without brackets; the
+/// first of its sixteen bytes is the highest. The last groups cannot be written as an IPv4 address
+/// (RFC 4291, 2.2, forms 1 and 2).
+pub fn parse_ipv6(text: &[u8]) -> Option<u128>
+    ensures found { IfSome result (λ n. IsIpv6Text text.now n) }
+    ensures only { (n : ℕ) → IsIpv6Text text.now n → result ≡ Some n }
+{
+    if has_dot(text) {
+        return None;
+    }
+    match Ipv6Addr::parse_ascii(text) {
+        Ok(address) => Some(bits_of(&address.octets())),
         Err(_) => None,
     }
 }
@@ -45,8 +62,23 @@ pub fn parse_ipv4(text: &[u8]) -> Option<u32>
 pub fn parse_addr(text: &[u8]) -> Option<NetAddr>
     ensures found { IfSome result (λ a. IsAddrText text.now a) }
     ensures address { IfSome result IsAddress }
-    ensures only { (a : Address) → IsAddress a → IsAddrText text.now a → result ≡ Some a }
+    ensures only { (a : Address) → IsAddrText text.now a → result ≡ Some a }
 {
+    if let Some(inner) = text.strip_prefix(b"[") {
+        return parse_bracketed(inner);
+    }
+    if let Some(digits) = text.strip_prefix(b"onion:") {
+        return from_hex(Net::Onion, digits);
+    }
+    if let Some(digits) = text.strip_prefix(b"i2p:") {
+        return from_hex(Net::I2p, digits);
+    }
+    if let Some(digits) = text.strip_prefix(b"cjdns:") {
+        return from_hex(Net::Cjdns, digits);
+    }
+    if let Some(digits) = text.strip_prefix(b"internal:") {
+        return from_hex(Net::Internal, digits);
+    }
     let bits = parse_ipv4(text)?;
     Some(NetAddr::ipv4(bits.to_be_bytes()))
 }
@@ -55,8 +87,7 @@ pub fn parse_addr(text: &[u8]) -> Option<NetAddr>
 pub fn parse_peer(text: &[u8]) -> Option<Peer>
     ensures found { IfSome result (λ p. IsPeerText text.now p) }
     ensures address { IfSome result (λ p. IsAddress p.addr) }
-    ensures only { (p : Peer) → IsAddress p.addr → p.port < 2 ^ 16 → IsPeerText text.now p
-        → result ≡ Some p }
+    ensures only { (p : Peer) → IsPeerText text.now p → result ≡ Some p }
 {
     let (addr, port) = around_last_colon(text)?;
     let addr = parse_addr(addr)?;
@@ -67,21 +98,57 @@ pub fn parse_peer(text: &[u8]) -> Option<Peer>
     })
 }
 
-/// A law of the texts that the calls above read and those of `print` append: what is printed is read
-/// as itself.
-pub fn printed_is_read()
-    ensures address { PrintedAddressIsRead }
-    ensures peer { PrintedPeerIsRead }
-{}
+/// The address that the text after an opening bracket writes.
+fn parse_bracketed(text: &[u8]) -> Option<NetAddr>
+    ensures found { IfSome result (λ a. IsBracketText (91 ∷ text.now) a) }
+    ensures address { IfSome result IsAddress }
+    ensures only { (a : Address) → IsBracketText (91 ∷ text.now) a → result ≡ Some a }
+{
+    let inner = text.strip_suffix(b"]")?;
+    let bits = parse_ipv6(inner)?;
+    Some(NetAddr::from_v1(&bits.to_be_bytes()))
+}
 
-// Whether more digits stand after a zero at the front.
+/// The address of the network whose bytes the text writes in hexadecimal digits.
+fn from_hex(net: Net, text: &[u8]) -> Option<NetAddr>
+    requires network { (net ≢ Unroutable) × (net ≢ Ipv6) }
+    ensures found { IfSome result (λ a. IsHexOf net text.now a) }
+    ensures address { IfSome result IsAddress }
+    ensures only { (a : Address) → IsHexOf net text.now a → result ≡ Some a }
+{
+    let mut bytes = [0; 32];
+    let bytes = &mut bytes[..net.len()];
+    match hex::decode_to_slice(text, bytes) {
+        Ok(()) => NetAddr::of(net, bytes),
+        Err(_) => None,
+    }
+}
+
+/// Whether the text has a dot.
+fn has_dot(text: &[u8]) -> bool
+    ensures { MatchBool result
+        ((k : ℕ) × (k < length text.now) × (slice_index text.now k ≡ 46))
+        (All (λ c. c ≢ 46) text.now) }
+{
+    text.contains(&b'.')
+}
+
+/// The number of sixteen bytes, the first the highest.
+fn bits_of(bytes: &[u8; 16]) -> u128
+    ensures value { result ≡ from_be_bytes w128 bytes.now }
+    ensures bytes { to_be_bytes w128 result ≡ bytes.now }
+{
+    u128::from_be_bytes(*bytes)
+}
+
+/// Whether more digits come after a zero at the front.
 fn is_padded(text: &[u8]) -> bool
     ensures { IsTrue result ↔ ((1 < length text.now) × (slice_index text.now 0 ≡ 48)) }
 {
     text.len() > 1 && text[0] == b'0'
 }
 
-// The number with one more decimal digit, if the byte is a digit and the number is at most `most`.
+/// The number with one more decimal digit, if the byte is a digit and the number is at most `most`.
 fn with_digit(value: u64, byte: u8, most: u64) -> Option<u64>
     requires { value ≤ most }
     ensures found { IfSome result (λ n.
@@ -95,7 +162,7 @@ fn with_digit(value: u64, byte: u8, most: u64) -> Option<u64>
     if next <= most { Some(next) } else { None }
 }
 
-// What stands before the last colon of the text, and after it.
+/// The text before its last colon, and the text after it.
 fn around_last_colon(text: &[u8]) -> Option<(&[u8], &[u8])>
     ensures cut { IfSome result (λ parts. text.now ≡ parts.0.now ++ COLON ∷ parts.1.now) }
     ensures last { IfSome result (λ parts. All (λ c. c ≢ COLON) parts.1.now) }

@@ -29,7 +29,7 @@ returns-in_err-value-clause-only c = λ n h e.
 pub returns-clause-found : goal.returns-clause-found
 returns-clause-found c =
     let text = c.args.text.now in
-    let whole = subst (λ i. Reads text i c.loop-byte.value) (omega arith) c.loop-byte.invariant.so_far in
+    let whole : Reads text (length text) c.loop-byte.value = subst (λ i. Reads text i c.loop-byte.value) (omega arith) c.loop-byte.invariant.so_far in
     let more : 0 < length text = omega (arith, eqb-false _ _ (sym c.if-is_empty.ensures)) in
     let plain : get_or text 0 0 ≡ 48 → length text ≡ 1 = λ zero_first. elim (cases_lt 1 (length text)) [
       | inl many ↦ absurd (false≢true (c.if-is_padded.ensures.1 (many, zero_first)))
@@ -40,5 +40,5 @@ returns-clause-found c =
 pub returns-clause-only : goal.returns-clause-only
 returns-clause-only c = λ n h e.
     let text = c.args.text.now in
-    let whole = subst (λ i. Reads text i c.loop-byte.value) (omega arith) c.loop-byte.invariant.so_far in
+    let whole : Reads text (length text) c.loop-byte.value = subst (λ i. Reads text i c.loop-byte.value) (omega arith) c.loop-byte.invariant.so_far in
     ap Some (decimal-all text n c.loop-byte.value e (omega arith) whole)
