@@ -1,5 +1,5 @@
--- How Bitcoin Core's asmap file spells numbers as bits: `DecodeBits` in util/asmap.cpp, and the four tables of
--- class sizes beside it.
+-- How an asmap file of Bitcoin Core spells numbers as bits: `DecodeBits` in util/asmap.cpp and the
+-- four tables of class sizes beside it.
 use Rattle.std.specs.Prelude.{◌≡◌, ◌==◌, ℕ, ◌+◌, ◌-◌, ◌^◌, ◌<◌, ◌≤◌, Bool, true, false, List, [], ◌∷◌, ◌++◌, if◌then◌else◌, nat_lt, sum_by, length}
 use Prim.Native.Nat.{zero, suc}
 use Rattle.std.specs.Int.{bit_at}
@@ -30,7 +30,8 @@ low_digits (suc k) n = low_digits k n ++ has_bit n k ∷ []
 unfoldable pub file_bits : List ℕ → List Bool
 file_bits bytes = flat_map (low_digits 8) bytes
 
--- the least value of a coder (`DecodeType`, `DecodeASN`, `DecodeMatch` and `DecodeJump` in util/asmap.cpp)
+-- the least value of a coder: `DecodeType`, `DecodeASN`, `DecodeMatch` and `DecodeJump` in
+-- util/asmap.cpp
 abbrev pub least : Coder → ℕ
 least Kind = 0
 least Asn = 1
@@ -48,8 +49,9 @@ sizes Jump = range_with_len 5 26
 unfoldable pub values_of : List ℕ → ℕ
 values_of classes = sum_by (λ size. 2 ^ size) classes
 
--- The spelling of number n, counted from 0, over classes of these sizes. A zero-bit says that it is of the first
--- class and its digits follow; a one-bit, that it is of a later one. The last class needs no zero-bit.
+-- The spelling of number n, counted from 0, over classes of these sizes. A zero-bit says that n is of
+-- the first class, and its digits follow; a one-bit, that it is of a later class. The last class has
+-- no zero-bit.
 unfoldable pub spelling_by : List ℕ → ℕ → List Bool
 spelling_by [] n = []
 spelling_by (size ∷ []) n = digits size n
@@ -69,3 +71,13 @@ pub record HasValue (coder : Coder) (n : ℕ) : Type 0 where
 pub record Spells (coder : Coder) (n : ℕ) (bits rest : List Bool) : Type 0 where
   pub value : HasValue coder n
   pub spelled : bits ≡ spelling coder n ++ rest
+
+-- the coder of the number after a kind
+abbrev pub coder_after : ℕ → Coder
+coder_after kind = if kind == 1 then Jump else (if kind == 2 then Match else Asn)
+
+-- the bits begin with a kind and a number of the coder for it, and then go on with the rest
+pub record SpellsBoth (kind n : ℕ) (bits rest : List Bool) : Type 0 where
+  pub kind_value : HasValue Kind kind
+  pub value : HasValue (coder_after kind) n
+  pub spelled : bits ≡ spelling Kind kind ++ (spelling (coder_after kind) n ++ rest)

@@ -1,4 +1,7 @@
 pub mod Coder
 pub mod Reading
-pub mod Seen
-pub mod Window
+pub mod Inside
+pub mod Files
+pub mod DigitLaws
+pub mod ReadingLaws
+pub mod SpellingLaws

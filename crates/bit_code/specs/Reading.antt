@@ -12,7 +12,8 @@ abbrev pub after_values : ℕ → Option (ℕ × List Bool) → Option (ℕ × L
 after_values passed None = None
 after_values passed (Some read) = Some (passed + read.0, read.1)
 
--- the number, counted from 0, that the bits begin with over classes of these sizes, and the bits after it
+-- the number, counted from 0, that the bits begin with over classes of these sizes, and the bits
+-- after it
 unfoldable pub read_by : List ℕ → List Bool → Option (ℕ × List Bool)
 read_by [] bits = None
 read_by (size ∷ []) bits = digits_at size bits

@@ -1,7 +1,7 @@
-ghost use Rattle.std.specs.Prelude.{◌≡◌, ◌+◌, ◌<◌, ◌≤◌, Some, length, slice_get};
+ghost use Rattle.std.specs.Prelude.{◌≡◌, ◌+◌, ◌*◌, ◌<◌, ◌≤◌, ◌∷◌, ◌++◌, Some, length, slice_get, drop, replicate};
 ghost use Rattle.bit_code.specs.Coder.{file_bits};
 ghost use Rattle.std.specs.Int.{from_le_bytes, w64};
-ghost use Rattle.bit_code.specs.Window.{IsWindow, AreBytes, eight};
+ghost use Rattle.bit_code.specs.Inside.{IsWindow, IsWord, AreBytes, eight};
 
 use std::marker::Model;
 
@@ -27,12 +27,13 @@ impl<'a> Bits<'a> {
     #[inline]
     pub fn of(bytes: &'a [u8]) -> Bits<'a>
         requires { length bytes.now ≤ 8388608 }
-        ensures { result ≡ file_bits bytes.now }
+        ensures bits { result ≡ file_bits bytes.now }
+        ensures len { length result ≡ 8 * length bytes.now }
     {
         Bits { bytes }
     }
 
-    /// How many bits there are, eight to a byte.
+    /// The number of bits, eight to a byte.
     #[inline]
     pub fn len(&self) -> usize
         ensures { result ≡ length self.now }
@@ -40,27 +41,41 @@ impl<'a> Bits<'a> {
         self.bytes.len() * 8
     }
 
-    /// The bit at a place, counted from 0.
+    /// The bit at an offset, counted from 0.
     #[inline]
     pub fn get(&self, at: usize) -> bool
         requires { at < length self.now }
-        ensures { slice_get self.now at ≡ Some result }
+        ensures bit { slice_get self.now at ≡ Some result }
+        ensures front { drop at self.now ≡ result ∷ drop (at + 1) self.now }
     {
         (self.bytes[at / 8] >> (at % 8)) & 1 == 1
     }
 
-    /// The next bits from a place on, at least 57 of them, the first as the lowest.
-    #[inline]
+    /// At least 57 bits from an offset on, the first as the lowest. Any bits follow the last one.
+    #[inline(always)]
     pub(crate) fn window(&self, at: usize) -> u64
-        requires { at + 64 ≤ length self.now }
+        requires { at ≤ length self.now }
         ensures { IsWindow self.now at result }
     {
-        word_at(self.bytes, at / 8) >> (at % 8)
+        word_from(self.bytes, at / 8) >> (at % 8)
     }
 }
 
-/// Eight bytes from a place on, the first as the lowest.
-#[inline]
+/// The bytes from byte `q` on, the first as the lowest.
+#[inline(always)]
+fn word_from(bytes: &[u8], q: usize) -> u64
+    requires { q ≤ length bytes.now }
+    ensures { IsWord bytes.now q result }
+{
+    if bytes.len() - q >= 8 {
+        word_at(bytes, q)
+    } else {
+        last_word(bytes, q)
+    }
+}
+
+/// Eight bytes from byte `q` on, the first as the lowest.
+#[inline(always)]
 fn word_at(bytes: &[u8], q: usize) -> u64
     requires { q + 8 ≤ length bytes.now }
     ensures bytes { AreBytes (eight bytes.now q) }
@@ -76,4 +91,24 @@ fn word_at(bytes: &[u8], q: usize) -> u64
         bytes[q + 6],
         bytes[q + 7],
     ])
+}
+
+/// The last bytes, fewer than eight, and zeros after them, the first as the lowest.
+#[inline(never)]
+fn last_word(bytes: &[u8], q: usize) -> u64
+    requires q { q ≤ length bytes.now }
+    requires few { length bytes.now < q + 8 }
+    ensures { IsWord bytes.now q result }
+{
+    word_at(&with_zeros(&bytes[q..]), 0)
+}
+
+/// These bytes and zeros after them, eight in all.
+fn with_zeros(bytes: &[u8]) -> [u8; 8]
+    requires { length bytes.now ≤ 8 }
+    ensures { result ≡ bytes.now ++ drop (length bytes.now) (replicate 8 0) }
+{
+    let mut word = [0u8; 8];
+    word[..bytes.len()].copy_from_slice(bytes);
+    word
 }

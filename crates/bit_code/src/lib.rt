@@ -1,10 +1,21 @@
-//! The bits of an asmap file, and the numbers that they spell, as Bitcoin Core reads them in `util/asmap.cpp`.
+//! The bits of an asmap file and the numbers that they spell, as in `util/asmap.cpp` of Bitcoin Core.
 #![tactic(auto)]
 
+mod ahead;
+mod bit_front;
+mod bit_out;
 mod bits;
+mod classes;
 mod coder;
+mod memory;
 mod number;
+mod packing;
+mod reversal;
+mod spelled;
 
+pub use bit_front::BitFront;
+pub use bit_out::BitOut;
 pub use bits::Bits;
 pub use coder::Coder;
-pub use number::read_number;
+pub use memory::Memory;
+pub use number::{KindAndNumber, read_kind_and_number, read_number};

@@ -1,112 +1,78 @@
-ghost use Rattle.std.specs.Prelude.{◌≡◌, ℕ, ◌+◌, ◌^◌, ◌<◌, ◌≤◌, Bool, List, [], length, drop, IfSome, IfNone, IsSomeAnd, All, Some};
-ghost use Rattle.bit_code.specs.Coder.{Spells, values_of, number_of, low_digits};
-ghost use Rattle.bit_code.specs.Reading.{read_front, read_by, digits_at, after_values};
-ghost use Rattle.bit_code.specs.Seen.{seen};
+ghost use Rattle.std.specs.Prelude.{◌≡◌, ℕ, ◌+◌, ◌<◌, ◌≤◌, Bool, List, length, drop, IfSome, IfNone, IsSomeAnd};
+ghost use Rattle.bit_code.specs.Coder.{Spells, SpellsBoth};
 
+use crate::ahead::{kind_ahead, number_after, number_ahead};
 use crate::bits::Bits;
 use crate::coder::Coder;
 
-/// The value of a coder that the bits from a place on begin with, and the place after its spelling. None where the
-/// spelling runs past the end. This is `DecodeBits` of Bitcoin Core's `util/asmap.cpp`.
+/// The value of a coder that is spelled at an offset, and the offset after it, both in bits. None if
+/// the spelling runs past the end. This is `DecodeBits` of `util/asmap.cpp` in Bitcoin Core.
+#[inline]
 pub fn read_number(bits: &Bits<'_>, at: usize, coder: Coder) -> Option<(u32, usize)>
     requires { at ≤ length bits.now }
     ensures place { IfSome result (λ read. (at < read.1) × (read.1 ≤ length bits.now)) }
-    ensures found { IfSome result (λ read. Spells coder read.0 (drop at bits.now) (drop read.1 bits.now)) }
+    ensures found { IfSome result (λ read.
+        Spells coder read.0 (drop at bits.now) (drop read.1 bits.now)) }
     ensures only { (n : ℕ) (rest : List Bool) → Spells coder n (drop at bits.now) rest →
         IsSomeAnd result (λ read. (read.0 ≡ n) × (drop read.1 bits.now ≡ rest)) }
-    ensures none { IfNone result ((n : ℕ) (rest : List Bool) → Spells coder n (drop at bits.now) rest → ⊥) }
+    ensures none { IfNone result ((n : ℕ) (rest : List Bool) →
+        Spells coder n (drop at bits.now) rest → ⊥) }
 {
-    read_class(bits, at, coder.sizes(), coder.least())
-}
-
-/// The number that the bits from a place on begin with over classes of these sizes, counted from `least`.
-fn read_class(bits: &Bits<'_>, at: usize, sizes: &[u8], least: u32) -> Option<(u32, usize)>
-    requires within { at ≤ length bits.now }
-    requires several { 1 < length sizes.now }
-    requires few { length sizes.now ≤ 26 }
-    requires small { All (λ size. size < 31) sizes.now }
-    requires fits { least + values_of sizes.now ≤ 2 ^ 32 }
-    ensures place { IfSome result (λ read. (at < read.1) × (read.1 ≤ length bits.now)) }
-    ensures value { seen bits.now result ≡ after_values least (read_by sizes.now (drop at bits.now)) }
-{
-    if bits.len() - at >= 64 {
-        return Some(read_ahead(bits, at, sizes, least));
-    }
-    let last = sizes.len() - 1;
-    let mut value = least;
-    let mut place = at;
-    for class in 0..last {
-        if place == bits.len() {
-            return None;
-        }
-        let later = bits.get(place);
-        place += 1;
-        if !later {
-            return read_digits(bits, place, sizes[class], value);
-        }
-        value += 1 << sizes[class];
-    }
-    read_digits(bits, place, sizes[last], value)
-}
-
-/// The number that the next digits spell, high bit first, counted from `least`.
-#[inline]
-fn read_digits(bits: &Bits<'_>, at: usize, size: u8, least: u32) -> Option<(u32, usize)>
-    requires within { at ≤ length bits.now }
-    requires small { size < 32 }
-    requires fits { least + 2 ^ size ≤ 2 ^ 32 }
-    ensures place { IfSome result (λ read. (at ≤ read.1) × (read.1 ≤ length bits.now)) }
-    ensures value { seen bits.now result ≡ after_values least (digits_at size (drop at bits.now)) }
-{
-    let size = size as usize;
-    if bits.len() - at < size {
+    let number = number_ahead(bits.window(at), coder);
+    let Some(end) = offset_after(at, number.len, bits.len()) else {
         return None;
-    }
-    let mut digits: u32 = 0;
-    for place in at..at + size {
-        digits = digits * 2 + bits.get(place) as u32;
-    }
-    Some((least + digits, at + size))
+    };
+    Some((number.value, end))
 }
 
-/// The same where at least 64 bits are left, from a window of the bits.
-#[inline]
-fn read_ahead(bits: &Bits<'_>, at: usize, sizes: &[u8], least: u32) -> (u32, usize)
-    requires room { at + 64 ≤ length bits.now }
-    requires size { length bits.now < 2 ^ 64 }
-    requires several { 1 < length sizes.now }
-    requires few { length sizes.now ≤ 26 }
-    requires small { All (λ size. size < 31) sizes.now }
-    requires fits { least + values_of sizes.now ≤ 2 ^ 32 }
-    ensures place { (at < result.1) × (result.1 ≤ length bits.now) }
-    ensures value { seen bits.now (Some result) ≡ after_values least (read_by sizes.now (drop at bits.now)) }
+/// A kind and the number after it.
+#[derive(Clone, Copy, Debug, PartialEq, Eq)]
+pub struct KindAndNumber {
+    /// The kind of an instruction, 0 to 3.
+    pub kind: u32,
+    /// The number after it: of `Coder::Jump` after kind 1, of `Coder::Match` after kind 2, and of
+    /// `Coder::Asn` after the others.
+    pub number: u32,
+    /// The offset after both, in bits.
+    pub end: usize,
+}
+
+/// The kind that is spelled at an offset in bits, and the number after it. None if their spelling
+/// runs past the end.
+#[inline(always)]
+pub fn read_kind_and_number(bits: &Bits<'_>, at: usize) -> Option<KindAndNumber>
+    requires { at ≤ length bits.now }
+    ensures place { IfSome result (λ read. (at < read.end) × (read.end ≤ length bits.now)) }
+    ensures found { IfSome result (λ read.
+        SpellsBoth read.kind read.number (drop at bits.now) (drop read.end bits.now)) }
+    ensures only { (kind n : ℕ) (rest : List Bool) → SpellsBoth kind n (drop at bits.now) rest →
+        IsSomeAnd result (λ read. (read.kind ≡ kind) × (read.number ≡ n)
+        × (drop read.end bits.now ≡ rest)) }
+    ensures none { IfNone result ((kind n : ℕ) (rest : List Bool) →
+        SpellsBoth kind n (drop at bits.now) rest → ⊥) }
 {
     let window = bits.window(at);
-    let later = sizes.len() - 1;
-    let mut value = least;
-    for class in 0..later {
-        let size = sizes[class];
-        if (window >> class) & 1 == 0 {
-            let digits = front_digits(window >> (class + 1), size);
-            return (value + digits, at + class + 1 + size as usize);
-        }
-        value += 1 << size;
-    }
-    let size = sizes[later];
-    let digits = front_digits(window >> later, size);
-    (value + digits, at + later + size as usize)
+    let kind = kind_ahead(window);
+    let number = number_after(window >> kind.len, kind.value);
+    let Some(end) = offset_after(at, kind.len + number.len, bits.len()) else {
+        return None;
+    };
+    Some(KindAndNumber {
+        kind: kind.value,
+        number: number.value,
+        end,
+    })
 }
 
-/// The number that the lowest bits spell, the first digit being the lowest bit.
-#[inline]
-fn front_digits(window: u64, size: u8) -> u32
-    requires { size < 31 }
-    ensures small { result < 2 ^ size }
-    ensures value { result ≡ number_of (low_digits size window) }
+/// The offset after `len` more bits, None if that is past the end.
+#[inline(always)]
+fn offset_after(at: usize, len: u32, total: usize) -> Option<usize>
+    requires { at ≤ total }
+    ensures found { IfSome result (λ end. (end ≡ at + len) × (end ≤ total)) }
+    ensures none { IfNone result (total < at + len) }
 {
-    let mut digits: u32 = 0;
-    for k in 0..size {
-        digits = digits * 2 + ((window >> k) & 1) as u32;
+    if len as usize > total - at {
+        return None;
     }
-    digits
+    Some(at + len as usize)
 }

@@ -1,31 +1,25 @@
-use Rattle.std.proofs.Common.{◌≡◌, drop}
-use Rattle.bit_code.specs.Seen.{seen}
-use Rattle.bit_code.specs.Reading.{read_front}
-use Rattle.bit_code.proofs.Answering.{found, only, none}
-use Rattle.bit_code.proofs.Coders.{coder_fits, coder_few, coder_several, coder_small}
+use Rattle.std.proofs.Common.{drop, arith, length-drop}
+use Rattle.std.proofs.lemmas.List.{drop-drop}
+use Rattle.bit_code.proofs.Fronts.{window_begins, longest-le, found, only, none}
 use Rattle.bit_code.proofs.number.read_number.Goals as goal
 
-pub read_class-requires-clause-several : goal.read_class-requires-clause-several
-read_class-requires-clause-several c = rw c.sizes.ensures (coder_several c.args.coder)
+pub returns-in_default-clause-only : goal.returns-in_default-clause-only
+returns-in_default-clause-only c = λ n rest h.
+    let b = window_begins c.args.coder _ _ c.args.bits.now c.args.at c.window.result c.window.ensures (longest-le c.args.coder) c.number_ahead-number.ensures.most c.number_ahead-number.ensures.value in
+    none c.args.coder _ _ (drop c.args.at c.args.bits.now) b (omega (arith, c.in_default.ensures.none, c.len.ensures, length-drop c.args.at c.args.bits.now)) n rest h
 
-pub read_class-requires-clause-few : goal.read_class-requires-clause-few
-read_class-requires-clause-few c = rw c.sizes.ensures (coder_few c.args.coder)
-
-pub read_class-requires-clause-small : goal.read_class-requires-clause-small
-read_class-requires-clause-small c = rw c.sizes.ensures (coder_small c.args.coder)
-
-pub read_class-requires-clause-fits : goal.read_class-requires-clause-fits
-read_class-requires-clause-fits c = rw (c.sizes.ensures, c.least.ensures) (coder_fits c.args.coder)
-
-same : (c : goal.After-read_class) → seen c.args.bits.now c.read_class.result ≡ read_front c.args.coder (drop c.args.at c.args.bits.now)
-unfolding read_front
-same c = rw (c.sizes.ensures, c.least.ensures) at c.read_class.ensures.value
+pub returns-in_default-clause-none : goal.returns-in_default-clause-none
+returns-in_default-clause-none c = λ n rest h.
+    let b = window_begins c.args.coder _ _ c.args.bits.now c.args.at c.window.result c.window.ensures (longest-le c.args.coder) c.number_ahead-number.ensures.most c.number_ahead-number.ensures.value in
+    none c.args.coder _ _ (drop c.args.at c.args.bits.now) b (omega (arith, c.in_default.ensures.none, c.len.ensures, length-drop c.args.at c.args.bits.now)) n rest h
 
 pub returns-clause-found : goal.returns-clause-found
-returns-clause-found c = found c.args.coder c.args.bits.now c.args.at c.read_class.result (same c)
+returns-clause-found c =
+    let b = window_begins c.args.coder _ _ c.args.bits.now c.args.at c.window.result c.window.ensures (longest-le c.args.coder) c.number_ahead-number.ensures.most c.number_ahead-number.ensures.value in
+    rw c.in-Some.ensures.found.0 (rw drop-drop at (found c.args.coder _ _ (drop c.args.at c.args.bits.now) b (omega (arith, c.in-Some.ensures.found, c.len.ensures, length-drop c.args.at c.args.bits.now))))
 
 pub returns-clause-only : goal.returns-clause-only
-returns-clause-only c = only c.args.coder c.args.bits.now c.args.at c.read_class.result (same c)
-
-pub returns-clause-none : goal.returns-clause-none
-returns-clause-none c = none c.args.coder c.args.bits.now c.args.at c.read_class.result (same c)
+returns-clause-only c = λ n rest h.
+    let b = window_begins c.args.coder _ _ c.args.bits.now c.args.at c.window.result c.window.ensures (longest-le c.args.coder) c.number_ahead-number.ensures.most c.number_ahead-number.ensures.value in
+    let o = only c.args.coder _ _ (drop c.args.at c.args.bits.now) b (omega (arith, c.in-Some.ensures.found, c.len.ensures, length-drop c.args.at c.args.bits.now)) n rest h in
+    (o.0, rw c.in-Some.ensures.found.0 (rw drop-drop at o.1))

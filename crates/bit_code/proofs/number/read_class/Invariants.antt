@@ -1,5 +1,0 @@
-use Rattle.bit_code.proofs.Classes.{StillReads}
-use Rattle.bit_code.proofs.number.read_class.Given as goal
-
-abbrev pub invariant-loop-class : goal.invariant-loop-class
-invariant-loop-class l = StillReads l.bits l.at l.sizes l.least l.class l.value l.place

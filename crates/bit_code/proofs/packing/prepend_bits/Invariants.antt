@@ -1,0 +1,10 @@
+use Rattle.std.proofs.Common.{◌≡◌, ◌+◌, ◌-◌, ◌*◌, ◌/◌, ◌^◌, ◌++◌, reverse, vec_len, vec_capacity}
+use Rattle.bit_code.specs.Coder.{file_bits, low_digits}
+use Rattle.bit_code.proofs.packing.prepend_bits.Given as goal
+
+abbrev pub invariant-loop-k : goal.invariant-loop-k
+invariant-loop-k l = record {
+  bits : file_bits (reverse l.bytes.items) ≡ low_digits (8 * l.k) (l.bits / 2 ^ (l.len - 8 * l.k)) ++ file_bits (reverse l.initial.bytes.items);
+  len : vec_len l.bytes ≡ vec_len l.initial.bytes + l.k;
+  capacity : vec_capacity l.bytes ≡ vec_capacity l.initial.bytes;
+}

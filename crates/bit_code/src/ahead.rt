@@ -1,0 +1,111 @@
+ghost use Rattle.std.specs.Prelude.{◌≡◌, ◌+◌, ◌-◌, ◌*◌, ◌^◌, ◌<◌, ◌≤◌, Bool, List, ◌++◌, Some, drop, length};
+ghost use Rattle.std.specs.List.{range_with_len};
+ghost use Rattle.bit_code.specs.Coder.{low_digits, coder_after};
+ghost use Rattle.bit_code.specs.Reading.{read_front, read_by, after_values};
+ghost use Rattle.bit_code.specs.Inside.{longest, class_head, IsClass};
+
+use crate::classes::{ASN, Classes, JUMP, MATCH, classes_after};
+use crate::coder::Coder;
+use crate::reversal::front_digits;
+
+/// A number that some bits begin with.
+#[derive(Clone, Copy, Debug, PartialEq, Eq)]
+pub(crate) struct Number {
+    /// The value.
+    pub value: u32,
+    /// The number of bits that spell it.
+    pub len: u32,
+}
+
+/// The value of a coder that a window begins with.
+#[inline(always)]
+pub(crate) fn number_ahead(window: u64, coder: Coder) -> Number
+    ensures least { 0 < result.len }
+    ensures most { result.len ≤ longest coder }
+    ensures value { (more : List Bool) → let bits = low_digits (longest coder) window ++ more in
+        read_front coder bits ≡ Some (result.value, drop result.len bits) }
+{
+    match coder {
+        Coder::Kind => kind_ahead(window),
+        Coder::Asn => rising_ahead(window, ASN),
+        Coder::Match => rising_ahead(window, MATCH),
+        Coder::Jump => rising_ahead(window, JUMP),
+    }
+}
+
+/// The number that a window begins with after a kind, read without a branch on the kind.
+#[inline(always)]
+pub(crate) fn number_after(window: u64, kind: u32) -> Number
+    requires { kind ≤ 3 }
+    ensures least { 0 < result.len }
+    ensures most { result.len ≤ longest (coder_after kind) }
+    ensures value { (more : List Bool) → let coder = coder_after kind in
+        let bits = low_digits (longest coder) window ++ more in
+        read_front coder bits ≡ Some (result.value, drop result.len bits) }
+{
+    rising_ahead(window, classes_after(kind))
+}
+
+/// The kind that a window begins with: the number of one-bits before the first zero-bit, at most 3.
+#[inline(always)]
+pub(crate) fn kind_ahead(window: u64) -> Number
+    ensures least { 0 < result.len }
+    ensures most { result.len ≤ 3 }
+    ensures kind { result.len ≤ result.value + 1 }
+    ensures top { result.value ≤ 3 }
+    ensures value { (more : List Bool) → let bits = low_digits 3 window ++ more in
+        read_front Coder.Kind bits ≡ Some (result.value, drop result.len bits) }
+{
+    let kind = class_ahead(window, 3);
+    Number {
+        value: kind,
+        len: (kind + 1).min(3),
+    }
+}
+
+/// The class that a window begins with: the number of one-bits before the first zero-bit, at most
+/// `last`.
+#[inline(always)]
+fn class_ahead(window: u64, last: u32) -> u32
+    requires { last < 64 }
+    ensures class { IsClass window result last }
+    ensures most { result ≤ last }
+{
+    (!window | (1 << last)).trailing_zeros()
+}
+
+/// The number that a window begins with over classes of rising sizes.
+#[inline(always)]
+fn rising_ahead(window: u64, classes: Classes) -> Number
+    requires some { 0 < classes.first }
+    requires fits { classes.first + classes.last ≤ 30 }
+    requires low { classes.least < 32 }
+    ensures least { 0 < result.len }
+    ensures most { result.len ≤ classes.first + 2 * classes.last }
+    ensures low { classes.least ≤ result.value }
+    ensures value { (more : List Bool) →
+        let bits = low_digits (classes.first + 2 * classes.last) window ++ more in
+        after_values classes.least (read_by (range_with_len classes.first (classes.last + 1)) bits)
+        ≡ Some (result.value, drop result.len bits) }
+{
+    let class = class_ahead(window, classes.last);
+    let head = head_len(class, classes.last);
+    let size = classes.first + class;
+    let before = (1 << size) - (1 << classes.first);
+    Number {
+        value: classes.least + before + front_digits(window >> head, size),
+        len: head + size,
+    }
+}
+
+/// The number of bits before the digits of a value, by its class and the last class.
+#[inline(always)]
+pub(crate) fn head_len(class: u32, last: u32) -> u32
+    requires { class ≤ last }
+    ensures least { class ≤ result }
+    ensures len { result ≡ length (class_head class last) }
+    ensures most { result + class ≤ 2 * last }
+    ensures one { result ≤ class + 1 }
+{
+    if class < last { class + 1 } else { class }
+}

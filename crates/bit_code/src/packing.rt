@@ -1,0 +1,130 @@
+ghost use Rattle.std.specs.Prelude.{◌≡◌, ◌+◌, ◌-◌, ◌*◌, ◌/◌, ◌%◌, ◌^◌, ◌<◌, ◌≤◌, ◌++◌, length, reverse, vec_len, vec_capacity, OnOk};
+ghost use Rattle.bit_code.specs.Coder.{file_bits, low_digits};
+
+use crate::memory::Memory;
+
+/// The most bytes that are stored. With more, the number of their bits would not fit a `usize`.
+const MOST_BYTES: usize = 1 << 60;
+
+/// Makes room for `more` bytes.
+pub(crate) fn make_room(bytes: &mut Vec<u8>, more: usize) -> Result<(), Memory>
+    ensures items { bytes.new.items ≡ bytes.old.items }
+    ensures len { vec_len bytes.new ≡ vec_len bytes.old }
+    ensures capacity { vec_capacity bytes.old ≤ vec_capacity bytes.new }
+    ensures room { OnOk result (vec_len bytes.new + more ≤ vec_capacity bytes.new) }
+    ensures few { OnOk result (vec_len bytes.new + more ≤ 2 ^ 60) }
+{
+    if more > MOST_BYTES || bytes.len() > MOST_BYTES - more {
+        return Err(Memory);
+    }
+    bytes.reserve(more)?;
+    Ok(())
+}
+
+/// The lowest bits, fewer than eight.
+#[inline(always)]
+fn low_bits(bits: u64, len: u32) -> u8
+    requires { len < 8 }
+    ensures bits { low_digits len result ≡ low_digits len bits }
+    ensures within { result < 2 ^ len }
+{
+    (bits % (1 << len)) as u8
+}
+
+/// The first bits and then the last ones. In each number the first bit is the lowest.
+#[inline(always)]
+pub(crate) fn cat_bits(first: u64, first_len: u32, last: u64, last_len: u32) -> u64
+    requires few { first_len + last_len < 64 }
+    requires first { first < 2 ^ first_len }
+    requires last { last < 2 ^ last_len }
+    ensures bits { low_digits (first_len + last_len) result
+        ≡ low_digits first_len first ++ low_digits last_len last }
+    ensures within { result < 2 ^ (first_len + last_len) }
+{
+    first + (last << first_len)
+}
+
+/// Appends the whole bytes that `len` bits make, the first bit as the lowest. Gives the bits that are
+/// left.
+pub(crate) fn append_bits(bytes: &mut Vec<u8>, bits: u64, len: u32) -> u8
+    requires few { len < 64 }
+    requires room { vec_len bytes.old + 8 ≤ vec_capacity bytes.old }
+    ensures bits { file_bits bytes.new.items ++ low_digits (len % 8) result
+        ≡ file_bits bytes.old.items ++ low_digits len bits }
+    ensures rest { result < 2 ^ (len % 8) }
+    ensures len { vec_len bytes.new ≡ vec_len bytes.old + len / 8 }
+    ensures capacity { vec_capacity bytes.new ≡ vec_capacity bytes.old }
+{
+    for k in 0..len / 8 {
+        bytes.push_reserved(((bits >> (8 * k)) % 256) as u8);
+    }
+    low_bits(bits >> (len - len % 8), len % 8)
+}
+
+/// The first eight of the bits of `rest` and then of a byte, and the bits that are left.
+#[inline(always)]
+fn join_byte(rest: u8, rest_len: u32, byte: u8) -> (u8, u8)
+    requires few { rest_len < 8 }
+    requires rest { rest < 2 ^ rest_len }
+    ensures bits { low_digits 8 result.0 ++ low_digits rest_len result.1
+        ≡ low_digits rest_len rest ++ low_digits 8 byte }
+    ensures within { result.1 < 2 ^ rest_len }
+{
+    let bits = u16::from(rest) + (u16::from(byte) << rest_len);
+    ((bits % 256) as u8, (bits >> 8) as u8)
+}
+
+/// Appends the bits of `rest` and then those of some bytes. Gives the bits that are left.
+pub(crate) fn append_bytes(bytes: &mut Vec<u8>, rest: u8, rest_len: u32, more: &[u8]) -> u8
+    requires few { rest_len < 8 }
+    requires rest { rest < 2 ^ rest_len }
+    requires room { vec_len bytes.old + length more.now + 8 ≤ vec_capacity bytes.old }
+    ensures bits { file_bits bytes.new.items ++ low_digits rest_len result
+        ≡ file_bits bytes.old.items ++ (low_digits rest_len rest ++ file_bits more.now) }
+    ensures rest { result < 2 ^ rest_len }
+    ensures len { vec_len bytes.new ≡ vec_len bytes.old + length more.now }
+    ensures capacity { vec_capacity bytes.new ≡ vec_capacity bytes.old }
+{
+    let mut left = rest;
+    for byte in more {
+        let (first, next) = join_byte(left, rest_len, *byte);
+        bytes.push_reserved(first);
+        left = next;
+    }
+    left
+}
+
+/// Appends the whole bytes at the end of `len` bits, the last byte first. Gives the bits that are
+/// left before them.
+pub(crate) fn prepend_bits(bytes: &mut Vec<u8>, bits: u64, len: u32) -> u8
+    requires few { len < 64 }
+    requires room { vec_len bytes.old + 8 ≤ vec_capacity bytes.old }
+    ensures bits { low_digits (len % 8) result ++ file_bits (reverse bytes.new.items)
+        ≡ low_digits len bits ++ file_bits (reverse bytes.old.items) }
+    ensures rest { result < 2 ^ (len % 8) }
+    ensures len { vec_len bytes.new ≡ vec_len bytes.old + len / 8 }
+    ensures capacity { vec_capacity bytes.new ≡ vec_capacity bytes.old }
+{
+    for k in 0..len / 8 {
+        bytes.push_reserved(((bits >> (len - 8 - 8 * k)) % 256) as u8);
+    }
+    low_bits(bits, len % 8)
+}
+
+/// Puts the bits of `rest` before those of some bytes, which move up. Gives the bits that no longer
+/// fit.
+pub(crate) fn shift_in(bytes: &mut [u8], rest: u8, rest_len: u32) -> u8
+    requires few { rest_len < 8 }
+    requires rest { rest < 2 ^ rest_len }
+    ensures bits { file_bits bytes.new ++ low_digits rest_len result
+        ≡ low_digits rest_len rest ++ file_bits bytes.old }
+    ensures rest { result < 2 ^ rest_len }
+{
+    let mut left = rest;
+    for byte in bytes.iter_mut() {
+        let (first, next) = join_byte(left, rest_len, *byte);
+        *byte = first;
+        left = next;
+    }
+    left
+}
