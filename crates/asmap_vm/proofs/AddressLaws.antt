@@ -1,10 +1,11 @@
--- The bits of an address from some place on.
+-- The bits of an address from some offset on.
 use Rattle.std.proofs.Common.{◌≡◌, ℕ, zero, suc, ◌+◌, ◌-◌, ◌*◌, ◌/◌, ◌%◌, ◌^◌, ◌<◌, ◌≤◌, Bool, true, false, List, [], ◌∷◌, ◌++◌, length, take, drop, refl, ap, sym, ◌∙◌, arith, eqb, eq-eqb, bit_and}
 use Rattle.std.proofs.Math.Seq.{take-append_seam, drop-append_seam}
 use Rattle.std.proofs.lemmas.Nat.{shr-shr, shr_split, pow_pos, one_shl, and_mask}
+use Rattle.std.proofs.Math.Pow.{mod-mod-pow}
 use Rattle.std.proofs.lemmas.Bool.{eqb-true}
 use Rattle.bit_code.specs.Coder.{has_bit, digits, number_of}
-use Rattle.bit_code.proofs.Digits.{length-digits, digits_low, number_of-digits}
+use Rattle.bit_code.specs.DigitLaws.{length-digits, digits_low, number_of-digits}
 use Rattle.asmap_vm.specs.Code.{begins_with}
 
 pub digits_cons : (k n : ℕ) → digits (suc k) n ≡ has_bit n k ∷ digits k n
@@ -79,6 +80,8 @@ digits_past size left a h =
     rw whole (rw length-digits at seam)
 
 -- the test of the code
-pub is_matched_by : (size left a n : ℕ) → size < 128 → eqb (bit_and (a / 2 ^ left) (1 * 2 ^ size % 2 ^ 128 - 1)) (bit_and n (1 * 2 ^ size % 2 ^ 128 - 1)) ≡ begins_with (digits (left + size) a) (digits size n)
+pub is_matched_by : (size left a n : ℕ) → size ≤ 8 → eqb (bit_and (a / 2 ^ left % 256) (1 * 2 ^ size % 2 ^ 32 - 1)) (bit_and n (1 * 2 ^ size % 2 ^ 32 - 1)) ≡ begins_with (digits (left + size) a) (digits size n)
 is_matched_by size left a n small =
-    rw (one_shl size 128 small, and_mask, and_mask) (begins_with_digits size left a n)
+    let sum : 8 ≡ 8 - size + size = omega arith in
+    let low : a / 2 ^ left % 256 % 2 ^ size ≡ a / 2 ^ left % 2 ^ size = ap (λ k. a / 2 ^ left % 2 ^ k % 2 ^ size) sum ∙ mod-mod-pow (a / 2 ^ left) (8 - size) size in
+    rw (one_shl size 32 (omega arith), and_mask, and_mask, low) (begins_with_digits size left a n)

@@ -7,7 +7,7 @@ use Rattle.std.proofs.Math.Nat.{pow-suc}
 use Rattle.std.proofs.Math.Pow.{pow_mono}
 use Rattle.bit_code.specs.declared.coder.Coder.TheVariants as coders
 use Rattle.bit_code.specs.Coder.{number_of, digits, HasValue, values_of, sizes}
-use Rattle.bit_code.proofs.Digits.{number_of-lt, digits-number_of, digits_low, number_of-digits, length-digits}
+use Rattle.bit_code.specs.DigitLaws.{number_of-lt, digits-number_of, digits_low, number_of-digits, length-digits}
 use Rattle.asmap_vm.specs.Matches.{match_size, match_bits}
 
 pub match_size_is : (n k : ℕ) → 2 ^ k ≤ n → n < 2 ^ suc k → k < 32 → match_size n ≡ k
@@ -16,7 +16,7 @@ match_size_is n k low high small =
     let lead : 31 - k ≡ count_leading_zeros 32 n = leading_unique 32 n (31 - k) (suc k) (omega arith) high (omega (arith, pow-suc 2 k)) in
     omega (arith, lead)
 
--- a number of a match, by the place of its leading one
+-- a number of a match, by the offset of its leading one
 pub record Leads (n k : ℕ) : Type 0 where
   pub some : 0 < k
   pub most : k ≤ 8

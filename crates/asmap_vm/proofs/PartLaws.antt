@@ -3,7 +3,7 @@ use Rattle.std.proofs.Common.{◌≡◌, ◌≢◌, ℕ, ◌+◌, ◌-◌, ◌<�
 use Rattle.std.proofs.lemmas.Bool.{cases_lt, lt-ltb, le-ltb}
 use Rattle.bit_code.specs.Coder.{number_of, spelling, HasValue}
 use Rattle.bit_code.specs.declared.coder.Coder.TheVariants as coders
-use Rattle.bit_code.proofs.Digits.{length-digits}
+use Rattle.bit_code.specs.DigitLaws.{length-digits}
 use Rattle.asmap_vm.specs.Code.{Tree, Return, Jump, Match, Default, code, IsSaneWithin, IsMatch, IsNoShortMatch, TakesDefault}
 use Rattle.asmap_vm.specs.Instructions.{kind_of, coder_of, number_in, Stands, head, tail}
 use Rattle.asmap_vm.specs.Matches.{match_size, match_bits}

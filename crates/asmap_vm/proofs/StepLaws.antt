@@ -13,25 +13,25 @@ use Rattle.asmap_vm.specs.declared.stack.RightPart.{RightPart}
 use Rattle.asmap_vm.proofs.PartLaws.{Opened, part_stands, opens, closes, split_return, join_return, split_default, join_default, split_jump, join_jump, JumpParts, split_match, join_match, MatchPart, DefaultPart}
 use Rattle.asmap_vm.proofs.MatchLaws.{match_range}
 
--- the instruction at a place, and the place after it
-pub record Reads (bits : List Bool) (place : ℕ) (i : Instruction) (next : ℕ) : Type 0 where
-  pub further : place < next
+-- the instruction at an offset, and the offset after it
+pub record Reads (bits : List Bool) (offset : ℕ) (i : Instruction) (next : ℕ) : Type 0 where
+  pub further : offset < next
   pub within : next ≤ length bits
-  pub stands : Stands i (drop place bits) (drop next bits)
-  pub only : (j : Instruction) (r : List Bool) → Stands j (drop place bits) r → (i ≡ j) × (drop next bits ≡ r)
+  pub stands : Stands i (drop offset bits) (drop next bits)
+  pub only : (j : Instruction) (r : List Bool) → Stands j (drop offset bits) r → (i ≡ j) × (drop next bits ≡ r)
 
 module _ (bits : List Bool) (s : Scan) (next : ℕ) where
-  opened : (i : Instruction) → Reads bits s.place i next → (rest : List Bool) → IsPart s.before s.left (drop s.place bits) rest → Opened i s.before s.left (drop next bits) rest
-  opened i reads rest part = opens i s.before s.left (drop s.place bits) (drop next bits) rest reads.only part
+  opened : (i : Instruction) → Reads bits s.offset i next → (rest : List Bool) → IsPart s.before s.left (drop s.offset bits) rest → Opened i s.before s.left (drop next bits) rest
+  opened i reads rest part = opens i s.before s.left (drop s.offset bits) (drop next bits) rest reads.only part
 
-  closed : (i : Instruction) → Reads bits s.place i next → (rest : List Bool) → Opened i s.before s.left (drop next bits) rest → IsPart s.before s.left (drop s.place bits) rest
-  closed i reads rest part = closes i s.before s.left (drop s.place bits) (drop next bits) rest reads.stands part
+  closed : (i : Instruction) → Reads bits s.offset i next → (rest : List Bool) → Opened i s.before s.left (drop next bits) rest → IsPart s.before s.left (drop s.offset bits) rest
+  closed i reads rest part = closes i s.before s.left (drop s.offset bits) (drop next bits) rest reads.stands part
 
 -- a default
 abbrev defaulted : Scan → ℕ → Scan
-defaulted s next = record { place = next; left = s.left; before = befores.Default; pending = s.pending }
+defaulted s next = record { offset = next; left = s.left; before = befores.Default; pending = s.pending }
 
-module _ (bits : List Bool) (s : Scan) (next n : ℕ) (reads : Reads bits s.place (instructions.Default n) next) where
+module _ (bits : List Bool) (s : Scan) (next n : ℕ) (reads : Reads bits s.offset (instructions.Default n) next) where
   default_part : Completes bits s → (rest : List Bool) × DefaultPart s.before s.left (drop next bits) rest × Follow (length bits) s.pending rest
   unfolding Completes
   default_part c =
@@ -53,7 +53,7 @@ module _ (bits : List Bool) (s : Scan) (next n : ℕ) (reads : Reads bits s.plac
   pub default_advances : s.before ≢ befores.Default → IsUnderWay bits s → Advances bits s (defaulted s next)
   default_advances first under_way =
       record {
-        under_way = record { place = reads.within; open_jumps = under_way.open_jumps; apart = under_way.apart };
+        under_way = record { offset = reads.within; open_jumps = under_way.open_jumps; apart = under_way.apart };
         further = reads.further;
         sound = default_sound first;
         complete = default_completes;
@@ -62,9 +62,9 @@ module _ (bits : List Bool) (s : Scan) (next n : ℕ) (reads : Reads bits s.plac
 -- a match
 abbrev matched : Scan → ℕ → ℕ → Scan
 matched s next n =
-    record { place = next; left = s.left - match_size n; before = after_match (match_size n); pending = s.pending }
+    record { offset = next; left = s.left - match_size n; before = after_match (match_size n); pending = s.pending }
 
-module _ (bits : List Bool) (s : Scan) (next n : ℕ) (reads : Reads bits s.place (instructions.Match n) next) where
+module _ (bits : List Bool) (s : Scan) (next n : ℕ) (reads : Reads bits s.offset (instructions.Match n) next) where
   match_part : Completes bits s → (rest : List Bool) × MatchPart n s.before s.left (drop next bits) rest × Follow (length bits) s.pending rest
   unfolding Completes
   match_part c =
@@ -87,7 +87,7 @@ module _ (bits : List Bool) (s : Scan) (next n : ℕ) (reads : Reads bits s.plac
   pub match_advances : match_size n ≤ s.left → (match_size n < 8 → s.before ≢ befores.ShortMatch) → IsUnderWay bits s → Advances bits s (matched s next n)
   match_advances fits joined under_way =
       record {
-        under_way = record { place = reads.within; open_jumps = omega (arith, under_way.open_jumps); apart = under_way.apart };
+        under_way = record { offset = reads.within; open_jumps = omega (arith, under_way.open_jumps); apart = under_way.apart };
         further = reads.further;
         sound = match_sound fits joined;
         complete = match_completes;
@@ -97,13 +97,13 @@ module _ (bits : List Bool) (s : Scan) (next n : ℕ) (reads : Reads bits s.plac
 abbrev jumped : Scan → ℕ → ℕ → Scan
 jumped s next over =
     record {
-      place = next;
+      offset = next;
       left = s.left - 1;
       before = befores.Nothing;
       pending = record { begins = next + over; left = s.left - 1 } ∷ s.pending;
     }
 
-module _ (bits : List Bool) (s : Scan) (next over : ℕ) (reads : Reads bits s.place (instructions.Jump over) next) where
+module _ (bits : List Bool) (s : Scan) (next over : ℕ) (reads : Reads bits s.offset (instructions.Jump over) next) where
   jump_parts : Completes bits s → (rest : List Bool) × JumpParts over s.left (drop next bits) rest × Follow (length bits) s.pending rest
   unfolding Completes
   jump_parts c =
@@ -136,7 +136,7 @@ module _ (bits : List Bool) (s : Scan) (next over : ℕ) (reads : Reads bits s.p
   pub jump_advances : 0 < s.left → IsUnderWay bits s → Advances bits s (jumped s next over)
   jump_advances room under_way =
       record {
-        under_way = record { place = reads.within; open_jumps = omega (arith, under_way.open_jumps); apart = (omega (arith, under_way.open_jumps), under_way.apart) };
+        under_way = record { offset = reads.within; open_jumps = omega (arith, under_way.open_jumps); apart = (omega (arith, under_way.open_jumps), under_way.apart) };
         further = reads.further;
         sound = jump_sound room;
         complete = jump_completes;
@@ -149,21 +149,21 @@ unfolding Follow
 ended total [] bits e padding = padding
 ended total (part ∷ more) bits e padding = cc
 
-stuck_at : (bits : List Bool) (pending : List RightPart) (place : ℕ) → place ≤ length bits → IsStuckAt bits place pending → Follow (length bits) pending (drop place bits) → ⊥
+stuck_at : (bits : List Bool) (pending : List RightPart) (offset : ℕ) → offset ≤ length bits → IsStuckAt bits offset pending → Follow (length bits) pending (drop offset bits) → ⊥
 unfolding Follow
-stuck_at bits [] place within stuck padding = stuck padding
-stuck_at bits (part ∷ more) place within stuck follow = stuck (omega (arith, follow.0, length-drop place bits))
+stuck_at bits [] offset within stuck padding = stuck padding
+stuck_at bits (part ∷ more) offset within stuck follow = stuck (omega (arith, follow.0, length-drop offset bits))
 
-resumed : (bits : List Bool) (part : RightPart) (more : List RightPart) (place : ℕ) → Follow (length bits) (part ∷ more) (drop place bits) → Completes bits (record { place = place; left = part.left; before = befores.Nothing; pending = more })
+resumed : (bits : List Bool) (part : RightPart) (more : List RightPart) (offset : ℕ) → Follow (length bits) (part ∷ more) (drop offset bits) → Completes bits (record { offset = offset; left = part.left; before = befores.Nothing; pending = more })
 unfolding Follow Completes
-resumed bits part more place follow = follow.1
+resumed bits part more offset follow = follow.1
 
-waited : (bits : List Bool) (part : RightPart) (more : List RightPart) (place : ℕ) → part.begins ≡ place → place ≤ length bits → Completes bits (record { place = place; left = part.left; before = befores.Nothing; pending = more }) → Follow (length bits) (part ∷ more) (drop place bits)
+waited : (bits : List Bool) (part : RightPart) (more : List RightPart) (offset : ℕ) → part.begins ≡ offset → offset ≤ length bits → Completes bits (record { offset = offset; left = part.left; before = befores.Nothing; pending = more }) → Follow (length bits) (part ∷ more) (drop offset bits)
 unfolding Follow Completes
-waited bits part more place here within c = (omega (arith, here, length-drop place bits), c)
+waited bits part more offset here within c = (omega (arith, here, length-drop offset bits), c)
 
 -- a return
-module _ (bits : List Bool) (s : Scan) (next n : ℕ) (reads : Reads bits s.place (instructions.Return n) next) where
+module _ (bits : List Bool) (s : Scan) (next n : ℕ) (reads : Reads bits s.offset (instructions.Return n) next) where
   return_part : Completes bits s → (s.before ≢ befores.Default) × Follow (length bits) s.pending (drop next bits)
   unfolding Completes
   return_part c =
@@ -187,7 +187,7 @@ module _ (bits : List Bool) (s : Scan) (next n : ℕ) (reads : Reads bits s.plac
 
   module _ (part : RightPart) (more : List RightPart) (waits : s.pending ≡ part ∷ more) (here : part.begins ≡ next) where
     abbrev returned : Scan
-    returned = record { place = next; left = part.left; before = befores.Nothing; pending = more }
+    returned = record { offset = next; left = part.left; before = befores.Nothing; pending = more }
 
     return_completes : Completes bits s → Completes bits returned
     return_completes c = resumed bits part more next (rw waits at (return_part c).1)
@@ -199,22 +199,22 @@ module _ (bits : List Bool) (s : Scan) (next n : ℕ) (reads : Reads bits s.plac
     return_advances first under_way =
         let apart = rw waits at under_way.apart in
         record {
-          under_way = record { place = reads.within; open_jumps = omega (arith, apart.0); apart = apart.1 };
+          under_way = record { offset = reads.within; open_jumps = omega (arith, apart.0); apart = apart.1 };
           further = reads.further;
           sound = return_goes_on first;
           complete = return_completes;
         }
 
 -- where no instruction stands, there is no part
-pub no_instruction : (bits : List Bool) (s : Scan) → ((i : Instruction) (r : List Bool) → Stands i (drop s.place bits) r → ⊥) → Completes bits s → ⊥
+pub no_instruction : (bits : List Bool) (s : Scan) → ((i : Instruction) (r : List Bool) → Stands i (drop s.offset bits) r → ⊥) → Completes bits s → ⊥
 unfolding Completes
 no_instruction bits s none c =
-    none (head c.1.tree) (tail c.1.tree ++ c.0) (part_stands s.before s.left (drop s.place bits) c.0 c.1)
+    none (head c.1.tree) (tail c.1.tree ++ c.0) (part_stands s.before s.left (drop s.offset bits) c.0 c.1)
 
 -- what a reader of instructions answered, at the instruction that it was
-pub reads_as : (bits : List Bool) (place : ℕ) (i j : Instruction) (next : ℕ) → i ≡ j → (place < next) × (next ≤ length bits) → Stands i (drop place bits) (drop next bits) → ((k : Instruction) (r : List Bool) → Stands k (drop place bits) r → (i ≡ k) × (drop next bits ≡ r)) → Reads bits place j next
-reads_as bits place i j next e p found only =
-    subst (λ k. Reads bits place k next) e (record { further = p.0; within = p.1; stands = found; only = only })
+pub reads_as : (bits : List Bool) (offset : ℕ) (i j : Instruction) (next : ℕ) → i ≡ j → (offset < next) × (next ≤ length bits) → Stands i (drop offset bits) (drop next bits) → ((k : Instruction) (r : List Bool) → Stands k (drop offset bits) r → (i ≡ k) × (drop next bits ≡ r)) → Reads bits offset j next
+reads_as bits offset i j next e p found only =
+    subst (λ k. Reads bits offset k next) e (record { further = p.0; within = p.1; stands = found; only = only })
 
 pub more_true : (b : Bool) (step : Step) → step ≡ (if b then steps.More else steps.Insane) → step ≡ steps.More → b ≡ true
 more_true true step e h = refl
@@ -237,7 +237,7 @@ pub record IsOnTheWay (bits : List Bool) (s : Scan) : Type 0 where
 pub IsOnTheWay-start : (bits : List Bool) → IsOnTheWay bits start
 IsOnTheWay-start bits =
     record {
-      under_way = record { place = omega arith; open_jumps = omega arith; apart = tt };
+      under_way = record { offset = omega arith; open_jumps = omega arith; apart = tt };
       sound = λ c. c;
       complete = λ c. c;
     }

@@ -17,7 +17,7 @@ use Rattle.asmap_vm.proofs.PartLaws.{part_stands}
 use Rattle.asmap_vm.proofs.StepLaws.{Reads}
 use Rattle.asmap_vm.proofs.AddressLaws.{digits_cons, digits_past}
 
--- what stands at a place, by its first instruction
+-- what stands at an offset, by its first instruction
 pub record Opened (bits : List Bool) (address left default next : ℕ) (i : Instruction) (answer : ℕ) : Type 0 where
   pub tree : Tree
   pub rest : List Bool
@@ -28,11 +28,11 @@ pub record Opened (bits : List Bool) (address left default next : ℕ) (i : Inst
   pub gives : meaning tree (digits left address) default ≡ answer
 
 -- an instruction stands where an answer is ahead
-pub stands_ahead : (bits : List Bool) (address : ℕ) (w : Walk) (answer : ℕ) (a : Answers bits address w answer) → Stands (head a.tree) (drop w.place bits) (tail a.tree ++ a.rest)
+pub stands_ahead : (bits : List Bool) (address : ℕ) (w : Walk) (answer : ℕ) (a : Answers bits address w answer) → Stands (head a.tree) (drop w.offset bits) (tail a.tree ++ a.rest)
 stands_ahead bits address w answer a =
-    part_stands befores.Nothing w.left (drop w.place bits) a.rest (record { tree = a.tree; sane = a.sane; suits = tt; spelled = a.spelled })
+    part_stands befores.Nothing w.left (drop w.offset bits) a.rest (record { tree = a.tree; sane = a.sane; suits = tt; spelled = a.spelled })
 
-pub opened : (bits : List Bool) (address : ℕ) (w : Walk) (next : ℕ) (i : Instruction) (answer : ℕ) → Reads bits w.place i next → Answers bits address w answer → Opened bits address w.left w.default next i answer
+pub opened : (bits : List Bool) (address : ℕ) (w : Walk) (next : ℕ) (i : Instruction) (answer : ℕ) → Reads bits w.offset i next → Answers bits address w answer → Opened bits address w.left w.default next i answer
 opened bits address w next i answer reads a =
     let same = reads.only (head a.tree) (tail a.tree ++ a.rest) (stands_ahead bits address w answer a) in
     record { tree = a.tree; rest = a.rest; sane = a.sane; head_is = sym same.0; tail_is = same.1; room = a.left; gives = a.gives }
@@ -48,7 +48,7 @@ module _ (bits : List Bool) (address left default next answer : ℕ) where
   pub return_answers : (n : ℕ) → Opened bits address left default next (instructions.Return n) answer → n ≡ answer
   return_answers n o = return_gives o.tree n o.head_is o.gives
 
-  default_gives : (t : Tree) (n : ℕ) (rest : List Bool) → head t ≡ instructions.Default n → IsSaneWithin left t → drop next bits ≡ tail t ++ rest → left ≤ 128 → meaning t (digits left address) default ≡ answer → Answers bits address (record { place = next; left = left; default = n }) answer
+  default_gives : (t : Tree) (n : ℕ) (rest : List Bool) → head t ≡ instructions.Default n → IsSaneWithin left t → drop next bits ≡ tail t ++ rest → left ≤ 128 → meaning t (digits left address) default ≡ answer → Answers bits address (record { offset = next; left = left; default = n }) answer
   unfolding meaning IsSaneWithin
   default_gives (Return m) n rest e sane h room g = cc
   default_gives (Jump l r) n rest e sane h room g = cc
@@ -57,7 +57,7 @@ module _ (bits : List Bool) (address left default next answer : ℕ) where
       let same : m ≡ n = cc in
       record { tree = t; rest = rest; sane = sane.2; spelled = h; left = room; gives = rw same at g }
 
-  pub default_answers : (n : ℕ) → Opened bits address left default next (instructions.Default n) answer → Answers bits address (record { place = next; left = left; default = n }) answer
+  pub default_answers : (n : ℕ) → Opened bits address left default next (instructions.Default n) answer → Answers bits address (record { offset = next; left = left; default = n }) answer
   default_answers n o = default_gives o.tree n o.rest o.head_is o.sane o.tail_is o.room o.gives
 
   jump_bits : 0 < left → digits left address ≡ has_bit address (left - 1) ∷ digits (left - 1) address
@@ -67,8 +67,8 @@ module _ (bits : List Bool) (address left default next answer : ℕ) where
   pub record Sides (over : ℕ) : Type 0 where
     pub taken : 0 < left
     pub within : next ≤ length bits → next + over ≤ length bits
-    pub zero : has_bit address (left - 1) ≡ false → Answers bits address (record { place = next; left = left - 1; default = default }) answer
-    pub one : has_bit address (left - 1) ≡ true → Answers bits address (record { place = next + over; left = left - 1; default = default }) answer
+    pub zero : has_bit address (left - 1) ≡ false → Answers bits address (record { offset = next; left = left - 1; default = default }) answer
+    pub one : has_bit address (left - 1) ≡ true → Answers bits address (record { offset = next + over; left = left - 1; default = default }) answer
 
   jump_sides : (t : Tree) (over : ℕ) (rest : List Bool) → head t ≡ instructions.Jump over → IsSaneWithin left t → drop next bits ≡ tail t ++ rest → left ≤ 128 → meaning t (digits left address) default ≡ answer → Sides over
   unfolding meaning IsSaneWithin
@@ -93,7 +93,7 @@ module _ (bits : List Bool) (address left default next answer : ℕ) where
   -- what a match says of the bits that are left
   pub record Matching (n : ℕ) : Type 0 where
     pub fits : match_size n ≤ left
-    pub same : begins_with (digits left address) (match_bits n) ≡ true → Answers bits address (record { place = next; left = left - match_size n; default = default }) answer
+    pub same : begins_with (digits left address) (match_bits n) ≡ true → Answers bits address (record { offset = next; left = left - match_size n; default = default }) answer
     pub differs : begins_with (digits left address) (match_bits n) ≡ false → default ≡ answer
 
   match_says : (t : Tree) (n : ℕ) (rest : List Bool) → head t ≡ instructions.Match n → IsSaneWithin left t → drop next bits ≡ tail t ++ rest → left ≤ 128 → meaning t (digits left address) default ≡ answer → Matching n
@@ -117,17 +117,17 @@ module _ (bits : List Bool) (address left default next answer : ℕ) where
 
 -- the lookup goes on, with the answer ahead that was ahead at first
 pub record IsFollowing (bits : List Bool) (address : ℕ) (w : Walk) : Type 0 where
-  pub place : w.place ≤ length bits
+  pub offset : w.offset ≤ length bits
   pub ahead : (answer : ℕ) × Answers bits address w answer
   pub same : (answer : ℕ) → Answers bits address set_out answer → Answers bits address w answer
 
 pub IsFollowing-start : (bits : List Bool) (address : ℕ) → ((answer : ℕ) × Answers bits address set_out answer) → IsFollowing bits address set_out
-IsFollowing-start bits address ahead = record { place = omega arith; ahead = ahead; same = λ answer a. a }
+IsFollowing-start bits address ahead = record { offset = omega arith; ahead = ahead; same = λ answer a. a }
 
-pub IsFollowing-step : (bits : List Bool) (address : ℕ) (w next : Walk) → IsFollowing bits address w → next.place ≤ length bits → ((answer : ℕ) → Answers bits address w answer → Answers bits address next answer) → IsFollowing bits address next
-IsFollowing-step bits address w next f place gives =
+pub IsFollowing-step : (bits : List Bool) (address : ℕ) (w next : Walk) → IsFollowing bits address w → next.offset ≤ length bits → ((answer : ℕ) → Answers bits address w answer → Answers bits address next answer) → IsFollowing bits address next
+IsFollowing-step bits address w next f offset gives =
     record {
-      place = place;
+      offset = offset;
       ahead = (f.ahead.0, gives f.ahead.0 f.ahead.1);
       same = λ answer a. gives answer (f.same answer a);
     }

@@ -1,12 +1,14 @@
--- What an asmap file says: a tree of instructions, its spelling in bits, which trees are sane, and the number that a
--- tree gives for an address. The rules are those of `Interpret` and `SanityCheckASMap` in Bitcoin Core's util/asmap.cpp,
--- at 128 address bits.
+-- The tree of instructions of an asmap file: its spelling in bits, which trees are sane, and the
+-- number that a tree gives for an address. The rules are those of `Interpret` and `SanityCheckASMap`
+-- in util/asmap.cpp of Bitcoin Core, for 128 address bits.
 use Rattle.std.specs.Prelude.{◌≡◌, ℕ, ◌+◌, ◌-◌, ◌<◌, ◌≤◌, Bool, true, false, List, [], ◌∷◌, ◌++◌, if◌then◌else◌, length, drop, replicate, ⊤}
-use Rattle.bit_code.specs.Coder.{digits, number_of, file_bits, spelling, HasValue}
+use Rattle.bit_code.specs.Coder.{digits, number_of, spelling, HasValue}
+use Rattle.bit_code.specs.Files as files
 use Rattle.bit_code.specs.declared.coder.Coder.TheVariants as coders
 
--- Return: the answer. Jump: the left part where the next address bit is 0, else the right part. Match: the part after
--- these address bits, or the default where they differ. Default: the part with this default.
+-- Return: the answer. Jump: the left part if the next address bit is 0, else the right part. Match:
+-- the part after these address bits, or the default if they differ. Default: the part with this
+-- default.
 pub data Tree : Type 0 where
   Return : (asn : ℕ) → Tree
   Jump : (left right : Tree) → Tree
@@ -33,13 +35,13 @@ code (Jump l r) = spelling coders.Kind jump_kind ++ spelling coders.Jump (length
 code (Match wanted t) = spelling coders.Kind match_kind ++ spelling coders.Match (number_of (true ∷ wanted)) ++ code t
 code (Default n t) = spelling coders.Kind default_kind ++ spelling coders.Asn n ++ code t
 
--- a default right before it would serve: it is neither a return nor a default
+-- it may follow a default directly: it is neither a return nor a default
 abbrev pub TakesDefault : Tree → Type 0
 TakesDefault (Return n) = ⊥
 TakesDefault (Default n t) = ⊥
 TakesDefault t = ⊤
 
--- a match of fewer than eight bits right before it couldn't take bits from it: it is not such a match itself
+-- it may follow a match of fewer than eight bits directly: it is not such a match itself
 abbrev pub IsNoShortMatch : Tree → Type 0
 IsNoShortMatch (Match wanted t) = 8 ≤ length wanted
 IsNoShortMatch t = ⊤
@@ -63,10 +65,9 @@ IsSaneWithin left (Default n t) = HasValue coders.Asn n × TakesDefault t × IsS
 abbrev pub IsSane : Tree → Type 0
 IsSane t = IsSaneWithin 128 t
 
--- the bits of the file are the code of the tree and then at most seven bits, all zero
-pub record IsFileOf (t : Tree) (bytes : List ℕ) : Type 0 where
-  pub spelled : file_bits bytes ≡ code t ++ replicate (length (file_bits bytes) - length (code t)) false
-  pub padded : length (file_bits bytes) ≤ length (code t) + 7
+-- the bits of the file are the code of the tree and then at most seven zero-bits
+abbrev pub IsFileOf : Tree → List ℕ → Type 0
+IsFileOf t bytes = files.IsFileOf (code t) bytes
 
 -- the file of a sane tree
 pub record IsSaneFile (t : Tree) (bytes : List ℕ) : Type 0 where
@@ -81,7 +82,7 @@ begins_with (true ∷ bits) (true ∷ wanted) = begins_with bits wanted
 begins_with (false ∷ bits) (false ∷ wanted) = begins_with bits wanted
 begins_with (b ∷ bits) (w ∷ wanted) = false
 
--- the number that a tree gives for these address bits, where this default holds
+-- the number that a tree gives for these address bits under this default
 unfoldable pub meaning : Tree → List Bool → ℕ → ℕ
 meaning (Return n) bits default = n
 meaning (Jump l r) [] default = default

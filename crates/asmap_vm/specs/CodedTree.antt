@@ -1,5 +1,5 @@
--- A code for trees, by which a tree can be part of the value of a model: the tree as a list of tokens, each part before
--- the token of its instruction.
+-- A code for trees, so that a tree can be part of the value of a model: a list of tokens, one for each
+-- instruction, after those of its parts.
 use Rattle.std.specs.Prelude.{◌≡◌, ◌⊎◌, ℕ, Bool, List, [], ◌∷◌, refl}
 use Rattle.std.specs.Coded.{Coded, code_by, coded_ℕ, coded_bool, coded_list, coded⊎}
 use Rattle.std.proofs.Common.{inl, inr, ap, ◌∙◌}

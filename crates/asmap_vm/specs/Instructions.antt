@@ -28,10 +28,6 @@ number_in (instructions.Jump n) = n
 number_in (instructions.Match n) = n
 number_in (instructions.Default n) = n
 
--- how the number of an instruction of this kind is spelled
-abbrev pub coder_at : ℕ → Coder
-coder_at kind = if kind == jump_kind then coders.Jump else (if kind == match_kind then coders.Match else coders.Asn)
-
 -- the instruction of this kind with this number
 abbrev pub instruction_at : ℕ → ℕ → Instruction
 instruction_at kind n =

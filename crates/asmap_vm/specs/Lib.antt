@@ -8,3 +8,4 @@ pub mod Walking
 pub mod Held
 pub mod CodedTree
 pub mod Asmap
+pub mod CodeLaws

@@ -18,9 +18,6 @@ IsNoShortMatch-prop (Jump l r) = Unit-prop
 IsNoShortMatch-prop (Match wanted t) = le_prop
 IsNoShortMatch-prop (Default n t) = Unit-prop
 
-HasValue-prop : (coder : Coder) (n : ℕ) → IsProp (HasValue coder n)
-HasValue-prop coder n = hlevel props
-
 IsMatch-prop : (wanted : List Bool) (t : Tree) → IsProp (IsMatch wanted t)
 IsMatch-prop wanted t = hlevel (props, IsNoShortMatch-prop)
 

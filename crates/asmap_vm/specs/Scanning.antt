@@ -1,4 +1,5 @@
--- What is still missing while a file is read: the part at the next place, and after it the right parts that wait.
+-- What is still missing while a file is read: the part at the next offset, and after it the right
+-- parts that are pending.
 use Rattle.std.specs.Prelude.{◌≡◌, ◌≢◌, ℕ, ◌+◌, ◌<◌, ◌≤◌, Bool, false, List, [], ◌∷◌, ◌++◌, length, drop, replicate, ⊤, nat_lt, if◌then◌else◌}
 use Rattle.asmap_vm.specs.Code.{Tree, code, IsSaneWithin, IsNoShortMatch, TakesDefault}
 use Rattle.asmap_vm.specs.declared.stack.RightPart.{RightPart}
@@ -28,43 +29,44 @@ pub record IsPadding (bits : List Bool) : Type 0 where
   pub few : length bits ≤ 7
   pub zero : bits ≡ replicate (length bits) false
 
--- what has to follow a part of a file of this many bits: the right parts that wait, each at its place, and the padding
+-- what has to follow a part of a file of this many bits: the pending right parts, each at its offset,
+-- and the padding
 unfoldable pub Follow : ℕ → List RightPart → List Bool → Type 0
 Follow total [] bits = IsPadding bits
 Follow total (right ∷ more) bits =
     (right.begins + length bits ≡ total) × ((rest : List Bool) × IsPart Nothing right.left bits rest × Follow total more rest)
 
--- the bits from the next place on are a part that is sane there, and what has to follow it
+-- the bits from the next offset on are a part that is sane there, and what has to follow it
 unfoldable pub Completes : List Bool → Scan → Type 0
 Completes bits scan =
-    (rest : List Bool) × IsPart scan.before scan.left (drop scan.place bits) rest × Follow (length bits) scan.pending rest
+    (rest : List Bool) × IsPart scan.before scan.left (drop scan.offset bits) rest × Follow (length bits) scan.pending rest
 
 -- before the first instruction
 abbrev pub start : Scan
-start = record { place = 0; left = 128; before = Nothing; pending = [] }
+start = record { offset = 0; left = 128; before = Nothing; pending = [] }
 
--- the jump of each right part that waits took an address bit of its own
+-- the jump of each pending right part took an address bit of its own
 abbrev pub AreApart : List RightPart → Type 0
 AreApart [] = ⊤
 AreApart (right ∷ more) = (right.left + length more < 128) × AreApart more
 
--- the reading stands in the file, and no more jumps are open than address bits were taken
+-- the offset is within the file, and no more jumps are open than address bits were taken
 pub record IsUnderWay (bits : List Bool) (scan : Scan) : Type 0 where
-  pub place : scan.place ≤ length bits
+  pub offset : scan.offset ≤ length bits
   pub open_jumps : scan.left + length scan.pending ≤ 128
   pub apart : AreApart scan.pending
 
--- nothing waits and no padding follows, or the next right part doesn't begin here
+-- no part is pending and no padding follows, or the next right part doesn't begin here
 abbrev pub IsStuckAt : List Bool → ℕ → List RightPart → Type 0
-IsStuckAt bits place [] = IsPadding (drop place bits) → ⊥
-IsStuckAt bits place (right ∷ more) = right.begins ≢ place
+IsStuckAt bits offset [] = IsPadding (drop offset bits) → ⊥
+IsStuckAt bits offset (right ∷ more) = right.begins ≢ offset
 
 abbrev pub IsStuck : List Bool → Scan → Type 0
-IsStuck bits scan = IsStuckAt bits scan.place scan.pending
+IsStuck bits scan = IsStuckAt bits scan.offset scan.pending
 
--- one instruction was read, and the file is sane exactly where the rest is what has to follow
+-- one instruction was read, and the file is sane exactly when the rest is what has to follow
 pub record Advances (bits : List Bool) (old new : Scan) : Type 0 where
   pub under_way : IsUnderWay bits new
-  pub further : old.place < new.place
+  pub further : old.offset < new.offset
   pub sound : Completes bits new → Completes bits old
   pub complete : Completes bits old → Completes bits new

@@ -1,4 +1,4 @@
--- The tree that a file says. No two sane trees have the same file, so this names the one tree of a sane file.
+-- The tree of a file. No two sane trees have the same file, so a sane file has one tree.
 use Prim.Native.Nat.{zero, suc}
 use Rattle.std.specs.Prelude.{◌≡◌, ℕ, Bool, true, false, List, ◌∷◌, Option, Some, None, option_and_then, length}
 use Rattle.bit_code.specs.Coder.{file_bits}

@@ -1,21 +1,21 @@
--- What a lookup that stands at an instruction will answer.
+-- The answer of a lookup from an instruction on.
 use Rattle.std.specs.Prelude.{◌≡◌, ℕ, ◌≤◌, Bool, List, ◌++◌, drop, Option, Some, None}
 use Rattle.bit_code.specs.Coder.{digits}
 use Rattle.asmap_vm.specs.Code.{Tree, code, IsSaneWithin, meaning}
 use Rattle.asmap_vm.specs.declared.walk.Walk.{Walk}
 
--- at the place stands a sane tree that gives this answer for the address bits that are left
+-- at the offset is the code of a sane tree, which gives this answer for the address bits that are left
 pub record Answers (bits : List Bool) (address : ℕ) (walk : Walk) (answer : ℕ) : Type 0 where
   pub tree : Tree
   pub rest : List Bool
   pub sane : IsSaneWithin walk.left tree
-  pub spelled : drop walk.place bits ≡ code tree ++ rest
+  pub spelled : drop walk.offset bits ≡ code tree ++ rest
   pub left : walk.left ≤ 128
   pub gives : meaning tree (digits walk.left address) walk.default ≡ answer
 
 -- before the first instruction
 abbrev pub set_out : Walk
-set_out = record { place = 0; left = 128; default = 0 }
+set_out = record { offset = 0; left = 128; default = 0 }
 
 -- the same answer is still ahead, or it is given
 abbrev pub GivesOn : List Bool → ℕ → Walk → Option ℕ → ℕ → Type 0

@@ -3,7 +3,7 @@
 pub enum CodeFault {
     /// The file has more than 8,388,608 bytes.
     TooLarge {
-        /// How many bytes it has.
+        /// Its number of bytes.
         size: u64,
     },
     /// The file is that of no sane tree.

@@ -1,47 +1,39 @@
 ghost use Rattle.std.specs.Prelude.{◌≡◌, ◌<◌, ◌≤◌, Bool, List, length, drop, IfSome, IsSomeAnd};
 ghost use Rattle.asmap_vm.specs.declared.instruction.Instruction.{Instruction};
-ghost use Rattle.asmap_vm.specs.Instructions.{coder_at, instruction_at, Stands};
+ghost use Rattle.asmap_vm.specs.Instructions.{instruction_at, Stands};
 
-use bit_code::{Bits, Coder, read_number};
+use bit_code::{Bits, read_kind_and_number};
 
 /// One instruction of an asmap file.
 #[derive(Clone, Copy, Debug, PartialEq, Eq)]
 pub(crate) enum Instruction {
     /// The answer is this number.
     Return(u32),
-    /// Where the next address bit is one, pass over this many bits.
+    /// If the next address bit is one, pass over this many bits.
     Jump(u32),
     /// The next address bits have to be the binary digits of this number after its leading one.
     Match(u32),
-    /// From here on the answer is this number where a match fails.
+    /// From here on the answer is this number if a match fails.
     Default(u32),
 }
 
-/// Reads the instruction at a place, and gives the place after it. None where the file ends within it.
+/// Reads the instruction at an offset in bits. Gives it and the offset after it, None if the file ends
+/// within it.
+#[inline(always)]
 pub(crate) fn read_instruction(bits: &Bits<'_>, at: usize) -> Option<(Instruction, usize)>
     requires { at ≤ length bits.now }
-    ensures place { IfSome result (λ read. (at < read.1) × (read.1 ≤ length bits.now)) }
-    ensures found { IfSome result (λ read. Stands read.0 (drop at bits.now) (drop read.1 bits.now)) }
+    ensures offset { IfSome result (λ read. (at < read.1) × (read.1 ≤ length bits.now)) }
+    ensures found { IfSome result (λ read.
+        Stands read.0 (drop at bits.now) (drop read.1 bits.now)) }
     ensures only { (i : Instruction) (rest : List Bool) → Stands i (drop at bits.now) rest →
         IsSomeAnd result (λ read. (read.0 ≡ i) × (drop read.1 bits.now ≡ rest)) }
 {
-    let (kind, at) = read_number(bits, at, Coder::Kind)?;
-    let (number, at) = read_number(bits, at, coder_at(kind))?;
-    Some((instruction_at(kind, number), at))
-}
-
-/// How the number of an instruction of this kind is spelled.
-fn coder_at(kind: u32) -> Coder
-    ensures { result ≡ coder_at kind }
-{
-    match kind {
-        1 => Coder::Jump,
-        2 => Coder::Match,
-        _ => Coder::Asn,
-    }
+    let read = read_kind_and_number(bits, at)?;
+    Some((instruction_at(read.kind, read.number), read.end))
 }
 
 /// The instruction of this kind with this number.
+#[inline(always)]
 fn instruction_at(kind: u32, number: u32) -> Instruction
     ensures { result ≡ instruction_at kind number }
 {

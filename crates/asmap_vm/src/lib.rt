@@ -1,4 +1,4 @@
-//! Bitcoin Core's asmap file: the check that it is sane, and the lookup of an address, as in `util/asmap.cpp`.
+//! The asmap file of Bitcoin Core: its sanity check and the lookup of an address (`util/asmap.cpp`).
 #![tactic(auto)]
 
 mod checking;
@@ -12,6 +12,3 @@ mod walk;
 pub use checking::{check, one_tree};
 pub use fault::CodeFault;
 pub use sane::Sane;
-
-#[cfg(test)]
-mod tests;

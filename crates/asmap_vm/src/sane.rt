@@ -19,8 +19,8 @@ impl<'a> Sane<'a> {
     ghost use Rattle.asmap_vm.specs.Code.{asn_of};
     ghost use Rattle.asmap_vm.specs.Held.{bytes_held, tree_held};
 
-    /// The number of an address, read from its high bit on: that of the autonomous system that the file names for
-    /// it, or 0. This is `Interpret` of Bitcoin Core's `util/asmap.cpp`.
+    /// The number of the autonomous system that the file gives for an address, or 0. The address is
+    /// read from its high bit on. This is `Interpret` of `util/asmap.cpp` in Bitcoin Core.
     pub fn asn(&self, address: u128) -> u32
         ensures { result ≡ asn_of (tree_held self.now) address }
     {

@@ -7,7 +7,7 @@ use crate::instruction::{Instruction, read_instruction};
 use crate::stack::{RightPart, RightParts};
 use bit_code::Bits;
 
-/// What stands right before the part that is read next, where that forbids some parts.
+/// What is right before the part that is read next, if that forbids some parts.
 #[derive(Clone, Copy, Debug, PartialEq, Eq)]
 pub(crate) enum Before {
     /// Nothing that matters.
@@ -19,6 +19,7 @@ pub(crate) enum Before {
 }
 
 impl Before {
+    /// Whether it is a default.
     fn is_default(self) -> bool
         ensures { IsTrue result ↔ (self ≡ Before.Default) }
     {
@@ -29,11 +30,11 @@ impl Before {
 /// How far a file was read.
 #[derive(Drop)]
 pub(crate) struct Scan {
-    /// The place of the next instruction.
-    pub place: usize,
-    /// How many address bits are left for it.
+    /// The offset of the next instruction.
+    pub offset: usize,
+    /// The number of address bits that are left for it.
     pub left: u8,
-    /// What stands right before it.
+    /// What is right before it.
     pub before: Before,
     /// The right parts that are still to be read.
     pub pending: RightParts,
@@ -50,7 +51,7 @@ pub(crate) enum Step {
     Insane,
 }
 
-/// How many bits a match with this number wants.
+/// The number of address bits that a match with this number compares.
 #[inline]
 pub(crate) fn match_size(number: u32) -> u8
     requires low { 2 ≤ number }
@@ -73,7 +74,7 @@ fn after_match(size: u8) -> Before
     }
 }
 
-/// Whether the bits from a place on are padding: at most seven, all zero.
+/// Whether the bits from an offset on are padding: at most seven, all zero.
 fn is_padding(bits: &Bits<'_>, at: usize) -> bool
     requires { at ≤ length bits.now }
     ensures { IsTrue result ↔ IsPadding (drop at bits.now) }
@@ -81,8 +82,8 @@ fn is_padding(bits: &Bits<'_>, at: usize) -> bool
     if bits.len() - at > 7 {
         return false;
     }
-    for place in at..bits.len() {
-        if bits.get(place) {
+    for offset in at..bits.len() {
+        if bits.get(offset) {
             return false;
         }
     }
@@ -102,7 +103,7 @@ impl Scan {
         ensures { result ≡ start }
     {
         Scan {
-            place: 0,
+            offset: 0,
             left: 128,
             before: Before::Nothing,
             pending: RightParts::new(),
@@ -112,13 +113,14 @@ impl Scan {
     /// Goes on with the left part of a jump.
     fn jump(&mut self, over: u32) -> bool
         requires open_jumps { self.old.left + length self.old.pending ≤ 128 }
-        requires place { self.old.place < 2 ^ 32 }
+        requires offset { self.old.offset < 2 ^ 32 }
         ensures answer { IsTrue result ↔ (0 < self.old.left) }
         ensures left_part { IsTrue result → self.new ≡ record {
-          place = self.old.place;
+          offset = self.old.offset;
           left = self.old.left - 1;
           before = Before.Nothing;
-          pending = record { begins = self.old.place + over; left = self.old.left - 1 } ∷ self.old.pending;
+          pending = record { begins = self.old.offset + over; left = self.old.left - 1 }
+              ∷ self.old.pending;
         } }
     {
         if self.left == 0 {
@@ -127,7 +129,7 @@ impl Scan {
         self.left -= 1;
         self.before = Before::Nothing;
         self.pending.push(RightPart {
-            begins: self.place + over as usize,
+            begins: self.offset + over as usize,
             left: self.left,
         });
         true
@@ -153,28 +155,29 @@ impl Scan {
         true
     }
 
-    /// Goes on after a return: with the next right part that waits, or with the padding.
+    /// Goes on after a return: with the next pending right part, or with the padding.
     fn end_part(&mut self, bits: &Bits<'_>) -> Step
-        requires place { self.old.place ≤ length bits.now }
-        ensures sane { result ≡ Step.Sane → (self.old.pending ≡ []) × IsPadding (drop self.old.place bits.now) }
+        requires offset { self.old.offset ≤ length bits.now }
+        ensures sane { result ≡ Step.Sane → (self.old.pending ≡ [])
+            × IsPadding (drop self.old.offset bits.now) }
         ensures insane { result ≡ Step.Insane → IsStuck bits.now self.old }
-        ensures more { result ≡ Step.More → (part : RightPart) × (self.old.pending ≡ part ∷ self.new.pending)
-            × (part.begins ≡ self.old.place) × (self.new ≡ record self.new {
-              place = self.old.place;
+        ensures more { result ≡ Step.More → (part : RightPart)
+            × (self.old.pending ≡ part ∷ self.new.pending) × (part.begins ≡ self.old.offset) × (self.new ≡ record self.new {
+              offset = self.old.offset;
               left = part.left;
               before = Before.Nothing;
             }) }
     {
         match self.pending.pop() {
             None => {
-                if is_padding(bits, self.place) {
+                if is_padding(bits, self.offset) {
                     Step::Sane
                 } else {
                     Step::Insane
                 }
             }
             Some(part) => {
-                if part.begins != self.place {
+                if part.begins != self.offset {
                     return Step::Insane;
                 }
                 self.left = part.left;
@@ -192,10 +195,10 @@ impl Scan {
         ensures sane { result ≡ Step.Sane → Completes bits.now self.old }
         ensures insane { result ≡ Step.Insane → Completes bits.now self.old → ⊥ }
     {
-        let Some((instruction, next)) = read_instruction(bits, self.place) else {
+        let Some((instruction, next)) = read_instruction(bits, self.offset) else {
             return Step::Insane;
         };
-        self.place = next;
+        self.offset = next;
         match instruction {
             Instruction::Return(_) => {
                 if self.before.is_default() {

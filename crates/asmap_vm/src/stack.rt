@@ -3,15 +3,15 @@ ghost use Rattle.asmap_vm.specs.declared.stack.TheConstants.{DEPTH};
 
 use std::marker::Model;
 
-/// How many jumps can be open at once: each takes one of 128 address bits.
+/// The most jumps that can be open at once: each takes one of 128 address bits.
 pub(crate) const DEPTH: usize = 128;
 
 /// The right part of a jump, which is still to be read.
 #[derive(Clone, Copy, Debug, PartialEq, Eq)]
 pub(crate) struct RightPart {
-    /// The place where it begins, which is where the left part has to end.
+    /// The offset where it begins, which is where the left part has to end.
     pub begins: usize,
-    /// How many address bits are left for it.
+    /// The number of address bits that are left for it.
     pub left: u8,
 }
 
@@ -35,6 +35,7 @@ impl Model for RightParts {
 }
 
 impl RightParts {
+    /// No right parts.
     pub fn new() -> RightParts
         ensures { result ≡ [] }
     {
@@ -44,6 +45,7 @@ impl RightParts {
         }
     }
 
+    /// Puts a right part before the others.
     pub fn push(&mut self, part: RightPart)
         requires { length self.old < DEPTH }
         ensures { self.new ≡ part ∷ self.old }
@@ -52,8 +54,10 @@ impl RightParts {
         self.len += 1;
     }
 
+    /// Takes the first right part, if there is one.
     pub fn pop(&mut self) -> Option<RightPart>
-        ensures { MatchOption result ((self.old ≡ []) × (self.new ≡ [])) (λ part. self.old ≡ part ∷ self.new) }
+        ensures { MatchOption result ((self.old ≡ []) × (self.new ≡ []))
+            (λ part. self.old ≡ part ∷ self.new) }
     {
         if self.len == 0 {
             return None;

@@ -11,11 +11,11 @@ use bit_code::Bits;
 /// How far an address was followed.
 #[derive(Clone, Copy, Debug)]
 pub(crate) struct Walk {
-    /// The place of the next instruction.
-    pub place: usize,
-    /// How many address bits are left.
+    /// The offset of the next instruction.
+    pub offset: usize,
+    /// The number of address bits that are left.
     pub left: u8,
-    /// The answer where a match fails.
+    /// The answer if a match fails.
     pub default: u32,
 }
 
@@ -36,31 +36,33 @@ fn is_matched(address: u128, left: u8, number: u32) -> bool
     requires room { left + match_size number ≤ 128 }
     ensures { result ≡ begins_with (digits (left + match_size number) address) (match_bits number) }
 {
-    let mask = (1u128 << match_size(number)) - 1;
-    (address >> left) & mask == u128::from(number) & mask
+    let mask = (1u32 << match_size(number)) - 1;
+    let next = ((address >> left) % 256) as u32;
+    next & mask == number & mask
 }
 
 impl Walk {
-    /// Follows one instruction, and gives the answer where it ends there.
+    /// Follows one instruction, and gives the answer if it ends there.
     fn step(&mut self, bits: &Bits<'_>, address: u128) -> Option<u32>
         requires size { length bits.now < 2 ^ 32 }
-        requires place { self.old.place ≤ length bits.now }
+        requires offset { self.old.offset ≤ length bits.now }
         requires ahead { (answer : ℕ) × Answers bits.now address self.old answer }
-        ensures place { IfNone result ((self.old.place < self.new.place) × (self.new.place ≤ length bits.now)) }
+        ensures offset { IfNone result
+            ((self.old.offset < self.new.offset) × (self.new.offset ≤ length bits.now)) }
         ensures gives { (answer : ℕ) → Answers bits.now address self.old answer
             → GivesOn bits.now address self.new result answer }
     {
-        let Some((instruction, next)) = read_instruction(bits, self.place) else {
+        let Some((instruction, next)) = read_instruction(bits, self.offset) else {
             unreachable!()
         };
-        self.place = next;
+        self.offset = next;
         match instruction {
             Instruction::Return(asn) => return Some(asn),
             Instruction::Default(asn) => self.default = asn,
             Instruction::Jump(over) => {
                 self.left -= 1;
                 if has_bit(address, self.left) {
-                    self.place += over as usize;
+                    self.offset += over as usize;
                 }
             }
             Instruction::Match(number) => {
@@ -80,7 +82,7 @@ impl Walk {
         ensures { (answer : ℕ) → Answers bits.now address set_out answer → result ≡ answer }
     {
         let mut walk = Walk {
-            place: 0,
+            offset: 0,
             left: 128,
             default: 0,
         };

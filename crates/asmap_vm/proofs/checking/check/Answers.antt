@@ -1,5 +1,4 @@
 use Rattle.std.proofs.Common.{◌≡◌, true, sym, refl, ap, ◌∙◌, length, arith}
-use Rattle.bit_code.proofs.FileBits.{length-file_bits}
 use Rattle.asmap_vm.proofs.TreeLaws.{tree_of-file}
 use Rattle.asmap_vm.proofs.FileLaws.{sound_file, complete_file}
 use Rattle.asmap_vm.proofs.checking.check.Goals as goal
@@ -8,18 +7,18 @@ pub returns-then-code-gt-MAX_BYTES-clause-one_tree : goal.returns-then-code-gt-M
 returns-then-code-gt-MAX_BYTES-clause-one_tree c = λ t file. sym (tree_of-file t c.args.code.now file)
 
 pub is_sane-requires : goal.is_sane-requires
-is_sane-requires c = omega (arith, ap length c.of.ensures, length-file_bits c.args.code.now)
+is_sane-requires c = omega (arith, c.of.ensures.len)
 
 pub invariant_of-result-clause-sane : goal.invariant_of-result-clause-sane
 invariant_of-result-clause-sane c =
-    sound_file c.args.code.now (rw c.of.ensures at (c.is_sane.ensures.0 c.if-is_sane.true))
+    sound_file c.args.code.now (rw c.of.ensures.bits at (c.is_sane.ensures.0 c.if-is_sane.true))
 
 pub returns-then-is_sane-clause-one_tree : goal.returns-then-is_sane-clause-one_tree
 returns-then-is_sane-clause-one_tree c = λ t file. sym (tree_of-file t c.args.code.now file)
 
 pub returns-else-is_sane-clause-accepted : goal.returns-else-is_sane-clause-accepted
 returns-else-is_sane-clause-accepted c = λ t file _.
-    let yes : c.is_sane.result ≡ true = c.is_sane.ensures.1 (rw c.of.ensures (complete_file t c.args.code.now file)) in
+    let yes : c.is_sane.result ≡ true = c.is_sane.ensures.1 (rw c.of.ensures.bits (complete_file t c.args.code.now file)) in
     sym c.if-is_sane.false ∙ yes
 
 pub returns-else-is_sane-clause-one_tree : goal.returns-else-is_sane-clause-one_tree
@@ -30,7 +29,7 @@ returns-else-is_sane-clause-insane c = (
   λ _. (
     c.if-code-gt-MAX_BYTES.false,
     λ t file.
-        let yes : c.is_sane.result ≡ true = c.is_sane.ensures.1 (rw c.of.ensures (complete_file t c.args.code.now file)) in
+        let yes : c.is_sane.result ≡ true = c.is_sane.ensures.1 (rw c.of.ensures.bits (complete_file t c.args.code.now file)) in
         let no = c.if-is_sane.false in
         cc,
   ),

@@ -1,5 +1,5 @@
 use Rattle.std.proofs.Common.{◌≡◌, ◌-◌, ◌++◌, false, drop, replicate}
 use Rattle.asmap_vm.proofs.scan.is_padding.Given as goal
 
-abbrev pub invariant-loop-place : goal.invariant-loop-place
-invariant-loop-place l = drop l.at l.bits ≡ replicate (l.place - l.at) false ++ drop l.place l.bits
+abbrev pub invariant-loop-offset : goal.invariant-loop-offset
+invariant-loop-offset l = drop l.at l.bits ≡ replicate (l.offset - l.at) false ++ drop l.offset l.bits

@@ -6,4 +6,4 @@ use Rattle.asmap_vm.proofs.walk.is_matched.Goals as goal
 pub returns : goal.returns
 unfolding match_bits
 returns c =
-    rw (c.from.ensures, c.match_size.ensures.size) (is_matched_by _ c.args.left c.args.address c.args.number (omega (arith, c.match_size.ensures.size)))
+    rw c.match_size.ensures.size (is_matched_by _ c.args.left c.args.address c.args.number (omega (arith, c.match_size.ensures.size, c.match_size.ensures.most)))

@@ -1,5 +1,4 @@
 use Rattle.std.proofs.Common.{arith, ap, length}
-use Rattle.bit_code.proofs.FileBits.{length-file_bits}
 use Rattle.asmap_vm.specs.Code.{asn_of}
 use Rattle.asmap_vm.specs.Held.{tree_held}
 use Rattle.asmap_vm.proofs.WalkLaws.{sane_ahead}
@@ -10,12 +9,12 @@ of-requires c = c.args.self.now.small
 
 pub follow-requires-clause-size : goal.follow-requires-clause-size
 follow-requires-clause-size c =
-    omega (arith, ap length c.of.ensures, length-file_bits c.args.self.now.code.now, c.args.self.now.small)
+    omega (arith, c.of.ensures.len, c.args.self.now.small)
 
 pub follow-requires-clause-ahead : goal.follow-requires-clause-ahead
 follow-requires-clause-ahead c =
-    rw c.of.ensures (asn_of (tree_held c.args.self.now) c.args.address, sane_ahead c.args.self.now.code.now c.args.address c.args.self.now.sane)
+    rw c.of.ensures.bits (asn_of (tree_held c.args.self.now) c.args.address, sane_ahead c.args.self.now.code.now c.args.address c.args.self.now.sane)
 
 pub returns : goal.returns
 returns c =
-    c.follow.ensures (asn_of (tree_held c.args.self.now) c.args.address) (rw c.of.ensures (sane_ahead c.args.self.now.code.now c.args.address c.args.self.now.sane))
+    c.follow.ensures (asn_of (tree_held c.args.self.now) c.args.address) (rw c.of.ensures.bits (sane_ahead c.args.self.now.code.now c.args.address c.args.self.now.sane))

@@ -12,7 +12,7 @@ loop-preserved c =
 pub loop-smaller : goal.loop-smaller
 loop-smaller c =
     let step = c.in-More.ensures.more refl in
-    omega (arith, step.further, step.under_way.place)
+    omega (arith, step.further, step.under_way.offset)
 
 pub returns-in-Sane : goal.returns-in-Sane
 returns-in-Sane c = (λ _. c.loop.invariant.sound (c.in-Sane.ensures.sane refl), λ _. refl)

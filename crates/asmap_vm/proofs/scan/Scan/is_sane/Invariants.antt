@@ -6,4 +6,4 @@ abbrev pub invariant-loop : goal.invariant-loop
 invariant-loop l = IsOnTheWay l.bits l.scan
 
 abbrev pub decreases-loop : goal.decreases-loop
-decreases-loop l = length l.bits - l.scan.place
+decreases-loop l = length l.bits - l.scan.offset

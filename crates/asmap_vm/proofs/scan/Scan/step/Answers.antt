@@ -8,17 +8,17 @@ use Rattle.asmap_vm.proofs.scan.Scan.step.Goals as goal
 pub returns-in_default-clause-insane : goal.returns-in_default-clause-insane
 returns-in_default-clause-insane c = λ _. no_instruction c.args.bits.now c.args.self.now (c.in_default.ensures.only)
 
-read_return : (c : In-Return) → Reads c.args.bits.now c.args.self.now.place (instructions.Return c.in-Return.field-0) c.in-Some.next
-read_return c = reads_as _ _ _ _ _ c.in-Return.is c.in-Some.ensures.place c.in-Some.ensures.found c.in-Some.ensures.only
+read_return : (c : In-Return) → Reads c.args.bits.now c.args.self.now.offset (instructions.Return c.in-Return.field-0) c.in-Some.next
+read_return c = reads_as _ _ _ _ _ c.in-Return.is c.in-Some.ensures.offset c.in-Some.ensures.found c.in-Some.ensures.only
 
-read_jump : (c : In-Jump) → Reads c.args.bits.now c.args.self.now.place (instructions.Jump c.in-Jump.over) c.in-Some.next
-read_jump c = reads_as _ _ _ _ _ c.in-Jump.is c.in-Some.ensures.place c.in-Some.ensures.found c.in-Some.ensures.only
+read_jump : (c : In-Jump) → Reads c.args.bits.now c.args.self.now.offset (instructions.Jump c.in-Jump.over) c.in-Some.next
+read_jump c = reads_as _ _ _ _ _ c.in-Jump.is c.in-Some.ensures.offset c.in-Some.ensures.found c.in-Some.ensures.only
 
-read_match : (c : In-Match) → Reads c.args.bits.now c.args.self.now.place (instructions.Match c.in-Match.number) c.in-Some.next
-read_match c = reads_as _ _ _ _ _ c.in-Match.is c.in-Some.ensures.place c.in-Some.ensures.found c.in-Some.ensures.only
+read_match : (c : In-Match) → Reads c.args.bits.now c.args.self.now.offset (instructions.Match c.in-Match.number) c.in-Some.next
+read_match c = reads_as _ _ _ _ _ c.in-Match.is c.in-Some.ensures.offset c.in-Some.ensures.found c.in-Some.ensures.only
 
-read_default : (c : In-Default) → Reads c.args.bits.now c.args.self.now.place (instructions.Default c.in-Default.field-0) c.in-Some.next
-read_default c = reads_as _ _ _ _ _ c.in-Default.is c.in-Some.ensures.place c.in-Some.ensures.found c.in-Some.ensures.only
+read_default : (c : In-Default) → Reads c.args.bits.now c.args.self.now.offset (instructions.Default c.in-Default.field-0) c.in-Some.next
+read_default c = reads_as _ _ _ _ _ c.in-Default.is c.in-Some.ensures.offset c.in-Some.ensures.found c.in-Some.ensures.only
 
 pub match_bits-requires-clause-low : goal.match_bits-requires-clause-low
 match_bits-requires-clause-low c =

@@ -6,4 +6,4 @@ abbrev pub invariant-loop-answer : goal.invariant-loop-answer
 invariant-loop-answer l = IsFollowing l.bits l.address l.walk
 
 abbrev pub decreases-loop-answer : goal.decreases-loop-answer
-decreases-loop-answer l = length l.bits - l.walk.place
+decreases-loop-answer l = length l.bits - l.walk.offset

@@ -13,19 +13,19 @@ unreachable-requires c =
     let a = c.requires.ahead in
     c.in_default.ensures.only _ _ (stands_ahead c.args.bits.now c.args.address c.args.self.now a.0 a.1)
 
-read_return : (c : In-Return) → Reads c.args.bits.now c.args.self.now.place (instructions.Return c.in-Return.asn) c.in-Some.next
-read_return c = reads_as _ _ _ _ _ c.in-Return.is c.in-Some.ensures.place c.in-Some.ensures.found c.in-Some.ensures.only
+read_return : (c : In-Return) → Reads c.args.bits.now c.args.self.now.offset (instructions.Return c.in-Return.asn) c.in-Some.next
+read_return c = reads_as _ _ _ _ _ c.in-Return.is c.in-Some.ensures.offset c.in-Some.ensures.found c.in-Some.ensures.only
 
-read_default : (c : In-Default) → Reads c.args.bits.now c.args.self.now.place (instructions.Default c.in-Default.asn) c.in-Some.next
-read_default c = reads_as _ _ _ _ _ c.in-Default.is c.in-Some.ensures.place c.in-Some.ensures.found c.in-Some.ensures.only
+read_default : (c : In-Default) → Reads c.args.bits.now c.args.self.now.offset (instructions.Default c.in-Default.asn) c.in-Some.next
+read_default c = reads_as _ _ _ _ _ c.in-Default.is c.in-Some.ensures.offset c.in-Some.ensures.found c.in-Some.ensures.only
 
 sides : (c : In-Jump) (answer : ℕ) → Answers c.args.bits.now c.args.address c.args.self.now answer → Sides c.args.bits.now c.args.address c.args.self.now.left c.args.self.now.default c.in-Some.next answer c.in-Jump.over
 sides c answer a =
-    let reads : Reads c.args.bits.now c.args.self.now.place (instructions.Jump c.in-Jump.over) c.in-Some.next = reads_as _ _ _ _ _ c.in-Jump.is c.in-Some.ensures.place c.in-Some.ensures.found c.in-Some.ensures.only in
+    let reads : Reads c.args.bits.now c.args.self.now.offset (instructions.Jump c.in-Jump.over) c.in-Some.next = reads_as _ _ _ _ _ c.in-Jump.is c.in-Some.ensures.offset c.in-Some.ensures.found c.in-Some.ensures.only in
     jump_answers _ _ _ _ _ _ c.in-Jump.over (opened c.args.bits.now c.args.address c.args.self.now c.in-Some.next _ answer reads a)
 
-read_match : (c : In-Match) → Reads c.args.bits.now c.args.self.now.place (instructions.Match c.in-Match.number) c.in-Some.next
-read_match c = reads_as _ _ _ _ _ c.in-Match.is c.in-Some.ensures.place c.in-Some.ensures.found c.in-Some.ensures.only
+read_match : (c : In-Match) → Reads c.args.bits.now c.args.self.now.offset (instructions.Match c.in-Match.number) c.in-Some.next
+read_match c = reads_as _ _ _ _ _ c.in-Match.is c.in-Some.ensures.offset c.in-Some.ensures.found c.in-Some.ensures.only
 
 matching : (c : In-Match) (answer : ℕ) → Answers c.args.bits.now c.args.address c.args.self.now answer → Matching c.args.bits.now c.args.address c.args.self.now.left c.args.self.now.default c.in-Some.next answer c.in-Match.number
 matching c answer a =
@@ -69,10 +69,10 @@ returns-else-not-is_matched-clause-gives c = λ answer a.
     let whole : c.args.self.now.left - c.match_size.result + match_size c.in-Match.number ≡ c.args.self.now.left = omega (arith, c.match_size.ensures.size, m.fits) in
     rw c.match_size.ensures.size (m.same (sym (rw whole at c.is_matched.ensures) ∙ c.if-not-is_matched.false))
 
-pub returns-then-has_bit-clause-place : goal.returns-then-has_bit-clause-place
-returns-then-has_bit-clause-place c =
-    let s = sides (goal.at.returns-then-has_bit-clause-place c).In-Jump c.requires.ahead.0 c.requires.ahead.1 in
-    (omega (arith, c.in-Some.ensures.place), s.within c.in-Some.ensures.place.1)
+pub returns-then-has_bit-clause-offset : goal.returns-then-has_bit-clause-offset
+returns-then-has_bit-clause-offset c =
+    let s = sides (goal.at.returns-then-has_bit-clause-offset c).In-Jump c.requires.ahead.0 c.requires.ahead.1 in
+    (omega (arith, c.in-Some.ensures.offset), s.within c.in-Some.ensures.offset.1)
 
 pub returns-then-has_bit-clause-gives : goal.returns-then-has_bit-clause-gives
 returns-then-has_bit-clause-gives c = λ answer a.
