@@ -1,1 +1,4 @@
-pub mod Ipv4Entry
+pub mod Addresses
+pub mod MessageLaws
+pub mod TextLaws
+pub mod Examples

@@ -1,1 +1,6 @@
-pub mod Message
+pub mod Entries
+pub mod Faults
+pub mod Network
+pub mod Layout
+pub mod Texts
+pub mod Inside

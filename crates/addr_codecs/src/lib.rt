@@ -1,6 +1,19 @@
-//! The messages by which nodes tell each other of peers.
+//! The messages `addr` and `addrv2`, by which nodes tell each other of peers.
 #![tactic(auto)]
 
-mod single;
+mod address;
+mod entries;
+mod entry;
+mod fault;
+mod form;
+mod law;
+mod memory;
+mod message;
+mod writing;
 
-pub use single::read_single;
+pub use entries::Entries;
+pub use fault::MsgFault;
+pub use law::messages_have_one_meaning;
+pub use memory::Memory;
+pub use message::{read_addr, read_addrv2};
+pub use writing::{put_address, write_addr, write_addrv2};

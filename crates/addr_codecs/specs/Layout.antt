@@ -1,0 +1,73 @@
+-- The layout of the messages `addr` and `addrv2` (BIP 155), field by field, and the fault that each field may show.
+use Rattle.std.specs.Prelude.{ℕ, List, Option, Some, option_map, nat_le}
+use Rattle.std.specs.Int.{w16, w32, w64}
+use Rattle.net_addr.specs.Address.{Address}
+use Rattle.net_addr.specs.OldForm.{from_v1}
+use Rattle.net_addr.specs.declared.entry.Entry.{Entry}
+use Rattle.net_addr.specs.declared.net.Net.{Net}
+use Rattle.wire_num.specs.declared.fault.WireFault.{WireFault}
+use Rattle.wire_num.specs.Format.{Format, ◌>>=◌, value, check, times, under, HasFault}
+use Rattle.wire_num.specs.Fields.{some_bytes, byte, le, be, compact}
+use Rattle.addr_codecs.specs.Faults.{of_wire}
+use Rattle.addr_codecs.specs.Network.{network_of, is_length, address_of}
+use Rattle.addr_codecs.specs.declared.fault.MsgFault.{MsgFault}
+use Rattle.addr_codecs.specs.declared.fault.MsgFault.TheVariants.{TooMany, BadLength, TooLong, Trailing}
+
+abbrev pub field : {A : Type 0} → Format WireFault A → Format MsgFault A
+field p = under of_wire p
+
+abbrev pub entry : ℕ → ℕ → ℕ → Address → Entry
+entry time services port addr = record { time = time; services = services; peer = record { addr = addr; port = port } }
+
+-- an entry of `addr`, which is never skipped
+unfoldable pub addr_entry : Format MsgFault (Option Entry)
+addr_entry = do
+  time ← field (le w32)
+  services ← field (le w64)
+  old ← field (some_bytes 16)
+  port ← field (be w16)
+  value (Some (entry time services port (from_v1 old)))
+
+-- the length of an address, at most 512 and that of its network
+unfoldable pub address_length : Option Net → Format MsgFault ℕ
+address_length network = do
+  len ← field compact
+  short ← check (nat_le len 512) TooLong len
+  check (is_length network short) BadLength short
+
+-- the network, the length and the bytes of an address; None if its entry is skipped
+unfoldable pub addrv2_address : Format MsgFault (Option Address)
+addrv2_address = do
+  id ← field byte
+  len ← address_length (network_of id)
+  bytes ← field (some_bytes len)
+  value (address_of (network_of id) bytes)
+
+-- an entry of `addrv2`, None if it is skipped
+unfoldable pub addrv2_entry : Format MsgFault (Option Entry)
+addrv2_entry = do
+  time ← field (le w32)
+  services ← field compact
+  addr ← addrv2_address
+  port ← field (be w16)
+  value (option_map (entry time services port) addr)
+
+-- the number of entries, at most 1000, and so many entries
+unfoldable pub message : Format MsgFault (Option Entry) → Format MsgFault (List (Option Entry))
+message p = do
+  n ← field compact
+  count ← check (nat_le n 1000) TooMany n
+  times count p
+
+abbrev pub IsAddrMessage : List ℕ → List (Option Entry) → Type 0
+IsAddrMessage bytes es = (message addr_entry).spells bytes es
+
+abbrev pub IsAddrv2Message : List ℕ → List (Option Entry) → Type 0
+IsAddrv2Message bytes es = (message addrv2_entry).spells bytes es
+
+-- the first fault of bytes that are to be a message
+abbrev pub HasAddrFault : List ℕ → MsgFault → Type 0
+HasAddrFault bytes f = HasFault (message addr_entry) Trailing bytes f
+
+abbrev pub HasAddrv2Fault : List ℕ → MsgFault → Type 0
+HasAddrv2Fault bytes f = HasFault (message addrv2_entry) Trailing bytes f

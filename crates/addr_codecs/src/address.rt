@@ -1,0 +1,102 @@
+ghost use Rattle.std.specs.Prelude.{◌≡◌, ◌≢◌, length, IsTrue, IfSome, Some};
+ghost use Rattle.wire_num.specs.Readings.{Gives};
+ghost use Rattle.net_addr.specs.Address.{length_of};
+ghost use Rattle.net_addr.specs.declared.net.Net.TheVariants.{Unroutable, Ipv6};
+ghost use Rattle.addr_codecs.specs.Network.{network_of, is_length, address_of};
+ghost use Rattle.addr_codecs.specs.Inside.{length_at, address_at};
+
+use crate::fault::MsgFault;
+use net_addr::{Net, NetAddr};
+use wire_num::{take_byte, take_bytes, take_compact};
+
+/// The most bytes that an address may have (`MAX_ADDRV2_SIZE` in netaddress.h of Bitcoin Core).
+const MOST_BYTES: u64 = 512;
+
+/// What IPv6 bytes begin with that stand for an IPv4 address (`IPV4_IN_IPV6_PREFIX` in
+/// netaddress.h of Bitcoin Core).
+pub(crate) const MAPPED_PREFIX: [u8; 12] = [0, 0, 0, 0, 0, 0, 0, 0, 0, 0, 0xff, 0xff];
+
+/// What IPv6 bytes begin with that stand for an internal name (`INTERNAL_IN_IPV6_PREFIX`).
+pub(crate) const INTERNAL_PREFIX: [u8; 6] = [0xfd, 0x6b, 0x88, 0xc0, 0x87, 0x24];
+
+/// What IPv6 bytes begin with that stood for a Tor v2 address (`TORV2_IN_IPV6_PREFIX`).
+const TORV2_PREFIX: [u8; 6] = [0xfd, 0x87, 0xd8, 0x7e, 0xeb, 0x43];
+
+/// The network that a number of BIP 155 names.
+fn network(id: u8) -> Option<Net>
+    ensures value { result ≡ network_of id }
+    ensures own { IfSome result (λ net. net ≢ Unroutable) }
+{
+    match id {
+        1 => Some(Net::Ipv4),
+        2 => Some(Net::Ipv6),
+        4 => Some(Net::Onion),
+        5 => Some(Net::I2p),
+        6 => Some(Net::Cjdns),
+        _ => None,
+    }
+}
+
+/// Whether addresses of the network have this length. Those of an unknown network may have any.
+fn fits(network: Option<Net>, length: u64) -> bool
+    ensures { result ≡ is_length network length }
+{
+    match network {
+        None => true,
+        Some(Net::Ipv4) => length == 4,
+        Some(Net::Ipv6) | Some(Net::Cjdns) => length == 16,
+        Some(Net::Onion) | Some(Net::I2p) => length == 32,
+        Some(Net::Internal) => length == 10,
+        Some(Net::Unroutable) => length == 0,
+    }
+}
+
+/// Takes the length of an address of the network.
+#[tactic(auto, unfolding(crate::specs::Inside::length_at))]
+fn take_length(network: Option<Net>, bytes: &[u8]) -> Result<(usize, &[u8]), MsgFault>
+    ensures { Gives (λ x. (x.0, x.1.now)) result (length_at network bytes.now) }
+{
+    let (length, rest) = take_compact(bytes)?;
+    if length > MOST_BYTES {
+        return Err(MsgFault::TooLong);
+    }
+    if !fits(network, length) {
+        return Err(MsgFault::BadLength);
+    }
+    Ok((length as usize, rest))
+}
+
+/// The address of sixteen IPv6 bytes, unless they stand for an IPv4 or a Tor v2 address.
+fn ipv6(bytes: &[u8; 16]) -> Option<NetAddr>
+    ensures { result ≡ address_of (Some Ipv6) bytes.now }
+{
+    if bytes.starts_with(&MAPPED_PREFIX) || bytes.starts_with(&TORV2_PREFIX) {
+        return None;
+    }
+    Some(NetAddr::from_v1(bytes))
+}
+
+/// The address of the network with these bytes, and `None` for an entry that is skipped.
+fn address(network: Option<Net>, bytes: &[u8]) -> Option<NetAddr>
+    requires own { IfSome network (λ net. net ≢ Unroutable) }
+    requires length { IsTrue (is_length network (length bytes.now)) }
+    ensures { result ≡ address_of network bytes.now }
+{
+    match network? {
+        Net::Ipv6 => ipv6(bytes.try_into().ok()?),
+        net => NetAddr::of(net, bytes),
+    }
+}
+
+/// Takes the network, the length and the bytes of an address (`CNetAddr::UnserializeV2Stream` in
+/// netaddress.h of Bitcoin Core): `None` if the entry with it is skipped.
+#[tactic(auto, unfolding(crate::specs::Inside::address_at))]
+pub(crate) fn take_address(bytes: &[u8]) -> Result<(Option<NetAddr>, &[u8]), MsgFault>
+    ensures { Gives (λ x. (x.0, x.1.now)) result (address_at bytes.now) }
+{
+    let (id, rest) = take_byte(bytes)?;
+    let network = network(id);
+    let (length, rest) = take_length(network, rest)?;
+    let (part, rest) = take_bytes(rest, length)?;
+    Ok((address(network, part), rest))
+}

@@ -1,0 +1,60 @@
+ghost use Rattle.std.specs.Prelude.{◌≡◌};
+ghost use Rattle.addr_codecs.specs.Faults.{of_wire};
+ghost use Rattle.addr_codecs.specs.declared.fault.MsgFault.TheVariants.{Memory};
+
+use std::alloc::{AllocError, AllocFailed};
+use thiserror::Error;
+use wire_num::WireFault;
+
+/// Why a message cannot be read: its first fault from the front.
+#[derive(Clone, Copy, Debug, PartialEq, Eq, Drop, Error)]
+pub enum MsgFault {
+    /// The bytes end before a field does.
+    #[error("truncated")]
+    Truncated = 1,
+    /// A CompactSize has more bytes than its value needs.
+    #[error("non-canonical")]
+    NonCanonical = 2,
+    /// The count is above 1000.
+    #[error("too-many")]
+    TooMany = 3,
+    /// The network of the entry has addresses of another length.
+    #[error("bad-length")]
+    BadLength = 4,
+    /// An address has more than 512 bytes.
+    #[error("too-long")]
+    TooLong = 5,
+    /// Bytes are left after the last entry.
+    #[error("trailing")]
+    Trailing = 6,
+    /// There was no memory for the entries.
+    #[error("out of memory")]
+    Memory = 7,
+}
+
+impl From<WireFault> for MsgFault {
+    ghost from_gives = { λ fault e. e ≡ of_wire fault };
+
+    fn from(fault: WireFault) -> MsgFault {
+        match fault {
+            WireFault::Truncated => MsgFault::Truncated,
+            WireFault::NonCanonical => MsgFault::NonCanonical,
+        }
+    }
+}
+
+impl From<AllocError> for MsgFault {
+    ghost from_gives = { λ _ e. e ≡ Memory };
+
+    fn from(_error: AllocError) -> MsgFault {
+        MsgFault::Memory
+    }
+}
+
+impl<T: Drop> From<AllocFailed<T>> for MsgFault {
+    ghost from_gives = { λ _ e. e ≡ Memory };
+
+    fn from(_error: AllocFailed<T>) -> MsgFault {
+        MsgFault::Memory
+    }
+}

@@ -1,0 +1,27 @@
+ghost use Rattle.wire_num.specs.Readings.{Gives};
+ghost use Rattle.addr_codecs.specs.Inside.{entry_at};
+
+use crate::entry::{take_addr_entry, take_addrv2_entry};
+use crate::fault::MsgFault;
+use net_addr::Entry;
+
+/// The two forms of a message.
+#[derive(Clone, Copy, Debug, PartialEq, Eq)]
+pub(crate) enum Form {
+    /// `addr`, with addresses of sixteen bytes.
+    Addr,
+    /// `addrv2`, with addresses of every network (BIP 155).
+    Addrv2,
+}
+
+impl Form {
+    /// Takes an entry, `None` if it is skipped.
+    pub(crate) fn take_entry(self, bytes: &[u8]) -> Result<(Option<Entry>, &[u8]), MsgFault>
+        ensures { Gives (λ x. (x.0, x.1.now)) result (entry_at self bytes.now) }
+    {
+        match self {
+            Form::Addr => take_addr_entry(bytes),
+            Form::Addrv2 => take_addrv2_entry(bytes),
+        }
+    }
+}

@@ -1,0 +1,17 @@
+use std::alloc::AllocError;
+
+/// There was no memory for a message.
+#[derive(Clone, Copy, Debug, PartialEq, Eq)]
+pub struct Memory;
+
+impl From<AllocError> for Memory {
+    fn from(_error: AllocError) -> Memory {
+        Memory
+    }
+}
+
+impl From<wire_num::Memory> for Memory {
+    fn from(_error: wire_num::Memory) -> Memory {
+        Memory
+    }
+}

@@ -1,0 +1,124 @@
+ghost use Rattle.std.specs.Prelude.{◌≡◌, ◌≢◌, ◌⊎◌, ◌≤◌, ◌++◌, [], length, map, All, IfOk, OnOk, Some, unwrap_or};
+ghost use Rattle.net_addr.specs.Address.{IsAddress};
+ghost use Rattle.net_addr.specs.OldForm.{v1_bytes};
+ghost use Rattle.net_addr.specs.declared.net.Net.TheVariants.{Ipv4, Ipv6, Internal};
+ghost use Rattle.addr_codecs.specs.Entries.{IsEntry};
+ghost use Rattle.addr_codecs.specs.Layout.{IsAddrMessage, IsAddrv2Message};
+ghost use Rattle.addr_codecs.specs.Texts.{addr_entry_text, addrv2_entry_text, address_text, prefix_of, id_of, message_text};
+
+use crate::address::{INTERNAL_PREFIX, MAPPED_PREFIX};
+use crate::memory::Memory;
+use host_io::Bytes;
+use net_addr::{Entry, Net, NetAddr};
+use std::alloc::Global;
+use wire_num::put_compact;
+
+/// Appends an IPv4 or IPv6 address in the old form.
+fn put_old_form(out: &mut Vec<u8>, addr: &NetAddr) -> Result<(), Memory>
+    requires { (addr.now.net ≡ Ipv4) ⊎ (addr.now.net ≡ Ipv6) }
+    ensures found { OnOk result (out.new.items ≡
+        out.old.items ++ unwrap_or (v1_bytes addr.now) []) }
+    ensures address { OnOk result (IsAddress addr.now) }
+{
+    if addr.net() == Net::Ipv4 {
+        out.extend_from_slice(&MAPPED_PREFIX)?;
+    }
+    out.extend_from_slice(addr.bytes())?;
+    Ok(())
+}
+
+/// Appends an entry of `addr`.
+#[tactic(auto, unfolding(crate::specs::Texts::addr_entry_text))]
+fn put_addr_entry(out: &mut Vec<u8>, entry: &Entry) -> Result<(), Memory>
+    requires { (entry.now.peer.addr.net ≡ Ipv4) ⊎ (entry.now.peer.addr.net ≡ Ipv6) }
+    ensures found { OnOk result (out.new.items ≡ out.old.items ++ addr_entry_text entry.now) }
+    ensures entry { OnOk result (IsEntry entry.now) }
+{
+    out.extend_from_slice(&entry.time.to_le_bytes())?;
+    out.extend_from_slice(&entry.services.to_le_bytes())?;
+    put_old_form(out, &entry.peer.addr)?;
+    out.extend_from_slice(&entry.peer.port.to_be_bytes())?;
+    Ok(())
+}
+
+/// The number of a network in BIP 155. An internal name has none, and is written as IPv6.
+fn id(net: Net) -> u8
+    ensures { result ≡ id_of net }
+{
+    match net {
+        Net::Unroutable => 0,
+        Net::Ipv4 => 1,
+        Net::Ipv6 | Net::Internal => 2,
+        Net::Onion => 4,
+        Net::I2p => 5,
+        Net::Cjdns => 6,
+    }
+}
+
+/// What is written before the bytes of an address: an internal name is written in the old form.
+fn prefix(net: Net) -> &'static [u8]
+    ensures { result.now ≡ prefix_of net }
+{
+    match net {
+        Net::Internal => &INTERNAL_PREFIX,
+        _ => &[],
+    }
+}
+
+/// Appends the network, the length and the bytes of an address (`CNetAddr::SerializeV2Stream` in
+/// netaddress.h of Bitcoin Core).
+#[tactic(auto, unfolding(crate::specs::Texts::address_text))]
+pub fn put_address(addr: &NetAddr, out: &mut Vec<u8>) -> Result<(), Memory>
+    ensures found { OnOk result (out.new.items ≡ out.old.items ++ address_text addr.now) }
+    ensures address { OnOk result (IsAddress addr.now) }
+{
+    let (prefix, bytes) = (prefix(addr.net()), addr.bytes());
+    out.extend_from_slice(&[id(addr.net())])?;
+    put_compact((prefix.len() + bytes.len()) as u64, out)?;
+    out.extend_from_slice(prefix)?;
+    out.extend_from_slice(bytes)?;
+    Ok(())
+}
+
+/// Appends an entry of `addrv2`.
+#[tactic(auto, unfolding(crate::specs::Texts::addrv2_entry_text))]
+fn put_addrv2_entry(out: &mut Vec<u8>, entry: &Entry) -> Result<(), Memory>
+    ensures found { OnOk result (out.new.items ≡ out.old.items ++ addrv2_entry_text entry.now) }
+    ensures entry { OnOk result (IsEntry entry.now) }
+{
+    out.extend_from_slice(&entry.time.to_le_bytes())?;
+    put_compact(entry.services, out)?;
+    put_address(&entry.peer.addr, out)?;
+    out.extend_from_slice(&entry.peer.port.to_be_bytes())?;
+    Ok(())
+}
+
+/// Writes an `addr` message of the entries, which reads as these entries.
+pub fn write_addr(alloc: Global, entries: &[Entry]) -> Result<Bytes, Memory>
+    requires count { length entries.now ≤ 1000 }
+    requires networks { All (λ e. (e.peer.addr.net ≡ Ipv4) ⊎ (e.peer.addr.net ≡ Ipv6)) entries.now }
+    ensures found { IfOk result (λ bytes. bytes ≡ message_text addr_entry_text entries.now) }
+    ensures read_back { IfOk result (λ bytes. IsAddrMessage bytes (map Some entries.now)) }
+{
+    let mut out = Vec::new(alloc);
+    put_compact(entries.len() as u64, &mut out)?;
+    for entry in entries {
+        put_addr_entry(&mut out, entry)?;
+    }
+    Ok(Bytes::of(out))
+}
+
+/// Writes an `addrv2` message (BIP 155) of the entries, which reads as these entries.
+pub fn write_addrv2(alloc: Global, entries: &[Entry]) -> Result<Bytes, Memory>
+    requires count { length entries.now ≤ 1000 }
+    requires networks { All (λ e. e.peer.addr.net ≢ Internal) entries.now }
+    ensures found { IfOk result (λ bytes. bytes ≡ message_text addrv2_entry_text entries.now) }
+    ensures read_back { IfOk result (λ bytes. IsAddrv2Message bytes (map Some entries.now)) }
+{
+    let mut out = Vec::new(alloc);
+    put_compact(entries.len() as u64, &mut out)?;
+    for entry in entries {
+        put_addrv2_entry(&mut out, entry)?;
+    }
+    Ok(Bytes::of(out))
+}
