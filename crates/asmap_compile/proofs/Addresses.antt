@@ -1,0 +1,61 @@
+-- A row is a prefix of an address where its path is one of the address bits.
+use Rattle.std.proofs.Common.{◌≡◌, ℕ, zero, suc, ◌+◌, ◌-◌, ◌/◌, ◌%◌, ◌^◌, ◌<◌, ◌≤◌, true, List, ◌∷◌, ◌++◌, length, take, refl, ap, sym, ◌∙◌, arith, eqb, eq-eqb}
+use Rattle.std.specs.Option.{option_map_or}
+use Rattle.std.proofs.lemmas.Nat.{shr-shr}
+use Rattle.std.proofs.lemmas.List.{take_at}
+use Rattle.std.proofs.lemmas.Bool.{eqb-true}
+use Rattle.bit_code.specs.Coder.{has_bit, digits, number_of}
+use Rattle.bit_code.specs.DigitLaws.{length-digits, number_of-digits}
+use Rattle.asmap_vm.specs.Code.{begins_with}
+use Rattle.prefix_table.specs.declared.row.Row.{Row}
+use Rattle.prefix_table.specs.Rows.{path, first_bits, covers, longest, best, IsRow}
+use Rattle.asmap_compile.specs.Compiled.{number_at}
+use Rattle.asmap_compile.proofs.Bits.{begins_cut, begins_self, filter_same, same_tests}
+use Rattle.asmap_compile.proofs.RowLaws.{AreRows, path_long, first_bits_of, first_below}
+
+digits_cons : (k n : ℕ) → digits (suc k) n ≡ has_bit n k ∷ digits k n
+unfolding digits
+digits_cons k n = refl
+
+same_shift : (size left a : ℕ) → a / 2 ^ (size + left) ≡ a / 2 ^ left / 2 ^ size
+same_shift size left a = let e : size + left ≡ left + size = omega arith in rw e (sym (shr-shr a left size))
+
+-- the digits above the lowest ones, and then those
+pub digits_above : (size left a : ℕ) → digits (size + left) a ≡ digits size (a / 2 ^ left) ++ digits left a
+digits_above zero left a = let e : 0 + left ≡ left = omega arith in rw e (unfold digits in refl)
+digits_above (suc size) left a =
+    let e : suc size + left ≡ suc (size + left) = omega arith in
+    let top : has_bit a (size + left) ≡ has_bit (a / 2 ^ left) size = ap (λ n. eqb (n % 2) 1) (same_shift size left a) in
+    rw e (digits_cons (size + left) a ∙ ap (λ b. b ∷ digits (size + left) a) top ∙ ap (λ xs. has_bit (a / 2 ^ left) size ∷ xs) (digits_above size left a) ∙ sym (ap (λ xs. xs ++ digits left a) (digits_cons size (a / 2 ^ left))))
+
+-- the first bits of an address, as bits
+pub address_front : (len a : ℕ) → len ≤ 128 → digits 128 a ≡ digits len (first_bits len a) ++ digits (128 - len) a
+address_front len a short =
+    let e : len + (128 - len) ≡ 128 = omega arith in
+    ap (λ n. digits n a) (sym e) ∙ digits_above len (128 - len) a
+
+there : (row : Row) (a : ℕ) → IsRow row → covers row a ≡ true → begins_with (digits 128 a) (path row) ≡ true
+unfolding path
+there row a is h =
+    let same = eqb-true (first_bits row.len a) (first_bits row.len row.bits) h in
+    rw (address_front row.len a is.len, same) (begins_self (digits row.len (first_bits row.len row.bits)) (digits (128 - row.len) a))
+
+back : (row : Row) (a : ℕ) → IsRow row → a < 2 ^ 128 → begins_with (digits 128 a) (path row) ≡ true → covers row a ≡ true
+back row a is small h =
+    let c = begins_cut (digits 128 a) (path row) h in
+    let front = digits row.len (first_bits row.len a) in
+    let long : length front ≡ row.len = length-digits row.len (first_bits row.len a) in
+    let mine : take row.len (digits 128 a) ≡ front = ap (take row.len) (address_front row.len a is.len) ∙ take_at front (digits (128 - row.len) a) row.len long in
+    let its : take row.len (digits 128 a) ≡ path row = ap (take row.len) c.is ∙ take_at (path row) c.rest row.len (path_long row) in
+    let same : first_bits row.len a ≡ first_bits row.len row.bits = sym (number_of-digits row.len (first_bits row.len a) (first_below row.len a is.len small)) ∙ ap number_of (sym mine ∙ its) ∙ first_bits_of row is in
+    eq-eqb (first_bits row.len a) (first_bits row.len row.bits) same
+
+pub covers_bits : (row : Row) (a : ℕ) → IsRow row → a < 2 ^ 128 → begins_with (digits 128 a) (path row) ≡ covers row a
+covers_bits row a is small = same_tests (begins_with (digits 128 a) (path row)) (covers row a) (back row a is small) (there row a is)
+
+-- the number of the path of an address is that of its longest row
+pub number_best : (rows : List Row) (a : ℕ) → AreRows rows → a < 2 ^ 128 → number_at rows (digits 128 a) ≡ best rows a
+unfolding number_at best
+number_best rows a are small =
+    ap (λ xs. option_map_or (λ (row : Row). row.asn) (longest xs) 0)
+    (filter_same (λ row. begins_with (digits 128 a) (path row)) (λ row. covers row a) rows (λ row has. covers_bits row a (are.each row has) small))

@@ -1,0 +1,144 @@
+-- Rows that rise, and the bits that they have in common.
+use Rattle.std.proofs.Common.{◌≡◌, ℕ, zero, suc, ◌+◌, ◌-◌, ◌*◌, ◌/◌, ◌%◌, ◌^◌, ◌<◌, ◌≤◌, Bool, true, false, List, [], ◌∷◌, ◌++◌, length, take, filter, cond, get_or, inl, inr, refl, ap, sym, ◌∙◌, subst, arith, Contains, AllPairs, eqb, eq-eqb}
+use Rattle.std.proofs.Math.Nat.{div-mul-le_self}
+use Rattle.std.proofs.lemmas.Bool.{eqb-true}
+use Rattle.std.proofs.lemmas.List.{take_at}
+use Rattle.std.proofs.lemmas.List.Elements.{Contains-get_or}
+use Rattle.std.proofs.lemmas.Nat.{shr-shr, pow_pos}
+use Rattle.bit_code.specs.Coder.{digits, number_of}
+use Rattle.bit_code.specs.DigitLaws.{number_of-digits}
+use Rattle.asmap_vm.specs.Code.{begins_with}
+use Rattle.prefix_table.specs.declared.row.Row.{Row}
+use Rattle.prefix_table.specs.Rows.{path, first_bits, IsRow, Precedes}
+use Rattle.asmap_compile.specs.Inside.{bits_between, bit_of}
+use Rattle.asmap_compile.proofs.BetweenLaws.{between_long, between_split}
+use Rattle.asmap_compile.proofs.Bits.{begins_cut, begins_from, begins_long, filter_item}
+use Rattle.asmap_compile.proofs.CommonBits.{div-le-div}
+use Rattle.asmap_compile.proofs.RowLaws.{path_long, first_below, bits_of}
+
+-- each row precedes all after it
+pub Rises : List Row → Type 0
+Rises [] = Unit {0}
+Rises (x ∷ xs) = ((y : Row) → Contains xs y → Precedes x y) × Rises xs
+
+pub rises_from : (xs : List Row) → AllPairs Precedes xs → Rises xs
+unfolding Rises
+rises_from [] h = tt
+rises_from (x ∷ xs) h = (
+  λ y has. subst (Precedes x) has.2 (h 0 (suc has.0) y (omega arith) (omega (arith, has.1))),
+  rises_from xs (λ i j d low high. h (suc i) (suc j) d (omega arith) (omega arith)),
+)
+
+pub pairs_from : (xs : List Row) → Rises xs → AllPairs Precedes xs
+unfolding Rises
+pairs_from [] h i j d low high = absurd (omega arith)
+pairs_from (x ∷ xs) h zero zero d low high = absurd (omega arith)
+pairs_from (x ∷ xs) h zero (suc j) d low high = h.0 (get_or xs j d) (Contains-get_or xs j d (omega arith))
+pairs_from (x ∷ xs) h (suc i) zero d low high = absurd (omega arith)
+pairs_from (x ∷ xs) h (suc i) (suc j) d low high = pairs_from xs h.1 i j d (omega arith) (omega arith)
+
+rises_by : (p : Row → Bool) (x : Row) (xs : List Row) (b : Bool) → ((y : Row) → Contains xs y → Precedes x y) → Rises (filter p xs) → Rises (cond b (x ∷ filter p xs) (filter p xs))
+unfolding Rises
+rises_by p x xs true first rest = (λ y has. first y (filter_item p xs y has).0, rest)
+rises_by p x xs false first rest = rest
+
+rises_filter : (p : Row → Bool) (xs : List Row) → Rises xs → Rises (filter p xs)
+unfolding Rises
+rises_filter p [] h = tt
+rises_filter p (x ∷ xs) h = rises_by p x xs (p x) h.0 (rises_filter p xs h.1)
+
+-- what a filter leaves still rises
+pub pairs_filter : (p : Row → Bool) (xs : List Row) → AllPairs Precedes xs → AllPairs Precedes (filter p xs)
+pairs_filter p xs h = pairs_from (filter p xs) (rises_filter p xs (rises_from xs h))
+
+pub bits_rise : (a b : Row) → Precedes a b → a.bits ≤ b.bits
+bits_rise a b (inl less) = omega arith
+bits_rise a b (inr both) = omega (arith, both.0)
+
+-- the first bits of a row, as bits
+abbrev pub front : ℕ → ℕ → List Bool
+front len bits = bits_between bits 0 len
+
+pub front_is : (len bits : ℕ) → front len bits ≡ digits len (first_bits len bits)
+unfolding bits_between
+front_is len bits = let e : len - 0 ≡ len = omega arith in ap (λ n. digits n (bits / 2 ^ (128 - len))) e
+
+pub path_front : (row : Row) → path row ≡ front row.len row.bits
+unfolding path
+path_front row = sym (front_is row.len row.bits)
+
+pub front_begins : (row : Row) (len : ℕ) → row.len ≤ 128 → len ≤ row.len → begins_with (path row) (front len row.bits) ≡ true
+front_begins row len top low =
+    begins_from (path row) (front len row.bits) (bits_between row.bits len row.len) (path_front row ∙ between_split row.bits 0 len row.len (omega arith) low top)
+
+-- the first bits, as bits and as a number
+pub front_same : (len a b : ℕ) → first_bits len a ≡ first_bits len b → front len a ≡ front len b
+front_same len a b e = front_is len a ∙ ap (digits len) e ∙ sym (front_is len b)
+
+pub first_same : (len a b : ℕ) → len ≤ 128 → a < 2 ^ 128 → b < 2 ^ 128 → front len a ≡ front len b → first_bits len a ≡ first_bits len b
+first_same len a b top la lb e =
+    sym (number_of-digits len (first_bits len a) (first_below len a top la)) ∙ ap number_of (sym (front_is len a) ∙ e ∙ front_is len b) ∙ number_of-digits len (first_bits len b) (first_below len b top lb)
+
+-- a path that a row begins with is its front
+pub begun_front : (row : Row) (p : List Bool) → row.len ≤ 128 → begins_with (path row) p ≡ true → p ≡ front (length p) row.bits
+begun_front row p top h =
+    let c = begins_cut (path row) p h in
+    let low : length p ≤ row.len = omega (arith, begins_long (path row) p h, path_long row) in
+    let d = begins_cut (path row) (front (length p) row.bits) (front_begins row (length p) top low) in
+    sym (take_at p c.rest (length p) refl) ∙ ap (take (length p)) (sym c.is ∙ d.is) ∙ take_at (front (length p) row.bits) d.rest (length p) (between_long row.bits 0 (length p) ∙ (let e : length p - 0 ≡ length p = omega arith in e))
+
+-- fewer first bits in common
+pub fewer_first : (m n a b : ℕ) → m ≤ n → n ≤ 128 → first_bits n a ≡ first_bits n b → first_bits m a ≡ first_bits m b
+fewer_first m n a b low top e =
+    let k : (128 - n) + (n - m) ≡ 128 - m = omega arith in
+    ap (λ j. a / 2 ^ j) (sym k) ∙ sym (shr-shr a (128 - n) (n - m)) ∙ ap (λ x. x / 2 ^ (n - m)) e ∙ shr-shr b (128 - n) (n - m) ∙ ap (λ j. b / 2 ^ j) k
+
+-- the next bit, as what is left over of one more first bit
+pub next_first : (k bits : ℕ) → k < 128 → first_bits (k + 1) bits / 2 ≡ first_bits k bits
+next_first k bits low =
+    let one : (128 - (k + 1)) + 1 ≡ 128 - k = omega arith in
+    shr-shr bits (128 - (k + 1)) 1 ∙ ap (λ j. bits / 2 ^ j) one
+
+pub bit_first : (k bits : ℕ) → k < 128 → bit_of bits k ≡ eqb (first_bits (k + 1) bits % 2) 1
+bit_first k bits low = let e : 127 - k ≡ 128 - (k + 1) = omega arith in ap (λ j. eqb (bits / 2 ^ j % 2) 1) e
+
+-- of two numbers with the same first bits, the next bit doesn't fall
+pub bit_rises : (k a b : ℕ) → k < 128 → first_bits k a ≡ first_bits k b → a ≤ b → bit_of a k ≡ true → bit_of b k ≡ true
+bit_rises k a b low same le h =
+    let one = eqb-true (first_bits (k + 1) a % 2) 1 (sym (bit_first k a low) ∙ h) in
+    let rise = div-le-div a b (2 ^ (128 - (k + 1))) (pow_pos (128 - (k + 1))) le in
+    let half_a = next_first k a low in
+    let half_b = next_first k b low in
+    bit_first k b low ∙ eq-eqb (first_bits (k + 1) b % 2) 1 (omega (arith, one, rise, half_a, half_b, same))
+
+one_bit : (k bits : ℕ) → k < 128 → bits_between bits k (suc k) ≡ bit_of bits k ∷ []
+unfolding bits_between digits
+one_bit k bits low =
+    let one : suc k - k ≡ 1 = omega arith in
+    let at : (128 - suc k) + 0 ≡ 127 - k = omega arith in
+    ap (λ j. digits j (bits / 2 ^ (128 - suc k))) one ∙ ap (λ x. eqb (x % 2) 1 ∷ []) (shr-shr bits (128 - suc k) 0 ∙ ap (λ j. bits / 2 ^ j) at)
+
+-- a front of one more bit
+pub front_next : (k bits : ℕ) → k < 128 → front (suc k) bits ≡ front k bits ++ bit_of bits k ∷ []
+front_next k bits low = between_split bits 0 k (suc k) (omega arith) (omega arith) (omega arith) ∙ ap (λ xs. front k bits ++ xs) (one_bit k bits low)
+
+-- a row that is longer than a path it begins with goes on by its next bit
+pub next_bit : (row : Row) (p : List Bool) → row.len ≤ 128 → begins_with (path row) p ≡ true → length p < row.len → begins_with (path row) (p ++ bit_of row.bits (length p) ∷ []) ≡ true
+next_bit row p top h long =
+    subst (λ q. begins_with (path row) q ≡ true)
+    (front_next (length p) row.bits (omega arith) ∙ ap (λ q. q ++ bit_of row.bits (length p) ∷ []) (sym (begun_front row p top h)))
+    (front_begins row (suc (length p)) top (omega arith))
+
+not_before_by : (a b : Row) → b.bits ≤ a.bits → b.len ≤ a.len → Precedes a b → ⊥
+not_before_by a b le low (inl less) = omega arith
+not_before_by a b le low (inr both) = omega (arith, both.1)
+
+-- a row doesn't precede a row that is a prefix of it
+pub prefix_first : (a b : Row) → IsRow a → IsRow b → begins_with (path a) (path b) ≡ true → Precedes a b → ⊥
+prefix_first a b is are h before =
+    let low : b.len ≤ a.len = omega (arith, begins_long (path a) (path b) h, path_long a, path_long b) in
+    let mine : path b ≡ front b.len a.bits = begun_front a (path b) is.len h ∙ ap (λ n. front n a.bits) (path_long b) in
+    let same = first_same b.len a.bits b.bits are.len is.bits are.bits (sym mine ∙ path_front b) in
+    let least = div-mul-le_self a.bits (2 ^ (128 - b.len)) in
+    let its = bits_of b are in
+    not_before_by a b (omega (arith, ap (λ n. n * 2 ^ (128 - b.len)) same, least, its)) low before

@@ -1,0 +1,50 @@
+ghost use Rattle.std.specs.Prelude.{◌≡◌, ◌↔◌, ℕ, ◌^◌, ◌<◌, ◌≤◌, Bool, List, length, IfOk, Err};
+ghost use Rattle.bit_code.specs.Coder.{number_of};
+ghost use Rattle.asmap_vm.specs.Code.{IsSaneFile, code, meaning, asn_of};
+ghost use Rattle.prefix_table.specs.Rows.{best};
+ghost use Rattle.asmap_compile.specs.Compiled.{compiled};
+ghost use Rattle.asmap_compile.specs.declared.compiling.TheConstants.{MAX_BITS};
+
+use crate::compiled_code::Compiled;
+use crate::fault::CompileFault;
+use crate::kept::kept_of;
+use crate::tree::put_tree;
+use bit_code::BitFront;
+use prefix_table::Table;
+use std::alloc::Global;
+
+/// The most bits that a code may have: those of 8,388,608 bytes.
+pub const MAX_BITS: u64 = 67_108_864;
+
+/// Compiles a table into an asmap file, which gives each address the AS number of its longest match.
+pub fn compile(alloc: Global, table: &Table) -> Result<Compiled, CompileFault>
+    // The file is that of the compiled tree, which is sane.
+    ensures sane { IfOk result (λ file. IsSaneFile (compiled table.now) file.bytes) }
+    ensures bits { IfOk result (λ file. file.bits ≡ length (code (compiled table.now))) }
+    ensures small { IfOk result (λ file. file.bits ≤ MAX_BITS) }
+
+    // The tree gives every address the number of its longest row.
+    ensures meaning { IfOk result (λ _. (address : List Bool) → length address ≡ 128
+        → meaning (compiled table.now) address 0 ≡ best table.now (number_of address)) }
+    ensures asn { IfOk result (λ _. (address : ℕ) → address < 2 ^ 128
+        → asn_of (compiled table.now) address ≡ best table.now address) }
+    ensures empty { (result ≡ Err CompileFault.Empty) ↔ (length table.now ≡ 0) }
+    ensures too_large { (bits : ℕ) → result ≡ Err (CompileFault.TooLarge bits)
+        → (MAX_BITS < bits) × (bits ≡ length (code (compiled table.now))) }
+{
+    let rows = table.rows();
+    if rows.is_empty() {
+        return Err(CompileFault::Empty);
+    }
+    let kept = kept_of(alloc, rows)?;
+    let mut out = BitFront::make(alloc);
+    put_tree(&mut out, kept.as_slice(), 0, 0, 0)?;
+    let bits = out.len() as u64;
+    if bits > MAX_BITS {
+        return Err(CompileFault::TooLarge { bits });
+    }
+    Ok(Compiled {
+        bytes: out.into_bytes(),
+        bits,
+    })
+}

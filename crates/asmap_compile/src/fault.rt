@@ -1,0 +1,35 @@
+ghost use Rattle.std.specs.Prelude.{◌≡◌};
+ghost use Rattle.asmap_compile.specs.declared.fault.CompileFault.{CompileFault};
+
+use bit_code::Memory as BitMemory;
+use std::alloc::AllocError;
+
+/// Why a table isn't compiled.
+#[derive(Clone, Copy, Debug, PartialEq, Eq)]
+pub enum CompileFault {
+    /// The table has no rows.
+    Empty,
+    /// The code has more bits than a file of 8,388,608 bytes.
+    TooLarge {
+        /// How many bits it has.
+        bits: u64,
+    },
+    /// Out of memory.
+    Memory,
+}
+
+impl From<AllocError> for CompileFault {
+    ghost from_gives = { λ _ fault. fault ≡ CompileFault.Memory };
+
+    fn from(_: AllocError) -> CompileFault {
+        CompileFault::Memory
+    }
+}
+
+impl From<BitMemory> for CompileFault {
+    ghost from_gives = { λ _ fault. fault ≡ CompileFault.Memory };
+
+    fn from(_: BitMemory) -> CompileFault {
+        CompileFault::Memory
+    }
+}

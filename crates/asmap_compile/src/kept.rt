@@ -1,0 +1,70 @@
+ghost use Rattle.std.specs.Prelude.{◌≡◌, ℕ, ◌-◌, ◌<◌, ◌≤◌, Bool, true, false, length, IfOk, slice_index_or};
+ghost use Rattle.prefix_table.specs.Rows.{IsTable, covers, first_bits};
+ghost use Rattle.prefix_table.specs.declared.row.Row.{Row};
+ghost use Rattle.asmap_compile.specs.Compiled.{rows_kept};
+
+use prefix_table::Row;
+use std::alloc::{AllocError, Global};
+
+/// The first `len` bits, as a number.
+fn first_bits(bits: u128, len: u8) -> u128
+    requires { len ≤ 128 }
+    ensures { result ≡ first_bits len bits }
+{
+    if len == 0 { 0 } else { bits >> (128 - len) }
+}
+
+/// Whether the row is a prefix of the address.
+fn covers(row: &Row, address: u128) -> bool
+    requires { row.now.len ≤ 128 }
+    ensures { result ≡ covers row.now address }
+{
+    first_bits(address, row.len) == first_bits(row.bits, row.len)
+}
+
+/// How many rows are left without those at the end that are no prefix of the address.
+fn count_around(rows: &[Row], address: u128) -> usize
+    requires { (k : ℕ) (d : Row) → k < length rows.now → (slice_index_or rows.now k d).len ≤ 128 }
+    ensures bound { result ≤ length rows.now }
+    ensures last { 0 < result → (d : Row)
+        → covers (slice_index_or rows.now (result - 1) d) address ≡ true }
+    ensures past { (k : ℕ) (d : Row) → result ≤ k → k < length rows.now
+        → covers (slice_index_or rows.now k d) address ≡ false }
+{
+    let mut count = rows.len();
+    while count > 0 && !covers(&rows[count - 1], address) {
+        count -= 1;
+    }
+    count
+}
+
+/// The AS number of the last row, or 0.
+fn last_asn(rows: &[Row]) -> u32
+    ensures none { length rows.now ≡ 0 → result ≡ 0 }
+    ensures some { (d : Row) → 0 < length rows.now
+        → result ≡ (slice_index_or rows.now (length rows.now - 1) d).asn }
+{
+    match rows.last() {
+        Some(row) => row.asn,
+        None => 0,
+    }
+}
+
+/// The rows that stay in the asmap, in one pass. Of the rows before the next one, `around` has
+/// those that may be a prefix of it or of a later one, the longest last.
+pub(crate) fn kept_of(alloc: Global, rows: &[Row]) -> Result<Vec<Row>, AllocError>
+    requires { IsTable rows.now }
+    ensures { IfOk result (λ kept. kept.items ≡ rows_kept rows.now) }
+{
+    let mut kept = Vec::new(alloc);
+    let mut around: Vec<Row> = Vec::new(alloc);
+    for row in rows {
+        let count = count_around(around.as_slice(), row.bits);
+        around.truncate(count);
+        if last_asn(around.as_slice()) != row.asn {
+            kept.push(*row)?;
+        }
+        around.push(*row)?;
+    }
+    Ok(kept)
+}

@@ -1,0 +1,14 @@
+pub mod BitLaws
+pub mod OrderLaws
+pub mod SearchLaws
+pub mod BestLaws
+pub mod LineLaws
+pub mod EntryLaws
+pub mod RowsLaws
+pub mod RepeatLaws
+pub mod NumberedLaws
+pub mod OrderedLaws
+pub mod ReadLaws
+pub mod PrintLaws
+pub mod OneReading
+pub mod Examples

@@ -1,0 +1,46 @@
+use Rattle.std.proofs.Common.{◌+◌, ◌++◌, List, [], ◌∷◌, length, ◌<◌, ◌≤◌, arith, ◌∙◌, ap, subst, sym, Option}
+use Rattle.std.specs.Prelude.{MatchOption}
+use Rattle.std.proofs.lemmas.List.{nil_from_length}
+use Rattle.std.proofs.lemmas.Bool.{eqb-true}
+use Rattle.prefix_table.specs.declared.numbered.NumberedRow.{NumberedRow}
+use Rattle.prefix_table.specs.Text.{IsPassedOver, IsRowLine}
+use Rattle.prefix_table.specs.declared.row.Row.{Row}
+use Rattle.prefix_table.proofs.ReadLaws.{reading_stops}
+use Rattle.prefix_table.proofs.RowsLaws.{overflows, stops_at, SoFar, so_far_none, so_far_passed, so_far_row, whole}
+use Rattle.prefix_table.specs.Numbered.{with_line, Overflows}
+use Rattle.prefix_table.proofs.rows.read_rows.Goals as goal
+
+pub loop-rest-init : goal.loop-rest-init
+loop-rest-init c = subst (λ rows. SoFar c.args.text.now c.args.text.now rows 0) (sym c.new-rows.ensures.items) (so_far_none c.args.text.now)
+
+pub loop-rest-preserved-in-Ok-None : goal.loop-rest-preserved-in-Ok-None
+loop-rest-preserved-in-Ok-None c =
+    let passed = subst (λ (o : Option Row). MatchOption o (IsPassedOver c.split_line.result.0.now) (IsRowLine c.split_line.result.0.now)) c.in-Ok-None.field-0-is c.in-Ok-None.ensures.found in
+    so_far_passed c.args.text.now c.loop-rest.rest.now c.split_line.result.1.now c.split_line.result.0.now c.loop-rest.rows.items c.loop-rest.line c.loop-rest.invariant c.split_line.ensures.first c.split_line.ensures.fewer c.in-Ok-None.ensures.settled passed
+
+pub loop-rest-preserved : goal.loop-rest-preserved
+loop-rest-preserved c =
+    let is = subst (λ (o : Option Row). MatchOption o (IsPassedOver c.split_line.result.0.now) (IsRowLine c.split_line.result.0.now)) c.in-Ok-Some.field-0-is c.in-Ok-Some.ensures.found in
+    let rows = c.loop-rest.rows.items in
+    let items = c.in_ok-push-in-Ok-Some.ensures.items ∙ ap (λ (row : NumberedRow). rows ++ row ∷ []) c.of.ensures in
+    let room : length rows + 1 ≤ 2000000 = omega (arith, c.in_ok-push-in-Ok-Some.ensures.len, c.len.ensures) in
+    let so = so_far_row c.args.text.now c.loop-rest.rest.now c.split_line.result.1.now c.split_line.result.0.now rows c.loop-rest.line c.in-Ok-Some.row c.loop-rest.invariant c.split_line.ensures.first c.split_line.ensures.fewer c.in-Ok-Some.ensures.settled is room in
+    subst (λ (rows : List NumberedRow). SoFar c.args.text.now c.split_line.result.1.now rows (c.loop-rest.line + 1)) (sym items) so
+
+pub returns : goal.returns
+returns c =
+    let none = nil_from_length c.loop-rest.rest.now (eqb-true (length c.loop-rest.rest.now) 0 (sym c.is_empty.ensures ∙ c.loop-rest-test.false)) in
+    whole c.args.text.now c.loop-rest.rows.items c.loop-rest.line c.loop-rest.rest.now c.loop-rest.invariant none
+
+pub returns-then-len-gt-MOST_ROWS : goal.returns-then-len-gt-MOST_ROWS
+returns-then-len-gt-MOST_ROWS c =
+    let is = subst (λ (o : Option Row). MatchOption o (IsPassedOver c.split_line.result.0.now) (IsRowLine c.split_line.result.0.now)) c.in-Ok-Some.field-0-is c.in-Ok-Some.ensures.found in
+    let rows = c.loop-rest.rows.items in
+    let items = c.in_ok-push-in-Ok-Some.ensures.items ∙ ap (λ (row : NumberedRow). rows ++ row ∷ []) c.of.ensures in
+    let full : 2000000 < length (rows ++ with_line c.in-Ok-Some.row (c.loop-rest.line + 1) ∷ []) = omega (arith, c.if-len-gt-MOST_ROWS.true, c.len.ensures, ap (λ (rs : List NumberedRow). length rs) items) in
+    let over = overflows c.args.text.now c.loop-rest.rest.now c.split_line.result.1.now c.split_line.result.0.now rows c.loop-rest.line c.in-Ok-Some.row c.loop-rest.invariant c.split_line.ensures.first c.in-Ok-Some.ensures.settled is full in
+    subst (Overflows c.args.text.now) (sym items) over
+
+pub returns-in-Err : goal.returns-in-Err
+returns-in-Err c =
+    reading_stops c.args.text.now c.loop-rest.rows.items c.in-Err.fault (stops_at c.args.text.now c.loop-rest.rest.now c.split_line.result.1.now c.split_line.result.0.now c.loop-rest.rows.items c.loop-rest.line c.in-Err.fault c.loop-rest.invariant c.split_line.ensures.first c.in-Err.ensures.settled c.in-Err.ensures.cause)

@@ -1,0 +1,5 @@
+pub mod Rows
+pub mod Text
+pub mod Print
+pub mod Inside
+pub mod Numbered

@@ -1,0 +1,54 @@
+ghost use Rattle.std.specs.Prelude.{◌≡◌};
+ghost use Rattle.prefix_table.specs.declared.fault.TableFault.TheVariants as fault;
+
+use std::alloc::AllocError;
+use thiserror::Error;
+
+/// Why a text is not read as a table. Lines are counted from 1, and the first line at fault decides.
+#[derive(Clone, Copy, Debug, PartialEq, Eq, Error)]
+pub enum TableFault {
+    /// The line does not have the form of a row.
+    #[error("form")]
+    Form {
+        /// The line.
+        line: u32,
+    },
+    /// The length of the prefix or the AS number is out of range.
+    #[error("number")]
+    Number {
+        /// The line.
+        line: u32,
+    },
+    /// A bit is set after the prefix.
+    #[error("host-bits")]
+    HostBits {
+        /// The line.
+        line: u32,
+    },
+    /// An earlier line has the same prefix.
+    #[error("repeated")]
+    Repeated {
+        /// The line.
+        line: u32,
+    },
+    /// There are more than `MOST_ROWS` rows.
+    #[error("too-many")]
+    TooMany,
+    /// The file of the text has more bytes than `MOST_TEXT`.
+    #[error("too-large")]
+    TooLarge {
+        /// The length of the file in bytes.
+        size: u64,
+    },
+    /// There is no memory for the rows.
+    #[error("out of memory")]
+    Memory,
+}
+
+impl From<AllocError> for TableFault {
+    ghost from_gives = { λ _ e. e ≡ fault.Memory };
+
+    fn from(_: AllocError) -> TableFault {
+        TableFault::Memory
+    }
+}

@@ -1,0 +1,127 @@
+ghost use Rattle.std.specs.Prelude.{◌≡◌, ◌≢◌, ℕ, ◌⊎◌, ◌+◌, ◌<◌, ◌≤◌, ◌^◌, ◌↔◌, ◌∷◌, ◌++◌, All, IsTrue, IfSome, IfNone, IfOk, IfErr, MatchOption, Some};
+ghost use Rattle.prefix_table.specs.Text.{IsPassedOver, IsAddress, IsEntry, IsInRange, IsClear, IsRowLine, row_of, width};
+ghost use Rattle.prefix_table.specs.Numbered.{LineHas, IsSettled};
+ghost use Rattle.prefix_table.specs.declared.entry.Entry.{Entry};
+ghost use Rattle.prefix_table.specs.declared.entry.Family.{Family};
+
+use crate::entry::{Entry, Family};
+use crate::search::cut;
+use crate::{MOST_ASN, Row, TableFault};
+use net_addr::{parse_ipv4, parse_ipv6, parse_number};
+
+/// The largest number of ten digits.
+const MOST_NUMBER: u64 = 9_999_999_999;
+
+/// The row of the line with this number, or `None` where the line is passed over.
+pub(crate) fn read_line(text: &[u8], line: u32) -> Result<Option<Row>, TableFault>
+    ensures found { IfOk result (λ row. MatchOption row (IsPassedOver text.now) (IsRowLine text.now)) }
+    ensures cause { IfErr result (LineHas text.now line) }
+    ensures settled { IsSettled text.now }
+{
+    if is_passed_over(text) {
+        return Ok(None);
+    }
+    let Some(entry) = read_entry(text) else {
+        return Err(TableFault::Form { line });
+    };
+    if !is_in_range(&entry) {
+        return Err(TableFault::Number { line });
+    }
+    let row = row_of(&entry);
+    if !is_clear(&row) {
+        return Err(TableFault::HostBits { line });
+    }
+    Ok(Some(row))
+}
+
+/// Whether the line is empty or a comment.
+fn is_passed_over(line: &[u8]) -> bool
+    ensures { IsTrue result ↔ IsPassedOver line.now }
+{
+    match line.first() {
+        Some(byte) => *byte == b'#',
+        None => true,
+    }
+}
+
+/// What the line says, if it has the form of a row.
+fn read_entry(line: &[u8]) -> Option<Entry>
+    requires { IsPassedOver line.now → ⊥ }
+    ensures found { IfSome result (IsEntry line.now) }
+    ensures address { IfSome result (λ entry. entry.address < 2 ^ width entry.family) }
+    ensures only { (entry : Entry) → IsEntry line.now entry → result ≡ Some entry }
+{
+    let (address, numbers) = around_last(line, b'/')?;
+    let (len, asn) = around_last(numbers, b' ')?;
+    let digits = asn.strip_prefix(b"AS")?;
+    let (family, address) = read_address(address)?;
+    Some(Entry {
+        family,
+        address,
+        len: parse_number(len, MOST_NUMBER)?,
+        asn: parse_number(digits, MOST_NUMBER)?,
+    })
+}
+
+/// The address that the text writes, and its family.
+fn read_address(text: &[u8]) -> Option<(Family, u128)>
+    ensures found { IfSome result (λ read. IsAddress read.0 text.now read.1) }
+    ensures address { IfSome result (λ read. read.1 < 2 ^ width read.0) }
+    ensures only { (family : Family) (address : ℕ) → IsAddress family text.now address
+        → result ≡ Some (family, address) }
+{
+    if let Some(address) = parse_ipv4(text) {
+        return Some((Family::Ipv4, u128::from(address)));
+    }
+    Some((Family::Ipv6, parse_ipv6(text)?))
+}
+
+/// The text before the last `byte`, and the text after it.
+fn around_last(text: &[u8], byte: u8) -> Option<(&[u8], &[u8])>
+    ensures cut { IfSome result (λ parts. text.now ≡ parts.0.now ++ byte ∷ parts.1.now) }
+    ensures last { IfSome result (λ parts. All (λ c. c ≢ byte) parts.1.now) }
+    ensures none { IfNone result (All (λ c. c ≢ byte) text.now) }
+{
+    for i in (0..text.len()).rev() {
+        if text[i] == byte {
+            return Some((&text[..i], &text[i + 1..]));
+        }
+    }
+    None
+}
+
+/// Whether the length fits the family, and the AS number is one that an asmap can spell.
+fn is_in_range(entry: &Entry) -> bool
+    ensures { IsTrue result ↔ IsInRange entry.now }
+{
+    let width = match entry.family {
+        Family::Ipv4 => 32,
+        Family::Ipv6 => 128,
+    };
+    entry.len <= width && 1 <= entry.asn && entry.asn <= u64::from(MOST_ASN)
+}
+
+/// The row that the entry says.
+fn row_of(entry: &Entry) -> Row
+    requires address { entry.now.address < 2 ^ width entry.now.family }
+    requires in_range { IsInRange entry.now }
+    ensures { result ≡ row_of entry.now }
+{
+    let (bits, len) = match entry.family {
+        Family::Ipv4 => ((0xffff << 32) + entry.address, 96 + entry.len),
+        Family::Ipv6 => (entry.address, entry.len),
+    };
+    Row {
+        bits,
+        len: len as u8,
+        asn: entry.asn as u32,
+    }
+}
+
+/// Whether no bit is set after the prefix.
+fn is_clear(row: &Row) -> bool
+    requires { row.now.len ≤ 128 }
+    ensures { IsTrue result ↔ IsClear row.now }
+{
+    cut(row.bits, row.len) == row.bits
+}

@@ -1,0 +1,62 @@
+ghost use Rattle.std.specs.Prelude.{◌≡◌, IfOk, map};
+ghost use Rattle.prefix_table.specs.Numbered.{row_in};
+
+use crate::Row;
+use std::alloc::{AllocError, Global};
+
+/// A row with the number of its line, counted from 1. The order is that of the rows of a table, and
+/// of the lines where prefixes are the same.
+#[derive(Clone, Copy, Debug, PartialEq, Eq, PartialOrd, Ord)]
+pub(crate) struct NumberedRow {
+    /// As in `Row`.
+    pub bits: u128,
+    /// As in `Row`.
+    pub len: u8,
+    /// The number of the line.
+    pub line: u32,
+    /// As in `Row`.
+    pub asn: u32,
+}
+
+impl NumberedRow {
+    ghost use Rattle.std.specs.Prelude.{◌≡◌, ◌↔◌, IsTrue};
+    ghost use Rattle.prefix_table.specs.Numbered.{row_in, with_line};
+    ghost use Rattle.prefix_table.specs.Rows.{SamePrefix};
+
+    /// The row of a line.
+    pub(crate) fn of(row: Row, line: u32) -> NumberedRow
+        ensures { result ≡ with_line row line }
+    {
+        NumberedRow {
+            bits: row.bits,
+            len: row.len,
+            line,
+            asn: row.asn,
+        }
+    }
+
+    /// The row without the number of its line.
+    pub(crate) fn row(&self) -> Row
+        ensures { result ≡ row_in self.now }
+    {
+        Row {
+            bits: self.bits,
+            len: self.len,
+            asn: self.asn,
+        }
+    }
+
+    /// Whether the two have the same prefix.
+    pub(crate) fn is_same_prefix(&self, other: &NumberedRow) -> bool
+        ensures { IsTrue result ↔ SamePrefix (row_in self.now) (row_in other.now) }
+    {
+        self.bits == other.bits && self.len == other.len
+    }
+}
+
+/// The rows without the numbers of their lines.
+pub(crate) fn rows_in(alloc: Global, rows: &[NumberedRow]) -> Result<Vec<Row>, AllocError>
+    ensures { IfOk result (λ v. v.items ≡ map row_in rows.now) }
+{
+    rows.iter().map(|row| row.row()).collect(alloc)
+}

@@ -1,0 +1,93 @@
+ghost use Rattle.std.specs.Prelude.{◌≡◌, ◌≤◌, ◌++◌, ◌<◌, ◌^◌, List, length, take, flat_map, OnOk, OnErr, All, decimal, codes};
+ghost use Rattle.prefix_table.specs.Rows.{IsRow, IsTable};
+ghost use Rattle.prefix_table.specs.Text.{IsTableText, IsRowLine, IsAddress, width};
+ghost use Rattle.prefix_table.specs.Print.{entry_of, address_text, entry_text, row_text, table_text};
+
+use crate::entry::{Entry, Family};
+use crate::{Row, Table};
+use itoa::Buffer;
+use net_addr::{Memory, put_ipv4, put_ipv6};
+
+/// Appends the rows of the table in their order, one a line. A row of mapped addresses is written in
+/// the IPv4 form.
+pub fn put_table(table: &Table, out: &mut Vec<u8>) -> Result<(), Memory>
+    ensures ok { OnOk result (out.new.items ≡ out.old.items ++ table_text table.now) }
+    ensures err { OnErr result (out.new.items ≡ out.old.items) }
+    ensures reads_back { OnOk result (IsTableText (table_text table.now) table.now) }
+{
+    let before = out.len();
+    let put = put_rows(table.rows(), out);
+    if put.is_err() {
+        out.truncate(before);
+    }
+    put
+}
+
+/// Appends the lines of the rows. After an error some of them are there.
+fn put_rows(rows: &[Row], out: &mut Vec<u8>) -> Result<(), Memory>
+    requires { All IsRow rows.now }
+    ensures ok { OnOk result (out.new.items ≡ out.old.items ++ flat_map row_text rows.now) }
+    ensures err { OnErr result (take (length out.old.items) out.new.items ≡ out.old.items) }
+    ensures reads_back { OnOk result (All (λ row. IsAddress (entry_of row).family
+        (address_text (entry_of row)) (entry_of row).address) rows.now) }
+{
+    for row in rows {
+        put_row(row, out)?;
+    }
+    Ok(())
+}
+
+/// Appends the line of a row. After an error a part of it is there.
+fn put_row(row: &Row, out: &mut Vec<u8>) -> Result<(), Memory>
+    requires { IsRow row.now }
+    ensures ok { OnOk result (out.new.items ≡ out.old.items ++ row_text row.now) }
+    ensures err { OnErr result (take (length out.old.items) out.new.items ≡ out.old.items) }
+    ensures reads_back { OnOk result (IsAddress (entry_of row.now).family
+        (address_text (entry_of row.now)) (entry_of row.now).address) }
+{
+    let entry = entry_of(row);
+    put_address(&entry, out)?;
+    out.extend_from_slice(b"/")?;
+    out.extend_from_slice(Buffer::new().format(entry.len).as_bytes())?;
+    out.extend_from_slice(b" AS")?;
+    out.extend_from_slice(Buffer::new().format(entry.asn).as_bytes())?;
+    out.extend_from_slice(b"\n")?;
+    Ok(())
+}
+
+/// Appends the address of an entry.
+fn put_address(entry: &Entry, out: &mut Vec<u8>) -> Result<(), Memory>
+    requires { entry.now.address < 2 ^ width entry.now.family }
+    ensures ok { OnOk result (out.new.items ≡ out.old.items ++ address_text entry.now) }
+    ensures err { OnErr result (out.new.items ≡ out.old.items) }
+    ensures reads_back { IsAddress entry.now.family (address_text entry.now) entry.now.address }
+{
+    match entry.family {
+        Family::Ipv4 => put_ipv4(entry.address as u32, out),
+        Family::Ipv6 => put_ipv6(entry.address, out),
+    }
+}
+
+/// How the row is printed.
+fn entry_of(row: &Row) -> Entry
+    requires { row.now.bits < 2 ^ 128 }
+    ensures value { result ≡ entry_of row.now }
+    ensures address { result.address < 2 ^ width result.family }
+{
+    let asn = u64::from(row.asn);
+    if row.len >= 96 && row.bits >> 32 == 0xffff {
+        Entry {
+            family: Family::Ipv4,
+            address: row.bits & 0xffff_ffff,
+            len: u64::from(row.len - 96),
+            asn,
+        }
+    } else {
+        Entry {
+            family: Family::Ipv6,
+            address: row.bits,
+            len: u64::from(row.len),
+            asn,
+        }
+    }
+}

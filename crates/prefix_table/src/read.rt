@@ -1,0 +1,36 @@
+ghost use Rattle.std.specs.Prelude.{◌≡◌, ◌≤◌, ◌⊎◌, List, length, IfOk, IfErr, IsErrAnd, MatchResult};
+ghost use Rattle.prefix_table.specs.Text.{IsTableText, IsFault};
+ghost use Rattle.prefix_table.specs.declared.row.Row.{Row};
+ghost use Rattle.prefix_table.specs.declared.fault.TableFault.{TableFault};
+ghost use Rattle.prefix_table.specs.declared.fault.TableFault.TheVariants as faults;
+
+use crate::repeats::first_repeat;
+use crate::rows::read_rows;
+use crate::{Table, TableFault};
+use std::alloc::Global;
+
+/// The most bytes of a text.
+pub const MOST_TEXT: usize = 134_217_728;
+
+/// The table that the text writes. The fault is that of the first line at fault.
+pub fn read_table(alloc: Global, text: &[u8]) -> Result<Table, TableFault>
+    requires { length text.now ≤ MOST_TEXT }
+    ensures found { IfOk result (IsTableText text.now) }
+    ensures cause { IfErr result (λ fault. (fault ≡ faults.Memory) ⊎ IsFault text.now fault) }
+    // A text that is a table's is read as that table, unless memory runs out.
+    ensures only { (rows : List Row) → IsTableText text.now rows
+        → MatchResult result (λ table. table ≡ rows) (λ fault. fault ≡ faults.Memory) }
+    // A text that has a fault is answered with that fault, unless memory runs out.
+    ensures exact { (first : TableFault) → IsFault text.now first
+        → IsErrAnd result (λ fault. (fault ≡ faults.Memory) ⊎ (fault ≡ first)) }
+{
+    let mut reading = read_rows(alloc, text)?;
+    reading.rows.sort_unstable();
+    if let Some(line) = first_repeat(reading.rows.as_slice()) {
+        return Err(TableFault::Repeated { line });
+    }
+    if let Some(fault) = reading.fault {
+        return Err(fault);
+    }
+    Ok(Table::of(alloc, reading.rows.as_slice())?)
+}

@@ -1,0 +1,61 @@
+ghost use Rattle.std.specs.Prelude.{◌≡◌, map, IfOk, Contains, true};
+ghost use Rattle.prefix_table.specs.Numbered.{row_in};
+ghost use Rattle.prefix_table.specs.Rows.{IsTable, IsLongest, best, covers};
+ghost use Rattle.prefix_table.specs.declared.row.Row.{Row};
+
+use crate::Row;
+use crate::numbered::{NumberedRow, rows_in};
+use crate::search::longest_match;
+use std::alloc::{AllocError, Global};
+use std::marker::Model;
+
+/// Rows with distinct prefixes, rising by bits and then by length.
+#[derive(Drop)]
+pub struct Table {
+    rows: Vec<Row>,
+}
+
+impl Model for Table {
+    ghost use Rattle.std.specs.Prelude.{List};
+    ghost use Rattle.prefix_table.specs.declared.row.Row.{Row};
+    ghost use Rattle.prefix_table.specs.Rows.{IsTable};
+
+    ghost Value = { List Row };
+
+    ghost view = { λ t. t.rows.items };
+
+    ghost invariant = { λ t. IsTable t.rows.items };
+}
+
+impl Table {
+    /// The table of these rows, which rise and have distinct prefixes.
+    pub(crate) fn of(alloc: Global, rows: &[NumberedRow]) -> Result<Table, AllocError>
+        requires { IsTable (map row_in rows.now) }
+        ensures { IfOk result (λ table. table ≡ map row_in rows.now) }
+    {
+        Ok(Table {
+            rows: rows_in(alloc, rows)?,
+        })
+    }
+
+    /// The rows, rising by bits and then by length.
+    pub fn rows(&self) -> &[Row]
+        ensures value { result.now ≡ self.now }
+        ensures table { IsTable self.now }
+    {
+        self.rows.as_slice()
+    }
+
+    /// The AS number of the most specific row that covers the address, or 0 (RFC 4632, section 5.1).
+    pub fn best(&self, address: u128) -> u32
+        ensures found { result ≡ best self.now address }
+        ensures longest { (row : Row) → IsLongest self.now address row → result ≡ row.asn }
+        ensures none { ((row : Row) → Contains self.now row → covers row address ≡ true → ⊥)
+            → result ≡ 0 }
+    {
+        match longest_match(self.rows.as_slice(), address) {
+            Some(row) => row.asn,
+            None => 0,
+        }
+    }
+}

@@ -1,0 +1,56 @@
+// The longest match in a small table, its rows, and the text that is printed of it.
+use prefix_table::{put_table, read_table};
+use std::test::Fail;
+
+/// Seven rows in no order.
+const TEXT: &[u8] = b"1.0.0.0/8 AS5\n::/0 AS7\n1.2.0.0/16 AS6\n2001:db8::/32 AS33521664\n\
+::ffff:0:0/96 AS3\n255.255.255.255/32 AS1\n2001:0DB8:0:0:1:0:0:0/128 AS8\n";
+
+/// The same in order, as they are printed.
+const PRINTED: &[u8] = b"::/0 AS7\n0.0.0.0/0 AS3\n1.0.0.0/8 AS5\n1.2.0.0/16 AS6\n\
+255.255.255.255/32 AS1\n2001:db8::/32 AS33521664\n2001:db8:0:0:1::/128 AS8\n";
+
+#[test]
+fn the_longest_row_decides(rt: HostRuntime) -> Result<(), Fail> {
+    let table = read_table(rt.alloc(), TEXT)?;
+    assert_eq!(rt; table.rows().len(), 7);
+    let cases = [
+        (0xffff_0102_0304, 6),
+        (0xffff_0103_0001, 5),
+        (0xffff_0200_0000, 3),
+        (0xffff_ffff_ffff, 1),
+        (0xffff_ffff_fffe, 3),
+        (0xfffe_ffff_ffff, 7),
+        (1, 7),
+        (0x2001_0db8_0000_0000_0001_0000_0000_0000, 8),
+        (0x2001_0db8_0000_0000_0001_0000_0000_0001, 33_521_664),
+        (0x2001_0db7_ffff_ffff_ffff_ffff_ffff_ffff, 7),
+        (0x2001_0db9_0000_0000_0000_0000_0000_0000, 7),
+    ];
+    for (address, asn) in cases {
+        assert_eq!(rt; table.best(address), asn, "of {address:x}");
+    }
+    Ok(())
+}
+
+#[test]
+fn an_address_outside_all_rows_has_no_number(rt: HostRuntime) -> Result<(), Fail> {
+    let table = read_table(rt.alloc(), b"1.0.0.0/8 AS5\n1.2.0.0/16 AS6\n")?;
+    for address in [0, 0xffff_00ff_ffff, 0xffff_0200_0000, u128::MAX] {
+        assert_eq!(rt; table.best(address), 0, "of {address:x}");
+    }
+    let none = read_table(rt.alloc(), b"# no rows\n")?;
+    assert_eq!(rt; none.best(0xffff_0102_0304), 0);
+    Ok(())
+}
+
+#[test]
+fn a_table_is_printed_in_order_and_reads_as_itself(rt: HostRuntime) -> Result<(), Fail> {
+    let table = read_table(rt.alloc(), TEXT)?;
+    let mut text = Vec::new(rt.alloc());
+    put_table(&table, &mut text).ok().ok_or("no memory")?;
+    assert_eq!(rt; text.as_slice(), PRINTED);
+    let again = read_table(rt.alloc(), PRINTED)?;
+    assert!(rt; again.rows() == table.rows());
+    Ok(())
+}
