@@ -1,5 +1,6 @@
 -- Worked examples of the definitions, each computed.
-use Rattle.std.specs.Prelude.{◌≡◌, ℕ, [], ◌∷◌, replicate, Some, None, refl}
+use Rattle.std.specs.Prelude.{◌≡◌, ℕ, [], ◌∷◌, ◌++◌, map, replicate, Some, None, refl}
+use Rattle.std.specs.Net.Addr.{octets_of}
 use Rattle.net_addr.specs.Address.{Address}
 use Rattle.net_addr.specs.OldForm.{address}
 use Rattle.net_addr.specs.Ranges.{in_range}
@@ -12,6 +13,13 @@ ipv4 a b c d = address Ipv4 (a ∷ b ∷ c ∷ d ∷ [])
 -- 2001:470:abcd:.. and 2001:480:abcd:..
 abbrev ipv6 : ℕ → Address
 ipv6 third = address Ipv6 (0x20 ∷ 0x01 ∷ 0x04 ∷ third ∷ 0xab ∷ 0xcd ∷ replicate 10 1)
+
+-- an IPv6 address by its first three groups
+abbrev by_groups : ℕ → ℕ → ℕ → Address
+by_groups a b c = address Ipv6 (octets_of (a ∷ b ∷ c ∷ []) ++ replicate 10 1)
+
+abbrev teredo : Address
+teredo = address Ipv6 (0x20 ∷ 0x01 ∷ replicate 10 0 ++ 0xfe ∷ 0xfd ∷ 0xfc ∷ 0xfb ∷ [])
 
 two_bytes : group_of (ipv4 8 8 8 8) 0 ≡ 1 ∷ 8 ∷ 8 ∷ []
 unfolding in_range
@@ -66,3 +74,27 @@ bits_as_they_stand = refl
 onion_not_looked_up : asmap_bits (address Onion (replicate 32 0xab)) ≡ None
 unfolding in_range
 onion_not_looked_up = refl
+
+-- both ends of 2001:470::/32 have 36 bits, their neighbours 32
+ends_of_hurricane_electric : map (λ a. group_of a 0) (by_groups 0x2001 0x046f 0xffff ∷ by_groups 0x2001 0x0470 0 ∷ by_groups 0x2001 0x0470 0xffff ∷ by_groups 0x2001 0x0471 0 ∷ []) ≡
+    (2 ∷ 0x20 ∷ 0x01 ∷ 0x04 ∷ 0x6f ∷ []) ∷ (2 ∷ 0x20 ∷ 0x01 ∷ 0x04 ∷ 0x70 ∷ 0x0f ∷ []) ∷ (2 ∷ 0x20 ∷ 0x01 ∷ 0x04 ∷ 0x70 ∷ 0xff ∷ []) ∷ (2 ∷ 0x20 ∷ 0x01 ∷ 0x04 ∷ 0x71 ∷ []) ∷ []
+unfolding in_range
+ends_of_hurricane_electric = refl
+
+-- an address of CJDNS without fc is not routable, so it has no part of its own
+cjdns_without_fc : group_of (address Cjdns (0xfd ∷ 0x12 ∷ replicate 14 0)) 0 ≡ 0 ∷ []
+unfolding in_range
+cjdns_without_fc = refl
+
+-- 2001::fefd:fcfb is grouped and looked up as 1.2.3.4
+by_the_complement : group_of teredo 0 ≡ 1 ∷ 1 ∷ 2 ∷ []
+unfolding in_range
+by_the_complement = refl
+
+looked_up_by_the_complement : asmap_bits teredo ≡ Some 0xffff01020304
+unfolding in_range
+looked_up_by_the_complement = refl
+
+not_looked_up : map asmap_bits (ipv4 10 0 0 1 ∷ address I2p (replicate 32 1) ∷ address Cjdns (0xfc ∷ replicate 15 1) ∷ address Internal (replicate 10 1) ∷ []) ≡ None ∷ None ∷ None ∷ None ∷ []
+unfolding in_range
+not_looked_up = refl

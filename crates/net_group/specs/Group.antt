@@ -10,7 +10,7 @@ use Rattle.net_addr.specs.declared.net.Net.TheVariants.{Unroutable, Ipv4, Ipv6, 
 abbrev pub ones_after : ℕ → ℕ → ℕ
 ones_after n b = b / 2 ^ (8 - n) * 2 ^ (8 - n) + (2 ^ (8 - n) - 1)
 
--- the first n bits of the bytes; in a last, partial byte the unused low bits are ones
+-- the first n bits of the bytes, and ones up to the end of a byte that they fill only in part
 abbrev pub first_bits : ℕ → List ℕ → List ℕ
 first_bits n bytes = take (n / 8) bytes ++ (if n % 8 == 0 then [] else ones_after (n % 8) (slice_index bytes (n / 8)) ∷ [])
 
@@ -28,11 +28,13 @@ part_by I2p a = first_bits 4 a.bytes
 part_by Cjdns a = first_bits 12 a.bytes
 part_by Internal a = a.bytes
 
--- by the AS number where there is one: 2, the number of the network IPv6, and the AS number with its low byte first; else by class and part
+-- the group: for an AS number that is not 0, the number 2 of the network IPv6 and then the AS
+-- number with its low byte first; otherwise the class and its part
 abbrev pub group_of : Address → ℕ → List ℕ
 group_of a asn = if asn == 0 then number_of (net_class a) ∷ part_by (net_class a) a else 2 ∷ to_le_bytes w32 asn
 
--- the 128 bits that are looked up: a linked IPv4 address behind ::ffff:0:0, else the sixteen bytes
+-- the 128 bits that are looked up: those of `::ffff:` and the linked IPv4 address, else the sixteen
+-- bytes
 abbrev pub looked_up : Address → ℕ
 looked_up a = from_be_bytes w128 (unwrap_or (option_map (λ ipv4. mapped_prefix ++ ipv4) (linked_ipv4 a)) a.bytes)
 
@@ -45,6 +47,7 @@ asmap_by I2p a = None
 asmap_by Cjdns a = None
 asmap_by Internal a = None
 
--- what of an address is looked up in an asmap, the highest bit first (`NetGroupManager::GetMappedAS`)
+-- what of an address is looked up in an asmap, the highest bit first
+-- (`NetGroupManager::GetMappedAS`)
 abbrev pub asmap_bits : Address → Option ℕ
 asmap_bits a = asmap_by (net_class a) a

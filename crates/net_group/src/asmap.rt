@@ -1,12 +1,13 @@
 ghost use Rattle.std.specs.Prelude.{◌≡◌, ◌++◌, length, IsSome};
-ghost use Rattle.std.specs.Int.{w32, w128, to_be_bytes, from_be_bytes};
+ghost use Rattle.std.specs.Int.{w128, from_be_bytes};
 ghost use Rattle.net_addr.specs.Address.{mapped_prefix};
 ghost use Rattle.net_group.specs.Group.{asmap_bits, looked_up};
 
 use net_addr::{Net, NetAddr};
 
-/// The 128 bits of an address that are looked up in an asmap, the highest bit first, where it is
-/// reached over IPv4 or IPv6 (`NetGroupManager::GetMappedAS` in netgroup.cpp of Bitcoin Core).
+/// The 128 bits of an address that are looked up in an asmap, the highest bit first. `None` unless
+/// the address is reached over IPv4 or IPv6 (`NetGroupManager::GetMappedAS` in netgroup.cpp of
+/// Bitcoin Core).
 pub fn asmap_bits(addr: &NetAddr) -> Option<u128>
     ensures { result ≡ asmap_bits addr.now }
 {
@@ -16,26 +17,27 @@ pub fn asmap_bits(addr: &NetAddr) -> Option<u128>
     }
 }
 
-// The bits of an address that is looked up: a linked IPv4 address behind ::ffff:0:0, else its own.
+/// The bits of an address that is looked up: those of `::ffff:` and the IPv4 address that it is or
+/// carries, else its own.
 fn looked_up(addr: &NetAddr) -> u128
     requires { IsSome (asmap_bits addr.now) }
     ensures { result ≡ looked_up addr.now }
 {
-    match addr.linked_ipv4() {
-        Some(bits) => mapped(bits),
+    match addr.linked_bytes() {
+        Some(ipv4) => mapped(ipv4),
         None => whole(addr.bytes()),
     }
 }
 
-// An IPv4 address behind ::ffff:0:0.
-fn mapped(bits: u32) -> u128
-    ensures { result ≡ from_be_bytes w128 (mapped_prefix ++ to_be_bytes w32 bits) }
+/// The bits of `::ffff:` and an IPv4 address.
+fn mapped(ipv4: [u8; 4]) -> u128
+    ensures { result ≡ from_be_bytes w128 (mapped_prefix ++ ipv4) }
 {
-    let [a, b, c, d] = bits.to_be_bytes();
+    let [a, b, c, d] = ipv4;
     u128::from_be_bytes([0, 0, 0, 0, 0, 0, 0, 0, 0, 0, 0xff, 0xff, a, b, c, d])
 }
 
-// The sixteen bytes, the first the highest.
+/// The bits of sixteen bytes, the first the highest.
 fn whole(bytes: &[u8]) -> u128
     requires { length bytes.now ≡ 16 }
     ensures { result ≡ from_be_bytes w128 bytes.now }

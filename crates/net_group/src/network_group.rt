@@ -2,13 +2,13 @@ ghost use Rattle.std.specs.Prelude.{◌≡◌, ◌+◌, ◌*◌, ◌≤◌, [], 
 ghost use Rattle.arrayvec.specs.ArrayVec.{array_vec_len};
 ghost use Rattle.net_group.specs.Group.{group_of, part_by, first_bits, he_net};
 ghost use Rattle.net_addr.specs.Address.{number_of};
-ghost use Rattle.net_addr.specs.Ranges.{in_range, linked_ipv4, net_class};
+ghost use Rattle.net_addr.specs.Ranges.{in_range, linked_by, net_class};
 
 use arrayvec::ArrayVec;
 use net_addr::{Net, NetAddr};
 
-/// The network group of an address that belongs to the autonomous system `asn`, or to none that is
-/// known where that is 0 (`NetGroupManager::GetGroup` in netgroup.cpp of Bitcoin Core).
+/// The network group of an address in the autonomous system `asn`, or in none that is known where
+/// that is 0 (`NetGroupManager::GetGroup` in netgroup.cpp of Bitcoin Core).
 pub fn group(addr: &NetAddr, asn: u32) -> ArrayVec<u8, 11>
     ensures { result.items ≡ group_of addr.now asn }
 {
@@ -21,7 +21,7 @@ pub fn group(addr: &NetAddr, asn: u32) -> ArrayVec<u8, 11>
     group
 }
 
-// The number of the class, and the part of the address that its class groups by.
+/// The number of the class, and the part of the address that its class groups by.
 fn group_by_class(addr: &NetAddr, class: Net) -> ArrayVec<u8, 11>
     requires { class ≡ net_class addr.now }
     ensures { result.items ≡ number_of class ∷ part_by class addr.now }
@@ -39,7 +39,8 @@ fn group_by_class(addr: &NetAddr, class: Net) -> ArrayVec<u8, 11>
     group
 }
 
-// How many bits an IPv6 address is grouped by: 36 in Hurricane Electric's 2001:470::/32, else 32.
+/// The number of bits that an IPv6 address is grouped by: 36 in Hurricane Electric's
+/// 2001:470::/32, else 32.
 fn ipv6_bits(addr: &NetAddr) -> usize
     requires { length addr.now.bytes ≡ 16 }
     ensures { result ≡ (if in_range he_net addr.now.bytes then 36 else 32) }
@@ -51,19 +52,20 @@ fn ipv6_bits(addr: &NetAddr) -> usize
     }
 }
 
-// Appends the first two bytes of the linked IPv4 address.
+/// Appends the first two bytes of the IPv4 address that the address is or carries.
 fn append_linked(group: &mut ArrayVec<u8, 11>, addr: &NetAddr)
     requires { array_vec_len group.old ≤ 1 }
-    ensures { group.new.items ≡ group.old.items ++ take 2 (unwrap_or (linked_ipv4 addr.now) []) }
+    ensures { group.new.items
+        ≡ group.old.items ++ take 2 (unwrap_or (linked_by addr.now.net addr.now.bytes) []) }
 {
-    if let Some(bits) = addr.linked_ipv4() {
-        let [first, second, _, _] = bits.to_be_bytes();
+    if let Some(ipv4) = addr.linked_bytes() {
+        let [first, second, _, _] = ipv4;
         group.push(first);
         group.push(second);
     }
 }
 
-// Appends the first bits of the bytes, and ones after them up to a whole byte.
+/// Appends the first bits of the bytes, and ones after them up to a whole byte.
 fn append_bits(group: &mut ArrayVec<u8, 11>, bytes: &[u8], bits: usize)
     requires enough { bits ≤ 8 * length bytes.now }
     requires room { 8 * array_vec_len group.old + bits ≤ 80 }
@@ -77,7 +79,7 @@ fn append_bits(group: &mut ArrayVec<u8, 11>, bytes: &[u8], bits: usize)
     }
 }
 
-// Appends the bytes, for which there is room.
+/// Appends the bytes, for which there is room.
 fn append(group: &mut ArrayVec<u8, 11>, bytes: &[u8])
     requires { array_vec_len group.old + length bytes.now ≤ 11 }
     ensures items { group.new.items ≡ group.old.items ++ bytes.now }

@@ -1,6 +1,7 @@
--- Buckets and slots: where in the tables a peer may stand (`AddrInfo::GetNewBucket`, `GetTriedBucket` and
+-- Buckets and slots: where in the tables a peer can be (`AddrInfo::GetNewBucket`, `GetTriedBucket`
+-- and
 -- `GetBucketPosition` in addrman.cpp of Bitcoin Core).
-use Rattle.std.specs.Prelude.{ℕ, ◌%◌, List, [], ◌∷◌, ◌++◌, length, take, map, Option, Some, None, refl}
+use Rattle.std.specs.Prelude.{◌≡◌, ℕ, ◌<◌, ◌%◌, List, [], ◌∷◌, ◌++◌, length, take, map, replicate, All, Option, Some, None, IfSome, refl}
 use Rattle.std.specs.Int.{w32, w64, to_le_bytes, from_le_bytes}
 use Rattle.std.specs.List.{concat, range_with_len}
 use Rattle.std.specs.Coded.{Coded, code_by, coded×, coded_ℕ, coded_list, coded_option}
@@ -11,7 +12,7 @@ use Rattle.net_addr.specs.OldForm.{key_bytes}
 use Rattle.net_addr.specs.declared.peer.Peer.{Peer}
 use Rattle.net_group.specs.Group.{group_of, asmap_bits}
 use Rattle.asmap_vm.specs.Code.{Tree, asn_of}
-use Rattle.asmap_vm.specs.Asmap.{Asmap, coded_asmap}
+use Rattle.asmap_vm.specs.Asmap.{Asmap, IsAsmap, coded_asmap}
 
 -- SHA-256 of SHA-256 (FIPS 180-4)
 unfoldable pub double_sha256 : List ℕ → List ℕ
@@ -21,7 +22,7 @@ double_sha256 bytes = sha256 (sha256 bytes)
 unfoldable pub cheap_hash : List ℕ → ℕ
 cheap_hash bytes = from_le_bytes w64 (take 8 (double_sha256 bytes))
 
--- a byte list in a hash stands behind its length
+-- in a hash, a byte list comes after its length
 abbrev pub sized : List ℕ → List ℕ
 sized bytes = compact_size (length bytes) ++ bytes
 
@@ -29,7 +30,7 @@ sized bytes = compact_size (length bytes) ++ bytes
 abbrev pub hash_of : List (List ℕ) → ℕ
 hash_of parts = cheap_hash (concat parts)
 
--- what places depend on: a node's secret key of 32 bytes, and its asmap where it has one
+-- what places depend on: a node's secret key of 32 bytes, and its asmap if it has one
 pub record Places : Type 0 where
   pub key : List ℕ
   pub map : Option Asmap
@@ -37,44 +38,56 @@ pub record Places : Type 0 where
 abbrev pub coded_places : Coded Places
 coded_places = code_by (List ℕ × Option Asmap) (coded× (coded_list coded_ℕ) (coded_option coded_asmap)) (λ p. (p.key, p.map)) (λ p. record { key = p.0; map = p.1 }) (λ _. refl)
 
--- the number that an asmap's tree gives for the address bits that are looked up, 0 where none are
+-- the key has 32 bytes, and the asmap is one that is accepted
+pub record IsPlaces (places : Places) : Type 0 where
+  pub key_length : length places.key ≡ 32
+  pub key_bytes : All (λ b. b < 256) places.key
+  pub map : IfSome places.map IsAsmap
+
+-- the number that an asmap's tree gives for the bits that are looked up, 0 if none are
 abbrev pub number_by : Tree → Option ℕ → ℕ
 number_by tree None = 0
 number_by tree (Some bits) = asn_of tree bits
 
--- the number of the autonomous system that announces the address, 0 where none is known
+-- the number of the autonomous system that announces the address, 0 if none is known
+-- (`NetGroupManager::GetMappedAS`)
 abbrev pub asn : Option Asmap → Address → ℕ
 asn None a = 0
 asn (Some m) a = number_by m.tree (asmap_bits a)
+
+-- the checksum of the asmap's file, 32 zero bytes if there is none
+abbrev pub sum_of : Option Asmap → List ℕ
+sum_of None = replicate 32 0
+sum_of (Some m) = double_sha256 m.file
 
 -- the group of an address by the node's asmap
 abbrev pub group : Places → Address → List ℕ
 group places a = group_of a (asn places.map a)
 
--- the buckets of the new table that peers told of by a source of this group can be in
+-- the 64 buckets of the new table for peers that sources of one group tell of
 abbrev pub source_bucket : Places → List ℕ → ℕ → ℕ
 source_bucket places source_group i = hash_of (places.key ∷ sized source_group ∷ to_le_bytes w64 i ∷ []) % 1024
 
 abbrev pub source_buckets : Places → List ℕ → List ℕ
 source_buckets places source_group = map (source_bucket places source_group) (range_with_len 0 64)
 
--- the buckets of the tried table that peers of this group can be in
+-- the 8 buckets of the tried table for peers of one group
 abbrev pub group_bucket : Places → List ℕ → ℕ → ℕ
 group_bucket places peer_group i = hash_of (places.key ∷ sized peer_group ∷ to_le_bytes w64 i ∷ []) % 256
 
 abbrev pub group_buckets : Places → List ℕ → List ℕ
 group_buckets places peer_group = map (group_bucket places peer_group) (range_with_len 0 8)
 
--- which of the source's 64 buckets a peer of one group told of by a source of another is in
+-- the index, among the source group's 64 buckets, of the bucket for peers of `peer_group`
 abbrev pub source_choice : Places → List ℕ → List ℕ → ℕ
 source_choice places peer_group source_group = hash_of (places.key ∷ sized peer_group ∷ sized source_group ∷ []) % 64
 
--- the bucket of the new table for a peer told of by a source, below 1024
+-- the bucket of the new table for a peer that a source tells of, below 1024
 unfoldable pub new_bucket : Places → Peer → Address → ℕ
 new_bucket places peer source =
     source_bucket places (group places source) (source_choice places (group places peer.addr) (group places source))
 
--- which of its group's 8 buckets a peer is in
+-- the index, among the 8 buckets of its group, of a peer's bucket
 abbrev pub group_choice : Places → Peer → ℕ
 group_choice places peer = hash_of (places.key ∷ sized (key_bytes peer) ∷ []) % 8
 

@@ -5,7 +5,7 @@ use sha2::{Digest, Sha256};
 
 /// SHA-256 of SHA-256 of the bytes (FIPS 180-4).
 #[tactic(auto, unfolding(crate::specs::Places::double_sha256))]
-pub fn double_sha256(bytes: &[u8]) -> [u8; 32]
+pub(crate) fn double_sha256(bytes: &[u8]) -> [u8; 32]
     ensures { result ≡ double_sha256 bytes.now }
 {
     Sha256::digest(Sha256::digest(bytes).as_slice())
@@ -21,11 +21,12 @@ pub fn cheap(bytes: &[u8]) -> u64
     finish(hasher)
 }
 
-/// A byte list in a hash stands behind its length.
+/// Feeds the length of a byte list, and then the list.
 #[tactic(auto, unfolding(wire_num::specs::CompactSize::compact_size))]
 pub(crate) fn add_sized(hasher: &mut Sha256, bytes: &[u8])
     requires { length bytes.now < 253 }
-    ensures { (m : List ℕ) → ⟦<Sha256 as Digest>⟧.holds hasher.old m → ⟦<Sha256 as Digest>⟧.holds hasher.new (m ++ sized bytes.now) }
+    ensures { (m : List ℕ) → ⟦<Sha256 as Digest>⟧.holds hasher.old m
+        → ⟦<Sha256 as Digest>⟧.holds hasher.new (m ++ sized bytes.now) }
 {
     hasher.update([bytes.len() as u8]);
     hasher.update(bytes);

@@ -1,89 +1,167 @@
-use crate::hash::{add_sized, finish};
+ghost use Rattle.std.specs.Prelude.{◌≡◌, ◌<◌, length, All};
+ghost use Rattle.asmap_vm.specs.Held.{tree_held};
+ghost use Rattle.net_group.specs.Group.{asmap_bits};
+ghost use Rattle.placing.specs.Places.{number_by};
+
+use crate::hash::{add_sized, double_sha256, finish};
 use arrayvec::ArrayVec;
+use asmap_vm::Sane;
 use net_addr::{NetAddr, Peer};
+use net_group::asmap_bits;
 use sha2::{Digest, Sha256};
 use std::marker::Model;
 
-/// What places in the tables depend on: a node's secret key, which nobody else can foresee.
+/// What places in the tables depend on: a node's secret key, which nobody else can foresee, and the
+/// node's asmap if it has one.
 #[derive(Drop)]
-pub struct Placer {
+pub struct Placer<'a> {
     key: [u8; 32],
+    asmap: Option<Sane<'a>>,
 }
 
-impl Model for Placer {
-    ghost use Rattle.std.specs.Prelude.{None};
+impl<'a> Model for Placer<'a> {
     ghost use Rattle.placing.specs.Places.{Places, coded_places};
+    ghost use Rattle.placing.specs.Inside.{map_of};
 
     ghost Value = { Places };
 
     ghost coded = { coded_places };
 
-    ghost view = { λ p. record { key = p.key; map = None } };
+    ghost view = { λ p. record { key = p.key; map = map_of p.asmap } };
 }
 
-impl Placer {
-    ghost use Rattle.std.specs.Prelude.{◌≡◌, ◌<◌, ◌≤◌, ◌%◌, None, length};
+impl<'a> Placer<'a> {
+    ghost use Rattle.std.specs.Prelude.{◌≤◌, [], ◌∷◌};
+    ghost use Rattle.std.specs.Int.{w64, to_le_bytes};
+    ghost use Rattle.std.specs.List.{Contains};
     ghost use Rattle.arrayvec.specs.ArrayVec.{array_vec_len};
-    ghost use Rattle.placing.specs.Places.{group, source_bucket, source_choice, new_bucket, new_slot};
+    ghost use Rattle.placing.specs.Places.{IsPlaces, hash_of, sized, slot, group_choice, asn, sum_of, group, source_bucket, source_buckets, source_choice, group_bucket, group_buckets, new_bucket, tried_bucket, new_slot, tried_slot};
+    ghost use Rattle.placing.specs.Inside.{map_of};
 
-    pub fn make(key: [u8; 32]) -> Placer
-        ensures { result ≡ record { key = key; map = None } }
+    /// The places of a node with this key and this asmap.
+    pub fn make(key: [u8; 32], asmap: Option<Sane<'a>>) -> Placer<'a>
+        ensures { result ≡ record { key = key; map = map_of asmap.entry } }
     {
-        Placer { key }
+        Placer { key, asmap }
     }
 
+    /// The node's secret key.
     pub fn key(&self) -> [u8; 32]
-        ensures { result ≡ self.now.key }
+        ensures value { result ≡ self.now.key }
+        ensures places { IsPlaces self.now }
     {
-        self.key
+        copied(&self.key)
+    }
+
+    /// The checksum of the asmap's file: SHA-256 of its SHA-256, or 32 zero bytes without an asmap.
+    pub fn sum(&self) -> [u8; 32]
+        ensures { result ≡ sum_of self.now.map }
+    {
+        match &self.asmap {
+            Some(asmap) => double_sha256(asmap.code()),
+            None => [0; 32],
+        }
+    }
+
+    /// The number of the autonomous system that announces an address, 0 if none is known.
+    pub fn asn(&self, addr: &NetAddr) -> u32
+        ensures { result ≡ asn self.now.map addr.now }
+    {
+        match &self.asmap {
+            Some(asmap) => number(asmap, addr),
+            None => 0,
+        }
     }
 
     /// The network group of an address: two addresses of one group are thought to be in one hand.
     pub fn group(&self, addr: &NetAddr) -> ArrayVec<u8, 11>
         ensures { result.items ≡ group self.now addr.now }
     {
-        // The proof reads the field: it says that there is no asmap.
-        let _ = &self.key;
-        net_group::group(addr, 0)
+        net_group::group(addr, self.asn(addr))
     }
 
-    /// Which of a source's 64 buckets a peer of one group is in, where a source of another tells of it.
-    fn source_choice(&self, peer_group: &[u8], source_group: &[u8]) -> u64
+    /// The index, below 64, of the bucket for peers of one group among the buckets of a source
+    /// group. Groups have at most 11 bytes.
+    pub fn source_choice(&self, peer_group: &[u8], source_group: &[u8]) -> u8
         requires peer { length peer_group.now ≤ 11 }
         requires source { length source_group.now ≤ 11 }
-        ensures { result ≡ source_choice self.now peer_group.now source_group.now }
+        ensures value { result ≡ source_choice self.now peer_group.now source_group.now }
+        ensures below { result < 64 }
     {
         let mut hasher = Sha256::new();
         hasher.update(self.key);
         add_sized(&mut hasher, peer_group);
         add_sized(&mut hasher, source_group);
-        finish(hasher) % 64
+        (finish(hasher) % 64) as u8
     }
 
-    /// The bucket of that number among the 64 of a source.
-    fn source_bucket(&self, source_group: &[u8], choice: u64) -> u16
+    /// The bucket of the new table, below 1024, at an index among the 64 of a source group.
+    pub fn source_bucket(&self, source_group: &[u8], choice: u8) -> u16
         requires { length source_group.now ≤ 11 }
-        ensures { result ≡ source_bucket self.now source_group.now choice }
+        ensures value { result ≡ source_bucket self.now source_group.now choice }
+        ensures below { result < 1024 }
+    {
+        (self.indexed(source_group, choice) % 1024) as u16
+    }
+
+    /// The bucket of the tried table, below 256, at an index among the 8 of a group.
+    fn group_bucket(&self, group: &[u8], choice: u8) -> u16
+        requires { length group.now ≤ 11 }
+        ensures value { result ≡ group_bucket self.now group.now choice }
+        ensures below { result < 256 }
+    {
+        (self.indexed(group, choice) % 256) as u16
+    }
+
+    /// The hash of the key, a group and an index.
+    fn indexed(&self, group: &[u8], index: u8) -> u64
+        requires { length group.now ≤ 11 }
+        ensures { result ≡ hash_of (self.now.key ∷ sized group.now ∷ to_le_bytes w64 index ∷ []) }
     {
         let mut hasher = Sha256::new();
         hasher.update(self.key);
-        add_sized(&mut hasher, source_group);
-        hasher.update(choice.to_le_bytes());
-        (finish(hasher) % 1024) as u16
+        add_sized(&mut hasher, group);
+        hasher.update(u64::from(index).to_le_bytes());
+        finish(hasher)
     }
 
-    /// The bucket of the new table, below 1024, for a peer that a source tells of. It depends on the
-    /// peer's group and on the source's, so that one source reaches few buckets
+    /// The bucket of the new table, below 1024, for a peer that a source tells of: one of the 64
+    /// buckets of the source's group, so that one source reaches few buckets
     /// (`AddrInfo::GetNewBucket` in addrman.cpp of Bitcoin Core).
     #[tactic(auto, unfolding(crate::specs::Places::new_bucket))]
     pub fn new_bucket(&self, peer: &Peer, source: &NetAddr) -> u16
         ensures value { result ≡ new_bucket self.now peer.now source.now }
         ensures below { result < 1024 }
+        ensures reach { Contains (source_buckets self.now (group self.now source.now)) result }
     {
         let peer_group = self.group(&peer.addr);
         let source_group = self.group(source);
         let choice = self.source_choice(peer_group.as_slice(), source_group.as_slice());
         self.source_bucket(source_group.as_slice(), choice)
+    }
+
+    /// The bucket of the tried table, below 256, for a peer: one of the 8 buckets of its group
+    /// (`AddrInfo::GetTriedBucket`).
+    #[tactic(auto, unfolding(crate::specs::Places::tried_bucket))]
+    pub fn tried_bucket(&self, peer: &Peer) -> u16
+        ensures value { result ≡ tried_bucket self.now peer.now }
+        ensures below { result < 256 }
+        ensures reach { Contains (group_buckets self.now (group self.now peer.now.addr)) result }
+    {
+        let group = self.group(&peer.addr);
+        let choice = self.group_choice(peer);
+        self.group_bucket(group.as_slice(), choice)
+    }
+
+    /// The index, below 8, of a peer's bucket among those of its group.
+    fn group_choice(&self, peer: &Peer) -> u8
+        ensures value { result ≡ group_choice self.now peer.now }
+        ensures below { result < 8 }
+    {
+        let mut hasher = Sha256::new();
+        hasher.update(self.key);
+        add_sized(&mut hasher, peer.key_bytes().as_slice());
+        (finish(hasher) % 8) as u8
     }
 
     /// The slot of a peer in a bucket of the new table, below 64
@@ -93,11 +171,74 @@ impl Placer {
         ensures value { result ≡ new_slot self.now peer.now bucket }
         ensures below { result < 64 }
     {
+        self.slot(b'N', peer, bucket)
+    }
+
+    /// The slot of a peer in a bucket of the tried table, below 64.
+    #[tactic(auto, unfolding(crate::specs::Places::tried_slot))]
+    pub fn tried_slot(&self, peer: &Peer, bucket: u16) -> u8
+        ensures value { result ≡ tried_slot self.now peer.now bucket }
+        ensures below { result < 64 }
+    {
+        self.slot(b'K', peer, bucket)
+    }
+
+    /// The slot of a peer in a bucket of the table that the letter names.
+    fn slot(&self, letter: u8, peer: &Peer, bucket: u16) -> u8
+        ensures value { result ≡ slot letter self.now peer.now bucket }
+        ensures below { result < 64 }
+    {
         let mut hasher = Sha256::new();
         hasher.update(self.key);
-        hasher.update(b"N");
+        hasher.update([letter]);
         hasher.update(u32::from(bucket).to_le_bytes());
         add_sized(&mut hasher, peer.key_bytes().as_slice());
         (finish(hasher) % 64) as u8
     }
+
+    /// The 64 buckets of the new table for peers that sources of a group tell of. A group has at
+    /// most 11 bytes.
+    pub fn source_buckets(&self, group: &[u8]) -> [u16; 64]
+        requires { length group.now ≤ 11 }
+        ensures { result ≡ source_buckets self.now group.now }
+    {
+        let mut buckets = [0; 64];
+        for i in 0..64 {
+            buckets[i] = self.source_bucket(group, i as u8);
+        }
+        buckets
+    }
+
+    /// The 8 buckets of the tried table for peers of a group. A group has at most 11 bytes.
+    pub fn group_buckets(&self, group: &[u8]) -> [u16; 8]
+        requires { length group.now ≤ 11 }
+        ensures { result ≡ group_buckets self.now group.now }
+    {
+        let mut buckets = [0; 8];
+        for i in 0..8 {
+            buckets[i] = self.group_bucket(group, i as u8);
+        }
+        buckets
+    }
+}
+
+/// The number that an asmap gives for an address, 0 if the address is not looked up.
+fn number(asmap: &Sane<'_>, addr: &NetAddr) -> u32
+    ensures { result ≡ number_by (tree_held asmap.now) (asmap_bits addr.now) }
+{
+    match asmap_bits(addr) {
+        Some(bits) => asmap.asn(bits),
+        None => 0,
+    }
+}
+
+/// The bytes of a key, each below 256.
+fn copied(key: &[u8]) -> [u8; 32]
+    requires { length key.now ≡ 32 }
+    ensures value { result ≡ key.now }
+    ensures all { All (λ b. b < 256) key.now }
+{
+    let mut all = [0; 32];
+    all.copy_from_slice(key);
+    all
 }
