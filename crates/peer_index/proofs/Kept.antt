@@ -20,8 +20,9 @@ use Rattle.indexmap.proofs.SetLemmas.{map-swap_remove}
 use Rattle.slab.specs.Slab.{Slab, get, ContainsKey, Updates}
 use Rattle.net_addr.specs.Same.{same_peer, same_peer-Decides}
 use Rattle.net_addr.specs.declared.peer.Peer.{Peer}
+use Rattle.peer_rec.specs.Deletion.{without_position}
 use Rattle.peer_rec.specs.declared.rec.Rec.{Rec}
-use Rattle.peer_index.specs.Order.{Item, Order, IsOrder, id_of, rec_of, ids, records, with_last, with_rec, without, without_place}
+use Rattle.peer_index.specs.Order.{Item, Order, IsOrder, id_of, rec_of, ids, records, with_last, with_rec, without}
 use Rattle.peer_index.specs.Inside.{blank_record, item_of, order_of, IsKept}
 
 -- `==` of peers is an equivalence
@@ -169,7 +170,7 @@ fresh_from_none recs es id has none k d within same =
     absurd (cc)
 
 -- a search by id finds the item at a place, where no item before has its id
-rec_of-at : (order : Order) (k : ℕ) (d : Item) → ((j : ℕ) → j < k → (get_or order j d).id ≢ (get_or order k d).id) → k < length order
+pub rec_of-at : (order : Order) (k : ℕ) (d : Item) → ((j : ℕ) → j < k → (get_or order j d).id ≢ (get_or order k d).id) → k < length order
     → rec_of order (get_or order k d).id ≡ Some (get_or order k d).rec
 rec_of-at [] k d first within = absurd (omega arith)
 rec_of-at (l ∷ order) zero d first within =
@@ -332,11 +333,11 @@ without-order_of recs (e ∷ es) peer has = by (position (same_peer peer) (keys_
         → order_of recs (swap_remove_entry (same_peer peer) (e ∷ es)) ≡ without (order_of recs (e ∷ es)) peer
     by None at same =
         ap (order_of recs) (swap_remove_entry-missing (same_peer peer) (e ∷ es) at)
-        ∙ sym (ap (λ o. option_map_or (without_place (order_of recs (e ∷ es))) o (order_of recs (e ∷ es))) (same ∙ at))
+        ∙ sym (ap (λ o. option_map_or (without_position (order_of recs (e ∷ es))) o (order_of recs (e ∷ es))) (same ∙ at))
     by (Some i) at same =
         ap (order_of recs) (swap_remove_entry-found (same_peer peer) (e ∷ es) i e at)
         ∙ map-swap_remove (item_of recs) (e ∷ es) i e (omega arith)
-        ∙ sym (ap (λ o. option_map_or (without_place (order_of recs (e ∷ es))) o (order_of recs (e ∷ es))) (same ∙ at))
+        ∙ sym (ap (λ o. option_map_or (without_position (order_of recs (e ∷ es))) o (order_of recs (e ∷ es))) (same ∙ at))
 
 pub order_of-remove : (old new : Slab Rec) (es : List (Peer × ℕ)) (id : ℕ) (peer : Peer) → IsKept old es → Updates old new id None
     → IsKept new (swap_remove_entry (same_peer peer) es) → order_of new (swap_remove_entry (same_peer peer) es) ≡ without (order_of old es) peer

@@ -1,10 +1,11 @@
 -- The order of the records of the tables, from which samples are drawn: a list of records, each with its id (`vRandom`
 -- in addrman_impl.h of Bitcoin Core, which has the ids alone, with `mapInfo` for their records and `mapAddr` for the id
 -- of an address).
-use Rattle.std.specs.Prelude.{◌≡◌, ◌≢◌, ℕ, ◌++◌, ◌==◌, List, [], ◌∷◌, map, find, position, swap_remove, AllPairs, Option, if◌then◌else◌}
-use Rattle.std.specs.Option.{option_map, option_map_or}
+use Rattle.std.specs.Prelude.{◌≡◌, ◌≢◌, ℕ, ◌++◌, ◌==◌, List, [], ◌∷◌, map, find, AllPairs, Option, if◌then◌else◌}
+use Rattle.std.specs.Option.{option_map}
 use Rattle.net_addr.specs.Same.{same_peer}
 use Rattle.net_addr.specs.declared.peer.Peer.{Peer}
+use Rattle.peer_rec.specs.Deletion.{without_first}
 use Rattle.peer_rec.specs.declared.rec.Rec.{Rec}
 
 -- a record and its id
@@ -64,12 +65,6 @@ with_own_rec id rec l = if l.id == id then record { id = id; rec = rec } else l
 abbrev pub with_rec : Order → ℕ → Rec → Order
 with_rec order id rec = map (with_own_rec id rec) order
 
--- the last takes the place of another, and the order is one shorter
-abbrev pub without_place : Order → ℕ → Order
-without_place [] place = []
-without_place (l ∷ order) place = swap_remove (l ∷ order) place l
-
 -- the order without the peer's record (`AddrManImpl::Delete`)
 abbrev pub without : Order → Peer → Order
-without order peer =
-    option_map_or (without_place order) (position (λ l. same_peer peer l.rec.peer) order) order
+without order peer = without_first (λ l. same_peer peer l.rec.peer) order

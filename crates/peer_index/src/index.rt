@@ -67,6 +67,7 @@ impl<H: BuildHasher> PeerIndex<H> {
     pub fn get(&self, id: usize) -> &Rec
         requires { IsSome (rec_of self.now id) }
         ensures found { rec_of self.now id ≡ Some result.now }
+        ensures known { id_of self.now result.now.peer ≡ Some id }
         ensures order { IsOrder self.now }
     {
         &self.recs[id]

@@ -1,1 +1,3 @@
 pub mod Rec
+pub mod Buckets
+pub mod Deletion

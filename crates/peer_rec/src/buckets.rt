@@ -1,4 +1,6 @@
-ghost use Rattle.std.specs.Prelude.{◌≡◌, ◌≤◌, ◌∷◌, [], length};
+ghost use Rattle.std.specs.Prelude.{◌≡◌, ◌+◌, ◌≤◌, ◌<◌, ◌∷◌, ◌++◌, [], length, filter, nat_lt, ◌==◌};
+ghost use Rattle.arrayvec.specs.ArrayVec.{array_vec_len};
+ghost use Rattle.peer_rec.specs.Buckets.{with_bucket, without_bucket};
 
 use arrayvec::ArrayVec;
 use std::marker::Model;
@@ -25,6 +27,13 @@ impl Buckets {
         Buckets { items }
     }
 
+    /// No bucket.
+    pub fn none() -> Buckets
+        ensures { result ≡ [] }
+    {
+        Buckets::of(ArrayVec::new())
+    }
+
     /// One bucket alone.
     pub fn one(bucket: u16) -> Buckets
         ensures { result ≡ bucket ∷ [] }
@@ -46,9 +55,71 @@ impl Buckets {
     pub fn copy(&self) -> Buckets
         ensures { result ≡ self.now }
     {
-        let mut items = ArrayVec::new();
-        // Both lists hold eight, so it fits.
-        let _ = items.try_extend_from_slice(self.items.as_slice());
-        Buckets::of(items)
+        Buckets::of(list_of(self.items.as_slice()))
     }
+
+    /// Whether there is no bucket.
+    pub fn is_empty(&self) -> bool
+        ensures { result ≡ (length self.now == 0) }
+    {
+        self.items.is_empty()
+    }
+
+    /// Adds a bucket to fewer than eight.
+    pub fn insert(&mut self, bucket: u16)
+        requires room { length self.old < 8 }
+        ensures { self.new ≡ with_bucket bucket self.old }
+    {
+        let mut items = below(self.items.as_slice(), bucket);
+        let above = above(self.items.as_slice(), bucket);
+        items.push(bucket);
+        append(&mut items, above.as_slice());
+        self.items = items;
+    }
+
+    /// Takes a bucket out, if it is there.
+    pub fn remove(&mut self, bucket: u16)
+        ensures { self.new ≡ without_bucket bucket self.old }
+    {
+        self.items.retain(|item| *item != bucket);
+    }
+}
+
+// At most eight buckets as a list of their own.
+fn list_of(buckets: &[u16]) -> ArrayVec<u16, 8>
+    requires { length buckets.now ≤ 8 }
+    ensures { result.items ≡ buckets.now }
+{
+    let mut items = ArrayVec::new();
+    append(&mut items, buckets);
+    items
+}
+
+// Puts buckets last, where there is room for them.
+fn append(items: &mut ArrayVec<u16, 8>, more: &[u16])
+    requires { array_vec_len items.old + length more.now ≤ 8 }
+    ensures { items.new.items ≡ items.old.items ++ more.now }
+{
+    // There is room for all of them.
+    let _ = items.try_extend_from_slice(more);
+}
+
+// The buckets below one.
+fn below(buckets: &[u16], bucket: u16) -> ArrayVec<u16, 8>
+    requires { length buckets.now ≤ 8 }
+    ensures { result.items ≡ filter (λ b. nat_lt b bucket) buckets.now }
+{
+    let mut items = list_of(buckets);
+    items.retain(|item| *item < bucket);
+    items
+}
+
+// The buckets above one.
+fn above(buckets: &[u16], bucket: u16) -> ArrayVec<u16, 8>
+    requires { length buckets.now ≤ 8 }
+    ensures { result.items ≡ filter (λ b. nat_lt bucket b) buckets.now }
+{
+    let mut items = list_of(buckets);
+    items.retain(|item| bucket < *item);
+    items
 }

@@ -1,4 +1,7 @@
-ghost use Rattle.std.specs.Prelude.{◌≡◌};
+ghost use Rattle.std.specs.Prelude.{◌≡◌, ◌<◌, ◌≤◌, length};
+ghost use Rattle.peer_rec.specs.declared.place.Place.TheVariants.{New};
+ghost use Rattle.peer_rec.specs.Rec.{buckets_by, tried_by};
+ghost use Rattle.peer_rec.specs.Buckets.{with_bucket, without_bucket};
 
 use crate::Buckets;
 
@@ -17,6 +20,53 @@ impl Place {
         match self {
             Place::New(buckets) => Place::New(buckets.copy()),
             Place::Tried => Place::Tried,
+        }
+    }
+
+    /// Whether it is the tried table.
+    pub fn is_tried(&self) -> bool
+        ensures { result ≡ tried_by self.now }
+    {
+        matches!(self, Place::Tried)
+    }
+
+    /// How many buckets of the new table list the record.
+    pub fn bucket_count(&self) -> usize
+        ensures count { result ≡ length (buckets_by self.now) }
+        ensures few { result ≤ 8 }
+    {
+        match self {
+            Place::New(buckets) => buckets.items().len(),
+            Place::Tried => 0,
+        }
+    }
+
+    /// The new table, with one more bucket than the fewer than eight that there are.
+    pub fn with_bucket(&self, bucket: u16) -> Place
+        requires room { length (buckets_by self.now) < 8 }
+        ensures { result ≡ New (with_bucket bucket (buckets_by self.now)) }
+    {
+        match self {
+            Place::New(buckets) => {
+                let mut buckets = buckets.copy();
+                buckets.insert(bucket);
+                Place::New(buckets)
+            }
+            Place::Tried => Place::New(Buckets::one(bucket)),
+        }
+    }
+
+    /// The new table, without one bucket.
+    pub fn without_bucket(&self, bucket: u16) -> Place
+        ensures { result ≡ New (without_bucket bucket (buckets_by self.now)) }
+    {
+        match self {
+            Place::New(buckets) => {
+                let mut buckets = buckets.copy();
+                buckets.remove(bucket);
+                Place::New(buckets)
+            }
+            Place::Tried => Place::New(Buckets::none()),
         }
     }
 }

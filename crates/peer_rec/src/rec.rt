@@ -42,7 +42,10 @@ pub struct Rec {
 }
 
 impl Rec {
-    ghost use Rattle.peer_rec.specs.Rec.{is_terrible, chance};
+    ghost use Rattle.std.specs.Prelude.{◌<◌, length};
+    ghost use Rattle.peer_rec.specs.declared.place.Place.TheVariants.{New};
+    ghost use Rattle.peer_rec.specs.Rec.{buckets_of, is_terrible, chance};
+    ghost use Rattle.peer_rec.specs.Buckets.{with_bucket, without_bucket};
 
     /// The same record; it takes no memory.
     pub fn copy(&self) -> Rec
@@ -59,6 +62,30 @@ impl Rec {
             last_count: self.last_count,
             attempts: self.attempts,
             place: self.place.copy(),
+        }
+    }
+
+    /// The record, listed in one more bucket of the new table than the fewer than eight that list
+    /// it.
+    pub fn with_bucket(&self, bucket: u16) -> Rec
+        requires room { length (buckets_of self.now) < 8 }
+        ensures { result ≡ record self.now { place = New (with_bucket bucket (buckets_of self.now)) } }
+    {
+        let place = self.place.with_bucket(bucket);
+        Rec {
+            place,
+            ..self.copy()
+        }
+    }
+
+    /// The record in the new table, without one of the buckets that list it.
+    pub fn without_bucket(&self, bucket: u16) -> Rec
+        ensures { result ≡ record self.now { place = New (without_bucket bucket (buckets_of self.now)) } }
+    {
+        let place = self.place.without_bucket(bucket);
+        Rec {
+            place,
+            ..self.copy()
         }
     }
 
