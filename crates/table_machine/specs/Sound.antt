@@ -1,31 +1,34 @@
--- What holds of every state between two lines of a log.
+-- What holds of every state between two steps.
 use Rattle.std.specs.Prelude.{◌≡◌, ◌≢◌, ℕ, ◌<◌, ◌≤◌, ◌^◌, length, map, All, AllPairs, Contains, true, IsSome, IfSome, IsPermutation}
 use Rattle.std.specs.List.Sorted.{IsStrictlyIncreasing}
 use Rattle.net_addr.specs.Ranges.{is_valid}
-use Rattle.placing.specs.Places.{tried_bucket, tried_slot}
+use Rattle.placing.specs.Places.{IsPlaces, tried_bucket, tried_slot}
 use Rattle.peer_rec.specs.Rec.{IsRec}
 use Rattle.peer_rec.specs.declared.rec.Rec.{Rec}
-use Rattle.table_machine.specs.State.{State, numbered, is_new_at, is_tried_at, tried_occupant}
+use Rattle.table_machine.specs.State.{State, find_number, is_new_at, is_tried_at, tried_occupant}
 
--- two records that say they are at one slot are one record
+-- two records that say they are at one slot of the new table are one record
 abbrev pub AloneInNew : State → Type 0
-AloneInNew st = (bucket at : ℕ) (r q : Rec) → Contains st.records r → Contains st.records q →
-    is_new_at st.places bucket at r ≡ true → is_new_at st.places bucket at q ≡ true → r.number ≡ q.number
+AloneInNew st = (bucket slot : ℕ) (r q : Rec) → Contains st.records r → Contains st.records q →
+    is_new_at st.places bucket slot r ≡ true → is_new_at st.places bucket slot q ≡ true → r.number ≡ q.number
 
+-- two records that say they are at one slot of the tried table are one record
 abbrev pub AloneInTried : State → Type 0
-AloneInTried st = (bucket at : ℕ) (r q : Rec) → Contains st.records r → Contains st.records q →
-    is_tried_at st.places bucket at r ≡ true → is_tried_at st.places bucket at q ≡ true → r.number ≡ q.number
+AloneInTried st = (bucket slot : ℕ) (r q : Rec) → Contains st.records r → Contains st.records q →
+    is_tried_at st.places bucket slot r ≡ true → is_tried_at st.places bucket slot q ≡ true → r.number ≡ q.number
 
 -- the tried slot of a newcomer that waits is occupied
 abbrev pub HasOpponent : State → ℕ → Type 0
-HasOpponent st number = IfSome (numbered st number) (λ r.
+HasOpponent st number = IfSome (find_number st number) (λ r.
     let bucket = tried_bucket st.places r.peer in
     IsSome (tried_occupant st bucket (tried_slot st.places r.peer bucket)))
 
+-- One record a slot; the order names each record once; peers are distinct and valid; numbers rise and are below the
+-- next number; the newcomers that wait are at most ten, by rising numbers below the next, and each has an opponent; and
+-- key, map, records and numbers are in their ranges.
 pub record IsSound (st : State) : Type 0 where
   pub new_slots : AloneInNew st
   pub tried_slots : AloneInTried st
-  pub records : All IsRec st.records
   pub order : IsPermutation (map (λ r. r.number) st.records) st.order
   pub peers : AllPairs (λ r q. r.peer ≢ q.peer) st.records
   pub valid : All (λ r. is_valid r.peer.addr ≡ true) st.records
@@ -35,6 +38,7 @@ pub record IsSound (st : State) : Type 0 where
   pub few_collisions : length st.collisions ≤ 10
   pub collisions_below_next : All (λ n. n < st.next_number) st.collisions
   pub opponents : All (HasOpponent st) st.collisions
-  pub clock : st.clock < 2 ^ 32
+  pub records : All IsRec st.records
+  pub places : IsPlaces st.places
   pub last_good : st.last_good < 2 ^ 32
-  pub key : length st.places.key ≡ 32
+  pub next_number : st.next_number < 2 ^ 64

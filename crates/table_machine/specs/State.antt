@@ -1,5 +1,5 @@
--- The state of the address manager (`AddrManImpl` in addrman_impl.h of Bitcoin Core), with no slot arrays: a slot is
--- occupied only because a record says so.
+-- The state of the tables (`AddrManImpl` in addrman_impl.h of Bitcoin Core). It has no arrays of slots: the occupant of a
+-- slot is the record that says it is there.
 use Rattle.std.specs.Prelude.{ℕ, List, [], Bool, ◌&&◌, ◌==◌, Option, find}
 use Rattle.std.specs.List.{list_any}
 use Rattle.net_addr.specs.Same.{same_peer}
@@ -9,15 +9,14 @@ use Rattle.peer_rec.specs.Rec.{buckets_of, is_tried}
 use Rattle.peer_rec.specs.declared.rec.Rec.{Rec}
 
 -- key and map (places), the records by rising number, the order that samples are drawn from (a list of numbers), the
--- numbers of the newcomers that wait for a tried slot (rising), when a success was last told of, the clock, and the
--- number of the next record; times in seconds since 1970
+-- numbers of the newcomers that wait for a tried slot (rising), the time of the last success in seconds since 1970,
+-- and the number of the next record
 pub record State : Type 0 where
   pub places : Places
   pub records : List Rec
   pub order : List ℕ
   pub collisions : List ℕ
   pub last_good : ℕ
-  pub clock : ℕ
   pub next_number : ℕ
 
 -- no records, and the last success is the least time (`m_last_good{1}`)
@@ -28,7 +27,6 @@ empty_state places = record {
   order = [];
   collisions = [];
   last_good = 1;
-  clock = 0;
   next_number = 0;
 }
 
@@ -36,20 +34,23 @@ empty_state places = record {
 abbrev pub find_peer : State → Peer → Option Rec
 find_peer st peer = find (λ r. same_peer peer r.peer) st.records
 
-abbrev pub numbered : State → ℕ → Option Rec
-numbered st number = find (λ r. r.number == number) st.records
+-- the record of the number
+abbrev pub find_number : State → ℕ → Option Rec
+find_number st number = find (λ r. r.number == number) st.records
 
 -- the record is in the new table's bucket, at the slot
 abbrev pub is_new_at : Places → ℕ → ℕ → Rec → Bool
-is_new_at places bucket at r = list_any (λ b. b == bucket) (buckets_of r) && new_slot places r.peer bucket == at
+is_new_at places bucket slot r = list_any (λ b. b == bucket) (buckets_of r) && new_slot places r.peer bucket == slot
 
+-- the record at the slot of the new table's bucket
 abbrev pub new_occupant : State → ℕ → ℕ → Option Rec
-new_occupant st bucket at = find (is_new_at st.places bucket at) st.records
+new_occupant st bucket slot = find (is_new_at st.places bucket slot) st.records
 
 -- the record is in the tried table, at the slot of the bucket
 abbrev pub is_tried_at : Places → ℕ → ℕ → Rec → Bool
-is_tried_at places bucket at r =
-    is_tried r && tried_bucket places r.peer == bucket && tried_slot places r.peer bucket == at
+is_tried_at places bucket slot r =
+    is_tried r && tried_bucket places r.peer == bucket && tried_slot places r.peer bucket == slot
 
+-- the record at the slot of the tried table's bucket
 abbrev pub tried_occupant : State → ℕ → ℕ → Option Rec
-tried_occupant st bucket at = find (is_tried_at st.places bucket at) st.records
+tried_occupant st bucket slot = find (is_tried_at st.places bucket slot) st.records

@@ -1,11 +1,2 @@
-//! The table machine in words, and a plain list program that computes it.
+//! The state of the tables of addresses, and what each step makes of it, as definitions.
 #![tactic(auto)]
-
-mod added;
-mod memory;
-mod plain;
-mod search;
-
-pub use added::Added;
-pub use memory::Memory;
-pub use plain::PlainTables;
