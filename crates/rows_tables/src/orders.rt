@@ -61,7 +61,7 @@ fn set<H: BuildHasher + Drop>(
     word: u64,
 ) {
     if let Some(id) = index.find(&peer) {
-        assert!(rt; index.get(id).peer.is_same(&peer));
+        assert!(rt; index.get(id).peer == peer);
         assert!(rt; plain.get(id).is_some());
         index.set(id, record(peer, word));
         plain.set(id, &record(peer, word));

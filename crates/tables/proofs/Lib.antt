@@ -1,0 +1,9 @@
+pub mod Searches
+pub mod Records
+pub mod Places
+pub mod Changes
+pub mod Entering
+pub mod Listing
+pub mod Parts
+pub mod Counting
+pub mod Empty

@@ -1,0 +1,192 @@
+use crate::known::check_fields;
+use crate::reach::Reach;
+use crate::{Memory, Store};
+use arrayvec::ArrayVec;
+use net_addr::{Entry, NetAddr, Peer};
+use peer_index::PeerIndex;
+use peer_rec::{Counts, Rec, Recs};
+use placing::Placer;
+use slot_grid::Grid;
+use std::alloc::Global;
+use std::hash::BuildHasher;
+use std::marker::Model;
+
+/// The tables of addresses of a node: the records of peers, the slots that they are in, and the
+/// order that samples are drawn from (`AddrManImpl` in addrman_impl.h of Bitcoin Core). It has no
+/// clock: a call that needs the time takes it.
+#[derive(Drop)]
+pub struct Tables<'a, H: BuildHasher> {
+    store: Store<'a, H>,
+    /// The buckets of the source that told last: no part of the state.
+    reach: Reach,
+}
+
+impl<'a, H: BuildHasher> Model for Tables<'a, H> {
+    ghost use Rattle.std.specs.Coded.{codes};
+    ghost use Rattle.placing.specs.Places.{coded_places};
+    ghost use Rattle.table_machine.specs.State.{State};
+    ghost use Rattle.tables.specs.Inside.{AreTables, state_of};
+
+    ghost Value = { State };
+
+    ghost coded = { Prim.hlevel (codes, coded_places) };
+
+    ghost view = { λ t. state_of t.store };
+
+    ghost invariant = { λ t. AreTables t.store t.reach };
+}
+
+impl<'a, H: BuildHasher + Drop> Tables<'a, H> {
+    ghost use Rattle.std.specs.Prelude.{◌≡◌, IfOk};
+    ghost use Rattle.table_machine.specs.State.{empty_state};
+
+    /// Tables with no records.
+    pub fn open(alloc: Global, placer: Placer<'a>, hasher: H) -> Result<Tables<'a, H>, Memory>
+        ensures { IfOk result (λ t. t ≡ empty_state placer.entry) }
+    {
+        // A placer has a key of 32 bytes: its clause on the key says so.
+        let _ = placer.key();
+        let store = Store {
+            alloc,
+            placer,
+            grid: Grid::make(alloc)?,
+            index: PeerIndex::make(alloc, hasher),
+            clashes: ArrayVec::new(),
+            last_good: 1,
+            next_number: 0,
+        };
+        Ok(Tables {
+            store,
+            reach: Reach::none(),
+        })
+    }
+}
+
+impl<'a, H: BuildHasher> Tables<'a, H> {
+    ghost use Rattle.std.specs.Prelude.{◌≡◌, ◌<◌, ◌^◌, length, None, Some, IfOk, OnOk, OnErr, option_map, slice_get, ◌≤◌, map, count_by, sum_by, not, IsPermutation};
+    ghost use Rattle.peer_rec.specs.Rec.{buckets_of, is_tried};
+    ghost use Rattle.peer_index.specs.Order.{Order, IsOrder, records};
+    ghost use Rattle.tables.specs.Parts.{AreOf};
+    ghost use Rattle.table_machine.specs.State.{State, empty_state, find_peer, find_number, new_occupant};
+    ghost use Rattle.table_machine.specs.Sound.{IsSound};
+    ghost use Rattle.table_machine.specs.Entries.{add};
+
+    /// The number of the next record: records are numbered in the order in which they are made,
+    /// and no number is used twice.
+    pub fn next_number(&self) -> u64
+        ensures number { result ≡ self.now.next_number }
+        ensures sound { IsSound self.now }
+    {
+        self.store.next_number
+    }
+
+    /// One entry that a source tells of, with a penalty in seconds and a random word, at a time in
+    /// seconds since 1970. True if the entry's peer gets a slot. Where there is no memory, nothing
+    /// changes (`AddrManImpl::AddSingle` in addrman.cpp of Bitcoin Core).
+    pub fn add(
+        &mut self,
+        entry: &Entry,
+        source: &NetAddr,
+        penalty: u32,
+        word: u64,
+        now: u32,
+    ) -> Result<bool, Memory>
+        requires more { self.old.next_number < 2 ^ 63 }
+        ensures answer { IfOk result (λ answer. answer ≡ (add self.old now entry.now source.now penalty word).answer) }
+        ensures state { OnOk result (self.new ≡ (add self.old now entry.now source.now penalty word).state) }
+        ensures sound { IsSound self.new }
+        ensures err { OnErr result (self.new ≡ self.old) }
+    {
+        check_fields(entry, source);
+        self.store
+            .add(entry, source, penalty, word, now, &mut self.reach)
+    }
+
+    /// The peer's record, None if there is none.
+    pub fn find(&self, peer: &Peer) -> Option<&Rec>
+        ensures { option_map (λ r. r.now) result ≡ find_peer self.now peer.now }
+    {
+        match self.store.index.find(peer) {
+            Some(id) => Some(self.store.index.get(id)),
+            None => None,
+        }
+    }
+
+    /// How many records there are.
+    pub fn len(&self) -> usize
+        ensures { result ≡ length self.now.order }
+    {
+        self.store.index.len()
+    }
+
+    /// The record at a position of the order.
+    pub fn order_at(&self, position: usize) -> &Rec
+        requires { position < length self.now.order }
+        ensures number { slice_get self.now.order position ≡ Some result.now.number }
+        ensures found { find_number self.now result.now.number ≡ Some result.now }
+    {
+        let id = self.store.index.at(position);
+        self.store.index.get(id)
+    }
+
+    /// The record at a slot of the new table, None if the slot is empty. The bucket is below 1024
+    /// and the slot below 64.
+    pub fn new_rec_at(&self, bucket: u16, slot: u8) -> Option<&Rec>
+        requires bucket { bucket < 1024 }
+        requires slot { slot < 64 }
+        ensures { option_map (λ r. r.now) result ≡ new_occupant self.now bucket slot }
+    {
+        match self.store.grid.new_at(bucket, slot) {
+            Some(id) => Some(self.store.index.get(id)),
+            None => None,
+        }
+    }
+
+    /// How many records are in the new and in the tried table, and how many newcomers wait for a
+    /// slot of the tried table.
+    pub fn counts(&self) -> Counts
+        ensures new { result.new_count ≡ count_by (λ r. not (is_tried r)) self.now.records }
+        ensures tried { result.tried_count ≡ count_by is_tried self.now.records }
+        ensures clashes { result.clashes ≡ length self.now.collisions }
+        ensures few_new { result.new_count ≤ 65536 }
+        ensures few_tried { result.tried_count ≤ 16384 }
+        ensures few_buckets { sum_by (λ r. length (buckets_of r)) self.now.records ≤ 65536 }
+    {
+        let tried = self.store.count_tried();
+        Counts {
+            new_count: (self.store.index.len() - tried) as u32,
+            tried_count: tried as u32,
+            clashes: self.store.clashes.len() as u32,
+        }
+    }
+
+    /// All records by rising number.
+    pub fn recs(&self) -> Result<Recs, Memory>
+        ensures { IfOk result (λ recs. recs ≡ self.now.records) }
+    {
+        Ok(Recs::of(self.store.sorted()?))
+    }
+
+    /// The slots. Each has the id, in the index, of the record that is there.
+    pub fn grid(&self) -> &Grid
+        ensures { (order : Order) × AreOf self.now result.now order }
+    {
+        &self.store.grid
+    }
+
+    /// The records in their order, each with its id.
+    pub fn index(&self) -> &PeerIndex<H>
+        ensures order { IsOrder result.now }
+        ensures records { IsPermutation self.now.records (records result.now) }
+        ensures numbers { map (λ r. r.number) (records result.now) ≡ self.now.order }
+    {
+        &self.store.index
+    }
+
+    /// The slots and the index together: each slot has the id of the record that is there.
+    pub fn parts(&self) -> (&Grid, &PeerIndex<H>)
+        ensures { AreOf self.now result.0.now result.1.now }
+    {
+        (&self.store.grid, &self.store.index)
+    }
+}
