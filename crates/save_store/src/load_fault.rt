@@ -1,8 +1,8 @@
 ghost use Rattle.std.specs.Prelude.{◌≡◌};
+ghost use Rattle.host_io.specs.declared.read_fault.ReadFault.TheVariants as read;
 ghost use Rattle.save_store.specs.declared.load_fault.LoadFault.TheVariants as fault;
 
-use host_io::Failed;
-use std::alloc::AllocError;
+use host_io::{Failed, ReadFault};
 
 /// Why a file is not loaded.
 #[derive(Clone, Copy, PartialEq, Eq, Debug)]
@@ -26,10 +26,14 @@ impl From<Failed> for LoadFault {
     }
 }
 
-impl From<AllocError> for LoadFault {
-    ghost from_gives = { λ _ e. e ≡ fault.Memory };
+impl From<ReadFault> for LoadFault {
+    ghost from_gives = { λ why e.
+        (why ≡ read.Failed → e ≡ fault.Disk) × (why ≡ read.Memory → e ≡ fault.Memory) };
 
-    fn from(_: AllocError) -> LoadFault {
-        LoadFault::Memory
+    fn from(fault: ReadFault) -> LoadFault {
+        match fault {
+            ReadFault::Failed => LoadFault::Disk,
+            ReadFault::Memory => LoadFault::Memory,
+        }
     }
 }

@@ -1,10 +1,12 @@
+ghost use Rattle.std.specs.Prelude.{◌<◌, length, None};
+
 use super::*;
-use host_io::{MemFolder, Name};
+use host_io::{Failed, Folder, MemFolder, Name};
 use std::test::Fail;
 
 #[test]
 fn loads_a_file_up_to_the_limit(rt: HostRuntime) -> Result<(), Fail> {
-    let mut folder = MemFolder::make(rt.alloc(), &[(4, false)])?;
+    let mut folder = MemFolder::make(rt.alloc(), &[(6, false)])?;
     folder.put(Name::Asmap, b"bit")?;
     let loaded = load(rt.alloc(), &mut folder, Name::Asmap, 3)?;
     assert_eq!(rt; loaded.ok_or("absent")?.items(), b"bit".as_slice());
@@ -20,5 +22,55 @@ fn loads_a_file_up_to_the_limit(rt: HostRuntime) -> Result<(), Fail> {
         load(rt.alloc(), &mut folder, Name::Asmap, 3).err(),
         Some(LoadFault::Disk)
     );
+    Ok(())
+}
+
+/// A folder that does not tell its files. Each has the same bytes, given two a read, and says that
+/// its size is `size`.
+#[derive(Drop)]
+struct ShortFolder {
+    size: u64,
+    bytes: &'static [u8],
+    reads: u64,
+}
+
+impl Folder for ShortFolder {
+    ghost files = { λ _. None };
+
+    ghost faults = { λ _. 0 };
+
+    fn size(&mut self, _name: Name) -> Result<Option<u64>, Failed> {
+        Ok(Some(self.size))
+    }
+
+    fn read(&mut self, _name: Name, at: u64, buf: &mut [u8]) -> Result<usize, Failed> {
+        self.reads = self.reads.saturating_add(1);
+        let start = self.bytes.len().min(at as usize);
+        let count = buf.len().min(self.bytes.len() - start).min(2);
+        buf[..count].copy_from_slice(&self.bytes[start..start + count]);
+        Ok(count)
+    }
+}
+
+/// What is loaded from a folder that says `size` and gives `bytes`, and in how many reads.
+fn load_short(rt: &HostRuntime, size: u64, bytes: &'static [u8]) -> Result<(usize, u64), Fail> {
+    let mut folder = ShortFolder {
+        size,
+        bytes,
+        reads: 0,
+    };
+    let loaded = load(rt.alloc(), &mut folder, Name::Asmap, 9)?;
+    let count = loaded.ok_or("absent")?.items().len();
+    Ok((count, folder.reads))
+}
+
+#[test]
+fn a_folder_that_tells_nothing_is_read_up_to_the_size_that_it_says(
+    rt: HostRuntime,
+) -> Result<(), Fail> {
+    assert_eq!(rt; load_short(&rt, 5, b"bit")?, (3, 3));
+    assert_eq!(rt; load_short(&rt, 5, b"bitcoin")?, (5, 3));
+    assert_eq!(rt; load_short(&rt, 0, b"")?, (0, 1));
+    assert_eq!(rt; load_short(&rt, 0, b"bit")?, (0, 1));
     Ok(())
 }
