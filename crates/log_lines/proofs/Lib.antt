@@ -1,4 +1,8 @@
 mod Examples
-pub mod Fields
 pub mod LineLemmas
 pub mod Numbers
+pub mod WordLemmas
+pub mod FieldLemmas
+pub mod OnlyLemmas
+pub mod VerbLemmas
+pub mod FaultLemmas

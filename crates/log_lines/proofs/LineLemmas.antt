@@ -1,5 +1,5 @@
 -- The lines of a list of bytes, by where its first line feed stands.
-use Rattle.std.proofs.Common.{◌≡◌, ◌≢◌, ℕ, zero, suc, ◌<◌, List, [], ◌∷◌, ◌++◌, length, get_or, take, drop, refl, ap, ◌∙◌, arith}
+use Rattle.std.proofs.Common.{◌≡◌, ◌≢◌, ℕ, zero, suc, ◌<◌, List, [], ◌∷◌, length, get_or, take, drop, refl, ap, ◌∙◌, arith}
 use Rattle.std.specs.Prelude.{All}
 use Rattle.std.proofs.lemmas.Bool.{ne_eqb, eq-eqb}
 use Rattle.log_lines.specs.Lines.{lines_of, onto_first}
@@ -41,20 +41,7 @@ unfolding lines_of
 lines-whole [] h n = absurd (omega arith)
 lines-whole (b ∷ bytes) h n = lines-last b bytes n
 
--- the bytes are those before a line feed, the line feed, and those behind it
-pub cut-at : (bytes : List ℕ) (i : ℕ) → i < length bytes → get_or bytes i 0 ≡ 10 → bytes ≡ take i bytes ++ 10 ∷ drop (suc i) bytes
-cut-at [] i h e = absurd (omega arith)
-cut-at (b ∷ bytes) zero h e = ap (λ c. c ∷ bytes) e
-cut-at (b ∷ bytes) (suc i) h e = ap (λ bs. b ∷ bs) (cut-at bytes i (omega arith) e)
-
--- bytes before the first line feed are none
-pub no_feed-take : (bytes : List ℕ) (i : ℕ) → ((k : ℕ) → k < i → get_or bytes k 0 ≡ 10 → ⊥) → All (λ b. b ≢ 10) (take i bytes)
-no_feed-take [] zero n k d h = absurd (omega arith)
-no_feed-take [] (suc i) n k d h = absurd (omega arith)
-no_feed-take (b ∷ bytes) zero n k d h = absurd (omega arith)
-no_feed-take (b ∷ bytes) (suc i) n zero d h = n 0 (omega arith)
-no_feed-take (b ∷ bytes) (suc i) n (suc k) d h = no_feed-take bytes i (λ j below. n (suc j) (omega arith)) k d (omega arith)
-
+-- bytes with no line feed have none
 pub no_feed-whole : (bytes : List ℕ) → ((k : ℕ) → k < length bytes → get_or bytes k 0 ≡ 10 → ⊥) → All (λ b. b ≢ 10) bytes
 no_feed-whole [] n k d h = absurd (omega arith)
 no_feed-whole (b ∷ bytes) n zero d h = n 0 (omega arith)

@@ -1,3 +1,6 @@
 pub mod Lines
+pub mod Random
+pub mod Fields
 pub mod Spelling
 pub mod Replies
+pub mod Inside

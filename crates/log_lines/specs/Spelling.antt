@@ -1,24 +1,117 @@
--- Which lines spell which command. Fields stand with one space between them.
-use Rattle.std.specs.Prelude.{◌≡◌, ℕ, ◌<◌, ◌^◌, List, [], ◌∷◌, ◌++◌, Ok, codes, decimal, ◌⊎◌}
-use Rattle.hex.specs.Hex.{decode_of}
-use Rattle.net_addr.specs.Address.{IsAddress}
-use Rattle.net_addr.specs.Text.{IsAddrText, IsPeerText}
+-- Which line spells which command, and what is wrong in a line that spells none.
+use Rattle.std.specs.Prelude.{◌≡◌, ◌≢◌, ◌⊎◌, ◌^◌, ◌-◌, ℕ, List, [], ◌∷◌, codes}
+use Rattle.log_lines.specs.Fields.{Kind, Number, OfAddr, OfPeer, Hex, Random, Either, OfNet, Class, Value, TheNumber, TheAddr, ThePeer, TheBytes, TheWords, TheChoice, TheNet, fields_of, StandForAll, AreAtFault}
+use Rattle.log_lines.specs.Lines.{IsPassedOver}
 use Rattle.log_lines.specs.declared.command.Command.{Command}
-use Rattle.log_lines.specs.declared.command.Command.TheVariants.{Now, Addr, Find}
+use Rattle.log_lines.specs.declared.command.Command.TheVariants as c
+use Rattle.log_lines.specs.declared.fault.LineFault.{LineFault}
+use Rattle.log_lines.specs.declared.fault.LineFault.TheVariants as fault
+use Rattle.log_lines.specs.declared.verb.Verb.{Verb}
+use Rattle.log_lines.specs.declared.verb.Verb.TheVariants as v
 
--- a - for no bytes, or hexadecimal digits, two a byte, in either case
-abbrev pub IsHex : List ℕ → List ℕ → Type 0
-IsHex text bytes = ((text ≡ codes "-") × (bytes ≡ [])) ⊎ ((text ≡ [] → ⊥) × (decode_of text ≡ Ok bytes))
+-- the first word of a line
+abbrev pub word_of : Verb → List ℕ
+word_of v.Now = codes "now"
+word_of v.Addr = codes "addr"
+word_of v.Addr2 = codes "addrv2"
+word_of v.Good = codes "good"
+word_of v.Attempt = codes "attempt"
+word_of v.Connected = codes "connected"
+word_of v.Services = codes "services"
+word_of v.Find = codes "find"
+word_of v.Size = codes "size"
+word_of v.Select = codes "select"
+word_of v.Sample = codes "sample"
+word_of v.Resolve = codes "resolve"
+word_of v.Clash = codes "clash"
+word_of v.Dump = codes "dump"
+word_of v.Save = codes "save"
+word_of v.SaveBegin = codes "save-begin"
+word_of v.SaveStep = codes "save-step"
+word_of v.SaveEnd = codes "save-end"
 
--- so far one number below 2 ^ 64
-abbrev pub AreWords : List ℕ → List ℕ → Type 0
-AreWords text words = (word : ℕ) × (word < 2 ^ 64) × (text ≡ decimal word) × (words ≡ word ∷ [])
+-- the numbers of 32 and of 64 bits
+abbrev pub u32_field : Kind
+u32_field = Number 0 (2 ^ 32 - 1)
+
+abbrev pub u64_field : Kind
+u64_field = Number 0 (2 ^ 64 - 1)
+
+-- the kinds of the fields after the first word
+abbrev pub kinds_of : Verb → List Kind
+kinds_of v.Now = u32_field ∷ []
+kinds_of v.Addr = OfAddr ∷ Hex ∷ Random ∷ []
+kinds_of v.Addr2 = OfAddr ∷ Hex ∷ Random ∷ []
+kinds_of v.Good = OfPeer ∷ Either (codes "test") (codes "force") ∷ []
+kinds_of v.Attempt = OfPeer ∷ Either (codes "count") (codes "nocount") ∷ []
+kinds_of v.Connected = OfPeer ∷ []
+kinds_of v.Services = OfPeer ∷ u64_field ∷ []
+kinds_of v.Find = OfPeer ∷ []
+kinds_of v.Size = []
+kinds_of v.Select = Either (codes "new") (codes "any") ∷ OfNet ∷ Random ∷ []
+kinds_of v.Sample = u32_field ∷ Number 0 100 ∷ Class ∷ Random ∷ []
+kinds_of v.Resolve = []
+kinds_of v.Clash = u64_field ∷ []
+kinds_of v.Dump = []
+kinds_of v.Save = []
+kinds_of v.SaveBegin = []
+kinds_of v.SaveStep = Number 1 (2 ^ 32 - 1) ∷ []
+kinds_of v.SaveEnd = []
+
+-- the first word of the lines that spell a command
+abbrev pub verb_of : Command → Verb
+verb_of (c.Now time) = v.Now
+verb_of (c.Addr source payload words) = v.Addr
+verb_of (c.Addr2 source payload words) = v.Addr2
+verb_of (c.Good peer testing) = v.Good
+verb_of (c.Attempt peer count) = v.Attempt
+verb_of (c.Connected peer) = v.Connected
+verb_of (c.Services peer services) = v.Services
+verb_of (c.Find peer) = v.Find
+verb_of c.Size = v.Size
+verb_of (c.Select new_only net words) = v.Select
+verb_of (c.Sample max pct class words) = v.Sample
+verb_of c.Resolve = v.Resolve
+verb_of (c.Clash word) = v.Clash
+verb_of c.Dump = v.Dump
+verb_of c.Save = v.Save
+verb_of c.SaveBegin = v.SaveBegin
+verb_of (c.SaveStep count) = v.SaveStep
+verb_of c.SaveEnd = v.SaveEnd
+
+-- what the other fields stand for
+abbrev pub values_of : Command → List Value
+values_of (c.Now time) = TheNumber time ∷ []
+values_of (c.Addr source payload words) = TheAddr source ∷ TheBytes payload ∷ TheWords words ∷ []
+values_of (c.Addr2 source payload words) = TheAddr source ∷ TheBytes payload ∷ TheWords words ∷ []
+values_of (c.Good peer testing) = ThePeer peer ∷ TheChoice testing ∷ []
+values_of (c.Attempt peer count) = ThePeer peer ∷ TheChoice count ∷ []
+values_of (c.Connected peer) = ThePeer peer ∷ []
+values_of (c.Services peer services) = ThePeer peer ∷ TheNumber services ∷ []
+values_of (c.Find peer) = ThePeer peer ∷ []
+values_of c.Size = []
+values_of (c.Select new_only net words) = TheChoice new_only ∷ TheNet net ∷ TheWords words ∷ []
+values_of (c.Sample max pct class words) = TheNumber max ∷ TheNumber pct ∷ TheNet class ∷ TheWords words ∷ []
+values_of c.Resolve = []
+values_of (c.Clash word) = TheNumber word ∷ []
+values_of c.Dump = []
+values_of c.Save = []
+values_of c.SaveBegin = []
+values_of (c.SaveStep count) = TheNumber count ∷ []
+values_of c.SaveEnd = []
+
+-- the fields after this word spell the command
+abbrev pub SpellsAfter : Verb → List (List ℕ) → Command → Type 0
+SpellsAfter verb texts command = (verb ≡ verb_of command) × StandForAll (kinds_of verb) texts (values_of command)
 
 -- the line spells the command
 abbrev pub Spells : List ℕ → Command → Type 0
-Spells line (Now time) = (time < 2 ^ 32) × (line ≡ codes "now " ++ decimal time)
-Spells line (Find peer) =
-    (text : List ℕ) × IsAddress peer.addr × (peer.port < 2 ^ 16) × IsPeerText text peer × (line ≡ codes "find " ++ text)
-Spells line (Addr source payload words) =
-    (addr : List ℕ) × (hex : List ℕ) × (numbers : List ℕ) × IsAddress source × IsAddrText addr source × IsHex hex payload ×
-    AreWords numbers words × (line ≡ codes "addr " ++ addr ++ codes " " ++ hex ++ codes " " ++ numbers)
+Spells line command =
+    (verb : Verb) × (texts : List (List ℕ)) × (fields_of line ≡ word_of verb ∷ texts) × SpellsAfter verb texts command
+
+-- what is wrong in a line that is not passed over: its first word is that of no command, or else its other fields are
+-- at fault
+abbrev pub HasFault : List ℕ → LineFault → Type 0
+HasFault line f =
+    ¬ IsPassedOver line × ((word : List ℕ) × (texts : List (List ℕ)) × (fields_of line ≡ word ∷ texts) ×
+    ((((verb : Verb) → word ≢ word_of verb) × (f ≡ fault.Word)) ⊎ ((verb : Verb) × (word ≡ word_of verb) × AreAtFault (kinds_of verb) texts f)))

@@ -1,22 +1,80 @@
 use crate::Words;
 use host_io::Bytes;
-use net_addr::{NetAddr, Peer};
+use net_addr::{Net, NetAddr, Peer};
 
-/// What a line of a log asks for.
+/// What a line of a log asks for. Times are in seconds since 1970.
 #[derive(Drop)]
 pub enum Command {
-    /// The clock is set, in seconds since 1970.
+    /// Set the clock.
     Now {
         time: u32,
     },
-    /// An `addr` message came from a source; each of its entries takes one of the random words.
+    /// Take an `addr` message from a source; each of its entries takes one of the random words.
     Addr {
         source: NetAddr,
         payload: Bytes,
         words: Words,
     },
-    /// What is known of a peer is asked for.
+    /// Take an `addrv2` message from a source.
+    Addr2 {
+        source: NetAddr,
+        payload: Bytes,
+        words: Words,
+    },
+    /// A connection to a peer succeeded; with `testing`, the occupant of its tried slot stays.
+    Good {
+        peer: Peer,
+        testing: bool,
+    },
+    /// A connection to a peer was tried; with `count`, it counts as a failure.
+    Attempt {
+        peer: Peer,
+        count: bool,
+    },
+    /// A peer is still connected.
+    Connected {
+        peer: Peer,
+    },
+    /// A peer said which services it offers.
+    Services {
+        peer: Peer,
+        services: u64,
+    },
+    /// Find what is known of a peer.
     Find {
         peer: Peer,
     },
+    /// Count the records.
+    Size,
+    /// Pick a peer to connect to, of a network or of all.
+    Select {
+        new_only: bool,
+        net: Option<Net>,
+        words: Words,
+    },
+    /// Pick peers to tell of: at most `max` and `pct` percent, 0 for no limit; of a class or all.
+    Sample {
+        max: u32,
+        pct: u32,
+        class: Option<Net>,
+        words: Words,
+    },
+    /// Settle the collisions in the tried table.
+    Resolve,
+    /// Pick the occupant that a collision is about.
+    Clash {
+        word: u64,
+    },
+    /// List all records.
+    Dump,
+    /// Save the tables.
+    Save,
+    /// Begin a save that is cut into steps.
+    SaveBegin,
+    /// Write this many bytes of a save.
+    SaveStep {
+        count: u32,
+    },
+    /// End a save.
+    SaveEnd,
 }

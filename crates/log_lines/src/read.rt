@@ -1,127 +1,315 @@
-ghost use Rattle.std.specs.Prelude.{◌≡◌, ◌≢◌, ◌↔◌, ◌⊎◌, ℕ, List, ◌∷◌, ◌++◌, codes, All, IfOk, IfSome, IfNone, Some, None, Ok, Err, IsTrue};
+ghost use Rattle.std.specs.Prelude.{◌≡◌, ◌≢◌, ◌-◌, ◌^◌, ◌≤◌, ◌↔◌, ◌⊎◌, [], ◌∷◌, ℕ, List, length, codes, IfOk, IfSome, IfNone, Some, None, Ok, Err, IsTrue};
 ghost use Rattle.log_lines.specs.Lines.{IsPassedOver};
-ghost use Rattle.log_lines.specs.Spelling.{IsHex, AreWords, Spells};
+ghost use Rattle.log_lines.specs.Fields.{Kind, Number, OfAddr, OfPeer, Hex, Random, Either, OfNet, Class, TheNumber, TheAddr, ThePeer, TheBytes, TheWords, TheChoice, TheNet, StandForAll, AreAtFault};
+ghost use Rattle.log_lines.specs.Inside.{texts_after, AreOnly};
+ghost use Rattle.log_lines.specs.Spelling.{u32_field, u64_field, word_of, kinds_of, values_of, SpellsAfter, Spells, HasFault};
 ghost use Rattle.log_lines.specs.declared.command.Command.{Command};
+ghost use Rattle.log_lines.specs.declared.verb.Verb.{Verb};
 
-use crate::{Command, LineFault, Words};
-use hex::FromHexError;
+use crate::field::{
+    read_addr, read_class, read_either, read_net, read_number, read_payload, read_peer,
+    read_random, read_u32,
+};
+use crate::fields::{cut_field, four_fields, no_fields, one_field, three_fields, two_fields};
+use crate::{Command, LineFault, Verb, Words};
 use host_io::Bytes;
-use net_addr::{parse_addr, parse_number, parse_peer};
+use net_addr::{NetAddr, Peer};
 use std::alloc::Global;
 
-/// The command that a line spells, or `None` for a line that is passed over: an empty one, or one
-/// that begins with a `#`.
+/// The command that a line spells, without its line feed, or `None` for a line that is passed over:
+/// an empty one, or one that begins with a `#`.
 pub fn read_line(alloc: Global, line: &[u8]) -> Result<Option<Command>, LineFault>
+    requires { length line.now ≤ 16777216 }
     ensures passed { result ≡ Ok None ↔ IsPassedOver line.now }
     ensures found { IfOk result (λ read. IfSome read (λ c. Spells line.now c)) }
-    ensures only { (c : Command) → Spells line.now c → (result ≡ Ok (Some c)) ⊎ (result ≡ Err LineFault.Memory) }
-    ensures not_built { result ≡ Err LineFault.NotBuilt → (c : Command) → ¬ Spells line.now c }
+    ensures only { (c : Command) → Spells line.now c →
+        (result ≡ Ok (Some c)) ⊎ (result ≡ Err LineFault.Memory) }
+    ensures fault { (f : LineFault) → result ≡ Err f → f ≢ LineFault.Memory → HasFault line.now f }
+    ensures only_fault { (f : LineFault) → HasFault line.now f →
+        (result ≡ Err f) ⊎ (result ≡ Err LineFault.Memory) }
 {
     if is_passed_over(line) {
         return Ok(None);
     }
-    let command = read_command(alloc, line)?;
+    let command = read_spelled(alloc, line)?;
     Ok(Some(command))
 }
 
-// Whether the line is passed over.
+/// The command that a line spells, if the line is not passed over.
+fn read_spelled(alloc: Global, line: &[u8]) -> Result<Command, LineFault>
+    requires short { length line.now ≤ 16777216 }
+    requires kept { ¬ IsPassedOver line.now }
+    ensures found { IfOk result (λ c. Spells line.now c) }
+    ensures unique { IfOk result (λ c. (d : Command) → Spells line.now d → d ≡ c) }
+    ensures fault { (f : LineFault) → result ≡ Err f → f ≢ LineFault.Memory → HasFault line.now f }
+{
+    let (word, rest) = cut_field(line);
+    let verb = verb_of(word).ok_or(LineFault::Word)?;
+    read_command(alloc, verb, rest)
+}
+
+/// Whether the line is passed over.
 fn is_passed_over(line: &[u8]) -> bool
     ensures { IsTrue result ↔ IsPassedOver line.now }
 {
     line.is_empty() || line[0] == b'#'
 }
 
-// The command that a line spells.
-fn read_command(alloc: Global, line: &[u8]) -> Result<Command, LineFault>
-    ensures found { IfOk result (λ c. Spells line.now c) }
-    ensures only { (c : Command) → Spells line.now c → (result ≡ Ok c) ⊎ (result ≡ Err LineFault.Memory) }
+/// The verb that the first word of a line is.
+fn verb_of(word: &[u8]) -> Option<Verb>
+    ensures found { IfSome result (λ verb. word.now ≡ word_of verb) }
+    ensures none { IfNone result ((verb : Verb) → word.now ≢ word_of verb) }
 {
-    if let Some(time) = line.strip_prefix(b"now ") {
-        read_now(time).ok_or(LineFault::NotBuilt)
-    } else if let Some(peer) = line.strip_prefix(b"find ") {
-        read_find(peer).ok_or(LineFault::NotBuilt)
-    } else if let Some(fields) = line.strip_prefix(b"addr ") {
-        read_addr(alloc, fields)
+    if word == b"now".as_slice() {
+        Some(Verb::Now)
+    } else if word == b"addr".as_slice() {
+        Some(Verb::Addr)
+    } else if word == b"addrv2".as_slice() {
+        Some(Verb::Addr2)
+    } else if word == b"good".as_slice() {
+        Some(Verb::Good)
+    } else if word == b"attempt".as_slice() {
+        Some(Verb::Attempt)
+    } else if word == b"connected".as_slice() {
+        Some(Verb::Connected)
+    } else if word == b"services".as_slice() {
+        Some(Verb::Services)
+    } else if word == b"find".as_slice() {
+        Some(Verb::Find)
+    } else if word == b"size".as_slice() {
+        Some(Verb::Size)
+    } else if word == b"select".as_slice() {
+        Some(Verb::Select)
+    } else if word == b"sample".as_slice() {
+        Some(Verb::Sample)
+    } else if word == b"resolve".as_slice() {
+        Some(Verb::Resolve)
+    } else if word == b"clash".as_slice() {
+        Some(Verb::Clash)
+    } else if word == b"dump".as_slice() {
+        Some(Verb::Dump)
+    } else if word == b"save".as_slice() {
+        Some(Verb::Save)
+    } else if word == b"save-begin".as_slice() {
+        Some(Verb::SaveBegin)
+    } else if word == b"save-step".as_slice() {
+        Some(Verb::SaveStep)
+    } else if word == b"save-end".as_slice() {
+        Some(Verb::SaveEnd)
     } else {
-        Err(LineFault::NotBuilt)
+        None
     }
 }
 
-// The clock that a line sets, from what stands after `now `.
-fn read_now(time: &[u8]) -> Option<Command>
-    ensures found { IfSome result (λ c. Spells (codes "now " ++ time.now) c) }
-    ensures only { (c : Command) → Spells (codes "now " ++ time.now) c → result ≡ Some c }
+/// The command of a verb and the fields after it.
+fn read_command(alloc: Global, verb: Verb, rest: Option<&[u8]>) -> Result<Command, LineFault>
+    requires { IfSome rest (λ text. length text.now ≤ 16777216) }
+    ensures found { IfOk result (λ c. SpellsAfter verb (texts_after rest.entry) c) }
+    ensures unique { IfOk result (λ c.
+        AreOnly (kinds_of verb) (texts_after rest.entry) (values_of c)) }
+    ensures fault { (f : LineFault) → result ≡ Err f → f ≢ LineFault.Memory →
+        AreAtFault (kinds_of verb) (texts_after rest.entry) f }
 {
-    let time = parse_number(time, u64::from(u32::MAX))?;
-    Some(Command::Now { time: time as u32 })
+    match verb {
+        Verb::Now => {
+            let time = one_u32(rest, 0)?;
+            Ok(Command::Now { time })
+        }
+        Verb::Addr => {
+            let (source, payload, words) = message_fields(alloc, rest)?;
+            Ok(Command::Addr {
+                source,
+                payload,
+                words,
+            })
+        }
+        Verb::Addr2 => {
+            let (source, payload, words) = message_fields(alloc, rest)?;
+            Ok(Command::Addr2 {
+                source,
+                payload,
+                words,
+            })
+        }
+        Verb::Good => {
+            let (peer, testing) = peer_and_choice(rest, b"test", b"force")?;
+            Ok(Command::Good { peer, testing })
+        }
+        Verb::Attempt => {
+            let (peer, count) = peer_and_choice(rest, b"count", b"nocount")?;
+            Ok(Command::Attempt { peer, count })
+        }
+        Verb::Connected => {
+            let peer = one_peer(rest)?;
+            Ok(Command::Connected { peer })
+        }
+        Verb::Services => read_services(rest),
+        Verb::Find => {
+            let peer = one_peer(rest)?;
+            Ok(Command::Find { peer })
+        }
+        Verb::Size => with_no_fields(rest, Command::Size),
+        Verb::Select => read_select(alloc, rest),
+        Verb::Sample => read_sample(alloc, rest),
+        Verb::Resolve => with_no_fields(rest, Command::Resolve),
+        Verb::Clash => read_clash(rest),
+        Verb::Dump => with_no_fields(rest, Command::Dump),
+        Verb::Save => with_no_fields(rest, Command::Save),
+        Verb::SaveBegin => with_no_fields(rest, Command::SaveBegin),
+        Verb::SaveStep => {
+            let count = one_u32(rest, 1)?;
+            Ok(Command::SaveStep { count })
+        }
+        Verb::SaveEnd => with_no_fields(rest, Command::SaveEnd),
+    }
 }
 
-// The peer that a line asks for, from what stands after `find `.
-fn read_find(peer: &[u8]) -> Option<Command>
-    ensures found { IfSome result (λ c. Spells (codes "find " ++ peer.now) c) }
-    ensures only { (c : Command) → Spells (codes "find " ++ peer.now) c → result ≡ Some c }
+/// The command, if there are no fields.
+fn with_no_fields(rest: Option<&[u8]>, command: Command) -> Result<Command, LineFault>
+    ensures found { IfOk result (λ c. (c ≡ command) × StandForAll [] (texts_after rest.entry) []) }
+    ensures unique { IfOk result (λ c. AreOnly [] (texts_after rest.entry) []) }
+    ensures fault { (f : LineFault) → result ≡ Err f → AreAtFault [] (texts_after rest.entry) f }
 {
-    let peer = parse_peer(peer)?;
-    Some(Command::Find { peer })
+    if no_fields(rest) {
+        Ok(command)
+    } else {
+        Err(LineFault::Fields)
+    }
 }
 
-// The message that a line hands in, from what stands after `addr `.
-fn read_addr(alloc: Global, fields: &[u8]) -> Result<Command, LineFault>
-    ensures found { IfOk result (λ c. Spells (codes "addr " ++ fields.now) c) }
-    ensures only { (c : Command) → Spells (codes "addr " ++ fields.now) c → (result ≡ Ok c) ⊎ (result ≡ Err LineFault.Memory) }
+/// A number of 32 bits, at least `least`.
+fn one_u32(rest: Option<&[u8]>, least: u32) -> Result<u32, LineFault>
+    ensures found { IfOk result (λ n.
+        StandForAll (Number least (2 ^ 32 - 1) ∷ []) (texts_after rest.entry)
+        (TheNumber n ∷ [])) }
+    ensures unique { IfOk result (λ n.
+        AreOnly (Number least (2 ^ 32 - 1) ∷ []) (texts_after rest.entry) (TheNumber n ∷ [])) }
+    ensures fault { (f : LineFault) → result ≡ Err f →
+        AreAtFault (Number least (2 ^ 32 - 1) ∷ []) (texts_after rest.entry) f }
 {
-    let (source, fields) = split_at_space(fields).ok_or(LineFault::NotBuilt)?;
-    let (payload, words) = split_at_space(fields).ok_or(LineFault::NotBuilt)?;
-    let source = parse_addr(source).ok_or(LineFault::NotBuilt)?;
-    let payload = read_hex(alloc, payload)?;
-    let words = read_words(alloc, words)?;
-    Ok(Command::Addr {
-        source,
-        payload,
+    let number = one_field(rest).ok_or(LineFault::Fields)?;
+    read_u32(number, least, u32::MAX)
+}
+
+/// A peer.
+fn one_peer(rest: Option<&[u8]>) -> Result<Peer, LineFault>
+    ensures found { IfOk result (λ p.
+        StandForAll (OfPeer ∷ []) (texts_after rest.entry) (ThePeer p ∷ [])) }
+    ensures unique { IfOk result (λ p.
+        AreOnly (OfPeer ∷ []) (texts_after rest.entry) (ThePeer p ∷ [])) }
+    ensures fault { (f : LineFault) → result ≡ Err f →
+        AreAtFault (OfPeer ∷ []) (texts_after rest.entry) f }
+{
+    let peer = one_field(rest).ok_or(LineFault::Fields)?;
+    read_peer(peer)
+}
+
+/// A peer and one of two words.
+fn peer_and_choice(
+    rest: Option<&[u8]>,
+    first: &[u8],
+    second: &[u8],
+) -> Result<(Peer, bool), LineFault>
+    requires { first.now ≢ second.now }
+    ensures found { IfOk result (λ r.
+        StandForAll (OfPeer ∷ Either first.now second.now ∷ []) (texts_after rest.entry)
+        (ThePeer r.0 ∷ TheChoice r.1 ∷ [])) }
+    ensures unique { IfOk result (λ r.
+        AreOnly (OfPeer ∷ Either first.now second.now ∷ []) (texts_after rest.entry)
+        (ThePeer r.0 ∷ TheChoice r.1 ∷ [])) }
+    ensures fault { (f : LineFault) → result ≡ Err f →
+        AreAtFault (OfPeer ∷ Either first.now second.now ∷ []) (texts_after rest.entry) f }
+{
+    let (peer, word) = two_fields(rest).ok_or(LineFault::Fields)?;
+    let peer = read_peer(peer)?;
+    let choice = read_either(word, first, second)?;
+    Ok((peer, choice))
+}
+
+/// The source, the payload and the random words of a message.
+fn message_fields(alloc: Global, rest: Option<&[u8]>) -> Result<(NetAddr, Bytes, Words), LineFault>
+    requires { IfSome rest (λ text. length text.now ≤ 16777216) }
+    ensures found { IfOk result (λ r.
+        StandForAll (OfAddr ∷ Hex ∷ Random ∷ []) (texts_after rest.entry)
+        (TheAddr r.0 ∷ TheBytes r.1 ∷ TheWords r.2 ∷ [])) }
+    ensures unique { IfOk result (λ r.
+        AreOnly (OfAddr ∷ Hex ∷ Random ∷ []) (texts_after rest.entry)
+        (TheAddr r.0 ∷ TheBytes r.1 ∷ TheWords r.2 ∷ [])) }
+    ensures fault { (f : LineFault) → result ≡ Err f → f ≢ LineFault.Memory →
+        AreAtFault (OfAddr ∷ Hex ∷ Random ∷ []) (texts_after rest.entry) f }
+{
+    let (source, payload, words) = three_fields(rest).ok_or(LineFault::Fields)?;
+    let source = read_addr(source)?;
+    let payload = read_payload(alloc, payload)?;
+    let words = read_random(alloc, words)?;
+    Ok((source, payload, words))
+}
+
+/// The services of a peer.
+fn read_services(rest: Option<&[u8]>) -> Result<Command, LineFault>
+    ensures found { IfOk result (λ c. SpellsAfter Verb.Services (texts_after rest.entry) c) }
+    ensures unique { IfOk result (λ c.
+        AreOnly (kinds_of Verb.Services) (texts_after rest.entry) (values_of c)) }
+    ensures fault { (f : LineFault) → result ≡ Err f →
+        AreAtFault (kinds_of Verb.Services) (texts_after rest.entry) f }
+{
+    let (peer, services) = two_fields(rest).ok_or(LineFault::Fields)?;
+    let peer = read_peer(peer)?;
+    let services = read_number(services, 0, u64::MAX)?;
+    Ok(Command::Services { peer, services })
+}
+
+/// A pick.
+fn read_select(alloc: Global, rest: Option<&[u8]>) -> Result<Command, LineFault>
+    requires { IfSome rest (λ text. length text.now ≤ 16777216) }
+    ensures found { IfOk result (λ c. SpellsAfter Verb.Select (texts_after rest.entry) c) }
+    ensures unique { IfOk result (λ c.
+        AreOnly (kinds_of Verb.Select) (texts_after rest.entry) (values_of c)) }
+    ensures fault { (f : LineFault) → result ≡ Err f → f ≢ LineFault.Memory →
+        AreAtFault (kinds_of Verb.Select) (texts_after rest.entry) f }
+{
+    let (mode, net, words) = three_fields(rest).ok_or(LineFault::Fields)?;
+    let new_only = read_either(mode, b"new", b"any")?;
+    let net = read_net(net)?;
+    let words = read_random(alloc, words)?;
+    Ok(Command::Select {
+        new_only,
+        net,
         words,
     })
 }
 
-// The bytes that a text writes in hexadecimal.
-fn read_hex(alloc: Global, text: &[u8]) -> Result<Bytes, LineFault>
-    ensures found { IfOk result (λ bytes. IsHex text.now bytes) }
-    ensures only { (bytes : List ℕ) → IsHex text.now bytes → (result ≡ Ok bytes) ⊎ (result ≡ Err LineFault.Memory) }
+/// A sample.
+fn read_sample(alloc: Global, rest: Option<&[u8]>) -> Result<Command, LineFault>
+    requires { IfSome rest (λ text. length text.now ≤ 16777216) }
+    ensures found { IfOk result (λ c. SpellsAfter Verb.Sample (texts_after rest.entry) c) }
+    ensures unique { IfOk result (λ c.
+        AreOnly (kinds_of Verb.Sample) (texts_after rest.entry) (values_of c)) }
+    ensures fault { (f : LineFault) → result ≡ Err f → f ≢ LineFault.Memory →
+        AreAtFault (kinds_of Verb.Sample) (texts_after rest.entry) f }
 {
-    if text.is_empty() {
-        return Err(LineFault::NotBuilt);
-    }
-    if text == b"-".as_slice() {
-        return Ok(Bytes::of(Vec::new(alloc)));
-    }
-    match hex::decode(alloc, text) {
-        Ok(bytes) => Ok(Bytes::of(bytes)),
-        Err(FromHexError::OutOfMemory) => Err(LineFault::Memory),
-        Err(_) => Err(LineFault::NotBuilt),
-    }
+    let (max, pct, class, words) = four_fields(rest).ok_or(LineFault::Fields)?;
+    let max = read_u32(max, 0, u32::MAX)?;
+    let pct = read_u32(pct, 0, 100)?;
+    let class = read_class(class)?;
+    let words = read_random(alloc, words)?;
+    Ok(Command::Sample {
+        max,
+        pct,
+        class,
+        words,
+    })
 }
 
-// The words that a text writes.
-fn read_words(alloc: Global, text: &[u8]) -> Result<Words, LineFault>
-    ensures found { IfOk result (λ words. AreWords text.now words) }
-    ensures only { (words : List ℕ) → AreWords text.now words → (result ≡ Ok words) ⊎ (result ≡ Err LineFault.Memory) }
+/// The collision that a word picks.
+fn read_clash(rest: Option<&[u8]>) -> Result<Command, LineFault>
+    ensures found { IfOk result (λ c. SpellsAfter Verb.Clash (texts_after rest.entry) c) }
+    ensures unique { IfOk result (λ c.
+        AreOnly (kinds_of Verb.Clash) (texts_after rest.entry) (values_of c)) }
+    ensures fault { (f : LineFault) → result ≡ Err f →
+        AreAtFault (kinds_of Verb.Clash) (texts_after rest.entry) f }
 {
-    let word = parse_number(text, u64::MAX).ok_or(LineFault::NotBuilt)?;
-    match Vec::from_slice(alloc, &[word]) {
-        Ok(items) => Ok(Words::of(items)),
-        Err(_) => Err(LineFault::Memory),
-    }
-}
-
-// What stands before the first space of the text, and after it.
-fn split_at_space(text: &[u8]) -> Option<(&[u8], &[u8])>
-    ensures cut { IfSome result (λ parts. text.now ≡ parts.0.now ++ 32 ∷ parts.1.now) }
-    ensures first { IfSome result (λ parts. All (λ c. c ≢ 32) parts.0.now) }
-    ensures none { IfNone result (All (λ c. c ≢ 32) text.now) }
-{
-    for (i, byte) in text.iter().enumerate() {
-        if *byte == b' ' {
-            return Some((&text[..i], &text[i + 1..]));
-        }
-    }
-    None
+    let word = one_field(rest).ok_or(LineFault::Fields)?;
+    let word = read_number(word, 0, u64::MAX)?;
+    Ok(Command::Clash { word })
 }

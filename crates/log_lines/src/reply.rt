@@ -1,10 +1,46 @@
-use peer_rec::Rec;
+use addr_codecs::MsgFault;
+use net_addr::Peer;
+use peer_rec::{Counts, Good, Peers, Picked, Rec, Recs, Resolved};
 
-/// What a command is answered.
+/// What a command is answered. Times are in seconds since 1970.
 #[derive(Drop)]
 pub enum Reply {
+    /// The clock is set.
     Now { time: u32 },
-    /// Of the entries of a message, how many were added to the tables.
+    /// Of the entries of a message, how many got a slot.
     Added { accepted: u32, total: u32 },
+    /// A message is refused, for its first fault.
+    Refused(MsgFault),
+    /// There are fewer random words than are needed.
+    Short { need: u32, have: u32 },
+    /// What became of a peer that was reached.
+    Good(Good),
+    /// Whether the peer is known.
+    Known(bool),
+    /// The peer's record.
     Found(Option<Rec>),
+    /// How many records there are.
+    Size(Counts),
+    /// What a pick gives.
+    Picked(Picked),
+    /// The peers of a sample.
+    Sample(Peers),
+    /// What became of the collisions.
+    Resolved(Resolved),
+    /// The occupant that a collision is about, and when it was last tried.
+    Clash(Option<(Peer, u32)>),
+    /// All records.
+    Dump(Recs),
+    /// The tables are saved.
+    Saved,
+    /// The folder failed, so the tables are not saved.
+    NotSaved,
+    /// A save is under way already.
+    Busy,
+    /// No save is under way.
+    NoSave,
+    /// A save has begun, of a file of this size in bytes.
+    Begun { size: u64 },
+    /// A part is written, and this many bytes are left.
+    Stepped { left: u64 },
 }

@@ -1,0 +1,88 @@
+-- Numbers with commas between them, and the pieces that commas cut.
+use Rattle.std.proofs.Common.{Bor, ◌≡◌, ◌≢◌, ℕ, ◌+◌, ◌<◌, ◌^◌, All, List, [], ◌∷◌, ◌++◌, length, get_or, drop, map, decimal, refl, sym, ap, ◌∙◌, arith, append_assoc, subst}
+use Rattle.std.specs.Prelude.{◌==◌, false, Option, Some, None}
+use Rattle.std.specs.List.{slice_split, join_with_byte}
+use Rattle.std.proofs.lemmas.Bool.{ne_eqb, eq-eqb, false≢true}
+use Rattle.std.proofs.lemmas.Fmt.{decimal_injective, decimal_is_IsNumeral}
+use Rattle.std.proofs.lemmas.Str.Parse.{digit_at}
+use Rattle.std.proofs.lemmas.List.Elements.{All-nil, All-cons, All-append, All-head, All-tail, All-from_get_or}
+use Rattle.std.proofs.lemmas.List.Splits.{slice_split_at, slice_split_none, join_with_byte-slice_split, length-slice_split}
+use Rattle.log_lines.specs.Fields.{AreNumbers, AreSeeded}
+use Rattle.log_lines.specs.Inside.{pieces_after}
+
+-- the digits of a number have no byte that is not a digit
+pub decimal-lacks : (c n : ℕ) → n < 2 ^ 64 → ((d : ℕ) → 48 < d + 1 → d < 58 → d ≢ c) → All (λ b. (b == c) ≡ false) (decimal n)
+decimal-lacks c n h other =
+    All-from_get_or (λ b. (b == c) ≡ false) (decimal n) 0 λ i lt.
+    let digit = digit_at (decimal n) i (decimal_is_IsNumeral n h).0.1 lt in
+    ne_eqb _ c (other _ (omega arith) (omega arith))
+
+-- the pieces between commas of some numbers are the numbers' texts
+pub pieces_of_numbers : (words : List ℕ) → words ≢ [] → All (λ w. w < 2 ^ 64) words → slice_split (λ b. b == 44) (join_with_byte 44 (map decimal words)) ≡ map decimal words
+pieces_of_numbers [] some small = absurd (some refl)
+pieces_of_numbers (w ∷ []) some small =
+    slice_split_none (λ b. b == 44) (decimal w) (decimal-lacks 44 w (All-head (λ n. n < 2 ^ 64) w [] small) (λ d low high e. omega (arith, low, e)))
+pieces_of_numbers (w ∷ v ∷ words) some small =
+    slice_split_at (λ b. b == 44) (decimal w) 44 (join_with_byte 44 (map decimal (v ∷ words)))
+    (decimal-lacks 44 w (All-head (λ n. n < 2 ^ 64) w (v ∷ words) small) (λ d low high e. omega (arith, low, e))) refl
+    ∙ ap (λ ps. decimal w ∷ ps) (pieces_of_numbers (v ∷ words) (λ none. omega (arith, ap length none)) (All-tail (λ n. n < 2 ^ 64) w (v ∷ words) small))
+
+-- a byte that is no digit and no comma stands nowhere in numbers with commas
+pub numbers-lack : (c : ℕ) → ((d : ℕ) → 48 < d + 1 → d < 58 → d ≢ c) → c ≢ 44 → (words : List ℕ) → All (λ w. w < 2 ^ 64) words → All (λ b. (b == c) ≡ false) (join_with_byte 44 (map decimal words))
+numbers-lack c digit comma [] small = All-nil (λ b. (b == c) ≡ false)
+numbers-lack c digit comma (w ∷ []) small = decimal-lacks c w (All-head (λ n. n < 2 ^ 64) w [] small) digit
+numbers-lack c digit comma (w ∷ v ∷ words) small =
+    All-append (λ b. (b == c) ≡ false) (decimal w) _ (decimal-lacks c w (All-head (λ n. n < 2 ^ 64) w (v ∷ words) small) digit)
+    (All-cons (λ b. (b == c) ≡ false) 44 _ (ne_eqb 44 c (λ e. comma (sym e))) (numbers-lack c digit comma (v ∷ words) (All-tail (λ n. n < 2 ^ 64) w (v ∷ words) small)))
+
+-- a text that begins with such a byte writes no numbers
+pub not_numbers : (c : ℕ) → ((d : ℕ) → 48 < d + 1 → d < 58 → d ≢ c) → c ≢ 44 → (text rest words : List ℕ) → text ≡ c ∷ rest → AreNumbers text words → ⊥
+not_numbers c digit comma text rest words begins is =
+    let lack = subst (λ t. All (λ b. (b == c) ≡ false) t) (sym is.2 ∙ begins) (numbers-lack c digit comma words is.1) in
+    false≢true (sym (All-head (λ b. (b == c) ≡ false) c rest lack) ∙ eq-eqb c c refl)
+
+-- numbers below 2^64 with the same texts are the same
+pub same_numbers : (xs ys : List ℕ) → All (λ w. w < 2 ^ 64) xs → All (λ w. w < 2 ^ 64) ys → map decimal xs ≡ map decimal ys → xs ≡ ys
+same_numbers [] [] h k e = refl
+same_numbers [] (y ∷ ys) h k e = absurd (omega (arith, ap length e))
+same_numbers (x ∷ xs) [] h k e = absurd (omega (arith, ap length e))
+same_numbers (x ∷ xs) (y ∷ ys) h k e =
+    let heads = decimal_injective x y (All-head (λ w. w < 2 ^ 64) x xs h) (All-head (λ w. w < 2 ^ 64) y ys k) (ap (λ ps. get_or ps 0 []) e) in
+    let tails = same_numbers xs ys (All-tail (λ w. w < 2 ^ 64) x xs h) (All-tail (λ w. w < 2 ^ 64) y ys k) (ap (drop 1) e) in
+    λ i. heads i ∷ tails i
+
+-- the first piece after the numbers so far is a number's text too
+pub next_number : (xs ys : List ℕ) (piece : List ℕ) (more : List (List ℕ)) → map decimal ys ≡ map decimal xs ++ piece ∷ more → All (λ w. w < 2 ^ 64) ys →
+    (w : ℕ) × (w < 2 ^ 64) × (piece ≡ decimal w)
+next_number [] [] piece more e h = absurd (omega (arith, ap length e))
+next_number [] (y ∷ ys) piece more e h = (y, All-head (λ w. w < 2 ^ 64) y ys h, sym (ap (λ ps. get_or ps 0 []) e))
+next_number (x ∷ xs) [] piece more e h = absurd (omega (arith, ap length e))
+next_number (x ∷ xs) (y ∷ ys) piece more e h = next_number xs ys piece more (ap (drop 1) e) (All-tail (λ w. w < 2 ^ 64) y ys h)
+
+-- the text between two pieces that a byte cuts, where there is one byte
+last_piece : (c : ℕ) (rest : Option (Bor (List ℕ))) (piece : List ℕ) → pieces_after c rest ≡ piece ∷ [] → (r : Bor (List ℕ)) × (rest ≡ Some r) × (r.now ≡ piece)
+last_piece c None piece e = absurd (omega (arith, ap length e))
+last_piece c (Some r) piece e = (r, refl, sym (join_with_byte-slice_split c r.now) ∙ ap (join_with_byte c) e)
+
+-- the two pieces around the colon of a seed and a number of words
+pub seeded_pieces : (text words first : List ℕ) (rest : Option (Bor (List ℕ))) → slice_split (λ b. b == 58) text ≡ first ∷ pieces_after 58 rest → (s : AreSeeded (64 ∷ text) words) →
+    (first ≡ decimal s.0) × ((r : Bor (List ℕ)) × (rest ≡ Some r) × (r.now ≡ decimal s.1))
+seeded_pieces text words first rest cut s =
+    let whole : text ≡ decimal s.0 ++ 58 ∷ decimal s.1 = ap (drop 1) s.4 ∙ append_assoc (decimal s.0) (58 ∷ []) (decimal s.1) in
+    let lacks = λ (n : ℕ) (h : n < 2 ^ 64). decimal-lacks 58 n h (λ d low high e. omega (arith, high, e)) in
+    let small : s.1 < 2 ^ 64 = omega (arith, s.3) in
+    let pieces = sym cut ∙ ap (slice_split (λ b. b == 58)) whole
+    ∙ slice_split_at (λ b. b == 58) (decimal s.0) 58 (decimal s.1) (lacks s.0 s.2) refl
+    ∙ ap (λ ps. decimal s.0 ∷ ps) (slice_split_none (λ b. b == 58) (decimal s.1) (lacks s.1 small)) in
+    (ap (λ ps. get_or ps 0 []) pieces, last_piece 58 rest (decimal s.1) (ap (drop 1) pieces))
+
+join_cons : (c : ℕ) (a : List ℕ) (pieces : List (List ℕ)) → 0 < length pieces → join_with_byte c (a ∷ pieces) ≡ a ++ c ∷ join_with_byte c pieces
+join_cons c a [] h = absurd (omega arith)
+join_cons c a (p ∷ pieces) h = refl
+
+-- a text that a byte cuts is the first piece, the byte and what stands after it
+pub cut_joined : (c : ℕ) (text first : List ℕ) (rest : Bor (List ℕ)) → slice_split (λ b. b == c) text ≡ first ∷ pieces_after c (Some rest) → text ≡ first ++ c ∷ rest.now
+cut_joined c text first rest cut =
+    sym (join_with_byte-slice_split c text) ∙ ap (join_with_byte c) cut
+    ∙ join_cons c first (slice_split (λ b. b == c) rest.now) (omega (arith, length-slice_split (λ b. b == c) rest.now))
+    ∙ ap (λ t. first ++ c ∷ t) (join_with_byte-slice_split c rest.now)

@@ -1,0 +1,20 @@
+use Rattle.std.proofs.Common.{Err, ap}
+use Rattle.std.proofs.lemmas.Result.{err_from_is_err_and}
+use Rattle.log_lines.specs.Fields.{OfPeer, Either, ThePeer, TheChoice}
+use Rattle.log_lines.specs.Inside.{texts_after}
+use Rattle.log_lines.proofs.FieldLemmas.{handed_on, second_of_two}
+use Rattle.log_lines.proofs.OnlyLemmas.{only_of_two}
+use Rattle.log_lines.proofs.read.peer_and_choice.Goals as goal
+
+pub returns-in_err-choice-clause-fault : goal.returns-in_err-choice-clause-fault
+returns-in_err-choice-clause-fault c = λ f is.
+    let left = handed_on c.from_residual-in_err-choice.result c.in_err-choice.field-0.0 f (err_from_is_err_and c.from_residual-in_err-choice.result c.from_residual-in_err-choice.ensures.1) is in
+    let fields = rw c.in_ok-peer.ensures.ok_part at c.two_fields.ensures.found in
+    second_of_two OfPeer (Either c.args.first.now c.args.second.now) (texts_after c.args.rest) c.in_ok-peer.peer.now c.in_ok-peer.word.now (ThePeer c.in_ok-peer-2.peer) f
+    fields c.in_ok-peer-2.ensures.found (c.in_err-choice.ensures.fault f (ap Err left))
+
+pub returns-clause-unique : goal.returns-clause-unique
+returns-clause-unique c =
+    let fields = rw c.in_ok-peer.ensures.ok_part at c.two_fields.ensures.found in
+    only_of_two OfPeer (Either c.args.first.now c.args.second.now) (texts_after c.args.rest) c.in_ok-peer.peer.now c.in_ok-peer.word.now (ThePeer c.in_ok-peer-2.peer) (TheChoice c.in_ok-choice.choice)
+    fields c.in_ok-peer-2.ensures.unique c.in_ok-choice.ensures.unique

@@ -1,0 +1,128 @@
+-- The fields of a line, and what the text of a field stands for.
+use Rattle.std.specs.Prelude.{◌≡◌, ◌⊎◌, ◌≢◌, ℕ, ◌<◌, ◌≤◌, ◌^◌, List, [], ◌∷◌, ◌++◌, map, length, All, Bool, true, false, ◌==◌, Option, Some, None, Ok, codes, decimal}
+use Rattle.std.specs.List.{slice_split, join_with_byte}
+use Rattle.hex.specs.Hex.{decode_of}
+use Rattle.net_addr.specs.Address.{Address}
+use Rattle.net_addr.specs.Text.{IsAddrText, IsPeerText}
+use Rattle.net_addr.specs.declared.net.Net.{Net}
+use Rattle.net_addr.specs.declared.net.Net.TheVariants.{Unroutable, Ipv4, Ipv6, Onion, I2p, Cjdns, Internal}
+use Rattle.net_addr.specs.declared.peer.Peer.{Peer}
+use Rattle.log_lines.specs.Random.{seeded_words}
+use Rattle.log_lines.specs.declared.fault.LineFault.{LineFault}
+use Rattle.log_lines.specs.declared.fault.LineFault.TheVariants as fault
+
+-- the pieces of a line between its spaces; an empty piece is a field
+abbrev pub fields_of : List ℕ → List (List ℕ)
+fields_of line = slice_split (λ b. b == 32) line
+
+-- A kind of field: a decimal number between two bounds; an address; a peer; bytes in hexadecimal digits; random words;
+-- one of two words; a network; and a class of addresses.
+pub data Kind : Type 0 where
+  Number : (least most : ℕ) → Kind
+  OfAddr : Kind
+  OfPeer : Kind
+  Hex : Kind
+  Random : Kind
+  Either : (first second : List ℕ) → Kind
+  OfNet : Kind
+  Class : Kind
+
+-- what a field stands for
+pub data Value : Type 0 where
+  TheNumber : (n : ℕ) → Value
+  TheAddr : (a : Address) → Value
+  ThePeer : (p : Peer) → Value
+  TheBytes : (bytes : List ℕ) → Value
+  TheWords : (words : List ℕ) → Value
+  TheChoice : (is_first : Bool) → Value
+  TheNet : (net : Option Net) → Value
+
+-- `-` for no bytes, or hexadecimal digits, two a byte and in either case
+abbrev pub IsHex : List ℕ → List ℕ → Type 0
+IsHex text bytes = ((text ≡ codes "-") × (bytes ≡ [])) ⊎ ((text ≢ []) × (decode_of text ≡ Ok bytes))
+
+-- numbers below 2^64 with commas between them
+abbrev pub AreNumbers : List ℕ → List ℕ → Type 0
+AreNumbers text words = (words ≢ []) × All (λ w. w < 2 ^ 64) words × (text ≡ join_with_byte 44 (map decimal words))
+
+-- `@S:N`, the first N words of the generator that the seed S gives; at most a million
+abbrev pub AreSeeded : List ℕ → List ℕ → Type 0
+AreSeeded text words =
+    (seed : ℕ) × (count : ℕ) × (seed < 2 ^ 64) × (count ≤ 1000000) × (text ≡ codes "@" ++ decimal seed ++ codes ":" ++ decimal count) × (words ≡ seeded_words seed count)
+
+-- `-` for no words, numbers, or a seed
+abbrev pub AreWords : List ℕ → List ℕ → Type 0
+AreWords text words = ((text ≡ codes "-") × (words ≡ [])) ⊎ (AreNumbers text words ⊎ AreSeeded text words)
+
+-- the name of a network
+abbrev pub net_name : Net → List ℕ
+net_name Unroutable = codes "unroutable"
+net_name Ipv4 = codes "ipv4"
+net_name Ipv6 = codes "ipv6"
+net_name Onion = codes "onion"
+net_name I2p = codes "i2p"
+net_name Cjdns = codes "cjdns"
+net_name Internal = codes "internal"
+
+-- `all`, or the name of a class of addresses
+abbrev pub IsClass : List ℕ → Option Net → Type 0
+IsClass text None = text ≡ codes "all"
+IsClass text (Some net) = text ≡ net_name net
+
+-- `all`, or the name of a network
+abbrev pub IsNet : List ℕ → Option Net → Type 0
+IsNet text net = IsClass text net × (net ≢ Some Unroutable)
+
+abbrev pub choice : List ℕ → List ℕ → Bool → List ℕ
+choice first second true = first
+choice first second false = second
+
+-- the text is of the kind and stands for the value
+abbrev pub StandsFor : Kind → List ℕ → Value → Type 0
+StandsFor (Number least most) text v = (n : ℕ) × (v ≡ TheNumber n) × (least ≤ n) × (n ≤ most) × (text ≡ decimal n)
+StandsFor OfAddr text v = (a : Address) × (v ≡ TheAddr a) × IsAddrText text a
+StandsFor OfPeer text v = (p : Peer) × (v ≡ ThePeer p) × IsPeerText text p
+StandsFor Hex text v = (bytes : List ℕ) × (v ≡ TheBytes bytes) × IsHex text bytes
+StandsFor Random text v = (words : List ℕ) × (v ≡ TheWords words) × AreWords text words
+StandsFor (Either first second) text v = (b : Bool) × (v ≡ TheChoice b) × (text ≡ choice first second b)
+StandsFor OfNet text v = (net : Option Net) × (v ≡ TheNet net) × IsNet text net
+StandsFor Class text v = (class : Option Net) × (v ≡ TheNet class) × IsClass text class
+
+-- the text is of the kind
+abbrev pub IsInForm : Kind → List ℕ → Type 0
+IsInForm kind text = (v : Value) × StandsFor kind text v
+
+-- the fault of a field that is not of its kind
+abbrev pub fault_of : Kind → LineFault
+fault_of (Number least most) = fault.Number
+fault_of OfAddr = fault.Peer
+fault_of OfPeer = fault.Peer
+fault_of Hex = fault.Hex
+fault_of Random = fault.Words
+fault_of (Either first second) = fault.Word
+fault_of OfNet = fault.Word
+fault_of Class = fault.Word
+
+-- the texts are of the kinds, in order, and stand for the values
+abbrev pub StandForAll : List Kind → List (List ℕ) → List Value → Type 0
+StandForAll [] [] [] = Unit {0}
+StandForAll (kind ∷ kinds) (text ∷ texts) (v ∷ vs) = StandsFor kind text v × StandForAll kinds texts vs
+StandForAll [] [] (v ∷ vs) = ⊥
+StandForAll [] (text ∷ texts) vs = ⊥
+StandForAll (kind ∷ kinds) [] vs = ⊥
+StandForAll (kind ∷ kinds) (text ∷ texts) [] = ⊥
+
+-- the text is not of the kind, and this is its fault
+abbrev pub IsFieldFault : Kind → List ℕ → LineFault → Type 0
+IsFieldFault kind text f = ¬ IsInForm kind text × (f ≡ fault_of kind)
+
+-- the fault of the first text that is not of its kind
+abbrev pub IsFirstFault : List Kind → List (List ℕ) → LineFault → Type 0
+IsFirstFault (kind ∷ kinds) (text ∷ texts) f = IsFieldFault kind text f ⊎ (IsInForm kind text × IsFirstFault kinds texts f)
+IsFirstFault [] texts f = ⊥
+IsFirstFault (kind ∷ kinds) [] f = ⊥
+
+-- what is wrong in the fields: how many they are, or else the first that is not of its kind
+abbrev pub AreAtFault : List Kind → List (List ℕ) → LineFault → Type 0
+AreAtFault kinds texts f =
+    ((length texts ≢ length kinds) × (f ≡ fault.Fields)) ⊎ ((length texts ≡ length kinds) × IsFirstFault kinds texts f)

@@ -1,0 +1,182 @@
+ghost use Rattle.std.specs.Prelude.{◌≡◌, ◌≢◌, ◌≤◌, ◌⊎◌, ℕ, List, decimal, length, IfOk, IfSome, IfNone, Some, Ok, Err};
+ghost use Rattle.log_lines.specs.Fields.{StandsFor, Number, OfAddr, OfPeer, Hex, Random, Either, OfNet, Class, TheNumber, TheAddr, ThePeer, TheBytes, TheWords, TheChoice, TheNet, IsFieldFault, IsHex, net_name};
+ghost use Rattle.log_lines.specs.Inside.{IsOnly};
+ghost use Rattle.net_addr.specs.declared.net.Net as net;
+
+use crate::random::read_words;
+use crate::{LineFault, Words};
+use hex::FromHexError;
+use host_io::Bytes;
+use net_addr::{Net, NetAddr, Peer, parse_addr, parse_number, parse_peer};
+use std::alloc::Global;
+
+/// The number that the text writes in decimal digits, if it is at most `most`. A sign or a leading
+/// zero is refused.
+pub fn read_decimal(text: &[u8], most: u64) -> Option<u64>
+    ensures found { IfSome result (λ n. (n ≤ most) × (text.now ≡ decimal n)) }
+    ensures only { (n : ℕ) → n ≤ most → text.now ≡ decimal n → result ≡ Some n }
+{
+    parse_number(text, most)
+}
+
+/// A number from `least` to `most`.
+pub(crate) fn read_number(text: &[u8], least: u64, most: u64) -> Result<u64, LineFault>
+    ensures found { IfOk result (λ n. StandsFor (Number least most) text.now (TheNumber n)) }
+    ensures within { IfOk result (λ n. n ≤ most) }
+    ensures unique { IfOk result (λ n. IsOnly (Number least most) text.now (TheNumber n)) }
+    ensures fault { (f : LineFault) → result ≡ Err f → IsFieldFault (Number least most) text.now f }
+{
+    let number = parse_number(text, most).ok_or(LineFault::Number)?;
+    if number < least {
+        return Err(LineFault::Number);
+    }
+    Ok(number)
+}
+
+/// A number of 32 bits.
+pub(crate) fn read_u32(text: &[u8], least: u32, most: u32) -> Result<u32, LineFault>
+    ensures found { IfOk result (λ n. StandsFor (Number least most) text.now (TheNumber n)) }
+    ensures within { IfOk result (λ n. n ≤ most) }
+    ensures unique { IfOk result (λ n. IsOnly (Number least most) text.now (TheNumber n)) }
+    ensures fault { (f : LineFault) → result ≡ Err f → IsFieldFault (Number least most) text.now f }
+{
+    let number = read_number(text, u64::from(least), u64::from(most))?;
+    Ok(number as u32)
+}
+
+/// An address.
+pub(crate) fn read_addr(text: &[u8]) -> Result<NetAddr, LineFault>
+    ensures found { IfOk result (λ a. StandsFor OfAddr text.now (TheAddr a)) }
+    ensures unique { IfOk result (λ a. IsOnly OfAddr text.now (TheAddr a)) }
+    ensures fault { (f : LineFault) → result ≡ Err f → IsFieldFault OfAddr text.now f }
+{
+    match parse_addr(text) {
+        Some(addr) => Ok(addr),
+        None => Err(LineFault::Peer),
+    }
+}
+
+/// A peer.
+pub(crate) fn read_peer(text: &[u8]) -> Result<Peer, LineFault>
+    ensures found { IfOk result (λ p. StandsFor OfPeer text.now (ThePeer p)) }
+    ensures unique { IfOk result (λ p. IsOnly OfPeer text.now (ThePeer p)) }
+    ensures fault { (f : LineFault) → result ≡ Err f → IsFieldFault OfPeer text.now f }
+{
+    match parse_peer(text) {
+        Some(peer) => Ok(peer),
+        None => Err(LineFault::Peer),
+    }
+}
+
+/// Whether the text is the first of two words, or the second.
+pub(crate) fn read_either(text: &[u8], first: &[u8], second: &[u8]) -> Result<bool, LineFault>
+    requires { first.now ≢ second.now }
+    ensures found { IfOk result (λ b.
+        StandsFor (Either first.now second.now) text.now (TheChoice b)) }
+    ensures unique { IfOk result (λ b.
+        IsOnly (Either first.now second.now) text.now (TheChoice b)) }
+    ensures fault { (f : LineFault) → result ≡ Err f →
+        IsFieldFault (Either first.now second.now) text.now f }
+{
+    if text == first {
+        Ok(true)
+    } else if text == second {
+        Ok(false)
+    } else {
+        Err(LineFault::Word)
+    }
+}
+
+/// The bytes that the text writes: `-` for none, or two hexadecimal digits a byte, in either case.
+pub fn read_hex(alloc: Global, text: &[u8]) -> Result<Bytes, LineFault>
+    ensures found { IfOk result (λ bytes. IsHex text.now bytes) }
+    ensures only { (bytes : List ℕ) → IsHex text.now bytes →
+        (result ≡ Ok bytes) ⊎ (result ≡ Err LineFault.Memory) }
+    ensures fault { (f : LineFault) → result ≡ Err f →
+        (f ≡ LineFault.Hex) ⊎ (f ≡ LineFault.Memory) }
+{
+    if text.is_empty() {
+        return Err(LineFault::Hex);
+    }
+    if text == b"-".as_slice() {
+        return Ok(Bytes::of(Vec::new(alloc)));
+    }
+    match hex::decode(alloc, text) {
+        Ok(bytes) => Ok(Bytes::of(bytes)),
+        Err(FromHexError::OutOfMemory) => Err(LineFault::Memory),
+        Err(_) => Err(LineFault::Hex),
+    }
+}
+
+/// The bytes of a payload.
+pub(crate) fn read_payload(alloc: Global, text: &[u8]) -> Result<Bytes, LineFault>
+    ensures found { IfOk result (λ bytes. StandsFor Hex text.now (TheBytes bytes)) }
+    ensures unique { IfOk result (λ bytes. IsOnly Hex text.now (TheBytes bytes)) }
+    ensures fault { (f : LineFault) → result ≡ Err f → f ≢ LineFault.Memory →
+        IsFieldFault Hex text.now f }
+{
+    read_hex(alloc, text)
+}
+
+/// Random words.
+pub(crate) fn read_random(alloc: Global, text: &[u8]) -> Result<Words, LineFault>
+    requires { length text.now ≤ 16777216 }
+    ensures found { IfOk result (λ words. StandsFor Random text.now (TheWords words)) }
+    ensures unique { IfOk result (λ words. IsOnly Random text.now (TheWords words)) }
+    ensures fault { (f : LineFault) → result ≡ Err f → f ≢ LineFault.Memory →
+        IsFieldFault Random text.now f }
+{
+    read_words(alloc, text)
+}
+
+/// A class of addresses, or `None` for all.
+pub(crate) fn read_class(text: &[u8]) -> Result<Option<Net>, LineFault>
+    ensures found { IfOk result (λ class. StandsFor Class text.now (TheNet class)) }
+    ensures unique { IfOk result (λ class. IsOnly Class text.now (TheNet class)) }
+    ensures fault { (f : LineFault) → result ≡ Err f → IsFieldFault Class text.now f }
+{
+    if text == b"all".as_slice() {
+        return Ok(None);
+    }
+    match net_of(text) {
+        Some(net) => Ok(Some(net)),
+        None => Err(LineFault::Word),
+    }
+}
+
+/// A network, or `None` for all.
+pub(crate) fn read_net(text: &[u8]) -> Result<Option<Net>, LineFault>
+    ensures found { IfOk result (λ net. StandsFor OfNet text.now (TheNet net)) }
+    ensures unique { IfOk result (λ net. IsOnly OfNet text.now (TheNet net)) }
+    ensures fault { (f : LineFault) → result ≡ Err f → IsFieldFault OfNet text.now f }
+{
+    let net = read_class(text)?;
+    if net == Some(Net::Unroutable) {
+        return Err(LineFault::Word);
+    }
+    Ok(net)
+}
+
+/// The network of this name.
+fn net_of(text: &[u8]) -> Option<Net>
+    ensures found { IfSome result (λ net. text.now ≡ net_name net) }
+    ensures none { IfNone result ((net : net.Net) → text.now ≢ net_name net) }
+{
+    if text == b"unroutable".as_slice() {
+        Some(Net::Unroutable)
+    } else if text == b"ipv4".as_slice() {
+        Some(Net::Ipv4)
+    } else if text == b"ipv6".as_slice() {
+        Some(Net::Ipv6)
+    } else if text == b"onion".as_slice() {
+        Some(Net::Onion)
+    } else if text == b"i2p".as_slice() {
+        Some(Net::I2p)
+    } else if text == b"cjdns".as_slice() {
+        Some(Net::Cjdns)
+    } else if text == b"internal".as_slice() {
+        Some(Net::Internal)
+    } else {
+        None
+    }
+}

@@ -1,0 +1,77 @@
+ghost use Rattle.std.specs.Prelude.{◌≡◌, ◌≢◌, ◌<◌, ◌≤◌, ◌↔◌, [], ◌∷◌, length, IfSome, IfNone, IsTrue};
+ghost use Rattle.log_lines.specs.Fields.{fields_of};
+ghost use Rattle.log_lines.specs.Inside.{texts_after};
+
+use crate::pieces::cut_piece;
+
+/// The first field of the text, and the text after the space that ends it, if there is a space.
+pub(crate) fn cut_field(text: &[u8]) -> (&[u8], Option<&[u8]>)
+    ensures cut { fields_of text.now ≡ result.0.now ∷ texts_after result.1 }
+    ensures short { length result.0.now ≤ length text.now }
+    ensures rest_short { IfSome result.1 (λ rest. length rest.now < length text.now) }
+{
+    cut_piece(text, b' ')
+}
+
+/// Whether there are no fields.
+pub(crate) fn no_fields(rest: Option<&[u8]>) -> bool
+    ensures { IsTrue result ↔ (length (texts_after rest.entry) ≡ 0) }
+{
+    match rest {
+        None => true,
+        Some(_) => false,
+    }
+}
+
+/// The only field.
+pub(crate) fn one_field(rest: Option<&[u8]>) -> Option<&[u8]>
+    ensures found { IfSome result (λ a. texts_after rest.entry ≡ a.now ∷ []) }
+    ensures none { IfNone result (length (texts_after rest.entry) ≢ 1) }
+    ensures short { IfSome result (λ found. IfSome rest.entry (λ text.
+        length found.now ≤ length text.now)) }
+{
+    let (field, rest) = cut_field(rest?);
+    match rest {
+        None => Some(field),
+        Some(_) => None,
+    }
+}
+
+/// The two fields.
+pub(crate) fn two_fields(rest: Option<&[u8]>) -> Option<(&[u8], &[u8])>
+    ensures found { IfSome result (λ fields. texts_after rest.entry
+        ≡ fields.0.now ∷ fields.1.now ∷ []) }
+    ensures none { IfNone result (length (texts_after rest.entry) ≢ 2) }
+    ensures short { IfSome result (λ found. IfSome rest.entry (λ text.
+        length found.1.now ≤ length text.now)) }
+{
+    let (a, rest) = cut_field(rest?);
+    let b = one_field(rest)?;
+    Some((a, b))
+}
+
+/// The three fields.
+pub(crate) fn three_fields(rest: Option<&[u8]>) -> Option<(&[u8], &[u8], &[u8])>
+    ensures found { IfSome result (λ fields. texts_after rest.entry
+        ≡ fields.0.now ∷ fields.1.now ∷ fields.2.now ∷ []) }
+    ensures none { IfNone result (length (texts_after rest.entry) ≢ 3) }
+    ensures short { IfSome result (λ found. IfSome rest.entry (λ text.
+        length found.2.now ≤ length text.now)) }
+{
+    let (a, rest) = cut_field(rest?);
+    let (b, c) = two_fields(rest)?;
+    Some((a, b, c))
+}
+
+/// The four fields.
+pub(crate) fn four_fields(rest: Option<&[u8]>) -> Option<(&[u8], &[u8], &[u8], &[u8])>
+    ensures found { IfSome result (λ fields. texts_after rest.entry
+        ≡ fields.0.now ∷ fields.1.now ∷ fields.2.now ∷ fields.3.now ∷ []) }
+    ensures none { IfNone result (length (texts_after rest.entry) ≢ 4) }
+    ensures short { IfSome result (λ found. IfSome rest.entry (λ text.
+        length found.3.now ≤ length text.now)) }
+{
+    let (a, rest) = cut_field(rest?);
+    let (b, c, d) = three_fields(rest)?;
+    Some((a, b, c, d))
+}

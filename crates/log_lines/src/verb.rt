@@ -1,0 +1,22 @@
+/// The first word of a line, which says what the line asks for.
+#[derive(Clone, Copy, Debug, PartialEq, Eq)]
+pub enum Verb {
+    Now,
+    Addr,
+    Addr2,
+    Good,
+    Attempt,
+    Connected,
+    Services,
+    Find,
+    Size,
+    Select,
+    Sample,
+    Resolve,
+    Clash,
+    Dump,
+    Save,
+    SaveBegin,
+    SaveStep,
+    SaveEnd,
+}
