@@ -1,0 +1,3 @@
+mod Examples
+pub mod NextNumbers
+pub mod Prefixes

@@ -1,0 +1,71 @@
+-- The first entries of a message, and one more.
+use Rattle.std.proofs.Common.{◌≡◌, ℕ, zero, suc, ◌+◌, ◌<◌, ◌≤◌, List, [], ◌∷◌, length, get_or, take, Option, Some, None, Bool, cond, refl, sym, ap, ◌∙◌, arith}
+use Rattle.net_addr.specs.Address.{Address}
+use Rattle.net_addr.specs.declared.entry.Entry.{Entry}
+use Rattle.table_machine.specs.State.{State}
+use Rattle.table_machine.specs.Entries.{Outcome}
+use Rattle.manager.specs.Machine.{Machine}
+use Rattle.manager.specs.Messages.{Tally, take_entry, take_entries}
+
+-- the tally with one more entry
+abbrev pub goes_on : Tally → ℕ → Option Entry → Address → ℕ → Tally
+goes_on tally now entry source word = record {
+  count = tally.count + cond (take_entry tally.state now entry source word).answer 1 0;
+  state = (take_entry tally.state now entry source word).state;
+}
+
+-- the same two facts, apart
+pub record IsMore (all first : Tally) (now : ℕ) (entry : Option Entry) (source : Address) (word : ℕ) : Type 0 where
+  pub count : all.count ≡ first.count + cond (take_entry first.state now entry source word).answer 1 0
+  pub state : all.state ≡ (take_entry first.state now entry source word).state
+
+taken : (entry : Option Entry) (entries : List (Option Entry)) (i : ℕ) → take (suc i + 1) (entry ∷ entries) ≡ entry ∷ take (i + 1) entries
+taken entry entries i = ap (λ n. take n (entry ∷ entries)) same
+  where
+    same : suc i + 1 ≡ suc (i + 1)
+    same = omega arith
+
+pub one_more : (st : State) (now : ℕ) (entries : List (Option Entry)) (source : Address) (words : List ℕ) (i : ℕ) → i < length entries → length entries ≤ length words →
+    IsMore (take_entries st now (take (i + 1) entries) source words) (take_entries st now (take i entries) source words) now (get_or entries i None) source (get_or words i 0)
+one_more st now [] source words i h k = absurd (omega arith)
+one_more st now (entry ∷ entries) source [] i h k = absurd (omega arith)
+one_more st now (entry ∷ entries) source (word ∷ words) zero h k = record { count = omega arith; state = refl }
+one_more st now (entry ∷ entries) source (word ∷ words) (suc i) h k =
+    let later = one_more (take_entry st now entry source word).state now entries source words i (omega arith) (omega arith) in
+    let whole = ap (λ es. take_entries st now es source (word ∷ words)) (taken entry entries i) in
+    record {
+      count = ap (λ (t : Tally). t.count) whole ∙ sum _ _ _ _ later.count;
+      state = ap (λ (t : Tally). t.state) whole ∙ later.state;
+    }
+  where
+    sum : (first all some more : ℕ) → all ≡ some + more → first + all ≡ first + some + more
+    sum first all some more e = omega (arith, e)
+
+-- the machine after one more entry
+pub next_machine : (start self next : Machine) (entries : List (Option Entry)) (source : Address) (words : List ℕ) (i : ℕ) (entry : Option Entry) (word : ℕ) →
+    self ≡ record start { tables = (take_entries start.tables start.clock (take i entries) source words).state } →
+    next ≡ record self { tables = (take_entry self.tables self.clock entry source word).state } →
+    entry ≡ get_or entries i None → word ≡ get_or words i 0 → i < length entries → length entries ≤ length words →
+    next ≡ record start { tables = (take_entries start.tables start.clock (take (i + 1) entries) source words).state }
+next_machine start self next entries source words i entry word is step at_entry at_word h k =
+    let more = one_more start.tables start.clock entries source words i h k in
+    let so_far = (take_entries start.tables start.clock (take i entries) source words).state in
+    step
+    ∙ ap (λ (m : Machine). record m { tables = (take_entry m.tables m.clock entry source word).state }) is
+    ∙ (λ j. record start { tables = (take_entry so_far start.clock (at_entry j) source (at_word j)).state })
+    ∙ ap (λ (st : State). record start { tables = st }) (sym more.state)
+
+-- the count after one more entry
+pub next_count : (start self : Machine) (entries : List (Option Entry)) (source : Address) (words : List ℕ) (i count next : ℕ) (answer : Bool) (entry : Option Entry) (word : ℕ) →
+    self ≡ record start { tables = (take_entries start.tables start.clock (take i entries) source words).state } →
+    count ≡ (take_entries start.tables start.clock (take i entries) source words).count →
+    answer ≡ (take_entry self.tables self.clock entry source word).answer → next ≡ count + cond answer 1 0 →
+    entry ≡ get_or entries i None → word ≡ get_or words i 0 → i < length entries → length entries ≤ length words →
+    next ≡ (take_entries start.tables start.clock (take (i + 1) entries) source words).count
+next_count start self entries source words i count next answer entry word is counted answered sum at_entry at_word h k =
+    let more = one_more start.tables start.clock entries source words i h k in
+    let so_far = (take_entries start.tables start.clock (take i entries) source words).state in
+    let same : answer ≡ (take_entry so_far start.clock (get_or entries i None) source (get_or words i 0)).answer =
+    answered ∙ ap (λ (m : Machine). (take_entry m.tables m.clock entry source word).answer) is
+    ∙ (λ j. (take_entry so_far start.clock (at_entry j) source (at_word j)).answer) in
+    sum ∙ (λ j. counted j + cond (same j) 1 0) ∙ sym more.count

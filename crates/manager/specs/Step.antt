@@ -1,0 +1,107 @@
+-- What a command is answered, and what it leaves.
+use Rattle.std.specs.Prelude.{◌≡◌, ◌≢◌, ◌⊎◌, ℕ, ◌<◌, ◌≤◌, List, length, take, Option, ⊤}
+use Rattle.net_addr.specs.Address.{Address}
+use Rattle.net_addr.specs.declared.entry.Entry.{Entry}
+use Rattle.addr_codecs.specs.Layout.{IsAddrMessage, IsAddrv2Message, HasAddrFault, HasAddrv2Fault}
+use Rattle.addr_codecs.specs.declared.fault.MsgFault.{MsgFault}
+use Rattle.addr_codecs.specs.declared.fault.MsgFault.TheVariants as msg
+use Rattle.table_machine.specs.State.{find_peer}
+use Rattle.log_lines.specs.declared.command.Command.{Command}
+use Rattle.log_lines.specs.declared.command.Command.TheVariants as command
+use Rattle.log_lines.specs.declared.reply.Reply.{Reply}
+use Rattle.log_lines.specs.declared.reply.Reply.TheVariants as reply
+use Rattle.manager.specs.Machine.{Machine}
+use Rattle.manager.specs.Messages.{take_message, take_entries}
+
+-- A message of these entries. One with more entries than there are random words changes nothing.
+abbrev pub EntriesStep : Machine → List (Option Entry) → Address → List ℕ → Reply → Machine → Type 0
+EntriesStep old entries source words answer new =
+    ((length words < length entries) × (answer ≡ reply.Short (length entries) (length words)) × (new ≡ old))
+    ⊎ ((length entries ≤ length words) × (answer ≡ reply.Added (take_message old entries source words).count (length entries))
+    × (new ≡ record old { tables = (take_message old entries source words).state }))
+
+-- a message with a fault, which changes nothing, or one of entries
+abbrev pub MessageStep : (List (Option Entry) → Type 0) → (MsgFault → Type 0) → Machine → Address → List ℕ → Reply → Machine → Type 0
+MessageStep IsMessage HasFault old source words answer new =
+    ((fault : MsgFault) × HasFault fault × (fault ≢ msg.Memory) × (answer ≡ reply.Refused fault) × (new ≡ old))
+    ⊎ ((entries : List (Option Entry)) × IsMessage entries × EntriesStep old entries source words answer new)
+
+-- the commands that are built so far
+abbrev pub IsBuilt : Command → Type 0
+IsBuilt (command.Now time) = ⊤
+IsBuilt (command.Addr source payload words) = ⊤
+IsBuilt (command.Addr2 source payload words) = ⊤
+IsBuilt (command.Find peer) = ⊤
+IsBuilt (command.Good peer testing) = ⊥
+IsBuilt (command.Attempt peer count) = ⊥
+IsBuilt (command.Connected peer) = ⊥
+IsBuilt (command.Services peer services) = ⊥
+IsBuilt command.Size = ⊥
+IsBuilt (command.Select new_only net words) = ⊥
+IsBuilt (command.Sample max pct class words) = ⊥
+IsBuilt command.Resolve = ⊥
+IsBuilt (command.Clash word) = ⊥
+IsBuilt command.Dump = ⊥
+IsBuilt command.Save = ⊥
+IsBuilt command.SaveBegin = ⊥
+IsBuilt (command.SaveStep count) = ⊥
+IsBuilt command.SaveEnd = ⊥
+
+-- what a command is answered, and the machine after it
+abbrev pub Step : Machine → Command → Reply → Machine → Type 0
+Step old (command.Now time) answer new = (answer ≡ reply.Now time) × (new ≡ record old { clock = time })
+Step old (command.Addr source payload words) answer new = MessageStep (IsAddrMessage payload) (HasAddrFault payload) old source words answer new
+Step old (command.Addr2 source payload words) answer new = MessageStep (IsAddrv2Message payload) (HasAddrv2Fault payload) old source words answer new
+Step old (command.Find peer) answer new = (answer ≡ reply.Found (find_peer old.tables peer)) × (new ≡ old)
+Step old (command.Good peer testing) answer new = ⊥
+Step old (command.Attempt peer count) answer new = ⊥
+Step old (command.Connected peer) answer new = ⊥
+Step old (command.Services peer services) answer new = ⊥
+Step old command.Size answer new = ⊥
+Step old (command.Select new_only net words) answer new = ⊥
+Step old (command.Sample max pct class words) answer new = ⊥
+Step old command.Resolve answer new = ⊥
+Step old (command.Clash word) answer new = ⊥
+Step old command.Dump answer new = ⊥
+Step old command.Save answer new = ⊥
+Step old command.SaveBegin answer new = ⊥
+Step old (command.SaveStep count) answer new = ⊥
+Step old command.SaveEnd answer new = ⊥
+
+-- the entries of a message before one were taken
+abbrev pub TookFirst : Machine → List (Option Entry) → Address → List ℕ → Machine → Type 0
+TookFirst old entries source words new =
+    (k : ℕ) × (k < length entries) × (length entries ≤ length words)
+    × (new ≡ record old { tables = (take_entries old.tables old.clock (take k entries) source words).state })
+
+-- what a message leaves that ran out of memory: the machine as it was, or some of its first entries taken
+abbrev pub LeavesEntries : (List (Option Entry) → Type 0) → Machine → Address → List ℕ → Machine → Type 0
+LeavesEntries IsMessage old source words new =
+    (new ≡ old) ⊎ ((entries : List (Option Entry)) × IsMessage entries × TookFirst old entries source words new)
+
+-- what a command leaves that ran out of memory
+abbrev pub LeavesPart : Machine → Command → Machine → Type 0
+LeavesPart old (command.Addr source payload words) new = LeavesEntries (IsAddrMessage payload) old source words new
+LeavesPart old (command.Addr2 source payload words) new = LeavesEntries (IsAddrv2Message payload) old source words new
+LeavesPart old other new = new ≡ old
+
+-- the commands that need memory
+abbrev pub NeedsMemory : Command → Type 0
+NeedsMemory (command.Addr source payload words) = ⊤
+NeedsMemory (command.Addr2 source payload words) = ⊤
+NeedsMemory (command.Now time) = ⊥
+NeedsMemory (command.Find peer) = ⊥
+NeedsMemory (command.Good peer testing) = ⊥
+NeedsMemory (command.Attempt peer count) = ⊥
+NeedsMemory (command.Connected peer) = ⊥
+NeedsMemory (command.Services peer services) = ⊥
+NeedsMemory command.Size = ⊥
+NeedsMemory (command.Select new_only net words) = ⊥
+NeedsMemory (command.Sample max pct class words) = ⊥
+NeedsMemory command.Resolve = ⊥
+NeedsMemory (command.Clash word) = ⊥
+NeedsMemory command.Dump = ⊥
+NeedsMemory command.Save = ⊥
+NeedsMemory command.SaveBegin = ⊥
+NeedsMemory (command.SaveStep count) = ⊥
+NeedsMemory command.SaveEnd = ⊥

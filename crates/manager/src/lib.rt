@@ -1,0 +1,12 @@
+//! The address manager: the tables and a clock, and one step for each command of a log.
+#![tactic(auto)]
+
+mod apply;
+mod built;
+mod manager;
+mod memory;
+mod messages;
+
+pub use built::is_built;
+pub use manager::Manager;
+pub use memory::Memory;

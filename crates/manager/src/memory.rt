@@ -1,0 +1,9 @@
+/// There was no memory for what a command needs.
+#[derive(Clone, Copy, Debug, PartialEq, Eq)]
+pub struct Memory;
+
+impl From<tables::Memory> for Memory {
+    fn from(_error: tables::Memory) -> Memory {
+        Memory
+    }
+}

@@ -1,0 +1,152 @@
+ghost use Rattle.std.specs.Prelude.{◌≡◌, ◌≢◌, ◌+◌, ◌≤◌, ◌<◌, ◌^◌, length, IfOk, OnOk, OnErr};
+ghost use Rattle.manager.specs.Messages.{clamp_time, take_entry, take_entries};
+ghost use Rattle.addr_codecs.specs.Layout.{IsAddrMessage, IsAddrv2Message, HasAddrFault, HasAddrv2Fault};
+ghost use Rattle.manager.specs.Step.{EntriesStep, MessageStep, TookFirst, LeavesEntries};
+
+use crate::{Manager, Memory};
+use addr_codecs::{MsgFault, read_addr, read_addrv2};
+use host_io::Bytes;
+use log_lines::{Reply, Words};
+use net_addr::{Entry, NetAddr};
+use std::alloc::Global;
+use std::hash::BuildHasher;
+
+/// The penalty for what a peer tells of others, in seconds (`ProcessMessage` in
+/// net_processing.cpp of Bitcoin Core).
+const MESSAGE_PENALTY: u32 = 7200;
+
+/// An entry with a time long past or ahead counts as five days old (`ProcessMessage`).
+fn clamp_time(entry: &Entry, now: u32) -> Entry
+    ensures { result ≡ clamp_time entry.now now }
+{
+    if entry.time <= 100_000_000 || u64::from(entry.time) > u64::from(now) + 600 {
+        Entry {
+            time: now.saturating_sub(432_000),
+            ..*entry
+        }
+    } else {
+        *entry
+    }
+}
+
+impl<'a, H: BuildHasher> Manager<'a, H> {
+    /// Takes an entry of a message, with its random word; a skipped one changes nothing. True if
+    /// the entry got a slot.
+    fn take_entry(
+        &mut self,
+        entry: &Option<Entry>,
+        source: &NetAddr,
+        word: u64,
+    ) -> Result<bool, Memory>
+        requires more { self.old.tables.next_number < 2 ^ 63 }
+        ensures answer { IfOk result (λ answer. answer ≡ (take_entry self.old.tables self.old.clock entry.now source.now word).answer) }
+        ensures state { OnOk result (self.new ≡ record self.old { tables = (take_entry self.old.tables self.old.clock entry.now source.now word).state }) }
+        ensures numbers { self.new.tables.next_number ≤ self.old.tables.next_number + 1 }
+        ensures err { OnErr result (self.new ≡ self.old) }
+    {
+        match entry {
+            Some(entry) => {
+                let entry = clamp_time(entry, self.clock);
+                let answer = self
+                    .tables
+                    .add(&entry, source, MESSAGE_PENALTY, word, self.clock)?;
+                Ok(answer)
+            }
+            None => Ok(false),
+        }
+    }
+
+    /// Takes the entries of a message in order, each with the word at its index, and counts those
+    /// that got a slot.
+    fn take_entries(
+        &mut self,
+        entries: &[Option<Entry>],
+        source: &NetAddr,
+        words: &[u64],
+    ) -> Result<u32, Memory>
+        requires more { self.old.tables.next_number < 2 ^ 62 }
+        requires few { length entries.now ≤ 1000 }
+        requires words { length entries.now ≤ length words.now }
+        ensures count { IfOk result (λ count. count ≡ (take_entries self.old.tables self.old.clock entries.now source.now words.now).count) }
+        ensures state { OnOk result (self.new ≡ record self.old { tables = (take_entries self.old.tables self.old.clock entries.now source.now words.now).state }) }
+        ensures numbers { self.new.tables.next_number ≤ self.old.tables.next_number + 1000 }
+        ensures err { OnErr result (TookFirst self.old entries.now source.now words.now self.new) }
+    {
+        let mut count = 0;
+        for (i, entry) in entries.iter().enumerate() {
+            let answer = self.take_entry(entry, source, words[i])?;
+            count += u32::from(answer);
+        }
+        Ok(count)
+    }
+
+    /// Takes a message of these entries.
+    fn take_message(
+        &mut self,
+        entries: &[Option<Entry>],
+        source: &NetAddr,
+        words: &[u64],
+    ) -> Result<Reply, Memory>
+        requires more { self.old.tables.next_number < 2 ^ 62 }
+        requires few { length entries.now ≤ 1000 }
+        requires few_words { length words.now < 2 ^ 32 }
+        ensures step { IfOk result (λ answer. EntriesStep self.old entries.now source.now words.now answer self.new) }
+        ensures numbers { self.new.tables.next_number ≤ self.old.tables.next_number + 1000 }
+        ensures spoken { IfOk result (λ answer. answer ≢ Reply.Refused MsgFault.Memory) }
+        ensures err { OnErr result (TookFirst self.old entries.now source.now words.now self.new) }
+    {
+        if entries.len() > words.len() {
+            return Ok(Reply::Short {
+                need: entries.len() as u32,
+                have: words.len() as u32,
+            });
+        }
+        let accepted = self.take_entries(entries, source, words)?;
+        Ok(Reply::Added {
+            accepted,
+            total: entries.len() as u32,
+        })
+    }
+
+    /// Takes an `addr` message.
+    pub(crate) fn take_addr(
+        &mut self,
+        alloc: Global,
+        source: &NetAddr,
+        payload: &Bytes,
+        words: &Words,
+    ) -> Result<Reply, Memory>
+        requires more { self.old.tables.next_number < 2 ^ 62 }
+        ensures step { IfOk result (λ answer. MessageStep (IsAddrMessage payload.now) (HasAddrFault payload.now) self.old source.now words.now answer self.new) }
+        ensures numbers { self.new.tables.next_number ≤ self.old.tables.next_number + 1000 }
+        ensures spoken { IfOk result (λ answer. answer ≢ Reply.Refused MsgFault.Memory) }
+        ensures err { OnErr result (LeavesEntries (IsAddrMessage payload.now) self.old source.now words.now self.new) }
+    {
+        match read_addr(alloc, payload.items()) {
+            Ok(entries) => self.take_message(entries.items(), source, words.items()),
+            Err(MsgFault::Memory) => Err(Memory),
+            Err(fault) => Ok(Reply::Refused(fault)),
+        }
+    }
+
+    /// Takes an `addrv2` message.
+    pub(crate) fn take_addrv2(
+        &mut self,
+        alloc: Global,
+        source: &NetAddr,
+        payload: &Bytes,
+        words: &Words,
+    ) -> Result<Reply, Memory>
+        requires more { self.old.tables.next_number < 2 ^ 62 }
+        ensures step { IfOk result (λ answer. MessageStep (IsAddrv2Message payload.now) (HasAddrv2Fault payload.now) self.old source.now words.now answer self.new) }
+        ensures numbers { self.new.tables.next_number ≤ self.old.tables.next_number + 1000 }
+        ensures spoken { IfOk result (λ answer. answer ≢ Reply.Refused MsgFault.Memory) }
+        ensures err { OnErr result (LeavesEntries (IsAddrv2Message payload.now) self.old source.now words.now self.new) }
+    {
+        match read_addrv2(alloc, payload.items()) {
+            Ok(entries) => self.take_message(entries.items(), source, words.items()),
+            Err(MsgFault::Memory) => Err(Memory),
+            Err(fault) => Ok(Reply::Refused(fault)),
+        }
+    }
+}
