@@ -1,15 +1,16 @@
-//! The address manager of a Bitcoin node, as a tool: it replays logs of events and looks addresses
-//! up in an asmap.
+//! The address manager of a Bitcoin node, as a tool: it replays logs of events, compiles tables of
+//! prefixes, checks asmaps and looks addresses up in them.
 #![tactic(auto)]
 
 use addrman_run::{Status, code, run, status_line};
 use host_io::{DirFolder, StdSink, StdSource};
+use std::hash::RandomState;
 use std::process::ExitCode;
 use std::rt::Env;
 use std::{env, io};
 
-/// The words after the program's name.
-fn words_of(rt: &(impl Env + AllocGlobal)) -> io::Result<Vec<String>> {
+/// The arguments after the program's name.
+fn arguments_of(rt: &(impl Env + AllocGlobal)) -> io::Result<Vec<String>> {
     let mut words = Vec::new(rt.alloc());
     for word in env::args(rt)?.skip(1) {
         words.push(word)?;
@@ -28,7 +29,12 @@ fn report(rt: &(impl Eprint + AllocGlobal), status: &Status) {
 }
 
 fn main(rt: HostRuntime) -> ExitCode {
-    let Ok(words) = words_of(&rt) else {
+    let Ok(words) = arguments_of(&rt) else {
+        let _ = rt.eprint("addrman: the arguments cannot be read\n");
+        return ExitCode::FAILURE;
+    };
+    let Ok(hasher) = RandomState::new(&rt) else {
+        let _ = rt.eprint("addrman: the system gives no random numbers\n");
         return ExitCode::FAILURE;
     };
     let mut log = StdSource::make(rt.reader());
@@ -36,6 +42,7 @@ fn main(rt: HostRuntime) -> ExitCode {
     let mut folder = DirFolder::make(&rt);
     let status = run(
         rt.alloc(),
+        hasher,
         words.as_slice(),
         &mut log,
         &mut folder,

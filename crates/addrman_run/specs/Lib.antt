@@ -1,6 +1,12 @@
+pub mod Request
+pub mod Asmaps
+pub mod Tables
 pub mod Run
+pub mod Lines
 pub mod Replay
-pub mod Reading
-pub mod Report
 pub mod Lookup
-pub mod Statuses
+pub mod Check
+pub mod Compile
+pub mod Outcome
+pub mod Report
+pub mod Inside

@@ -1,37 +1,77 @@
--- What a replay is asked for, and what it writes.
-use Rattle.std.specs.Prelude.{◌≡◌, ◌≢◌, ℕ, List, [], ◌∷◌, ◌++◌, length, take, Ok, None, codes, ◌+◌}
-use Rattle.hex.specs.Hex.{decode_of}
-use Rattle.log_lines.specs.Lines.{lines_of}
-use Rattle.table_machine.specs.State.{State, empty_state}
-use Rattle.addrman_run.specs.Run.{Run, LineStep, IsNotBuilt}
+-- What a replay writes, and how it ends.
+use Rattle.std.specs.Prelude.{◌≡◌, ◌⊎◌, ℕ, ◌+◌, ◌<◌, ◌≤◌, List, [], length, Option, Some, IfSome, ⊤}
+use Rattle.host_io.specs.Files.{Files}
+use Rattle.host_io.specs.Outside.{Outside}
+use Rattle.host_io.specs.Reading.{TakesAtMost}
+use Rattle.host_io.specs.Writing.{Appended}
+use Rattle.asmap_vm.specs.Asmap.{Asmap}
+use Rattle.log_lines.specs.Spelling.{HasFault}
+use Rattle.manager.specs.Machine.{Machine, empty_machine}
+use Rattle.addrman_run.specs.Asmaps.{HasMap, RefusesAsmap}
+use Rattle.addrman_run.specs.Lines.{LineStep, IsNotBuilt}
+use Rattle.addrman_run.specs.Run.{AnswersAll, AnswersPrefix, StopsAt}
+use Rattle.addrman_run.specs.declared.status.Status.{Status}
+use Rattle.addrman_run.specs.declared.status.Status.TheVariants.{Done, Usage, LogLine, AsmapRefused, TableRefused, ReadFault, WriteFault, DiskFault, LogTooLong, Memory, NoFile, NotBuilt}
 
--- the words are replay, --key and the key in hexadecimal
-abbrev pub IsReplay : List (List ℕ) → List ℕ → Type 0
-IsReplay words key =
-    (digits : List ℕ) × (words ≡ codes "replay" ∷ codes "--key" ∷ digits ∷ []) × (decode_of digits ≡ Ok key) × (length key ≡ 32)
+-- the most bytes of a log
+abbrev pub most_log : ℕ
+most_log = 16777216
 
--- the state that a replay begins with
-abbrev pub opening : List ℕ → State
-opening key = empty_state (record { key = key; map = None })
+-- the machine that a replay begins with: no records, under the key and the folder's asmap
+abbrev pub opening : List ℕ → Option Asmap → Machine
+opening key map = empty_machine (record { key = key; map = map })
 
--- from a state on, the text is the replies to all lines of the log
-abbrev pub AnswersAll : State → List ℕ → List ℕ → Type 0
-AnswersAll start log text = (end : State) × Run start (lines_of log) text end
+-- the map is the asmap of the folder, if the folder tells its files
+abbrev pub IsMapIn : Option Files → Option Asmap → Type 0
+IsMapIn told map = IfSome told (λ files. HasMap files map)
 
--- the text is the replies to the first lines of the log, or the front of them
-abbrev pub AnswersFront : State → List ℕ → List ℕ → Type 0
-AnswersFront start log text =
-    (n : ℕ) × (rest : List ℕ) × (end : State) × Run start (take n (lines_of log)) (text ++ rest) end
+-- The folder's asmap is accepted, and a text of this kind was appended: one of the log's replies, from the machine that
+-- the replay begins with.
+abbrev pub Writes : (Machine → List ℕ → List ℕ → Type 0) → List ℕ → Outside → Outside → Type 0
+Writes IsText key old new =
+    (map : Option Asmap) × IsMapIn old.files map × IfSome old.left (λ log.
+    (text : List ℕ) × IsText (opening key map) log text × Appended old.written new.written text)
 
--- the text is the replies to the lines before line n, counted from 1, which is not built
-abbrev pub AnswersUpTo : State → List ℕ → ℕ → List ℕ → Type 0
-AnswersUpTo start log n text =
-    (line : List ℕ) × (before : List (List ℕ)) × (after : List (List ℕ)) × (end : State) ×
-    (lines_of log ≡ before ++ line ∷ after) × (n ≡ length before + 1) × Run start before text end × IsNotBuilt end line
+-- the folder's asmap is accepted, and nothing was written
+abbrev pub WritesNothing : Outside → Outside → Type 0
+WritesNothing old new = ((map : Option Asmap) × IsMapIn old.files map) × (new.written ≡ old.written)
 
--- The replies to the lines before one are written whole, and of its own reply a front that is not all of it. The state is
--- that after the line, so no later line has changed it.
-abbrev pub StopsInReply : State → List ℕ → List ℕ → State → Type 0
-StopsInReply start log text now =
-    (line : List ℕ) × (before : List (List ℕ)) × (after : List (List ℕ)) × (mid : State) × (whole : List ℕ) × (front : List ℕ) × (rest : List ℕ) ×
-    (lines_of log ≡ before ++ line ∷ after) × Run start before whole mid × LineStep mid line (front ++ rest) now × (text ≡ whole ++ front) × (rest ≢ [])
+-- what the text is for each status
+abbrev pub ReplayText : List ℕ → Outside → Outside → Status → Type 0
+ReplayText key old new Done = Writes (λ start log text. AnswersAll LineStep start log text) key old new
+ReplayText key old new (LogLine line fault) = Writes (λ start log text. StopsAt LineStep (λ l. HasFault l fault) start log line text) key old new
+ReplayText key old new (NotBuilt line) = Writes (λ start log text. StopsAt LineStep IsNotBuilt start log line text) key old new
+ReplayText key old new WriteFault = Writes (λ start log text. AnswersPrefix LineStep start log text) key old new
+ReplayText key old new Memory = (new.written ≡ old.written) ⊎ Writes (λ start log text. AnswersPrefix LineStep start log text) key old new
+ReplayText key old new ReadFault = WritesNothing old new
+ReplayText key old new LogTooLong = WritesNothing old new
+ReplayText key old new DiskFault = new.written ≡ old.written
+ReplayText key old new (AsmapRefused fault) = new.written ≡ old.written
+ReplayText key old new Usage = ⊥
+ReplayText key old new (TableRefused fault) = ⊥
+ReplayText key old new (NoFile name) = ⊥
+
+-- the log is not too long, and was read to its end
+abbrev pub WasRead : Option (List ℕ) → Option (List ℕ) → Type 0
+WasRead old new = IfSome old (λ log. (length log ≤ most_log) × (new ≡ Some []))
+
+-- why each status comes, and what is left of the log; faults of the outside have their causes elsewhere
+abbrev pub ReplayCause : Outside → Outside → Status → Type 0
+ReplayCause old new Done = WasRead old.left new.left
+ReplayCause old new (LogLine line fault) = WasRead old.left new.left
+ReplayCause old new (NotBuilt line) = WasRead old.left new.left
+ReplayCause old new WriteFault = WasRead old.left new.left
+ReplayCause old new Memory = ⊤
+ReplayCause old new ReadFault = ⊤
+ReplayCause old new LogTooLong = IfSome old.left (λ log. most_log < length log)
+ReplayCause old new DiskFault = new.left ≡ old.left
+ReplayCause old new (AsmapRefused fault) = RefusesAsmap old.files fault × (new.left ≡ old.left)
+ReplayCause old new Usage = ⊥
+ReplayCause old new (TableRefused fault) = ⊥
+ReplayCause old new (NoFile name) = ⊥
+
+pub record ReplayEnds (key : List ℕ) (old new : Outside) (status : Status) : Type 0 where
+  pub text : ReplayText key old new status
+  pub cause : ReplayCause old new status
+  pub taken : TakesAtMost old.left new.left (most_log + 1)
+  pub same : new.files ≡ old.files

@@ -2,15 +2,25 @@
 use Rattle.std.specs.Prelude.{ℕ, List, [], ◌++◌, codes, decimal}
 use Rattle.host_io.specs.Name.{file_name_of}
 use Rattle.asmap_vm.specs.declared.fault.CodeFault.{CodeFault}
-use Rattle.asmap_vm.specs.declared.fault.CodeFault.TheVariants.{TooLarge, Insane}
+use Rattle.asmap_vm.specs.declared.fault.CodeFault.TheVariants as code
+use Rattle.prefix_table.specs.declared.fault.TableFault.{TableFault}
+use Rattle.prefix_table.specs.declared.fault.TableFault.TheVariants as table
+use Rattle.asmap_compile.specs.declared.fault.CompileFault.{CompileFault}
+use Rattle.asmap_compile.specs.declared.fault.CompileFault.TheVariants as compile
+use Rattle.log_lines.specs.declared.fault.LineFault.{LineFault}
+use Rattle.log_lines.specs.declared.fault.LineFault.TheVariants as line
+use Rattle.addrman_run.specs.declared.tables_fault.TablesFault.{TablesFault}
+use Rattle.addrman_run.specs.declared.tables_fault.TablesFault.TheVariants.{Rows, Compile}
 use Rattle.addrman_run.specs.declared.status.Status.{Status}
-use Rattle.addrman_run.specs.declared.status.Status.TheVariants.{Done, Usage, AsmapRefused, ReadFault, WriteFault, DiskFault, LogTooLong, Memory, NoFile, NotBuilt}
+use Rattle.addrman_run.specs.declared.status.Status.TheVariants.{Done, Usage, LogLine, AsmapRefused, TableRefused, ReadFault, WriteFault, DiskFault, LogTooLong, Memory, NoFile, NotBuilt}
 
 -- the exit status of the process
 abbrev pub code_of : Status → ℕ
 code_of Done = 0
 code_of Usage = 2
+code_of (LogLine line fault) = 3
 code_of (AsmapRefused fault) = 5
+code_of (TableRefused fault) = 6
 code_of ReadFault = 7
 code_of WriteFault = 8
 code_of DiskFault = 9
@@ -19,22 +29,55 @@ code_of Memory = 12
 code_of (NoFile name) = 14
 code_of (NotBuilt line) = 15
 
-abbrev pub fault_word : CodeFault → List ℕ
-fault_word (TooLarge size) = codes "too-large"
-fault_word Insane = codes "insane"
+abbrev pub code_fault_text : CodeFault → List ℕ
+code_fault_text (code.TooLarge size) = codes "too-large"
+code_fault_text code.Insane = codes "insane"
+
+abbrev pub line_fault_text : LineFault → List ℕ
+line_fault_text line.Word = codes "word"
+line_fault_text line.Fields = codes "fields"
+line_fault_text line.Number = codes "number"
+line_fault_text line.Peer = codes "peer"
+line_fault_text line.Hex = codes "hex"
+line_fault_text line.Words = codes "words"
+line_fault_text line.Memory = codes "out of memory"
+
+-- a fault, and the line that it is in
+abbrev pub at_line : List ℕ → ℕ → List ℕ
+at_line fault n = fault ++ codes " at line " ++ decimal n
+
+abbrev pub table_fault_text : TableFault → List ℕ
+table_fault_text (table.Form n) = at_line (codes "form") n
+table_fault_text (table.Number n) = at_line (codes "number") n
+table_fault_text (table.HostBits n) = at_line (codes "host-bits") n
+table_fault_text (table.Repeated n) = at_line (codes "repeated") n
+table_fault_text table.TooMany = codes "too-many"
+table_fault_text (table.TooLarge size) = codes "too-large"
+table_fault_text table.Memory = codes "out of memory"
+
+abbrev pub compile_fault_text : CompileFault → List ℕ
+compile_fault_text compile.Empty = codes "empty"
+compile_fault_text (compile.TooLarge bits) = codes "code-too-large"
+compile_fault_text compile.Memory = codes "out of memory"
+
+abbrev pub tables_fault_text : TablesFault → List ℕ
+tables_fault_text (Rows fault) = table_fault_text fault
+tables_fault_text (Compile fault) = compile_fault_text fault
 
 -- what is told, between the program's name and the line feed
 abbrev pub told_of : Status → List ℕ
 told_of Done = []
 told_of Usage = codes "bad usage"
-told_of (AsmapRefused fault) = codes "asmap.dat refused: " ++ fault_word fault
+told_of (LogLine n fault) = codes "log line " ++ decimal n ++ codes ": " ++ line_fault_text fault
+told_of (AsmapRefused fault) = codes "asmap.dat refused: " ++ code_fault_text fault
+told_of (TableRefused fault) = codes "prefixes.txt refused: " ++ tables_fault_text fault
 told_of ReadFault = codes "log cannot be read"
 told_of WriteFault = codes "output cannot be written"
 told_of DiskFault = codes "folder failed"
 told_of LogTooLong = codes "log too long"
 told_of Memory = codes "out of memory"
 told_of (NoFile name) = file_name_of name ++ codes " is missing"
-told_of (NotBuilt line) = codes "not built at line " ++ decimal line
+told_of (NotBuilt n) = codes "not built at line " ++ decimal n
 
 abbrev pub line_of : List ℕ → List ℕ
 line_of told = codes "addrman: " ++ told ++ codes "\n"
@@ -43,11 +86,13 @@ line_of told = codes "addrman: " ++ told ++ codes "\n"
 abbrev pub status_text : Status → List ℕ
 status_text Done = []
 status_text Usage = line_of (told_of Usage)
+status_text (LogLine n fault) = line_of (told_of (LogLine n fault))
 status_text (AsmapRefused fault) = line_of (told_of (AsmapRefused fault))
+status_text (TableRefused fault) = line_of (told_of (TableRefused fault))
 status_text ReadFault = line_of (told_of ReadFault)
 status_text WriteFault = line_of (told_of WriteFault)
 status_text DiskFault = line_of (told_of DiskFault)
 status_text LogTooLong = line_of (told_of LogTooLong)
 status_text Memory = line_of (told_of Memory)
 status_text (NoFile name) = line_of (told_of (NoFile name))
-status_text (NotBuilt line) = line_of (told_of (NotBuilt line))
+status_text (NotBuilt n) = line_of (told_of (NotBuilt n))

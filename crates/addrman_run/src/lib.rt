@@ -1,19 +1,26 @@
-//! The runs of the program: words, log and output in, a status out.
+//! The runs of the program: words, log, folder and output in, a status out.
 #![tactic(auto)]
 
-mod log;
+mod asmap_file;
+mod check;
+mod compile;
+mod line_step;
 mod lookup;
 mod memory;
 mod replay;
 mod report;
+mod request;
+mod run_lines;
 mod status;
-mod step;
 mod sure;
+mod tables_fault;
 mod top;
 mod words;
 
 pub use memory::Memory;
 pub use report::{code, status_line};
+pub use request::Request;
 pub use status::Status;
 pub use sure::run_surely;
+pub use tables_fault::TablesFault;
 pub use top::run;

@@ -1,49 +1,77 @@
-ghost use Rattle.std.specs.Prelude.{◌≡◌, ℕ, List, ◌++◌, ◌≤◌, IfSome, Some};
-ghost use Rattle.host_io.specs.Outside.{Rose};
-ghost use Rattle.log_lines.specs.Lines.{lines_of};
-ghost use Rattle.addrman_run.specs.Statuses.{IsAnswer};
-ghost use Rattle.addrman_run.specs.Replay.{AnswersAll, AnswersFront, AnswersUpTo, StopsInReply};
+ghost use Rattle.std.specs.Prelude.{◌≡◌, ℕ, List, ◌≤◌, length, IfOk, IfSome, Some, Err};
+ghost use Rattle.host_io.specs.Faults.{Rose};
+ghost use Rattle.host_io.specs.Outside.{outside};
+ghost use Rattle.host_io.specs.Reading.{TakesAtMost};
+ghost use Rattle.asmap_vm.specs.Code.{Tree, IsSaneFile};
+ghost use Rattle.asmap_vm.specs.declared.fault.CodeFault.{CodeFault};
+ghost use Rattle.placing.specs.Inside.{map_of};
+ghost use Rattle.addrman_run.specs.Inside.{IsMapOf};
+ghost use Rattle.addrman_run.specs.Replay.{ReplayText, ReplayCause};
 
 use crate::Status;
-use crate::step::{Stop, carry_out};
-use host_io::{Sink, write_all};
-use log_lines::split_line;
+use crate::asmap_file::load_asmap;
+use crate::run_lines::run_lines;
+use asmap_vm::{CodeFault, Sane, check};
+use host_io::{Bytes, Folder, Sink, Source, ToEndFault, read_to_end};
+use manager::Manager;
+use placing::Placer;
 use std::alloc::Global;
-use table_machine::PlainTables;
+use std::hash::BuildHasher;
+use tables::Tables;
 
-/// Carries out the lines of a log in order. The reply to each is written before the next is begun.
-pub(crate) fn replay<K: Sink>(
+/// The most bytes of a log.
+const MOST_LOG: u64 = 16_777_216;
+
+/// The asmap in some bytes, if there are any.
+fn check_map(bytes: &Option<Bytes>) -> Result<Option<Sane<'_>>, CodeFault>
+    requires { IfSome bytes.now (λ b. length b ≤ 8388608) }
+    ensures found { IfOk result (λ map. IsMapOf bytes.now (map_of map)) }
+    ensures cause { (fault : CodeFault) → result ≡ Err fault → (fault ≡ CodeFault.Insane)
+        × ((b : List ℕ) × (bytes.now ≡ Some b) × ((t : Tree) → ¬ IsSaneFile t b)) }
+{
+    match bytes {
+        Some(bytes) => match check(bytes.items()) {
+            Ok(sane) => Ok(Some(sane)),
+            Err(fault) => Err(fault),
+        },
+        None => Ok(None),
+    }
+}
+
+/// Carries out the lines of the log, from empty tables under the key and the folder's asmap.
+pub(crate) fn replay<L: Source, F: Folder, K: Sink, H: BuildHasher + Drop>(
     alloc: Global,
-    log: &[u8],
-    tables: &mut PlainTables,
+    hasher: H,
+    key: [u8; 32],
+    log: &mut L,
+    folder: &mut F,
     out: &mut K,
 ) -> Status
-    ensures done { result ≡ Status.Done → IfSome (K.written out.old) (λ before.
-        (text : List ℕ) × (K.written out.new ≡ Some (before ++ text)) × AnswersAll tables.old log.now text) }
-    ensures front { IfSome (K.written out.old) (λ before.
-        (text : List ℕ) × (K.written out.new ≡ Some (before ++ text)) × AnswersFront tables.old log.now text) }
-    ensures in_step { result ≡ Status.WriteFault → IfSome (K.written out.old) (λ before.
-        (text : List ℕ) × (K.written out.new ≡ Some (before ++ text)) × StopsInReply tables.old log.now text tables.new) }
-    ensures not_built { (n : ℕ) → result ≡ Status.NotBuilt n → IfSome (K.written out.old) (λ before.
-        (text : List ℕ) × (K.written out.new ≡ Some (before ++ text)) × AnswersUpTo tables.old log.now n text) }
-    ensures cause { result ≡ Status.WriteFault → Rose (K.faults out.old) (K.faults out.new) }
-    ensures never_falls { K.faults out.old ≤ K.faults out.new }
-    ensures answered { IsAnswer result }
+    ensures text { ReplayText key (outside L.Source F.Folder K.Sink log.old folder.old out.old) (outside L.Source F.Folder K.Sink log.new folder.new out.new) result }
+    ensures cause { ReplayCause (outside L.Source F.Folder K.Sink log.old folder.old out.old) (outside L.Source F.Folder K.Sink log.new folder.new out.new) result }
+    ensures taken { TakesAtMost (L.left log.old) (L.left log.new) 16777217 }
+    ensures read { result ≡ Status.ReadFault → Rose (L.faults log.old) (L.faults log.new) }
+    ensures write { result ≡ Status.WriteFault → Rose (K.faults out.old) (K.faults out.new) }
+    ensures disk { result ≡ Status.DiskFault → Rose (F.faults folder.old) (F.faults folder.new) }
+    ensures same { F.files folder.new ≡ F.files folder.old }
 {
-    let mut rest = log;
-    let mut line_number: u64 = 0;
-    while !rest.is_empty() {
-        let (line, after) = split_line(rest);
-        line_number += 1;
-        let text = match carry_out(alloc, line, tables) {
-            Ok(text) => text,
-            Err(Stop::NotBuilt) => return Status::NotBuilt { line: line_number },
-            Err(Stop::Memory) => return Status::Memory,
-        };
-        if write_all(out, text.as_slice()).is_err() {
-            return Status::WriteFault;
-        }
-        rest = after;
-    }
-    Status::Done
+    let bytes = match load_asmap(alloc, folder) {
+        Ok(bytes) => bytes,
+        Err(status) => return status,
+    };
+    let map = match check_map(&bytes) {
+        Ok(map) => map,
+        Err(fault) => return Status::AsmapRefused(fault),
+    };
+    let text = match read_to_end(alloc, log, MOST_LOG) {
+        Ok(text) => text,
+        Err(ToEndFault::Failed) => return Status::ReadFault,
+        Err(ToEndFault::TooLong) => return Status::LogTooLong,
+        Err(ToEndFault::Memory) => return Status::Memory,
+    };
+    let Ok(tables) = Tables::open(alloc, Placer::make(key, map), hasher) else {
+        return Status::Memory;
+    };
+    let mut manager = Manager::open(tables);
+    run_lines(alloc, text.items(), &mut manager, out)
 }

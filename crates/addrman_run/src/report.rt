@@ -1,8 +1,11 @@
-ghost use Rattle.std.specs.Prelude.{◌≡◌, ◌++◌, IfOk, OnOk, OnErr};
-ghost use Rattle.addrman_run.specs.Report.{code_of, told_of, fault_word, line_of, status_text};
+ghost use Rattle.std.specs.Prelude.{◌≡◌, ◌++◌, codes, decimal, IfOk, OnOk, OnErr};
+ghost use Rattle.addrman_run.specs.Report.{code_of, told_of, code_fault_text, line_fault_text, at_line, table_fault_text, compile_fault_text, tables_fault_text, line_of, status_text};
 
-use crate::{Memory, Status};
+use crate::{Memory, Status, TablesFault};
+use asmap_compile::CompileFault;
 use asmap_vm::CodeFault;
+use log_lines::LineFault;
+use prefix_table::TableFault;
 use std::alloc::{AllocError, Global};
 
 /// The exit status of the program.
@@ -12,7 +15,9 @@ pub fn code(status: &Status) -> u8
     match status {
         Status::Done => 0,
         Status::Usage => 2,
+        Status::LogLine { .. } => 3,
         Status::AsmapRefused(_) => 5,
+        Status::TableRefused(_) => 6,
         Status::ReadFault => 7,
         Status::WriteFault => 8,
         Status::DiskFault => 9,
@@ -23,8 +28,9 @@ pub fn code(status: &Status) -> u8
     }
 }
 
-fn fault_word(fault: &CodeFault) -> &'static [u8]
-    ensures { result.now ≡ fault_word fault.now }
+/// The word for a fault of an asmap.
+fn code_fault_word(fault: &CodeFault) -> &'static [u8]
+    ensures { result.now ≡ code_fault_text fault.now }
 {
     match fault {
         CodeFault::TooLarge { .. } => b"too-large",
@@ -32,13 +38,102 @@ fn fault_word(fault: &CodeFault) -> &'static [u8]
     }
 }
 
-/// Two texts, one behind the other.
+/// The word for a fault of a line.
+fn line_fault_word(fault: &LineFault) -> &'static [u8]
+    ensures { result.now ≡ line_fault_text fault.now }
+{
+    match fault {
+        LineFault::Word => b"word",
+        LineFault::Fields => b"fields",
+        LineFault::Number => b"number",
+        LineFault::Peer => b"peer",
+        LineFault::Hex => b"hex",
+        LineFault::Words => b"words",
+        LineFault::Memory => b"out of memory",
+    }
+}
+
+/// A fault, and the line that it is in.
+fn at_line(alloc: Global, fault: &[u8], line: u32) -> Result<Vec<u8>, AllocError>
+    ensures { IfOk result (λ text. text.items ≡ at_line fault.now line) }
+{
+    let mut text = Vec::from_slice(alloc, fault)?;
+    text.extend_from_slice(b" at line ")?;
+    text.extend_from_slice(line.to_string(alloc)?.as_bytes())?;
+    Ok(text)
+}
+
+/// The text of a fault of a table's text.
+fn table_fault(alloc: Global, fault: &TableFault) -> Result<Vec<u8>, AllocError>
+    ensures { IfOk result (λ text. text.items ≡ table_fault_text fault.now) }
+{
+    match fault {
+        TableFault::Form { line } => at_line(alloc, b"form", *line),
+        TableFault::Number { line } => at_line(alloc, b"number", *line),
+        TableFault::HostBits { line } => at_line(alloc, b"host-bits", *line),
+        TableFault::Repeated { line } => at_line(alloc, b"repeated", *line),
+        TableFault::TooMany => Vec::from_slice(alloc, b"too-many"),
+        TableFault::TooLarge { .. } => Vec::from_slice(alloc, b"too-large"),
+        TableFault::Memory => Vec::from_slice(alloc, b"out of memory"),
+    }
+}
+
+/// The word for why a table is not compiled.
+fn compile_fault_word(fault: &CompileFault) -> &'static [u8]
+    ensures { result.now ≡ compile_fault_text fault.now }
+{
+    match fault {
+        CompileFault::Empty => b"empty",
+        CompileFault::TooLarge { .. } => b"code-too-large",
+        CompileFault::Memory => b"out of memory",
+    }
+}
+
+/// The text of why prefixes.txt is refused.
+fn tables_fault(alloc: Global, fault: &TablesFault) -> Result<Vec<u8>, AllocError>
+    ensures { IfOk result (λ text. text.items ≡ tables_fault_text fault.now) }
+{
+    match fault {
+        TablesFault::Rows(fault) => table_fault(alloc, fault),
+        TablesFault::Compile(fault) => Vec::from_slice(alloc, compile_fault_word(fault)),
+    }
+}
+
+/// Two texts, one after the other.
 fn joined(alloc: Global, front: &[u8], back: &[u8]) -> Result<Vec<u8>, AllocError>
     ensures { IfOk result (λ text. text.items ≡ front.now ++ back.now) }
 {
     let mut text = Vec::from_slice(alloc, front)?;
     text.extend_from_slice(back)?;
     Ok(text)
+}
+
+/// A line of the log, and its fault.
+fn log_line(alloc: Global, line: u64, fault: &LineFault) -> Result<Vec<u8>, AllocError>
+    ensures { IfOk result (λ text. text.items ≡ codes "log line " ++ decimal line ++ codes ": " ++ line_fault_text fault.now) }
+{
+    let mut text = Vec::from_slice(alloc, b"log line ")?;
+    text.extend_from_slice(line.to_string(alloc)?.as_bytes())?;
+    text.extend_from_slice(b": ")?;
+    text.extend_from_slice(line_fault_word(fault))?;
+    Ok(text)
+}
+
+/// A word and a line of the log.
+fn word_and_line(alloc: Global, word: &[u8], line: u64) -> Result<Vec<u8>, AllocError>
+    ensures { IfOk result (λ text. text.items ≡ word.now ++ decimal line) }
+{
+    let mut text = Vec::from_slice(alloc, word)?;
+    text.extend_from_slice(line.to_string(alloc)?.as_bytes())?;
+    Ok(text)
+}
+
+/// Why prefixes.txt is refused, on one line.
+fn table_refused(alloc: Global, fault: &TablesFault) -> Result<Vec<u8>, AllocError>
+    ensures { IfOk result (λ text. text.items ≡ codes "prefixes.txt refused: " ++ tables_fault_text fault.now) }
+{
+    let fault = tables_fault(alloc, fault)?;
+    joined(alloc, b"prefixes.txt refused: ", fault.as_slice())
 }
 
 /// What is told of a status, between the program's name and the line feed.
@@ -48,17 +143,18 @@ fn told(alloc: Global, status: &Status) -> Result<Vec<u8>, AllocError>
     match status {
         Status::Done => Ok(Vec::new(alloc)),
         Status::Usage => Vec::from_slice(alloc, b"bad usage"),
-        Status::AsmapRefused(fault) => joined(alloc, b"asmap.dat refused: ", fault_word(fault)),
+        Status::LogLine { line, fault } => log_line(alloc, *line, fault),
+        Status::AsmapRefused(fault) => {
+            joined(alloc, b"asmap.dat refused: ", code_fault_word(fault))
+        }
+        Status::TableRefused(fault) => table_refused(alloc, fault),
         Status::ReadFault => Vec::from_slice(alloc, b"log cannot be read"),
         Status::WriteFault => Vec::from_slice(alloc, b"output cannot be written"),
         Status::DiskFault => Vec::from_slice(alloc, b"folder failed"),
         Status::LogTooLong => Vec::from_slice(alloc, b"log too long"),
         Status::Memory => Vec::from_slice(alloc, b"out of memory"),
         Status::NoFile { name } => joined(alloc, name.file_name().as_bytes(), b" is missing"),
-        Status::NotBuilt { line } => {
-            let line = line.to_string(alloc)?;
-            joined(alloc, b"not built at line ", line.as_bytes())
-        }
+        Status::NotBuilt { line } => word_and_line(alloc, b"not built at line ", *line),
     }
 }
 

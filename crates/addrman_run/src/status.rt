@@ -1,15 +1,21 @@
+use crate::TablesFault;
 use asmap_vm::CodeFault;
 use host_io::Name;
+use log_lines::LineFault;
 
 /// How a run of the program ended.
 #[derive(Clone, Copy, Debug, PartialEq, Eq)]
 pub enum Status {
-    /// The whole text was written, and a log that the command reads was read to its end.
+    /// Everything was written. A replay has read its log to the end.
     Done,
     /// The words are not in form.
     Usage,
-    /// asmap.dat is not used, for this reason.
+    /// A line of the log is at fault; lines are counted from 1. The lines before it are answered.
+    LogLine { line: u64, fault: LineFault },
+    /// asmap.dat is refused.
     AsmapRefused(CodeFault),
+    /// prefixes.txt is refused.
+    TableRefused(TablesFault),
     /// The log cannot be read.
     ReadFault,
     /// The output cannot be written.
@@ -22,6 +28,6 @@ pub enum Status {
     Memory,
     /// A file that the command needs is absent.
     NoFile { name: Name },
-    /// A line is not built so far; lines are counted from 1.
+    /// A line asks for what is not built yet; lines are counted from 1.
     NotBuilt { line: u64 },
 }

@@ -1,12 +1,22 @@
-ghost use Rattle.std.specs.Prelude.{◌≢◌};
+ghost use Rattle.std.specs.Prelude.{◌≡◌, ◌≢◌, map, string_bytes};
+ghost use Rattle.addrman_run.specs.Request.{Asks};
+ghost use Rattle.addrman_run.specs.declared.request.Request.{Request};
 
 use crate::{Status, run};
 use host_io::{SureFolder, SureSink, SureSource};
 use std::alloc::Global;
+use std::hash::BuildHasher;
 
 /// A run over an outside that never fails, which keeps nothing of what is written. Its status is
 /// never a fault of the outside, since those have a cause there.
-pub fn run_surely(alloc: Global, words: &[String], log: &[u8]) -> Status
+pub fn run_surely<H: BuildHasher + Drop>(
+    alloc: Global,
+    hasher: H,
+    words: &[String],
+    log: &[u8],
+) -> Status
+    ensures usage { result ≡ Status.Usage → (request : Request) → ¬ Asks (map string_bytes words.now) request }
+    ensures asked { result ≢ Status.Usage → (request : Request) × Asks (map string_bytes words.now) request }
     ensures reads { result ≢ Status.ReadFault }
     ensures writes { result ≢ Status.WriteFault }
     ensures loads { result ≢ Status.DiskFault }
@@ -14,5 +24,5 @@ pub fn run_surely(alloc: Global, words: &[String], log: &[u8]) -> Status
     let mut log = SureSource::make(log);
     let mut folder = SureFolder::make();
     let mut out = SureSink::make();
-    run(alloc, words, &mut log, &mut folder, &mut out)
+    run(alloc, hasher, words, &mut log, &mut folder, &mut out)
 }

@@ -1,47 +1,114 @@
-ghost use Rattle.std.specs.Prelude.{◌≡◌, ℕ, List, length, map, string_bytes, Ok, Some, IfSome, IfNone};
-ghost use Rattle.hex.specs.Hex.{decode_of};
-ghost use Rattle.net_addr.specs.declared.peer.Peer as peer;
-ghost use Rattle.addrman_run.specs.Replay.{IsReplay};
-ghost use Rattle.addrman_run.specs.Lookup.{IsLookup};
+ghost use Rattle.std.specs.Prelude.{◌≡◌, ◌≢◌, ℕ, List, [], ◌∷◌, ◌++◌, codes, map, string_bytes, Some, IfSome, IfNone};
+ghost use Rattle.std.specs.Option.{option_map};
+ghost use Rattle.addrman_run.specs.Request.{IsKey, IsOption, Asks};
+ghost use Rattle.addrman_run.specs.declared.request.Request.{Request};
 
+use crate::Request;
 use hex::FromHex;
-use net_addr::{Peer, parse_peer};
+use net_addr::parse_peer;
+
+/// The request that the words ask for, or `None` if they ask for none.
+pub fn read_request(words: &[String]) -> Option<Request>
+    ensures found { IfSome result (λ request. Asks (map string_bytes words.now) request) }
+    ensures only { (request : Request) → Asks (map string_bytes words.now) request → result ≡ Some request }
+{
+    let (command, rest) = first_word(words)?;
+    if command == b"replay".as_slice() {
+        read_replay(rest)
+    } else if command == b"compile".as_slice() {
+        if_no_words(rest, Request::Compile)
+    } else if command == b"check".as_slice() {
+        if_no_words(rest, Request::Check)
+    } else if command == b"lookup".as_slice() {
+        read_lookup(rest)
+    } else {
+        None
+    }
+}
+
+/// The first of the words, and the words after it.
+fn first_word(words: &[String]) -> Option<(&[u8], &[String])>
+    ensures some { IfSome result (λ parts. map string_bytes words.now ≡ parts.0.now ∷ map string_bytes parts.1.now) }
+    ensures none { IfNone result (map string_bytes words.now ≡ []) }
+{
+    let (first, rest) = words.split_first()?;
+    Some((first.as_bytes(), rest))
+}
+
+/// The request, if there are no words.
+fn if_no_words(words: &[String], request: Request) -> Option<Request>
+    ensures found { IfSome result (λ asked. (asked ≡ request) × (map string_bytes words.now ≡ [])) }
+    ensures none { IfNone result (map string_bytes words.now ≢ []) }
+{
+    if words.is_empty() {
+        Some(request)
+    } else {
+        None
+    }
+}
+
+/// The only word.
+fn only_word(words: &[String]) -> Option<&[u8]>
+    ensures some { IfSome result (λ word. map string_bytes words.now ≡ word.now ∷ []) }
+    ensures none { IfNone result ((word : List ℕ) → map string_bytes words.now ≡ word ∷ [] → ⊥) }
+{
+    match words {
+        [word] => Some(word.as_bytes()),
+        _ => None,
+    }
+}
+
+/// A replay, by the words after the command.
+fn read_replay(words: &[String]) -> Option<Request>
+    ensures found { IfSome result (λ request. Asks (codes "replay" ∷ map string_bytes words.now) request) }
+    ensures only { (request : Request) → Asks (codes "replay" ∷ map string_bytes words.now) request → result ≡ Some request }
+{
+    let key = read_key(option_value(words, b"--key")?)?;
+    Some(Request::Replay { key })
+}
+
+/// A lookup, by the words after the command.
+fn read_lookup(words: &[String]) -> Option<Request>
+    ensures found { IfSome result (λ request. Asks (codes "lookup" ∷ map string_bytes words.now) request) }
+    ensures only { (request : Request) → Asks (codes "lookup" ∷ map string_bytes words.now) request → result ≡ Some request }
+{
+    let peer = parse_peer(only_word(words)?)?;
+    Some(Request::Lookup { peer })
+}
+
+/// The value of an option that the words spell, as two words or as one with `=` between.
+fn option_value<'a>(words: &'a [String], name: &[u8]) -> Option<&'a [u8]>
+    ensures found { IfSome result (λ value. IsOption name.now value.now (map string_bytes words.now)) }
+    ensures only { (value : List ℕ) → IsOption name.now value (map string_bytes words.now) → option_map (λ found. found.now) result ≡ Some value }
+{
+    let (first, rest) = first_word(words)?;
+    if rest.is_empty() {
+        return value_after_equals(first, name);
+    }
+    let value = only_word(rest)?;
+    if first == name { Some(value) } else { None }
+}
+
+/// The value in a word that is a name, `=` and the value.
+fn value_after_equals<'a>(word: &'a [u8], name: &[u8]) -> Option<&'a [u8]>
+    ensures found { IfSome result (λ value. word.now ≡ name.now ++ codes "=" ++ value.now) }
+    ensures only { (value : List ℕ) → word.now ≡ name.now ++ codes "=" ++ value → option_map (λ found. found.now) result ≡ Some value }
+{
+    after_prefix(after_prefix(word, name)?, b"=")
+}
+
+/// The bytes after the prefix of a text.
+fn after_prefix<'a>(text: &'a [u8], prefix: &[u8]) -> Option<&'a [u8]>
+    ensures found { IfSome result (λ rest. text.now ≡ prefix.now ++ rest.now) }
+    ensures none { IfNone result ((rest : List ℕ) → text.now ≡ prefix.now ++ rest → ⊥) }
+{
+    text.strip_prefix(prefix)
+}
 
 /// A key of 32 bytes in hexadecimal, in either case.
 fn read_key(digits: &[u8]) -> Option<[u8; 32]>
-    ensures found { IfSome result (λ key. (decode_of digits.now ≡ Ok key) × (length key ≡ 32)) }
-    ensures none { IfNone result ((key : List ℕ) → decode_of digits.now ≡ Ok key → length key ≡ 32 → ⊥) }
+    ensures found { IfSome result (λ key. IsKey digits.now key) }
+    ensures only { (key : List ℕ) → IsKey digits.now key → result ≡ Some key }
 {
     <[u8; 32] as FromHex>::from_hex(digits).ok()
-}
-
-/// The key of a replay that the words ask for.
-pub fn key_of(words: &[String]) -> Option<[u8; 32]>
-    ensures found { IfSome result (λ key. IsReplay (map string_bytes words.now) key) }
-    ensures none { IfNone result ((key : List ℕ) → IsReplay (map string_bytes words.now) key → ⊥) }
-{
-    let [command, option, digits] = words else {
-        return None;
-    };
-    if command.as_str() != "replay" || option.as_str() != "--key" {
-        return None;
-    }
-    read_key(digits.as_bytes())
-}
-
-/// The peer of a lookup that the words ask for.
-pub fn peer_of(words: &[String]) -> Option<Peer>
-    ensures found { IfSome result (λ peer. IsLookup (map string_bytes words.now) peer) }
-    ensures only { (peer : peer.Peer) → IsLookup (map string_bytes words.now) peer → result ≡ Some peer }
-{
-    let [command, text] = words else {
-        return None;
-    };
-    if command.as_str() != "lookup" {
-        return None;
-    }
-    let peer = parse_peer(text.as_bytes())?;
-    // Reading the port tells the proof its range.
-    let _port = peer.port;
-    Some(peer)
 }

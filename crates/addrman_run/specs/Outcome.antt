@@ -1,0 +1,24 @@
+-- How a request ends: what it writes, why its status comes, and what it leaves.
+use Rattle.std.specs.Prelude.{◌≡◌}
+use Rattle.host_io.specs.Faults.{Rose}
+use Rattle.host_io.specs.Outside.{Outside}
+use Rattle.addrman_run.specs.Replay.{ReplayEnds}
+use Rattle.addrman_run.specs.Lookup.{LookupEnds}
+use Rattle.addrman_run.specs.Check.{CheckEnds}
+use Rattle.addrman_run.specs.Compile.{CompileEnds}
+use Rattle.addrman_run.specs.declared.request.Request.{Request}
+use Rattle.addrman_run.specs.declared.request.Request.TheVariants.{Replay, Compile, Check, Lookup}
+use Rattle.addrman_run.specs.declared.status.Status.{Status}
+use Rattle.addrman_run.specs.declared.status.Status.TheVariants as status
+
+abbrev pub Ends : Request → Outside → Outside → Status → Type 0
+Ends (Replay key) old new answer = ReplayEnds key old new answer
+Ends Compile old new answer = CompileEnds old new answer
+Ends Check old new answer = CheckEnds old new answer
+Ends (Lookup peer) old new answer = LookupEnds peer old new answer
+
+-- a fault of the outside comes only if its count rose
+pub record HasCause (old new : Outside) (answer : Status) : Type 0 where
+  pub log : answer ≡ status.ReadFault → Rose old.log_faults new.log_faults
+  pub out : answer ≡ status.WriteFault → Rose old.out_faults new.out_faults
+  pub folder : answer ≡ status.DiskFault → Rose old.folder_faults new.folder_faults

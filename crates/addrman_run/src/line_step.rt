@@ -1,0 +1,91 @@
+ghost use Rattle.std.specs.Prelude.{◌≡◌, ◌≢◌, ◌+◌, ◌*◌, ◌≤◌, ◌<◌, ◌^◌, ℕ, List, length, Ok, Err, IfOk};
+ghost use Rattle.log_lines.specs.Spelling.{HasFault};
+ghost use Rattle.log_lines.specs.declared.fault.LineFault.{LineFault};
+ghost use Rattle.manager.specs.Machine.{Machine};
+ghost use Rattle.addrman_run.specs.Lines.{LineStep, IsNotBuilt};
+
+use log_lines::{LineFault, put_reply, read_line};
+use manager::{Manager, is_built};
+use std::alloc::Global;
+use std::hash::BuildHasher;
+
+/// Why a line is not carried out.
+#[derive(Clone, Copy, Debug, PartialEq, Eq)]
+pub(crate) enum Stop {
+    /// The line is at fault.
+    Fault(LineFault),
+    /// The line asks for what is not built yet.
+    NotBuilt,
+    /// There was no memory for what the line needs.
+    Memory,
+}
+
+/// What carries out the lines of a log, one step a line.
+pub(crate) trait LineSteps {
+    /// A state, a line, the text of its reply, and the next state.
+    ghost step: { Self → List ℕ → List ℕ → Self → Type 0 };
+
+    /// The line is at fault.
+    ghost has_fault: { List ℕ → LineFault → Type 0 };
+
+    /// The line asks for what is not built yet.
+    ghost not_built: { List ℕ → Type 0 };
+
+    /// There is room for so many more lines.
+    ghost has_room: { Self → ℕ → Type 0 };
+
+    /// Carries out a line, and gives the text of its reply, none for a line that is passed over.
+    fn carry_out(&mut self, alloc: Global, line: &[u8]) -> Result<Vec<u8>, Stop>
+        requires room { (n : ℕ) × has_room self.old (n + 1) }
+        requires short { length line.now ≤ 16777216 }
+        ensures step { IfOk result (λ text. step self.old line.now text.items self.new) }
+        ensures fault { (fault : LineFault) → result ≡ Err (Stop.Fault fault) → has_fault line.now fault }
+        ensures not_built { result ≡ Err Stop.NotBuilt → not_built line.now }
+        ensures room { (n : ℕ) → has_room self.old (n + 1) → has_room self.new n };
+}
+
+/// Why a line stops the run that is not read.
+fn stop_of(fault: LineFault) -> Stop
+    ensures fault { (f : LineFault) → result ≡ Stop.Fault f → (f ≡ fault) × (fault ≢ LineFault.Memory) }
+    ensures built { result ≢ Stop.NotBuilt }
+{
+    match fault {
+        LineFault::Memory => Stop::Memory,
+        LineFault::Word
+        | LineFault::Fields
+        | LineFault::Number
+        | LineFault::Peer
+        | LineFault::Hex
+        | LineFault::Words => Stop::Fault(fault),
+    }
+}
+
+impl<'a, H: BuildHasher + Drop> LineSteps for Manager<'a, H> {
+    ghost step = { LineStep };
+
+    ghost has_fault = { HasFault };
+
+    ghost not_built = { IsNotBuilt };
+
+    // Each line takes at most a thousand numbers.
+    ghost has_room = { λ m n. m.tables.next_number + 1000 * n < 2 ^ 62 };
+
+    fn carry_out(&mut self, alloc: Global, line: &[u8]) -> Result<Vec<u8>, Stop> {
+        let mut text = Vec::new(alloc);
+        let command = match read_line(alloc, line) {
+            Ok(None) => return Ok(text),
+            Ok(Some(command)) => command,
+            Err(fault) => return Err(stop_of(fault)),
+        };
+        if !is_built(&command) {
+            return Err(Stop::NotBuilt);
+        }
+        let Ok(reply) = self.apply(alloc, &command) else {
+            return Err(Stop::Memory);
+        };
+        match put_reply(&reply, &mut text) {
+            Ok(()) => Ok(text),
+            Err(_) => Err(Stop::Memory),
+        }
+    }
+}
