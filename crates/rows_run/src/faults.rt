@@ -1,6 +1,6 @@
 ghost use Rattle.std.specs.Prelude.{◌≤◌};
 
-// The source gives pieces, and the outside fails.
+// Sources that give pieces, and an outside that fails.
 use crate::log_text::{FIRST_LINES, FIRST_REPLIES};
 use crate::runs::{replay_words, run_over};
 use addrman_run::Status;
@@ -9,17 +9,17 @@ use std::alloc::{AllocError, Global};
 use std::process::Abort;
 use std::test::Fail;
 
-// Three lines that are answered, two that are passed over, and no line feed at the end: 123 bytes.
+/// Three lines that are answered, two that are passed over, and no line feed at the end: 123 bytes.
 fn three_lines(alloc: Global) -> Result<String, AllocError> {
     format!(in alloc; "# a comment\n{FIRST_LINES}\nfind 9.9.9.9:8333")
 }
 
-// The replies to the three lines.
+/// The replies to the three lines.
 fn three_replies(alloc: Global) -> Result<String, AllocError> {
     format!(in alloc; "{FIRST_REPLIES}unknown\n")
 }
 
-// The log comes in pieces of this length, and the reads of these numbers fail.
+/// The log comes in pieces of this length, and the reads of these numbers fail.
 fn assert_pieces(
     rt: &(impl Abort + AllocGlobal),
     piece: usize,
@@ -43,6 +43,7 @@ fn assert_pieces(
     Ok(())
 }
 
+/// A log is answered alike in pieces of any length.
 #[test]
 fn the_replies_do_not_depend_on_the_pieces(rt: HostRuntime) -> Result<(), Fail> {
     let text = three_replies(rt.alloc())?;
@@ -51,6 +52,7 @@ fn the_replies_do_not_depend_on_the_pieces(rt: HostRuntime) -> Result<(), Fail> 
     assert_pieces(&rt, 4096, &[], Status::Done, text.as_str())
 }
 
+/// A read that fails ends the replay with no reply.
 #[test]
 fn after_a_failing_read_nothing_is_written(rt: HostRuntime) -> Result<(), Fail> {
     // Two pieces and the end take the reads 0 to 2; a fourth read is not made.
@@ -61,7 +63,7 @@ fn after_a_failing_read_nothing_is_written(rt: HostRuntime) -> Result<(), Fail> 
     assert_pieces(&rt, 100, &[3], Status::Done, text.as_str())
 }
 
-// The writes of these numbers fail.
+/// The writes of these numbers fail.
 fn assert_written(
     rt: &(impl Abort + AllocGlobal),
     fails: &[u64],
@@ -79,6 +81,7 @@ fn assert_written(
     Ok(())
 }
 
+/// A write that fails ends the replay after the replies before it.
 #[test]
 fn after_a_failing_write_the_replies_before_it_stand(rt: HostRuntime) -> Result<(), Fail> {
     assert_written(&rt, &[0], Status::WriteFault, "")?;

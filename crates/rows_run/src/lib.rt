@@ -1,12 +1,23 @@
-//! Tests of whole replays: each hands a log to `run` over memory, and compares what is written.
+//! Tests of whole runs: each hands words, a log and a folder to `run` over memory, and compares the
+//! status and what is written.
 #![tactic(auto)]
 
 #[cfg(test)]
+mod asmaps;
+#[cfg(test)]
 mod faults;
+#[cfg(test)]
+mod known_peers;
+#[cfg(test)]
+mod line_faults;
 #[cfg(test)]
 mod log_text;
 #[cfg(test)]
+mod long_log;
+#[cfg(test)]
 mod lookups;
+#[cfg(test)]
+mod messages;
 #[cfg(test)]
 mod replies;
 #[cfg(test)]

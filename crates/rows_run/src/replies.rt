@@ -1,29 +1,31 @@
-// Whole replays and their replies.
+// Replays and their replies.
 use crate::log_text::{FIRST_LINES, FIRST_REPLIES, payload, told_log};
 use crate::runs::{assert_run, assert_run_by, owned, replay_words};
 use addrman_run::{Status, run_surely};
+use std::hash::{BuildHasherDefault, FoldHasher};
 use std::process::Abort;
 use std::test::Fail;
 
+/// A log without lines has no replies.
 #[test]
 fn an_empty_log_gives_no_output(rt: HostRuntime) -> Result<(), Fail> {
     assert_run(&rt, "", Status::Done, "")
 }
 
+/// Over an outside that never fails a replay is done.
 #[test]
 fn a_run_that_nothing_can_stop_is_done(rt: HostRuntime) -> Result<(), Fail> {
     let words = replay_words(rt.alloc())?;
-    let status = run_surely(rt.alloc(), words.as_slice(), FIRST_LINES.as_bytes());
-    assert_eq!(rt;
-        status,
-        Status::Done,
-        "status over an outside that never fails"
-    );
+    let hasher = BuildHasherDefault::<FoldHasher>::new();
+    let log = FIRST_LINES.as_bytes();
+    let status = run_surely(rt.alloc(), hasher, words.as_slice(), log);
+    assert_eq!(rt; status, Status::Done, "over an outside that never fails");
     Ok(())
 }
 
+/// A peer of a message is found afterwards, and another is unknown.
 #[test]
-fn a_peer_told_of_is_found(rt: HostRuntime) -> Result<(), Fail> {
+fn a_peer_of_a_message_is_found(rt: HostRuntime) -> Result<(), Fail> {
     let log = format!(in rt.alloc(); "{FIRST_LINES}find 9.9.9.9:8333\nfind 8.8.8.8:8333\n")?;
     let text = format!(in rt.alloc();
         "{FIRST_REPLIES}unknown\npeer 8.8.8.8:8333 source 1.2.3.4 time 1699992800 services 1 success 0 try 0 attempts 0 new 87\n"
@@ -31,8 +33,8 @@ fn a_peer_told_of_is_found(rt: HostRuntime) -> Result<(), Fail> {
     assert_run(&rt, log.as_str(), Status::Done, text.as_str())
 }
 
-// The key of Bitcoin Core's own tests, SHA-256 of SHA-256 of the bytes 01 00 00 00, and the bucket
-// that they have (addrman_tests.cpp).
+/// The key of Bitcoin Core's own tests, SHA-256 of SHA-256 of the bytes 01 00 00 00, and the bucket
+/// that they have (addrman_tests.cpp).
 #[test]
 fn the_key_chooses_the_bucket(rt: HostRuntime) -> Result<(), Fail> {
     let key = "41f758f2e5cc078d3795b4fc0cb60c2d735fa92cc020572bdc982dd2d564d11b";
@@ -46,8 +48,8 @@ fn the_key_chooses_the_bucket(rt: HostRuntime) -> Result<(), Fail> {
     assert_run_by(&rt, words.as_slice(), log.as_str(), Status::Done, text)
 }
 
-// 8.8.8.8:8333, told of by the source with the entry's time, is found with the stored time and in
-// the bucket.
+/// 8.8.8.8:8333 with the entry's time, received from the source at the clock, is found with the
+/// stored time and in the bucket.
 fn assert_stored(
     rt: &(impl Abort + AllocGlobal),
     (clock, source, time): (u32, &str, u32),
@@ -60,8 +62,10 @@ fn assert_stored(
     assert_run(rt, log.as_str(), Status::Done, text.as_str())
 }
 
+/// A time long past or ahead counts as five days old, two hours are taken off, and neither goes
+/// below 0. A peer that tells of itself has no penalty.
 #[test]
-fn odd_times_are_mended_and_a_penalty_is_taken(rt: HostRuntime) -> Result<(), Fail> {
+fn a_time_is_clamped_and_a_penalty_is_taken(rt: HostRuntime) -> Result<(), Fail> {
     let rows = [
         ((1700000000, "1.2.3.4", 1700000000), (1699992800, 87)),
         ((1700000000, "1.2.3.4", 100000000), (1699560800, 87)),
@@ -77,8 +81,8 @@ fn odd_times_are_mended_and_a_penalty_is_taken(rt: HostRuntime) -> Result<(), Fa
     Ok(())
 }
 
-// The address, as text and as its four bytes in hexadecimal, is refused, and stays unknown.
-fn assert_refused(
+/// The address, as text and as its four bytes in hexadecimal, is skipped and stays unknown.
+fn assert_skipped(
     rt: &(impl Abort + AllocGlobal),
     (addr, bytes): (&str, &str),
 ) -> Result<(), Fail> {
@@ -94,8 +98,9 @@ fn assert_refused(
     )
 }
 
+/// One address of each range that is not routable.
 #[test]
-fn addresses_that_are_not_routed_are_refused(rt: HostRuntime) -> Result<(), Fail> {
+fn addresses_that_are_not_routable_are_skipped(rt: HostRuntime) -> Result<(), Fail> {
     let rows = [
         ("0.0.0.0", "00000000"),
         ("0.1.2.3", "00010203"),
@@ -114,7 +119,7 @@ fn addresses_that_are_not_routed_are_refused(rt: HostRuntime) -> Result<(), Fail
         ("255.255.255.255", "ffffffff"),
     ];
     for row in rows {
-        assert_refused(&rt, row)?;
+        assert_skipped(&rt, row)?;
     }
     Ok(())
 }

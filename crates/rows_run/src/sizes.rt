@@ -5,7 +5,7 @@ use host_io::{MemSink, MemSource};
 use std::process::Abort;
 use std::test::Fail;
 
-// A log of this many bytes, all the same, ends so and writes nothing.
+/// A log of this many bytes, all the same, ends so and writes nothing.
 fn assert_size(
     rt: &(impl Abort + AllocGlobal),
     byte: u8,
@@ -22,11 +22,13 @@ fn assert_size(
     Ok(())
 }
 
+/// The longest log that is read.
 #[test]
 fn a_comment_of_16777216_bytes_is_passed_over(rt: HostRuntime) -> Result<(), Fail> {
     assert_size(&rt, b'#', 16_777_216, Status::Done)
 }
 
+/// A log above the limit is not carried out.
 #[test]
 fn a_log_of_one_byte_more_is_too_long(rt: HostRuntime) -> Result<(), Fail> {
     assert_size(&rt, b'\n', 16_777_217, Status::LogTooLong)

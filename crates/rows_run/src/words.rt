@@ -1,4 +1,4 @@
-// The words that a replay takes.
+// The words that ask for a request.
 use crate::runs::{owned, run_over};
 use addrman_run::Status;
 use host_io::{MemSink, MemSource};
@@ -17,7 +17,7 @@ const LETTER_KEY: &str = "000000000000000000000000000000000000000000000000000000
 
 const JOINED: &str = "--key=00000000000000000000000000000000000000000000000000000000000000ab";
 
-// The words lead to a status. Where they are in form the log is answered.
+/// The words lead to a status. If they ask for a replay, the log is answered.
 fn assert_words(
     rt: &(impl Abort + AllocGlobal),
     words: &[&str],
@@ -33,34 +33,52 @@ fn assert_words(
     Ok(())
 }
 
+/// The key's digits are in either case, and the option is two words or one.
 #[test]
-fn words_in_form_are_three_with_a_key_in_either_case(rt: HostRuntime) -> Result<(), Fail> {
-    assert_words(&rt, &["replay", "--key", KEY], Status::Done, "now 7\n")?;
-    assert_words(
-        &rt,
+fn a_key_has_either_case_and_two_spellings(rt: HostRuntime) -> Result<(), Fail> {
+    let rows: [&[&str]; 3] = [
+        &["replay", "--key", KEY],
         &["replay", "--key", UPPER_KEY],
-        Status::Done,
-        "now 7\n",
-    )
+        &["replay", JOINED],
+    ];
+    for words in rows {
+        assert_words(&rt, words, Status::Done, "now 7\n")?;
+    }
+    Ok(())
 }
 
+/// Words that ask for nothing.
 #[test]
 fn other_words_are_bad_usage(rt: HostRuntime) -> Result<(), Fail> {
-    let rows: [&[&str]; 14] = [
+    let rows: [&[&str]; 28] = [
         &[],
+        &[""],
         &["replay"],
         &["replay", "--key"],
+        &["replay", "--key="],
         &["replay", KEY],
         &["replay", "--key", KEY, KEY],
+        &["replay", "--key", KEY, "--key", KEY],
+        &["replay", JOINED, JOINED],
+        &["replay", "--key", JOINED],
         &["replay", "--key", SHORT_KEY],
         &["replay", "--key", LONG_KEY],
         &["replay", "--key", LETTER_KEY],
         &["replay", "--key", ""],
-        &["replay", JOINED],
         &["replay", "--Key", KEY],
         &["Replay", "--key", KEY],
         &["--key", KEY, "replay"],
+        &["compile", ""],
+        &["compile", "prefixes.txt"],
+        &["check", "asmap.dat"],
+        &["check", "--key", KEY],
+        &["lookup"],
+        &["lookup", "1.2.3.4"],
+        &["lookup", "1.2.3.4:65536"],
+        &["lookup", "1.2.3.4:1", "1.2.3.4:1"],
+        &["look", "1.2.3.4:1"],
         &["--help"],
+        &["--version"],
     ];
     for words in rows {
         assert_words(&rt, words, Status::Usage, "")?;

@@ -4,9 +4,9 @@
 #[cfg(test)]
 mod addresses;
 #[cfg(test)]
-mod lines;
+mod codecs;
 #[cfg(test)]
-mod messages;
+mod lines;
 #[cfg(test)]
 mod numbers;
 #[cfg(test)]

@@ -1,15 +1,16 @@
 // Lines of a log, and the text of replies.
 use crate::records::{record, two_buckets};
-use log_lines::{Command, LineFault, Reply, put_reply, read_line, split_line};
+use addr_codecs::MsgFault;
+use log_lines::{Command, LineFault, Reply, put_reply, read_line, read_words, split_line};
 use net_addr::{NetAddr, Peer};
-use peer_rec::Place;
+use peer_rec::{Counts, Good, Peers, Picked, Place, Recs, Resolved};
 use std::process::Abort;
 use std::test::Fail;
 
-// The line is not built so far.
-fn assert_no_line(rt: &(impl Abort + AllocGlobal), line: &str) {
+// The line has this fault.
+fn assert_fault(rt: &(impl Abort + AllocGlobal), line: &str, want: LineFault) {
     match read_line(rt.alloc(), line.as_bytes()) {
-        Err(fault) => assert_eq!(rt; fault, LineFault::NotBuilt, "the line {line:?}"),
+        Err(fault) => assert_eq!(rt; fault, want, "the line {line:?}"),
         Ok(_) => assert!(rt; false, "the line {line:?} is read"),
     }
 }
@@ -65,26 +66,192 @@ fn comments_and_empty_lines_are_passed_over(rt: HostRuntime) {
 }
 
 #[test]
-fn other_lines_are_not_built(rt: HostRuntime) {
+fn a_line_has_the_fault_of_its_first_field_out_of_form(rt: HostRuntime) {
     for line in [
         " ",
+        "  ",
+        "\t",
+        "\0",
+        "now\01",
+        "\r",
+        " now 1",
+        "Now 1",
+        "good 8.8.8.8:8333 maybe",
+        "attempt 8.8.8.8:8333 test",
+        "select both all -",
+        "select new tor -",
+        "select any unroutable -",
+        "sample 0 0 tor -",
+        "save_begin",
+    ] {
+        assert_fault(&rt, line, LineFault::Word);
+    }
+    for line in [
         "now",
-        "now ",
         "now  1",
-        "now 1\r",
-        "find",
-        "find 8.8.8.8",
+        "now 1 ",
         "addr 1.2.3.4 00",
-        "addr 1.2.3.4  0",
+        "addrv2 1.2.3.4 00 0 0",
+        "good 8.8.8.8:8333",
+        "attempt 8.8.8.8:8333 count 1",
+        "connected",
+        "services 8.8.8.8:8333",
+        "find 8.8.8.8:8333 ",
+        "size ",
+        "select new all",
+        "sample 0 0 all",
+        "resolve 1",
+        "clash",
+        "dump x",
+        "save ",
+        "save-begin 1",
+        "save-step",
+        "save-end 0",
+    ] {
+        assert_fault(&rt, line, LineFault::Fields);
+    }
+    for line in [
+        "now ",
+        "now 1\r",
+        "now +1",
+        "now 01",
+        "now 4294967296",
+        "services 8.8.8.8:8333 18446744073709551616",
+        "services 8.8.8.8:8333 ",
+        "sample 4294967296 0 all -",
+        "sample 0 101 all -",
+        "clash 18446744073709551616",
+        "clash -",
+        "save-step 0",
+        "save-step 4294967296",
+    ] {
+        assert_fault(&rt, line, LineFault::Number);
+    }
+    for line in [
+        "good x maybe",
+        "addr 1.2.3.4:1 00 0",
+        "addr  00 0",
+        "addrv2 onion:00 00 0",
+        "good 8.8.8.8 test",
+        "attempt 8.8.8.8:65536 count",
+        "connected 8.8.8.8",
+        "services 8.8.8:8333 1",
+        "find ",
+        "find 8.8.8.8:08333",
+    ] {
+        assert_fault(&rt, line, LineFault::Peer);
+    }
+    for line in [
         "addr 1.2.3.4 0 0",
         "addr 1.2.3.4 0g 0",
-        "addr 1.2.3.4 00 0,1",
-        "addr 1.2.3.4 00 -",
-        "addr 1.2.3.4:1 00 0",
-        "size",
+        "addrv2 1.2.3.4  0",
+        "addr 1.2.3.4 -- 0",
     ] {
-        assert_no_line(&rt, line);
+        assert_fault(&rt, line, LineFault::Hex);
     }
+    for line in [
+        "addr 1.2.3.4 00 0,",
+        "addr 1.2.3.4 00 ",
+        "addrv2 1.2.3.4 - 18446744073709551616",
+        "select new all ,",
+        "select any ipv4 @1",
+        "sample 0 0 all @1:1000001",
+        "sample 0 0 all @18446744073709551616:1",
+        "select any i2p @1:-",
+        "addr 1.2.3.4 00 @1:01",
+    ] {
+        assert_fault(&rt, line, LineFault::Words);
+    }
+}
+
+// The line is read as a command.
+fn assert_read(rt: &(impl Abort + AllocGlobal), line: &str) {
+    assert!(rt;
+        matches!(&read_line(rt.alloc(), line.as_bytes()), Ok(Some(_))),
+        "the line {line:?}"
+    );
+}
+
+#[test]
+fn a_line_of_each_kind_is_read(rt: HostRuntime) {
+    for line in [
+        "addrv2 onion:79bcc625184b05194975c28b66b66b0469f7f6556fb1ac3189a79b40dda32f1f - -",
+        "good 8.8.8.8:8333 test",
+        "good 8.8.8.8:8333 force",
+        "attempt 8.8.8.8:8333 count",
+        "attempt 8.8.8.8:8333 nocount",
+        "connected [2001:db8::1]:1",
+        "services 8.8.8.8:8333 18446744073709551615",
+        "size",
+        "select new cjdns 1,2",
+        "select any all -",
+        "sample 0 100 unroutable @1:2",
+        "resolve",
+        "clash 18446744073709551615",
+        "dump",
+        "save",
+        "save-begin",
+        "save-step 1",
+        "save-step 4294967295",
+        "save-end",
+    ] {
+        assert_read(&rt, line);
+    }
+}
+
+#[test]
+fn a_long_number_is_refused(rt: HostRuntime) -> Result<(), Fail> {
+    let mut line = vec![in rt.alloc(); b'9'; 1000004]?;
+    line[0] = b'n';
+    line[1] = b'o';
+    line[2] = b'w';
+    line[3] = b' ';
+    match read_line(rt.alloc(), line.as_slice()) {
+        Err(fault) => assert_eq!(rt; fault, LineFault::Number),
+        Ok(_) => assert!(rt; false, "it is read"),
+    }
+    Ok(())
+}
+
+#[test]
+fn a_seed_stands_for_the_outputs_of_its_generator(rt: HostRuntime) -> Result<(), Fail> {
+    let none = read_words(rt.alloc(), b"@5:0")?;
+    assert!(rt; none.items().is_empty());
+    let zero = read_words(rt.alloc(), b"@0:3")?;
+    assert_eq!(rt;
+        zero.items(),
+        [
+            5987356902031041503,
+            7051070477665621255,
+            6633766593972829180
+        ]
+        .as_slice()
+    );
+    let one = read_words(rt.alloc(), b"@1:3")?;
+    assert_eq!(rt;
+        one.items(),
+        [
+            14971601782005023387,
+            13781649495232077965,
+            1847458086238483744
+        ]
+        .as_slice()
+    );
+    let last = read_words(rt.alloc(), b"@18446744073709551615:3")?;
+    assert_eq!(rt;
+        last.items(),
+        [
+            6254647548650071986,
+            16610832622747802512,
+            16422857234328439435
+        ]
+        .as_slice()
+    );
+    let many = read_words(rt.alloc(), b"@7:1000000")?;
+    assert_eq!(rt; many.items().len(), 1000000);
+    assert_eq!(rt; many.items().first(), Some(&1021219803524665661));
+    assert_eq!(rt; many.items().last(), Some(&475688538312896850));
+    Ok(())
 }
 
 // The reply has this text.
@@ -106,7 +273,105 @@ fn replies_are_lines(rt: HostRuntime) -> Result<(), Fail> {
         },
         "added 1 of 2\n",
     )?;
-    assert_reply(&rt, &Reply::Found(None), "unknown\n")
+    assert_reply(&rt, &Reply::Found(None), "unknown\n")?;
+    assert_reply(
+        &rt,
+        &Reply::Refused(MsgFault::Truncated),
+        "refused truncated\n",
+    )?;
+    assert_reply(
+        &rt,
+        &Reply::Refused(MsgFault::NonCanonical),
+        "refused non-canonical\n",
+    )?;
+    assert_reply(
+        &rt,
+        &Reply::Refused(MsgFault::TooMany),
+        "refused too-many\n",
+    )?;
+    assert_reply(
+        &rt,
+        &Reply::Refused(MsgFault::BadLength),
+        "refused bad-length\n",
+    )?;
+    assert_reply(
+        &rt,
+        &Reply::Refused(MsgFault::TooLong),
+        "refused too-long\n",
+    )?;
+    assert_reply(
+        &rt,
+        &Reply::Refused(MsgFault::Trailing),
+        "refused trailing\n",
+    )?;
+    assert_reply(&rt, &Reply::Short { need: 3, have: 2 }, "short 3 2\n")?;
+    assert_reply(&rt, &Reply::Good(Good::Already), "already\n")?;
+    assert_reply(&rt, &Reply::Good(Good::Clash), "clash\n")?;
+    assert_reply(&rt, &Reply::Known(true), "ok\n")?;
+    assert_reply(&rt, &Reply::Known(false), "unknown\n")?;
+    assert_reply(&rt, &Reply::Saved, "saved\n")?;
+    assert_reply(&rt, &Reply::NotSaved, "not saved\n")?;
+    assert_reply(&rt, &Reply::Busy, "busy\n")?;
+    assert_reply(&rt, &Reply::NoSave, "no save\n")?;
+    assert_reply(&rt, &Reply::Begun { size: 1000 }, "begun 1000\n")?;
+    assert_reply(&rt, &Reply::Stepped { left: 0 }, "stepped 0\n")
+}
+
+#[test]
+fn replies_of_tables_are_lines(rt: HostRuntime) -> Result<(), Fail> {
+    let peer = Peer {
+        addr: NetAddr::ipv4([8, 8, 8, 8]),
+        port: 8333,
+    };
+    let counts = Counts {
+        new_count: 1,
+        tried_count: 2,
+        clashes: 3,
+    };
+    assert_reply(&rt, &Reply::Size(counts), "size new 1 tried 2 clashes 3\n")?;
+    let resolved = Resolved {
+        erased: 1,
+        moved: 2,
+        kept: 3,
+    };
+    assert_reply(
+        &rt,
+        &Reply::Resolved(resolved),
+        "resolved erased 1 moved 2 kept 3\n",
+    )?;
+    assert_reply(
+        &rt,
+        &Reply::Picked(Picked::One(peer, 9)),
+        "one 8.8.8.8:8333 9\n",
+    )?;
+    assert_reply(&rt, &Reply::Picked(Picked::Nothing), "nothing\n")?;
+    assert_reply(&rt, &Reply::Picked(Picked::Exhausted), "exhausted\n")?;
+    assert_reply(
+        &rt,
+        &Reply::Clash(Some((peer, 9))),
+        "clash 8.8.8.8:8333 9\n",
+    )?;
+    assert_reply(&rt, &Reply::Clash(None), "none\n")?;
+    let peers = Peers::of(vec![in rt.alloc(); peer, peer]?);
+    assert_reply(
+        &rt,
+        &Reply::Sample(peers),
+        "sample 2 8.8.8.8:8333 8.8.8.8:8333\n",
+    )?;
+    let none = Peers::of(Vec::new(rt.alloc()));
+    assert_reply(&rt, &Reply::Sample(none), "sample 0\n")
+}
+
+#[test]
+fn a_dump_has_a_line_for_each_record(rt: HostRuntime) -> Result<(), Fail> {
+    let mut recs = Vec::new(rt.alloc());
+    recs.push(record(Place::Tried))?;
+    assert_reply(
+        &rt,
+        &Reply::Dump(Recs::of(recs)),
+        "peer 8.8.8.8:8333 source 1.2.3.4 time 2 services 3 success 4 try 5 attempts 7 tried\nend 1\n",
+    )?;
+    assert_reply(&rt, &Reply::Dump(Recs::of(Vec::new(rt.alloc()))), "end 0\n")
 }
 
 #[test]

@@ -1,0 +1,5 @@
+//! Tests of asmap files.
+#![tactic(auto)]
+
+#[cfg(test)]
+mod files;
