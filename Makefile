@@ -1,10 +1,11 @@
 # make: builds the proved program and puts it at bin/addrman
-# make demo: replays the small log of examples/
+# make demo: compiles, checks and looks up a small table of prefixes, and replays small logs
+# make endings: tries the exit codes of the built program and their texts
 # make test: the gate
 
 ZERO_KEY := 0000000000000000000000000000000000000000000000000000000000000000
 
-.PHONY: all demo test
+.PHONY: all demo endings test
 
 all:
 	mkdir -p bin
@@ -12,7 +13,15 @@ all:
 	cp crates/addrman/out/addrman bin/addrman
 
 demo: all
+	cd examples && ../bin/addrman compile
+	cd examples && ../bin/addrman check
+	cd examples && ../bin/addrman lookup 1.2.3.4:8333
+	cd examples && ../bin/addrman lookup '[2606:4700::1111]:8333'
 	bin/addrman replay --key $(ZERO_KEY) < examples/one-address.log
+	cd examples && ../bin/addrman replay --key=$(ZERO_KEY) < all-networks.log
+
+endings: all
+	bench/endings
 
 test:
 	rt ci

@@ -43,7 +43,7 @@ pub(crate) fn load_asmap<F: Folder>(alloc: Global, folder: &mut F) -> Result<Byt
     }
 }
 
-// The sum, modulo 2^64, of the numbers of so many addresses: IPv4 ones and IPv6 ones in turn.
+/// The sum, modulo 2^64, of the numbers of `lookups` addresses: IPv4 ones and IPv6 ones in turn.
 fn sum_numbers(sane: &Sane<'_>, lookups: u64) -> u64 {
     let mut addresses = Addresses::from_seed(1);
     let mut sum: u64 = 0;
@@ -58,7 +58,7 @@ fn sum_numbers(sane: &Sane<'_>, lookups: u64) -> u64 {
     sum
 }
 
-// Checks the bytes so many times.
+/// Checks the bytes `times` times.
 fn check_often(code: &[u8], times: u64) -> Result<(), Refusal> {
     for _ in 0..times {
         if check(code).is_err() {

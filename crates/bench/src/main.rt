@@ -3,8 +3,12 @@
 
 mod addresses;
 mod asmap_work;
+mod codecs_work;
+mod compile_work;
 mod index_work;
+mod lines_work;
 mod refusal;
+mod table_work;
 mod tables_work;
 mod task;
 
@@ -14,6 +18,7 @@ use refusal::Refusal;
 use std::process::ExitCode;
 use std::rt::{Env, Files};
 use std::{env, io};
+use table_work::run_on_text;
 use tables_work::fill_tables;
 use task::Task;
 
@@ -42,7 +47,10 @@ fn measure<R: Env + Files + Print + AllocGlobal>(rt: &R) -> Result<(), Refusal> 
     let words = words_of(rt).map_err(|_| Refusal::NoWords)?;
     let sum = match Task::of(words.as_slice())? {
         Task::Asmap(work) => return measure_asmap(rt, work),
+        Task::Table(work) => run_on_text(rt.alloc(), &mut DirFolder::make(rt), work)?,
+        Task::Codecs(work) => work.run(rt.alloc())?,
         Task::Index(work) => work.run(rt.alloc())?,
+        Task::Lines(work) => work.run(rt.alloc())?,
         Task::Tables(records) => fill_tables(rt.alloc(), records)?,
     };
     println!(rt; "sum {sum}").map_err(|_| Refusal::NotPrinted)

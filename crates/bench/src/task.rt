@@ -1,6 +1,9 @@
 use crate::asmap_work::AsmapWork;
+use crate::codecs_work::{CodecsWork, Kind as CodecsKind};
 use crate::index_work::{IndexWork, Kind};
+use crate::lines_work::LinesWork;
 use crate::refusal::Refusal;
+use crate::table_work::TableWork;
 
 /// What the words ask for.
 #[derive(Clone, Copy, Debug, PartialEq, Eq)]
@@ -9,6 +12,12 @@ pub(crate) enum Task {
     Asmap(AsmapWork),
     /// Work on an index.
     Index(IndexWork),
+    /// A log is split into lines.
+    Lines(LinesWork),
+    /// Work over prefixes.txt.
+    Table(TableWork),
+    /// Work on messages of 1000 entries.
+    Codecs(CodecsWork),
     /// A grid and an index of so many records are made and filled.
     Tables(u32),
 }
@@ -23,17 +32,42 @@ fn records_of(word: &String) -> Result<u32, Refusal> {
     word.as_str().parse::<u32>().map_err(|_| Refusal::Usage)
 }
 
+// The kind of work on messages that a word names.
+fn codecs_kind(word: &String) -> Result<CodecsKind, Refusal> {
+    match word.as_str() {
+        "read-addr" => Ok(CodecsKind::ReadAddr),
+        "read-addrv2" => Ok(CodecsKind::ReadAddrv2),
+        "write-addr" => Ok(CodecsKind::WriteAddr),
+        "write-addrv2" => Ok(CodecsKind::WriteAddrv2),
+        "place" => Ok(CodecsKind::Place),
+        _ => Err(Refusal::Usage),
+    }
+}
+
 impl Task {
-    /// The task that the words name: `asmap N`, `check N`, `tables N`, `index-adds N TIMES`,
-    /// `index-removes N TIMES`, `index-finds N SOME TIMES` or `index-turns N SOME TIMES`.
+    /// The task that the words name: `asmap N`, `check N`, `codecs KIND TIMES`, `table N`, `matches N`,
+    /// `compile TIMES`, `tables N`, `lines LENGTH TIMES`, `index-adds N TIMES`, `index-removes N TIMES`,
+    /// `index-finds N SOME TIMES` or `index-turns N SOME TIMES`.
     pub fn of(words: &[String]) -> Result<Task, Refusal> {
         match words {
             [command, count] => match command.as_str() {
                 "asmap" => Ok(Task::Asmap(AsmapWork::Lookups(number(count)?))),
                 "check" => Ok(Task::Asmap(AsmapWork::Checks(number(count)?))),
+                "table" => Ok(Task::Table(TableWork::Reads(number(count)?))),
+                "matches" => Ok(Task::Table(TableWork::Matches(number(count)?))),
+                "compile" => Ok(Task::Table(TableWork::Compiles(number(count)?))),
                 "tables" => Ok(Task::Tables(records_of(count)?)),
                 _ => Err(Refusal::Usage),
             },
+            [command, length, times] if command.as_str() == "lines" => Ok(Task::Lines(LinesWork {
+                length: records_of(length)?,
+                times: number(times)?,
+            })),
+            [command, kind, times] if command.as_str() == "codecs" => {
+                let kind = codecs_kind(kind)?;
+                let times = number(times)?;
+                Ok(Task::Codecs(CodecsWork { kind, times }))
+            }
             [command, records, times] => {
                 let records = records_of(records)?;
                 let kind = match command.as_str() {
