@@ -1,5 +1,5 @@
 -- The line that is written of the folder's table of prefixes.
-use Rattle.std.proofs.Common.{◌≡◌, ℕ, ◌≤◌, List, ◌++◌, length, codes, decimal, sym, ap, ◌∙◌, subst}
+use Rattle.std.proofs.Common.{◌≡◌, ℕ, ◌≤◌, List, ◌++◌, length, codes, decimal, sym, ◌∙◌, subst}
 use Rattle.std.specs.Prelude.{Option, Some, None, IfSome}
 use Rattle.host_io.specs.Files.{Files}
 use Rattle.host_io.specs.PerName.{under}
@@ -8,7 +8,7 @@ use Rattle.prefix_table.specs.Text.{IsTableText}
 use Rattle.prefix_table.specs.declared.row.Row.{Row}
 use Rattle.asmap_vm.specs.Code.{code, IsSaneFile}
 use Rattle.asmap_compile.specs.Compiled.{compiled}
-use Rattle.addrman_run.specs.Tables.{HasTable, most_text}
+use Rattle.addrman_run.specs.Tables.{most_text}
 use Rattle.addrman_run.specs.Compile.{Compiles, compile_text}
 
 pub table_line : (files : Option Files) (bytes : List ℕ) (rows : List Row) (file line : List ℕ) (P : List ℕ → Type 0) →

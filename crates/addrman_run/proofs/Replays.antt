@@ -1,10 +1,9 @@
 -- What a replay writes, from what its calls say.
-use Rattle.std.proofs.Common.{◌≡◌, ℕ, ◌≤◌, List, length, refl, sym, ap, ◌∙◌, subst, inr, arith}
+use Rattle.std.proofs.Common.{◌≡◌, ℕ, ◌≤◌, List, length, refl, sym, ap, ◌∙◌, subst, inr}
 use Rattle.std.specs.Prelude.{Option, Some, None, IfSome}
 use Rattle.host_io.specs.Files.{Files}
 use Rattle.host_io.specs.PerName.{under}
 use Rattle.host_io.specs.Outside.{Outside}
-use Rattle.host_io.specs.Reading.{TakesAtMost}
 use Rattle.host_io.specs.Writing.{Appended}
 use Rattle.host_io.specs.declared.name.Name.TheVariants as name
 use Rattle.asmap_vm.specs.Asmap.{Asmap}
@@ -14,7 +13,7 @@ use Rattle.asmap_vm.specs.declared.fault.CodeFault.TheVariants.{Insane}
 use Rattle.log_lines.specs.Spelling.{HasFault}
 use Rattle.log_lines.specs.declared.fault.LineFault.{LineFault}
 use Rattle.manager.specs.Machine.{Machine}
-use Rattle.addrman_run.specs.Asmaps.{HasMap, HasAsmap, RefusesAsmap, most_asmap}
+use Rattle.addrman_run.specs.Asmaps.{HasMap, RefusesAsmap, most_asmap}
 use Rattle.addrman_run.specs.Inside.{IsLinesEnd, IsMapOf}
 use Rattle.addrman_run.specs.Lines.{LineStep, IsNotBuilt}
 use Rattle.addrman_run.specs.Replay.{IsMapIn, ReplayText, Writes, opening}

@@ -1,5 +1,5 @@
 -- What a lookup writes, and how it ends.
-use Rattle.std.specs.Prelude.{◌≡◌, ◌⊎◌, ℕ, List, ◌++◌, Option, Some, None, IfSome, codes, decimal, ⊤}
+use Rattle.std.specs.Prelude.{◌≡◌, ◌⊎◌, ℕ, List, ◌++◌, Option, Some, None, IfSome, codes, decimal}
 use Rattle.hex.specs.Hex.{encode_lower}
 use Rattle.host_io.specs.Files.{Files}
 use Rattle.host_io.specs.PerName.{under}

@@ -1,5 +1,5 @@
 -- The folder's prefixes.txt.
-use Rattle.std.specs.Prelude.{◌≡◌, ◌≢◌, ℕ, ◌<◌, ◌≤◌, List, [], length, Option, Some, IfSome, option_map}
+use Rattle.std.specs.Prelude.{◌≡◌, ℕ, ◌<◌, ◌≤◌, List, [], length, Option, Some, IfSome, option_map}
 use Rattle.host_io.specs.Files.{Files}
 use Rattle.host_io.specs.PerName.{under}
 use Rattle.host_io.specs.declared.name.Name.TheVariants as name
@@ -9,7 +9,6 @@ use Rattle.prefix_table.specs.declared.fault.TableFault.{TableFault}
 use Rattle.prefix_table.specs.declared.fault.TableFault.TheVariants as table
 use Rattle.asmap_vm.specs.Code.{code}
 use Rattle.asmap_compile.specs.Compiled.{compiled}
-use Rattle.asmap_compile.specs.declared.fault.CompileFault.{CompileFault}
 use Rattle.asmap_compile.specs.declared.fault.CompileFault.TheVariants as compile
 use Rattle.addrman_run.specs.declared.tables_fault.TablesFault.{TablesFault}
 use Rattle.addrman_run.specs.declared.tables_fault.TablesFault.TheVariants.{Rows, Compile}

@@ -1,11 +1,10 @@
 -- An entry takes one number at most.
-use Rattle.std.proofs.Common.{◌≡◌, ℕ, ◌+◌, ◌≤◌, Bool, true, false, cond, Option, Some, None, arith}
+use Rattle.std.proofs.Common.{ℕ, ◌+◌, ◌≤◌, Bool, true, false, cond, Option, Some, None, arith}
 use Rattle.net_addr.specs.Address.{Address}
 use Rattle.net_addr.specs.declared.entry.Entry.{Entry}
 use Rattle.peer_rec.specs.declared.rec.Rec.{Rec}
-use Rattle.table_machine.specs.State.{State, find_peer, new_occupant}
-use Rattle.table_machine.specs.Entries.{Outcome, no, yes, with_record, give_bucket, take_bucket, delete, clear_slot, enter_occupied, enter_slot, enter_bucket, refresh, add_known, new_record, with_last, add_unknown, add_by, penalty_of, add}
-use Rattle.manager.specs.Messages.{take_entry}
+use Rattle.table_machine.specs.State.{State, find_peer}
+use Rattle.table_machine.specs.Entries.{Outcome, no, yes, with_record, give_bucket, take_bucket, delete, clear_slot, enter_slot, enter_bucket, refresh, new_record, with_last, add_by, penalty_of, add}
 
 at_most : (b : Bool) (x y : Outcome) (n : ℕ) → x.state.next_number ≤ n → y.state.next_number ≤ n → (cond b x y).state.next_number ≤ n
 at_most true x y n h k = h

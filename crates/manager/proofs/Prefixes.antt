@@ -1,9 +1,8 @@
 -- The first entries of a message, and one more.
-use Rattle.std.proofs.Common.{◌≡◌, ℕ, zero, suc, ◌+◌, ◌<◌, ◌≤◌, List, [], ◌∷◌, length, get_or, take, Option, Some, None, Bool, cond, refl, sym, ap, ◌∙◌, arith}
+use Rattle.std.proofs.Common.{◌≡◌, ℕ, zero, suc, ◌+◌, ◌<◌, ◌≤◌, List, [], ◌∷◌, length, get_or, take, Option, None, Bool, cond, refl, sym, ap, ◌∙◌, arith}
 use Rattle.net_addr.specs.Address.{Address}
 use Rattle.net_addr.specs.declared.entry.Entry.{Entry}
 use Rattle.table_machine.specs.State.{State}
-use Rattle.table_machine.specs.Entries.{Outcome}
 use Rattle.manager.specs.Machine.{Machine}
 use Rattle.manager.specs.Messages.{Tally, take_entry, take_entries}
 

@@ -1,4 +1,4 @@
-use Rattle.std.proofs.Common.{◌≡◌, ℕ, ◌+◌, ◌-◌, ◌≤◌, List, ◌++◌, length}
+use Rattle.std.proofs.Common.{ℕ, ◌+◌, ◌-◌, ◌≤◌, List, length}
 use Rattle.host_io.specs.Writing.{Appended}
 use Rattle.addrman_run.proofs.Runs.{SoFar}
 use Rattle.addrman_run.proofs.run_lines.run_lines.Given as goal

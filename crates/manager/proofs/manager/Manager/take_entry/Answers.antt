@@ -1,4 +1,4 @@
-use Rattle.std.proofs.Common.{◌≡◌, ◌+◌, ◌≤◌, sym, subst}
+use Rattle.std.proofs.Common.{◌+◌, ◌≤◌, sym, subst}
 use Rattle.table_machine.specs.State.{State}
 use Rattle.table_machine.specs.Entries.{add}
 use Rattle.manager.specs.Machine.{Machine}
