@@ -9,6 +9,7 @@ use std::test::Fail;
 
 // The line has this fault.
 fn assert_fault(rt: &(impl Abort + AllocGlobal), line: &str, want: LineFault) {
+    assert!(rt; line.len() <= 100);
     match read_line(rt.alloc(), line.as_bytes()) {
         Err(fault) => assert_eq!(rt; fault, want, "the line {line:?}"),
         Ok(_) => assert!(rt; false, "the line {line:?} is read"),
@@ -58,6 +59,7 @@ fn a_message_is_read_with_its_word(rt: HostRuntime) -> Result<(), Fail> {
 fn comments_and_empty_lines_are_passed_over(rt: HostRuntime) {
     let lines: [&[u8]; 3] = [b"", b"#", b"# now 1"];
     for line in lines {
+        assert!(rt; line.len() <= 100);
         assert!(rt;
             matches!(&read_line(rt.alloc(), line), Ok(None)),
             "the line {line:?}"
@@ -166,6 +168,7 @@ fn a_line_has_the_fault_of_its_first_field_out_of_form(rt: HostRuntime) {
 
 // The line is read as a command.
 fn assert_read(rt: &(impl Abort + AllocGlobal), line: &str) {
+    assert!(rt; line.len() <= 100);
     assert!(rt;
         matches!(&read_line(rt.alloc(), line.as_bytes()), Ok(Some(_))),
         "the line {line:?}"
@@ -201,11 +204,12 @@ fn a_line_of_each_kind_is_read(rt: HostRuntime) {
 
 #[test]
 fn a_long_number_is_refused(rt: HostRuntime) -> Result<(), Fail> {
-    let mut line = vec![in rt.alloc(); b'9'; 1000004]?;
-    line[0] = b'n';
-    line[1] = b'o';
-    line[2] = b'w';
-    line[3] = b' ';
+    let mut line = Vec::new(rt.alloc());
+    line.extend_from_slice(b"now ")?;
+    for _ in 0..1000000 {
+        line.push(b'9')?;
+    }
+    assert!(rt; line.len() <= 1000004);
     match read_line(rt.alloc(), line.as_slice()) {
         Err(fault) => assert_eq!(rt; fault, LineFault::Number),
         Ok(_) => assert!(rt; false, "it is read"),
@@ -256,6 +260,7 @@ fn a_seed_stands_for_the_outputs_of_its_generator(rt: HostRuntime) -> Result<(),
 
 // The reply has this text.
 fn assert_reply(rt: &(impl Abort + AllocGlobal), reply: &Reply, want: &str) -> Result<(), Fail> {
+    assert!(rt; !matches!(reply, Reply::Refused(MsgFault::Memory)));
     let mut text = Vec::new(rt.alloc());
     put_reply(reply, &mut text)?;
     assert_eq!(rt; text.as_slice(), want.as_bytes());
