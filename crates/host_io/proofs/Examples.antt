@@ -34,7 +34,7 @@ no_file_of_another_name there = false≢true there
 appended_at_the_end : Appended (Some (7 ∷ [])) (Some (7 ∷ 8 ∷ 9 ∷ [])) (8 ∷ 9 ∷ [])
 appended_at_the_end = refl
 
--- a sink that does not tell its bytes meets each claim on them
+-- a sink whose bytes are not known meets each claim on them
 not_told : Appended None None (8 ∷ 9 ∷ [])
 not_told = tt
 

@@ -3,12 +3,12 @@ use Rattle.std.proofs.Common.{◌≡◌, ℕ, ◌+◌, ◌≤◌, List, [], ◌+
 use Rattle.std.proofs.Math.Seq.{drop-append-add}
 use Rattle.host_io.specs.Reading.{MovesBytes}
 
--- what is left of a list after a text at its front, less some more
+-- the rest of a list after a prefix, less some more
 drop_on : (bytes text rest : List ℕ) (n : ℕ) → bytes ≡ text ++ rest → drop n rest ≡ drop (length text + n) bytes
 drop_on bytes text rest n whole =
     sym (drop-append-add text rest n) ∙ ap (λ xs. drop (length text + n) xs) (sym whole)
 
--- the bytes of the reads so far and those of one more are the first ones
+-- the bytes of the reads before and those of one more are the first ones
 pub take_on : (old mid : Option (List ℕ)) (new : ℕ → Option (List ℕ)) (text : List ℕ) (at most limit : ℕ)
     → MovesBytes old mid [] text → at ≡ length text
     → IfSome mid (λ bytes. (n : ℕ) × (n ≤ most) × (new (at + n) ≡ Some (drop n bytes)))
@@ -23,7 +23,7 @@ take_on (Some bytes) mid new text at most limit moved place more within =
       taken.2 ∙ ap Some (drop_on bytes text so_far.0 taken.0 so_far.2 ∙ ap (λ k. drop (k + taken.0) bytes) (sym place)),
     )
 
--- what does not tell its bytes does not tell them later
+-- unknown bytes stay unknown
 pub untold_on : (old mid : Option (List ℕ)) (new : ℕ → Option (List ℕ)) (at : ℕ)
     → IfNone old (mid ≡ None) → ((later : ℕ) → IfNone mid (new later ≡ None))
     → IfNone old (new at ≡ None)

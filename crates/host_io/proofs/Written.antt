@@ -3,7 +3,7 @@ use Rattle.std.proofs.Common.{◌≡◌, ℕ, ◌+◌, ◌-◌, List, ◌++◌, 
 use Rattle.std.proofs.Math.Seq.{take-add}
 use Rattle.std.proofs.lemmas.Grind.{common_steps}
 
--- the slice from a place on is the list without what stands before that place
+-- the slice from an offset on is the list without what is before that offset
 the_rest : (bytes : List ℕ) (done : ℕ) → take (length bytes - done) (drop done bytes) ≡ drop done bytes
 the_rest bytes done = grind (arith, common_steps)
 
@@ -18,7 +18,7 @@ written-step (Some before) now new bytes done more h k =
     ∙ append_assoc before (take done bytes) (take more (drop done bytes))
     ∙ ap (λ xs. before ++ xs) (sym (take-add done more bytes)))
 
--- a sink that does not tell never tells
+-- the unknown bytes of a sink stay unknown
 pub untold-step : (old now new : Option (List ℕ))
     → IfNone old (now ≡ None) → IfNone now (new ≡ None) → IfNone old (new ≡ None)
 untold-step (Some before) now new h k = tt

@@ -8,11 +8,11 @@ use Rattle.host_io.specs.declared.per_name.PerName.{PerName}
 abbrev pub Files : Type 0
 Files = PerName (Option (List ℕ))
 
--- The bytes of a file, if the folder tells its files and this one is there.
+-- The bytes of a file, if contracts know the folder's files and this one is there.
 abbrev pub told_bytes : Option Files → Name → Option (List ℕ)
 told_bytes None name = None
 told_bytes (Some files) name = under files name
 
--- The file is there, if the folder tells its files.
+-- The file is there, if contracts know the folder's files.
 abbrev pub IsThere : Option Files → Name → Type 0
 IsThere told name = IfSome told (λ files. IsSome (under files name))

@@ -6,7 +6,7 @@ use Rattle.host_io.specs.declared.call.Call.{Call}
 use Rattle.host_io.specs.declared.call.Action.{Action}
 
 -- The files; the calls that fail, each by its number, and whether it changes the folder all the
--- same; the calls so far; how many they were, how many of them failed, and how many of them found
+-- same; the calls made until now; how many they were, how many of them failed, and how many of them found
 -- no memory for what they keep.
 pub record FolderState : Type 0 where
   pub files : Files
@@ -20,7 +20,7 @@ pub record FolderState : Type 0 where
 abbrev pub NextFails : FolderState → Type 0
 NextFails folder = Any (λ fail. fail.0 ≡ folder.calls) folder.fails
 
--- The calls so far and the next one.
+-- The calls made until now and the next one.
 abbrev pub history_with : FolderState → Action → List Call
 history_with folder action =
     folder.history ++ record { number = folder.calls; action = action } ∷ []

@@ -1,4 +1,4 @@
--- What a sink tells after some bytes were written to it. A sink that does not tell its bytes meets
+-- The bytes of a sink after some were written to it. A sink whose bytes contracts do not know meets
 -- each of these.
 use Rattle.std.specs.Prelude.{◌≡◌, ℕ, ◌<◌, ◌≤◌, List, ◌++◌, length, take, Option, Some, IfSome}
 

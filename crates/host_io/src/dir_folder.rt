@@ -10,7 +10,7 @@ use std::marker::Model;
 use std::rt::Files;
 use std::{fs, io};
 
-/// The current folder of the process. It tells nothing of the files. The file whose size was asked
+/// The current folder of the process. Contracts do not know its files. The file whose size was asked
 /// last stays open until the next call on another name, so that it is read as it was then, even if
 /// it is replaced meanwhile.
 #[derive(Drop)]

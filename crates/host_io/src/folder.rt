@@ -9,10 +9,10 @@ use crate::name::Name;
 
 /// A folder of files.
 pub trait Folder {
-    /// The files as they read now, if it tells them.
+    /// The files as they read now; `None` if contracts do not know them.
     ghost files: { Self → Option Files };
 
-    /// How often it has failed; the count stays at 2^64 - 1 once it is there.
+    /// How often it has failed; the count stops at 2^64 - 1.
     ghost faults: { Self → ℕ };
 
     /// The length of the file in bytes, or `None` if it is absent.

@@ -73,7 +73,7 @@ impl MemFolder {
         })
     }
 
-    /// Puts a file into the folder, or another in its place. This is no call of `Folder`.
+    /// Creates or replaces a file. This is not a call of `Folder`.
     pub fn put(&mut self, name: Name, bytes: &[u8]) -> Result<(), Memory>
         ensures put { OnOk result (under self.new.files name ≡ Some bytes.now) }
         ensures same_files { (other : Name) → other ≢ name →
@@ -100,21 +100,21 @@ impl MemFolder {
         }
     }
 
-    /// The calls of `Folder` so far, in order, without those that found no memory.
+    /// The calls of `Folder` made until now, in order, without those that found no memory.
     pub fn history(&self) -> &[Call]
         ensures { result.now ≡ self.now.history }
     {
         &self.history
     }
 
-    /// How many calls of `Folder` there were; the count stays at 2^64 - 1 once it is there.
+    /// How many calls of `Folder` there were; the count stops at 2^64 - 1.
     pub fn calls(&self) -> u64
         ensures { result ≡ self.now.calls }
     {
         self.calls
     }
 
-    /// How many calls found no memory for their record; the count stays at 2^64 - 1 once it is there.
+    /// How many calls found no memory for their record; the count stops at 2^64 - 1.
     pub fn starved(&self) -> u64
         ensures { result ≡ self.now.starved }
     {

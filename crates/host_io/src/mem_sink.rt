@@ -59,7 +59,7 @@ impl MemSink {
         &self.bytes
     }
 
-    /// How many calls found no memory for their piece; the count stays at 2^64 - 1 once it is there.
+    /// How many calls found no memory for their piece; the count stops at 2^64 - 1.
     pub fn starved(&self) -> u64
         ensures { result ≡ self.now.starved }
     {

@@ -10,10 +10,11 @@ use crate::source::Source;
 
 /// How the next bytes of a `T` are read.
 pub trait NextBytes<T> {
-    /// The bytes from an offset on, if the `T` tells them.
+    /// The bytes from an offset on; `None` if contracts do not know them.
     ghost rest: { Self → T → ℕ → Option (List ℕ) };
 
-    /// The files that reading leaves as they are, if there are any and the `T` tells them.
+    /// The files, which reading leaves as they are; `None` if there are none or contracts do not
+    /// know them.
     ghost files: { T → Option Files };
 
     /// How often the `T` has failed.

@@ -6,10 +6,10 @@ use crate::failed::Failed;
 
 /// Where bytes go, as the output of a program.
 pub trait Sink {
-    /// The bytes written, if it tells them.
+    /// The bytes written; `None` if contracts do not know them.
     ghost written: { Self → Option (List ℕ) };
 
-    /// How often it has failed; the count stays at 2^64 - 1 once it is there.
+    /// How often it has failed; the count stops at 2^64 - 1.
     ghost faults: { Self → ℕ };
 
     /// Appends the first bytes of `piece`, at least one, and returns how many.

@@ -5,10 +5,10 @@ use crate::failed::Failed;
 
 /// Where bytes come from, as the input of a program.
 pub trait Source {
-    /// The bytes that are left, if it tells them.
+    /// The bytes that are left; `None` if contracts do not know them.
     ghost left: { Self → Option (List ℕ) };
 
-    /// How often it has failed; the count stays at 2^64 - 1 once it is there.
+    /// How often it has failed; the count stops at 2^64 - 1.
     ghost faults: { Self → ℕ };
 
     /// Moves the next bytes to the start of `buf` and returns how many; 0 is the end of the input.

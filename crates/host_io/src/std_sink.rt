@@ -6,7 +6,7 @@ use crate::sink::Sink;
 use std::io::Write;
 use std::marker::Model;
 
-/// A sink over any writer, as standard output. It tells nothing of the bytes.
+/// A sink over any writer, as standard output. Contracts do not know its bytes.
 #[derive(Debug, Drop)]
 pub struct StdSink<W> {
     writer: W,
@@ -33,7 +33,7 @@ impl<W: Write> Sink for StdSink<W> {
 
     ghost faults = { λ s. s };
 
-    /// One write to the writer, which is flushed, so that no byte is held back. Each error is a
+    /// Writes once to the writer and flushes it, so that no byte stays in a buffer. Each error is a
     /// fault, and so is a write that takes no byte.
     fn write(&mut self, piece: &[u8]) -> Result<usize, Failed>
         requires { 0 < length piece.now }

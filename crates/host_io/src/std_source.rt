@@ -6,7 +6,7 @@ use crate::source::Source;
 use std::io::Read;
 use std::marker::Model;
 
-/// A source over any reader, as standard input. It tells nothing of the bytes.
+/// A source over any reader, as standard input. Contracts do not know its bytes.
 #[derive(Debug, Drop)]
 pub struct StdSource<R> {
     reader: R,

@@ -4,7 +4,7 @@ use crate::failed::Failed;
 use crate::folder::Folder;
 use crate::name::Name;
 
-/// A folder without files. It never fails, and tells nothing of their bytes.
+/// A folder without files that never fails. Contracts do not know that it is empty.
 #[derive(Clone, Copy, PartialEq, Eq, Debug)]
 pub struct SureFolder;
 

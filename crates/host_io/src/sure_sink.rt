@@ -3,7 +3,7 @@ ghost use Rattle.std.specs.Prelude.{◌≡◌, ◌<◌, length, IsOk, IfOk, None
 use crate::failed::Failed;
 use crate::sink::Sink;
 
-/// A sink that takes all and keeps nothing. It never fails, and tells nothing.
+/// A sink that takes all bytes, keeps none, and never fails. Contracts do not know the bytes.
 #[derive(Clone, Copy, PartialEq, Eq, Debug)]
 pub struct SureSink;
 
