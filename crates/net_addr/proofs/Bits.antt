@@ -6,7 +6,7 @@ use Rattle.std.specs.Int.{bit_at}
 use Rattle.std.specs.List.{starts_with}
 use Rattle.net_addr.specs.Ranges.{bits_of, range, in_range}
 
--- what the first bits tell, once one more bit is told
+-- the test of the first bits, with one more bit
 one_more : (x y x' y' : ℕ) (t : Bool) → x' ≡ x / 2 → y' ≡ y / 2 → (eqb x' y' && (eqb (x % 2) (y % 2) && t)) ≡ (eqb x y && t)
 one_more x y x' y' t e f = grind (arith, nat_tests)
 

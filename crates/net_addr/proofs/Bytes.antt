@@ -46,7 +46,7 @@ from_v1-cases xs false true t a b c l h = IsAddress-plain Internal (drop 6 xs) (
 from_v1-cases xs false false true a b c l h = IsAddress-ipv6 (replicate 16 0) refl sixteen_zeros refl
 from_v1-cases xs false false false a b c l h = IsAddress-ipv6 xs l h (rw (a, b, c) refl)
 
--- what sixteen bytes of the old form stand for is an address
+-- sixteen bytes of the old form give an address
 pub IsAddress-from_v1 : (xs : List ℕ) → length xs ≡ 16 → All (λ b. b < 256) xs → IsAddress (from_v1 xs)
 IsAddress-from_v1 xs l h = from_v1-cases xs _ _ _ refl refl refl l h
 

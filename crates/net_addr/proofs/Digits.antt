@@ -39,7 +39,7 @@ pub decoded : (text : List ℕ) (n k : ℕ) (bytes out : List ℕ) (r : Result (
 decoded text n k bytes out r m e h =
     subst (λ (d : Result (List ℕ) FromHexError). MatchResult d (λ b. (r ≡ Ok tt) × (out ≡ b)) (λ e. r ≡ Err e)) (ap (decode_sized text) e ∙ h) m
 
--- where the decoder wrote bytes, the text decodes to them
+-- if the decoder wrote bytes, the text decodes to them
 pub written : (d : Result (List ℕ) FromHexError) (out : List ℕ) (r : Result (Unit {0}) FromHexError) → MatchResult d (λ b. (r ≡ Ok tt) × (out ≡ b)) (λ e. r ≡ Err e) → r ≡ Ok tt → d ≡ Ok out
 written (Ok bytes) out r m e = ap Ok (sym m.1)
 written (Err x) out r m e = cc

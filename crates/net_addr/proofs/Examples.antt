@@ -27,12 +27,12 @@ text_with_the_first_longest_run : addr_text (address Ipv6 (0x20 ∷ 0x01 ∷ 0x0
 unfolding hex_groups_text hex
 text_with_the_first_longest_run = refl
 
--- one zero group alone is written out
+-- a single zero group is written out
 text_with_one_zero_group : addr_text (address Ipv6 (0x20 ∷ 0x01 ∷ 0x0d ∷ 0xb8 ∷ 0 ∷ 0 ∷ 0 ∷ 1 ∷ 0 ∷ 2 ∷ 0 ∷ 3 ∷ 0 ∷ 4 ∷ 0xab ∷ 0xcd ∷ [])) ≡ codes "[2001:db8:0:1:2:3:4:abcd]"
 unfolding hex_groups_text hex
 text_with_one_zero_group = refl
 
--- :: is a run of eight, ::1 of seven at the front, 1:: of seven at the end
+-- :: is a run of eight, ::1 of seven at the start, 1:: of seven at the end
 text_of_zeros : map addr_text (address Ipv6 (replicate 16 0) ∷ address Ipv6 (replicate 15 0 ++ 1 ∷ []) ∷ address Ipv6 (0 ∷ 1 ∷ replicate 14 0) ∷ []) ≡ codes "[::]" ∷ codes "[::1]" ∷ codes "[1::]" ∷ []
 unfolding hex_groups_text hex
 text_of_zeros = refl

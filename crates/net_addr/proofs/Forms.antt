@@ -1,4 +1,4 @@
--- The first bytes of a text tell which form of address it is.
+-- The first bytes of a text determine which form of address it is.
 use Rattle.std.proofs.Common.{◌≡◌, ◌≢◌, ℕ, ◌/◌, ◌%◌, ◌<◌, ◌≤◌, List, [], ◌∷◌, ◌++◌, get_or, Option, None, Some, decimal, sym, ap, ◌∙◌, subst, arith}
 use Rattle.std.specs.Prelude.{IfSome}
 use Rattle.std.specs.List.{join_with_byte}
@@ -11,7 +11,7 @@ use Rattle.net_addr.specs.Text.IsAddrText.{dotted, bracketed, onion, i2p, cjdns,
 use Rattle.net_addr.specs.declared.net.Net.{Net}
 use Rattle.net_addr.specs.declared.net.Net.TheVariants.{Onion, I2p, Cjdns, Internal}
 
--- what a value has, another has too
+-- a property of a value, weakened
 pub if_some : {A : Type 0} (P Q : A → Type 0) → ((x : A) → P x → Q x) → (o : Option A) → IfSome o P → IfSome o Q
 if_some P Q f None h = tt
 if_some P Q f (Some x) h = f x h

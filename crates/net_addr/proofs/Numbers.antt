@@ -53,7 +53,7 @@ decimal-no_zero_first text n e h zero_first =
           ap length (e ∙ ap decimal zero_itself ∙ decimal_digit 0 (omega arith))
     ]
 
--- at each place of a number there is a digit, and no prefix is larger
+-- at each index of a numeral there is a digit, and no prefix is larger
 pub decimal-next : (text : List ℕ) (n i value : ℕ) → text ≡ decimal n → n < 2 ^ 64 → i < length text → Reads text i value → IsInRange 48 57 (get_or text i 0) × (value * 10 + (get_or text i 0 - 48) ≤ n)
 decimal-next text n i value e h lt so_far =
     let known = numeral text n e h in

@@ -45,12 +45,12 @@ torv2_prefix = 0xfd ∷ 0x87 ∷ 0xd8 ∷ 0x7e ∷ 0xeb ∷ 0x43 ∷ []
 abbrev pub begins_with : List ℕ → List ℕ → Bool
 begins_with bytes prefix = starts_with ◌==◌ bytes prefix
 
--- sixteen bytes that stand for something else than an IPv6 address
+-- sixteen bytes that are the old form of something other than an IPv6 address
 abbrev pub is_old_form : List ℕ → Bool
 is_old_form bytes = begins_with bytes mapped_prefix || begins_with bytes internal_prefix || begins_with bytes torv2_prefix
 
--- an address of one of the six networks: the network's length, bytes, and no IPv6 value that stands
--- for something else
+-- an address of one of the six networks: as many bytes as the network has, each below 256, and no
+-- IPv6 value that is the old form of something else
 pub record IsAddress (a : Address) : Type 0 where
   pub network : a.net ≢ Unroutable
   pub length : length a.bytes ≡ length_of a.net

@@ -31,7 +31,7 @@ bytes_by Internal bytes = B.Internal bytes
 abbrev pub bytes_of : Address → Bytes
 bytes_of a = bytes_by a.net a.bytes
 
--- an IPv6 value stands for no other address
+-- an IPv6 value is not the old form of another address
 abbrev pub IsOwnForm : Bytes → Type 0
 IsOwnForm (B.Ipv6 bytes) = is_old_form bytes ≡ false
 IsOwnForm (B.Ipv4 bytes) = Unit {0}

@@ -8,7 +8,7 @@ use Rattle.net_addr.specs.declared.peer.Peer.{Peer}
 abbrev pub address : Net → List ℕ → Address
 address net bytes = record { net = net; bytes = bytes }
 
--- what sixteen bytes stood for in messages before BIP 155 (`CNetAddr::SetLegacyIPv6`); a Tor v2
+-- the address that sixteen bytes gave in messages before BIP 155 (`CNetAddr::SetLegacyIPv6`); a Tor v2
 -- address becomes the IPv6 address `::`
 abbrev pub from_v1 : List ℕ → Address
 from_v1 bytes =
@@ -26,7 +26,7 @@ v1_by Onion bytes = None
 v1_by I2p bytes = None
 v1_by Cjdns bytes = None
 
--- the sixteen bytes of the old form, where the address has one (`CNetAddr::SerializeV1Array`)
+-- the sixteen bytes of the old form, if the address has one (`CNetAddr::SerializeV1Array`)
 abbrev pub v1_bytes : Address → Option (List ℕ)
 v1_bytes a = v1_by a.net a.bytes
 

@@ -1,5 +1,5 @@
--- When two addresses are the same: what `==` computes, and that it is true exactly where they are
--- one.
+-- When two addresses are the same: what `==` computes, and that it is true exactly when they are
+-- equal.
 use Rattle.std.specs.Prelude.{◌≡◌, ℕ, zero, suc, Bool, List, [], ◌∷◌, ◌++◌, ◌&&◌, ◌==◌, drop, slice_index, bytes_eq, IsTrue, refl}
 use Rattle.std.specs.Bool.{Decides}
 use Rattle.std.specs.Cmp.{IsEquivalence, IsPartialEquivalence, partial_equiv_from_equiv, on_equiv}
@@ -50,7 +50,7 @@ told_by_injective : (a b : Address) → told_by a ≡ told_by b → a ≡ b
 told_by_injective a b e =
     same_parts a b (number_of_injective a.net b.net (ap (λ xs. slice_index xs 0) e)) (ap (λ xs. drop 1 xs) e)
 
--- `==` of two addresses is true exactly where they are one
+-- `==` of two addresses is true exactly when they are equal
 pub same_address-Decides : (a b : Address) → Decides (same_address a b) (a ≡ b)
 unfolding same_address
 same_address-Decides a b =
@@ -78,7 +78,7 @@ same_peer p q = same_address p.addr q.addr && p.port == q.port
 same_peer_parts : (p q : Peer) → p.addr ≡ q.addr → p.port ≡ q.port → p ≡ q
 same_peer_parts p q e f = λ i. record { addr = e i; port = f i }
 
--- `==` of two peers is true exactly where they are one
+-- `==` of two peers is true exactly when they are equal
 pub same_peer-Decides : (p q : Peer) → Decides (same_peer p q) (p ≡ q)
 same_peer-Decides p q =
     let d = Decides-and (same_address p.addr q.addr) (p.port == q.port) (same_address-Decides p.addr q.addr) (Decides-eqb p.port q.port) in

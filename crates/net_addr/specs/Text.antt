@@ -17,11 +17,11 @@ abbrev pub ipv4_text : List ℕ → List ℕ
 ipv4_text bytes = join_with_byte 46 (map decimal bytes)
 
 -- eight groups, lower case and with no leading zeros, between colons. A run of at least two zero
--- groups is `::`: the longest one, and the first where several are as long (RFC 5952)
+-- groups is `::`: the longest one, and the first of several that are as long (RFC 5952)
 abbrev pub ipv6_text : List ℕ → List ℕ
 ipv6_text bytes = hex_groups_text (segments_of bytes)
 
--- the word before the hexadecimal digits of an address that is written by them
+-- the label before the hexadecimal digits of an address; none for networks written otherwise
 abbrev pub label_of : Net → List ℕ
 label_of Onion = codes "onion:"
 label_of I2p = codes "i2p:"
@@ -53,7 +53,7 @@ abbrev pub IsIpv4Text : List ℕ → ℕ → Type 0
 IsIpv4Text text bits = (bits < 2 ^ 32) × (text ≡ ipv4_text (to_be_bytes w32 bits))
 
 -- a text that is read as an IPv6 address of 128 bits. Groups of one to four hexadecimal digits, in
--- either case, are divided by colons, and one `::` may stand for a zero group or more (forms 1 and
+-- either case, are divided by colons, and one `::` may replace a zero group or more (forms 1 and
 -- 2 of RFC 4291, 2.2). Form 3, whose last two groups are an IPv4 address, is not read, so the text
 -- has no dot
 pub record IsIpv6Text (text : List ℕ) (bits : ℕ) : Type 0 where
@@ -66,7 +66,7 @@ pub record IsHexOf (net : Net) (digits : List ℕ) (a : Address) : Type 0 where
   pub network : a.net ≡ net
   pub bytes : decode_sized digits (length_of net) ≡ Ok a.bytes
 
--- the network's word, and the digits
+-- the network's label, and the digits
 pub record IsHexText (net : Net) (text : List ℕ) (a : Address) : Type 0 where
   pub digits : List ℕ
   pub spelled : text ≡ label_of net ++ digits

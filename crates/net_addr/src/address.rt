@@ -55,7 +55,7 @@ impl NetAddr {
 
     /// The address of a network and its bytes in the order of the wire. `None` for the network
     /// `Unroutable`, for another number of bytes than the network's addresses have, and for IPv6
-    /// bytes that stand for an address of another kind in the old form.
+    /// bytes that are the old form of an address of another kind.
     pub fn of(net: Net, bytes: &[u8]) -> Option<NetAddr>
         ensures found { IfSome result (λ a. a ≡ address net bytes.now) }
         ensures address { IfSome result IsAddress }
@@ -229,7 +229,7 @@ impl NetAddr {
         }
     }
 
-    /// The sixteen bytes of the form that messages had before BIP 155, where the address has one
+    /// The sixteen bytes of the form that messages had before BIP 155, if the address has one
     /// (`CNetAddr::SerializeV1Array`).
     pub fn v1_bytes(&self) -> Option<[u8; 16]>
         ensures { result ≡ v1_bytes self.now }

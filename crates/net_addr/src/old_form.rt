@@ -9,7 +9,7 @@ pub(crate) const INTERNAL_PREFIX: [u8; 6] = [0xfd, 0x6b, 0x88, 0xc0, 0x87, 0x24]
 
 pub(crate) const TORV2_PREFIX: [u8; 6] = [0xfd, 0x87, 0xd8, 0x7e, 0xeb, 0x43];
 
-/// Whether sixteen bytes stand for something else than an IPv6 address.
+/// Whether sixteen bytes are the old form of something other than an IPv6 address.
 pub(crate) fn is_old_form(bytes: &[u8]) -> bool
     ensures { result ≡ is_old_form bytes.now }
 {

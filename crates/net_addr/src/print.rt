@@ -114,7 +114,7 @@ fn bracketed(bytes: &[u8], alloc: Global) -> Result<Vec<u8>, AllocError>
     Ok(text)
 }
 
-/// A word and the hexadecimal digits of the bytes.
+/// A label and the hexadecimal digits of the bytes.
 fn labelled(label: &str, bytes: &[u8], alloc: Global) -> Result<Vec<u8>, AllocError>
     ensures { IfOk result (λ text. text.items ≡ label.now ++ encode_lower bytes.now) }
 {

@@ -141,7 +141,7 @@ fn bits_of(bytes: &[u8; 16]) -> u128
     u128::from_be_bytes(*bytes)
 }
 
-/// Whether more digits come after a zero at the front.
+/// Whether the text begins with a zero and has more digits.
 fn is_padded(text: &[u8]) -> bool
     ensures { IsTrue result ↔ ((1 < length text.now) × (slice_index text.now 0 ≡ 48)) }
 {
