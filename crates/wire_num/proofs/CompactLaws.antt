@@ -190,7 +190,7 @@ unfolding compact_at Cause
 compact_cause [] f fits e = subst (CompactFault []) (err_is {A = ℕ × List ℕ} Truncated f e) tt
 compact_cause (b ∷ rest) f fits e = cause_by b rest (first_of_byte b (fits 0)) (λ i. fits (suc i)) f e
 
--- ---- each fault comes where it is there
+-- ---- each fault is found if it is there
 
 CutFirst : List ℕ → ℕ → Type 0
 CutFirst rest b = IsCut (b ∷ rest) → compact_at (b ∷ rest) ≡ Err Truncated

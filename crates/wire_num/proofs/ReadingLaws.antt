@@ -1,4 +1,4 @@
--- A reading of bytes from the front and the format that it reads: they agree on the value, the rest and the fault.
+-- A reading of bytes from the start and the format that it reads: they agree on the value, the rest and the fault.
 use Rattle.std.proofs.Common.{◌≡◌, ◌≢◌, ◌⊎◌, ℕ, zero, suc, ◌+◌, ◌<◌, Bool, true, false, cond, List, [], ◌∷◌, ◌++◌, length, get_or, All, Result, Ok, Err, refl, sym, ap, subst, ◌∙◌, append_assoc, inl, inr, lit<}
 use Rattle.std.proofs.lemmas.Bool.{cases_lt}
 use Rattle.std.proofs.lemmas.List.{get_or-append-add, get_or_past, append-nil}
@@ -136,7 +136,7 @@ Reads-check {F = F} {A = A} false fault a = record {
   first = λ bytes f h. let is = h.1 in ap (λ (t : F). failed {A = A × List ℕ} t) (sym is);
 }
 
--- ---- so many of one
+-- ---- this many of one
 
 pub Reads-times : {F A : Type 0} (n : ℕ) (p : Format F A) (r : List ℕ → Result (A × List ℕ) F) → Reads p r → Reads (times n p) (times_at n r)
 unfolding times times_at

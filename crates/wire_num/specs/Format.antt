@@ -1,4 +1,4 @@
--- What bytes mean that are read from the front, field by field: the value that they spell, or their first fault.
+-- The meaning of bytes that are read from the start, field by field: the value that they spell, or their first fault.
 use Rattle.std.specs.Prelude.{◌≡◌, ◌≢◌, ℕ, zero, suc, List, [], ◌∷◌, ◌++◌, Bool, true, false, ◌⊎◌}
 
 -- which bytes spell a value; and which bytes begin with fields that show no fault, and then a field that shows this one
@@ -34,7 +34,7 @@ check passes fault a = record {
   shows = λ bytes f. (passes ≡ false) × (f ≡ fault);
 }
 
--- so many values of one format
+-- this many values of one format
 unfoldable pub times : {F A : Type 0} → ℕ → Format F A → Format F (List A)
 times zero p = value []
 times (suc n) p = do

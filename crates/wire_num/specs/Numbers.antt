@@ -1,4 +1,4 @@
--- Numbers of a fixed width at an offset, None where fewer bytes are there.
+-- Numbers of a fixed width at an offset, None if there are fewer bytes.
 use Rattle.std.specs.Prelude.{ℕ, List, length, take, drop, Option, Some, None, nat_lt, if◌then◌else◌}
 use Rattle.std.specs.Int.{w16, w32, w64, from_le_bytes, from_be_bytes}
 

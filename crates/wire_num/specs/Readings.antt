@@ -1,4 +1,4 @@
--- What reading from the front gives: a value and the bytes after it, or the fault.
+-- What reading from the start gives: a value and the bytes after it, or the fault.
 use Rattle.std.specs.Prelude.{◌≡◌, ℕ, zero, suc, ◌≤◌, ◌^◌, List, [], ◌∷◌, length, take, drop, Result, Ok, Err, nat_lt, nat_le, ◌==◌, if◌then◌else◌}
 use Rattle.std.specs.Int.{Width, w16, w32, w64, byte_len, from_le_bytes, from_be_bytes}
 use Rattle.wire_num.specs.declared.fault.WireFault.{WireFault}
@@ -9,7 +9,7 @@ abbrev pub ◌>>=◌ : {F A B : Type 0} → Result A F → (A → Result B F) �
 (Ok x) >>= f = f x
 (Err e) >>= f = Err e
 
--- so many values of one reading
+-- this many values of one reading
 unfoldable pub times_at : {F A : Type 0} → ℕ → (List ℕ → Result (A × List ℕ) F) → List ℕ → Result (List A × List ℕ) F
 times_at zero r bytes = Ok ([], bytes)
 times_at (suc n) r bytes = r bytes >>= λ first. times_at n r first.1 >>= λ others. Ok (first.0 ∷ others.0, others.1)
@@ -56,7 +56,7 @@ compact_at (b ∷ rest) =
     else if b == 254 then wide_at w32 (2 ^ 16) rest
     else wide_at w64 (2 ^ 32) rest
 
--- An answer, seen by view, is what the reading gives.
+-- The view of an answer is what the reading gives.
 abbrev pub Gives : {F X Y : Type 0} → (X → Y) → Result X F → Result Y F → Type 0
 Gives view (Ok x) read = read ≡ Ok (view x)
 Gives view (Err e) read = read ≡ Err e

@@ -9,7 +9,7 @@ use crate::fault::WireFault;
 use crate::memory::Memory;
 use crate::numbers::{read_le16, read_le32, read_le64};
 
-// A number that was read in `length` bytes, of which the first tells the width. Fewer bytes fit
+// A number that was read in `length` bytes, of which the first gives the width. Fewer bytes fit
 // only a number below `least`.
 fn in_width(number: Option<u64>, least: u64, length: usize) -> Result<(u64, usize), WireFault>
     ensures cut { IfNone number (result ≡ Err Truncated) }
@@ -37,7 +37,7 @@ fn compact_of(bytes: &[u8]) -> Result<(u64, usize), WireFault>
     }
 }
 
-/// The CompactSize at the front of the bytes, and how many bytes it takes (`ReadCompactSize` in
+/// The CompactSize at the start of the bytes, and how many bytes it takes (`ReadCompactSize` in
 /// serialize.h of Bitcoin Core, without its limit on the value). Bytes may follow it.
 pub fn read_compact(bytes: &[u8]) -> Result<(u64, usize), WireFault>
     ensures found { IfOk result (λ x. (x.1 ≤ length bytes.now) ×

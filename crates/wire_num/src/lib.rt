@@ -1,6 +1,6 @@
 //! Numbers of messages and files: of fixed width, and in the Bitcoin protocol's CompactSize.
 //!
-//! `read_` functions read at an offset. `take_` functions read a field from the front of some bytes
+//! `read_` functions read at an offset. `take_` functions read a field from the start of some bytes
 //! and hand back the bytes after it.
 #![tactic(auto)]
 
