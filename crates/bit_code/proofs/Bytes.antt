@@ -113,7 +113,7 @@ join_more old bytes more r rest left i first next room h e =
     ∙ ap (λ xs. xs ++ low_digits 8 b) h
     ∙ simp append_assoc (ap (λ xs. file_bits old ++ (low_digits r rest ++ xs)) (sym longer))
 
--- what stands from one byte on is the same in two lists
+-- two lists are the same from one byte on
 module _ (bytes old : List ℕ) (i : ℕ) (room : i < length bytes) (within : i < length old) (same : drop i bytes ≡ drop i old) where
   pub same_byte : get_or bytes i 0 ≡ get_or old i 0
   same_byte = ap (λ xs. get_or xs 0 0) (sym (drop-cons bytes i 0 room) ∙ same ∙ drop-cons old i 0 within)

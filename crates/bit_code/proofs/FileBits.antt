@@ -1,4 +1,4 @@
--- The bits of a file by their places, and of some bytes as a number.
+-- The bits of a file by their offsets, and of some bytes as a number.
 use Rattle.std.proofs.Common.{◌≡◌, ℕ, zero, suc, ◌+◌, ◌-◌, ◌*◌, ◌/◌, ◌%◌, ◌^◌, ◌<◌, Bool, true, List, [], ◌∷◌, ◌++◌, length, get_or, drop, Some, refl, ap, sym, ◌∙◌, arith, length-append, append_assoc, add-one, drop-cons}
 use Rattle.std.specs.List.{slice_get}
 use Rattle.std.proofs.Math.ListN.{get_or-append, drop_of_length-le}
@@ -27,7 +27,7 @@ length-file_bits [] = refl
 length-file_bits (b ∷ bytes) =
     omega (arith, length-append (low_digits 8 b) (file_bits bytes), length-low_digits 8 b, length-file_bits bytes)
 
--- bit r of byte q stands at 8 q + r
+-- bit r of byte q is at offset 8 q + r
 pub get_or-file_bits : (bytes : List ℕ) (q r : ℕ) (d : Bool) → q < length bytes → r < 8 → get_or (file_bits bytes) (8 * q + r) d ≡ has_bit (get_or bytes q 0) r
 unfolding file_bits
 get_or-file_bits [] q r d hq hr = absurd (omega arith)
@@ -38,7 +38,7 @@ get_or-file_bits (b ∷ bytes) (suc q) r d hq hr =
     let e : 8 * suc q + r - 8 ≡ 8 * q + r = omega arith in
     get_or-append_right (low_digits 8 b) (file_bits bytes) 8 (8 * suc q + r) d (length-low_digits 8 b) (omega arith) ∙ (rw e (get_or-file_bits bytes q r d (omega arith) hr))
 
--- the bit at a place is a bit of the byte there
+-- the bit at an offset is a bit of the byte there
 pub slice_get-file_bits : (bytes : List ℕ) (at : ℕ) → at < length bytes * 8 → slice_get (file_bits bytes) at ≡ Some (has_bit (get_or bytes (at / 8) 0) (at % 8))
 slice_get-file_bits bytes at h =
     let e : 8 * (at / 8) + at % 8 ≡ at = omega arith in

@@ -1,4 +1,4 @@
--- What some bits begin with, from what they begin with where more bits follow.
+-- What some bits begin with, by what they begin with when more bits follow.
 use Rattle.std.proofs.Common.{◌≡◌, ℕ, ◌+◌, ◌-◌, ◌/◌, ◌^◌, ◌<◌, ◌≤◌, Bool, List, ◌++◌, length, drop, Option, Some, ap, sym, ◌∙◌, arith, append_assoc, length-append, length-drop}
 use Rattle.std.proofs.lemmas.List.{append_cancel_right, drop-append-le}
 use Rattle.bit_code.specs.declared.coder.Coder.{Coder}
@@ -9,7 +9,7 @@ use Rattle.bit_code.specs.Reading.{read_front}
 use Rattle.bit_code.proofs.LowDigits.{length-low_digits, low_digits_split}
 use Rattle.bit_code.specs.ReadingLaws.{read_front-again, read_front-takes}
 
--- the same word stands there with fewer bits after it
+-- the same spelling with fewer bits after it
 pub shorter : (bits after word : List Bool) (len : ℕ) → bits ++ after ≡ word ++ drop len (bits ++ after) → len ≤ length bits → bits ≡ word ++ drop len bits
 shorter bits after word len e h =
     let rest : drop len (bits ++ after) ≡ drop len bits ++ after = drop-append-le len bits after h in
@@ -27,7 +27,7 @@ pub more_after : (coder : Coder) (n : ℕ) (bits rest after : List Bool) → Spe
 more_after coder n bits rest after h =
     record { value = h.value; spelled = ap (λ xs. xs ++ after) h.spelled ∙ append_assoc (spelling coder n) rest after }
 
--- with more bits after them, the bits begin with this value, which so many bits spell
+-- with more bits after them, the bits begin with this value, which this many bits spell
 pub record BeginsWith (coder : Coder) (value len : ℕ) (bits : List Bool) : Type 0 where
   pub after : List Bool
   pub room : len ≤ length (bits ++ after)

@@ -25,7 +25,7 @@ pow_cancel i j h =
       | inr more ↦ let rises : 2 ^ j ≤ 2 ^ i = pow_mono more in absurd (omega arith)
     ]
 
--- the place of the highest digit that is set
+-- the index of the highest digit that is set
 pub record IsTop (n top : ℕ) : Type 0 where
   pub low : 2 ^ top ≤ n
   pub high : n < 2 * 2 ^ top
@@ -63,7 +63,7 @@ ones_class class last h =
       stop = λ less. no_bit _ (bit_at_ones_above class class (omega arith));
     }
 
--- a number with its top digit at this place
+-- a number with its top digit at this index
 spelled_class : (first class last n : ℕ) → class ≤ last → 2 ^ (first + class) ≤ n → n < 2 * 2 ^ (first + class) → class_head class last ++ digits (first + class) n ≡ spelling_by (range_with_len first (suc last)) (n - 2 ^ first)
 spelled_class first class last n h low high =
     let size = first + class in

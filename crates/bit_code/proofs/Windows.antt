@@ -1,4 +1,4 @@
--- The bits from a place on, as a number.
+-- The bits from an offset on, as a number.
 use Rattle.std.proofs.Common.{◌≡◌, ℕ, suc, ◌+◌, ◌-◌, ◌*◌, ◌/◌, ◌%◌, ◌^◌, ◌<◌, ◌≤◌, Bool, List, [], ◌∷◌, ◌++◌, length, get_or, drop, refl, ap, sym, ◌∙◌, arith, append_assoc, append-nil, length-drop}
 use Rattle.std.specs.Int.{from_le_bytes, w64}
 use Rattle.std.proofs.Math.Seq.{drop-append_seam, drop-cons}
@@ -53,7 +53,7 @@ last_word bytes q word list zeros e size small same =
       shown = sym (file_bits-append (drop q bytes) zeros) ∙ ap file_bits (sym e ∙ parts) ∙ sym number ∙ sym (append-nil _);
     }
 
--- the digits of a word from one on
+-- the digits of a word from one of them on
 shifted_word : (word r : ℕ) (rest : List Bool) → r < 8 → (more : List Bool) × (drop r (low_digits 64 word ++ rest) ≡ low_digits 57 (word / 2 ^ r) ++ more)
 shifted_word word r rest h =
     let e : 64 ≡ r + (57 + (7 - r)) = omega arith in

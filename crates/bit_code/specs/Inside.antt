@@ -1,4 +1,4 @@
--- Words of the private contracts: some bits of a file as a number, and what they begin with.
+-- Definitions for the private contracts: some bits of a file as a number, and what they begin with.
 use Rattle.std.specs.Prelude.{◌≡◌, ℕ, ◌+◌, ◌*◌, ◌<◌, ◌≤◌, Bool, true, false, List, [], ◌∷◌, ◌++◌, drop, slice_index}
 use Prim.Native.Nat.{zero, suc}
 use Rattle.std.specs.List.{range_with_len}
@@ -37,7 +37,7 @@ pub record HasClasses (coder : Coder) (classes : Classes) : Type 0 where
   pub fits : classes.first + classes.last ≤ 30
   pub low : classes.least < 32
 
--- the bits before the digits of a value of a class, where a last class has this number
+-- the bits before the digits of a value of a class, by the class and the last class
 abbrev pub class_head : ℕ → ℕ → List Bool
 class_head zero zero = []
 class_head zero (suc last) = false ∷ []

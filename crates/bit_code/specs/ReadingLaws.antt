@@ -27,7 +27,7 @@ digits_at-again size n rest h =
     let back : drop size (digits size n ++ rest) ≡ rest = rw length-digits at (drop-append_seam (digits size n) rest) in
     rw (long, front, back, number_of-digits size n h) refl
 
--- what stands behind a test that fails was not refused
+-- a value after a test means that the test did not refuse
 guard_some : {A : Type 0} (b : Bool) (x y : A) → cond b None (Some x) ≡ Some y → (b ≡ false) × (x ≡ y)
 guard_some true x y h = cc
 guard_some false x y h = (refl, cc)
@@ -46,7 +46,7 @@ digits_at-takes size n bits rest h =
       spelled = rw (front, ← same_rest, take-append-drop) refl;
     }
 
--- the value and the rest, behind a test of the class
+-- the value and the rest, after a test of the class
 after_some : (passed n : ℕ) (rest : List Bool) (read : Option (ℕ × List Bool)) → after_values passed read ≡ Some (n, rest) → (m : ℕ) × (read ≡ Some (m, rest)) × (passed + m ≡ n)
 after_some passed n rest None h = cc
 after_some passed n rest (Some r) h =

@@ -44,8 +44,8 @@ pub(crate) fn cat_bits(first: u64, first_len: u32, last: u64, last_len: u32) -> 
     first + (last << first_len)
 }
 
-/// Appends the whole bytes that `len` bits make, the first bit as the lowest. Gives the bits that are
-/// left.
+/// Appends the whole bytes that `len` bits make, the first bit as the lowest. Returns the bits that
+/// are left.
 pub(crate) fn append_bits(bytes: &mut Vec<u8>, bits: u64, len: u32) -> u8
     requires few { len < 64 }
     requires room { vec_len bytes.old + 8 ≤ vec_capacity bytes.old }
@@ -74,7 +74,7 @@ fn join_byte(rest: u8, rest_len: u32, byte: u8) -> (u8, u8)
     ((bits % 256) as u8, (bits >> 8) as u8)
 }
 
-/// Appends the bits of `rest` and then those of some bytes. Gives the bits that are left.
+/// Appends the bits of `rest` and then those of some bytes. Returns the bits that are left.
 pub(crate) fn append_bytes(bytes: &mut Vec<u8>, rest: u8, rest_len: u32, more: &[u8]) -> u8
     requires few { rest_len < 8 }
     requires rest { rest < 2 ^ rest_len }
@@ -94,7 +94,7 @@ pub(crate) fn append_bytes(bytes: &mut Vec<u8>, rest: u8, rest_len: u32, more: &
     left
 }
 
-/// Appends the whole bytes at the end of `len` bits, the last byte first. Gives the bits that are
+/// Appends the whole bytes at the end of `len` bits, the last byte first. Returns the bits that are
 /// left before them.
 pub(crate) fn prepend_bits(bytes: &mut Vec<u8>, bits: u64, len: u32) -> u8
     requires few { len < 64 }
@@ -111,7 +111,7 @@ pub(crate) fn prepend_bits(bytes: &mut Vec<u8>, bits: u64, len: u32) -> u8
     low_bits(bits, len % 8)
 }
 
-/// Puts the bits of `rest` before those of some bytes, which move up. Gives the bits that no longer
+/// Puts the bits of `rest` before those of some bytes, which move up. Returns the bits that no longer
 /// fit.
 pub(crate) fn shift_in(bytes: &mut [u8], rest: u8, rest_len: u32) -> u8
     requires few { rest_len < 8 }
