@@ -34,7 +34,7 @@ impl Buckets {
         Buckets::of(ArrayVec::new())
     }
 
-    /// One bucket alone.
+    /// A single bucket.
     pub fn one(bucket: u16) -> Buckets
         ensures { result ≡ bucket ∷ [] }
     {
@@ -85,7 +85,7 @@ impl Buckets {
     }
 }
 
-// At most eight buckets as a list of their own.
+/// At most eight buckets as a list of their own.
 fn list_of(buckets: &[u16]) -> ArrayVec<u16, 8>
     requires { length buckets.now ≤ 8 }
     ensures { result.items ≡ buckets.now }
@@ -95,7 +95,7 @@ fn list_of(buckets: &[u16]) -> ArrayVec<u16, 8>
     items
 }
 
-// Puts buckets last, where there is room for them.
+/// Appends buckets, for which there is room.
 fn append(items: &mut ArrayVec<u16, 8>, more: &[u16])
     requires { array_vec_len items.old + length more.now ≤ 8 }
     ensures { items.new.items ≡ items.old.items ++ more.now }
@@ -104,7 +104,7 @@ fn append(items: &mut ArrayVec<u16, 8>, more: &[u16])
     let _ = items.try_extend_from_slice(more);
 }
 
-// The buckets below one.
+/// The buckets below `bucket`.
 fn below(buckets: &[u16], bucket: u16) -> ArrayVec<u16, 8>
     requires { length buckets.now ≤ 8 }
     ensures { result.items ≡ filter (λ b. nat_lt b bucket) buckets.now }
@@ -114,7 +114,7 @@ fn below(buckets: &[u16], bucket: u16) -> ArrayVec<u16, 8>
     items
 }
 
-// The buckets above one.
+/// The buckets above `bucket`.
 fn above(buckets: &[u16], bucket: u16) -> ArrayVec<u16, 8>
     requires { length buckets.now ≤ 8 }
     ensures { result.items ≡ filter (λ b. nat_lt bucket b) buckets.now }

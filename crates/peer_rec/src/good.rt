@@ -6,7 +6,7 @@ pub enum Good {
     Unknown,
     /// It is in the tried table already.
     Already,
-    /// Its slot of the tried table is taken, and the one that stands there is to be tested first.
+    /// Its slot of the tried table is taken, and the peer there is to be tested first.
     Clash,
     /// It went into the tried table.
     Moved,

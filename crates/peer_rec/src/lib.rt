@@ -1,4 +1,4 @@
-//! What is kept of a peer: where it was heard of, when it was seen and tried, and its place in the tables.
+//! The record of a peer: its source, when it was last seen and tried, and its place in the tables.
 #![tactic(auto)]
 
 mod buckets;

@@ -10,7 +10,7 @@ const AHEAD: u64 = 600;
 /// Seconds after which a peer that was not seen is forgotten (`ADDRMAN_HORIZON` in addrman.cpp of
 /// Bitcoin Core).
 const HORIZON: u64 = 2_592_000;
-/// From so many tries on, a peer that never succeeded is given up (`ADDRMAN_RETRIES`).
+/// From this many tries on, a peer that never succeeded is given up (`ADDRMAN_RETRIES`).
 const RETRIES: u32 = 3;
 /// More seconds than this without a success are too many, with as many tries as below
 /// (`ADDRMAN_MIN_FAIL`).
@@ -20,16 +20,16 @@ const MAX_FAILURES: u32 = 10;
 /// Seconds in which a try counts as recent.
 const RECENT: u64 = 600;
 
-/// What is known of a peer. Times are seconds since 1970, 0 where the event has not been
+/// What is known of a peer. Times are seconds since 1970, 0 if the event has not happened
 /// (`AddrInfo` in addrman_impl.h of Bitcoin Core).
 #[derive(Drop)]
 pub struct Rec {
     /// Numbers are given in order and never used again.
     pub number: u64,
     pub peer: Peer,
-    /// Who first told of the peer.
+    /// The address that first announced the peer.
     pub source: NetAddr,
-    /// When the peer was last seen, as far as is known.
+    /// When the peer was last seen, as announced.
     pub time: u32,
     pub services: u64,
     pub last_success: u32,
@@ -118,7 +118,8 @@ impl Rec {
     }
 }
 
-// What so many tries leave of 2^30 parts, each of the first eight 66 in 100, rounded down once.
+/// What this many tries leave of 2^30 parts: 66 in 100 for each of the first eight, rounded down
+/// once.
 fn parts_after(attempts: u32) -> u64
     ensures { let tries = min attempts 8 in result ≡ (2 ^ 30 * 66 ^ tries) / 100 ^ tries }
 {
