@@ -15,7 +15,7 @@ peer port = record { addr = address Ipv4 (8 ∷ 8 ∷ 8 ∷ 8 ∷ []); port = po
 abbrev rec : ℕ → Rec
 rec port = blank_record (peer port)
 
--- three records under ids that are not their places
+-- three records under ids that are not their positions
 abbrev three : Order
 three = with_last (with_last (with_last [] 5 (rec 1)) 2 (rec 2)) 9 (rec 3)
 
@@ -36,7 +36,7 @@ record_under_an_id = refl
 none_under_a_place : rec_of three 1 ≡ None
 none_under_a_place = refl
 
--- the last takes the place of the first, which is not closed up
+-- the last one moves to the position of the first; the others do not move up
 last_fills_the_gap : ids (without three (peer 1)) ≡ 9 ∷ 2 ∷ []
 unfolding same_address
 last_fills_the_gap = refl

@@ -1,4 +1,4 @@
--- What a slab of records beside a map of ids stands for, and what each change of the two leaves.
+-- The order that a slab of records and a map of ids hold, and what each change of the two leaves.
 use Rattle.std.proofs.Common.{◌≡◌, ◌≢◌, ℕ, zero, suc, ◌+◌, ◌<◌, Bool, true, false, cond, List, [], ◌∷◌, ◌++◌, length, get_or, Option, Some, None, refl, sym, ap, subst, ◌∙◌, inl, inr, arith, true≢false, ◌==◌, if◌then◌else◌}
 use Rattle.std.specs.Prelude.{find, All, IsSomeAnd, unwrap_or, slice_get, position, swap, nat_lt, not, IfSome, IsSome, is_some, option_copied}
 use Rattle.std.specs.Borrow.{Bor}
@@ -150,7 +150,7 @@ order_of-set old new (e ∷ es) id rec updates =
         let differs : e.1 ≢ id = λ same. true≢false (sym ((Decides-eqb e.1 id).1 same) ∙ h) in
         λ i. record { id = e.1; rec = unwrap_or (updates.others e.1 differs i) (blank_record e.0) }
 
--- a slab with the same records stands for the same order
+-- a slab with the same records holds the same order
 pub order_of-same : (old new : Slab Rec) (es : List (Peer × ℕ)) → ((key : ℕ) → get new key ≡ get old key) → order_of new es ≡ order_of old es
 order_of-same old new [] same = refl
 order_of-same old new (e ∷ es) same = λ i. record { id = e.1; rec = unwrap_or (same e.1 i) (blank_record e.0) } ∷ order_of-same old new es same i
@@ -169,7 +169,7 @@ fresh_from_none recs es id has none k d within same =
     let absent = ap (get recs) same ∙ none in
     absurd (cc)
 
--- a search by id finds the item at a place, where no item before has its id
+-- a search by id finds the item at a position if no item before has its id
 pub rec_of-at : (order : Order) (k : ℕ) (d : Item) → ((j : ℕ) → j < k → (get_or order j d).id ≢ (get_or order k d).id) → k < length order
     → rec_of order (get_or order k d).id ≡ Some (get_or order k d).rec
 rec_of-at [] k d first within = absurd (omega arith)
@@ -266,7 +266,7 @@ IsKept-add old new es fs id rec kept updates vacant absent distinct each = recor
         let differs : key ≢ id = λ one. subst (λ o. IsSomeAnd o (λ r. r.peer ≡ peer)) (ap (get old) one ∙ vacant) had in
         subst (λ o. IsSomeAnd o (λ r. r.peer ≡ peer)) (sym (updates.others key differs)) had
 
--- the others are kept where a peer and its record are taken out
+-- the others are kept when a peer and its record are removed
 pub IsKept-remove : (old new : Slab Rec) (es fs : List (Peer × ℕ)) (id : ℕ) (peer : Peer) → IsKept old es → Updates old new id None
     → lookup (same_peer peer) es ≡ Some id → IsDistinct same_peer (keys_of fs)
     → ((q : Peer) → lookup (same_peer q) fs ≡ cond (same_peer peer q) None (lookup (same_peer q) es)) → IsKept new fs
@@ -306,7 +306,7 @@ order_of-add old new es id peer rec kept updates vacant =
     ∙ ap (λ o. o ++ item_of new (peer, id) ∷ []) (order_of-other old new es id (Some rec) updates (fresh_from_none old es id (HasRec-each old es kept) vacant))
     ∙ (λ i. order_of old es ++ record { id = id; rec = unwrap_or (updates.changed i) (blank_record peer) } ∷ [])
 
--- the first place of a peer is one in the order and among the map's keys
+-- the first position of a peer is the same in the order and among the map's keys
 or_len-order_of : (recs : Slab Rec) (es : List (Peer × ℕ)) (peer : Peer) → All (HasRec recs) es
     → position_or_len (λ l. same_peer peer l.rec.peer) (order_of recs es) ≡ position_or_len (same_peer peer) (keys_of es)
 or_len-order_of recs [] peer has = refl
@@ -350,7 +350,7 @@ order_of-remove old new es id peer kept updates left =
 pub order_of-swap : (recs : Slab Rec) (es : List (Peer × ℕ)) (i j : ℕ) → order_of recs (swap es i j) ≡ swap (order_of recs es) i j
 order_of-swap recs es i j = map-swap (item_of recs) es i j
 
--- what the order has under an id, where the order is what slab and map stand for
+-- what the order has under an id, for the order that slab and map hold
 pub rec_of-value : (recs : Slab Rec) (es : List (Peer × ℕ)) (order : Order) → order_of recs es ≡ order → IsKept recs es → (id : ℕ) → rec_of order id ≡ get recs id
 rec_of-value recs es order is kept id = ap (λ o. rec_of o id) (sym is) ∙ rec_of-order_of recs es kept id
 
@@ -371,7 +371,7 @@ pub ids-order_of : (recs : Slab Rec) (es : List (Peer × ℕ)) → ids (order_of
 ids-order_of recs [] = refl
 ids-order_of recs (e ∷ es) = ap (λ ns. e.1 ∷ ns) (ids-order_of recs es)
 
--- the id at a place leads to the record at the place
+-- the id at a position leads to the record at that position
 pub rec_of-place : (order : Order) (place id : ℕ) → IsOrder order → slice_get (ids order) place ≡ Some id → rec_of order id ≡ slice_get (records order) place
 rec_of-place [] place id sound at = absurd (cc)
 rec_of-place (l ∷ order) place id sound at =
@@ -393,7 +393,7 @@ IsKept-reordered slab es fs distinct each kept = record {
   stored = λ id rec some. each rec.peer ∙ kept.stored id rec some;
 }
 
--- the id of a peer, where the order is what slab and map stand for
+-- the id of a peer, for the order that slab and map hold
 pub id_of-value : (recs : Slab Rec) (es : List (Peer × ℕ)) (order : Order) → order_of recs es ≡ order → IsKept recs es → (peer : Peer)
     → id_of order peer ≡ lookup (same_peer peer) es
 id_of-value recs es order is kept peer =
@@ -428,7 +428,7 @@ length-order_of recs es = length-map es (item_of recs)
 pub id_of-kept : (recs : Slab Rec) (es : List (Peer × ℕ)) (peer : Peer) → IsKept recs es → id_of (order_of recs es) peer ≡ lookup (same_peer peer) es
 id_of-kept recs es peer kept = id_of-order_of recs es peer (HasRec-each recs es kept)
 
--- two peers that are not one are not the same
+-- `==` is false for two peers that are not equal
 pub same_peer-differs : (p q : Peer) → q ≢ p → same_peer p q ≡ false
 same_peer-differs p q differs = by (same_peer p q) refl
   where

@@ -35,7 +35,7 @@ rec_of-each P (l ∷ order) id r each at =
     by true h at own rest = subst (λ q. P id q) (some_is l.rec r at) (subst (λ n. P n l.rec) ((Decides-eqb l.id id).0 h) own)
     by false h at own rest = rest at
 
--- where a search finds nothing, each record fails
+-- if a search finds nothing, each record fails the test
 pub find-fails : (p : Rec → Bool) (order : Order) (id : ℕ) (r : Rec) → find p (records order) ≡ None → rec_of order id ≡ Some r → p r ≡ false
 find-fails p [] id r none at = absurd (cc)
 find-fails p (l ∷ order) id r none at = by (p l.rec) refl none (find-fails p order id r)
@@ -91,7 +91,7 @@ pub same_peer_same_id : (order : Order) (i j : ℕ) (r q : Rec) → IsOrder orde
 same_peer_same_id order i j r q is at other same =
     some_is i j (sym (id_of-rec_of order i r is at) ∙ ap (id_of order) same ∙ id_of-rec_of order j q is other)
 
--- a map of what is left is what is left of the map, where the tests agree
+-- a map of what is left is what is left of the map, if the tests agree
 or_len-map : {X Y : Type 0} (f : X → Y) (t : X → Bool) (u : Y → Bool) (xs : List X) → All (λ x. t x ≡ u (f x)) xs
     → position_or_len t xs ≡ position_or_len u (map f xs)
 or_len-map f t u [] each = refl

@@ -10,7 +10,7 @@ use Rattle.peer_rec.specs.declared.rec.Rec.{Rec}
 use Rattle.peer_rec.specs.declared.place.Place.TheVariants.{Tried}
 use Rattle.peer_index.specs.Order.{Item, Order}
 
--- what would stand for a record that is missing, which none is
+-- the value for a missing record; no record is missing
 abbrev pub blank_record : Peer → Rec
 blank_record peer = record {
   number = 0;
@@ -32,7 +32,7 @@ item_of recs entry = record { id = entry.1; rec = unwrap_or (get recs entry.1) (
 abbrev pub order_of : Slab Rec → List (Peer × ℕ) → Order
 order_of recs entries = map (item_of recs) entries
 
--- no peer stands twice, each peer's id leads to its record, and each record of the slab stands in the order
+-- no peer is in the order twice, each peer's id leads to its record, and each record of the slab is in the order
 pub record IsKept (recs : Slab Rec) (entries : List (Peer × ℕ)) : Type 0 where
   pub found : (peer : Peer) (id : ℕ) → lookup (same_peer peer) entries ≡ Some id →
       IsSomeAnd (get recs id) (λ r. r.peer ≡ peer)

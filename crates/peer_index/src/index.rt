@@ -54,7 +54,7 @@ impl<H: BuildHasher> PeerIndex<H> {
         self.order.len()
     }
 
-    /// The id of the peer's record, None where there is none.
+    /// The id of the peer's record, None if there is none.
     pub fn find(&self, peer: &Peer) -> Option<usize>
         ensures found { result ≡ id_of self.now peer.now }
         ensures live { IfSome result (λ id. IsSomeAnd (rec_of self.now id) (λ r. r.peer ≡ peer.now)) }
@@ -73,7 +73,7 @@ impl<H: BuildHasher> PeerIndex<H> {
         &self.recs[id]
     }
 
-    /// Puts another record of the same peer under an id.
+    /// Replaces the record under an id by another of the same peer.
     pub fn set(&mut self, id: usize, rec: Rec)
         requires live { IsSome (rec_of self.old id) }
         requires peer { ForSome (rec_of self.old id) (λ r. r.peer ≡ rec.peer) }
@@ -86,8 +86,7 @@ impl<H: BuildHasher> PeerIndex<H> {
         self.recs[id] = rec;
     }
 
-    /// Puts the record of a new peer last, and gives its id. Where there is no memory, nothing
-    /// changes.
+    /// Appends the record of a new peer and returns its id. On an error nothing changes.
     pub fn add(&mut self, rec: Rec) -> Result<usize, Memory>
         requires few { length self.old < 2 ^ 31 }
         requires absent { id_of self.old rec.peer ≡ None }
@@ -111,7 +110,7 @@ impl<H: BuildHasher> PeerIndex<H> {
         }
     }
 
-    /// Takes the peer's record out. The last of the order takes its place.
+    /// Removes the peer's record. The last one of the order moves to its position.
     pub fn remove(&mut self, peer: &Peer)
         requires { IsSome (id_of self.old peer.now) }
         ensures removed { self.new ≡ without self.old peer.now }
@@ -126,7 +125,7 @@ impl<H: BuildHasher> PeerIndex<H> {
         self.recs.remove(gone);
     }
 
-    /// The id of the record at a place of the order.
+    /// The id of the record at a position in the order.
     pub fn at(&self, place: usize) -> usize
         requires { place < length self.now }
         ensures found { slice_get (ids self.now) place ≡ Some result }
@@ -136,7 +135,7 @@ impl<H: BuildHasher> PeerIndex<H> {
         self.order[place]
     }
 
-    /// Exchanges two places of the order.
+    /// Exchanges two positions in the order.
     pub fn swap(&mut self, i: usize, j: usize)
         requires i { i < length self.old }
         requires j { j < length self.old }
