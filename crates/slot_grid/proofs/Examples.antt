@@ -42,7 +42,7 @@ past_the_end = refl
 short_of_the_tried_table : tried_id (Some 5 ∷ Some 6 ∷ []) 0 0 ≡ None
 short_of_the_tried_table = refl
 
--- a list of empty slots alone is empty, and one with a record is not
+-- a list of only empty slots is empty, and one with a record is not
 all_empty : AreEmpty (replicate 81920 None)
 all_empty = record {
   new = λ bucket slot b s. get_or-replicate 81920 (64 * bucket + slot) None None (omega (arith, b, s));

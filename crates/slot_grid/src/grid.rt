@@ -11,7 +11,7 @@ const BUCKETS: usize = NEW_BUCKETS + 256;
 /// The slots of a bucket (`ADDRMAN_BUCKET_SIZE`).
 const SLOTS: usize = 64;
 
-/// The slots of the new and of the tried table: which record, by its id, stands in each. An id is
+/// The slots of the new and of the tried table: which record, by its id, is in each. An id is
 /// any number. Only `make` takes memory.
 #[derive(Drop)]
 pub struct Grid {
@@ -41,7 +41,7 @@ impl Grid {
         Ok(Grid { ids })
     }
 
-    /// The record in a slot of the new table, None where it is empty. The bucket is below 1024 and
+    /// The record in a slot of the new table, None if it is empty. The bucket is below 1024 and
     /// the slot below 64.
     pub fn new_at(&self, bucket: u16, slot: u8) -> Option<usize>
         requires bucket { bucket < 1024 }
@@ -63,7 +63,7 @@ impl Grid {
         self.ids[place] = id;
     }
 
-    /// The record in a slot of the tried table, None where it is empty. The bucket is below 256 and
+    /// The record in a slot of the tried table, None if it is empty. The bucket is below 256 and
     /// the slot below 64.
     pub fn tried_at(&self, bucket: u16, slot: u8) -> Option<usize>
         requires bucket { bucket < 256 }
@@ -86,21 +86,21 @@ impl Grid {
     }
 }
 
-// Where a slot of the new table stands among all.
+/// The index of a slot of the new table among all slots.
 fn new_place(bucket: u16, slot: u8) -> usize
     ensures { result ≡ 64 * bucket + slot }
 {
     usize::from(bucket) * SLOTS + usize::from(slot)
 }
 
-// Where a slot of the tried table stands among all.
+/// The index of a slot of the tried table among all slots.
 fn tried_place(bucket: u16, slot: u8) -> usize
     ensures { result ≡ 64 * (1024 + bucket) + slot }
 {
     (NEW_BUCKETS + usize::from(bucket)) * SLOTS + usize::from(slot)
 }
 
-// So many slots with nothing in them.
+/// This many empty slots.
 fn empty_slots(alloc: Global, count: usize) -> Result<Vec<Option<usize>>, AllocError>
     ensures length { IfOk result (λ v. vec_len v ≡ count) }
     ensures empty { IfOk result (λ v. All (λ id. id ≡ None) v.items) }
