@@ -1,4 +1,4 @@
--- How places are stored.
+-- How a placer is stored.
 use Rattle.std.specs.Prelude.{Option, option_map}
 use Rattle.asmap_vm.specs.Asmap.{Asmap}
 use Rattle.asmap_vm.specs.Held.{bytes_held, tree_held}

@@ -1,6 +1,5 @@
 -- Buckets and slots: where in the tables a peer can be (`AddrInfo::GetNewBucket`, `GetTriedBucket`
--- and
--- `GetBucketPosition` in addrman.cpp of Bitcoin Core).
+-- and `GetBucketPosition` in addrman.cpp of Bitcoin Core).
 use Rattle.std.specs.Prelude.{◌≡◌, ℕ, ◌<◌, ◌%◌, List, [], ◌∷◌, ◌++◌, length, take, map, replicate, All, Option, Some, None, IfSome, refl}
 use Rattle.std.specs.Int.{w32, w64, to_le_bytes, from_le_bytes}
 use Rattle.std.specs.List.{concat, range_with_len}
@@ -30,7 +29,7 @@ sized bytes = compact_size (length bytes) ++ bytes
 abbrev pub hash_of : List (List ℕ) → ℕ
 hash_of parts = cheap_hash (concat parts)
 
--- what places depend on: a node's secret key of 32 bytes, and its asmap if it has one
+-- what buckets and slots depend on: a node's secret key of 32 bytes, and its asmap if it has one
 pub record Places : Type 0 where
   pub key : List ℕ
   pub map : Option Asmap
@@ -64,7 +63,7 @@ sum_of (Some m) = double_sha256 m.file
 abbrev pub group : Places → Address → List ℕ
 group places a = group_of a (asn places.map a)
 
--- the 64 buckets of the new table for peers that sources of one group tell of
+-- the 64 buckets of the new table for peers that sources of one group announce
 abbrev pub source_bucket : Places → List ℕ → ℕ → ℕ
 source_bucket places source_group i = hash_of (places.key ∷ sized source_group ∷ to_le_bytes w64 i ∷ []) % 1024
 
@@ -82,7 +81,7 @@ group_buckets places peer_group = map (group_bucket places peer_group) (range_wi
 abbrev pub source_choice : Places → List ℕ → List ℕ → ℕ
 source_choice places peer_group source_group = hash_of (places.key ∷ sized peer_group ∷ sized source_group ∷ []) % 64
 
--- the bucket of the new table for a peer that a source tells of, below 1024
+-- the bucket of the new table for a peer that a source announces, below 1024
 unfoldable pub new_bucket : Places → Peer → Address → ℕ
 new_bucket places peer source =
     source_bucket places (group places source) (source_choice places (group places peer.addr) (group places source))

@@ -32,7 +32,7 @@ pub(crate) fn add_sized(hasher: &mut Sha256, bytes: &[u8])
     hasher.update(bytes);
 }
 
-/// The hash of what the hasher was fed with.
+/// The hash of the bytes that were fed.
 #[tactic(auto, unfolding(crate::specs::Places::cheap_hash, crate::specs::Places::double_sha256))]
 pub(crate) fn finish(hasher: Sha256) -> u64
     ensures { (m : List ℕ) → ⟦<Sha256 as Digest>⟧.holds hasher m → result ≡ cheap_hash m }

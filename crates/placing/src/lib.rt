@@ -1,4 +1,4 @@
-//! Buckets and slots of the tables, by hashes that a node's secret key takes part in.
+//! Buckets and slots of the tables, by hashes over a node's secret key.
 #![tactic(auto)]
 
 mod hash;

@@ -11,8 +11,8 @@ use net_group::asmap_bits;
 use sha2::{Digest, Sha256};
 use std::marker::Model;
 
-/// What places in the tables depend on: a node's secret key, which nobody else can foresee, and the
-/// node's asmap if it has one.
+/// What buckets and slots depend on: a node's secret key, which nobody else knows, and the node's
+/// asmap if it has one.
 #[derive(Drop)]
 pub struct Placer<'a> {
     key: [u8; 32],
@@ -38,7 +38,7 @@ impl<'a> Placer<'a> {
     ghost use Rattle.placing.specs.Places.{IsPlaces, hash_of, sized, slot, group_choice, asn, sum_of, group, source_bucket, source_buckets, source_choice, group_bucket, group_buckets, new_bucket, tried_bucket, new_slot, tried_slot};
     ghost use Rattle.placing.specs.Inside.{map_of};
 
-    /// The places of a node with this key and this asmap.
+    /// The placer of a node with this key and this asmap.
     pub fn make(key: [u8; 32], asmap: Option<Sane<'a>>) -> Placer<'a>
         ensures { result ≡ record { key = key; map = map_of asmap.entry } }
     {
@@ -73,7 +73,7 @@ impl<'a> Placer<'a> {
         }
     }
 
-    /// The network group of an address: two addresses of one group are thought to be in one hand.
+    /// The network group of an address: addresses of one group are assumed to have one owner.
     pub fn group(&self, addr: &NetAddr) -> ArrayVec<u8, 11>
         ensures { result.items ≡ group self.now addr.now }
     {
@@ -125,7 +125,7 @@ impl<'a> Placer<'a> {
         finish(hasher)
     }
 
-    /// The bucket of the new table, below 1024, for a peer that a source tells of: one of the 64
+    /// The bucket of the new table, below 1024, for a peer that a source announces: one of the 64
     /// buckets of the source's group, so that one source reaches few buckets
     /// (`AddrInfo::GetNewBucket` in addrman.cpp of Bitcoin Core).
     #[tactic(auto, unfolding(crate::specs::Places::new_bucket))]
@@ -196,7 +196,7 @@ impl<'a> Placer<'a> {
         (finish(hasher) % 64) as u8
     }
 
-    /// The 64 buckets of the new table for peers that sources of a group tell of. A group has at
+    /// The 64 buckets of the new table for peers that sources of a group announce. A group has at
     /// most 11 bytes.
     pub fn source_buckets(&self, group: &[u8]) -> [u16; 64]
         requires { length group.now ≤ 11 }
