@@ -1,4 +1,4 @@
--- The class Internal is that of internal addresses alone.
+-- Only internal addresses are of the class Internal.
 use Rattle.std.proofs.Common.{◌≡◌, Bool, true, false, cond, length, refl, ap, ◌∙◌}
 use Rattle.net_addr.specs.Address.{Address, IsAddress, length_of}
 use Rattle.net_addr.specs.Ranges.{is_routable, class_by, net_class}

@@ -7,8 +7,8 @@ ghost use Rattle.net_addr.specs.Ranges.{in_range, linked_by, net_class};
 use arrayvec::ArrayVec;
 use net_addr::{Net, NetAddr};
 
-/// The network group of an address in the autonomous system `asn`, or in none that is known where
-/// that is 0 (`NetGroupManager::GetGroup` in netgroup.cpp of Bitcoin Core).
+/// The network group of an address in the autonomous system `asn`, 0 if that is not known
+/// (`NetGroupManager::GetGroup` in netgroup.cpp of Bitcoin Core).
 pub fn group(addr: &NetAddr, asn: u32) -> ArrayVec<u8, 11>
     ensures { result.items ≡ group_of addr.now asn }
 {
