@@ -1,4 +1,4 @@
--- What reading a message from the front gives, field by field.
+-- What reading a message from the start gives, field by field.
 use Rattle.std.specs.Prelude.{◌≡◌, ◌≢◌, ℕ, List, Option, Some, Result, Ok, Err, option_map, nat_le, if◌then◌else◌}
 use Rattle.std.specs.Int.{w16, w32, w64}
 use Rattle.net_addr.specs.Address.{Address}
@@ -47,7 +47,7 @@ message_at r bytes = do
   n ← fault_as of_wire (compact_at bytes)
   if nat_le n.0 1000 then times_at n.0 r n.1 else Err TooMany
 
--- An answer, seen by view, is what the reading gives, unless memory ran out.
+-- The view of an answer is what the reading gives, unless memory ran out.
 abbrev pub GivesUnlessMemory : {X Y : Type 0} → (X → Y) → Result X MsgFault → Result Y MsgFault → Type 0
 GivesUnlessMemory view (Ok x) read = read ≡ Ok (view x)
 GivesUnlessMemory view (Err e) read = e ≢ Memory → read ≡ Err e

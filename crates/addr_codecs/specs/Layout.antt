@@ -52,7 +52,7 @@ addrv2_entry = do
   port ← field (be w16)
   value (option_map (entry time services port) addr)
 
--- the number of entries, at most 1000, and so many entries
+-- the number of entries, at most 1000, and this many entries
 unfoldable pub message : Format MsgFault (Option Entry) → Format MsgFault (List (Option Entry))
 message p = do
   n ← field compact

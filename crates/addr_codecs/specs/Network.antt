@@ -20,7 +20,7 @@ abbrev pub is_length : Option Net → ℕ → Bool
 is_length None len = true
 is_length (Some net) len = len == length_of net
 
--- whether IPv6 bytes stand for an IPv4 or a Tor v2 address, which `addrv2` has no use for
+-- whether IPv6 bytes are an embedded IPv4 or Tor v2 address, which `addrv2` does not use
 abbrev pub is_embedded : List ℕ → Bool
 is_embedded bytes = begins_with bytes mapped_prefix || begins_with bytes torv2_prefix
 

@@ -12,14 +12,14 @@ use wire_num::{take_byte, take_bytes, take_compact};
 /// The most bytes that an address may have (`MAX_ADDRV2_SIZE` in netaddress.h of Bitcoin Core).
 const MOST_BYTES: u64 = 512;
 
-/// What IPv6 bytes begin with that stand for an IPv4 address (`IPV4_IN_IPV6_PREFIX` in
+/// The prefix of IPv6 bytes that are an IPv4 address (`IPV4_IN_IPV6_PREFIX` in
 /// netaddress.h of Bitcoin Core).
 pub(crate) const MAPPED_PREFIX: [u8; 12] = [0, 0, 0, 0, 0, 0, 0, 0, 0, 0, 0xff, 0xff];
 
-/// What IPv6 bytes begin with that stand for an internal name (`INTERNAL_IN_IPV6_PREFIX`).
+/// The prefix of IPv6 bytes that are an internal name (`INTERNAL_IN_IPV6_PREFIX`).
 pub(crate) const INTERNAL_PREFIX: [u8; 6] = [0xfd, 0x6b, 0x88, 0xc0, 0x87, 0x24];
 
-/// What IPv6 bytes begin with that stood for a Tor v2 address (`TORV2_IN_IPV6_PREFIX`).
+/// The prefix of IPv6 bytes that were a Tor v2 address (`TORV2_IN_IPV6_PREFIX`).
 const TORV2_PREFIX: [u8; 6] = [0xfd, 0x87, 0xd8, 0x7e, 0xeb, 0x43];
 
 /// The network that a number of BIP 155 names.
@@ -66,7 +66,7 @@ fn take_length(network: Option<Net>, bytes: &[u8]) -> Result<(usize, &[u8]), Msg
     Ok((length as usize, rest))
 }
 
-/// The address of sixteen IPv6 bytes, unless they stand for an IPv4 or a Tor v2 address.
+/// The address of sixteen IPv6 bytes, unless they are an IPv4 or a Tor v2 address.
 fn ipv6(bytes: &[u8; 16]) -> Option<NetAddr>
     ensures { result ≡ address_of (Some Ipv6) bytes.now }
 {

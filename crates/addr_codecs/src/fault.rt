@@ -6,7 +6,7 @@ use std::alloc::{AllocError, AllocFailed};
 use thiserror::Error;
 use wire_num::WireFault;
 
-/// Why a message cannot be read: its first fault from the front.
+/// Why a message cannot be read: its first fault from the start.
 #[derive(Clone, Copy, Debug, PartialEq, Eq, Drop, Error)]
 pub enum MsgFault {
     /// The bytes end before a field does.
@@ -27,7 +27,7 @@ pub enum MsgFault {
     /// Bytes are left after the last entry.
     #[error("trailing")]
     Trailing = 6,
-    /// There was no memory for the entries.
+    /// Out of memory.
     #[error("out of memory")]
     Memory = 7,
 }

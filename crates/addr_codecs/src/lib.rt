@@ -1,4 +1,4 @@
-//! The messages `addr` and `addrv2`, by which nodes tell each other of peers.
+//! The messages `addr` and `addrv2`, by which nodes announce peers to each other.
 #![tactic(auto)]
 
 mod address;

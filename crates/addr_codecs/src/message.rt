@@ -18,7 +18,7 @@ use wire_num::take_compact;
 /// Core).
 const MOST_ENTRIES: u64 = 1000;
 
-/// Takes so many entries.
+/// Takes this many entries.
 fn take_entries(
     alloc: Global,
     form: Form,
@@ -64,7 +64,7 @@ fn read_message(alloc: Global, form: Form, bytes: &[u8]) -> Result<Entries, MsgF
 /// the services, low byte first, sixteen bytes of an address in the old form, and the port, high
 /// byte first (the message `addr` of the Bitcoin protocol). No entry is skipped.
 ///
-/// A fault is the first that is met from the front; `Memory` may come instead of any answer.
+/// An error is the first fault from the start; `Memory` is possible instead of any result.
 pub fn read_addr(alloc: Global, bytes: &[u8]) -> Result<Entries, MsgFault>
     ensures found { IfOk result (λ entries. IsAddrMessage bytes.now entries) }
     ensures few { IfOk result (λ entries. length entries ≤ 1000) }
@@ -80,10 +80,10 @@ pub fn read_addr(alloc: Global, bytes: &[u8]) -> Result<Entries, MsgFault>
 /// Reads an `addrv2` message (BIP 155): the number of entries, at most 1000, and for each entry the
 /// time, low byte first, the services, the number of the network, the length of the address and its
 /// bytes, and the port, high byte first. The count, the services and the length are CompactSizes.
-/// An entry is skipped if a node does not know its network, or if its IPv6 address stands for an
-/// IPv4 or a Tor v2 address.
+/// An entry is skipped if a node does not know its network, or if its IPv6 address is an
+/// embedded IPv4 or Tor v2 address.
 ///
-/// A fault is the first that is met from the front; `Memory` may come instead of any answer.
+/// An error is the first fault from the start; `Memory` is possible instead of any result.
 pub fn read_addrv2(alloc: Global, bytes: &[u8]) -> Result<Entries, MsgFault>
     ensures found { IfOk result (λ entries. IsAddrv2Message bytes.now entries) }
     ensures few { IfOk result (λ entries. length entries ≤ 1000) }

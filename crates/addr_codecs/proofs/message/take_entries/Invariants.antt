@@ -4,7 +4,7 @@ use Rattle.wire_num.proofs.LoopLaws.{with_front}
 use Rattle.addr_codecs.specs.Inside.{entry_at}
 use Rattle.addr_codecs.proofs.message.take_entries.Given as goal
 
--- the entries so far and those to come are all of them
+-- the entries that were read and those that are left are all of them
 abbrev pub invariant-loop : goal.invariant-loop
 invariant-loop l = record {
   told : with_front l.entries.items (times_at (l.count - l.counter) (entry_at l.form) l.rest) ≡ times_at l.count (entry_at l.form) l.bytes;
