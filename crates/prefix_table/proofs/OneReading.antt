@@ -198,7 +198,7 @@ table_one text rows others settled t u =
     let back = λ (r : Row) (has : Contains others r). Contains-permutation t.said rows r t.order (Contains-permutation others t.said r (IsPermutation-sym t.said others order) has) in
     rising_one rows others t.table.rising u.table.rising into back
 
--- where two cuts of a list are
+-- the order of two cuts of a list
 abbrev Cuts : {X : Type 0} → List X → X → List X → X → Type 0
 Cuts {X} a x b y = ((a ≡ b) × (x ≡ y)) ⊎ (((m : List X) × (b ≡ a ++ x ∷ m)) ⊎ ((m : List X) × (a ≡ b ++ y ∷ m)))
 

@@ -159,7 +159,7 @@ has_fault before line n TooMany h = absurd h
 has_fault before line n (TooLarge size) h = absurd h
 has_fault before line n Memory h = absurd h
 
--- a line's own fault is the fault where nothing repeats
+-- a line's own fault is the fault if nothing repeats
 pub stop_is : (text : List ℕ) (rows : List NumberedRow) (fault : TableFault) → StopsAt text rows fault → NoRepeat rows → IsOwnFault text fault
 stop_is text rows fault s none = record {
   own = record {
@@ -178,7 +178,7 @@ stop_is text rows fault s none = record {
   settled = s.settled;
 }
 
--- one row too many is the fault where nothing repeats
+-- one row too many is the fault if nothing repeats
 pub overflow_is : (text : List ℕ) (rows : List NumberedRow) → Overflows text rows → NoRepeat rows → IsOwnFault text TooMany
 overflow_is text rows o none =
     let read = overflow_read text rows o in

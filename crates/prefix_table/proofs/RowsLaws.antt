@@ -1,4 +1,4 @@
--- The lines that were read so far.
+-- The lines that were read before a step of the loop.
 use Rattle.std.proofs.Common.{◌≡◌, ℕ, ◌+◌, ◌<◌, ◌≤◌, List, [], ◌∷◌, ◌++◌, length, ◌∙◌, ap, sym, subst, arith, inl, inr, refl, append_assoc, append-nil, length-append, All}
 use Rattle.std.proofs.lemmas.List.Elements.{All-nil, All-push}
 use Rattle.prefix_table.specs.Text.{IsPassedOver, IsRowLine, lines_of}

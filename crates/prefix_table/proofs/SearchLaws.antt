@@ -34,7 +34,7 @@ IsLeft rows address most = (row : Row) → Contains rows row → covers row addr
 covers_is : (row : Row) (address : ℕ) → covers row address ≡ true → first_bits row.len address ≡ first_bits row.len row.bits
 covers_is row address c = eqb-true (first_bits row.len address) (first_bits row.len row.bits) c
 
--- a row that covers the address begins where the address does
+-- a row that covers the address has the first bits of the address
 pub begins_at : (row : Row) (address : ℕ) → IsRow row → covers row address ≡ true → row.bits ≡ cut address row.len
 begins_at row address is c =
     cut_clear row.bits row.len is.clear ∙ ap (λ n. n * 2 ^ (128 - row.len)) (sym (covers_is row address c))
@@ -55,7 +55,7 @@ le_up_to row address most up_to = elim (from_up_to row.bits row.len (cut address
   | inr (at, short) ↦ omega (arith, cut_le address most)
 ]
 
--- the row that was found covers the address, where the two agree in as many bits as it has
+-- the row that was found covers the address if the two agree in as many bits as it has
 pub covers_from : (row : Row) (address common : ℕ) → row.len ≤ 128 → AreCommon address row.bits common → row.len ≤ common → covers row address ≡ true
 covers_from row address common len are short = eq-eqb (first_bits row.len address) (first_bits row.len row.bits) ((are.agree row.len len).1 short)
 
@@ -121,7 +121,7 @@ longest_found rows address most common row table top left last are fits =
           ];
     }
 
--- where a search finds nothing, no row covers the address
+-- if a search finds nothing, no row covers the address
 pub none_covers : (rows : List Row) (address most bits : ℕ) → IsTable rows → most ≤ 128 → IsLeft rows address most → bits ≡ cut address most → ((other : Row) → Contains rows other → is_up_to bits most other ≡ true → ⊥) → (row : Row) → Contains rows row → covers row address ≡ true → ⊥
 none_covers rows address most bits table top left e none row has c =
     let up_to = covering_up_to row address most (All-contains IsRow rows row table.each has) c (left row has c) top in

@@ -20,7 +20,7 @@ with_line row line = record { bits = row.bits; len = row.len; line = line; asn =
 abbrev pub IsSettled : List ℕ → Type 0
 IsSettled line = (a b : Entry) → IsEntry line a → IsEntry line b → a ≡ b
 
--- each line is passed over, or is that of a row; these are the rows, where the first line has number n
+-- each line is passed over, or is that of a row; these are the rows, if the first line has number n
 unfoldable pub AreNumbered : ℕ → List (List ℕ) → List NumberedRow → Type 0
 AreNumbered n [] rows = rows ≡ []
 AreNumbered n (line ∷ lines) [] = IsPassedOver line × AreNumbered (n + 1) lines []
@@ -85,6 +85,6 @@ pub record IsRepeatAt (rows : List NumberedRow) (k n : ℕ) : Type 0 where
   pub same : (d : NumberedRow) → SamePrefix (row_in (slice_index_or rows k d)) (row_in (slice_index_or rows (k + 1) d))
   pub line : (d : NumberedRow) → (slice_index_or rows (k + 1) d).line ≡ n
 
--- the order of the rows of a table, and of their lines where prefixes are the same
+-- the order of the rows of a table; rows with the same prefix are in the order of their lines
 abbrev pub NotAfter : NumberedRow → NumberedRow → Type 0
 NotAfter a b = Precedes (row_in a) (row_in b) ⊎ (SamePrefix (row_in a) (row_in b) × (a.line ≤ b.line))

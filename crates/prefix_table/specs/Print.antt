@@ -17,7 +17,7 @@ ipv4_entry row = record { family = Ipv4; address = row.bits % 2 ^ 32; len = row.
 abbrev pub ipv6_entry : Row → Entry
 ipv6_entry row = record { family = Ipv6; address = row.bits; len = row.len; asn = row.asn }
 
--- what is printed of a row: the IPv4 form where it has one
+-- what is printed of a row: the IPv4 form if it has one
 abbrev pub entry_of : Row → Entry
 entry_of row = if is_mapped row then ipv4_entry row else ipv6_entry row
 

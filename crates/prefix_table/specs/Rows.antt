@@ -39,7 +39,7 @@ pub record IsTable (rows : List Row) : Type 0 where
   pub rising : AllPairs Precedes rows
   pub few : length rows ≤ MOST_ROWS
 
--- the row, or the other where that is longer
+-- the row, or the other one if that is longer
 abbrev pub longer : Row → Option Row → Row
 longer row None = row
 longer row (Some other) = if nat_lt row.len other.len then other else row

@@ -35,7 +35,7 @@ abbrev pub address_bits : Family → ℕ → ℕ
 address_bits Ipv4 address = 65535 * 2 ^ 32 + address
 address_bits Ipv6 address = address
 
--- the text of an address of the family; an IPv6 text is the 128 bits as they stand
+-- the text of an address of the family; an IPv6 text gives the 128 bits themselves
 abbrev pub IsAddress : Family → List ℕ → ℕ → Type 0
 IsAddress Ipv4 text address = IsIpv4Text text address
 IsAddress Ipv6 text address = IsIpv6Text text address
@@ -91,7 +91,7 @@ pub record AreRowLines (lines : List (List ℕ)) (rows : List Row) : Type 0 wher
   pub apart : AllPairs (λ a b. SamePrefix a b → ⊥) rows
   pub few : length rows ≤ MOST_ROWS
 
--- the text is that of the table with these rows, which may stand in the text in any order
+-- the text is that of the table with these rows, which may be in the text in any order
 pub record IsTableText (text : List ℕ) (rows : List Row) : Type 0 where
   pub table : IsTable rows
   pub said : List Row
@@ -131,7 +131,7 @@ pub record IsOneTooMany (before : List Row) (line : List ℕ) : Type 0 where
   pub new : (earlier : Row) → Contains before earlier → SamePrefix row earlier → ⊥
   pub full : length before ≡ MOST_ROWS
 
--- the line, of this number, has the fault, where the lines before it are those of these rows
+-- the line, of this number, has the fault, if the lines before it are those of these rows
 abbrev pub HasFault : List Row → List ℕ → ℕ → TableFault → Type 0
 HasFault before line n (Form at) = (at ≡ n) × HasNoForm line
 HasFault before line n (Number at) = (at ≡ n) × IsOutOfRange line

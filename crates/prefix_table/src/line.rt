@@ -12,7 +12,7 @@ use net_addr::{parse_ipv4, parse_ipv6, parse_number};
 /// The largest number of ten digits.
 const MOST_NUMBER: u64 = 9_999_999_999;
 
-/// The row of the line with this number, or `None` where the line is passed over.
+/// The row of the line with this number, or `None` if the line is passed over.
 pub(crate) fn read_line(text: &[u8], line: u32) -> Result<Option<Row>, TableFault>
     ensures found { IfOk result (λ row. MatchOption row (IsPassedOver text.now) (IsRowLine text.now)) }
     ensures cause { IfErr result (LineHas text.now line) }

@@ -4,8 +4,8 @@ ghost use Rattle.prefix_table.specs.Numbered.{row_in};
 use crate::Row;
 use std::alloc::{AllocError, Global};
 
-/// A row with the number of its line, counted from 1. The order is that of the rows of a table, and
-/// of the lines where prefixes are the same.
+/// A row with the number of its line, counted from 1. The order is that of the rows of a table;
+/// rows with the same prefix are in the order of their lines.
 #[derive(Clone, Copy, Debug, PartialEq, Eq, PartialOrd, Ord)]
 pub(crate) struct NumberedRow {
     /// As in `Row`.

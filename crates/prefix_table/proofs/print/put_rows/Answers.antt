@@ -16,7 +16,7 @@ on_err : {X E : Type 0} (r : Result X E) (P : Type 0) → P → OnErr r P
 on_err (Ok x) P p = tt
 on_err (Err e) P p = p
 
--- what was there before stays at the front
+-- what was there before stays at the start
 kept : (before mid new tail : List ℕ) → mid ≡ before ++ tail → take (length mid) new ≡ mid → take (length before) new ≡ before
 kept before mid new tail e front =
     sym (take-take (length before) (length mid) new (omega (arith, ap (λ (xs : List ℕ). length xs) e, length-append before tail))) ∙ ap (λ (xs : List ℕ). take (length before) xs) (front ∙ e) ∙ take-append_seam before tail

@@ -5,7 +5,7 @@ use Rattle.prefix_table.specs.declared.row.Row.{Row}
 use Rattle.prefix_table.proofs.BestLaws.{best_found, best_none}
 use Rattle.prefix_table.proofs.table.Table.best.Goals as goal
 
--- the number of the longest row, in the words of each clause
+-- the number of the longest row, as each clause has it
 answer : (rows : List Row) (address n : ℕ) → IsTable rows → n ≡ best rows address → record { found : n ≡ best rows address; longest : (row : Row) → IsLongest rows address row → n ≡ row.asn; none : ((row : Row) → Contains rows row → covers row address ≡ true → ⊥) → n ≡ 0 }
 answer rows address n table e = record {
   found = e;
