@@ -64,7 +64,7 @@ back size left a n h =
     let e : digits size (a / 2 ^ left) ≡ digits size n = sym (take-append_seam (digits size (a / 2 ^ left)) (digits left a)) ∙ (rw size_is at front) in
     eq-eqb (a / 2 ^ left % 2 ^ size) (n % 2 ^ size) (sym (number_of-mod size (a / 2 ^ left)) ∙ ap number_of e ∙ number_of-mod size n)
 
--- the address bits begin with those of a number where the two agree in so many low digits
+-- the address bits begin with those of a number if the two agree in as many low digits
 pub begins_with_digits : (size left a n : ℕ) → eqb (a / 2 ^ left % 2 ^ size) (n % 2 ^ size) ≡ begins_with (digits (left + size) a) (digits size n)
 begins_with_digits size left a n =
     let e : left + size ≡ size + left = omega arith in

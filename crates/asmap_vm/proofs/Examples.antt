@@ -56,7 +56,7 @@ refused_by bytes read e refuse t h =
     let same : t ≡ read = sym (tree_of-file t bytes h) ∙ e in
     refuse (subst (λ u. IsSaneFile u bytes) same h)
 
--- a return of 0, which is read where the bits end within a tree, has no spelling
+-- a return of 0, which is read if the bits end within a tree, has no spelling
 no_return_zero : (bytes : List ℕ) → IsSaneFile (Return 0) bytes → ⊥
 unfolding IsSaneWithin
 no_return_zero bytes h = omega (arith, h.sane.low)
@@ -91,7 +91,7 @@ default_before_return : IsSane (Default 1 (Return 1)) → ⊥
 unfolding IsSaneWithin
 default_before_return h = h.1
 
--- so many matches of eight one-bits, and then a tree
+-- this many matches of eight one-bits, and then a tree
 abbrev after_matches : ℕ → Tree → Tree
 after_matches zero t = t
 after_matches (suc n) t = Match (replicate 8 true) (after_matches n t)

@@ -1,4 +1,4 @@
--- A file is sane exactly where its bits are a part that is sane at its start, and padding.
+-- A file is sane exactly when its bits are a part that is sane at its start, and padding.
 use Rattle.std.proofs.Common.{◌≡◌, ℕ, ◌-◌, Bool, false, List, ◌++◌, length, replicate, refl, ap, arith, length-append}
 use Rattle.std.proofs.lemmas.List.{length-replicate}
 use Rattle.bit_code.specs.Coder.{file_bits}

@@ -42,7 +42,7 @@ by_kind (suc (suc (suc (suc kind)))) n bits rest h b = absurd (omega arith)
 pub stands_there : (kind n : ℕ) (bits rest : List Bool) → SpellsBoth kind n bits rest → Stands (instruction_at kind n) bits rest
 stands_there kind n bits rest b = by_kind kind n bits rest (kind-lt kind b.kind_value) b
 
--- the kind and the number of an instruction that stands there are spelled there
+-- the kind and the number of the next instruction are spelled there
 pub both_there : (i : Instruction) (bits rest : List Bool) → Stands i bits rest → SpellsBoth (kind_of i) (number_in i) bits rest
 both_there i bits rest s =
     record {

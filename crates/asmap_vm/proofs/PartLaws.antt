@@ -37,7 +37,7 @@ pub record Opened (i : Instruction) (before : Before) (left : ℕ) (after rest :
   pub head_is : head tree ≡ i
   pub tail_is : after ≡ tail tree ++ rest
 
--- the first instruction of a part stands there
+-- the first instruction of a part is the next one
 pub part_stands : (before : Before) (left : ℕ) (bits rest : List Bool) (part : IsPart before left bits rest) → Stands (head part.tree) bits (tail part.tree ++ rest)
 part_stands before left bits rest part =
     record {
@@ -57,7 +57,7 @@ module _ (i : Instruction) (before : Before) (left : ℕ) (bits after rest : Lis
       rw (← part.head_is, code_is part.tree) (simp append_assoc) in
       record { tree = part.tree; sane = part.sane; suits = part.suits; spelled = stands.spelled ∙ (rw part.tail_is whole) }
 
--- a return stands where no default does, and nothing of its tree follows it
+-- a return is not after a default, and nothing of its tree follows it
 suits_return : (before : Before) (n : ℕ) → Suits before (Return n) → before ≢ befores.Default
 suits_return befores.Nothing n h e = cc
 suits_return befores.ShortMatch n h e = cc
@@ -83,7 +83,7 @@ jump_suits befores.Nothing l r = tt
 jump_suits befores.ShortMatch l r = tt
 jump_suits befores.Default l r = tt
 
--- a short match stands where no short match does
+-- a short match is not after a short match
 suits_match : (before : Before) (wanted : List Bool) (t : Tree) → Suits before (Match wanted t) → length wanted < 8 → before ≢ befores.ShortMatch
 suits_match befores.Nothing wanted t h short e = cc
 suits_match befores.ShortMatch wanted t h short e = omega arith

@@ -205,7 +205,7 @@ module _ (bits : List Bool) (s : Scan) (next n : ℕ) (reads : Reads bits s.offs
           complete = return_completes;
         }
 
--- where no instruction stands, there is no part
+-- without an instruction there is no part
 pub no_instruction : (bits : List Bool) (s : Scan) → ((i : Instruction) (r : List Bool) → Stands i (drop s.offset bits) r → ⊥) → Completes bits s → ⊥
 unfolding Completes
 no_instruction bits s none c =
@@ -224,11 +224,11 @@ pub insane_false : (b : Bool) (step : Step) → step ≡ (if b then steps.More e
 insane_false true step e h = cc
 insane_false false step e h = refl
 
--- a test that failed, where it says what holds
+-- a test that decides P failed, so P is false
 pub fails : {P : Type 0} (b : Bool) → b ≡ false → IsTrue b ↔ P → P → ⊥
 fails b e h p = let t : b ≡ true = h.1 p in cc
 
--- the reading goes on, and the file is sane exactly where the rest is what has to follow
+-- the reading goes on, and the file is sane exactly when the rest is what has to follow
 pub record IsOnTheWay (bits : List Bool) (s : Scan) : Type 0 where
   pub under_way : IsUnderWay bits s
   pub sound : Completes bits s → Completes bits start

@@ -17,7 +17,7 @@ use Rattle.asmap_vm.proofs.PartLaws.{part_stands}
 use Rattle.asmap_vm.proofs.StepLaws.{Reads}
 use Rattle.asmap_vm.proofs.AddressLaws.{digits_cons, digits_past}
 
--- what stands at an offset, by its first instruction
+-- the part at an offset, by its first instruction
 pub record Opened (bits : List Bool) (address left default next : ℕ) (i : Instruction) (answer : ℕ) : Type 0 where
   pub tree : Tree
   pub rest : List Bool
@@ -27,7 +27,7 @@ pub record Opened (bits : List Bool) (address left default next : ℕ) (i : Inst
   pub room : left ≤ 128
   pub gives : meaning tree (digits left address) default ≡ answer
 
--- an instruction stands where an answer is ahead
+-- before an answer there is an instruction
 pub stands_ahead : (bits : List Bool) (address : ℕ) (w : Walk) (answer : ℕ) (a : Answers bits address w answer) → Stands (head a.tree) (drop w.offset bits) (tail a.tree ++ a.rest)
 stands_ahead bits address w answer a =
     part_stands befores.Nothing w.left (drop w.offset bits) a.rest (record { tree = a.tree; sane = a.sane; suits = tt; spelled = a.spelled })

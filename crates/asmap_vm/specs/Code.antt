@@ -15,7 +15,7 @@ pub data Tree : Type 0 where
   Match : (wanted : List Bool) (next : Tree) → Tree
   Default : (asn : ℕ) (next : Tree) → Tree
 
--- the numbers that stand for the four kinds of instruction
+-- the numbers of the four kinds of instruction
 abbrev pub return_kind : ℕ
 return_kind = 0
 

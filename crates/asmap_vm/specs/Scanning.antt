@@ -7,7 +7,7 @@ use Rattle.asmap_vm.specs.declared.scan.Before.{Before}
 use Rattle.asmap_vm.specs.declared.scan.Before.TheVariants.{Nothing, ShortMatch, Default}
 use Rattle.asmap_vm.specs.declared.scan.Scan.{Scan}
 
--- the tree may stand there
+-- the tree may follow this
 abbrev pub Suits : Before → Tree → Type 0
 Suits Nothing t = ⊤
 Suits ShortMatch t = IsNoShortMatch t

@@ -9,7 +9,7 @@ pub(crate) const DEPTH: usize = 128;
 /// The right part of a jump, which is still to be read.
 #[derive(Clone, Copy, Debug, PartialEq, Eq)]
 pub(crate) struct RightPart {
-    /// The offset where it begins, which is where the left part has to end.
+    /// The offset at which it begins, and at which the left part has to end.
     pub begins: usize,
     /// The number of address bits that are left for it.
     pub left: u8,
