@@ -1,4 +1,4 @@
--- A row is a prefix of an address where its path is one of the address bits.
+-- A row is a prefix of an address if its path is a prefix of the address bits.
 use Rattle.std.proofs.Common.{◌≡◌, ℕ, zero, suc, ◌+◌, ◌-◌, ◌/◌, ◌%◌, ◌^◌, ◌<◌, ◌≤◌, true, List, ◌∷◌, ◌++◌, length, take, refl, ap, sym, ◌∙◌, arith, eqb, eq-eqb}
 use Rattle.std.specs.Option.{option_map_or}
 use Rattle.std.proofs.lemmas.Nat.{shr-shr}

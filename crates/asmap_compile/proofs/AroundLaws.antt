@@ -18,7 +18,7 @@ use Rattle.asmap_compile.proofs.StopLaws.{one_longer}
 use Rattle.asmap_compile.proofs.TurnLaws.{rows_le}
 use Rattle.asmap_compile.proofs.RowLaws.{path_long, best_row}
 
--- what the rows before place i say of those that are kept on the stack: it has no others, they grow longer, and any
+-- what the rows before index i say of those that are kept on the stack: it has no others, they grow longer, and any
 -- other is a prefix of no later row
 pub record IsAround (rows : List Row) (i : ℕ) (around : List Row) : Type 0 where
   pub there : (k : ℕ) (d : Row) → k < length around → (j : ℕ) × (j < i) × (get_or rows j d ≡ get_or around k d)

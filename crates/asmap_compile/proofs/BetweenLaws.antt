@@ -1,4 +1,4 @@
--- The bits of an address from one place up to another.
+-- The bits of an address from one index up to another.
 use Rattle.std.proofs.Common.{◌≡◌, ℕ, zero, suc, ◌+◌, ◌-◌, ◌*◌, ◌/◌, ◌%◌, ◌^◌, ◌<◌, ◌≤◌, Bool, true, List, [], ◌∷◌, ◌++◌, length, take, drop, min, refl, ap, sym, ◌∙◌, arith, length-append, bit_and, ◌⊎◌, inl, inr, append-nil}
 use Rattle.std.proofs.lemmas.Nat.{shr-shr, shr_split, pow_pos, one_shl, and_mask, mod_below}
 use Rattle.std.proofs.lemmas.List.{take_at, drop_at, take_all, drop_all}
@@ -54,7 +54,7 @@ match_number_is bits from to some few =
     let long : length (digits size low) ≡ size = length-digits size low in
     rw (one_shl size 128 (omega arith), one_shl size 32 (omega arith), and_mask, number_of_more (digits size low), long, value) refl
 
--- the bits up to a place between, and then those after it
+-- the bits up to an index between, and then those after it
 pub between_split : (bits from end to : ℕ) → from ≤ end → end ≤ to → to ≤ 128 → bits_between bits from to ≡ bits_between bits from end ++ bits_between bits end to
 unfolding bits_between
 between_split bits from end to low high top =
@@ -74,7 +74,7 @@ unfolding matches
 matches_some count [] t some = absurd (omega arith)
 matches_some count (b ∷ bits) t some = refl
 
--- the first eight bits, or all where there are no more
+-- the first eight bits, or all if there are no more
 record IsCut (front back : List Bool) : Type 0 where
   first : take 8 (front ++ back) ≡ front
   rest : drop 8 (front ++ back) ≡ back
@@ -88,7 +88,7 @@ cut_at front back (inr (none, few)) =
       rest = drop_all 8 (front ++ back) whole ∙ sym (nil_from back none);
     }
 
--- the first match of the bits between two places, and then those of the others
+-- the first match of the bits between two indexes, and then those of the others
 pub matches_first : (count bits from to end : ℕ) (t : Tree) → from < to → to ≤ 128 → end ≡ min to (from + 8) →
     matches (suc count) (bits_between bits from to) t ≡ Match (bits_between bits from end) (matches count (bits_between bits end to) t)
 matches_first count bits from to end t some top e =

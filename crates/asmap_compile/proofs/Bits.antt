@@ -38,7 +38,7 @@ begins_front a b s h =
     let f = begins_cut a (b ++ s) h in
     begins_from a b (s ++ f.rest) (f.is ∙ append_assoc b s f.rest)
 
--- a common front makes no difference
+-- a common prefix makes no difference
 pub begins_both : (p a b : List Bool) → begins_with (p ++ a) (p ++ b) ≡ begins_with a b
 unfolding begins_with
 begins_both [] a b = refl
@@ -68,7 +68,7 @@ sides_same w p side other h k =
     let same = append_cancel_left p (side ∷ f.rest) (other ∷ g.rest) (sym (append_assoc p (side ∷ []) f.rest) ∙ sym f.is ∙ g.is ∙ append_assoc p (other ∷ []) g.rest) in
     cc
 
--- what the front of a list begins with
+-- what a prefix of a list begins with
 pub begins_within : (a s w : List Bool) → begins_with (a ++ s) w ≡ true → length w ≤ length a → begins_with a w ≡ true
 begins_within a s w h low =
     let f = begins_cut (a ++ s) w h in

@@ -110,7 +110,7 @@ high_rows table p rows l n fits point =
     (λ k d more low. row_side table p (get_or rows k d) (longer_at table p rows l k d low) true (not-false (bit_of (get_or rows k d).bits (length p)) (point.1 k d more low))))
     ∙ side_rows table p rows l true
 
--- the number where a way ends, if no row does
+-- the number at the end of a way at which no row ends
 way_number : (rows : List Row) (p bits : List Bool) → IsWay rows p bits → is_row rows (p ++ bits) ≡ false → number_at rows (p ++ bits) ≡ number_at rows p
 way_number rows p bits way off =
     let l = last bits way.some in
@@ -124,7 +124,7 @@ on_longer table p rows d stop s row has h =
     subst (λ q. begins_with (path row) q ≡ true) (sym (way_end table p rows d stop s))
     (all_reach table p rows d stop s row (item_longer table p rows s.longer row has both.0 (ltb-true (length p) row.len both.1)))
 
--- the rows of a single path, where it stops
+-- the rows of a single path, at its end
 pub way_part : (table : List Row) (p : List Bool) (left : ℕ) (part : List Row) (depth above default : ℕ) → IsPart table p left part depth above default →
     (rows : List Row) (d : Row) (stop : ℕ) → Stops table p rows d stop →
     IsPart table (p ++ way_of p rows d stop) (left - 1) rows stop (number_at (rows_kept table) p) (number_at (rows_kept table) p)
@@ -200,7 +200,7 @@ fork_value table p left part depth above default is fork =
     let short = begun_short (rows_kept table) (p ++ false ∷ []) (kept_rows table (table_rows table is.is_table)) b in
     jump_value (left - 1) (rows_kept table) (p ++ false ∷ []) default (kept_are table is.is_table) b (omega (arith, is.room, length-append p (false ∷ []), short))
 
--- the default of a path, where another one holds
+-- the default of a path under another one
 pub part_value : (table : List Row) (p : List Bool) (left : ℕ) (part : List Row) (depth above default : ℕ) → IsPart table p left part depth above default → (number_at (rows_kept table) p ≡ default → ⊥) → HasValue coders.Asn (number_at (rows_kept table) p)
 part_value table p left part depth above default is other =
     value_of (rows_kept table) (kept_rows table (table_rows table is.is_table)) p default is.none other

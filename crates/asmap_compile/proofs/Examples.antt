@@ -30,7 +30,7 @@ halves_file : file_bits (1 ∷ 0 ∷ 0 ∷ 0 ∷ 0 ∷ 2 ∷ []) ≡ code (compi
 unfolding compiled tree_at matches under_default stretch goes_on is_row stays number_at longest path digits begins_with code spelling spelling_by sizes values_of file_bits low_digits
 halves_file = refl
 
--- `::/1 AS1` and in it `::/3 AS2`: a default, where a match follows
+-- `::/1 AS1` and in it `::/3 AS2`: a default, and a match after it
 abbrev nested : List Row
 nested = record { bits = 0; len = 1; asn = 1 } ∷ record { bits = 0; len = 3; asn = 2 } ∷ []
 

@@ -79,7 +79,7 @@ pub first_same : (len a b : ℕ) → len ≤ 128 → a < 2 ^ 128 → b < 2 ^ 128
 first_same len a b top la lb e =
     sym (number_of-digits len (first_bits len a) (first_below len a top la)) ∙ ap number_of (sym (front_is len a) ∙ e ∙ front_is len b) ∙ number_of-digits len (first_bits len b) (first_below len b top lb)
 
--- a path that a row begins with is its front
+-- a path that a row begins with is its first bits
 pub begun_front : (row : Row) (p : List Bool) → row.len ≤ 128 → begins_with (path row) p ≡ true → p ≡ front (length p) row.bits
 begun_front row p top h =
     let c = begins_cut (path row) p h in
@@ -118,7 +118,7 @@ one_bit k bits low =
     let at : (128 - suc k) + 0 ≡ 127 - k = omega arith in
     ap (λ j. digits j (bits / 2 ^ (128 - suc k))) one ∙ ap (λ x. eqb (x % 2) 1 ∷ []) (shr-shr bits (128 - suc k) 0 ∙ ap (λ j. bits / 2 ^ j) at)
 
--- a front of one more bit
+-- a prefix of one more bit
 pub front_next : (k bits : ℕ) → k < 128 → front (suc k) bits ≡ front k bits ++ bit_of bits k ∷ []
 front_next k bits low = between_split bits 0 k (suc k) (omega arith) (omega arith) (omega arith) ∙ ap (λ xs. front k bits ++ xs) (one_bit k bits low)
 

@@ -131,7 +131,7 @@ way_off rows p bits front way less =
     number_same rows p front
     (λ t u e some. false_from_ne_true (is_row rows (p ++ t)) (λ h. omega (arith, begins_long t bits (way_row rows p bits t way some h), ap length e, length-append t u)))
 
--- a row where a way ends has another number than the path
+-- a row at the end of a way has another number than the path
 way_fresh : (rows : List Row) (p bits : List Bool) → AreKept rows → IsWay rows p bits → is_row rows (p ++ bits) ≡ true → number_at rows (p ++ bits) ≡ number_at rows p → ⊥
 way_fresh rows p bits kept way here same =
     let l = last bits way.some in

@@ -131,7 +131,7 @@ unfolding bit
 bit_long true x ys = omega arith
 bit_long false x ys = omega arith
 
--- two tests that exclude each other, where a third passes whatever passes one of them
+-- two tests that exclude each other, and a third that passes whatever passes one of them
 filters_add : {X : Type 0} (f g k : X → Bool) → ((x : X) → bit (f x) + bit (g x) ≤ bit (k x)) → (xs : List X) → length (filter f xs) + length (filter g xs) ≤ length (filter k xs)
 filters_add f g k each [] = omega arith
 filters_add f g k each (x ∷ xs) =
@@ -177,11 +177,11 @@ rows_most rows p bits =
     rows in
     omega (arith, add)
 
--- what the code of a tree may take for each row that begins with its path, where so many bits can follow the path
+-- what the code of a tree may take for each row that begins with its path, by how many bits can follow the path
 abbrev pub room : ℕ → ℕ
 room left = 205 + 3 * left
 
--- the length of the code at a path: less is known where the path is neither a row nor forked
+-- the length of the code at a path: less is known if the path is neither a row nor forked
 pub record IsLong (rows : List Row) (p : List Bool) (k : ℕ) (t : Tree) : Type 0 where
   pub any : length (code t) + 114 ≤ rows_at rows p * room k
   pub stop : (is_row rows p ≡ true) ⊎ (onward rows p ≡ Forked) → length (code t) + 170 ≤ rows_at rows p * room k

@@ -1,4 +1,4 @@
--- Where a single path stops: at the first row that is longer, or where the first and the last row part.
+-- The end of a single path: the first row that is longer, or the first bit in which the first and the last row differ.
 use Rattle.std.proofs.Common.{◌≡◌, ◌↔◌, ℕ, ◌+◌, ◌-◌, ◌/◌, ◌%◌, ◌<◌, ◌≤◌, Bool, true, false, List, [], ◌∷◌, ◌++◌, length, get_or, min, ◌⊎◌, inl, inr, refl, ap, sym, ◌∙◌, subst, arith, length-append, append-nil, Contains, eqb, eq-eqb}
 use Rattle.std.proofs.lemmas.Bool.{cases_lt, cases_eq, eqb-true, eqb-false, ne_eqb}
 use Rattle.std.proofs.lemmas.List.{get_or_default}
@@ -44,7 +44,7 @@ stops_row rows p a b way other here =
     let more = on_other rows p a b r.row way other r.there starts in
     omega (arith, begins_long (path r.row) (p ++ b) more, ap length r.is, length-append p a, length-append p b)
 
--- where the first of two ways forks, rows leave the other
+-- if the first of two ways forks, rows leave the other
 fork_leaves : (rows : List Row) (p a b : List Bool) → IsWay rows p a → IsWay rows p b → length a < length b → (side : Bool) → goes_on rows (p ++ a) side ≡ true → begins_with (p ++ b) ((p ++ a) ++ side ∷ []) ≡ true
 fork_leaves rows p a b way other less side goes =
     let r = begun_side rows (p ++ a) side goes in
@@ -56,7 +56,7 @@ stops_fork rows p a b way other fork less =
     let sides = fork_sides rows (p ++ a) fork in
     false_true refl (sides_same (p ++ b) (p ++ a) false true (fork_leaves rows p a b way other less false (sides false)) (fork_leaves rows p a b way other less true (sides true)))
 
--- a way is no longer than another where that one stops
+-- a way is no longer than another that ends
 way_stops : (rows : List Row) (p a b : List Bool) → IsWay rows p a → IsWay rows p b → length b ≤ length a
 way_stops rows p a b way other =
     elim way.stop [
@@ -78,7 +78,7 @@ way_unique rows p a b way other =
     (sym (begins_both p a b) ∙ one_longer (path r.item) (p ++ b) (p ++ a) more r.passes (omega (arith, length-append p a, length-append p b)))
     (sym (begins_both p b a) ∙ one_longer (path r.item) (p ++ a) (p ++ b) r.passes more (omega (arith, length-append p a, length-append p b)))
 
--- the rows of a part that goes on through one side, from the first to the last, and where they stop
+-- the rows of a part that goes on through one side, from the first to the last, and their end
 pub record Stops (table : List Row) (p : List Bool) (rows : List Row) (d : Row) (stop : ℕ) : Type 0 where
   pub longer : AreLonger table p rows
   pub some : 0 < length rows
@@ -169,7 +169,7 @@ reach_long table p rows d stop s row has =
       | inr fits ↦ fits
     ]
 
--- every row of the part begins with the place where it stops
+-- every row of the part begins with the bits up to the end
 pub all_reach : (table : List Row) (p : List Bool) (rows : List Row) (d : Row) (stop : ℕ) → Stops table p rows d stop → (row : Row) → Contains rows row → begins_with (path row) (front stop (get_or rows 0 d).bits) ≡ true
 all_reach table p rows d stop s row has =
     let t = longer_item table p rows s.longer row has in
@@ -179,7 +179,7 @@ all_reach table p rows d stop s row has =
 front_long : (len bits : ℕ) → length (front len bits) ≡ len
 front_long len bits = between_long bits 0 len ∙ (let e : len - 0 ≡ len = omega arith in e)
 
--- the last row is longer than the bits that it has in common with the first, where the first is
+-- the last row is longer than the bits that it has in common with the first, if the first is
 last_longer : (table : List Row) (p : List Bool) (rows : List Row) (d : Row) (stop : ℕ) → Stops table p rows d stop → stop < (first_of rows d).len → stop < (last_of rows d).len
 last_longer table p rows d stop s less =
     let last = last_of rows d in

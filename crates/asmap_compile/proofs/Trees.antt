@@ -15,7 +15,7 @@ pub tree_end : (left : ℕ) (rows : List Row) (p : List Bool) (default : ℕ) �
 unfolding tree_at
 tree_end left rows p default e = rw (e, tree_at) refl
 
--- the bits of a single path, up to where it stops
+-- the bits of a single path, up to its end
 abbrev pub way_bits : ℕ → List Row → List Bool → Bool → List Bool
 way_bits left rows p side = side ∷ stretch left rows (p ++ side ∷ [])
 

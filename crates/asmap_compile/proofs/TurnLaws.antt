@@ -53,7 +53,7 @@ side_is table p row side r h = sides_same (path row) p (bit_of row.bits (length 
 pub side_long : (p : List Bool) (side : Bool) (row : Row) → begins_with (path row) (p ++ side ∷ []) ≡ true → length p < row.len
 side_long p side row h = omega (arith, begins_long (path row) (p ++ side ∷ []) h, length-append p (side ∷ []), path_long row)
 
--- rows with the same front, of which one is no greater
+-- rows with the same first bits, of which one is no greater
 pub bit_up : (table : List Row) (p : List Bool) (a b : Row) → LongRow table p a → LongRow table p b → a.bits ≤ b.bits → bit_of a.bits (length p) ≡ true → bit_of b.bits (length p) ≡ true
 bit_up table p a b r s le h =
     let same = sym (begun_front a p r.is.len r.begins) ∙ begun_front b p s.is.len s.begins in
@@ -123,7 +123,7 @@ apart : (a b c : Bool) → b ≡ not a → a ≡ c → (a ≡ true → b ≡ tru
 apart true b c e f up more = false_true e (up refl)
 apart false b c e f up more = false_true (sym f) (more e)
 
--- where they have the same bit, so have all rows between
+-- if they have the same bit, so have all rows between
 pub ends_single : (table : List Row) (p : List Bool) (rows : List Row) → AreLonger table p rows → (d : Row) → 0 < length rows →
     bit_of (get_or rows 0 d).bits (length p) ≡ bit_of (get_or rows (length rows - 1) d).bits (length p) → goes_on (rows_kept table) p (not (bit_of (get_or rows 0 d).bits (length p))) ≡ false
 ends_single table p rows l d some same =

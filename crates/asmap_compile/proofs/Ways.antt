@@ -64,7 +64,7 @@ fork_sides rows p fork side = fork_by rows p (turn rows p) fork side
 pub single_side : (rows : List Row) (p : List Bool) (side : Bool) → goes_on rows p (not side) ≡ false → (row : Row) → Contains rows row → begins_with (path row) p ≡ true → (path row ≡ p) ⊎ (begins_with (path row) (p ++ side ∷ []) ≡ true)
 single_side rows p side none row has h = side_by rows p side none row has (begins_next (path row) p h)
 
--- the bits from a path to where it stops
+-- the bits from a path to its end
 pub record IsStretch (rows : List Row) (p bits : List Bool) : Type 0 where
   pub all : (row : Row) → Contains rows row → begins_with (path row) p ≡ true → begins_with (path row) (p ++ bits) ≡ true
   pub stop : (is_row rows (p ++ bits) ≡ true) ⊎ (onward rows (p ++ bits) ≡ Forked)
@@ -118,7 +118,7 @@ stretch_is zero rows p are b long = stop_here rows p (inl (row_there rows p are 
 stretch_is (suc left) rows p are b long = stretch_by left rows p are b long (is_row rows p) refl (turn rows p)
     (λ side goes. stretch_is left rows (p ++ side ∷ []) are (begun_side rows p side goes) (omega (arith, length-append p (side ∷ []))))
 
--- a single path, and the bits from it to where it stops
+-- a single path, and the bits from it to its end
 pub record IsWay (rows : List Row) (p bits : List Bool) : Type 0 where
   pub some : 0 < length bits
   pub begun : Begun rows (p ++ bits)
@@ -164,7 +164,7 @@ row_side rows p side t h =
     let r = row_at rows (p ++ side ∷ t) h in
     side_from rows p side r.row r.there (begins_from (path r.row) (p ++ side ∷ []) t (r.is ∙ sym (append_assoc p (side ∷ []) t)))
 
--- where no path after it is a row, the number stays
+-- if no path after it is a row, the number stays
 pub number_same : (rows : List Row) (p rest : List Bool) → ((t u : List Bool) → rest ≡ t ++ u → 0 < length t → is_row rows (p ++ t) ≡ false) → number_at rows (p ++ rest) ≡ number_at rows p
 number_same rows p [] none = ap (number_at rows) (append-nil p)
 number_same rows p (side ∷ rest) none =

@@ -1,6 +1,6 @@
 -- The asmap that a table of prefixes compiles to: a tree by paths. A path is a list of address
--- bits, high bit first. The instructions are those of Bitcoin Core's util/asmap.cpp. Which tree
--- stands for a table is our own choice.
+-- bits, high bit first. The instructions are those of Bitcoin Core's util/asmap.cpp. Which of
+-- the trees for a table it is, is our own choice.
 use Prim.Native.Nat.{zero, suc}
 use Rattle.std.specs.Prelude.{◌==◌, ℕ, Bool, true, false, not, ◌&&◌, List, [], ◌∷◌, ◌++◌, filter, take, drop, nat_lt}
 use Rattle.std.specs.List.{list_any}
@@ -71,11 +71,11 @@ matches zero bits t = t
 matches (suc count) [] t = t
 matches (suc count) (b ∷ bits) t = Match (take 8 (b ∷ bits)) (matches count (drop 8 (b ∷ bits)) t)
 
--- the tree under a default, where another one holds before it
+-- the tree under a default, if another one holds before it
 unfoldable pub under_default : ℕ → ℕ → Tree → Tree
 under_default default before t = elim (default == before) [ true ↦ t | false ↦ Default default t ]
 
--- The tree of a path, where this default holds before it. At most `left` bits can follow. An end
+-- The tree of a path, if this default holds before it. At most `left` bits can follow. An end
 -- returns the path's number. At a fork the next bit is taken, and the default stays. From a single
 -- path on the default is the path's number, and the bits up to the next row or fork are matched.
 unfoldable pub tree_at : ℕ → List Row → List Bool → ℕ → Tree
@@ -88,6 +88,6 @@ tree_at (suc left) rows p default = elim (onward rows p) [
   | Forked ↦ Jump (tree_at left rows (p ++ false ∷ []) default) (tree_at left rows (p ++ true ∷ []) default)
 ]
 
--- the tree of a table: of the rows that stay, from the empty path on, where the default is 0
+-- the tree of a table: of the rows that stay, from the empty path on, with the default 0
 unfoldable pub compiled : List Row → Tree
 compiled rows = tree_at 128 (rows_kept rows) [] 0

@@ -6,7 +6,7 @@ use Rattle.prefix_table.specs.declared.row.Row.{Row}
 use Rattle.prefix_table.specs.Rows.{path, IsTable}
 use Rattle.asmap_compile.specs.Compiled.{number_at, rows_kept, is_row}
 
--- the bits of an address from one place up to another
+-- the bits of an address from one index up to another
 unfoldable pub bits_between : ℕ → ℕ → ℕ → List Bool
 bits_between bits from to = digits (to - from) (bits / 2 ^ (128 - to))
 
@@ -20,7 +20,7 @@ is_low depth row = not (bit_of row.bits depth)
 
 -- The rows of a table that stay and begin with a path of `depth` bits, after which at most `left`
 -- bits can follow. `above` is the number of the path without its last bit. `default` holds before
--- the path, and there is none where the path has no number.
+-- the path, and there is none if the path has no number.
 pub record IsPart (table : List Row) (p : List Bool) (left : ℕ) (part : List Row)
     (depth above default : ℕ) : Type 0 where
   pub is_table : IsTable table

@@ -44,7 +44,7 @@ pub(crate) fn put_default(out: &mut BitFront, asn: u32) -> Result<(), Memory>
     put_instruction(out, 3, Coder::Asn, asn)
 }
 
-/// Puts a match of the bits from one place up to another, before the part after it.
+/// Puts a match of the bits from one index up to another, before the part after it.
 fn put_match(out: &mut BitFront, bits: u128, from: u8, to: u8) -> Result<(), Memory>
     requires some { from < to }
     requires few { to ≤ from + 8 }
@@ -68,7 +68,7 @@ fn match_number(bits: u128, from: u8, to: u8) -> u32
     (1u32 << size) + digits as u32
 }
 
-/// Puts matches of the bits from one place up to another, of eight bits each but the last, before
+/// Puts matches of the bits from one index up to another, of eight bits each except the last, before
 /// the part after them.
 pub(crate) fn put_matches(out: &mut BitFront, bits: u128, from: u8, to: u8) -> Result<(), Memory>
     requires order { from ≤ to }
