@@ -25,7 +25,7 @@ fn loads_a_file_up_to_the_limit(rt: HostRuntime) -> Result<(), Fail> {
     Ok(())
 }
 
-/// A folder that does not tell its files. Each has the same bytes, given two a read, and says that
+/// A folder whose files contracts do not know. Each has the same bytes, given two a read, and says that
 /// its size is `size`.
 #[derive(Drop)]
 struct ShortFolder {
@@ -65,7 +65,7 @@ fn load_short(rt: &HostRuntime, size: u64, bytes: &'static [u8]) -> Result<(usiz
 }
 
 #[test]
-fn a_folder_that_tells_nothing_is_read_up_to_the_size_that_it_says(
+fn a_folder_with_unknown_files_is_read_up_to_the_size_that_it_says(
     rt: HostRuntime,
 ) -> Result<(), Fail> {
     assert_eq!(rt; load_short(&rt, 5, b"bit")?, (3, 3));
