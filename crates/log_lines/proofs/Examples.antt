@@ -63,7 +63,7 @@ no_bytes_no_lines : lines_of [] ≡ []
 unfolding lines_of
 no_bytes_no_lines = refl
 
--- a field stands for its value
+-- a field gives its value
 clash_is_spelled : SpellsAfter v.Clash (codes "7" ∷ []) (c.Clash 7)
 unfolding digits
 clash_is_spelled = (refl, ((7, refl, omega arith, omega arith, refl), tt))

@@ -1,4 +1,4 @@
--- Texts at fault stand for no values, and have one fault; so has a line.
+-- Texts at fault have no values, and have one fault; so has a line.
 use Rattle.std.proofs.Common.{◌≡◌, ◌≢◌, ◌⊎◌, ℕ, List, [], ◌∷◌, length, get_or, drop, refl, sym, ap, subst, ◌∙◌, inl, inr, arith}
 use Rattle.log_lines.specs.Fields.{Kind, Value, StandForAll, IsFirstFault, AreAtFault, fields_of}
 use Rattle.log_lines.specs.Spelling.{word_of, kinds_of, values_of, Spells, HasFault}
@@ -90,10 +90,10 @@ memory_or_not fault.Hex = inr (λ e. cc e)
 memory_or_not fault.Words = inr (λ e. cc e)
 memory_or_not fault.Memory = inl refl
 
--- where a line that spells a command is refused, there was no memory
+-- a line that spells a command is refused only if there was no memory
 pub only_memory : (line : List ℕ) (command : Command) (e : LineFault) → (e ≢ fault.Memory → HasFault line e) → Spells line command → e ≡ fault.Memory
 only_memory line command e cause s = elim (memory_or_not e) [ inl is ↦ is | inr not ↦ absurd (spelled_no_fault line command e s (cause not)) ]
 
--- a line that has a fault is refused for it, or for want of memory
+-- a line that has a fault is refused for it, or because memory ran out
 pub only_that_fault : (line : List ℕ) (e f : LineFault) → (e ≢ fault.Memory → HasFault line e) → HasFault line f → (e ≡ f) ⊎ (e ≡ fault.Memory)
 only_that_fault line e f cause h = elim (memory_or_not e) [ inl is ↦ inr is | inr not ↦ inl (one_fault line e f (cause not) h) ]

@@ -8,13 +8,13 @@ join-push : (c : ℕ) (x : List ℕ) (xs : List (List ℕ)) (y : List ℕ) → j
 join-push c x [] y = refl
 join-push c x (z ∷ xs) y = ap (λ t. x ++ c ∷ t) (join-push c z xs y) ∙ sym (append_assoc x (c ∷ join_with_byte c (z ∷ xs)) (c ∷ y))
 
--- the first number stands alone
+-- the first number has no comma
 pub numbers-first : (xs : List ℕ) (i : ℕ) → i ≡ 0 → i < length xs → numbers_text (take (i + 1) xs) ≡ numbers_text (take i xs) ++ decimal (get_or xs i 0)
 numbers-first [] i none lt = absurd (omega arith)
 numbers-first (x ∷ xs) zero none lt = refl
 numbers-first (x ∷ xs) (suc i) none lt = absurd (omega arith)
 
--- each later one stands after a comma
+-- each later one is after a comma
 pub numbers-more : (xs : List ℕ) (i : ℕ) → 0 < i → i < length xs → numbers_text (take (i + 1) xs) ≡ numbers_text (take i xs) ++ 44 ∷ decimal (get_or xs i 0)
 numbers-more [] i some lt = absurd (omega arith)
 numbers-more (x ∷ xs) zero some lt = absurd (omega arith)

@@ -1,11 +1,11 @@
--- A text stands for one value at most.
+-- A text has one value at most.
 use Rattle.std.proofs.Common.{◌≡◌, ◌⊎◌, ℕ, List, [], ◌∷◌, Result, Ok, Err, IfOk, refl, sym, ap, subst, ◌∙◌, inl, inr}
 use Rattle.log_lines.specs.Fields.{Kind, Value, StandsFor, StandForAll}
 use Rattle.log_lines.specs.Inside.{IsOnly, AreOnly}
 use Rattle.log_lines.specs.declared.fault.LineFault.{LineFault}
 use Rattle.log_lines.specs.declared.fault.LineFault.TheVariants as fault
 
--- what a reader gives is the only value, where it gives each value that the text stands for or wants memory
+-- what a reader gives is the only value, if it gives each value of the text or runs out of memory
 pub only_if_ok : {T : Type 0} (r : Result T LineFault) (kind : Kind) (text : List ℕ) (value : T → Value) →
     ((w : Value) → StandsFor kind text w → (x : T) × (w ≡ value x) × ((r ≡ Ok x) ⊎ (r ≡ Err fault.Memory))) → IfOk r (λ x. IsOnly kind text (value x))
 only_if_ok (Ok y) kind text value f = λ w h.

@@ -27,7 +27,7 @@ pieces_of_numbers (w ∷ v ∷ words) some small =
     (decimal-lacks 44 w (All-head (λ n. n < 2 ^ 64) w (v ∷ words) small) (λ d low high e. omega (arith, low, e))) refl
     ∙ ap (λ ps. decimal w ∷ ps) (pieces_of_numbers (v ∷ words) (λ none. omega (arith, ap length none)) (All-tail (λ n. n < 2 ^ 64) w (v ∷ words) small))
 
--- a byte that is no digit and no comma stands nowhere in numbers with commas
+-- a byte that is no digit and no comma is not in numbers with commas
 pub numbers-lack : (c : ℕ) → ((d : ℕ) → 48 < d + 1 → d < 58 → d ≢ c) → c ≢ 44 → (words : List ℕ) → All (λ w. w < 2 ^ 64) words → All (λ b. (b == c) ≡ false) (join_with_byte 44 (map decimal words))
 numbers-lack c digit comma [] small = All-nil (λ b. (b == c) ≡ false)
 numbers-lack c digit comma (w ∷ []) small = decimal-lacks c w (All-head (λ n. n < 2 ^ 64) w [] small) digit
@@ -51,7 +51,7 @@ same_numbers (x ∷ xs) (y ∷ ys) h k e =
     let tails = same_numbers xs ys (All-tail (λ w. w < 2 ^ 64) x xs h) (All-tail (λ w. w < 2 ^ 64) y ys k) (ap (drop 1) e) in
     λ i. heads i ∷ tails i
 
--- the first piece after the numbers so far is a number's text too
+-- the first piece after those that were read is a number's text too
 pub next_number : (xs ys : List ℕ) (piece : List ℕ) (more : List (List ℕ)) → map decimal ys ≡ map decimal xs ++ piece ∷ more → All (λ w. w < 2 ^ 64) ys →
     (w : ℕ) × (w < 2 ^ 64) × (piece ≡ decimal w)
 next_number [] [] piece more e h = absurd (omega (arith, ap length e))
@@ -59,7 +59,7 @@ next_number [] (y ∷ ys) piece more e h = (y, All-head (λ w. w < 2 ^ 64) y ys 
 next_number (x ∷ xs) [] piece more e h = absurd (omega (arith, ap length e))
 next_number (x ∷ xs) (y ∷ ys) piece more e h = next_number xs ys piece more (ap (drop 1) e) (All-tail (λ w. w < 2 ^ 64) y ys h)
 
--- the text between two pieces that a byte cuts, where there is one byte
+-- the text of two pieces that a byte cuts, if there is one such byte
 last_piece : (c : ℕ) (rest : Option (Bor (List ℕ))) (piece : List ℕ) → pieces_after c rest ≡ piece ∷ [] → (r : Bor (List ℕ)) × (rest ≡ Some r) × (r.now ≡ piece)
 last_piece c None piece e = absurd (omega (arith, ap length e))
 last_piece c (Some r) piece e = (r, refl, sym (join_with_byte-slice_split c r.now) ∙ ap (join_with_byte c) e)
@@ -80,7 +80,7 @@ join_cons : (c : ℕ) (a : List ℕ) (pieces : List (List ℕ)) → 0 < length p
 join_cons c a [] h = absurd (omega arith)
 join_cons c a (p ∷ pieces) h = refl
 
--- a text that a byte cuts is the first piece, the byte and what stands after it
+-- a text that a byte cuts is the first piece, the byte and the rest
 pub cut_joined : (c : ℕ) (text first : List ℕ) (rest : Bor (List ℕ)) → slice_split (λ b. b == c) text ≡ first ∷ pieces_after c (Some rest) → text ≡ first ++ c ∷ rest.now
 cut_joined c text first rest cut =
     sym (join_with_byte-slice_split c text) ∙ ap (join_with_byte c) cut

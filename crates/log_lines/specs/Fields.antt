@@ -1,4 +1,4 @@
--- The fields of a line, and what the text of a field stands for.
+-- The fields of a line, and the value of the text of a field.
 use Rattle.std.specs.Prelude.{◌≡◌, ◌⊎◌, ◌≢◌, ℕ, ◌<◌, ◌≤◌, ◌^◌, List, [], ◌∷◌, ◌++◌, map, length, All, Bool, true, false, ◌==◌, Option, Some, None, Ok, codes, decimal}
 use Rattle.std.specs.List.{slice_split, join_with_byte}
 use Rattle.hex.specs.Hex.{decode_of}
@@ -27,7 +27,7 @@ pub data Kind : Type 0 where
   OfNet : Kind
   Class : Kind
 
--- what a field stands for
+-- the value of a field
 pub data Value : Type 0 where
   TheNumber : (n : ℕ) → Value
   TheAddr : (a : Address) → Value
@@ -77,7 +77,7 @@ abbrev pub choice : List ℕ → List ℕ → Bool → List ℕ
 choice first second true = first
 choice first second false = second
 
--- the text is of the kind and stands for the value
+-- the text is of the kind and has the value
 abbrev pub StandsFor : Kind → List ℕ → Value → Type 0
 StandsFor (Number least most) text v = (n : ℕ) × (v ≡ TheNumber n) × (least ≤ n) × (n ≤ most) × (text ≡ decimal n)
 StandsFor OfAddr text v = (a : Address) × (v ≡ TheAddr a) × IsAddrText text a
@@ -103,7 +103,7 @@ fault_of (Either first second) = fault.Word
 fault_of OfNet = fault.Word
 fault_of Class = fault.Word
 
--- the texts are of the kinds, in order, and stand for the values
+-- the texts are of the kinds, in order, and have the values
 abbrev pub StandForAll : List Kind → List (List ℕ) → List Value → Type 0
 StandForAll [] [] [] = Unit {0}
 StandForAll (kind ∷ kinds) (text ∷ texts) (v ∷ vs) = StandsFor kind text v × StandForAll kinds texts vs

@@ -1,10 +1,10 @@
--- Words of private contracts.
+-- Definitions for private contracts.
 use Rattle.std.specs.Prelude.{◌≡◌, ℕ, ◌+◌, List, [], ◌==◌, length, Option, Some, None}
 use Rattle.std.specs.Borrow.{Bor}
 use Rattle.std.specs.List.{slice_split}
 use Rattle.log_lines.specs.Fields.{Kind, Value, StandsFor, StandForAll}
 
--- the pieces of what stands after a separator, none where there was no separator
+-- the pieces of the text after a separator; none if there was no separator
 abbrev pub pieces_after : ℕ → Option (Bor (List ℕ)) → List (List ℕ)
 pieces_after separator None = []
 pieces_after separator (Some rest) = slice_split (λ b. b == separator) rest.now
@@ -13,15 +13,15 @@ pieces_after separator (Some rest) = slice_split (λ b. b == separator) rest.now
 abbrev pub texts_after : Option (Bor (List ℕ)) → List (List ℕ)
 texts_after rest = pieces_after 32 rest
 
--- how many bytes stand after a separator, with it
+-- how many bytes there are from a separator on
 abbrev pub length_after : Option (Bor (List ℕ)) → ℕ
 length_after None = 0
 length_after (Some rest) = length rest.now + 1
 
--- the text stands for no other value
+-- the text has no other value
 abbrev pub IsOnly : Kind → List ℕ → Value → Type 0
 IsOnly kind text v = (w : Value) → StandsFor kind text w → w ≡ v
 
--- the texts stand for no other values
+-- the texts have no other values
 abbrev pub AreOnly : List Kind → List (List ℕ) → List Value → Type 0
 AreOnly kinds texts vs = (ws : List Value) → StandForAll kinds texts ws → ws ≡ vs

@@ -24,11 +24,11 @@ abbrev pub place_text : Place → List ℕ
 place_text Tried = codes " tried"
 place_text (New buckets) = codes " new " ++ numbers_text buckets
 
--- a peer, and where it was heard of
+-- a peer and its source
 abbrev pub origin_text : Rec → List ℕ
 origin_text r = codes "peer " ++ peer_text r.peer ++ codes " source " ++ addr_text r.source
 
--- when a peer was seen, and what it offers
+-- when a peer was last seen, and the services that it offers
 abbrev pub seen_text : Rec → List ℕ
 seen_text r = codes " time " ++ decimal r.time ++ codes " services " ++ decimal r.services
 

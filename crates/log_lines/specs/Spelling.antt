@@ -79,7 +79,7 @@ verb_of c.SaveBegin = v.SaveBegin
 verb_of (c.SaveStep count) = v.SaveStep
 verb_of c.SaveEnd = v.SaveEnd
 
--- what the other fields stand for
+-- the values of the other fields
 abbrev pub values_of : Command → List Value
 values_of (c.Now time) = TheNumber time ∷ []
 values_of (c.Addr source payload words) = TheAddr source ∷ TheBytes payload ∷ TheWords words ∷ []

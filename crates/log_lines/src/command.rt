@@ -52,7 +52,7 @@ pub enum Command {
         net: Option<Net>,
         words: Words,
     },
-    /// Pick peers to tell of: at most `max` and `pct` percent, 0 for no limit; of a class or all.
+    /// Pick peers to announce: at most `max` and `pct` percent, 0 for no limit; of a class or all.
     Sample {
         max: u32,
         pct: u32,

@@ -11,7 +11,7 @@ use peer_rec::{Counts, Good, Picked, Place, Rec, Resolved};
 
 /// Appends the text of a reply, which ends with a line feed.
 ///
-/// A refusal for want of memory is no reply of the tables.
+/// A refusal because memory ran out is not a reply of the tables.
 pub fn put_reply(reply: &Reply, out: &mut Vec<u8>) -> Result<(), Memory>
     requires { reply.now ≢ Reply.Refused MsgFault.Memory }
     ensures ok { OnOk result (out.new.items ≡ out.old.items ++ reply_text reply.now) }
@@ -75,7 +75,7 @@ fn fault_word(fault: &MsgFault) -> &'static [u8]
     }
 }
 
-/// The word for what became of a peer that was reached.
+/// The word for the result of a connection to a peer.
 fn good_word(good: &Good) -> &'static [u8]
     ensures { result.now ≡ good_text good.now }
 {
@@ -231,7 +231,7 @@ fn put_tries(rec: &Rec, out: &mut Vec<u8>) -> Result<(), Memory>
     put_number(b" attempts ", u64::from(rec.attempts), out)
 }
 
-/// Appends where a record stands.
+/// Appends the table of a record, and its buckets in the new table.
 fn put_place(place: &Place, out: &mut Vec<u8>) -> Result<(), Memory>
     ensures { OnOk result (out.new.items ≡ out.old.items ++ place_text place.now) }
 {

@@ -10,10 +10,10 @@ use rand_core::utils::NextWord;
 use rand_xoshiro::Xoshiro256PlusPlus;
 use std::alloc::{AllocError, Global};
 
-/// The most words that a seed stands for.
+/// The most words that a seed gives.
 const MOST_SEEDED: u64 = 1_000_000;
 
-/// The random words that the text writes: `-` for none, numbers with commas between them, or
+/// The random words that the text gives: `-` for none, numbers with commas between them, or
 /// `@S:N` for the first N words of the generator with the seed S.
 pub fn read_words(alloc: Global, text: &[u8]) -> Result<Words, LineFault>
     requires { length text.now ≤ 16777216 }
@@ -64,7 +64,7 @@ fn read_numbers(alloc: Global, text: &[u8]) -> Result<Words, LineFault>
     Ok(Words::of(words))
 }
 
-/// A seed, a colon, and the number of words, which stand after `@`.
+/// The text after `@`: a seed, a colon, and the number of words.
 fn read_seeded(alloc: Global, text: &[u8]) -> Result<Words, LineFault>
     ensures found { IfOk result (λ words. AreSeeded (64 ∷ text.now) words) }
     ensures only { (words : List ℕ) → AreSeeded (64 ∷ text.now) words →

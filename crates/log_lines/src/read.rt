@@ -55,7 +55,7 @@ fn is_passed_over(line: &[u8]) -> bool
     line.is_empty() || line[0] == b'#'
 }
 
-/// The verb that the first word of a line is.
+/// The verb of the first word of a line.
 fn verb_of(word: &[u8]) -> Option<Verb>
     ensures found { IfSome result (λ verb. word.now ≡ word_of verb) }
     ensures none { IfNone result ((verb : Verb) → word.now ≢ word_of verb) }
@@ -301,7 +301,7 @@ fn read_sample(alloc: Global, rest: Option<&[u8]>) -> Result<Command, LineFault>
     })
 }
 
-/// The collision that a word picks.
+/// The random word that picks a collision.
 fn read_clash(rest: Option<&[u8]>) -> Result<Command, LineFault>
     ensures found { IfOk result (λ c. SpellsAfter Verb.Clash (texts_after rest.entry) c) }
     ensures unique { IfOk result (λ c.

@@ -4,7 +4,7 @@ use Rattle.std.specs.List.{slice_split}
 use Rattle.log_lines.specs.Inside.{pieces_after, length_after}
 use Rattle.log_lines.proofs.random.read_numbers.Given as goal
 
--- the pieces so far are those of the numbers read
+-- the pieces that were read are those of the numbers
 abbrev pub invariant-loop-rest : goal.invariant-loop-rest
 invariant-loop-rest l = record {
   pieces : slice_split (λ b. b == 44) l.text ≡ map decimal l.words.items ++ pieces_after 44 l.rest;

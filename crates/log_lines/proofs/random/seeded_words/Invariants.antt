@@ -2,7 +2,7 @@ use Rattle.std.proofs.Common.{◌≡◌, ◌-◌, ◌++◌, vec_len}
 use Rattle.log_lines.specs.Random.{outputs, seeded_words}
 use Rattle.log_lines.proofs.random.seeded_words.Given as goal
 
--- the words so far and those that the generator gives next are all of them
+-- the words that were made and those that the generator gives next are all of them
 abbrev pub invariant-loop : goal.invariant-loop
 invariant-loop l = record {
   told : l.words.items ++ outputs l.generator (l.count - l.counter) ≡ seeded_words l.seed l.count;
