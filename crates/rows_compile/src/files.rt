@@ -84,7 +84,7 @@ fn hex_of(alloc: Global, file: &Compiled) -> Result<String, AllocError> {
     hex::encode(alloc, file.code())
 }
 
-/// A text compiles to so many bits and this file, which is sane.
+/// A text compiles to this many bits and this file, which is sane.
 fn assert_file(
     rt: &impl Abort,
     alloc: Global,
@@ -108,7 +108,7 @@ fn files_are_those_of_another_program(rt: HostRuntime) -> Result<(), Fail> {
     Ok(())
 }
 
-/// A text of comments alone is a table, and it is not compiled.
+/// A text of only comments is a table, and it is not compiled.
 #[test]
 fn a_table_with_no_rows_is_empty(rt: HostRuntime) -> Result<(), Fail> {
     let table = read_table(rt.alloc(), b"# no rows\n")?;

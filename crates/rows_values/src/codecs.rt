@@ -271,7 +271,7 @@ fn addrv2_messages_are_written(rt: HostRuntime) -> Result<(), Fail> {
     Ok(())
 }
 
-// An `addr` message of so many equal entries.
+// An `addr` message of this many equal entries.
 fn message_of(alloc: Global, count: u16) -> Result<Vec<u8>, Fail> {
     let entry = hex::decode(alloc, ONE_ENTRY)?;
     let mut bytes = Vec::new(alloc);
@@ -292,7 +292,7 @@ fn a_thousand_entries_are_read_and_one_more_is_refused(rt: HostRuntime) -> Resul
     Ok(())
 }
 
-// An `addrv2` message with one entry of an unknown network and so many bytes.
+// An `addrv2` message with one entry of an unknown network and this many bytes.
 fn unknown_of(alloc: Global, length: u16) -> Result<Vec<u8>, Fail> {
     let mut bytes = hex::decode(alloc, "0100f153650109")?;
     put_compact(u64::from(length), &mut bytes)?;

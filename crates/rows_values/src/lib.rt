@@ -1,4 +1,4 @@
-//! Tests of values: numbers, addresses, messages, places in the tables, records, lines and replies.
+//! Tests of values: numbers, addresses, messages, buckets and slots, records, lines and replies.
 #![tactic(auto)]
 
 #[cfg(test)]

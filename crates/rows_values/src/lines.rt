@@ -218,7 +218,7 @@ fn a_long_number_is_refused(rt: HostRuntime) -> Result<(), Fail> {
 }
 
 #[test]
-fn a_seed_stands_for_the_outputs_of_its_generator(rt: HostRuntime) -> Result<(), Fail> {
+fn a_seed_gives_the_outputs_of_its_generator(rt: HostRuntime) -> Result<(), Fail> {
     let none = read_words(rt.alloc(), b"@5:0")?;
     assert!(rt; none.items().is_empty());
     let zero = read_words(rt.alloc(), b"@0:3")?;

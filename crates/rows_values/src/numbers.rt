@@ -1,9 +1,9 @@
-// Numbers as they stand in messages, and in text.
+// Numbers in messages and in text.
 use net_addr::parse_number;
 use wire_num::{read_be16, read_le32, read_le64};
 
 #[test]
-fn numbers_stand_low_byte_first_and_ports_high_byte_first(rt: HostRuntime) {
+fn numbers_have_the_low_byte_first_and_ports_the_high_byte(rt: HostRuntime) {
     let bytes = [0xf1, 0x53, 0x65, 0x01, 0, 0, 0, 0x80, 0x20, 0x8d];
     assert_eq!(rt; read_le32(&bytes, 0), Some(0x016553f1));
     assert_eq!(rt; read_le32(&bytes, 6), Some(0x8d208000));
@@ -17,7 +17,7 @@ fn numbers_stand_low_byte_first_and_ports_high_byte_first(rt: HostRuntime) {
 }
 
 #[test]
-fn a_number_is_written_in_one_way_alone(rt: HostRuntime) {
+fn a_number_is_written_in_only_one_way(rt: HostRuntime) {
     assert_eq!(rt; parse_number(b"0", 0), Some(0));
     assert_eq!(rt; parse_number(b"65535", 65535), Some(65535));
     assert_eq!(rt; parse_number(b"65536", 65535), None);

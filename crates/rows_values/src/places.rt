@@ -34,14 +34,14 @@ fn hashed_twice(bytes: &[u8]) -> [u8; 32] {
 }
 
 #[test]
-fn the_cheap_hash_is_the_front_of_the_double_hash(rt: HostRuntime) {
+fn the_cheap_hash_is_the_first_bytes_of_the_double_hash(rt: HostRuntime) {
     assert_eq!(rt; hashed_twice(b"hello"), HELLO_HASH);
     assert_eq!(rt; hashed_twice(&[1, 0, 0, 0]), ONE_HASH);
     assert_eq!(rt; cheap(b"hello"), 0x48510790dfc99595);
     assert_eq!(rt; cheap(b""), 0xd3591376e2e0f65d);
 }
 
-// A peer, a source that tells of it, and the peer's new bucket, new slot, tried bucket and tried
+// A peer, a source that announces it, and the peer's new bucket, new slot, tried bucket and tried
 // slot.
 type Row = (&'static str, &'static str, [u16; 4]);
 
@@ -228,7 +228,7 @@ fn assert_group(rt: &impl Abort, placer: &Placer<'_>, row: &Group) {
 }
 
 #[test]
-fn a_group_is_the_network_and_the_front_of_the_address(rt: HostRuntime) {
+fn a_group_is_the_network_and_the_first_bits_of_the_address(rt: HostRuntime) {
     let zero = Placer::make([0; 32], None);
     assert_eq!(rt; zero.sum(), [0; 32]);
     for row in &GROUPS {

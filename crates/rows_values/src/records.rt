@@ -57,7 +57,7 @@ fn a_copy_has_the_numbers_and_the_place(rt: HostRuntime) {
 // The clock of the tests below.
 const NOW: u32 = 1_700_000_000;
 
-// A record with these times and so many tries.
+// A record with these times and this many tries.
 fn kept(time: u32, last_success: u32, last_try: u32, attempts: u32) -> Rec {
     Rec {
         time,
