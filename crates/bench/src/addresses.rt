@@ -18,7 +18,7 @@ impl Addresses {
         Addresses { state }
     }
 
-    /// Those that are left after so many words.
+    /// The addresses after this seed, without those of the first `words` words.
     pub fn from_place(seed: u64, words: u64) -> Addresses {
         Addresses {
             state: seed.wrapping_add(words.wrapping_mul(STEP)),

@@ -11,9 +11,9 @@ const MOST_ASMAP_BYTES: u64 = 8_388_608;
 /// What is done over asmap.dat, and how often.
 #[derive(Clone, Copy, Debug, PartialEq, Eq)]
 pub(crate) enum AsmapWork {
-    /// The file is checked once, and so many addresses are looked up.
+    /// The file is checked once, and this many addresses are looked up.
     Lookups(u64),
-    /// The file is checked so many times.
+    /// The file is checked this many times.
     Checks(u64),
 }
 

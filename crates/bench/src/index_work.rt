@@ -13,7 +13,7 @@ pub(crate) type Index = PeerIndex<BuildHasherDefault<FoldHasher>>;
 
 /// The most records that an index is filled with.
 const MOST_RECORDS: usize = 10_000_000;
-/// Records are found and removed in steps of so many: a prime, so that each comes once where their
+/// Records are found and removed in steps of this many: a prime, so that each comes once where their
 /// number is no multiple of it.
 const STEP: u64 = 7_919;
 
@@ -22,11 +22,11 @@ const STEP: u64 = 7_919;
 pub(crate) enum Kind {
     /// So many times an index is made and filled.
     Adds,
-    /// An index is made and filled once, and so many times some of its records are found.
+    /// An index is made and filled once, and this many times some of its records are found.
     Finds,
     /// So many times an index is made and filled, and some of its records are removed.
     Removes,
-    /// An index is made and filled once, and so many times some of its records are removed and
+    /// An index is made and filled once, and this many times some of its records are removed and
     /// added again.
     Turns,
 }
@@ -77,7 +77,7 @@ impl IndexWork {
         sum
     }
 
-    // That sum, so many times.
+    // That sum, this many times.
     fn find_often(self, alloc: Global) -> Result<u64, Refusal> {
         let index = filled(alloc, self.records)?;
         let mut sum: u64 = 0;
@@ -97,8 +97,8 @@ impl IndexWork {
         }
     }
 
-    // The sum of the records that are left where so many indexes are filled and some of their
-    // records removed.
+    /// Fills an index and removes some of its records, `times` times. Returns the sum of the
+    /// records that are left.
     fn remove_often(self, alloc: Global) -> Result<u64, Refusal> {
         let mut sum: u64 = 0;
         for _ in 0..self.times {
@@ -109,7 +109,7 @@ impl IndexWork {
         Ok(sum)
     }
 
-    // Removes some records so many times, and adds them again. Gives the size of the index.
+    /// Removes some records and adds them again, `times` times. Returns the size of the index.
     fn turn_often(self, alloc: Global) -> Result<u64, Refusal> {
         let mut index = filled(alloc, self.records)?;
         for _ in 0..self.times {
@@ -122,17 +122,17 @@ impl IndexWork {
     }
 }
 
-// The peer of the record of a number.
+/// The peer of a record, by its number.
 fn peer_of(number: u64) -> Peer {
     Addresses::from_place(1, number).next_peer()
 }
 
-// The number of the record that comes at a turn.
+/// The number of the record of a turn.
 fn number_at(turn: u32, records: u32) -> u64 {
     u64::from(turn) * STEP % u64::from(records).max(1)
 }
 
-// A record of the peer.
+/// A record of the peer.
 fn record(number: u64, peer: Peer) -> Rec
     ensures { result.peer ≡ peer }
 {
@@ -150,7 +150,7 @@ fn record(number: u64, peer: Peer) -> Rec
     }
 }
 
-// Puts the record of a number into the index. Its peer has to be new.
+/// Adds a record to the index, by its number. Its peer has to be new.
 fn add(index: &mut Index, number: u64) -> Result<(), Refusal> {
     let peer = peer_of(number);
     if index.len() >= MOST_RECORDS || index.find(&peer).is_some() {
@@ -162,7 +162,7 @@ fn add(index: &mut Index, number: u64) -> Result<(), Refusal> {
     }
 }
 
-/// An index of so many records.
+/// An index of this many records.
 pub(crate) fn filled(alloc: Global, records: u32) -> Result<Index, Refusal> {
     let mut index = PeerIndex::make(alloc, BuildHasherDefault::new());
     for number in 0..records {

@@ -7,8 +7,8 @@ use std::alloc::{AllocError, Global};
 /// The bytes of the log that is split into lines.
 const LOG_BYTES: usize = 16_777_216;
 
-/// A log of comment lines of so many bytes each, with their line feeds, is split into its lines so
-/// many times.
+/// A log of comment lines of `length` bytes each, with their line feeds, is split into its lines
+/// `times` times.
 #[derive(Clone, Copy, Debug, PartialEq, Eq)]
 pub(crate) struct LinesWork {
     pub length: u32,
@@ -31,7 +31,7 @@ impl LinesWork {
     }
 }
 
-// A log of so many bytes, whose lines have `length` bytes with their line feeds.
+/// A log of this many bytes, whose lines have `length` bytes with their line feeds.
 fn comment_log(alloc: Global, bytes: usize, length: usize) -> Result<Vec<u8>, AllocError>
     requires { 0 < length }
 {
@@ -44,7 +44,7 @@ fn comment_log(alloc: Global, bytes: usize, length: usize) -> Result<Vec<u8>, Al
     Ok(log)
 }
 
-// How many lines a log has.
+/// How many lines a log has.
 fn count_lines(log: &[u8]) -> u64 {
     let mut rest = log;
     for count in 0..u64::MAX {

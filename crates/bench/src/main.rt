@@ -22,7 +22,7 @@ use table_work::run_on_text;
 use tables_work::fill_tables;
 use task::Task;
 
-/// The words after the program's name.
+/// The arguments after the program's name.
 fn words_of(rt: &(impl Env + AllocGlobal)) -> io::Result<Vec<String>> {
     let mut words = Vec::new(rt.alloc());
     for word in env::args(rt)?.skip(1) {
@@ -42,7 +42,7 @@ fn measure_asmap<R: Files + Print + AllocGlobal>(rt: &R, work: AsmapWork) -> Res
     printed.map_err(|_| Refusal::NotPrinted)
 }
 
-/// Does what the words ask for, and prints its line.
+/// Does the task that the arguments name, and prints its line.
 fn measure<R: Env + Files + Print + AllocGlobal>(rt: &R) -> Result<(), Refusal> {
     let words = words_of(rt).map_err(|_| Refusal::NoWords)?;
     let sum = match Task::of(words.as_slice())? {

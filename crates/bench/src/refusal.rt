@@ -1,9 +1,9 @@
 /// Why nothing was measured.
 #[derive(Clone, Copy, Debug, PartialEq, Eq)]
 pub(crate) enum Refusal {
-    /// The words of the command line could not be had.
+    /// The arguments of the command line could not be read.
     NoWords,
-    /// The words ask for nothing that the program does.
+    /// The arguments name no task.
     Usage,
     /// The current folder has no asmap.dat.
     NoAsmap,

@@ -9,11 +9,11 @@ use std::alloc::Global;
 /// What is done over prefixes.txt, and how often.
 #[derive(Clone, Copy, Debug, PartialEq, Eq)]
 pub(crate) enum TableWork {
-    /// The text is read so many times.
+    /// The text is read this many times.
     Reads(u64),
-    /// The text is read once, and so many addresses are matched.
+    /// The text is read once, and this many addresses are matched.
     Matches(u64),
-    /// The text is read once, and the table is compiled so many times.
+    /// The text is read once, and the table is compiled this many times.
     Compiles(u64),
 }
 
@@ -58,7 +58,7 @@ fn refusal_of(fault: TableFault) -> Refusal {
     }
 }
 
-/// Reads the text so many times, and gives the sum, modulo 2^64, of the numbers of the rows.
+/// Reads the text this many times, and gives the sum, modulo 2^64, of the numbers of the rows.
 fn read_often(alloc: Global, text: &[u8], times: u64) -> Result<u64, Refusal> {
     let mut sum: u64 = 0;
     for _ in 0..times {
@@ -68,7 +68,7 @@ fn read_often(alloc: Global, text: &[u8], times: u64) -> Result<u64, Refusal> {
     Ok(sum)
 }
 
-/// The sum, modulo 2^64, of the numbers of so many addresses: IPv4 ones and IPv6 ones in turn.
+/// The sum, modulo 2^64, of the numbers of this many addresses: IPv4 ones and IPv6 ones in turn.
 fn sum_best(table: &Table, count: u64) -> u64 {
     let mut addresses = Addresses::from_seed(1);
     let mut sum: u64 = 0;

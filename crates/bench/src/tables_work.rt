@@ -3,10 +3,10 @@ use crate::refusal::Refusal;
 use slot_grid::Grid;
 use std::alloc::Global;
 
-// The slots of the new table, 1024 buckets of 64.
+/// The slots of the new table, 1024 buckets of 64.
 const NEW_SLOTS: usize = 65_536;
 
-// Puts an id into the slot at a place: first those of the new table, then those of the tried table.
+/// Puts an id into a slot by its index: first those of the new table, then those of the tried table.
 fn put(grid: &mut Grid, place: usize, id: usize) {
     let slot = (place % 64) as u8;
     if place < NEW_SLOTS {
@@ -16,14 +16,14 @@ fn put(grid: &mut Grid, place: usize, id: usize) {
     }
 }
 
-// Puts the id of each record into a slot.
+/// Puts the id of each record into a slot.
 fn put_all(grid: &mut Grid, index: &Index) {
     for place in 0..index.len() {
         put(grid, place, index.at(place));
     }
 }
 
-/// Makes and fills a grid and an index of so many records. Gives the number of the records.
+/// Makes and fills a grid and an index of this many records. Returns the number of the records.
 pub(crate) fn fill_tables(alloc: Global, records: u32) -> Result<u64, Refusal> {
     let mut grid = Grid::make(alloc).map_err(|_| Refusal::NoMemory)?;
     let index = filled(alloc, records)?;

@@ -5,7 +5,7 @@ use crate::lines_work::LinesWork;
 use crate::refusal::Refusal;
 use crate::table_work::TableWork;
 
-/// What the words ask for.
+/// What the arguments ask for.
 #[derive(Clone, Copy, Debug, PartialEq, Eq)]
 pub(crate) enum Task {
     /// Work over asmap.dat.
@@ -18,21 +18,21 @@ pub(crate) enum Task {
     Table(TableWork),
     /// Work on messages of 1000 entries.
     Codecs(CodecsWork),
-    /// A grid and an index of so many records are made and filled.
+    /// A grid and an index of this many records are made and filled.
     Tables(u32),
 }
 
-// The number that a word spells.
+/// The number that an argument spells.
 fn number(word: &String) -> Result<u64, Refusal> {
     word.as_str().parse::<u64>().map_err(|_| Refusal::Usage)
 }
 
-// So many records: a number of 32 bits.
+/// A number of records, of 32 bits.
 fn records_of(word: &String) -> Result<u32, Refusal> {
     word.as_str().parse::<u32>().map_err(|_| Refusal::Usage)
 }
 
-// The kind of work on messages that a word names.
+/// The kind of work on messages that an argument names.
 fn codecs_kind(word: &String) -> Result<CodecsKind, Refusal> {
     match word.as_str() {
         "read-addr" => Ok(CodecsKind::ReadAddr),
@@ -45,7 +45,7 @@ fn codecs_kind(word: &String) -> Result<CodecsKind, Refusal> {
 }
 
 impl Task {
-    /// The task that the words name: `asmap N`, `check N`, `codecs KIND TIMES`, `table N`, `matches N`,
+    /// The task that the arguments name: `asmap N`, `check N`, `codecs KIND TIMES`, `table N`, `matches N`,
     /// `compile TIMES`, `tables N`, `lines LENGTH TIMES`, `index-adds N TIMES`, `index-removes N TIMES`,
     /// `index-finds N SOME TIMES` or `index-turns N SOME TIMES`.
     pub fn of(words: &[String]) -> Result<Task, Refusal> {
