@@ -5,28 +5,13 @@ use Rattle.std.proofs.lemmas.Nat.{shr-shr}
 use Rattle.std.proofs.lemmas.List.{take_at}
 use Rattle.std.proofs.lemmas.Bool.{eqb-true}
 use Rattle.bit_code.specs.Coder.{has_bit, digits, number_of}
-use Rattle.bit_code.specs.DigitLaws.{length-digits, number_of-digits}
+use Rattle.bit_code.specs.DigitLaws.{length-digits, digits_above, number_of-digits}
 use Rattle.asmap_vm.specs.Code.{begins_with}
 use Rattle.prefix_table.specs.declared.row.Row.{Row}
 use Rattle.prefix_table.specs.Rows.{path, first_bits, covers, longest, best, IsRow}
 use Rattle.asmap_compile.specs.Compiled.{number_at}
 use Rattle.asmap_compile.proofs.Bits.{begins_cut, begins_self, filter_same, same_tests}
 use Rattle.asmap_compile.proofs.RowLaws.{AreRows, path_long, first_bits_of, first_below}
-
-digits_cons : (k n : ℕ) → digits (suc k) n ≡ has_bit n k ∷ digits k n
-unfolding digits
-digits_cons k n = refl
-
-same_shift : (size left a : ℕ) → a / 2 ^ (size + left) ≡ a / 2 ^ left / 2 ^ size
-same_shift size left a = let e : size + left ≡ left + size = omega arith in rw e (sym (shr-shr a left size))
-
--- the digits above the lowest ones, and then those
-pub digits_above : (size left a : ℕ) → digits (size + left) a ≡ digits size (a / 2 ^ left) ++ digits left a
-digits_above zero left a = let e : 0 + left ≡ left = omega arith in rw e (unfold digits in refl)
-digits_above (suc size) left a =
-    let e : suc size + left ≡ suc (size + left) = omega arith in
-    let top : has_bit a (size + left) ≡ has_bit (a / 2 ^ left) size = ap (λ n. eqb (n % 2) 1) (same_shift size left a) in
-    rw e (digits_cons (size + left) a ∙ ap (λ b. b ∷ digits (size + left) a) top ∙ ap (λ xs. has_bit (a / 2 ^ left) size ∷ xs) (digits_above size left a) ∙ sym (ap (λ xs. xs ++ digits left a) (digits_cons size (a / 2 ^ left))))
 
 -- the first bits of an address, as bits
 pub address_front : (len a : ℕ) → len ≤ 128 → digits 128 a ≡ digits len (first_bits len a) ++ digits (128 - len) a

@@ -5,23 +5,8 @@ use Rattle.std.proofs.lemmas.Nat.{shr-shr, shr_split, pow_pos, one_shl, and_mask
 use Rattle.std.proofs.Math.Pow.{mod-mod-pow}
 use Rattle.std.proofs.lemmas.Bool.{eqb-true}
 use Rattle.bit_code.specs.Coder.{has_bit, digits, number_of}
-use Rattle.bit_code.specs.DigitLaws.{length-digits, digits_low, number_of-digits}
+use Rattle.bit_code.specs.DigitLaws.{length-digits, digits_cons, digits_above, digits_low, number_of-digits}
 use Rattle.asmap_vm.specs.Code.{begins_with}
-
-pub digits_cons : (k n : ℕ) → digits (suc k) n ≡ has_bit n k ∷ digits k n
-unfolding digits
-digits_cons k n = refl
-
-same_shift : (size left a : ℕ) → a / 2 ^ (size + left) ≡ a / 2 ^ left / 2 ^ size
-same_shift size left a = let e : size + left ≡ left + size = omega arith in rw e (sym (shr-shr a left size))
-
--- the digits above the lowest ones, and then those
-pub digits_above : (size left a : ℕ) → digits (size + left) a ≡ digits size (a / 2 ^ left) ++ digits left a
-digits_above zero left a = let e : 0 + left ≡ left = omega arith in rw e (unfold digits in refl)
-digits_above (suc size) left a =
-    let e : suc size + left ≡ suc (size + left) = omega arith in
-    let top : has_bit a (size + left) ≡ has_bit (a / 2 ^ left) size = ap (λ n. eqb (n % 2) 1) (same_shift size left a) in
-    rw e (digits_cons (size + left) a ∙ ap (λ b. b ∷ digits (size + left) a) top ∙ ap (λ xs. has_bit (a / 2 ^ left) size ∷ xs) (digits_above size left a) ∙ sym (ap (λ xs. xs ++ digits left a) (digits_cons size (a / 2 ^ left))))
 
 -- the low digits of a number are those of its low part
 digits_mod : (k n : ℕ) → digits k n ≡ digits k (n % 2 ^ k)

@@ -15,7 +15,8 @@ use Rattle.asmap_vm.specs.declared.walk.Walk.{Walk}
 use Rattle.asmap_vm.proofs.MatchLaws.{match_size-wanted, match_bits-wanted}
 use Rattle.asmap_vm.proofs.PartLaws.{part_stands}
 use Rattle.asmap_vm.proofs.StepLaws.{Reads}
-use Rattle.asmap_vm.proofs.AddressLaws.{digits_cons, digits_past}
+use Rattle.bit_code.specs.DigitLaws.{digits_cons}
+use Rattle.asmap_vm.proofs.AddressLaws.{digits_past}
 
 -- the part at an offset, by its first instruction
 pub record Opened (bits : List Bool) (address left default next : ℕ) (i : Instruction) (answer : ℕ) : Type 0 where

@@ -1,7 +1,8 @@
 -- The laws of binary digits and of the numbers that they are the digits of. The crates above cite them too.
-use Rattle.std.proofs.Common.{◌≡◌, ℕ, zero, suc, ◌+◌, ◌-◌, ◌*◌, ◌^◌, ◌<◌, ◌≤◌, Bool, true, false, List, [], ◌∷◌, ◌++◌, length, refl, ap, ◌∙◌, inl, inr, arith, length-append, eqb}
+use Rattle.std.proofs.Common.{◌≡◌, ℕ, zero, suc, ◌+◌, ◌-◌, ◌*◌, ◌/◌, ◌%◌, ◌^◌, ◌<◌, ◌≤◌, Bool, true, false, List, [], ◌∷◌, ◌++◌, length, refl, ap, sym, ◌∙◌, inl, inr, arith, length-append, eqb}
 use Rattle.std.specs.Int.{bit_at}
 use Rattle.std.proofs.Math.Nat.{pow-suc}
+use Rattle.std.proofs.lemmas.Nat.{shr-shr}
 use Rattle.std.proofs.lemmas.Nat.Bits.{bit_at_cat_low, bit_at_cat_high}
 use Rattle.std.proofs.lemmas.Bool.{cases_lt}
 use Rattle.bit_code.specs.Coder.{has_bit, digits, number_of}
@@ -10,6 +11,21 @@ pub length-digits : (k n : ℕ) → length (digits k n) ≡ k
 unfolding digits
 length-digits zero n = refl
 length-digits (suc k) n = ap suc (length-digits k n)
+
+pub digits_cons : (k n : ℕ) → digits (suc k) n ≡ has_bit n k ∷ digits k n
+unfolding digits
+digits_cons k n = refl
+
+same_shift : (size left a : ℕ) → a / 2 ^ (size + left) ≡ a / 2 ^ left / 2 ^ size
+same_shift size left a = let e : size + left ≡ left + size = omega arith in rw e (sym (shr-shr a left size))
+
+-- the digits above the lowest ones, and then those
+pub digits_above : (size left a : ℕ) → digits (size + left) a ≡ digits size (a / 2 ^ left) ++ digits left a
+digits_above zero left a = let e : 0 + left ≡ left = omega arith in rw e (unfold digits in refl)
+digits_above (suc size) left a =
+    let e : suc size + left ≡ suc (size + left) = omega arith in
+    let top : has_bit a (size + left) ≡ has_bit (a / 2 ^ left) size = ap (λ n. eqb (n % 2) 1) (same_shift size left a) in
+    rw e (digits_cons (size + left) a ∙ ap (λ b. b ∷ digits (size + left) a) top ∙ ap (λ xs. has_bit (a / 2 ^ left) size ∷ xs) (digits_above size left a) ∙ sym (ap (λ xs. xs ++ digits left a) (digits_cons size (a / 2 ^ left))))
 
 -- the low digits don't depend on the high part
 pub digits_low : (j k a m : ℕ) → j ≤ k → digits j (a * 2 ^ k + m) ≡ digits j m
