@@ -11,11 +11,7 @@ returns-in_default-clause-only c = λ kind number rest h.
     none_both _ _ _ _ (drop c.args.at c.args.bits.now) b (omega (arith, c.in_default.ensures.none, c.len.ensures, length-drop c.args.at c.args.bits.now)) kind number rest h
 
 pub returns-in_default-clause-none : goal.returns-in_default-clause-none
-returns-in_default-clause-none c = λ kind number rest h.
-    let k = c.kind_ahead-kind.ensures in
-    let n = c.number_after-number.ensures in
-    let b = window_both _ _ _ _ c.args.bits.now c.args.at c.window-window.result c.window-window.ensures _ refl k.top k.most k.kind n.most k.value n.value in
-    none_both _ _ _ _ (drop c.args.at c.args.bits.now) b (omega (arith, c.in_default.ensures.none, c.len.ensures, length-drop c.args.at c.args.bits.now)) kind number rest h
+returns-in_default-clause-none c = returns-in_default-clause-only c
 
 pub returns-clause-found : goal.returns-clause-found
 returns-clause-found c =
