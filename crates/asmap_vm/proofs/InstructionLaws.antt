@@ -2,7 +2,7 @@
 use Rattle.std.proofs.Common.{◌≡◌, ℕ, zero, suc, ◌<◌, Bool, List, ◌++◌, refl, arith}
 use Rattle.bit_code.specs.Coder.{spelling, HasValue, SpellsBoth, coder_after, values_of, sizes}
 use Rattle.bit_code.specs.declared.coder.Coder.TheVariants as coders
-use Rattle.asmap_vm.specs.Instructions.{kind_of, coder_of, number_in, instruction_at, Stands}
+use Rattle.asmap_vm.specs.Instructions.{kind_of, coder_of, number_in, instruction_at, IsNext}
 use Rattle.asmap_vm.specs.declared.instruction.Instruction.{Instruction}
 use Rattle.asmap_vm.specs.declared.instruction.Instruction.TheVariants as instructions
 
@@ -31,7 +31,7 @@ instruction_at-kind_of (instructions.Jump n) = refl
 instruction_at-kind_of (instructions.Match n) = refl
 instruction_at-kind_of (instructions.Default n) = refl
 
-by_kind : (kind n : ℕ) (bits rest : List Bool) → kind < 4 → SpellsBoth kind n bits rest → Stands (instruction_at kind n) bits rest
+by_kind : (kind n : ℕ) (bits rest : List Bool) → kind < 4 → SpellsBoth kind n bits rest → IsNext (instruction_at kind n) bits rest
 by_kind zero n bits rest h b = record { value = b.value; spelled = b.spelled }
 by_kind (suc zero) n bits rest h b = record { value = b.value; spelled = b.spelled }
 by_kind (suc (suc zero)) n bits rest h b = record { value = b.value; spelled = b.spelled }
@@ -39,11 +39,11 @@ by_kind (suc (suc (suc zero))) n bits rest h b = record { value = b.value; spell
 by_kind (suc (suc (suc (suc kind)))) n bits rest h b = absurd (omega arith)
 
 -- a kind and a number that were read are those of the instruction
-pub stands_there : (kind n : ℕ) (bits rest : List Bool) → SpellsBoth kind n bits rest → Stands (instruction_at kind n) bits rest
-stands_there kind n bits rest b = by_kind kind n bits rest (kind-lt kind b.kind_value) b
+pub next_there : (kind n : ℕ) (bits rest : List Bool) → SpellsBoth kind n bits rest → IsNext (instruction_at kind n) bits rest
+next_there kind n bits rest b = by_kind kind n bits rest (kind-lt kind b.kind_value) b
 
 -- the kind and the number of the next instruction are spelled there
-pub both_there : (i : Instruction) (bits rest : List Bool) → Stands i bits rest → SpellsBoth (kind_of i) (number_in i) bits rest
+pub both_there : (i : Instruction) (bits rest : List Bool) → IsNext i bits rest → SpellsBoth (kind_of i) (number_in i) bits rest
 both_there i bits rest s =
     record {
       kind_value = kind_value i;

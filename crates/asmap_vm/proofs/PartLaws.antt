@@ -5,7 +5,7 @@ use Rattle.bit_code.specs.Coder.{number_of, spelling, HasValue}
 use Rattle.bit_code.specs.declared.coder.Coder.TheVariants as coders
 use Rattle.bit_code.specs.DigitLaws.{length-digits}
 use Rattle.asmap_vm.specs.Code.{Tree, Return, Jump, Match, Default, code, IsSaneWithin, IsMatch, IsNoShortMatch, TakesDefault}
-use Rattle.asmap_vm.specs.Instructions.{kind_of, coder_of, number_in, Stands, head, tail}
+use Rattle.asmap_vm.specs.Instructions.{kind_of, coder_of, number_in, IsNext, head, tail}
 use Rattle.asmap_vm.specs.Matches.{match_size, match_bits}
 use Rattle.asmap_vm.specs.Scanning.{Suits, IsPart, after_match}
 use Rattle.asmap_vm.specs.declared.instruction.Instruction.{Instruction}
@@ -38,24 +38,24 @@ pub record Opened (i : Instruction) (before : Before) (left : ℕ) (after rest :
   pub tail_is : after ≡ tail tree ++ rest
 
 -- the first instruction of a part is the next one
-pub part_stands : (before : Before) (left : ℕ) (bits rest : List Bool) (part : IsPart before left bits rest) → Stands (head part.tree) bits (tail part.tree ++ rest)
-part_stands before left bits rest part =
+pub part_next : (before : Before) (left : ℕ) (bits rest : List Bool) (part : IsPart before left bits rest) → IsNext (head part.tree) bits (tail part.tree ++ rest)
+part_next before left bits rest part =
     record {
       value = head_value left part.tree part.sane;
       spelled = part.spelled ∙ ap (λ x. x ++ rest) (code_is part.tree) ∙ simp append_assoc;
     }
 
 module _ (i : Instruction) (before : Before) (left : ℕ) (bits after rest : List Bool) where
-  pub opens : ((j : Instruction) (r : List Bool) → Stands j bits r → (i ≡ j) × (after ≡ r)) → IsPart before left bits rest → Opened i before left after rest
+  pub opens : ((j : Instruction) (r : List Bool) → IsNext j bits r → (i ≡ j) × (after ≡ r)) → IsPart before left bits rest → Opened i before left after rest
   opens only part =
-      let same = only (head part.tree) (tail part.tree ++ rest) (part_stands before left bits rest part) in
+      let same = only (head part.tree) (tail part.tree ++ rest) (part_next before left bits rest part) in
       record { tree = part.tree; sane = part.sane; suits = part.suits; head_is = sym same.0; tail_is = same.1 }
 
-  pub closes : Stands i bits after → Opened i before left after rest → IsPart before left bits rest
-  closes stands part =
+  pub closes : IsNext i bits after → Opened i before left after rest → IsPart before left bits rest
+  closes is_next part =
       let whole : spelling coders.Kind (kind_of i) ++ (spelling (coder_of i) (number_in i) ++ (tail part.tree ++ rest)) ≡ code part.tree ++ rest =
       rw (← part.head_is, code_is part.tree) (simp append_assoc) in
-      record { tree = part.tree; sane = part.sane; suits = part.suits; spelled = stands.spelled ∙ (rw part.tail_is whole) }
+      record { tree = part.tree; sane = part.sane; suits = part.suits; spelled = is_next.spelled ∙ (rw part.tail_is whole) }
 
 -- a return is not after a default, and nothing of its tree follows it
 suits_return : (before : Before) (n : ℕ) → Suits before (Return n) → before ≢ befores.Default

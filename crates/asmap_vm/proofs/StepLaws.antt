@@ -1,6 +1,6 @@
 -- What one instruction does to what is missing.
 use Rattle.std.proofs.Common.{◌≡◌, ◌≢◌, ℕ, ◌+◌, ◌-◌, ◌<◌, ◌≤◌, ◌↔◌, Bool, true, false, IsTrue, if◌then◌else◌, subst, List, [], ◌∷◌, ◌++◌, length, drop, refl, arith, length-drop}
-use Rattle.asmap_vm.specs.Instructions.{Stands, head, tail}
+use Rattle.asmap_vm.specs.Instructions.{IsNext, head, tail}
 use Rattle.asmap_vm.specs.Matches.{match_size}
 use Rattle.asmap_vm.specs.Scanning.{IsPart, IsPadding, Follow, Completes, IsUnderWay, Advances, IsStuckAt, after_match, start}
 use Rattle.asmap_vm.specs.declared.instruction.Instruction.{Instruction}
@@ -10,22 +10,22 @@ use Rattle.asmap_vm.specs.declared.scan.Scan.{Scan}
 use Rattle.asmap_vm.specs.declared.scan.Step.{Step}
 use Rattle.asmap_vm.specs.declared.scan.Step.TheVariants as steps
 use Rattle.asmap_vm.specs.declared.stack.RightPart.{RightPart}
-use Rattle.asmap_vm.proofs.PartLaws.{Opened, part_stands, opens, closes, split_return, join_return, split_default, join_default, split_jump, join_jump, JumpParts, split_match, join_match, MatchPart, DefaultPart}
+use Rattle.asmap_vm.proofs.PartLaws.{Opened, part_next, opens, closes, split_return, join_return, split_default, join_default, split_jump, join_jump, JumpParts, split_match, join_match, MatchPart, DefaultPart}
 use Rattle.asmap_vm.proofs.MatchLaws.{match_range}
 
 -- the instruction at an offset, and the offset after it
 pub record Reads (bits : List Bool) (offset : ℕ) (i : Instruction) (next : ℕ) : Type 0 where
   pub further : offset < next
   pub within : next ≤ length bits
-  pub stands : Stands i (drop offset bits) (drop next bits)
-  pub only : (j : Instruction) (r : List Bool) → Stands j (drop offset bits) r → (i ≡ j) × (drop next bits ≡ r)
+  pub is_next : IsNext i (drop offset bits) (drop next bits)
+  pub only : (j : Instruction) (r : List Bool) → IsNext j (drop offset bits) r → (i ≡ j) × (drop next bits ≡ r)
 
 module _ (bits : List Bool) (s : Scan) (next : ℕ) where
   opened : (i : Instruction) → Reads bits s.offset i next → (rest : List Bool) → IsPart s.before s.left (drop s.offset bits) rest → Opened i s.before s.left (drop next bits) rest
   opened i reads rest part = opens i s.before s.left (drop s.offset bits) (drop next bits) rest reads.only part
 
   closed : (i : Instruction) → Reads bits s.offset i next → (rest : List Bool) → Opened i s.before s.left (drop next bits) rest → IsPart s.before s.left (drop s.offset bits) rest
-  closed i reads rest part = closes i s.before s.left (drop s.offset bits) (drop next bits) rest reads.stands part
+  closed i reads rest part = closes i s.before s.left (drop s.offset bits) (drop next bits) rest reads.is_next part
 
 -- a default
 abbrev defaulted : Scan → ℕ → Scan
@@ -48,7 +48,7 @@ module _ (bits : List Bool) (s : Scan) (next n : ℕ) (reads : Reads bits s.offs
   default_sound : s.before ≢ befores.Default → Completes bits (defaulted s next) → Completes bits s
   unfolding Completes
   default_sound first c =
-      (c.0, closed bits s next (instructions.Default n) reads c.0 (join_default n s.before s.left (drop next bits) c.0 reads.stands.value (record { first = first; part = c.1 })), c.2)
+      (c.0, closed bits s next (instructions.Default n) reads c.0 (join_default n s.before s.left (drop next bits) c.0 reads.is_next.value (record { first = first; part = c.1 })), c.2)
 
   pub default_advances : s.before ≢ befores.Default → IsUnderWay bits s → Advances bits s (defaulted s next)
   default_advances first under_way =
@@ -81,7 +81,7 @@ module _ (bits : List Bool) (s : Scan) (next n : ℕ) (reads : Reads bits s.offs
   match_sound : match_size n ≤ s.left → (match_size n < 8 → s.before ≢ befores.ShortMatch) → Completes bits (matched s next n) → Completes bits s
   unfolding Completes
   match_sound fits joined c =
-      let range = match_range n reads.stands.value in
+      let range = match_range n reads.is_next.value in
       (c.0, closed bits s next (instructions.Match n) reads c.0 (join_match n s.before s.left (drop next bits) c.0 range.0 range.1 (record { fits = fits; joined = joined; part = c.1 })), c.2)
 
   pub match_advances : match_size n ≤ s.left → (match_size n < 8 → s.before ≢ befores.ShortMatch) → IsUnderWay bits s → Advances bits s (matched s next n)
@@ -131,7 +131,7 @@ module _ (bits : List Bool) (s : Scan) (next over : ℕ) (reads : Reads bits s.o
         right_part = c.2.1.1;
         over_is = omega (arith, c.2.0, length-drop next bits, reads.within);
       } in
-      (c.2.1.0, closed bits s next (instructions.Jump over) reads c.2.1.0 (join_jump over s.before s.left (drop next bits) c.2.1.0 reads.stands.value parts), c.2.1.2)
+      (c.2.1.0, closed bits s next (instructions.Jump over) reads c.2.1.0 (join_jump over s.before s.left (drop next bits) c.2.1.0 reads.is_next.value parts), c.2.1.2)
 
   pub jump_advances : 0 < s.left → IsUnderWay bits s → Advances bits s (jumped s next over)
   jump_advances room under_way =
@@ -177,7 +177,7 @@ module _ (bits : List Bool) (s : Scan) (next n : ℕ) (reads : Reads bits s.offs
   return_sound : s.before ≢ befores.Default → Follow (length bits) s.pending (drop next bits) → Completes bits s
   unfolding Completes
   return_sound first follow =
-      (drop next bits, closed bits s next (instructions.Return n) reads (drop next bits) (join_return n s.before s.left (drop next bits) reads.stands.value first), follow)
+      (drop next bits, closed bits s next (instructions.Return n) reads (drop next bits) (join_return n s.before s.left (drop next bits) reads.is_next.value first), follow)
 
   pub return_ends : s.before ≢ befores.Default → s.pending ≡ [] → IsPadding (drop next bits) → Completes bits s
   return_ends first none padding = return_sound first (ended (length bits) s.pending (drop next bits) none padding)
@@ -206,15 +206,15 @@ module _ (bits : List Bool) (s : Scan) (next n : ℕ) (reads : Reads bits s.offs
         }
 
 -- without an instruction there is no part
-pub no_instruction : (bits : List Bool) (s : Scan) → ((i : Instruction) (r : List Bool) → Stands i (drop s.offset bits) r → ⊥) → Completes bits s → ⊥
+pub no_instruction : (bits : List Bool) (s : Scan) → ((i : Instruction) (r : List Bool) → IsNext i (drop s.offset bits) r → ⊥) → Completes bits s → ⊥
 unfolding Completes
 no_instruction bits s none c =
-    none (head c.1.tree) (tail c.1.tree ++ c.0) (part_stands s.before s.left (drop s.offset bits) c.0 c.1)
+    none (head c.1.tree) (tail c.1.tree ++ c.0) (part_next s.before s.left (drop s.offset bits) c.0 c.1)
 
 -- what a reader of instructions answered, at the instruction that it was
-pub reads_as : (bits : List Bool) (offset : ℕ) (i j : Instruction) (next : ℕ) → i ≡ j → (offset < next) × (next ≤ length bits) → Stands i (drop offset bits) (drop next bits) → ((k : Instruction) (r : List Bool) → Stands k (drop offset bits) r → (i ≡ k) × (drop next bits ≡ r)) → Reads bits offset j next
+pub reads_as : (bits : List Bool) (offset : ℕ) (i j : Instruction) (next : ℕ) → i ≡ j → (offset < next) × (next ≤ length bits) → IsNext i (drop offset bits) (drop next bits) → ((k : Instruction) (r : List Bool) → IsNext k (drop offset bits) r → (i ≡ k) × (drop next bits ≡ r)) → Reads bits offset j next
 reads_as bits offset i j next e p found only =
-    subst (λ k. Reads bits offset k next) e (record { further = p.0; within = p.1; stands = found; only = only })
+    subst (λ k. Reads bits offset k next) e (record { further = p.0; within = p.1; is_next = found; only = only })
 
 pub more_true : (b : Bool) (step : Step) → step ≡ (if b then steps.More else steps.Insane) → step ≡ steps.More → b ≡ true
 more_true true step e h = refl

@@ -4,7 +4,7 @@ use Rattle.std.proofs.Math.Seq.{drop-append_seam}
 use Rattle.std.proofs.lemmas.List.{drop-drop}
 use Rattle.bit_code.specs.Coder.{has_bit, digits, number_of, file_bits}
 use Rattle.asmap_vm.specs.Code.{Tree, Return, Jump, Match, Default, code, IsSaneWithin, IsSaneFile, begins_with, meaning, asn_of}
-use Rattle.asmap_vm.specs.Instructions.{Stands, head, tail}
+use Rattle.asmap_vm.specs.Instructions.{IsNext, head, tail}
 use Rattle.asmap_vm.specs.Matches.{match_size, match_bits}
 use Rattle.asmap_vm.specs.Walking.{Answers, set_out}
 use Rattle.asmap_vm.specs.TreeOf.{tree_of}
@@ -13,7 +13,7 @@ use Rattle.asmap_vm.specs.declared.instruction.Instruction.TheVariants as instru
 use Rattle.asmap_vm.specs.declared.scan.Before.TheVariants as befores
 use Rattle.asmap_vm.specs.declared.walk.Walk.{Walk}
 use Rattle.asmap_vm.proofs.MatchLaws.{match_size-wanted, match_bits-wanted}
-use Rattle.asmap_vm.proofs.PartLaws.{part_stands}
+use Rattle.asmap_vm.proofs.PartLaws.{part_next}
 use Rattle.asmap_vm.proofs.StepLaws.{Reads}
 use Rattle.bit_code.specs.DigitLaws.{digits_cons}
 use Rattle.asmap_vm.proofs.AddressLaws.{digits_past}
@@ -29,13 +29,13 @@ pub record Opened (bits : List Bool) (address left default next : ℕ) (i : Inst
   pub gives : meaning tree (digits left address) default ≡ answer
 
 -- before an answer there is an instruction
-pub stands_ahead : (bits : List Bool) (address : ℕ) (w : Walk) (answer : ℕ) (a : Answers bits address w answer) → Stands (head a.tree) (drop w.offset bits) (tail a.tree ++ a.rest)
-stands_ahead bits address w answer a =
-    part_stands befores.Nothing w.left (drop w.offset bits) a.rest (record { tree = a.tree; sane = a.sane; suits = tt; spelled = a.spelled })
+pub next_ahead : (bits : List Bool) (address : ℕ) (w : Walk) (answer : ℕ) (a : Answers bits address w answer) → IsNext (head a.tree) (drop w.offset bits) (tail a.tree ++ a.rest)
+next_ahead bits address w answer a =
+    part_next befores.Nothing w.left (drop w.offset bits) a.rest (record { tree = a.tree; sane = a.sane; suits = tt; spelled = a.spelled })
 
 pub opened : (bits : List Bool) (address : ℕ) (w : Walk) (next : ℕ) (i : Instruction) (answer : ℕ) → Reads bits w.offset i next → Answers bits address w answer → Opened bits address w.left w.default next i answer
 opened bits address w next i answer reads a =
-    let same = reads.only (head a.tree) (tail a.tree ++ a.rest) (stands_ahead bits address w answer a) in
+    let same = reads.only (head a.tree) (tail a.tree ++ a.rest) (next_ahead bits address w answer a) in
     record { tree = a.tree; rest = a.rest; sane = a.sane; head_is = sym same.0; tail_is = same.1; room = a.left; gives = a.gives }
 
 module _ (bits : List Bool) (address left default next answer : ℕ) where

@@ -36,7 +36,7 @@ instruction_at kind n =
     else (if kind == match_kind then instructions.Match n else instructions.Default n))
 
 -- the bits begin with the instruction, and then go on with the rest
-pub record Stands (i : Instruction) (bits rest : List Bool) : Type 0 where
+pub record IsNext (i : Instruction) (bits rest : List Bool) : Type 0 where
   pub value : HasValue (coder_of i) (number_in i)
   pub spelled : bits ≡ spelling coders.Kind (kind_of i) ++ (spelling (coder_of i) (number_in i) ++ rest)
 

@@ -1,6 +1,6 @@
 ghost use Rattle.std.specs.Prelude.{◌≡◌, ◌<◌, ◌≤◌, Bool, List, length, drop, IfSome, IsSomeAnd};
 ghost use Rattle.asmap_vm.specs.declared.instruction.Instruction.{Instruction};
-ghost use Rattle.asmap_vm.specs.Instructions.{instruction_at, Stands};
+ghost use Rattle.asmap_vm.specs.Instructions.{instruction_at, IsNext};
 
 use bit_code::{Bits, read_kind_and_number};
 
@@ -24,8 +24,8 @@ pub(crate) fn read_instruction(bits: &Bits<'_>, at: usize) -> Option<(Instructio
     requires { at ≤ length bits.now }
     ensures offset { IfSome result (λ read. (at < read.1) × (read.1 ≤ length bits.now)) }
     ensures found { IfSome result (λ read.
-        Stands read.0 (drop at bits.now) (drop read.1 bits.now)) }
-    ensures only { (i : Instruction) (rest : List Bool) → Stands i (drop at bits.now) rest →
+        IsNext read.0 (drop at bits.now) (drop read.1 bits.now)) }
+    ensures only { (i : Instruction) (rest : List Bool) → IsNext i (drop at bits.now) rest →
         IsSomeAnd result (λ read. (read.0 ≡ i) × (drop read.1 bits.now ≡ rest)) }
 {
     let read = read_kind_and_number(bits, at)?;

@@ -22,11 +22,11 @@ read_default c = reads_as _ _ _ _ _ c.in-Default.is c.in-Some.ensures.offset c.i
 
 pub match_bits-requires-clause-low : goal.match_bits-requires-clause-low
 match_bits-requires-clause-low c =
-    (match_range c.in-Match.number (read_match (goal.at.match_bits-requires-clause-low c).In-Match).stands.value).0
+    (match_range c.in-Match.number (read_match (goal.at.match_bits-requires-clause-low c).In-Match).is_next.value).0
 
 pub match_bits-requires-clause-high : goal.match_bits-requires-clause-high
 match_bits-requires-clause-high c =
-    (match_range c.in-Match.number (read_match (goal.at.match_bits-requires-clause-high c).In-Match).stands.value).1
+    (match_range c.in-Match.number (read_match (goal.at.match_bits-requires-clause-high c).In-Match).is_next.value).1
 
 pub returns-in-Jump-clause-more : goal.returns-in-Jump-clause-more
 returns-in-Jump-clause-more c = λ h.

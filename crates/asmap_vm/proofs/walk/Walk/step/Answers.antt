@@ -4,14 +4,14 @@ use Rattle.asmap_vm.specs.Walking.{Answers}
 use Rattle.asmap_vm.specs.Matches.{match_size}
 use Rattle.asmap_vm.proofs.MatchLaws.{match_range}
 use Rattle.asmap_vm.proofs.StepLaws.{Reads, reads_as}
-use Rattle.asmap_vm.proofs.WalkLaws.{opened, stands_ahead, return_answers, default_answers, Sides, jump_answers, Matching, match_answers}
+use Rattle.asmap_vm.proofs.WalkLaws.{opened, next_ahead, return_answers, default_answers, Sides, jump_answers, Matching, match_answers}
 use Rattle.asmap_vm.proofs.walk.Walk.step.Goals.{In-Return, In-Jump, In-Match, In-Default}
 use Rattle.asmap_vm.proofs.walk.Walk.step.Goals as goal
 
 pub unreachable-requires : goal.unreachable-requires
 unreachable-requires c =
     let a = c.requires.ahead in
-    c.in_default.ensures.only _ _ (stands_ahead c.args.bits.now c.args.address c.args.self.now a.0 a.1)
+    c.in_default.ensures.only _ _ (next_ahead c.args.bits.now c.args.address c.args.self.now a.0 a.1)
 
 read_return : (c : In-Return) → Reads c.args.bits.now c.args.self.now.offset (instructions.Return c.in-Return.asn) c.in-Some.next
 read_return c = reads_as _ _ _ _ _ c.in-Return.is c.in-Some.ensures.offset c.in-Some.ensures.found c.in-Some.ensures.only
@@ -43,10 +43,10 @@ pub overflow_sub-self : goal.overflow_sub-self
 overflow_sub-self c = (sides c c.requires.ahead.0 c.requires.ahead.1).taken
 
 pub match_size-requires-clause-low : goal.match_size-requires-clause-low
-match_size-requires-clause-low c = (match_range c.in-Match.number (read_match c).stands.value).0
+match_size-requires-clause-low c = (match_range c.in-Match.number (read_match c).is_next.value).0
 
 pub match_size-requires-clause-high : goal.match_size-requires-clause-high
-match_size-requires-clause-high c = (match_range c.in-Match.number (read_match c).stands.value).1
+match_size-requires-clause-high c = (match_range c.in-Match.number (read_match c).is_next.value).1
 
 pub overflow_sub-self-in-Match : goal.overflow_sub-self-in-Match
 overflow_sub-self-in-Match c =
@@ -55,7 +55,7 @@ overflow_sub-self-in-Match c =
 
 pub is_matched-requires-clause-high : goal.is_matched-requires-clause-high
 is_matched-requires-clause-high c =
-    (match_range c.in-Match.number (read_match (goal.at.is_matched-requires-clause-high c).In-Match).stands.value).1
+    (match_range c.in-Match.number (read_match (goal.at.is_matched-requires-clause-high c).In-Match).is_next.value).1
 
 pub returns-then-not-is_matched-clause-gives : goal.returns-then-not-is_matched-clause-gives
 returns-then-not-is_matched-clause-gives c = λ answer a.
