@@ -12,7 +12,7 @@ use Rattle.prefix_table.specs.Rows.{path, longest, first_bits, covers, IsRow, Is
 use Rattle.asmap_compile.specs.Compiled.{number_at, shorter_than, stays}
 use Rattle.asmap_compile.proofs.Addresses.{covers_bits, address_front}
 use Rattle.asmap_compile.proofs.Bits.{begins_from, begins_within, begins_more, false_true, filter_item, item_filter, filter_same, filter_none}
-use Rattle.asmap_compile.proofs.CommonBits.{div-le-div}
+use Rattle.prefix_table.proofs.BitLaws.{div-le-div}
 use Rattle.asmap_compile.proofs.OrderLaws.{prefix_first}
 use Rattle.asmap_compile.proofs.StopLaws.{one_longer}
 use Rattle.asmap_compile.proofs.TurnLaws.{rows_le}

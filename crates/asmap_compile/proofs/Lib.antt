@@ -8,7 +8,6 @@ pub mod SaneTrees
 pub mod Addresses
 pub mod Whole
 pub mod Examples
-pub mod CommonBits
 pub mod OrderLaws
 pub mod PartLaws
 pub mod TurnLaws

@@ -13,7 +13,7 @@ use Rattle.prefix_table.specs.Rows.{path, first_bits, IsRow, Precedes}
 use Rattle.asmap_compile.specs.Inside.{bits_between, bit_of}
 use Rattle.asmap_compile.proofs.BetweenLaws.{between_long, between_split}
 use Rattle.asmap_compile.proofs.Bits.{begins_cut, begins_from, begins_long, filter_item}
-use Rattle.asmap_compile.proofs.CommonBits.{div-le-div}
+use Rattle.prefix_table.proofs.BitLaws.{div-le-div}
 use Rattle.asmap_compile.proofs.RowLaws.{path_long, first_below, bits_of}
 
 -- each row precedes all after it

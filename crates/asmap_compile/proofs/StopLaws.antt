@@ -11,7 +11,7 @@ use Rattle.asmap_compile.specs.Compiled.{rows_kept, is_row, goes_on, Forked, onw
 use Rattle.asmap_compile.specs.Inside.{bits_between, bit_of}
 use Rattle.asmap_compile.proofs.BetweenLaws.{between_long, between_split}
 use Rattle.asmap_compile.proofs.Bits.{begins_cut, begins_from, begins_front, begins_long, begins_within, begins_equal, begins_both, sides_same, false_true}
-use Rattle.asmap_compile.proofs.CommonBits.{first_bits_between}
+use Rattle.prefix_table.proofs.BitLaws.{first_bits_between}
 use Rattle.asmap_compile.proofs.OrderLaws.{front, front_begins, front_same, begun_front, first_same, next_first, bit_first, path_front, prefix_first}
 use Rattle.asmap_compile.proofs.RowLaws.{path_long, row_from, row_at}
 use Rattle.asmap_compile.proofs.TurnLaws.{AreLonger, LongRow, longer_item, item_longer, longer_rises, rows_le, between, longer_at, ends_fork}

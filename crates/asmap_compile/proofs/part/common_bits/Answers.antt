@@ -1,4 +1,4 @@
-use Rattle.asmap_compile.proofs.CommonBits.{common_is}
+use Rattle.prefix_table.proofs.BitLaws.{common_is}
 use Rattle.asmap_compile.proofs.part.common_bits.Goals as goal
 
 pub returns-clause-common : goal.returns-clause-common
