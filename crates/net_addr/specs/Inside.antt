@@ -1,4 +1,4 @@
--- How an address is stored.
+-- How an address is stored, and which networks have a label.
 use Rattle.std.specs.Prelude.{◌≡◌, false, List, ℕ, refl}
 use Rattle.net_addr.specs.Address.{Address, is_old_form}
 use Rattle.net_addr.specs.declared.address.Bytes.{Bytes}
@@ -30,6 +30,16 @@ bytes_by Internal bytes = B.Internal bytes
 -- how an address is stored
 abbrev pub bytes_of : Address → Bytes
 bytes_of a = bytes_by a.net a.bytes
+
+-- the network's addresses are written as a label and hexadecimal digits
+abbrev pub HasLabel : Net → Type 0
+HasLabel Onion = Unit {0}
+HasLabel I2p = Unit {0}
+HasLabel Cjdns = Unit {0}
+HasLabel Internal = Unit {0}
+HasLabel Unroutable = ⊥
+HasLabel Ipv4 = ⊥
+HasLabel Ipv6 = ⊥
 
 -- an IPv6 value is not the old form of another address
 abbrev pub IsOwnForm : Bytes → Type 0

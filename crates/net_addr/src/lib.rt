@@ -19,4 +19,4 @@ pub use memory::Memory;
 pub use net::Net;
 pub use peer::Peer;
 pub use print::{put_addr, put_ipv4, put_ipv6, put_peer};
-pub use read::{parse_addr, parse_ipv4, parse_ipv6, parse_number, parse_peer};
+pub use read::{around_last, parse_addr, parse_ipv4, parse_ipv6, parse_number, parse_peer};

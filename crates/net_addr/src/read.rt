@@ -1,15 +1,15 @@
-ghost use Rattle.std.specs.Prelude.{◌≡◌, ◌≢◌, ℕ, ◌+◌, ◌-◌, ◌*◌, ◌<◌, ◌≤◌, ◌^◌, ◌↔◌, length, slice_index, IsTrue, IfSome, IfNone, Some, decimal, ◌∷◌, ◌++◌, All};
+ghost use Rattle.std.specs.Prelude.{◌≡◌, ◌≢◌, ℕ, List, ◌+◌, ◌-◌, ◌*◌, ◌<◌, ◌≤◌, ◌^◌, ◌↔◌, length, slice_index, IsTrue, IfSome, IfNone, Some, decimal, ◌∷◌, ◌++◌, All};
 ghost use Rattle.std.specs.Bool.{MatchBool};
 ghost use Rattle.std.specs.Int.{w128, to_be_bytes, from_be_bytes, IsInRange};
 ghost use Rattle.net_addr.specs.Address.{Address, IsAddress};
-ghost use Rattle.net_addr.specs.Text.{IsIpv4Text, IsIpv6Text, IsHexOf, IsBracketText, IsAddrText, IsPeerText};
+ghost use Rattle.net_addr.specs.Text.{IsIpv4Text, IsIpv6Text, IsHexOf, IsBracketText, IsAddrText, IsPeerText, label_of};
+ghost use Rattle.net_addr.specs.Inside.{HasLabel};
+ghost use Rattle.net_addr.specs.declared.net.Net.{Net};
 ghost use Rattle.net_addr.specs.declared.net.Net.TheVariants.{Unroutable, Ipv6};
 ghost use Rattle.net_addr.specs.declared.peer.Peer.{Peer};
 
 use crate::{Net, NetAddr, Peer};
 use std::net::{Ipv4Addr, Ipv6Addr};
-
-const COLON: u8 = b':';
 
 /// The number that the text writes in decimal, if it is at most `most`. A sign or a leading zero is
 /// not read.
@@ -67,17 +67,8 @@ pub fn parse_addr(text: &[u8]) -> Option<NetAddr>
     if let Some(inner) = text.strip_prefix(b"[") {
         return parse_bracketed(inner);
     }
-    if let Some(digits) = text.strip_prefix(b"onion:") {
-        return from_hex(Net::Onion, digits);
-    }
-    if let Some(digits) = text.strip_prefix(b"i2p:") {
-        return from_hex(Net::I2p, digits);
-    }
-    if let Some(digits) = text.strip_prefix(b"cjdns:") {
-        return from_hex(Net::Cjdns, digits);
-    }
-    if let Some(digits) = text.strip_prefix(b"internal:") {
-        return from_hex(Net::Internal, digits);
+    if let Some((net, digits)) = after_label(text) {
+        return from_hex(net, digits);
     }
     let bits = parse_ipv4(text)?;
     Some(NetAddr::ipv4(bits.to_be_bytes()))
@@ -89,7 +80,7 @@ pub fn parse_peer(text: &[u8]) -> Option<Peer>
     ensures address { IfSome result (λ p. IsAddress p.addr) }
     ensures only { (p : Peer) → IsPeerText text.now p → result ≡ Some p }
 {
-    let (addr, port) = around_last_colon(text)?;
+    let (addr, port) = around_last(text, b':')?;
     let addr = parse_addr(addr)?;
     let port = parse_number(port, 65535)?;
     Some(Peer {
@@ -107,6 +98,28 @@ fn parse_bracketed(text: &[u8]) -> Option<NetAddr>
     let inner = text.strip_suffix(b"]")?;
     let bits = parse_ipv6(inner)?;
     Some(NetAddr::from_v1(&bits.to_be_bytes()))
+}
+
+/// The network whose label the text begins with, and the text after the label.
+fn after_label(text: &[u8]) -> Option<(Net, &[u8])>
+    ensures network { IfSome result (λ found. HasLabel found.0) }
+    ensures cut { IfSome result (λ found. text.now ≡ label_of found.0 ++ found.1.now) }
+    ensures none { IfNone result ((net : Net) (rest : List ℕ) → HasLabel net
+        → text.now ≢ label_of net ++ rest) }
+{
+    if let Some(digits) = text.strip_prefix(b"onion:") {
+        return Some((Net::Onion, digits));
+    }
+    if let Some(digits) = text.strip_prefix(b"i2p:") {
+        return Some((Net::I2p, digits));
+    }
+    if let Some(digits) = text.strip_prefix(b"cjdns:") {
+        return Some((Net::Cjdns, digits));
+    }
+    if let Some(digits) = text.strip_prefix(b"internal:") {
+        return Some((Net::Internal, digits));
+    }
+    None
 }
 
 /// The address of the network whose bytes the text writes in hexadecimal digits.
@@ -162,14 +175,14 @@ fn with_digit(value: u64, byte: u8, most: u64) -> Option<u64>
     if next <= most { Some(next) } else { None }
 }
 
-/// The text before its last colon, and the text after it.
-fn around_last_colon(text: &[u8]) -> Option<(&[u8], &[u8])>
-    ensures cut { IfSome result (λ parts. text.now ≡ parts.0.now ++ COLON ∷ parts.1.now) }
-    ensures last { IfSome result (λ parts. All (λ c. c ≢ COLON) parts.1.now) }
-    ensures none { IfNone result (All (λ c. c ≢ COLON) text.now) }
+/// The text before the last `byte`, and the text after it.
+pub fn around_last(text: &[u8], byte: u8) -> Option<(&[u8], &[u8])>
+    ensures cut { IfSome result (λ parts. text.now ≡ parts.0.now ++ byte ∷ parts.1.now) }
+    ensures last { IfSome result (λ parts. All (λ c. c ≢ byte) parts.1.now) }
+    ensures none { IfNone result (All (λ c. c ≢ byte) text.now) }
 {
     for i in (0..text.len()).rev() {
-        if text[i] == COLON {
+        if text[i] == byte {
             return Some((&text[..i], &text[i + 1..]));
         }
     }

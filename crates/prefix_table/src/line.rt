@@ -7,7 +7,7 @@ ghost use Rattle.prefix_table.specs.declared.entry.Family.{Family};
 use crate::entry::{Entry, Family};
 use crate::search::cut;
 use crate::{MOST_ASN, Row, TableFault};
-use net_addr::{parse_ipv4, parse_ipv6, parse_number};
+use net_addr::{around_last, parse_ipv4, parse_ipv6, parse_number};
 
 /// The largest number of ten digits.
 const MOST_NUMBER: u64 = 9_999_999_999;
@@ -74,20 +74,6 @@ fn read_address(text: &[u8]) -> Option<(Family, u128)>
         return Some((Family::Ipv4, u128::from(address)));
     }
     Some((Family::Ipv6, parse_ipv6(text)?))
-}
-
-/// The text before the last `byte`, and the text after it.
-fn around_last(text: &[u8], byte: u8) -> Option<(&[u8], &[u8])>
-    ensures cut { IfSome result (λ parts. text.now ≡ parts.0.now ++ byte ∷ parts.1.now) }
-    ensures last { IfSome result (λ parts. All (λ c. c ≢ byte) parts.1.now) }
-    ensures none { IfNone result (All (λ c. c ≢ byte) text.now) }
-{
-    for i in (0..text.len()).rev() {
-        if text[i] == byte {
-            return Some((&text[..i], &text[i + 1..]));
-        }
-    }
-    None
 }
 
 /// Whether the length fits the family, and the AS number is one that an asmap can spell.
