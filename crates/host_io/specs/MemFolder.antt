@@ -41,8 +41,8 @@ folder_after_fault folder action = record folder {
 }
 
 -- The folder after a call that found no memory for what it keeps. Nothing of it is recorded.
-abbrev pub folder_after_want : FolderState → FolderState
-folder_after_want folder = record folder {
+abbrev pub folder_after_no_memory : FolderState → FolderState
+folder_after_no_memory folder = record folder {
   calls = raised folder.calls;
   faults = raised folder.faults;
   starved = raised folder.starved;
@@ -51,4 +51,4 @@ folder_after_want folder = record folder {
 -- A call fails that changes no file: as its maker chose, or out of memory.
 abbrev pub FailsWithoutChange : FolderState → Action → FolderState → Type 0
 FailsWithoutChange old action new =
-    (NextFails old × (new ≡ folder_after_fault old action)) ⊎ (new ≡ folder_after_want old)
+    (NextFails old × (new ≡ folder_after_fault old action)) ⊎ (new ≡ folder_after_no_memory old)

@@ -20,8 +20,8 @@ abbrev pub sink_after_fault : SinkState → SinkState
 sink_after_fault sink = record sink { calls = raised sink.calls; faults = raised sink.faults }
 
 -- The sink after a call that found no memory for its piece.
-abbrev pub sink_after_want : SinkState → SinkState
-sink_after_want sink = record sink {
+abbrev pub sink_after_no_memory : SinkState → SinkState
+sink_after_no_memory sink = record sink {
   calls = raised sink.calls;
   faults = raised sink.faults;
   starved = raised sink.starved;

@@ -1,5 +1,5 @@
 ghost use Rattle.std.specs.Prelude.{◌≡◌, ◌<◌, ◌≤◌, [], length, Contains, IsErr, IfOk, OnOk, OnErr, Some};
-ghost use Rattle.host_io.specs.MemSink.{sink_after_write, sink_after_fault, sink_after_want};
+ghost use Rattle.host_io.specs.MemSink.{sink_after_write, sink_after_fault, sink_after_no_memory};
 ghost use Rattle.host_io.specs.Faults.{Rose};
 
 use crate::failed::Failed;
@@ -82,7 +82,7 @@ impl Sink for MemSink {
         ensures chosen { Contains self.old.fails self.old.calls →
             self.new ≡ sink_after_fault self.old }
         ensures starved { OnErr result (¬ Contains self.old.fails self.old.calls →
-            self.new ≡ sink_after_want self.old) }
+            self.new ≡ sink_after_no_memory self.old) }
         ensures err { OnErr result (self.new.bytes ≡ self.old.bytes) }
         ensures cause { OnErr result (Rose self.old.faults self.new.faults) }
         ensures never_falls { self.old.faults ≤ self.new.faults }
