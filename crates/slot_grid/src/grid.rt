@@ -48,7 +48,7 @@ impl Grid {
         requires slot { slot < 64 }
         ensures { result ≡ new_id self.now bucket slot }
     {
-        self.ids[new_place(bucket, slot)]
+        self.ids[new_index(bucket, slot)]
     }
 
     /// Puts a record into a slot of the new table, or with None empties it.
@@ -59,8 +59,8 @@ impl Grid {
         ensures others { SameOtherNew self.old self.new bucket slot }
         ensures tried { SameTried self.old self.new }
     {
-        let place = new_place(bucket, slot);
-        self.ids[place] = id;
+        let index = new_index(bucket, slot);
+        self.ids[index] = id;
     }
 
     /// The record in a slot of the tried table, None if it is empty. The bucket is below 256 and
@@ -70,7 +70,7 @@ impl Grid {
         requires slot { slot < 64 }
         ensures { result ≡ tried_id self.now bucket slot }
     {
-        self.ids[tried_place(bucket, slot)]
+        self.ids[tried_index(bucket, slot)]
     }
 
     /// Puts a record into a slot of the tried table, or with None empties it.
@@ -81,20 +81,20 @@ impl Grid {
         ensures others { SameOtherTried self.old self.new bucket slot }
         ensures new { SameNew self.old self.new }
     {
-        let place = tried_place(bucket, slot);
-        self.ids[place] = id;
+        let index = tried_index(bucket, slot);
+        self.ids[index] = id;
     }
 }
 
 /// The index of a slot of the new table among all slots.
-fn new_place(bucket: u16, slot: u8) -> usize
+fn new_index(bucket: u16, slot: u8) -> usize
     ensures { result ≡ 64 * bucket + slot }
 {
     usize::from(bucket) * SLOTS + usize::from(slot)
 }
 
 /// The index of a slot of the tried table among all slots.
-fn tried_place(bucket: u16, slot: u8) -> usize
+fn tried_index(bucket: u16, slot: u8) -> usize
     ensures { result ≡ 64 * (1024 + bucket) + slot }
 {
     (NEW_BUCKETS + usize::from(bucket)) * SLOTS + usize::from(slot)
