@@ -33,8 +33,8 @@ not_found = refl
 record_under_an_id : rec_of three 2 ≡ Some (rec 2)
 record_under_an_id = refl
 
-none_under_a_place : rec_of three 1 ≡ None
-none_under_a_place = refl
+none_under_a_position : rec_of three 1 ≡ None
+none_under_a_position = refl
 
 -- the last one moves to the position of the first; the others do not move up
 last_fills_the_gap : ids (without three (peer 1)) ≡ 9 ∷ 2 ∷ []

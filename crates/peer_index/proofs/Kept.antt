@@ -372,17 +372,17 @@ ids-order_of recs [] = refl
 ids-order_of recs (e ∷ es) = ap (λ ns. e.1 ∷ ns) (ids-order_of recs es)
 
 -- the id at a position leads to the record at that position
-pub rec_of-place : (order : Order) (place id : ℕ) → IsOrder order → slice_get (ids order) place ≡ Some id → rec_of order id ≡ slice_get (records order) place
-rec_of-place [] place id sound at = absurd (cc)
-rec_of-place (l ∷ order) place id sound at =
-    let within : place < length (l ∷ order) = simp length-map at (slice_get_within (ids (l ∷ order)) place id at) in
-    let here : (get_or (l ∷ order) place l).id ≡ id =
-    sym (get_or-map (λ m. m.id) (l ∷ order) place l l.id within) ∙ get_or_from_slice_get (ids (l ∷ order)) place id l.id at in
-    let found = rec_of-at (l ∷ order) place l (λ j before. sound.ids j place l before within) within in
-    let inside : place < length (records (l ∷ order)) = simp length-map within in
+pub rec_of-position : (order : Order) (position id : ℕ) → IsOrder order → slice_get (ids order) position ≡ Some id → rec_of order id ≡ slice_get (records order) position
+rec_of-position [] position id sound at = absurd (cc)
+rec_of-position (l ∷ order) position id sound at =
+    let within : position < length (l ∷ order) = simp length-map at (slice_get_within (ids (l ∷ order)) position id at) in
+    let here : (get_or (l ∷ order) position l).id ≡ id =
+    sym (get_or-map (λ m. m.id) (l ∷ order) position l l.id within) ∙ get_or_from_slice_get (ids (l ∷ order)) position id l.id at in
+    let found = rec_of-at (l ∷ order) position l (λ j before. sound.ids j position l before within) within in
+    let inside : position < length (records (l ∷ order)) = simp length-map within in
     ap (rec_of (l ∷ order)) (sym here) ∙ found
-    ∙ ap Some (sym (get_or-map (λ m. m.rec) (l ∷ order) place l l.rec within))
-    ∙ sym (slice_get-get_or (records (l ∷ order)) place l.rec inside)
+    ∙ ap Some (sym (get_or-map (λ m. m.rec) (l ∷ order) position l l.rec within))
+    ∙ sym (slice_get-get_or (records (l ∷ order)) position l.rec inside)
 
 -- the same ids in another order keep the same records
 pub IsKept-reordered : (slab : Slab Rec) (es fs : List (Peer × ℕ)) → IsDistinct same_peer (keys_of fs) → ((q : Peer) → lookup (same_peer q) fs ≡ lookup (same_peer q) es)

@@ -126,13 +126,13 @@ impl<H: BuildHasher> PeerIndex<H> {
     }
 
     /// The id of the record at a position in the order.
-    pub fn at(&self, place: usize) -> usize
-        requires { place < length self.now }
-        ensures found { slice_get (ids self.now) place ≡ Some result }
-        ensures rec { rec_of self.now result ≡ slice_get (records self.now) place }
+    pub fn at(&self, position: usize) -> usize
+        requires { position < length self.now }
+        ensures found { slice_get (ids self.now) position ≡ Some result }
+        ensures rec { rec_of self.now result ≡ slice_get (records self.now) position }
         ensures order { IsOrder self.now }
     {
-        self.order[place]
+        self.order[position]
     }
 
     /// Exchanges two positions in the order.
