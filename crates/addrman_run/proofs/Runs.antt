@@ -4,7 +4,7 @@ use Rattle.std.specs.Prelude.{Option, Some, None, IfSome}
 use Rattle.std.proofs.lemmas.List.{length-append, length-drop, append-nil, take-append-drop}
 use Rattle.std.proofs.Math.Seq.{take-append_seam}
 use Rattle.host_io.specs.Writing.{Appended, AppendedPart}
-use Rattle.log_lines.specs.Lines.{lines_of}
+use Rattle.host_io.specs.Lines.{lines_of}
 use Rattle.addrman_run.specs.Run.{Run, AnswersAll, AnswersPrefix, StopsAt, StopsInReply}
 
 -- what a step is

@@ -1,6 +1,6 @@
 -- What a line of a log does to the machine.
 use Rattle.std.specs.Prelude.{◌≡◌, ◌⊎◌, ℕ, List, []}
-use Rattle.log_lines.specs.Lines.{IsPassedOver}
+use Rattle.host_io.specs.Lines.{IsPassedOver}
 use Rattle.log_lines.specs.Spelling.{Spells}
 use Rattle.log_lines.specs.Replies.{reply_text}
 use Rattle.log_lines.specs.declared.command.Command.{Command}

@@ -1,7 +1,7 @@
 -- The run of a machine over the lines of a log, one step a line. A step leads from a state, by a line, to the text of the
 -- reply and the next state.
 use Rattle.std.specs.Prelude.{◌≡◌, ◌≢◌, ℕ, ◌+◌, List, [], ◌∷◌, ◌++◌, length, take}
-use Rattle.log_lines.specs.Lines.{lines_of}
+use Rattle.host_io.specs.Lines.{lines_of}
 
 -- the lines in order: this text, and then this state
 abbrev pub Run : {S : Type 0} → (S → List ℕ → List ℕ → S → Type 0) → S → List (List ℕ) → List ℕ → S → Type 0

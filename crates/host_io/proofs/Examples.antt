@@ -1,8 +1,10 @@
 -- Worked examples, computed over the definitions.
 use Rattle.std.proofs.Common.{◌≡◌, ◌^◌, ◌-◌, [], ◌∷◌, Some, None, refl, inl, arith}
 use Rattle.std.proofs.lemmas.Bool.{false≢true}
+use Rattle.std.specs.Prelude.{codes}
 use Rattle.host_io.specs.Faults.{Rose, raised}
 use Rattle.host_io.specs.Files.{Files, told_bytes, IsThere}
+use Rattle.host_io.specs.Lines.{lines_of}
 use Rattle.host_io.specs.Reading.{MovesBytes, TakesAtMost}
 use Rattle.host_io.specs.Writing.{Appended, AppendedPrefix, AppendedPart}
 use Rattle.host_io.specs.declared.name.Name.TheVariants as name
@@ -35,8 +37,8 @@ appended_at_the_end : Appended (Some (7 ∷ [])) (Some (7 ∷ 8 ∷ 9 ∷ [])) (
 appended_at_the_end = refl
 
 -- a sink whose bytes are not known meets each claim on them
-not_told : Appended None None (8 ∷ 9 ∷ [])
-not_told = tt
+not_known : Appended None None (8 ∷ 9 ∷ [])
+not_known = tt
 
 -- all bytes are a prefix, and so are none
 all_of_them : AppendedPrefix (Some (7 ∷ [])) (Some (7 ∷ 8 ∷ 9 ∷ [])) (8 ∷ 9 ∷ [])
@@ -50,3 +52,15 @@ one_byte_moves bytes is = (8 ∷ [], refl, cc)
 
 two_bytes_taken : TakesAtMost (Some (7 ∷ 8 ∷ 9 ∷ [])) (Some (9 ∷ [])) 2
 two_bytes_taken = (2, omega arith, refl)
+
+the_last_line_may_lack_its_line_feed : lines_of (codes "a\n\nbc") ≡ codes "a" ∷ [] ∷ codes "bc" ∷ []
+unfolding lines_of
+the_last_line_may_lack_its_line_feed = refl
+
+a_line_feed_at_the_end_adds_no_line : lines_of (codes "a\n") ≡ codes "a" ∷ []
+unfolding lines_of
+a_line_feed_at_the_end_adds_no_line = refl
+
+no_bytes_no_lines : lines_of [] ≡ []
+unfolding lines_of
+no_bytes_no_lines = refl

@@ -1,3 +1,4 @@
 mod Examples
+mod LineLaws
 mod Taken
 mod Written

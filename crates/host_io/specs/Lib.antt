@@ -1,5 +1,6 @@
 pub mod Faults
 pub mod Files
+pub mod Lines
 pub mod MemFolder
 pub mod MemSink
 pub mod MemSource

@@ -12,7 +12,6 @@ use Rattle.log_lines.specs.Spelling.{kinds_of, SpellsAfter}
 use Rattle.log_lines.specs.declared.command.Command.TheVariants as c
 use Rattle.log_lines.specs.declared.fault.LineFault.TheVariants as fault
 use Rattle.log_lines.specs.declared.verb.Verb.TheVariants as v
-use Rattle.log_lines.specs.Lines.{lines_of}
 use Rattle.log_lines.specs.Replies.{reply_text, place_text, numbers_text}
 use Rattle.log_lines.specs.declared.reply.Reply.TheVariants.{Now, Added, Found, Dump, Sample}
 
@@ -49,19 +48,6 @@ reply_with_a_record = refl
 two_buckets : place_text (New (3 ∷ 87 ∷ [])) ≡ codes " new 3,87"
 unfolding digits
 two_buckets = refl
-
--- a last line may lack its line feed, and an empty line is a line
-pieces : lines_of (codes "a\n\nbc") ≡ codes "a" ∷ [] ∷ codes "bc" ∷ []
-unfolding lines_of
-pieces = refl
-
-no_piece_after_the_last : lines_of (codes "a\n") ≡ codes "a" ∷ []
-unfolding lines_of
-no_piece_after_the_last = refl
-
-no_bytes_no_lines : lines_of [] ≡ []
-unfolding lines_of
-no_bytes_no_lines = refl
 
 -- a field gives its value
 clash_is_spelled : SpellsAfter v.Clash (codes "7" ∷ []) (c.Clash 7)

@@ -1,5 +1,4 @@
 mod Examples
-pub mod LineLemmas
 pub mod Numbers
 pub mod WordLemmas
 pub mod FieldLemmas

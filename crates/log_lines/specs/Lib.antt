@@ -1,4 +1,3 @@
-pub mod Lines
 pub mod Random
 pub mod Fields
 pub mod Spelling

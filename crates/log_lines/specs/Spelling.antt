@@ -1,7 +1,7 @@
 -- Which line spells which command, and what is wrong in a line that spells none.
 use Rattle.std.specs.Prelude.{◌≡◌, ◌≢◌, ◌⊎◌, ◌^◌, ◌-◌, ℕ, List, [], ◌∷◌, codes}
 use Rattle.log_lines.specs.Fields.{Kind, Number, OfAddr, OfPeer, Hex, Random, Either, OfNet, Class, Value, TheNumber, TheAddr, ThePeer, TheBytes, TheWords, TheChoice, TheNet, fields_of, StandForAll, AreAtFault}
-use Rattle.log_lines.specs.Lines.{IsPassedOver}
+use Rattle.host_io.specs.Lines.{IsPassedOver}
 use Rattle.log_lines.specs.declared.command.Command.{Command}
 use Rattle.log_lines.specs.declared.command.Command.TheVariants as c
 use Rattle.log_lines.specs.declared.fault.LineFault.{LineFault}

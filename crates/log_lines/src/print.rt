@@ -3,8 +3,9 @@ ghost use Rattle.std.specs.List.{flat_map};
 ghost use Rattle.net_addr.specs.Text.{peer_text};
 ghost use Rattle.log_lines.specs.Replies.{numbers_text, place_text, origin_text, seen_text, tries_text, rec_text, found_text, fault_text, good_text, known_text, timed_text, picked_text, size_text, resolved_text, sample_text, clash_text, dump_text, reply_line, reply_text};
 
-use crate::{LINE_FEED, Memory, Reply};
+use crate::{Memory, Reply};
 use addr_codecs::MsgFault;
+use host_io::LINE_FEED;
 use itoa::Buffer;
 use net_addr::{Peer, put_addr, put_peer};
 use peer_rec::{Counts, Good, Picked, Place, Rec, Resolved};

@@ -1,5 +1,5 @@
 ghost use Rattle.std.specs.Prelude.{◌≡◌, ◌≢◌, ◌-◌, ◌^◌, ◌≤◌, ◌↔◌, ◌⊎◌, [], ◌∷◌, ℕ, List, length, codes, IfOk, IfSome, IfNone, Some, None, Ok, Err, IsTrue};
-ghost use Rattle.log_lines.specs.Lines.{IsPassedOver};
+ghost use Rattle.host_io.specs.Lines.{IsPassedOver};
 ghost use Rattle.log_lines.specs.Fields.{Kind, Number, OfAddr, OfPeer, Hex, Random, Either, OfNet, Class, TheNumber, TheAddr, ThePeer, TheBytes, TheWords, TheChoice, TheNet, StandForAll, AreAtFault};
 ghost use Rattle.log_lines.specs.Inside.{texts_after, AreOnly};
 ghost use Rattle.log_lines.specs.Spelling.{u32_field, u64_field, word_of, kinds_of, values_of, SpellsAfter, Spells, HasFault};

@@ -5,7 +5,8 @@ use Rattle.std.proofs.lemmas.Fmt.{decimal_is_IsNumeral}
 use Rattle.std.proofs.lemmas.Str.Parse.{digit_at}
 use Rattle.std.proofs.lemmas.List.Elements.{All-cons, All-head, All-tail, All-append, All-from_get_or}
 use Rattle.net_addr.specs.Text.{ipv4_text}
-use Rattle.prefix_table.specs.Text.{IsPassedOver, IsAddress, IsNumber, IsEntry}
+use Rattle.host_io.specs.Lines.{IsPassedOver}
+use Rattle.prefix_table.specs.Text.{IsAddress, IsNumber, IsEntry}
 use Rattle.prefix_table.specs.declared.entry.Entry.{Entry}
 
 -- a byte that is there is found

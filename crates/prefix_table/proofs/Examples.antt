@@ -1,7 +1,7 @@
 -- The definitions at single values, computed.
-use Rattle.std.proofs.Common.{◌≡◌, true, false, List, [], ◌∷◌, codes, refl}
+use Rattle.std.proofs.Common.{◌≡◌, true, false, List, [], ◌∷◌, refl}
 use Rattle.prefix_table.specs.Rows.{covers, longest, best}
-use Rattle.prefix_table.specs.Text.{lines_of, row_of}
+use Rattle.prefix_table.specs.Text.{row_of}
 use Rattle.prefix_table.specs.Print.{is_mapped, entry_of}
 use Rattle.prefix_table.specs.declared.row.Row.{Row}
 use Rattle.prefix_table.specs.declared.entry.Family.TheVariants.{Ipv4}
@@ -58,11 +58,3 @@ a_mapped_row_is_printed_as_ipv4 = refl
 
 a_wider_row_is_not : is_mapped record { bits = 0; len = 95; asn = 1 } ≡ false
 a_wider_row_is_not = refl
-
-the_last_line_may_lack_its_feed : lines_of (codes "a\n\nb") ≡ codes "a" ∷ [] ∷ codes "b" ∷ []
-unfolding lines_of
-the_last_line_may_lack_its_feed = refl
-
-a_last_feed_adds_no_line : lines_of (codes "a\n") ≡ codes "a" ∷ []
-unfolding lines_of
-a_last_feed_adds_no_line = refl

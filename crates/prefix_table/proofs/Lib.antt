@@ -2,7 +2,6 @@ pub mod BitLaws
 pub mod OrderLaws
 pub mod SearchLaws
 pub mod BestLaws
-pub mod LineLaws
 pub mod EntryLaws
 pub mod RowsLaws
 pub mod RepeatLaws

@@ -6,7 +6,8 @@ use Rattle.std.proofs.lemmas.List.{get_or_append_left}
 use Rattle.std.proofs.Math.Seq.{get_or-append_right}
 use Rattle.std.proofs.lemmas.List.Elements.{All-nil, All-cons, All-weaker, Contains-append_cases}
 use Rattle.prefix_table.specs.Rows.{IsRow}
-use Rattle.prefix_table.specs.Text.{IsPassedOver, IsRowLine, IsAddress, AreLines, width, address_bits}
+use Rattle.host_io.specs.Lines.{IsPassedOver}
+use Rattle.prefix_table.specs.Text.{IsRowLine, IsAddress, AreLines, width, address_bits}
 use Rattle.prefix_table.specs.Numbered.{row_in, AreNumbered}
 use Rattle.prefix_table.specs.declared.row.Row.{Row}
 use Rattle.prefix_table.specs.declared.entry.Family.{Family}

@@ -8,7 +8,8 @@ use Rattle.std.proofs.lemmas.List.Elements.{All-nil, All-cons, All-head, All-tai
 use Rattle.std.proofs.lemmas.List.Sorted.{IsPermutation-sym, length_permutation, Contains-permutation}
 use Rattle.std.proofs.lemmas.Map.Keys.{apart_from_distinct, IsDistinct-from_apart, IsDistinct-IsPermutation}
 use Rattle.prefix_table.specs.Rows.{IsTable, Precedes, SamePrefix}
-use Rattle.prefix_table.specs.Text.{IsPassedOver, IsRowLine, IsInRange, IsClear, AreLines, IsTableText, IsFault, HasFault, row_of, lines_of}
+use Rattle.host_io.specs.Lines.{IsPassedOver, lines_of}
+use Rattle.prefix_table.specs.Text.{IsRowLine, IsInRange, IsClear, AreLines, IsTableText, IsFault, HasFault, row_of}
 use Rattle.prefix_table.specs.Numbered.{IsSettled}
 use Rattle.prefix_table.specs.declared.row.Row.{Row}
 use Rattle.prefix_table.specs.declared.row.TheConstants.{MOST_ROWS}

@@ -13,7 +13,8 @@ use Rattle.std.proofs.lemmas.List.Elements.{All-cons, All-head, All-tail, All-ap
 use Rattle.std.proofs.lemmas.List.Sorted.{IsPermutation-refl}
 use Rattle.net_addr.specs.Text.{ipv6_text}
 use Rattle.prefix_table.specs.Rows.{IsRow, IsTable}
-use Rattle.prefix_table.specs.Text.{IsPassedOver, IsAddress, IsInRange, IsRowLine, AreLines, IsTableText, row_of, width, lines_of, before_lines}
+use Rattle.host_io.specs.Lines.{IsPassedOver, lines_of, onto_first}
+use Rattle.prefix_table.specs.Text.{IsAddress, IsInRange, IsRowLine, AreLines, IsTableText, row_of, width}
 use Rattle.prefix_table.specs.Print.{is_mapped, ipv4_entry, ipv6_entry, entry_of, text_by, address_text, entry_text, row_text, table_text}
 use Rattle.prefix_table.specs.declared.row.Row.{Row}
 use Rattle.prefix_table.specs.declared.entry.Entry.{Entry}
@@ -25,7 +26,7 @@ lines-line : (line rest : List ℕ) → All (λ b. b ≢ 10) line → lines_of (
 unfolding lines_of
 lines-line [] rest none = refl
 lines-line (b ∷ line) rest none =
-    rw (ne_eqb b 10 (All-head (λ b. b ≢ 10) b line none)) (ap (before_lines b) (lines-line line rest (All-tail (λ b. b ≢ 10) b line none)))
+    rw (ne_eqb b 10 (All-head (λ b. b ≢ 10) b line none)) (ap (onto_first b) (lines-line line rest (All-tail (λ b. b ≢ 10) b line none)))
 
 -- the bytes of a printed address come from the dot on
 abbrev IsHigh : ℕ → Type 0

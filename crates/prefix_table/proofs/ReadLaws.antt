@@ -7,7 +7,8 @@ use Rattle.std.proofs.lemmas.List.{get_or-map, length-map}
 use Rattle.std.proofs.lemmas.List.Elements.{All-map, Contains-get_or, Contains-append_left, Contains-append_right}
 use Rattle.std.proofs.lemmas.List.Sorted.{IsPermutation-map, length_permutation, Contains-permutation, All-permutation}
 use Rattle.prefix_table.specs.Rows.{IsRow, SamePrefix, Precedes}
-use Rattle.prefix_table.specs.Text.{IsTableText, IsFault, HasFault, lines_of}
+use Rattle.host_io.specs.Lines.{lines_of}
+use Rattle.prefix_table.specs.Text.{IsTableText, IsFault, HasFault}
 use Rattle.prefix_table.specs.Numbered.{IsSettled, row_in, AreNumbered, NotAfter, IsRepeatAt, LineHas, IsWhole, StopsAt, Overflows, IsReadingOf}
 use Rattle.prefix_table.specs.declared.row.Row.{Row}
 use Rattle.prefix_table.specs.declared.row.TheConstants.{MOST_ROWS}

@@ -1,7 +1,8 @@
 -- The lines that were read before a step of the loop.
 use Rattle.std.proofs.Common.{◌≡◌, ℕ, ◌+◌, ◌<◌, ◌≤◌, List, [], ◌∷◌, ◌++◌, length, ◌∙◌, ap, sym, subst, arith, inl, inr, refl, append_assoc, append-nil, length-append, All}
 use Rattle.std.proofs.lemmas.List.Elements.{All-nil, All-push}
-use Rattle.prefix_table.specs.Text.{IsPassedOver, IsRowLine, lines_of}
+use Rattle.host_io.specs.Lines.{IsPassedOver, lines_of}
+use Rattle.prefix_table.specs.Text.{IsRowLine}
 use Rattle.prefix_table.specs.Numbered.{IsSettled, row_in, with_line, AreNumbered, LineHas, IsWhole, StopsAt, Overflows}
 use Rattle.prefix_table.specs.declared.row.Row.{Row}
 use Rattle.prefix_table.specs.declared.row.TheConstants.{MOST_ROWS}

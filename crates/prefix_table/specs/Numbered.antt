@@ -1,7 +1,8 @@
 -- Rows with the numbers of their lines, which only private contracts cite.
 use Rattle.std.specs.Prelude.{◌≡◌, ◌⊎◌, ℕ, ◌+◌, ◌<◌, ◌≤◌, List, [], ◌∷◌, ◌++◌, All, Option, Some, None, length, slice_index_or}
 use Rattle.prefix_table.specs.Rows.{SamePrefix, Precedes}
-use Rattle.prefix_table.specs.Text.{IsPassedOver, IsEntry, IsRowLine, HasNoForm, IsOutOfRange, HasHostBits, lines_of}
+use Rattle.host_io.specs.Lines.{IsPassedOver, lines_of}
+use Rattle.prefix_table.specs.Text.{IsEntry, IsRowLine, HasNoForm, IsOutOfRange, HasHostBits}
 use Rattle.prefix_table.specs.declared.row.Row.{Row}
 use Rattle.prefix_table.specs.declared.entry.Entry.{Entry}
 use Rattle.prefix_table.specs.declared.row.TheConstants.{MOST_ROWS}

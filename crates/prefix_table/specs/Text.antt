@@ -1,5 +1,6 @@
 -- The text of a prefix table.
-use Rattle.std.specs.Prelude.{◌≡◌, ◌==◌, ◌⊎◌, ℕ, ◌+◌, ◌-◌, ◌*◌, ◌%◌, ◌^◌, ◌<◌, ◌≤◌, List, [], ◌∷◌, ◌++◌, Contains, AllPairs, IsPermutation, length, decimal, codes, if◌then◌else◌}
+use Rattle.std.specs.Prelude.{◌≡◌, ◌⊎◌, ℕ, ◌+◌, ◌-◌, ◌*◌, ◌%◌, ◌^◌, ◌<◌, ◌≤◌, List, [], ◌∷◌, ◌++◌, Contains, AllPairs, IsPermutation, length, decimal, codes}
+use Rattle.host_io.specs.Lines.{IsPassedOver, lines_of}
 use Rattle.net_addr.specs.Text.{IsIpv4Text, IsIpv6Text}
 use Rattle.prefix_table.specs.Rows.{IsTable, SamePrefix}
 use Rattle.prefix_table.specs.declared.row.Row.{Row}
@@ -9,21 +10,6 @@ use Rattle.prefix_table.specs.declared.entry.Family.{Family}
 use Rattle.prefix_table.specs.declared.entry.Family.TheVariants.{Ipv4, Ipv6}
 use Rattle.prefix_table.specs.declared.fault.TableFault.{TableFault}
 use Rattle.prefix_table.specs.declared.fault.TableFault.TheVariants.{Form, Number, HostBits, Repeated, TooMany, TooLarge, Memory}
-
--- a byte before the first line
-abbrev pub before_lines : ℕ → List (List ℕ) → List (List ℕ)
-before_lines b [] = (b ∷ []) ∷ []
-before_lines b (line ∷ lines) = (b ∷ line) ∷ lines
-
--- the lines of the text; each ends with a line feed, and the last may lack it
-unfoldable pub lines_of : List ℕ → List (List ℕ)
-lines_of [] = []
-lines_of (b ∷ text) = if b == 10 then [] ∷ lines_of text else before_lines b (lines_of text)
-
--- an empty line, or a comment, which begins with a #
-abbrev pub IsPassedOver : List ℕ → Type 0
-IsPassedOver [] = Unit {0}
-IsPassedOver (b ∷ line) = b ≡ 35
 
 -- how many bits an address of the family has
 abbrev pub width : Family → ℕ

@@ -4,7 +4,6 @@
 mod entry;
 mod fault;
 mod line;
-mod lines;
 mod numbered;
 mod print;
 mod read;

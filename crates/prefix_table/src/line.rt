@@ -1,5 +1,6 @@
 ghost use Rattle.std.specs.Prelude.{◌≡◌, ◌≢◌, ℕ, ◌⊎◌, ◌+◌, ◌<◌, ◌≤◌, ◌^◌, ◌↔◌, ◌∷◌, ◌++◌, All, IsTrue, IfSome, IfNone, IfOk, IfErr, MatchOption, Some};
-ghost use Rattle.prefix_table.specs.Text.{IsPassedOver, IsAddress, IsEntry, IsInRange, IsClear, IsRowLine, row_of, width};
+ghost use Rattle.host_io.specs.Lines.{IsPassedOver};
+ghost use Rattle.prefix_table.specs.Text.{IsAddress, IsEntry, IsInRange, IsClear, IsRowLine, row_of, width};
 ghost use Rattle.prefix_table.specs.Numbered.{LineHas, IsSettled};
 ghost use Rattle.prefix_table.specs.declared.entry.Entry.{Entry};
 ghost use Rattle.prefix_table.specs.declared.entry.Family.{Family};

@@ -3,9 +3,9 @@ ghost use Rattle.prefix_table.specs.Numbered.{IsReading};
 ghost use Rattle.prefix_table.specs.declared.read.TheConstants.{MOST_TEXT};
 
 use crate::line::read_line;
-use crate::lines::split_line;
 use crate::numbered::NumberedRow;
 use crate::{MOST_ROWS, TableFault};
+use host_io::split_line;
 use std::alloc::{AllocError, Global};
 
 /// The rows of a text's lines in the order of the text, as far as a fault that a line has by

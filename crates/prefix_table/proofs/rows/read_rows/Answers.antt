@@ -3,7 +3,8 @@ use Rattle.std.specs.Prelude.{MatchOption}
 use Rattle.std.proofs.lemmas.List.{nil_from_length}
 use Rattle.std.proofs.lemmas.Bool.{eqb-true}
 use Rattle.prefix_table.specs.declared.numbered.NumberedRow.{NumberedRow}
-use Rattle.prefix_table.specs.Text.{IsPassedOver, IsRowLine}
+use Rattle.host_io.specs.Lines.{IsPassedOver}
+use Rattle.prefix_table.specs.Text.{IsRowLine}
 use Rattle.prefix_table.specs.declared.row.Row.{Row}
 use Rattle.prefix_table.proofs.ReadLaws.{reading_stops}
 use Rattle.prefix_table.proofs.RowsLaws.{overflows, stops_at, SoFar, so_far_none, so_far_passed, so_far_row, whole}
