@@ -1,6 +1,6 @@
 -- Texts at fault have no values, and have one fault; so has a line.
 use Rattle.std.proofs.Common.{◌≡◌, ◌≢◌, ◌⊎◌, ℕ, List, [], ◌∷◌, length, get_or, drop, refl, sym, ap, subst, ◌∙◌, inl, inr, arith}
-use Rattle.log_lines.specs.Fields.{Kind, Value, StandForAll, IsFirstFault, AreAtFault, fields_of}
+use Rattle.log_lines.specs.Fields.{Kind, Value, AllMean, IsFirstFault, AreAtFault, fields_of}
 use Rattle.log_lines.specs.Spelling.{word_of, kinds_of, values_of, Spells, HasFault}
 use Rattle.log_lines.specs.declared.command.Command.{Command}
 use Rattle.log_lines.specs.declared.fault.LineFault.{LineFault}
@@ -8,7 +8,7 @@ use Rattle.log_lines.specs.declared.fault.LineFault.TheVariants as fault
 use Rattle.log_lines.specs.declared.verb.Verb.{Verb}
 use Rattle.log_lines.proofs.VerbLemmas.{same_verb}
 
-same_length : (kinds : List Kind) (texts : List (List ℕ)) (vs : List Value) → StandForAll kinds texts vs → length texts ≡ length kinds
+same_length : (kinds : List Kind) (texts : List (List ℕ)) (vs : List Value) → AllMean kinds texts vs → length texts ≡ length kinds
 same_length [] [] [] h = refl
 same_length [] [] (w ∷ vs) h = absurd h
 same_length [] (text ∷ texts) vs h = absurd h
@@ -16,14 +16,14 @@ same_length (kind ∷ kinds) [] vs h = absurd h
 same_length (kind ∷ kinds) (text ∷ texts) [] h = absurd h
 same_length (kind ∷ kinds) (text ∷ texts) (w ∷ vs) h = omega (arith, same_length kinds texts vs h.1)
 
-no_first : (kinds : List Kind) (texts : List (List ℕ)) (vs : List Value) (f : LineFault) → StandForAll kinds texts vs → IsFirstFault kinds texts f → ⊥
+no_first : (kinds : List Kind) (texts : List (List ℕ)) (vs : List Value) (f : LineFault) → AllMean kinds texts vs → IsFirstFault kinds texts f → ⊥
 no_first [] texts vs f h e = e
 no_first (kind ∷ kinds) [] vs f h e = e
 no_first (kind ∷ kinds) (text ∷ texts) [] f h e = h
 no_first (kind ∷ kinds) (text ∷ texts) (w ∷ vs) f h (inl here) = here.0 (w, h.0)
 no_first (kind ∷ kinds) (text ∷ texts) (w ∷ vs) f h (inr later) = no_first kinds texts vs f h.1 later.1
 
-pub no_fault : (kinds : List Kind) (texts : List (List ℕ)) (vs : List Value) (f : LineFault) → StandForAll kinds texts vs → AreAtFault kinds texts f → ⊥
+pub no_fault : (kinds : List Kind) (texts : List (List ℕ)) (vs : List Value) (f : LineFault) → AllMean kinds texts vs → AreAtFault kinds texts f → ⊥
 no_fault kinds texts vs f h (inl count) = count.0 (same_length kinds texts vs h)
 no_fault kinds texts vs f h (inr first) = no_first kinds texts vs f h first.1
 

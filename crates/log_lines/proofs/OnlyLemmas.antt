@@ -1,13 +1,13 @@
 -- A text has one value at most.
 use Rattle.std.proofs.Common.{◌≡◌, ◌⊎◌, ℕ, List, [], ◌∷◌, Result, Ok, Err, IfOk, refl, sym, ap, subst, ◌∙◌, inl, inr}
-use Rattle.log_lines.specs.Fields.{Kind, Value, StandsFor, StandForAll}
+use Rattle.log_lines.specs.Fields.{Kind, Value, Means, AllMean}
 use Rattle.log_lines.specs.Inside.{IsOnly, AreOnly}
 use Rattle.log_lines.specs.declared.fault.LineFault.{LineFault}
 use Rattle.log_lines.specs.declared.fault.LineFault.TheVariants as fault
 
 -- what a reader gives is the only value, if it gives each value of the text or runs out of memory
 pub only_if_ok : {T : Type 0} (r : Result T LineFault) (kind : Kind) (text : List ℕ) (value : T → Value) →
-    ((w : Value) → StandsFor kind text w → (x : T) × (w ≡ value x) × ((r ≡ Ok x) ⊎ (r ≡ Err fault.Memory))) → IfOk r (λ x. IsOnly kind text (value x))
+    ((w : Value) → Means kind text w → (x : T) × (w ≡ value x) × ((r ≡ Ok x) ⊎ (r ≡ Err fault.Memory))) → IfOk r (λ x. IsOnly kind text (value x))
 only_if_ok (Ok y) kind text value f = λ w h.
     let s = f w h in
     s.1 ∙ ap value (elim s.2 [ inl e ↦ cc e | inr e ↦ absurd (cc e) ])
@@ -15,7 +15,7 @@ only_if_ok (Err g) kind text value f = tt
 
 -- ---- fields one after the other
 
-no_values : (texts : List (List ℕ)) (ws : List Value) → StandForAll [] texts ws → ws ≡ []
+no_values : (texts : List (List ℕ)) (ws : List Value) → AllMean [] texts ws → ws ≡ []
 no_values [] [] h = refl
 no_values [] (w ∷ ws) h = absurd h
 no_values (text ∷ texts) ws h = absurd h
@@ -24,7 +24,7 @@ pub only_nil : (texts : List (List ℕ)) → AreOnly [] texts []
 only_nil texts = no_values texts
 
 only_cons : (k : Kind) (kinds : List Kind) (text : List ℕ) (texts : List (List ℕ)) (v : Value) (vs : List Value) → IsOnly k text v → AreOnly kinds texts vs →
-    (ws : List Value) → StandForAll (k ∷ kinds) (text ∷ texts) ws → ws ≡ v ∷ vs
+    (ws : List Value) → AllMean (k ∷ kinds) (text ∷ texts) ws → ws ≡ v ∷ vs
 only_cons k kinds text texts v vs one others [] h = absurd h
 only_cons k kinds text texts v vs one others (w ∷ ws) h = λ i. one w h.0 i ∷ others ws h.1 i
 

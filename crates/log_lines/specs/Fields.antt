@@ -78,19 +78,19 @@ choice first second true = first
 choice first second false = second
 
 -- the text is of the kind and has the value
-abbrev pub StandsFor : Kind → List ℕ → Value → Type 0
-StandsFor (Number least most) text v = (n : ℕ) × (v ≡ TheNumber n) × (least ≤ n) × (n ≤ most) × (text ≡ decimal n)
-StandsFor OfAddr text v = (a : Address) × (v ≡ TheAddr a) × IsAddrText text a
-StandsFor OfPeer text v = (p : Peer) × (v ≡ ThePeer p) × IsPeerText text p
-StandsFor Hex text v = (bytes : List ℕ) × (v ≡ TheBytes bytes) × IsHex text bytes
-StandsFor Random text v = (words : List ℕ) × (v ≡ TheWords words) × AreWords text words
-StandsFor (Either first second) text v = (b : Bool) × (v ≡ TheChoice b) × (text ≡ choice first second b)
-StandsFor OfNet text v = (net : Option Net) × (v ≡ TheNet net) × IsNet text net
-StandsFor Class text v = (class : Option Net) × (v ≡ TheNet class) × IsClass text class
+abbrev pub Means : Kind → List ℕ → Value → Type 0
+Means (Number least most) text v = (n : ℕ) × (v ≡ TheNumber n) × (least ≤ n) × (n ≤ most) × (text ≡ decimal n)
+Means OfAddr text v = (a : Address) × (v ≡ TheAddr a) × IsAddrText text a
+Means OfPeer text v = (p : Peer) × (v ≡ ThePeer p) × IsPeerText text p
+Means Hex text v = (bytes : List ℕ) × (v ≡ TheBytes bytes) × IsHex text bytes
+Means Random text v = (words : List ℕ) × (v ≡ TheWords words) × AreWords text words
+Means (Either first second) text v = (b : Bool) × (v ≡ TheChoice b) × (text ≡ choice first second b)
+Means OfNet text v = (net : Option Net) × (v ≡ TheNet net) × IsNet text net
+Means Class text v = (class : Option Net) × (v ≡ TheNet class) × IsClass text class
 
 -- the text is of the kind
 abbrev pub IsInForm : Kind → List ℕ → Type 0
-IsInForm kind text = (v : Value) × StandsFor kind text v
+IsInForm kind text = (v : Value) × Means kind text v
 
 -- the fault of a field that is not of its kind
 abbrev pub fault_of : Kind → LineFault
@@ -104,13 +104,13 @@ fault_of OfNet = fault.Word
 fault_of Class = fault.Word
 
 -- the texts are of the kinds, in order, and have the values
-abbrev pub StandForAll : List Kind → List (List ℕ) → List Value → Type 0
-StandForAll [] [] [] = Unit {0}
-StandForAll (kind ∷ kinds) (text ∷ texts) (v ∷ vs) = StandsFor kind text v × StandForAll kinds texts vs
-StandForAll [] [] (v ∷ vs) = ⊥
-StandForAll [] (text ∷ texts) vs = ⊥
-StandForAll (kind ∷ kinds) [] vs = ⊥
-StandForAll (kind ∷ kinds) (text ∷ texts) [] = ⊥
+abbrev pub AllMean : List Kind → List (List ℕ) → List Value → Type 0
+AllMean [] [] [] = Unit {0}
+AllMean (kind ∷ kinds) (text ∷ texts) (v ∷ vs) = Means kind text v × AllMean kinds texts vs
+AllMean [] [] (v ∷ vs) = ⊥
+AllMean [] (text ∷ texts) vs = ⊥
+AllMean (kind ∷ kinds) [] vs = ⊥
+AllMean (kind ∷ kinds) (text ∷ texts) [] = ⊥
 
 -- the text is not of the kind, and this is its fault
 abbrev pub IsFieldFault : Kind → List ℕ → LineFault → Type 0

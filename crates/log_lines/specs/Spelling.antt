@@ -1,6 +1,6 @@
 -- Which line spells which command, and what is wrong in a line that spells none.
 use Rattle.std.specs.Prelude.{◌≡◌, ◌≢◌, ◌⊎◌, ◌^◌, ◌-◌, ℕ, List, [], ◌∷◌, codes}
-use Rattle.log_lines.specs.Fields.{Kind, Number, OfAddr, OfPeer, Hex, Random, Either, OfNet, Class, Value, TheNumber, TheAddr, ThePeer, TheBytes, TheWords, TheChoice, TheNet, fields_of, StandForAll, AreAtFault}
+use Rattle.log_lines.specs.Fields.{Kind, Number, OfAddr, OfPeer, Hex, Random, Either, OfNet, Class, Value, TheNumber, TheAddr, ThePeer, TheBytes, TheWords, TheChoice, TheNet, fields_of, AllMean, AreAtFault}
 use Rattle.host_io.specs.Lines.{IsPassedOver}
 use Rattle.log_lines.specs.declared.command.Command.{Command}
 use Rattle.log_lines.specs.declared.command.Command.TheVariants as c
@@ -102,7 +102,7 @@ values_of c.SaveEnd = []
 
 -- the fields after this word spell the command
 abbrev pub SpellsAfter : Verb → List (List ℕ) → Command → Type 0
-SpellsAfter verb texts command = (verb ≡ verb_of command) × StandForAll (kinds_of verb) texts (values_of command)
+SpellsAfter verb texts command = (verb ≡ verb_of command) × AllMean (kinds_of verb) texts (values_of command)
 
 -- the line spells the command
 abbrev pub Spells : List ℕ → Command → Type 0

@@ -1,5 +1,5 @@
 ghost use Rattle.std.specs.Prelude.{◌≡◌, ◌≢◌, ◌≤◌, ◌⊎◌, ℕ, List, decimal, length, IfOk, IfSome, IfNone, Some, Ok, Err};
-ghost use Rattle.log_lines.specs.Fields.{StandsFor, Number, OfAddr, OfPeer, Hex, Random, Either, OfNet, Class, TheNumber, TheAddr, ThePeer, TheBytes, TheWords, TheChoice, TheNet, IsFieldFault, IsHex, net_name};
+ghost use Rattle.log_lines.specs.Fields.{Means, Number, OfAddr, OfPeer, Hex, Random, Either, OfNet, Class, TheNumber, TheAddr, ThePeer, TheBytes, TheWords, TheChoice, TheNet, IsFieldFault, IsHex, net_name};
 ghost use Rattle.log_lines.specs.Inside.{IsOnly};
 ghost use Rattle.net_addr.specs.declared.net.Net as net;
 
@@ -21,7 +21,7 @@ pub fn read_decimal(text: &[u8], most: u64) -> Option<u64>
 
 /// A number from `least` to `most`.
 pub(crate) fn read_number(text: &[u8], least: u64, most: u64) -> Result<u64, LineFault>
-    ensures found { IfOk result (λ n. StandsFor (Number least most) text.now (TheNumber n)) }
+    ensures found { IfOk result (λ n. Means (Number least most) text.now (TheNumber n)) }
     ensures within { IfOk result (λ n. n ≤ most) }
     ensures unique { IfOk result (λ n. IsOnly (Number least most) text.now (TheNumber n)) }
     ensures fault { (f : LineFault) → result ≡ Err f → IsFieldFault (Number least most) text.now f }
@@ -35,7 +35,7 @@ pub(crate) fn read_number(text: &[u8], least: u64, most: u64) -> Result<u64, Lin
 
 /// A number of 32 bits.
 pub(crate) fn read_u32(text: &[u8], least: u32, most: u32) -> Result<u32, LineFault>
-    ensures found { IfOk result (λ n. StandsFor (Number least most) text.now (TheNumber n)) }
+    ensures found { IfOk result (λ n. Means (Number least most) text.now (TheNumber n)) }
     ensures within { IfOk result (λ n. n ≤ most) }
     ensures unique { IfOk result (λ n. IsOnly (Number least most) text.now (TheNumber n)) }
     ensures fault { (f : LineFault) → result ≡ Err f → IsFieldFault (Number least most) text.now f }
@@ -46,7 +46,7 @@ pub(crate) fn read_u32(text: &[u8], least: u32, most: u32) -> Result<u32, LineFa
 
 /// An address.
 pub(crate) fn read_addr(text: &[u8]) -> Result<NetAddr, LineFault>
-    ensures found { IfOk result (λ a. StandsFor OfAddr text.now (TheAddr a)) }
+    ensures found { IfOk result (λ a. Means OfAddr text.now (TheAddr a)) }
     ensures unique { IfOk result (λ a. IsOnly OfAddr text.now (TheAddr a)) }
     ensures fault { (f : LineFault) → result ≡ Err f → IsFieldFault OfAddr text.now f }
 {
@@ -58,7 +58,7 @@ pub(crate) fn read_addr(text: &[u8]) -> Result<NetAddr, LineFault>
 
 /// A peer.
 pub(crate) fn read_peer(text: &[u8]) -> Result<Peer, LineFault>
-    ensures found { IfOk result (λ p. StandsFor OfPeer text.now (ThePeer p)) }
+    ensures found { IfOk result (λ p. Means OfPeer text.now (ThePeer p)) }
     ensures unique { IfOk result (λ p. IsOnly OfPeer text.now (ThePeer p)) }
     ensures fault { (f : LineFault) → result ≡ Err f → IsFieldFault OfPeer text.now f }
 {
@@ -72,7 +72,7 @@ pub(crate) fn read_peer(text: &[u8]) -> Result<Peer, LineFault>
 pub(crate) fn read_either(text: &[u8], first: &[u8], second: &[u8]) -> Result<bool, LineFault>
     requires { first.now ≢ second.now }
     ensures found { IfOk result (λ b.
-        StandsFor (Either first.now second.now) text.now (TheChoice b)) }
+        Means (Either first.now second.now) text.now (TheChoice b)) }
     ensures unique { IfOk result (λ b.
         IsOnly (Either first.now second.now) text.now (TheChoice b)) }
     ensures fault { (f : LineFault) → result ≡ Err f →
@@ -110,7 +110,7 @@ pub fn read_hex(alloc: Global, text: &[u8]) -> Result<Bytes, LineFault>
 
 /// The bytes of a payload.
 pub(crate) fn read_payload(alloc: Global, text: &[u8]) -> Result<Bytes, LineFault>
-    ensures found { IfOk result (λ bytes. StandsFor Hex text.now (TheBytes bytes)) }
+    ensures found { IfOk result (λ bytes. Means Hex text.now (TheBytes bytes)) }
     ensures unique { IfOk result (λ bytes. IsOnly Hex text.now (TheBytes bytes)) }
     ensures fault { (f : LineFault) → result ≡ Err f → f ≢ LineFault.Memory →
         IsFieldFault Hex text.now f }
@@ -121,7 +121,7 @@ pub(crate) fn read_payload(alloc: Global, text: &[u8]) -> Result<Bytes, LineFaul
 /// Random words.
 pub(crate) fn read_random(alloc: Global, text: &[u8]) -> Result<Words, LineFault>
     requires { length text.now ≤ 16777216 }
-    ensures found { IfOk result (λ words. StandsFor Random text.now (TheWords words)) }
+    ensures found { IfOk result (λ words. Means Random text.now (TheWords words)) }
     ensures unique { IfOk result (λ words. IsOnly Random text.now (TheWords words)) }
     ensures fault { (f : LineFault) → result ≡ Err f → f ≢ LineFault.Memory →
         IsFieldFault Random text.now f }
@@ -131,7 +131,7 @@ pub(crate) fn read_random(alloc: Global, text: &[u8]) -> Result<Words, LineFault
 
 /// A class of addresses, or `None` for all.
 pub(crate) fn read_class(text: &[u8]) -> Result<Option<Net>, LineFault>
-    ensures found { IfOk result (λ class. StandsFor Class text.now (TheNet class)) }
+    ensures found { IfOk result (λ class. Means Class text.now (TheNet class)) }
     ensures unique { IfOk result (λ class. IsOnly Class text.now (TheNet class)) }
     ensures fault { (f : LineFault) → result ≡ Err f → IsFieldFault Class text.now f }
 {
@@ -146,7 +146,7 @@ pub(crate) fn read_class(text: &[u8]) -> Result<Option<Net>, LineFault>
 
 /// A network, or `None` for all.
 pub(crate) fn read_net(text: &[u8]) -> Result<Option<Net>, LineFault>
-    ensures found { IfOk result (λ net. StandsFor OfNet text.now (TheNet net)) }
+    ensures found { IfOk result (λ net. Means OfNet text.now (TheNet net)) }
     ensures unique { IfOk result (λ net. IsOnly OfNet text.now (TheNet net)) }
     ensures fault { (f : LineFault) → result ≡ Err f → IsFieldFault OfNet text.now f }
 {

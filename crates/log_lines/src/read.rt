@@ -1,6 +1,6 @@
 ghost use Rattle.std.specs.Prelude.{◌≡◌, ◌≢◌, ◌-◌, ◌^◌, ◌≤◌, ◌↔◌, ◌⊎◌, [], ◌∷◌, ℕ, List, length, codes, IfOk, IfSome, IfNone, Some, None, Ok, Err, IsTrue};
 ghost use Rattle.host_io.specs.Lines.{IsPassedOver};
-ghost use Rattle.log_lines.specs.Fields.{Kind, Number, OfAddr, OfPeer, Hex, Random, Either, OfNet, Class, TheNumber, TheAddr, ThePeer, TheBytes, TheWords, TheChoice, TheNet, StandForAll, AreAtFault};
+ghost use Rattle.log_lines.specs.Fields.{Kind, Number, OfAddr, OfPeer, Hex, Random, Either, OfNet, Class, TheNumber, TheAddr, ThePeer, TheBytes, TheWords, TheChoice, TheNet, AllMean, AreAtFault};
 ghost use Rattle.log_lines.specs.Inside.{texts_after, AreOnly};
 ghost use Rattle.log_lines.specs.Spelling.{u32_field, u64_field, word_of, kinds_of, values_of, SpellsAfter, Spells, HasFault};
 ghost use Rattle.log_lines.specs.declared.command.Command.{Command};
@@ -166,7 +166,7 @@ fn read_command(alloc: Global, verb: Verb, rest: Option<&[u8]>) -> Result<Comman
 
 /// The command, if there are no fields.
 fn with_no_fields(rest: Option<&[u8]>, command: Command) -> Result<Command, LineFault>
-    ensures found { IfOk result (λ c. (c ≡ command) × StandForAll [] (texts_after rest.entry) []) }
+    ensures found { IfOk result (λ c. (c ≡ command) × AllMean [] (texts_after rest.entry) []) }
     ensures unique { IfOk result (λ c. AreOnly [] (texts_after rest.entry) []) }
     ensures fault { (f : LineFault) → result ≡ Err f → AreAtFault [] (texts_after rest.entry) f }
 {
@@ -180,7 +180,7 @@ fn with_no_fields(rest: Option<&[u8]>, command: Command) -> Result<Command, Line
 /// A number of 32 bits, at least `least`.
 fn one_u32(rest: Option<&[u8]>, least: u32) -> Result<u32, LineFault>
     ensures found { IfOk result (λ n.
-        StandForAll (Number least (2 ^ 32 - 1) ∷ []) (texts_after rest.entry)
+        AllMean (Number least (2 ^ 32 - 1) ∷ []) (texts_after rest.entry)
         (TheNumber n ∷ [])) }
     ensures unique { IfOk result (λ n.
         AreOnly (Number least (2 ^ 32 - 1) ∷ []) (texts_after rest.entry) (TheNumber n ∷ [])) }
@@ -194,7 +194,7 @@ fn one_u32(rest: Option<&[u8]>, least: u32) -> Result<u32, LineFault>
 /// A peer.
 fn one_peer(rest: Option<&[u8]>) -> Result<Peer, LineFault>
     ensures found { IfOk result (λ p.
-        StandForAll (OfPeer ∷ []) (texts_after rest.entry) (ThePeer p ∷ [])) }
+        AllMean (OfPeer ∷ []) (texts_after rest.entry) (ThePeer p ∷ [])) }
     ensures unique { IfOk result (λ p.
         AreOnly (OfPeer ∷ []) (texts_after rest.entry) (ThePeer p ∷ [])) }
     ensures fault { (f : LineFault) → result ≡ Err f →
@@ -212,7 +212,7 @@ fn peer_and_choice(
 ) -> Result<(Peer, bool), LineFault>
     requires { first.now ≢ second.now }
     ensures found { IfOk result (λ r.
-        StandForAll (OfPeer ∷ Either first.now second.now ∷ []) (texts_after rest.entry)
+        AllMean (OfPeer ∷ Either first.now second.now ∷ []) (texts_after rest.entry)
         (ThePeer r.0 ∷ TheChoice r.1 ∷ [])) }
     ensures unique { IfOk result (λ r.
         AreOnly (OfPeer ∷ Either first.now second.now ∷ []) (texts_after rest.entry)
@@ -230,7 +230,7 @@ fn peer_and_choice(
 fn message_fields(alloc: Global, rest: Option<&[u8]>) -> Result<(NetAddr, Bytes, Words), LineFault>
     requires { IfSome rest (λ text. length text.now ≤ 16777216) }
     ensures found { IfOk result (λ r.
-        StandForAll (OfAddr ∷ Hex ∷ Random ∷ []) (texts_after rest.entry)
+        AllMean (OfAddr ∷ Hex ∷ Random ∷ []) (texts_after rest.entry)
         (TheAddr r.0 ∷ TheBytes r.1 ∷ TheWords r.2 ∷ [])) }
     ensures unique { IfOk result (λ r.
         AreOnly (OfAddr ∷ Hex ∷ Random ∷ []) (texts_after rest.entry)
