@@ -7,6 +7,7 @@ use Rattle.asmap_compile.specs.Compiled.{compiled, rows_kept, tree_at}
 use Rattle.asmap_compile.specs.Inside.{IsPart}
 use Rattle.asmap_compile.proofs.Whole.{whole_part, compiled_is, compiled_sane, compiled_best, compiled_asn, file_from}
 use Rattle.asmap_compile.proofs.compiling.compile.Goals as goal
+use Rattle.asmap_compile.proofs.compiling.compile.Goals.{In_ok-put_tree}
 
 some_rows : (table rows : List Row) → rows ≡ table → false ≡ (length rows == 0) → 0 < length table
 some_rows table rows same test = omega (arith, ap length same, eqb-false (length rows) 0 (sym test))
@@ -25,25 +26,25 @@ put_tree-requires c =
     let some = some_rows table c.rows-rows.result.now rows c.if-is_empty.ensures in
     (table, ([], (128, whole_part table c.as_slice.result.now c.rows-rows.ensures.table some (c.as_slice.ensures.value ∙ c.in_ok-kept.ensures ∙ ap rows_kept rows))))
 
+-- the bits that are written are the code of the compiled tree
+bits : (c : In_ok-put_tree) → c.put_tree.new.out ≡ code (compiled c.args.table.now)
+bits c =
+    let table = c.args.table.now in
+    let rows = c.rows-rows.ensures.value in
+    let some = some_rows table c.rows-rows.result.now rows c.if-is_empty.ensures in
+    let kept = c.as_slice.ensures.value ∙ c.in_ok-kept.ensures ∙ ap rows_kept rows in
+    written table c.as_slice.result.now c.put_tree.new.out c.make-out.result c.rows-rows.ensures.table some kept c.in_ok-put_tree.ensures c.make-out.ensures
+
 pub returns-clause-sane : goal.returns-clause-sane
 returns-clause-sane c =
     let table = c.args.table.now in
-    let rows = c.rows-rows.ensures.value in
-    let some = some_rows table c.rows-rows.result.now rows c.if-is_empty.ensures in
-    let kept = c.as_slice.ensures.value ∙ c.in_ok-kept.ensures ∙ ap rows_kept rows in
-    let bits = written table c.as_slice.result.now c.put_tree.new.out c.make-out.result c.rows-rows.ensures.table some kept c.in_ok-put_tree.ensures c.make-out.ensures in
     record {
-      sane = compiled_sane table c.rows-rows.ensures.table some;
-      file = file_from (compiled table) c.put_tree.new.out c.into_bytes.result.items bits c.into_bytes.ensures;
+      sane = compiled_sane table c.rows-rows.ensures.table (some_rows table c.rows-rows.result.now c.rows-rows.ensures.value c.if-is_empty.ensures);
+      file = file_from (compiled table) c.put_tree.new.out c.into_bytes.result.items (bits (goal.at.returns-clause-sane c).In_ok-put_tree) c.into_bytes.ensures;
     }
 
 pub returns-clause-bits : goal.returns-clause-bits
-returns-clause-bits c =
-    let table = c.args.table.now in
-    let rows = c.rows-rows.ensures.value in
-    let some = some_rows table c.rows-rows.result.now rows c.if-is_empty.ensures in
-    let kept = c.as_slice.ensures.value ∙ c.in_ok-kept.ensures ∙ ap rows_kept rows in
-    c.len-bits.ensures ∙ ap length (written table c.as_slice.result.now c.put_tree.new.out c.make-out.result c.rows-rows.ensures.table some kept c.in_ok-put_tree.ensures c.make-out.ensures)
+returns-clause-bits c = c.len-bits.ensures ∙ ap length (bits (goal.at.returns-clause-bits c).In_ok-put_tree)
 
 pub returns-clause-meaning : goal.returns-clause-meaning
 returns-clause-meaning c = λ address long. compiled_best c.args.table.now address c.rows-rows.ensures.table long
