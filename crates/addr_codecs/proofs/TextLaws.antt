@@ -1,6 +1,6 @@
 -- What is written is a message of the entries that were written.
 use Rattle.std.proofs.Common.{◌≡◌, ◌⊎◌, ℕ, ◌+◌, ◌≤◌, ◌<◌, ◌^◌, Bool, true, false, cond, leb, List, [], ◌∷◌, ◌++◌, length, get_or, take, map, Option, Some, None, All, refl, sym, ap, subst, ◌∙◌, append_assoc, inl, inr, arith}
-use Rattle.std.specs.Prelude.{unwrap_or, option_map, ◌||◌}
+use Rattle.std.specs.Prelude.{unwrap_or, option_map, ◌||◌, Result, Ok, Err, IfOk, OnOk}
 use Rattle.std.specs.List.{flat_map, AllByRecursion}
 use Rattle.std.specs.Int.{w16, w32, w64, to_le_bytes, to_be_bytes}
 use Rattle.std.proofs.lemmas.Bool.{le-leb, eq-eqb}
@@ -226,6 +226,11 @@ addr_written es few fit networks = of_message addr_entry addr_entry_text FitsAdd
 
 pub addrv2_written : (es : List Entry) → length es ≤ 1000 → All IsEntry es → (message addrv2_entry).spells (message_text addrv2_entry_text es) (map Some es)
 addrv2_written es few fit = of_message addrv2_entry addrv2_entry_text IsEntry of_addrv2_entry es few fit
+
+-- a message that is written is read back
+pub reads_back : {Z E : Type 0} {text : List ℕ} (P : List ℕ → Type 0) (o : Result (List ℕ) E) → IfOk o (λ bytes. bytes ≡ text) → OnOk o Z → (Z → P text) → IfOk o P
+reads_back P (Ok bytes) is fit reads = subst P (sym is) (reads fit)
+reads_back P (Err e) is fit reads = tt
 
 pub four_parts : (old a b c d x y z new : List ℕ) → x ≡ old ++ a → y ≡ x ++ b → z ≡ y ++ c → new ≡ z ++ d → new ≡ old ++ (a ++ b ++ c ++ d)
 four_parts old a b c d x y z new p q r s = s ∙ ap (λ (t : List ℕ). t ++ d) (r ∙ ap (λ (t : List ℕ). t ++ c) (q ∙ ap (λ (t : List ℕ). t ++ b) p)) ∙ simp append_assoc

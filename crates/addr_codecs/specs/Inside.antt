@@ -1,14 +1,16 @@
--- What reading a message from the start gives, field by field.
-use Rattle.std.specs.Prelude.{◌≡◌, ◌≢◌, ℕ, List, Option, Some, Result, Ok, Err, option_map, nat_le, if◌then◌else◌}
+-- What reading a message from the start gives, field by field, and what each form writes.
+use Rattle.std.specs.Prelude.{◌≡◌, ◌≢◌, ◌⊎◌, ℕ, List, Option, Some, Result, Ok, Err, option_map, nat_le, if◌then◌else◌}
 use Rattle.std.specs.Int.{w16, w32, w64}
 use Rattle.net_addr.specs.Address.{Address}
 use Rattle.net_addr.specs.OldForm.{from_v1}
 use Rattle.net_addr.specs.declared.entry.Entry.{Entry}
 use Rattle.net_addr.specs.declared.net.Net.{Net}
+use Rattle.net_addr.specs.declared.net.Net.TheVariants.{Ipv4, Ipv6}
 use Rattle.wire_num.specs.Readings.{◌>>=◌, fault_as, bytes_at, byte_at, le_at, be_at, compact_at, times_at}
 use Rattle.addr_codecs.specs.Faults.{of_wire}
 use Rattle.addr_codecs.specs.Network.{network_of, is_length, address_of}
 use Rattle.addr_codecs.specs.Layout.{entry}
+use Rattle.addr_codecs.specs.Texts.{addr_entry_text, addrv2_entry_text}
 use Rattle.addr_codecs.specs.declared.form.Form.{Form}
 use Rattle.addr_codecs.specs.declared.form.Form.TheVariants.{Addr, Addrv2}
 use Rattle.addr_codecs.specs.declared.fault.MsgFault.{MsgFault}
@@ -55,3 +57,13 @@ GivesUnlessMemory view (Err e) read = e ≢ Memory → read ≡ Err e
 abbrev pub entry_at : Form → List ℕ → Result (Option Entry × List ℕ) MsgFault
 entry_at Addr bytes = addr_entry_at bytes
 entry_at Addrv2 bytes = addrv2_entry_at bytes
+
+-- how an entry is written in a message of the form
+abbrev pub text_in : Form → Entry → List ℕ
+text_in Addr e = addr_entry_text e
+text_in Addrv2 e = addrv2_entry_text e
+
+-- a message of the form can have the address of the entry
+abbrev pub CanWrite : Form → Entry → Type 0
+CanWrite Addr e = (e.peer.addr.net ≡ Ipv4) ⊎ (e.peer.addr.net ≡ Ipv6)
+CanWrite Addrv2 e = Unit {0}

@@ -1,8 +1,12 @@
+ghost use Rattle.std.specs.Prelude.{◌≡◌, ◌++◌, OnOk};
 ghost use Rattle.wire_num.specs.Readings.{Gives};
-ghost use Rattle.addr_codecs.specs.Inside.{entry_at};
+ghost use Rattle.addr_codecs.specs.Entries.{IsEntry};
+ghost use Rattle.addr_codecs.specs.Inside.{CanWrite, entry_at, text_in};
 
 use crate::entry::{take_addr_entry, take_addrv2_entry};
 use crate::fault::MsgFault;
+use crate::memory::Memory;
+use crate::writing::{put_addr_entry, put_addrv2_entry};
 use net_addr::Entry;
 
 /// The two forms of a message.
@@ -15,6 +19,18 @@ pub(crate) enum Form {
 }
 
 impl Form {
+    /// Appends an entry.
+    pub(crate) fn put_entry(self, out: &mut Vec<u8>, entry: &Entry) -> Result<(), Memory>
+        requires { CanWrite self entry.now }
+        ensures found { OnOk result (out.new.items ≡ out.old.items ++ text_in self entry.now) }
+        ensures entry { OnOk result (IsEntry entry.now) }
+    {
+        match self {
+            Form::Addr => put_addr_entry(out, entry),
+            Form::Addrv2 => put_addrv2_entry(out, entry),
+        }
+    }
+
     /// Takes an entry, `None` if it is skipped.
     pub(crate) fn take_entry(self, bytes: &[u8]) -> Result<(Option<Entry>, &[u8]), MsgFault>
         ensures { Gives (λ x. (x.0, x.1.now)) result (entry_at self bytes.now) }

@@ -1,6 +1,6 @@
 use std::alloc::AllocError;
 
-/// There was no memory for a message.
+/// Out of memory.
 #[derive(Clone, Copy, Debug, PartialEq, Eq)]
 pub struct Memory;
 

@@ -3,10 +3,12 @@ ghost use Rattle.net_addr.specs.Address.{IsAddress};
 ghost use Rattle.net_addr.specs.OldForm.{v1_bytes};
 ghost use Rattle.net_addr.specs.declared.net.Net.TheVariants.{Ipv4, Ipv6, Internal};
 ghost use Rattle.addr_codecs.specs.Entries.{IsEntry};
+ghost use Rattle.addr_codecs.specs.Inside.{CanWrite, text_in};
 ghost use Rattle.addr_codecs.specs.Layout.{IsAddrMessage, IsAddrv2Message};
 ghost use Rattle.addr_codecs.specs.Texts.{addr_entry_text, addrv2_entry_text, address_text, prefix_of, id_of, message_text};
 
 use crate::address::{INTERNAL_PREFIX, MAPPED_PREFIX};
+use crate::form::Form;
 use crate::memory::Memory;
 use host_io::Bytes;
 use net_addr::{Entry, Net, NetAddr};
@@ -29,7 +31,7 @@ fn put_old_form(out: &mut Vec<u8>, addr: &NetAddr) -> Result<(), Memory>
 
 /// Appends an entry of `addr`.
 #[tactic(auto, unfolding(crate::specs::Texts::addr_entry_text))]
-fn put_addr_entry(out: &mut Vec<u8>, entry: &Entry) -> Result<(), Memory>
+pub(crate) fn put_addr_entry(out: &mut Vec<u8>, entry: &Entry) -> Result<(), Memory>
     requires { (entry.now.peer.addr.net ≡ Ipv4) ⊎ (entry.now.peer.addr.net ≡ Ipv6) }
     ensures found { OnOk result (out.new.items ≡ out.old.items ++ addr_entry_text entry.now) }
     ensures entry { OnOk result (IsEntry entry.now) }
@@ -82,7 +84,7 @@ pub fn put_address(addr: &NetAddr, out: &mut Vec<u8>) -> Result<(), Memory>
 
 /// Appends an entry of `addrv2`.
 #[tactic(auto, unfolding(crate::specs::Texts::addrv2_entry_text))]
-fn put_addrv2_entry(out: &mut Vec<u8>, entry: &Entry) -> Result<(), Memory>
+pub(crate) fn put_addrv2_entry(out: &mut Vec<u8>, entry: &Entry) -> Result<(), Memory>
     ensures found { OnOk result (out.new.items ≡ out.old.items ++ addrv2_entry_text entry.now) }
     ensures entry { OnOk result (IsEntry entry.now) }
 {
@@ -93,6 +95,20 @@ fn put_addrv2_entry(out: &mut Vec<u8>, entry: &Entry) -> Result<(), Memory>
     Ok(())
 }
 
+/// Writes a message of this form: the number of entries, and the entries one after another.
+fn write_message(alloc: Global, form: Form, entries: &[Entry]) -> Result<Bytes, Memory>
+    requires { All (CanWrite form) entries.now }
+    ensures found { IfOk result (λ bytes. bytes ≡ message_text (text_in form) entries.now) }
+    ensures entries { OnOk result (All IsEntry entries.now) }
+{
+    let mut out = Vec::new(alloc);
+    put_compact(entries.len() as u64, &mut out)?;
+    for entry in entries {
+        form.put_entry(&mut out, entry)?;
+    }
+    Ok(Bytes::of(out))
+}
+
 /// Writes an `addr` message of the entries, which reads as these entries.
 pub fn write_addr(alloc: Global, entries: &[Entry]) -> Result<Bytes, Memory>
     requires count { length entries.now ≤ 1000 }
@@ -100,12 +116,7 @@ pub fn write_addr(alloc: Global, entries: &[Entry]) -> Result<Bytes, Memory>
     ensures found { IfOk result (λ bytes. bytes ≡ message_text addr_entry_text entries.now) }
     ensures read_back { IfOk result (λ bytes. IsAddrMessage bytes (map Some entries.now)) }
 {
-    let mut out = Vec::new(alloc);
-    put_compact(entries.len() as u64, &mut out)?;
-    for entry in entries {
-        put_addr_entry(&mut out, entry)?;
-    }
-    Ok(Bytes::of(out))
+    write_message(alloc, Form::Addr, entries)
 }
 
 /// Writes an `addrv2` message (BIP 155) of the entries, which reads as these entries.
@@ -115,10 +126,5 @@ pub fn write_addrv2(alloc: Global, entries: &[Entry]) -> Result<Bytes, Memory>
     ensures found { IfOk result (λ bytes. bytes ≡ message_text addrv2_entry_text entries.now) }
     ensures read_back { IfOk result (λ bytes. IsAddrv2Message bytes (map Some entries.now)) }
 {
-    let mut out = Vec::new(alloc);
-    put_compact(entries.len() as u64, &mut out)?;
-    for entry in entries {
-        put_addrv2_entry(&mut out, entry)?;
-    }
-    Ok(Bytes::of(out))
+    write_message(alloc, Form::Addrv2, entries)
 }
