@@ -46,7 +46,7 @@ impl<'a> Bits<'a> {
     pub fn get(&self, at: usize) -> bool
         requires { at < length self.now }
         ensures bit { slice_get self.now at ≡ Some result }
-        ensures front { drop at self.now ≡ result ∷ drop (at + 1) self.now }
+        ensures next { drop at self.now ≡ result ∷ drop (at + 1) self.now }
     {
         (self.bytes[at / 8] >> (at % 8)) & 1 == 1
     }

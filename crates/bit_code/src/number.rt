@@ -10,7 +10,7 @@ use crate::coder::Coder;
 #[inline]
 pub fn read_number(bits: &Bits<'_>, at: usize, coder: Coder) -> Option<(u32, usize)>
     requires { at ≤ length bits.now }
-    ensures place { IfSome result (λ read. (at < read.1) × (read.1 ≤ length bits.now)) }
+    ensures end { IfSome result (λ read. (at < read.1) × (read.1 ≤ length bits.now)) }
     ensures found { IfSome result (λ read.
         Spells coder read.0 (drop at bits.now) (drop read.1 bits.now)) }
     ensures only { (n : ℕ) (rest : List Bool) → Spells coder n (drop at bits.now) rest →
@@ -42,7 +42,7 @@ pub struct KindAndNumber {
 #[inline(always)]
 pub fn read_kind_and_number(bits: &Bits<'_>, at: usize) -> Option<KindAndNumber>
     requires { at ≤ length bits.now }
-    ensures place { IfSome result (λ read. (at < read.end) × (read.end ≤ length bits.now)) }
+    ensures end { IfSome result (λ read. (at < read.end) × (read.end ≤ length bits.now)) }
     ensures found { IfSome result (λ read.
         SpellsBoth read.kind read.number (drop at bits.now) (drop read.end bits.now)) }
     ensures only { (kind n : ℕ) (rest : List Bool) → SpellsBoth kind n (drop at bits.now) rest →

@@ -11,7 +11,7 @@ loop-offset-init c = zeros_none c.args.bits.now c.args.at
 
 pub loop-offset-preserved : goal.loop-offset-preserved
 loop-offset-preserved c =
-    zeros_more c.args.bits.now c.args.at c.loop-offset.offset c.get.result c.loop-offset.auto.offset c.get.ensures.front c.if-get.false c.loop-offset.invariant
+    zeros_more c.args.bits.now c.args.at c.loop-offset.offset c.get.result c.loop-offset.auto.offset c.get.ensures.next c.if-get.false c.loop-offset.invariant
 
 pub returns : goal.returns
 returns c =

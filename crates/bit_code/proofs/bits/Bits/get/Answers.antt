@@ -12,7 +12,7 @@ returns-clause-bit c =
     let bytes = c.self.inside.bytes.now in
     rw (shr_and_one, ← c.self.view_is) (slice_get-file_bits bytes c.args.at (omega (arith, ap length c.self.view_is, length-file_bits bytes)))
 
-pub returns-clause-front : goal.returns-clause-front
-returns-clause-front c =
+pub returns-clause-next : goal.returns-clause-next
+returns-clause-next c =
     let bytes = c.self.inside.bytes.now in
     rw (shr_and_one, ← c.self.view_is) (drop-file_bits_at bytes c.args.at (omega (arith, ap length c.self.view_is, length-file_bits bytes)))
