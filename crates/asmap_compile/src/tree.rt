@@ -34,9 +34,9 @@ pub(crate) fn put_tree(
     if bit_of(first.bits, depth) != bit_of(last.bits, depth) {
         let middle = middle_of(rows, depth);
         put_tree(out, &rows[middle..], depth + 1, number, default)?;
-        let behind = out.len();
+        let after = out.len();
         put_tree(out, &rows[..middle], depth + 1, number, default)?;
-        let over = out.len() - behind;
+        let over = out.len() - after;
         return put_jump(out, over as u32);
     }
     let stop = first.len.min(common_bits(first.bits, last.bits));

@@ -110,13 +110,13 @@ side table p left default b = tree_at (left - 1) (rows_kept table) (p ++ b ∷ [
 written : (t : ℕ) (c : After-len t) (table : List Row) (p : List Bool) (left : ℕ) →
     Sides table p left (take c.middle_of-middle.result c.longer_rows-rows.result.now) (take (length c.longer_rows-rows.result.now - c.middle_of-middle.result) (drop c.middle_of-middle.result c.longer_rows-rows.result.now)) c.args.depth c.number_of_path-number.result c.args.default →
     (c.put_tree-then-bit_of.new.out ≡ code (side table p left c.args.default false) ++ (code (side table p left c.args.default true) ++ c.args.out.now))
-    × (c.len.result ≡ c.len-behind.result + length (code (side table p left c.args.default false)))
+    × (c.len.result ≡ c.len-after.result + length (code (side table p left c.args.default false)))
 written t c table p left s =
     let low = code (side table p left c.args.default false) in
     let right = c.in_ok-put_tree.ensures table (p ++ true ∷ []) (left - 1) s.high in
     let both : c.put_tree-then-bit_of.new.out ≡ low ++ c.put_tree.new.out = c.in_ok-put_tree-2.ensures table (p ++ false ∷ []) (left - 1) s.low in
     let long = length-append low c.put_tree.new.out in
-    (both ∙ ap (λ xs. low ++ xs) right, omega (arith, c.len.ensures, c.len-behind.ensures, ap length both))
+    (both ∙ ap (λ xs. low ++ xs) right, omega (arith, c.len.ensures, c.len-after.ensures, ap length both))
 
 pub overflow_sub-over : goal.overflow_sub-over
 overflow_sub-over t c =
@@ -128,9 +128,9 @@ overflow_sub-over t c =
 jump : (t : ℕ) (c : After-len t) (table : List Row) (p : List Bool) (left : ℕ) →
     IsPart table p left c.args.part.now c.args.depth c.args.above c.args.default →
     Sides table p left (take c.middle_of-middle.result c.longer_rows-rows.result.now) (take (length c.longer_rows-rows.result.now - c.middle_of-middle.result) (drop c.middle_of-middle.result c.longer_rows-rows.result.now)) c.args.depth c.number_of_path-number.result c.args.default →
-    HasValue coders.Jump (c.len.result - c.len-behind.result)
+    HasValue coders.Jump (c.len.result - c.len-after.result)
 jump t c table p left is s =
-    let over : c.len.result - c.len-behind.result ≡ length (code (side table p left c.args.default false)) = omega (arith, (written t c table p left s).1) in
+    let over : c.len.result - c.len-after.result ≡ length (code (side table p left c.args.default false)) = omega (arith, (written t c table p left s).1) in
     subst (HasValue coders.Jump) (sym over) (fork_value _ _ _ _ _ _ _ is s.fork)
 
 pub overflow_cast-over : goal.overflow_cast-over
@@ -150,7 +150,7 @@ returns-then-bit_of t c = λ table p left is.
     let s = sides t at.After-middle_of-middle table p left (facts_at t at.After-longer_rows-rows table p left is) (some t at.After-bit_of) in
     let w = written t at.After-len table p left s in
     let l = side table p left c.args.default false in
-    let over : c.len.result - c.len-behind.result ≡ length (code l) = omega (arith, w.1) in
+    let over : c.len.result - c.len-after.result ≡ length (code l) = omega (arith, w.1) in
     let whole = c.put_jump.ensures l (side table p left c.args.default true) c.args.out.now over w.0 in
     subst (λ v. OnOk c.put_jump.result (c.put_jump.new.out ≡ code v ++ c.args.out.now)) (sym (part_fork _ _ _ _ _ _ _ is s.fork)) whole
 
