@@ -361,7 +361,7 @@ live-found recs es order peer None is kept at = tt
 live-found recs es order peer (Some id) is kept at =
     subst (λ o. IsSomeAnd o (λ r. r.peer ≡ peer)) (sym (rec_of-value recs es order is kept id)) (kept.found peer id (sym at))
 
--- what is lent is there where its value is
+-- a record is lent if its value is there
 pub IsSome-lent : (o : Option Rec) (lent : Option (Bor Rec)) → o ≡ option_copied lent → IsSome o → IsSome lent
 IsSome-lent o None same some = ap is_some (sym same) ∙ some
 IsSome-lent o (Some r) same some = refl
