@@ -14,12 +14,12 @@ use Rattle.net_addr.specs.declared.peer.Peer.{Peer}
 use Rattle.net_addr.specs.declared.net.Net.TheVariants.{Unroutable, Ipv4, Ipv6, Onion, I2p, Cjdns, Internal}
 
 -- the number of the network and then the bytes, by which two addresses differ
-abbrev pub told_by : Address → List ℕ
-told_by a = number_of a.net ∷ a.bytes
+abbrev pub number_and_bytes : Address → List ℕ
+number_and_bytes a = number_of a.net ∷ a.bytes
 
 -- the two are the same address of the same network
 unfoldable pub same_address : Address → Address → Bool
-same_address a b = bytes_eq (told_by a) (told_by b)
+same_address a b = bytes_eq (number_and_bytes a) (number_and_bytes b)
 
 -- the network of a number
 abbrev network : ℕ → Net
@@ -46,20 +46,20 @@ number_of_injective m n e = sym (network-number_of m) ∙ ap network e ∙ netwo
 same_parts : (a b : Address) → a.net ≡ b.net → a.bytes ≡ b.bytes → a ≡ b
 same_parts a b e f = λ i. record { net = e i; bytes = f i }
 
-told_by_injective : (a b : Address) → told_by a ≡ told_by b → a ≡ b
-told_by_injective a b e =
+number_and_bytes_injective : (a b : Address) → number_and_bytes a ≡ number_and_bytes b → a ≡ b
+number_and_bytes_injective a b e =
     same_parts a b (number_of_injective a.net b.net (ap (λ xs. slice_index xs 0) e)) (ap (λ xs. drop 1 xs) e)
 
 -- `==` of two addresses is true exactly when they are equal
 pub same_address-Decides : (a b : Address) → Decides (same_address a b) (a ≡ b)
 unfolding same_address
 same_address-Decides a b =
-    let d = bytes_eq-Decides (told_by a) (told_by b) in
-    (λ h. told_by_injective a b (d.0 h), λ e. d.1 (ap told_by e))
+    let d = bytes_eq-Decides (number_and_bytes a) (number_and_bytes b) in
+    (λ h. number_and_bytes_injective a b (d.0 h), λ e. d.1 (ap number_and_bytes e))
 
 pub same_address-equiv : IsEquivalence same_address
 unfolding same_address
-same_address-equiv = on_equiv told_by nat_list_eq_equiv
+same_address-equiv = on_equiv number_and_bytes nat_list_eq_equiv
 
 pub same_address-per : IsPartialEquivalence same_address
 same_address-per = partial_equiv_from_equiv same_address-equiv
