@@ -15,20 +15,20 @@ digits_mod k n = ap (digits k) (sym (shr_split n k)) ∙ digits_low k k (n / 2 ^
 number_of-mod : (k n : ℕ) → number_of (digits k n) ≡ n % 2 ^ k
 number_of-mod k n = ap number_of (digits_mod k n) ∙ number_of-digits k (n % 2 ^ k) (omega (arith, pow_pos k))
 
-begins_with_front : (xs ys : List Bool) → begins_with (xs ++ ys) xs ≡ true
+begins_with_start : (xs ys : List Bool) → begins_with (xs ++ ys) xs ≡ true
 unfolding begins_with
-begins_with_front [] ys = refl
-begins_with_front (true ∷ xs) ys = begins_with_front xs ys
-begins_with_front (false ∷ xs) ys = begins_with_front xs ys
+begins_with_start [] ys = refl
+begins_with_start (true ∷ xs) ys = begins_with_start xs ys
+begins_with_start (false ∷ xs) ys = begins_with_start xs ys
 
-front_begins : (bits wanted : List Bool) → begins_with bits wanted ≡ true → take (length wanted) bits ≡ wanted
+start_begins : (bits wanted : List Bool) → begins_with bits wanted ≡ true → take (length wanted) bits ≡ wanted
 unfolding begins_with
-front_begins bits [] h = refl
-front_begins [] (w ∷ wanted) h = cc
-front_begins (true ∷ bits) (true ∷ wanted) h = ap (λ xs. true ∷ xs) (front_begins bits wanted h)
-front_begins (false ∷ bits) (false ∷ wanted) h = ap (λ xs. false ∷ xs) (front_begins bits wanted h)
-front_begins (true ∷ bits) (false ∷ wanted) h = cc
-front_begins (false ∷ bits) (true ∷ wanted) h = cc
+start_begins bits [] h = refl
+start_begins [] (w ∷ wanted) h = cc
+start_begins (true ∷ bits) (true ∷ wanted) h = ap (λ xs. true ∷ xs) (start_begins bits wanted h)
+start_begins (false ∷ bits) (false ∷ wanted) h = ap (λ xs. false ∷ xs) (start_begins bits wanted h)
+start_begins (true ∷ bits) (false ∷ wanted) h = cc
+start_begins (false ∷ bits) (true ∷ wanted) h = cc
 
 same_tests : (b w : Bool) → (b ≡ true → w ≡ true) → (w ≡ true → b ≡ true) → b ≡ w
 same_tests true true f g = refl
@@ -40,11 +40,11 @@ there : (size left a n : ℕ) → eqb (a / 2 ^ left % 2 ^ size) (n % 2 ^ size) �
 there size left a n h =
     let same = eqb-true (a / 2 ^ left % 2 ^ size) (n % 2 ^ size) h in
     let e : digits size n ≡ digits size (a / 2 ^ left) = digits_mod size n ∙ ap (digits size) (sym same) ∙ sym (digits_mod size (a / 2 ^ left)) in
-    rw e (begins_with_front (digits size (a / 2 ^ left)) (digits left a))
+    rw e (begins_with_start (digits size (a / 2 ^ left)) (digits left a))
 
 back : (size left a n : ℕ) → begins_with (digits size (a / 2 ^ left) ++ digits left a) (digits size n) ≡ true → eqb (a / 2 ^ left % 2 ^ size) (n % 2 ^ size) ≡ true
 back size left a n h =
-    let front = front_begins (digits size (a / 2 ^ left) ++ digits left a) (digits size n) h in
+    let front = start_begins (digits size (a / 2 ^ left) ++ digits left a) (digits size n) h in
     let size_is : length (digits size n) ≡ length (digits size (a / 2 ^ left)) = length-digits size n ∙ sym (length-digits size (a / 2 ^ left)) in
     let e : digits size (a / 2 ^ left) ≡ digits size n = sym (take-append_seam (digits size (a / 2 ^ left)) (digits left a)) ∙ (rw size_is at front) in
     eq-eqb (a / 2 ^ left % 2 ^ size) (n % 2 ^ size) (sym (number_of-mod size (a / 2 ^ left)) ∙ ap number_of e ∙ number_of-mod size n)

@@ -1,9 +1,9 @@
 -- Worked examples of the definitions, computed by the check.
 use Rattle.std.proofs.Common.{◌≡◌, ℕ, zero, suc, ◌+◌, ◌-◌, ◌*◌, ◌^◌, Bool, true, false, List, [], ◌∷◌, get_or, replicate, refl, ap, sym, ◌∙◌, subst, arith}
 use Rattle.bit_code.specs.Coder.{digits, low_digits, file_bits, number_of, sizes, values_of, spelling, spelling_by}
-use Rattle.bit_code.specs.Reading.{read_front, read_by, digits_at}
+use Rattle.bit_code.specs.Reading.{read_value, read_by, digits_at}
 use Rattle.asmap_vm.specs.Code.{Tree, Return, Jump, Match, Default, code, IsSane, IsSaneWithin, IsSaneFile, begins_with, meaning, asn_of}
-use Rattle.asmap_vm.specs.TreeOf.{tree_of, tree_front}
+use Rattle.asmap_vm.specs.TreeOf.{tree_of, read_tree}
 use Rattle.asmap_vm.proofs.TreeLaws.{tree_of-file}
 
 -- the shortest file: every address has the number 1
@@ -63,22 +63,22 @@ no_return_zero bytes h = omega (arith, h.sane.low)
 
 -- the empty file
 empty_file : IsRefused []
-unfolding tree_of tree_front file_bits
+unfolding tree_of read_tree file_bits
 empty_file = refused_by [] (Return 0) refl (no_return_zero [])
 
 -- two bytes, of which a return wants one bit more
 two_bytes : IsRefused (0 ∷ 0 ∷ [])
-unfolding tree_of tree_front file_bits low_digits read_front read_by digits_at sizes
+unfolding tree_of read_tree file_bits low_digits read_value read_by digits_at sizes
 two_bytes = refused_by (0 ∷ 0 ∷ []) (Return 0) refl (no_return_zero (0 ∷ 0 ∷ []))
 
 -- padding with a bit that is set
 set_padding : IsRefused (0 ∷ 0 ∷ 128 ∷ [])
-unfolding tree_of tree_front file_bits low_digits read_front read_by digits_at sizes number_of code spelling spelling_by digits
+unfolding tree_of read_tree file_bits low_digits read_value read_by digits_at sizes number_of code spelling spelling_by digits
 set_padding = refused_by (0 ∷ 0 ∷ 128 ∷ []) (Return 1) refl (λ h. let e : true ≡ false = ap (λ bits. get_or bits 23 true) h.file.spelled in cc)
 
 -- padding of a whole byte
 long_padding : IsRefused (0 ∷ 0 ∷ 0 ∷ 0 ∷ [])
-unfolding tree_of tree_front file_bits low_digits read_front read_by digits_at sizes number_of code spelling spelling_by digits
+unfolding tree_of read_tree file_bits low_digits read_value read_by digits_at sizes number_of code spelling spelling_by digits
 long_padding = refused_by (0 ∷ 0 ∷ 0 ∷ 0 ∷ []) (Return 1) refl (λ h. omega (arith, h.file.padded))
 
 -- a match of one bit after a match of one bit

@@ -1,12 +1,12 @@
 -- The tree of a sane file is the one whose file it is.
 use Rattle.std.proofs.Common.{◌≡◌, ℕ, zero, suc, ◌-◌, ◌<◌, ◌≤◌, Bool, true, false, List, [], ◌∷◌, ◌++◌, length, replicate, Some, refl, ap, ◌∙◌, arith, append_assoc, length-append}
 use Rattle.bit_code.specs.Coder.{number_of, digits, spelling, spelling_by, sizes, file_bits, HasValue}
-use Rattle.bit_code.specs.Reading.{read_front}
+use Rattle.bit_code.specs.Reading.{read_value}
 use Rattle.bit_code.specs.declared.coder.Coder.{Coder}
 use Rattle.bit_code.specs.declared.coder.Coder.TheVariants as coders
-use Rattle.bit_code.specs.ReadingLaws.{read_front-again}
+use Rattle.bit_code.specs.ReadingLaws.{read_value-again}
 use Rattle.asmap_vm.specs.Code.{Tree, Return, Jump, Match, Default, code, return_kind, jump_kind, match_kind, default_kind, IsSaneWithin, IsSaneFile}
-use Rattle.asmap_vm.specs.TreeOf.{tree_front, tree_read, tree_of}
+use Rattle.asmap_vm.specs.TreeOf.{read_tree, tree_read, tree_of}
 use Rattle.asmap_vm.proofs.MatchLaws.{match_value, match_bits-wanted}
 
 return_bits : spelling coders.Kind return_kind ≡ false ∷ []
@@ -26,8 +26,8 @@ unfolding spelling spelling_by sizes digits
 default_bits = refl
 
 -- a spelling is read again
-again : (coder : Coder) (n : ℕ) (rest : List Bool) → HasValue coder n → read_front coder (spelling coder n ++ rest) ≡ Some (n, rest)
-again coder n rest value = read_front-again coder n (spelling coder n ++ rest) rest (record { value = value; spelled = refl })
+again : (coder : Coder) (n : ℕ) (rest : List Bool) → HasValue coder n → read_value coder (spelling coder n ++ rest) ≡ Some (n, rest)
+again coder n rest value = read_value-again coder n (spelling coder n ++ rest) rest (record { value = value; spelled = refl })
 
 return_code : (n : ℕ) (rest : List Bool) → code (Return n) ++ rest ≡ false ∷ (spelling coders.Asn n ++ rest)
 unfolding code
@@ -86,26 +86,26 @@ default_long n t =
     omega arith
 
 -- the code of a sane tree is read again, whatever follows it
-pub tree_front-again : (t : Tree) (left depth : ℕ) (rest : List Bool) → IsSaneWithin left t → length (code t) ≤ depth → tree_front depth (code t ++ rest) ≡ Some (t, rest)
-unfolding tree_front IsSaneWithin
-tree_front-again (Return n) left zero rest sane h = absurd (omega (arith, return_long n))
-tree_front-again (Return n) left (suc depth) rest sane h =
+pub read_tree-again : (t : Tree) (left depth : ℕ) (rest : List Bool) → IsSaneWithin left t → length (code t) ≤ depth → read_tree depth (code t ++ rest) ≡ Some (t, rest)
+unfolding read_tree IsSaneWithin
+read_tree-again (Return n) left zero rest sane h = absurd (omega (arith, return_long n))
+read_tree-again (Return n) left (suc depth) rest sane h =
     rw (return_code n rest, again coders.Asn n rest sane) refl
-tree_front-again (Jump l r) left zero rest sane h = absurd (omega (arith, (jump_long l r).left))
-tree_front-again (Jump l r) left (suc depth) rest sane h =
+read_tree-again (Jump l r) left zero rest sane h = absurd (omega (arith, (jump_long l r).left))
+read_tree-again (Jump l r) left (suc depth) rest sane h =
     let long = jump_long l r in
-    let left_part = tree_front-again l (left - 1) depth (code r ++ rest) sane.2 (omega (arith, long.left)) in
-    let right_part = tree_front-again r (left - 1) depth rest sane.3 (omega (arith, long.right)) in
+    let left_part = read_tree-again l (left - 1) depth (code r ++ rest) sane.2 (omega (arith, long.left)) in
+    let right_part = read_tree-again r (left - 1) depth rest sane.3 (omega (arith, long.right)) in
     rw (jump_code l r rest, again coders.Jump (length (code l)) (code l ++ (code r ++ rest)) sane.1, left_part, right_part) refl
-tree_front-again (Match wanted t) left zero rest sane h = absurd (omega (arith, match_long wanted t))
-tree_front-again (Match wanted t) left (suc depth) rest sane h =
+read_tree-again (Match wanted t) left zero rest sane h = absurd (omega (arith, match_long wanted t))
+read_tree-again (Match wanted t) left (suc depth) rest sane h =
     let value = match_value wanted sane.0.some sane.0.most in
-    let next = tree_front-again t (left - length wanted) depth rest sane.2 (omega (arith, match_long wanted t)) in
+    let next = read_tree-again t (left - length wanted) depth rest sane.2 (omega (arith, match_long wanted t)) in
     let bits = match_bits-wanted wanted sane.0.most in
     rw (match_code wanted t rest, again coders.Match (number_of (true ∷ wanted)) (code t ++ rest) value, next, bits) refl
-tree_front-again (Default n t) left zero rest sane h = absurd (omega (arith, default_long n t))
-tree_front-again (Default n t) left (suc depth) rest sane h =
-    let next = tree_front-again t left depth rest sane.2 (omega (arith, default_long n t)) in
+read_tree-again (Default n t) left zero rest sane h = absurd (omega (arith, default_long n t))
+read_tree-again (Default n t) left (suc depth) rest sane h =
+    let next = read_tree-again t left depth rest sane.2 (omega (arith, default_long n t)) in
     rw (default_code n t rest, again coders.Asn n (code t ++ rest) sane.0, next) refl
 
 -- the tree of a sane file is the tree whose file it is
@@ -114,6 +114,6 @@ unfolding tree_of
 tree_of-file t bytes h =
     let zeros = replicate (length (file_bits bytes) - length (code t)) false in
     let long : length (code t) ≤ length (file_bits bytes) = omega (arith, ap length h.file.spelled, length-append (code t) zeros) in
-    let read = tree_front-again t 128 (length (file_bits bytes)) zeros h.sane long in
-    let whole : tree_front (length (file_bits bytes)) (file_bits bytes) ≡ Some (t, zeros) = ap (tree_front (length (file_bits bytes))) h.file.spelled ∙ read in
+    let read = read_tree-again t 128 (length (file_bits bytes)) zeros h.sane long in
+    let whole : read_tree (length (file_bits bytes)) (file_bits bytes) ≡ Some (t, zeros) = ap (read_tree (length (file_bits bytes))) h.file.spelled ∙ read in
     ap tree_read whole

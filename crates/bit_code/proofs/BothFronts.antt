@@ -6,17 +6,17 @@ use Rattle.bit_code.specs.declared.coder.Coder.{Coder}
 use Rattle.bit_code.specs.declared.coder.Coder.TheVariants as coders
 use Rattle.bit_code.specs.Coder.{low_digits, spelling, Spells, SpellsBoth, coder_after}
 use Rattle.bit_code.specs.Inside.{IsWindow, longest}
-use Rattle.bit_code.specs.Reading.{read_front}
+use Rattle.bit_code.specs.Reading.{read_value}
 use Rattle.bit_code.proofs.LowDigits.{length-low_digits, low_digits_split}
-use Rattle.bit_code.specs.ReadingLaws.{read_front-again, read_front-takes}
+use Rattle.bit_code.specs.ReadingLaws.{read_value-again, read_value-takes}
 use Rattle.bit_code.proofs.Fronts.{shorter, shorter_rest, past_the_end, more_after}
 
 -- with more bits after them, the bits begin with this kind and this number, which this many bits spell
 pub record BeginsWithBoth (kind n kind_len len : ℕ) (bits : List Bool) : Type 0 where
   pub after : List Bool
   pub room : kind_len + len ≤ length (bits ++ after)
-  pub kind_read : read_front coders.Kind (bits ++ after) ≡ Some (kind, drop kind_len (bits ++ after))
-  pub read : read_front (coder_after kind) (drop kind_len (bits ++ after)) ≡ Some (n, drop (kind_len + len) (bits ++ after))
+  pub kind_read : read_value coders.Kind (bits ++ after) ≡ Some (kind, drop kind_len (bits ++ after))
+  pub read : read_value (coder_after kind) (drop kind_len (bits ++ after)) ≡ Some (n, drop (kind_len + len) (bits ++ after))
 
 same_read : {A : Type 0} (o : Option (ℕ × A)) (n m : ℕ) (xs ys : A) → o ≡ Some (n, xs) → o ≡ Some (m, ys) → (n ≡ m) × (xs ≡ ys)
 same_read {A} o n m xs ys e h =
@@ -30,8 +30,8 @@ module _ (kind n kind_len len : ℕ) (bits : List Bool) (b : BeginsWithBoth kind
 
   pub found_both : kind_len + len ≤ length bits → SpellsBoth kind n bits (drop (kind_len + len) bits)
   found_both h =
-      let kind_taken = read_front-takes coders.Kind kind whole (drop kind_len whole) b.kind_read in
-      let taken = read_front-takes (coder_after kind) n (drop kind_len whole) (drop (kind_len + len) whole) b.read in
+      let kind_taken = read_value-takes coders.Kind kind whole (drop kind_len whole) b.kind_read in
+      let taken = read_value-takes (coder_after kind) n (drop kind_len whole) (drop (kind_len + len) whole) b.read in
       let first = spelling coders.Kind kind in
       let second = spelling (coder_after kind) n in
       let e : whole ≡ first ++ second ++ drop (kind_len + len) whole = kind_taken.spelled ∙ ap (λ xs. first ++ xs) taken.spelled ∙ sym (append_assoc first second (drop (kind_len + len) whole)) in
@@ -45,10 +45,10 @@ module _ (kind n kind_len len : ℕ) (bits : List Bool) (b : BeginsWithBoth kind
   other k m rest h =
       let second = spelling (coder_after k) m in
       let kind_more = more_after coders.Kind k bits (second ++ rest) b.after (record { value = h.kind_value; spelled = h.spelled }) in
-      let kinds = same_read (read_front coders.Kind whole) kind k (drop kind_len whole) (second ++ rest ++ b.after) b.kind_read (read_front-again coders.Kind k whole (second ++ rest ++ b.after) kind_more) in
+      let kinds = same_read (read_value coders.Kind whole) kind k (drop kind_len whole) (second ++ rest ++ b.after) b.kind_read (read_value-again coders.Kind k whole (second ++ rest ++ b.after) kind_more) in
       let more : Spells (coder_after k) m (drop kind_len whole) (rest ++ b.after) = record { value = h.value; spelled = kinds.1 ∙ append_assoc second rest b.after } in
-      let again = read_front-again (coder_after k) m (drop kind_len whole) (rest ++ b.after) more in
-      let numbers = same_read (read_front (coder_after kind) (drop kind_len whole)) n m (drop (kind_len + len) whole) (rest ++ b.after) b.read (ap (λ j. read_front (coder_after j) (drop kind_len whole)) kinds.0 ∙ again) in
+      let again = read_value-again (coder_after k) m (drop kind_len whole) (rest ++ b.after) more in
+      let numbers = same_read (read_value (coder_after kind) (drop kind_len whole)) n m (drop (kind_len + len) whole) (rest ++ b.after) b.read (ap (λ j. read_value (coder_after j) (drop kind_len whole)) kinds.0 ∙ again) in
       (kinds.0, numbers.0, numbers.1)
 
   pub only_both : kind_len + len ≤ length bits → (k m : ℕ) (rest : List Bool) → SpellsBoth k m bits rest → (kind ≡ k) × (n ≡ m) × (drop (kind_len + len) bits ≡ rest)
@@ -68,12 +68,12 @@ module _ (kind n kind_len len : ℕ) (bits : List Bool) (at window : ℕ) (w : I
   abbrev shown : List Bool
   shown = low_digits 57 window ++ w.more
 
-  kind_shown : ((more : List Bool) → read_front coders.Kind (low_digits 3 window ++ more) ≡ Some (kind, drop kind_len (low_digits 3 window ++ more))) → read_front coders.Kind shown ≡ Some (kind, drop kind_len shown)
+  kind_shown : ((more : List Bool) → read_value coders.Kind (low_digits 3 window ++ more) ≡ Some (kind, drop kind_len (low_digits 3 window ++ more))) → read_value coders.Kind shown ≡ Some (kind, drop kind_len shown)
   kind_shown read =
       let split : shown ≡ low_digits 3 window ++ (low_digits 54 (window / 2 ^ 3) ++ w.more) = ap (λ xs. xs ++ w.more) (low_digits_split 3 54 window) ∙ append_assoc (low_digits 3 window) (low_digits 54 (window / 2 ^ 3)) w.more in
       rw split (read (low_digits 54 (window / 2 ^ 3) ++ w.more))
 
-  number_shown : (coder : Coder) → kind_len + longest coder ≤ 57 → ((more : List Bool) → read_front coder (low_digits (longest coder) (window / 2 ^ kind_len) ++ more) ≡ Some (n, drop len (low_digits (longest coder) (window / 2 ^ kind_len) ++ more))) → read_front coder (drop kind_len shown) ≡ Some (n, drop (kind_len + len) shown)
+  number_shown : (coder : Coder) → kind_len + longest coder ≤ 57 → ((more : List Bool) → read_value coder (low_digits (longest coder) (window / 2 ^ kind_len) ++ more) ≡ Some (n, drop len (low_digits (longest coder) (window / 2 ^ kind_len) ++ more))) → read_value coder (drop kind_len shown) ≡ Some (n, drop (kind_len + len) shown)
   number_shown coder fits read =
       let long = longest coder in
       let k = 57 - kind_len - long in
@@ -85,9 +85,9 @@ module _ (kind n kind_len len : ℕ) (bits : List Bool) (at window : ℕ) (w : I
       let parts : shown ≡ low ++ (mid ++ (top ++ w.more)) = ap (λ xs. xs ++ w.more) digits ∙ simp append_assoc in
       let from : drop kind_len shown ≡ mid ++ (top ++ w.more) = ap (drop kind_len) parts ∙ (rw length-low_digits at (drop-append_seam low (mid ++ (top ++ w.more)))) in
       let rest : drop len (mid ++ (top ++ w.more)) ≡ drop (kind_len + len) shown = ap (drop len) (sym from) ∙ drop-drop len kind_len shown in
-      ap (read_front coder) from ∙ read (top ++ w.more) ∙ ap (λ xs. Some (n, xs)) rest
+      ap (read_value coder) from ∙ read (top ++ w.more) ∙ ap (λ xs. Some (n, xs)) rest
 
-  pub window_both : (coder : Coder) → coder ≡ coder_after kind → kind ≤ 3 → kind_len ≤ 3 → kind_len ≤ kind + 1 → len ≤ longest coder → ((more : List Bool) → read_front coders.Kind (low_digits 3 window ++ more) ≡ Some (kind, drop kind_len (low_digits 3 window ++ more))) → ((more : List Bool) → read_front coder (low_digits (longest coder) (window / 2 ^ kind_len) ++ more) ≡ Some (n, drop len (low_digits (longest coder) (window / 2 ^ kind_len) ++ more))) → BeginsWithBoth kind n kind_len len (drop at bits)
+  pub window_both : (coder : Coder) → coder ≡ coder_after kind → kind ≤ 3 → kind_len ≤ 3 → kind_len ≤ kind + 1 → len ≤ longest coder → ((more : List Bool) → read_value coders.Kind (low_digits 3 window ++ more) ≡ Some (kind, drop kind_len (low_digits 3 window ++ more))) → ((more : List Bool) → read_value coder (low_digits (longest coder) (window / 2 ^ kind_len) ++ more) ≡ Some (n, drop len (low_digits (longest coder) (window / 2 ^ kind_len) ++ more))) → BeginsWithBoth kind n kind_len len (drop at bits)
   window_both coder e top few few_more short kind_read read =
       let fits : kind_len + longest coder ≤ 57 = rw e (both_fit kind kind_len top few few_more) in
       let room : kind_len + len ≤ length shown = omega (arith, fits, short, length-append (low_digits 57 window) w.more, length-low_digits 57 window) in

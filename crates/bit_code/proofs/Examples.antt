@@ -2,7 +2,7 @@
 use Rattle.std.proofs.Common.{◌≡◌, ◌+◌, true, false, [], ◌∷◌, Some, None, refl}
 use Rattle.bit_code.specs.declared.coder.Coder.TheVariants.{Kind, Asn, Match, Jump}
 use Rattle.bit_code.specs.Coder.{digits, low_digits, file_bits, least, sizes, values_of, spelling, spelling_by, number_of}
-use Rattle.bit_code.specs.Reading.{read_front, read_by, digits_at}
+use Rattle.bit_code.specs.Reading.{read_value, read_by, digits_at}
 
 -- the first value past those of each coder
 kind_end : least Kind + values_of (sizes Kind) ≡ 4
@@ -41,13 +41,13 @@ unfolding spelling spelling_by sizes digits
 jump_forty_nine = refl
 
 -- and the way back, with a bit after it
-jump_read : read_front Jump (true ∷ false ∷ false ∷ false ∷ false ∷ false ∷ false ∷ true ∷ true ∷ []) ≡ Some (50, true ∷ [])
-unfolding read_front read_by digits_at sizes number_of
+jump_read : read_value Jump (true ∷ false ∷ false ∷ false ∷ false ∷ false ∷ false ∷ true ∷ true ∷ []) ≡ Some (50, true ∷ [])
+unfolding read_value read_by digits_at sizes number_of
 jump_read = refl
 
 -- a spelling that runs past the end
-jump_cut : read_front Jump (true ∷ false ∷ false ∷ false ∷ []) ≡ None
-unfolding read_front read_by digits_at sizes
+jump_cut : read_value Jump (true ∷ false ∷ false ∷ false ∷ []) ≡ None
+unfolding read_value read_by digits_at sizes
 jump_cut = refl
 
 -- the low bit of a byte comes first

@@ -5,7 +5,7 @@ use Rattle.std.proofs.Math.Seq.{take-append_seam, drop-append_seam, drop-append-
 use Rattle.std.proofs.lemmas.Bool.{le-ltb}
 use Rattle.bit_code.specs.Coder.{low_digits, number_of, has_bit, sizes}
 use Rattle.bit_code.specs.Inside.{class_head, IsClass}
-use Rattle.bit_code.specs.Reading.{digits_at, read_by, after_values, read_front}
+use Rattle.bit_code.specs.Reading.{digits_at, read_by, after_values, read_value}
 use Rattle.bit_code.specs.declared.coder.Coder.TheVariants as coders
 use Rattle.bit_code.proofs.LowDigits.{length-low_digits, low_digits_split}
 use Rattle.bit_code.proofs.RisingClasses.{read_class, low_digits_head}
@@ -63,8 +63,8 @@ module _ (n class last first : ℕ) (more : List Bool) (c : IsClass n class last
 abbrev pub kind_len : ℕ → ℕ
 kind_len kind = min (kind + 1) 3
 
-read_kind : (kind : ℕ) (a b c : Bool) (more : List Bool) → kind ≤ 3 → (0 < kind → a ≡ true) → (1 < kind → b ≡ true) → (2 < kind → c ≡ true) → (kind ≡ 0 → a ≡ false) → (kind ≡ 1 → b ≡ false) → (kind ≡ 2 → c ≡ false) → read_front coders.Kind (a ∷ b ∷ c ∷ more) ≡ Some (kind, drop (kind_len kind) (a ∷ b ∷ c ∷ more))
-unfolding read_front read_by digits_at sizes number_of
+read_kind : (kind : ℕ) (a b c : Bool) (more : List Bool) → kind ≤ 3 → (0 < kind → a ≡ true) → (1 < kind → b ≡ true) → (2 < kind → c ≡ true) → (kind ≡ 0 → a ≡ false) → (kind ≡ 1 → b ≡ false) → (kind ≡ 2 → c ≡ false) → read_value coders.Kind (a ∷ b ∷ c ∷ more) ≡ Some (kind, drop (kind_len kind) (a ∷ b ∷ c ∷ more))
+unfolding read_value read_by digits_at sizes number_of
 read_kind zero a b c more top one two three none first second =
     rw (none refl) (ap (after_values 0) (digits_at_front 0 [] (b ∷ c ∷ more) refl))
 read_kind (suc zero) a b c more top one two three none first second =
@@ -75,7 +75,7 @@ read_kind (suc (suc (suc zero))) a b c more top one two three none first second 
     rw (one (omega arith), two (omega arith), three (omega arith)) (ap (λ r. after_values 0 (after_values 1 (after_values 1 r))) (digits_at_front 1 (true ∷ []) more refl))
 read_kind (suc (suc (suc (suc kind)))) a b c more top one two three none first second = absurd (omega arith)
 
-pub kind_ahead : (n kind : ℕ) (more : List Bool) → IsClass n kind 3 → read_front coders.Kind (low_digits 3 n ++ more) ≡ Some (kind, drop (kind_len kind) (low_digits 3 n ++ more))
+pub kind_ahead : (n kind : ℕ) (more : List Bool) → IsClass n kind 3 → read_value coders.Kind (low_digits 3 n ++ more) ≡ Some (kind, drop (kind_len kind) (low_digits 3 n ++ more))
 unfolding low_digits
 kind_ahead n kind more r =
     read_kind kind (has_bit n 0) (has_bit n 1) (has_bit n 2) more r.within (λ h. r.ones 0 h) (λ h. r.ones 1 h) (λ h. r.ones 2 h) (λ e. rw e at r.stop (omega arith)) (λ e. rw e at r.stop (omega arith)) (λ e. rw e at r.stop (omega arith))

@@ -5,9 +5,9 @@ use Rattle.bit_code.specs.declared.coder.Coder.{Coder}
 use Rattle.bit_code.specs.declared.coder.Coder.TheVariants as coders
 use Rattle.bit_code.specs.Coder.{low_digits, spelling, Spells}
 use Rattle.bit_code.specs.Inside.{IsWindow, longest}
-use Rattle.bit_code.specs.Reading.{read_front}
+use Rattle.bit_code.specs.Reading.{read_value}
 use Rattle.bit_code.proofs.LowDigits.{length-low_digits, low_digits_split}
-use Rattle.bit_code.specs.ReadingLaws.{read_front-again, read_front-takes}
+use Rattle.bit_code.specs.ReadingLaws.{read_value-again, read_value-takes}
 
 -- the same spelling with fewer bits after it
 pub shorter : (bits after word : List Bool) (len : ℕ) → bits ++ after ≡ word ++ drop len (bits ++ after) → len ≤ length bits → bits ≡ word ++ drop len bits
@@ -31,18 +31,18 @@ more_after coder n bits rest after h =
 pub record BeginsWith (coder : Coder) (value len : ℕ) (bits : List Bool) : Type 0 where
   pub after : List Bool
   pub room : len ≤ length (bits ++ after)
-  pub read : read_front coder (bits ++ after) ≡ Some (value, drop len (bits ++ after))
+  pub read : read_value coder (bits ++ after) ≡ Some (value, drop len (bits ++ after))
 
 module _ (coder : Coder) (value len : ℕ) (bits : List Bool) (b : BeginsWith coder value len bits) where
   taken : Spells coder value (bits ++ b.after) (drop len (bits ++ b.after))
-  taken = read_front-takes coder value (bits ++ b.after) (drop len (bits ++ b.after)) b.read
+  taken = read_value-takes coder value (bits ++ b.after) (drop len (bits ++ b.after)) b.read
 
   pub found : len ≤ length bits → Spells coder value bits (drop len bits)
   found h = record { value = taken.value; spelled = shorter bits b.after (spelling coder value) len taken.spelled h }
 
   other : (n : ℕ) (rest : List Bool) → Spells coder n bits rest → (value ≡ n) × (drop len (bits ++ b.after) ≡ rest ++ b.after)
   other n rest h =
-      let again = read_front-again coder n (bits ++ b.after) (rest ++ b.after) (more_after coder n bits rest b.after h) in
+      let again = read_value-again coder n (bits ++ b.after) (rest ++ b.after) (more_after coder n bits rest b.after h) in
       let same : ◌≡◌ {A = Option (ℕ × List Bool)} (Some (value, drop len (bits ++ b.after))) (Some (n, rest ++ b.after)) = sym b.read ∙ again in
       let pair : ◌≡◌ {A = ℕ × List Bool} (value, drop len (bits ++ b.after)) (n, rest ++ b.after) = cc in
       (ap (λ p. p.0) pair, ap (λ p. p.1) pair)
@@ -54,7 +54,7 @@ module _ (coder : Coder) (value len : ℕ) (bits : List Bool) (b : BeginsWith co
   none past n rest h = past_the_end bits b.after rest len (other n rest h).1 b.room past
 
 -- a window shows what the bits begin with
-pub window_begins : (coder : Coder) (value len : ℕ) (bits : List Bool) (at window : ℕ) → IsWindow bits at window → longest coder ≤ 57 → len ≤ longest coder → ((more : List Bool) → read_front coder (low_digits (longest coder) window ++ more) ≡ Some (value, drop len (low_digits (longest coder) window ++ more))) → BeginsWith coder value len (drop at bits)
+pub window_begins : (coder : Coder) (value len : ℕ) (bits : List Bool) (at window : ℕ) → IsWindow bits at window → longest coder ≤ 57 → len ≤ longest coder → ((more : List Bool) → read_value coder (low_digits (longest coder) window ++ more) ≡ Some (value, drop len (low_digits (longest coder) window ++ more))) → BeginsWith coder value len (drop at bits)
 window_begins coder value len bits at window w fits short read =
     let long = longest coder in
     let e : 57 ≡ long + (57 - long) = omega arith in

@@ -22,5 +22,5 @@ read_by (size ∷ next ∷ more) (false ∷ bits) = digits_at size bits
 read_by (size ∷ next ∷ more) (true ∷ bits) = after_values (2 ^ size) (read_by (next ∷ more) bits)
 
 -- the value of the coder that the bits begin with, and the bits after it
-unfoldable pub read_front : Coder → List Bool → Option (ℕ × List Bool)
-read_front coder bits = after_values (least coder) (read_by (sizes coder) bits)
+unfoldable pub read_value : Coder → List Bool → Option (ℕ × List Bool)
+read_value coder bits = after_values (least coder) (read_by (sizes coder) bits)

@@ -6,7 +6,7 @@ use Rattle.std.proofs.lemmas.List.Sums.{sum_by-cons}
 use Rattle.std.proofs.lemmas.Bool.{cases_lt, lt-ltb, le-ltb, ltb-false}
 use Rattle.bit_code.specs.declared.coder.Coder.{Coder}
 use Rattle.bit_code.specs.Coder.{digits, number_of, values_of, spelling_by, spelling, sizes, least, Spells}
-use Rattle.bit_code.specs.Reading.{digits_at, read_by, read_front, after_values}
+use Rattle.bit_code.specs.Reading.{digits_at, read_by, read_value, after_values}
 use Rattle.bit_code.specs.DigitLaws.{length-digits, number_of-lt, digits-number_of, number_of-digits}
 
 -- the bits begin with the spelling of number n over the classes, and then go on with the rest
@@ -97,16 +97,16 @@ read_by-takes (size ∷ next ∷ more) n (true ∷ bits) rest h =
     }
 
 -- the value that is spelled is read again, whatever follows it
-pub read_front-again : (coder : Coder) (n : ℕ) (bits rest : List Bool) → Spells coder n bits rest → read_front coder bits ≡ Some (n, rest)
-unfolding read_front spelling
-read_front-again coder n bits rest h =
+pub read_value-again : (coder : Coder) (n : ℕ) (bits rest : List Bool) → Spells coder n bits rest → read_value coder bits ≡ Some (n, rest)
+unfolding read_value spelling
+read_value-again coder n bits rest h =
     let e : least coder + (n - least coder) ≡ n = omega (arith, h.value.low) in
     rw (h.spelled, read_by-again (sizes coder) (n - least coder) rest (omega (arith, h.value.low, h.value.high))) (ap (λ m. Some (m, rest)) e)
 
 -- the value that is read is spelled there
-pub read_front-takes : (coder : Coder) (n : ℕ) (bits rest : List Bool) → read_front coder bits ≡ Some (n, rest) → Spells coder n bits rest
-unfolding read_front spelling
-read_front-takes coder n bits rest h =
+pub read_value-takes : (coder : Coder) (n : ℕ) (bits rest : List Bool) → read_value coder bits ≡ Some (n, rest) → Spells coder n bits rest
+unfolding read_value spelling
+read_value-takes coder n bits rest h =
     let a = after_some (least coder) n rest (read_by (sizes coder) bits) h in
     let d = read_by-takes (sizes coder) a.0 bits rest a.1 in
     let less : n - least coder ≡ a.0 = omega (arith, a.2) in

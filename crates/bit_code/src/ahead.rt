@@ -1,7 +1,7 @@
 ghost use Rattle.std.specs.Prelude.{◌≡◌, ◌+◌, ◌-◌, ◌*◌, ◌^◌, ◌<◌, ◌≤◌, Bool, List, ◌++◌, Some, drop, length};
 ghost use Rattle.std.specs.List.{range_with_len};
 ghost use Rattle.bit_code.specs.Coder.{low_digits, coder_after};
-ghost use Rattle.bit_code.specs.Reading.{read_front, read_by, after_values};
+ghost use Rattle.bit_code.specs.Reading.{read_value, read_by, after_values};
 ghost use Rattle.bit_code.specs.Inside.{longest, class_head, IsClass};
 
 use crate::classes::{ASN, Classes, JUMP, MATCH, classes_after};
@@ -23,7 +23,7 @@ pub(crate) fn number_ahead(window: u64, coder: Coder) -> Number
     ensures least { 0 < result.len }
     ensures most { result.len ≤ longest coder }
     ensures value { (more : List Bool) → let bits = low_digits (longest coder) window ++ more in
-        read_front coder bits ≡ Some (result.value, drop result.len bits) }
+        read_value coder bits ≡ Some (result.value, drop result.len bits) }
 {
     match coder {
         Coder::Kind => kind_ahead(window),
@@ -41,7 +41,7 @@ pub(crate) fn number_after(window: u64, kind: u32) -> Number
     ensures most { result.len ≤ longest (coder_after kind) }
     ensures value { (more : List Bool) → let coder = coder_after kind in
         let bits = low_digits (longest coder) window ++ more in
-        read_front coder bits ≡ Some (result.value, drop result.len bits) }
+        read_value coder bits ≡ Some (result.value, drop result.len bits) }
 {
     rising_ahead(window, classes_after(kind))
 }
@@ -54,7 +54,7 @@ pub(crate) fn kind_ahead(window: u64) -> Number
     ensures kind { result.len ≤ result.value + 1 }
     ensures top { result.value ≤ 3 }
     ensures value { (more : List Bool) → let bits = low_digits 3 window ++ more in
-        read_front Coder.Kind bits ≡ Some (result.value, drop result.len bits) }
+        read_value Coder.Kind bits ≡ Some (result.value, drop result.len bits) }
 {
     let kind = class_ahead(window, 3);
     Number {
