@@ -14,8 +14,8 @@ use Rattle.asmap_compile.proofs.Bits.{begins_cut, begins_self, filter_same, same
 use Rattle.asmap_compile.proofs.RowLaws.{AreRows, path_long, first_bits_of, first_below}
 
 -- the first bits of an address, as bits
-pub address_front : (len a : ℕ) → len ≤ 128 → digits 128 a ≡ digits len (first_bits len a) ++ digits (128 - len) a
-address_front len a short =
+pub address_start : (len a : ℕ) → len ≤ 128 → digits 128 a ≡ digits len (first_bits len a) ++ digits (128 - len) a
+address_start len a short =
     let e : len + (128 - len) ≡ 128 = omega arith in
     ap (λ n. digits n a) (sym e) ∙ digits_above len (128 - len) a
 
@@ -23,14 +23,14 @@ there : (row : Row) (a : ℕ) → IsRow row → covers row a ≡ true → begins
 unfolding path
 there row a is h =
     let same = eqb-true (first_bits row.len a) (first_bits row.len row.bits) h in
-    rw (address_front row.len a is.len, same) (begins_self (digits row.len (first_bits row.len row.bits)) (digits (128 - row.len) a))
+    rw (address_start row.len a is.len, same) (begins_self (digits row.len (first_bits row.len row.bits)) (digits (128 - row.len) a))
 
 back : (row : Row) (a : ℕ) → IsRow row → a < 2 ^ 128 → begins_with (digits 128 a) (path row) ≡ true → covers row a ≡ true
 back row a is small h =
     let c = begins_cut (digits 128 a) (path row) h in
-    let front = digits row.len (first_bits row.len a) in
-    let long : length front ≡ row.len = length-digits row.len (first_bits row.len a) in
-    let mine : take row.len (digits 128 a) ≡ front = ap (take row.len) (address_front row.len a is.len) ∙ take_at front (digits (128 - row.len) a) row.len long in
+    let start = digits row.len (first_bits row.len a) in
+    let long : length start ≡ row.len = length-digits row.len (first_bits row.len a) in
+    let mine : take row.len (digits 128 a) ≡ start = ap (take row.len) (address_start row.len a is.len) ∙ take_at start (digits (128 - row.len) a) row.len long in
     let its : take row.len (digits 128 a) ≡ path row = ap (take row.len) c.is ∙ take_at (path row) c.rest row.len (path_long row) in
     let same : first_bits row.len a ≡ first_bits row.len row.bits = sym (number_of-digits row.len (first_bits row.len a) (first_below row.len a is.len small)) ∙ ap number_of (sym mine ∙ its) ∙ first_bits_of row is in
     eq-eqb (first_bits row.len a) (first_bits row.len row.bits) same

@@ -10,7 +10,7 @@ use Rattle.asmap_vm.specs.Code.{begins_with}
 use Rattle.prefix_table.specs.declared.row.Row.{Row}
 use Rattle.prefix_table.specs.Rows.{path, longest, first_bits, covers, IsRow, IsTable, Precedes}
 use Rattle.asmap_compile.specs.Compiled.{number_at, shorter_than, stays}
-use Rattle.asmap_compile.proofs.Addresses.{covers_bits, address_front}
+use Rattle.asmap_compile.proofs.Addresses.{covers_bits, address_start}
 use Rattle.asmap_compile.proofs.Bits.{begins_from, begins_within, begins_more, false_true, filter_item, item_filter, filter_same, filter_none}
 use Rattle.prefix_table.proofs.BitLaws.{div-le-div}
 use Rattle.asmap_compile.proofs.OrderLaws.{prefix_first}
@@ -32,7 +32,7 @@ table_row rows is i d low = is.each i d low
 -- a row that covers a later one is shorter
 address_path : (b : Row) → IsRow b → digits 128 b.bits ≡ path b ++ digits (128 - b.len) b.bits
 unfolding path
-address_path b are = address_front b.len b.bits are.len
+address_path b are = address_start b.len b.bits are.len
 
 covers_path : (a b : Row) → IsRow a → IsRow b → covers a b.bits ≡ true → a.len ≤ b.len → begins_with (path b) (path a) ≡ true
 covers_path a b is are h low =

@@ -74,33 +74,33 @@ matches_some count [] t some = absurd (omega arith)
 matches_some count (b ∷ bits) t some = refl
 
 -- the first eight bits, or all if there are no more
-record IsCut (front back : List Bool) : Type 0 where
-  first : take 8 (front ++ back) ≡ front
-  rest : drop 8 (front ++ back) ≡ back
+record IsCut (start back : List Bool) : Type 0 where
+  first : take 8 (start ++ back) ≡ start
+  rest : drop 8 (start ++ back) ≡ back
 
-cut_at : (front back : List Bool) → (length front ≡ 8) ⊎ ((length back ≡ 0) × (length front ≤ 8)) → IsCut front back
-cut_at front back (inl eight) = record { first = take_at front back 8 eight; rest = drop_at front back 8 eight }
-cut_at front back (inr (none, few)) =
-    let whole : length (front ++ back) ≤ 8 = omega (arith, length-append front back) in
+cut_at : (start back : List Bool) → (length start ≡ 8) ⊎ ((length back ≡ 0) × (length start ≤ 8)) → IsCut start back
+cut_at start back (inl eight) = record { first = take_at start back 8 eight; rest = drop_at start back 8 eight }
+cut_at start back (inr (none, few)) =
+    let whole : length (start ++ back) ≤ 8 = omega (arith, length-append start back) in
     record {
-      first = take_all 8 (front ++ back) whole ∙ ap (λ xs. front ++ xs) (nil_from back none) ∙ append-nil front;
-      rest = drop_all 8 (front ++ back) whole ∙ sym (nil_from back none);
+      first = take_all 8 (start ++ back) whole ∙ ap (λ xs. start ++ xs) (nil_from back none) ∙ append-nil start;
+      rest = drop_all 8 (start ++ back) whole ∙ sym (nil_from back none);
     }
 
 -- the first match of the bits between two indexes, and then those of the others
 pub matches_first : (count bits from to end : ℕ) (t : Tree) → from < to → to ≤ 128 → end ≡ min to (from + 8) →
     matches (suc count) (bits_between bits from to) t ≡ Match (bits_between bits from end) (matches count (bits_between bits end to) t)
 matches_first count bits from to end t some top e =
-    let front = bits_between bits from end in
+    let start = bits_between bits from end in
     let back = bits_between bits end to in
     let split = between_split bits from end to (omega arith) (omega arith) top in
-    let front_long = between_long bits from end in
+    let start_long = between_long bits from end in
     let back_long = between_long bits end to in
-    let cut = cut_at front back (elim (cases_lt to (from + 8)) [ inl near ↦ inr (omega arith, omega arith) | inr far ↦ inl (omega arith) ]) in
+    let cut = cut_at start back (elim (cases_lt to (from + 8)) [ inl near ↦ inr (omega arith, omega arith) | inr far ↦ inl (omega arith) ]) in
     matches_some count (bits_between bits from to) t (omega (arith, between_long bits from to))
     ∙ ap (λ xs. Match (take 8 xs) (matches count (drop 8 xs) t)) split
-    ∙ ap (λ xs. Match xs (matches count (drop 8 (front ++ back)) t)) cut.first
-    ∙ ap (λ xs. Match front (matches count xs t)) cut.rest
+    ∙ ap (λ xs. Match xs (matches count (drop 8 (start ++ back)) t)) cut.first
+    ∙ ap (λ xs. Match start (matches count xs t)) cut.rest
 
 pub between_none : (bits at : ℕ) → bits_between bits at at ≡ []
 between_none bits at = nil_from (bits_between bits at at) (omega (arith, between_long bits at at))

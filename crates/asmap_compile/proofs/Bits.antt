@@ -33,8 +33,8 @@ pub begins_from : (a b s : List Bool) → a ≡ b ++ s → begins_with a b ≡ t
 begins_from a b s e = rw e (begins_self b s)
 
 -- the first bits of bits that a list begins with
-pub begins_front : (a b s : List Bool) → begins_with a (b ++ s) ≡ true → begins_with a b ≡ true
-begins_front a b s h =
+pub begins_start : (a b s : List Bool) → begins_with a (b ++ s) ≡ true → begins_with a b ≡ true
+begins_start a b s h =
     let f = begins_cut a (b ++ s) h in
     begins_from a b (s ++ f.rest) (f.is ∙ append_assoc b s f.rest)
 
@@ -72,8 +72,8 @@ sides_same w p side other h k =
 pub begins_within : (a s w : List Bool) → begins_with (a ++ s) w ≡ true → length w ≤ length a → begins_with a w ≡ true
 begins_within a s w h low =
     let f = begins_cut (a ++ s) w h in
-    let front : take (length w) a ≡ w = sym (take-append-le (length w) a s low) ∙ ap (take (length w)) f.is ∙ take_at w f.rest (length w) refl in
-    begins_from a w (drop (length w) a) (sym (take-append-drop (length w) a) ∙ ap (λ xs. xs ++ drop (length w) a) front)
+    let start : take (length w) a ≡ w = sym (take-append-le (length w) a s low) ∙ ap (take (length w)) f.is ∙ take_at w f.rest (length w) refl in
+    begins_from a w (drop (length w) a) (sym (take-append-drop (length w) a) ∙ ap (λ xs. xs ++ drop (length w) a) start)
 
 pub begins_more : (a s w : List Bool) → begins_with a w ≡ true → begins_with (a ++ s) w ≡ true
 begins_more a s w h =

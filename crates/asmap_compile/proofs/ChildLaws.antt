@@ -10,7 +10,7 @@ use Rattle.prefix_table.specs.Rows.{path}
 use Rattle.asmap_compile.specs.Compiled.{number_at, rows_kept, is_row, goes_on, Forked, onward, matches, under_default, tree_at}
 use Rattle.asmap_compile.specs.Inside.{bit_of, is_low, IsPart}
 use Rattle.asmap_compile.proofs.BetweenLaws.{between_long}
-use Rattle.asmap_compile.proofs.Bits.{begins_front, begins_long, same_tests, false_true, contains_head, filter_item, item_filter, filter_same, filter_twice, Passes}
+use Rattle.asmap_compile.proofs.Bits.{begins_start, begins_long, same_tests, false_true, contains_head, filter_item, item_filter, filter_same, filter_twice, Passes}
 use Rattle.asmap_compile.proofs.RowLaws.{path_long, table_rows, kept_rows, number_step, number_value}
 use Rattle.asmap_compile.proofs.SaneTrees.{number_stays, last, way_off, end_row, value_of, jump_value}
 use Rattle.asmap_compile.proofs.StopLaws.{Stops, way_of, stop_way, stop_after, way_unique, way_end, all_reach}
@@ -77,7 +77,7 @@ side_rows table p rows l side =
     ap (filter test) l.are.are ∙ filter_twice test longer (rows_kept table)
     ∙ filter_same (λ row. longer row && test row) test (rows_kept table)
     (λ row has. same_tests (longer row && test row) (test row) (λ h. (and_parts (longer row) (test row) h).1)
-    (λ h. and_from (longer row) (test row) (and_from (begins_with (path row) p) (nat_lt (length p) row.len) (begins_front (path row) p (side ∷ []) h) (lt-ltb (length p) row.len (side_long p side row h))) h))
+    (λ h. and_from (longer row) (test row) (and_from (begins_with (path row) p) (nat_lt (length p) row.len) (begins_start (path row) p (side ∷ []) h) (lt-ltb (length p) row.len (side_long p side row h))) h))
 
 not_self : (b : Bool) → b ≡ not b → ⊥
 not_self true e = false_true e refl
@@ -114,9 +114,9 @@ high_rows table p rows l n fits point =
 way_number : (rows : List Row) (p bits : List Bool) → IsWay rows p bits → is_row rows (p ++ bits) ≡ false → number_at rows (p ++ bits) ≡ number_at rows p
 way_number rows p bits way off =
     let l = last bits way.some in
-    let e : p ++ bits ≡ (p ++ l.front) ++ l.bit ∷ [] = ap (λ xs. p ++ xs) l.is ∙ sym (append_assoc p l.front (l.bit ∷ [])) in
-    let before = way_off rows p bits l.front way (omega (arith, ap length l.is, length-append l.front (l.bit ∷ []))) in
-    ap (number_at rows) e ∙ number_step rows (p ++ l.front) l.bit (ap (is_row rows) (sym e) ∙ off) ∙ before
+    let e : p ++ bits ≡ (p ++ l.start) ++ l.bit ∷ [] = ap (λ xs. p ++ xs) l.is ∙ sym (append_assoc p l.start (l.bit ∷ [])) in
+    let before = way_off rows p bits l.start way (omega (arith, ap length l.is, length-append l.start (l.bit ∷ []))) in
+    ap (number_at rows) e ∙ number_step rows (p ++ l.start) l.bit (ap (is_row rows) (sym e) ∙ off) ∙ before
 
 on_longer : (table : List Row) (p : List Bool) (rows : List Row) (d : Row) (stop : ℕ) → Stops table p rows d stop → (row : Row) → Contains (rows_kept table) row → (begins_with (path row) p && nat_lt (length p) row.len) ≡ true → begins_with (path row) (p ++ way_of p rows d stop) ≡ true
 on_longer table p rows d stop s row has h =
@@ -144,7 +144,7 @@ way_part table p left part depth above default is rows d stop s =
       rows = s.longer.are.are
           ∙ filter_same longer (λ row. begins_with (path row) (p ++ bits)) kept
           (λ row has. same_tests (longer row) (begins_with (path row) (p ++ bits)) (on_longer table p rows d stop s row has)
-          (λ h. and_from (begins_with (path row) p) (nat_lt (length p) row.len) (begins_front (path row) p bits h) (lt-ltb (length p) row.len (omega (arith, begins_long (path row) (p ++ bits) h, path_long row, long, bits_long, after)))));
+          (λ h. and_from (begins_with (path row) p) (nat_lt (length p) row.len) (begins_start (path row) p bits h) (lt-ltb (length p) row.len (omega (arith, begins_long (path row) (p ++ bits) h, path_long row, long, bits_long, after)))));
       long = omega (arith, long, bits_long, after);
       room = omega (arith, long, is.room, way.some, short);
       number = way_number kept p bits way;

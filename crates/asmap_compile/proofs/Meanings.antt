@@ -32,15 +32,15 @@ matches_mean zero (b ∷ bits) t rest default low = absurd (omega arith)
 matches_mean (suc count) [] t rest default low = refl
 matches_mean (suc count) (b ∷ bits) t rest default low =
     let xs : List Bool = b ∷ bits in
-    let front = take 8 xs in
+    let start = take 8 xs in
     let back = drop 8 xs in
-    let whole : front ++ back ≡ xs = take-append-drop 8 xs in
-    let more = matches_mean count back t (drop (length front) rest) default (omega (arith, length-drop 8 xs)) in
-    let places : length front + length back ≡ length xs = sym (length-append front back) ∙ ap length whole in
-    let past : drop (length back) (drop (length front) rest) ≡ drop (length xs) rest = drop-drop (length back) (length front) rest ∙ ap (λ n. drop n rest) places in
-    ap (λ m. cond (begins_with rest front) m default) (more ∙ ap (λ r. cond (begins_with (drop (length front) rest) back) (meaning t r default) default) past)
-    ∙ sym (cond_and (begins_with rest front) (begins_with (drop (length front) rest) back) (meaning t (drop (length xs) rest) default) default)
-    ∙ ap (λ b. cond b (meaning t (drop (length xs) rest) default) default) (sym (begins_append front back rest) ∙ ap (begins_with rest) whole)
+    let whole : start ++ back ≡ xs = take-append-drop 8 xs in
+    let more = matches_mean count back t (drop (length start) rest) default (omega (arith, length-drop 8 xs)) in
+    let places : length start + length back ≡ length xs = sym (length-append start back) ∙ ap length whole in
+    let past : drop (length back) (drop (length start) rest) ≡ drop (length xs) rest = drop-drop (length back) (length start) rest ∙ ap (λ n. drop n rest) places in
+    ap (λ m. cond (begins_with rest start) m default) (more ∙ ap (λ r. cond (begins_with (drop (length start) rest) back) (meaning t r default) default) past)
+    ∙ sym (cond_and (begins_with rest start) (begins_with (drop (length start) rest) back) (meaning t (drop (length xs) rest) default) default)
+    ∙ ap (λ b. cond b (meaning t (drop (length xs) rest) default) default) (sym (begins_append start back rest) ∙ ap (begins_with rest) whole)
 
 default_mean : (default before : ℕ) (t : Tree) (rest : List Bool) → meaning (under_default default before t) rest before ≡ meaning t rest default
 unfolding meaning

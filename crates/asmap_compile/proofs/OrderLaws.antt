@@ -56,36 +56,36 @@ bits_rise a b (inl less) = omega arith
 bits_rise a b (inr both) = omega (arith, both.0)
 
 -- the first bits of a row, as bits
-abbrev pub front : ℕ → ℕ → List Bool
-front len bits = bits_between bits 0 len
+abbrev pub start : ℕ → ℕ → List Bool
+start len bits = bits_between bits 0 len
 
-pub front_is : (len bits : ℕ) → front len bits ≡ digits len (first_bits len bits)
+pub start_is : (len bits : ℕ) → start len bits ≡ digits len (first_bits len bits)
 unfolding bits_between
-front_is len bits = let e : len - 0 ≡ len = omega arith in ap (λ n. digits n (bits / 2 ^ (128 - len))) e
+start_is len bits = let e : len - 0 ≡ len = omega arith in ap (λ n. digits n (bits / 2 ^ (128 - len))) e
 
-pub path_front : (row : Row) → path row ≡ front row.len row.bits
+pub path_start : (row : Row) → path row ≡ start row.len row.bits
 unfolding path
-path_front row = sym (front_is row.len row.bits)
+path_start row = sym (start_is row.len row.bits)
 
-pub front_begins : (row : Row) (len : ℕ) → row.len ≤ 128 → len ≤ row.len → begins_with (path row) (front len row.bits) ≡ true
-front_begins row len top low =
-    begins_from (path row) (front len row.bits) (bits_between row.bits len row.len) (path_front row ∙ between_split row.bits 0 len row.len (omega arith) low top)
+pub start_begins : (row : Row) (len : ℕ) → row.len ≤ 128 → len ≤ row.len → begins_with (path row) (start len row.bits) ≡ true
+start_begins row len top low =
+    begins_from (path row) (start len row.bits) (bits_between row.bits len row.len) (path_start row ∙ between_split row.bits 0 len row.len (omega arith) low top)
 
 -- the first bits, as bits and as a number
-pub front_same : (len a b : ℕ) → first_bits len a ≡ first_bits len b → front len a ≡ front len b
-front_same len a b e = front_is len a ∙ ap (digits len) e ∙ sym (front_is len b)
+pub start_same : (len a b : ℕ) → first_bits len a ≡ first_bits len b → start len a ≡ start len b
+start_same len a b e = start_is len a ∙ ap (digits len) e ∙ sym (start_is len b)
 
-pub first_same : (len a b : ℕ) → len ≤ 128 → a < 2 ^ 128 → b < 2 ^ 128 → front len a ≡ front len b → first_bits len a ≡ first_bits len b
+pub first_same : (len a b : ℕ) → len ≤ 128 → a < 2 ^ 128 → b < 2 ^ 128 → start len a ≡ start len b → first_bits len a ≡ first_bits len b
 first_same len a b top la lb e =
-    sym (number_of-digits len (first_bits len a) (first_below len a top la)) ∙ ap number_of (sym (front_is len a) ∙ e ∙ front_is len b) ∙ number_of-digits len (first_bits len b) (first_below len b top lb)
+    sym (number_of-digits len (first_bits len a) (first_below len a top la)) ∙ ap number_of (sym (start_is len a) ∙ e ∙ start_is len b) ∙ number_of-digits len (first_bits len b) (first_below len b top lb)
 
 -- a path that a row begins with is its first bits
-pub begun_front : (row : Row) (p : List Bool) → row.len ≤ 128 → begins_with (path row) p ≡ true → p ≡ front (length p) row.bits
-begun_front row p top h =
+pub begun_start : (row : Row) (p : List Bool) → row.len ≤ 128 → begins_with (path row) p ≡ true → p ≡ start (length p) row.bits
+begun_start row p top h =
     let c = begins_cut (path row) p h in
     let low : length p ≤ row.len = omega (arith, begins_long (path row) p h, path_long row) in
-    let d = begins_cut (path row) (front (length p) row.bits) (front_begins row (length p) top low) in
-    sym (take_at p c.rest (length p) refl) ∙ ap (take (length p)) (sym c.is ∙ d.is) ∙ take_at (front (length p) row.bits) d.rest (length p) (between_long row.bits 0 (length p) ∙ (let e : length p - 0 ≡ length p = omega arith in e))
+    let d = begins_cut (path row) (start (length p) row.bits) (start_begins row (length p) top low) in
+    sym (take_at p c.rest (length p) refl) ∙ ap (take (length p)) (sym c.is ∙ d.is) ∙ take_at (start (length p) row.bits) d.rest (length p) (between_long row.bits 0 (length p) ∙ (let e : length p - 0 ≡ length p = omega arith in e))
 
 -- fewer first bits in common
 pub fewer_first : (m n a b : ℕ) → m ≤ n → n ≤ 128 → first_bits n a ≡ first_bits n b → first_bits m a ≡ first_bits m b
@@ -119,15 +119,15 @@ one_bit k bits low =
     ap (λ j. digits j (bits / 2 ^ (128 - suc k))) one ∙ ap (λ x. eqb (x % 2) 1 ∷ []) (shr-shr bits (128 - suc k) 0 ∙ ap (λ j. bits / 2 ^ j) at)
 
 -- a prefix of one more bit
-pub front_next : (k bits : ℕ) → k < 128 → front (suc k) bits ≡ front k bits ++ bit_of bits k ∷ []
-front_next k bits low = between_split bits 0 k (suc k) (omega arith) (omega arith) (omega arith) ∙ ap (λ xs. front k bits ++ xs) (one_bit k bits low)
+pub start_next : (k bits : ℕ) → k < 128 → start (suc k) bits ≡ start k bits ++ bit_of bits k ∷ []
+start_next k bits low = between_split bits 0 k (suc k) (omega arith) (omega arith) (omega arith) ∙ ap (λ xs. start k bits ++ xs) (one_bit k bits low)
 
 -- a row that is longer than a path it begins with goes on by its next bit
 pub next_bit : (row : Row) (p : List Bool) → row.len ≤ 128 → begins_with (path row) p ≡ true → length p < row.len → begins_with (path row) (p ++ bit_of row.bits (length p) ∷ []) ≡ true
 next_bit row p top h long =
     subst (λ q. begins_with (path row) q ≡ true)
-    (front_next (length p) row.bits (omega arith) ∙ ap (λ q. q ++ bit_of row.bits (length p) ∷ []) (sym (begun_front row p top h)))
-    (front_begins row (suc (length p)) top (omega arith))
+    (start_next (length p) row.bits (omega arith) ∙ ap (λ q. q ++ bit_of row.bits (length p) ∷ []) (sym (begun_start row p top h)))
+    (start_begins row (suc (length p)) top (omega arith))
 
 not_before_by : (a b : Row) → b.bits ≤ a.bits → b.len ≤ a.len → Precedes a b → ⊥
 not_before_by a b le low (inl less) = omega arith
@@ -137,8 +137,8 @@ not_before_by a b le low (inr both) = omega (arith, both.1)
 pub prefix_first : (a b : Row) → IsRow a → IsRow b → begins_with (path a) (path b) ≡ true → Precedes a b → ⊥
 prefix_first a b is are h before =
     let low : b.len ≤ a.len = omega (arith, begins_long (path a) (path b) h, path_long a, path_long b) in
-    let mine : path b ≡ front b.len a.bits = begun_front a (path b) is.len h ∙ ap (λ n. front n a.bits) (path_long b) in
-    let same = first_same b.len a.bits b.bits are.len is.bits are.bits (sym mine ∙ path_front b) in
+    let mine : path b ≡ start b.len a.bits = begun_start a (path b) is.len h ∙ ap (λ n. start n a.bits) (path_long b) in
+    let same = first_same b.len a.bits b.bits are.len is.bits are.bits (sym mine ∙ path_start b) in
     let least = div-mul-le_self a.bits (2 ^ (128 - b.len)) in
     let its = bits_of b are in
     not_before_by a b (omega (arith, ap (λ n. n * 2 ^ (128 - b.len)) same, least, its)) low before

@@ -92,18 +92,18 @@ matches_sane zero (b ∷ bits) t k low fits short sane = absurd (omega arith)
 matches_sane (suc count) [] t k low fits short sane = all_left k t sane
 matches_sane (suc count) (b ∷ bits) t k low fits short sane =
     let xs : List Bool = b ∷ bits in
-    let front = take 8 xs in
+    let start = take 8 xs in
     let back = drop 8 xs in
-    let front_long = length-take 8 xs in
+    let start_long = length-take 8 xs in
     let back_long = length-drop 8 xs in
-    let left : k - length xs ≡ k - length front - length back = omega arith in
-    let next : IsSaneWithin (k - length front) (matches count back t) =
-    matches_sane count back t (k - length front) (omega arith) (omega arith) (λ _. short (omega arith)) (subst (λ n. IsSaneWithin n t) left sane) in
-    let joined = λ (less : length front < 8).
+    let left : k - length xs ≡ k - length start - length back = omega arith in
+    let next : IsSaneWithin (k - length start) (matches count back t) =
+    matches_sane count back t (k - length start) (omega arith) (omega arith) (λ _. short (omega arith)) (subst (λ n. IsSaneWithin n t) left sane) in
+    let joined = λ (less : length start < 8).
     let none : back ≡ [] = nil_from back (omega arith) in
     let last : matches count back t ≡ t = ap (λ ys. matches count ys t) none ∙ matches_none count t in
     subst IsNoShortMatch (sym last) (short (omega arith)) in
-    let is : IsMatch front (matches count back t) = record { some = omega arith; most = omega arith; joined = joined } in
+    let is : IsMatch start (matches count back t) = record { some = omega arith; most = omega arith; joined = joined } in
     (is, omega arith, next)
 
 matches_take : (count : ℕ) (bits : List Bool) (t : Tree) → 0 < length bits → TakesDefault (matches (suc count) bits t)
@@ -113,31 +113,31 @@ matches_take count (b ∷ bits) t some = tt
 
 -- the last of some bits
 pub record Last (bits : List Bool) : Type 0 where
-  pub front : List Bool
+  pub start : List Bool
   pub bit : Bool
-  pub is : bits ≡ front ++ bit ∷ []
+  pub is : bits ≡ start ++ bit ∷ []
 
 last_of : (b : Bool) (bits : List Bool) → Last (b ∷ bits)
-last_of b [] = record { front = []; bit = b; is = refl }
-last_of b (c ∷ bits) = let l = last_of c bits in record { front = b ∷ l.front; bit = l.bit; is = ap (λ xs. b ∷ xs) l.is }
+last_of b [] = record { start = []; bit = b; is = refl }
+last_of b (c ∷ bits) = let l = last_of c bits in record { start = b ∷ l.start; bit = l.bit; is = ap (λ xs. b ∷ xs) l.is }
 
 pub last : (bits : List Bool) → 0 < length bits → Last bits
 last [] some = absurd (omega arith)
 last (b ∷ bits) some = last_of b bits
 
 -- no path on a way before its end is a row
-pub way_off : (rows : List Row) (p bits front : List Bool) → IsWay rows p bits → length front < length bits → number_at rows (p ++ front) ≡ number_at rows p
-way_off rows p bits front way less =
-    number_same rows p front
+pub way_off : (rows : List Row) (p bits start : List Bool) → IsWay rows p bits → length start < length bits → number_at rows (p ++ start) ≡ number_at rows p
+way_off rows p bits start way less =
+    number_same rows p start
     (λ t u e some. false_from_ne_true (is_row rows (p ++ t)) (λ h. omega (arith, begins_long t bits (way_row rows p bits t way some h), ap length e, length-append t u)))
 
 -- a row at the end of a way has another number than the path
 way_fresh : (rows : List Row) (p bits : List Bool) → AreKept rows → IsWay rows p bits → is_row rows (p ++ bits) ≡ true → number_at rows (p ++ bits) ≡ number_at rows p → ⊥
 way_fresh rows p bits kept way here same =
     let l = last bits way.some in
-    let e : p ++ bits ≡ (p ++ l.front) ++ l.bit ∷ [] = ap (λ xs. p ++ xs) l.is ∙ sym (append_assoc p l.front (l.bit ∷ [])) in
-    let before = way_off rows p bits l.front way (omega (arith, ap length l.is, length-append l.front (l.bit ∷ []))) in
-    kept.fresh (p ++ l.front) l.bit (ap (is_row rows) (sym e) ∙ here) (ap (number_at rows) (sym e) ∙ same ∙ sym before)
+    let e : p ++ bits ≡ (p ++ l.start) ++ l.bit ∷ [] = ap (λ xs. p ++ xs) l.is ∙ sym (append_assoc p l.start (l.bit ∷ [])) in
+    let before = way_off rows p bits l.start way (omega (arith, ap length l.is, length-append l.start (l.bit ∷ []))) in
+    kept.fresh (p ++ l.start) l.bit (ap (is_row rows) (sym e) ∙ here) (ap (number_at rows) (sym e) ∙ same ∙ sym before)
 
 no_short_by : (left : ℕ) (rows : List Row) (p bits : List Bool) → AreKept rows → IsWay rows p bits → Turn rows (p ++ bits) → IsNoShortMatch (tree_at (suc left) rows (p ++ bits) (number_at rows p))
 no_short_by left rows p bits kept way (turn_end is none) = rw (tree_end left rows (p ++ bits) (number_at rows p) is) tt

@@ -12,7 +12,7 @@ use Rattle.asmap_vm.specs.Code.{Tree, Return, Jump, Match, Default, code, begins
 use Rattle.prefix_table.specs.declared.row.Row.{Row}
 use Rattle.prefix_table.specs.Rows.{path}
 use Rattle.asmap_compile.specs.Compiled.{number_at, is_row, Single, Forked, onward, matches, under_default, tree_at}
-use Rattle.asmap_compile.proofs.Bits.{false_true, begins_front, begins_long, sides_same, nil_from, item_filter, Passes, any_item}
+use Rattle.asmap_compile.proofs.Bits.{false_true, begins_start, begins_long, sides_same, nil_from, item_filter, Passes, any_item}
 use Rattle.asmap_compile.proofs.RowLaws.{AreRows}
 use Rattle.asmap_compile.proofs.Trees.{tree_last, tree_end, way_bits, tree_single, tree_forked, default_holds, default_set}
 use Rattle.asmap_compile.proofs.Ways.{Begun, Turn, turn, turn_end, turn_single, turn_forked, begun_side, begun_short, IsWay, way_is}
@@ -90,11 +90,11 @@ matches_most zero bits t low some = absurd (omega arith)
 matches_most (suc count) [] t low some = absurd (omega arith)
 matches_most (suc count) (b ∷ bits) t low some =
     let xs : List Bool = b ∷ bits in
-    let front = take 8 xs in
+    let start = take 8 xs in
     let back = drop 8 xs in
     let next = matches count back t in
-    let head = match_long front next in
-    let number = match_most (number_of (true ∷ front)) in
+    let head = match_long start next in
+    let number = match_most (number_of (true ∷ start)) in
     elim (cases_eq (length back) 0) [
       | inl none ↦
           let last : length (code next) ≡ length (code t) = ap (λ ys. length (code (matches count ys t))) (nil_from back none) ∙ ap (λ u. length (code u)) (matches_none count t) in
@@ -148,7 +148,7 @@ rows_forked rows p =
     filters_add (λ row. begins_with (path row) (p ++ false ∷ [])) (λ row. begins_with (path row) (p ++ true ∷ [])) (λ row. begins_with (path row) p)
     (λ row.
     bits_add (begins_with (path row) (p ++ false ∷ [])) (begins_with (path row) (p ++ true ∷ [])) (begins_with (path row) p)
-    (begins_front (path row) p (false ∷ [])) (begins_front (path row) p (true ∷ []))
+    (begins_start (path row) p (false ∷ [])) (begins_start (path row) p (true ∷ []))
     (λ low high. false_true refl (sides_same (path row) p false true low high)))
     rows
 
@@ -162,7 +162,7 @@ rows_less rows p bits some h =
     filters_add (λ row. begins_with (path row) (p ++ bits)) (is_path p) (λ row. begins_with (path row) p)
     (λ row.
     bits_add (begins_with (path row) (p ++ bits)) (is_path p row) (begins_with (path row) p)
-    (begins_front (path row) p bits) (λ at. (and_parts (begins_with (path row) p) (begins_with p (path row)) at).0)
+    (begins_start (path row) p bits) (λ at. (and_parts (begins_with (path row) p) (begins_with p (path row)) at).0)
     (λ more at. omega (arith, begins_long (path row) (p ++ bits) more, length-append p bits, begins_long p (path row) (and_parts (begins_with (path row) p) (begins_with p (path row)) at).1)))
     rows in
     omega (arith, add, filter_some (is_path p) rows (any_item (is_path p) rows h))
@@ -173,7 +173,7 @@ rows_most rows p bits =
     filters_add (λ row. begins_with (path row) (p ++ bits)) (λ _. false) (λ row. begins_with (path row) p)
     (λ row.
     bits_add (begins_with (path row) (p ++ bits)) false (begins_with (path row) p)
-    (begins_front (path row) p bits) (λ at. absurd (false_true refl at)) (λ more at. false_true refl at))
+    (begins_start (path row) p bits) (λ at. absurd (false_true refl at)) (λ more at. false_true refl at))
     rows in
     omega (arith, add)
 

@@ -10,9 +10,9 @@ use Rattle.prefix_table.specs.Rows.{path, first_bits, Precedes}
 use Rattle.asmap_compile.specs.Compiled.{rows_kept, is_row, goes_on, Forked, onward}
 use Rattle.asmap_compile.specs.Inside.{bits_between, bit_of}
 use Rattle.asmap_compile.proofs.BetweenLaws.{between_long, between_split}
-use Rattle.asmap_compile.proofs.Bits.{begins_cut, begins_from, begins_front, begins_long, begins_within, begins_equal, begins_both, sides_same, false_true}
+use Rattle.asmap_compile.proofs.Bits.{begins_cut, begins_from, begins_start, begins_long, begins_within, begins_equal, begins_both, sides_same, false_true}
 use Rattle.prefix_table.proofs.BitLaws.{first_bits_between}
-use Rattle.asmap_compile.proofs.OrderLaws.{front, front_begins, front_same, begun_front, first_same, next_first, bit_first, path_front, prefix_first}
+use Rattle.asmap_compile.proofs.OrderLaws.{start, start_begins, start_same, begun_start, first_same, next_first, bit_first, path_start, prefix_first}
 use Rattle.asmap_compile.proofs.RowLaws.{path_long, row_from, row_at}
 use Rattle.asmap_compile.proofs.TurnLaws.{AreLonger, LongRow, longer_item, item_longer, longer_rises, rows_le, between, longer_at, ends_fork}
 use Rattle.asmap_compile.proofs.Ways.{IsWay, fork_sides, begun_side}
@@ -35,7 +35,7 @@ on_way rows p a row way has h long =
 -- a row that begins with the end of one way, on the other way
 on_other : (rows : List Row) (p a b : List Bool) (row : Row) → IsWay rows p a → IsWay rows p b → Contains rows row → begins_with (path row) (p ++ a) ≡ true → begins_with (path row) (p ++ b) ≡ true
 on_other rows p a b row way other has h =
-    on_way rows p b row other has (begins_front (path row) p a h) (omega (arith, begins_long (path row) (p ++ a) h, length-append p a, way.some))
+    on_way rows p b row other has (begins_start (path row) p a h) (omega (arith, begins_long (path row) (p ++ a) h, length-append p a, way.some))
 
 stops_row : (rows : List Row) (p a b : List Bool) → IsWay rows p a → IsWay rows p b → is_row rows (p ++ a) ≡ true → length b ≤ length a
 stops_row rows p a b way other here =
@@ -48,7 +48,7 @@ stops_row rows p a b way other here =
 fork_leaves : (rows : List Row) (p a b : List Bool) → IsWay rows p a → IsWay rows p b → length a < length b → (side : Bool) → goes_on rows (p ++ a) side ≡ true → begins_with (p ++ b) ((p ++ a) ++ side ∷ []) ≡ true
 fork_leaves rows p a b way other less side goes =
     let r = begun_side rows (p ++ a) side goes in
-    let more = on_other rows p a b r.item way other r.there (begins_front (path r.item) (p ++ a) (side ∷ []) r.passes) in
+    let more = on_other rows p a b r.item way other r.there (begins_start (path r.item) (p ++ a) (side ∷ []) r.passes) in
     one_longer (path r.item) ((p ++ a) ++ side ∷ []) (p ++ b) r.passes more (omega (arith, length-append (p ++ a) (side ∷ []), length-append p a, length-append p b))
 
 stops_fork : (rows : List Row) (p a b : List Bool) → IsWay rows p a → IsWay rows p b → onward rows (p ++ a) ≡ Forked → length a < length b → ⊥
@@ -119,8 +119,8 @@ stop_after table p rows d stop s =
     let r = first_long table p rows d stop s in
     let t = last_long table p rows d stop s in
     let low : length p < 128 = omega (arith, r.long, r.is.len) in
-    let fronts = sym (begun_front (first_of rows d) p r.is.len r.begins) ∙ begun_front (last_of rows d) p t.is.len t.begins in
-    let same = first_same (length p) (first_of rows d).bits (last_of rows d).bits (omega arith) r.is.bits t.is.bits fronts in
+    let starts = sym (begun_start (first_of rows d) p r.is.len r.begins) ∙ begun_start (last_of rows d) p t.is.len t.begins in
+    let same = first_same (length p) (first_of rows d).bits (last_of rows d).bits (omega arith) r.is.bits t.is.bits starts in
     let more = (s.same (length p + 1) (omega arith)).0 (more_common (length p) (first_of rows d).bits (last_of rows d).bits low same s.single) in
     omega (arith, more, r.long, s.is)
 
@@ -128,11 +128,11 @@ stop_after table p rows d stop s =
 abbrev pub way_of : List Bool → List Row → Row → ℕ → List Bool
 way_of p rows d stop = bits_between (get_or rows 0 d).bits (length p) stop
 
-pub way_end : (table : List Row) (p : List Bool) (rows : List Row) (d : Row) (stop : ℕ) → Stops table p rows d stop → p ++ way_of p rows d stop ≡ front stop (get_or rows 0 d).bits
+pub way_end : (table : List Row) (p : List Bool) (rows : List Row) (d : Row) (stop : ℕ) → Stops table p rows d stop → p ++ way_of p rows d stop ≡ start stop (get_or rows 0 d).bits
 way_end table p rows d stop s =
     let r = first_long table p rows d stop s in
     let after = stop_after table p rows d stop s in
-    ap (λ q. q ++ way_of p rows d stop) (begun_front (first_of rows d) p r.is.len r.begins)
+    ap (λ q. q ++ way_of p rows d stop) (begun_start (first_of rows d) p r.is.len r.begins)
     ∙ sym (between_split (first_of rows d).bits 0 (length p) stop (omega arith) (omega arith) (omega (arith, s.is, s.most)))
 
 -- no row but the first is a prefix of it
@@ -150,12 +150,12 @@ not_prefix table p rows d stop s row has h less =
     ]
 
 -- a row has as many of the first row's bits as the first and the last have in common
-between_same : (table : List Row) (p : List Bool) (rows : List Row) (d : Row) (stop : ℕ) (s : Stops table p rows d stop) → (row : Row) → Contains rows row → (len : ℕ) → len ≤ 128 → len ≤ s.common → front len row.bits ≡ front len (first_of rows d).bits
+between_same : (table : List Row) (p : List Bool) (rows : List Row) (d : Row) (stop : ℕ) (s : Stops table p rows d stop) → (row : Row) → Contains rows row → (len : ℕ) → len ≤ 128 → len ≤ s.common → start len row.bits ≡ start len (first_of rows d).bits
 between_same table p rows d stop s row has len top low =
     let mid = between rows (longer_rises table p rows s.longer) d row has in
     let ends = (s.same len top).1 low in
     let same = first_bits_between len (first_of rows d).bits row.bits (last_of rows d).bits mid.first mid.last ends in
-    front_same len row.bits (first_of rows d).bits (same ∙ sym ends)
+    start_same len row.bits (first_of rows d).bits (same ∙ sym ends)
 
 reach_long : (table : List Row) (p : List Bool) (rows : List Row) (d : Row) (stop : ℕ) → Stops table p rows d stop → (row : Row) → Contains rows row → stop ≤ row.len
 reach_long table p rows d stop s row has =
@@ -164,20 +164,20 @@ reach_long table p rows d stop s row has =
     elim (cases_lt row.len stop) [
       | inl short ↦
           let same = between_same table p rows d stop s row has row.len t.is.len (omega (arith, s.is)) in
-          let prefix = subst (λ q. begins_with (path (first_of rows d)) q ≡ true) (sym (path_front row ∙ same)) (front_begins (first_of rows d) row.len r.is.len (omega (arith, s.is))) in
+          let prefix = subst (λ q. begins_with (path (first_of rows d)) q ≡ true) (sym (path_start row ∙ same)) (start_begins (first_of rows d) row.len r.is.len (omega (arith, s.is))) in
           absurd (not_prefix table p rows d stop s row has prefix (omega (arith, s.is)))
       | inr fits ↦ fits
     ]
 
 -- every row of the part begins with the bits up to the end
-pub all_reach : (table : List Row) (p : List Bool) (rows : List Row) (d : Row) (stop : ℕ) → Stops table p rows d stop → (row : Row) → Contains rows row → begins_with (path row) (front stop (get_or rows 0 d).bits) ≡ true
+pub all_reach : (table : List Row) (p : List Bool) (rows : List Row) (d : Row) (stop : ℕ) → Stops table p rows d stop → (row : Row) → Contains rows row → begins_with (path row) (start stop (get_or rows 0 d).bits) ≡ true
 all_reach table p rows d stop s row has =
     let t = longer_item table p rows s.longer row has in
     subst (λ q. begins_with (path row) q ≡ true) (between_same table p rows d stop s row has stop (omega (arith, s.is, s.most)) (omega (arith, s.is)))
-    (front_begins row stop t.is.len (reach_long table p rows d stop s row has))
+    (start_begins row stop t.is.len (reach_long table p rows d stop s row has))
 
-front_long : (len bits : ℕ) → length (front len bits) ≡ len
-front_long len bits = between_long bits 0 len ∙ (let e : len - 0 ≡ len = omega arith in e)
+start_long : (len bits : ℕ) → length (start len bits) ≡ len
+start_long len bits = between_long bits 0 len ∙ (let e : len - 0 ≡ len = omega arith in e)
 
 -- the last row is longer than the bits that it has in common with the first, if the first is
 last_longer : (table : List Row) (p : List Bool) (rows : List Row) (d : Row) (stop : ℕ) → Stops table p rows d stop → stop < (first_of rows d).len → stop < (last_of rows d).len
@@ -189,40 +189,40 @@ last_longer table p rows d stop s less =
       | inl long ↦ long
       | inr short ↦
           let reach = reach_long table p rows d stop s last has in
-          let q = front stop (first_of rows d).bits in
-          let same : path last ≡ q = path_of_row q last (all_reach table p rows d stop s last has) (omega (arith, front_long stop (first_of rows d).bits)) in
-          let prefix = subst (λ w. begins_with (path (first_of rows d)) w ≡ true) (sym same) (front_begins (first_of rows d) stop r.is.len (omega arith)) in
+          let q = start stop (first_of rows d).bits in
+          let same : path last ≡ q = path_of_row q last (all_reach table p rows d stop s last has) (omega (arith, start_long stop (first_of rows d).bits)) in
+          let prefix = subst (λ w. begins_with (path (first_of rows d)) w ≡ true) (sym same) (start_begins (first_of rows d) stop r.is.len (omega arith)) in
           absurd (not_prefix table p rows d stop s last has prefix (omega arith))
     ]
 
-long_at : (table : List Row) (p : List Bool) (rows : List Row) (d : Row) (stop : ℕ) → Stops table p rows d stop → (row : Row) → Contains rows row → stop < row.len → LongRow table (front stop (first_of rows d).bits) row
+long_at : (table : List Row) (p : List Bool) (rows : List Row) (d : Row) (stop : ℕ) → Stops table p rows d stop → (row : Row) → Contains rows row → stop < row.len → LongRow table (start stop (first_of rows d).bits) row
 long_at table p rows d stop s row has long =
     let t = longer_item table p rows s.longer row has in
-    record { there = t.there; is = t.is; begins = all_reach table p rows d stop s row has; long = omega (arith, front_long stop (first_of rows d).bits, long) }
+    record { there = t.there; is = t.is; begins = all_reach table p rows d stop s row has; long = omega (arith, start_long stop (first_of rows d).bits, long) }
 
-stop_fork : (table : List Row) (p : List Bool) (rows : List Row) (d : Row) (stop : ℕ) (s : Stops table p rows d stop) → stop ≡ s.common → stop < (first_of rows d).len → onward (rows_kept table) (front stop (first_of rows d).bits) ≡ Forked
+stop_fork : (table : List Row) (p : List Bool) (rows : List Row) (d : Row) (stop : ℕ) (s : Stops table p rows d stop) → stop ≡ s.common → stop < (first_of rows d).len → onward (rows_kept table) (start stop (first_of rows d).bits) ≡ Forked
 stop_fork table p rows d stop s e less =
     let first = first_of rows d in
     let last = last_of rows d in
-    let q = front stop first.bits in
+    let q = start stop first.bits in
     let low : stop < 128 = omega (arith, (first_long table p rows d stop s).is.len) in
     let r = long_at table p rows d stop s first (Contains-get_or rows 0 d s.some) less in
     let t = long_at table p rows d stop s last (Contains-get_or rows (length rows - 1) d (omega (arith, s.some))) (last_longer table p rows d stop s less) in
     let rise = rows_le rows (longer_rises table p rows s.longer) 0 (length rows - 1) d (omega arith) (omega (arith, s.some)) in
     ends_fork table q first last r t rise
     (λ bit.
-    let here = subst (λ k. bit_of first.bits k ≡ bit_of last.bits k) (front_long stop first.bits) bit in
+    let here = subst (λ k. bit_of first.bits k ≡ bit_of last.bits k) (start_long stop first.bits) bit in
     let more = more_common stop first.bits last.bits low ((s.same stop (omega arith)).1 (omega (arith, e))) here in
     omega (arith, (s.same (stop + 1) (omega arith)).0 more, e))
 
 stop_is : (table : List Row) (p : List Bool) (rows : List Row) (d : Row) (stop : ℕ) → Stops table p rows d stop →
-    (is_row (rows_kept table) (front stop (get_or rows 0 d).bits) ≡ true) ⊎ (onward (rows_kept table) (front stop (get_or rows 0 d).bits) ≡ Forked)
+    (is_row (rows_kept table) (start stop (get_or rows 0 d).bits) ≡ true) ⊎ (onward (rows_kept table) (start stop (get_or rows 0 d).bits) ≡ Forked)
 stop_is table p rows d stop s =
     elim (cases_lt stop (first_of rows d).len) [
       | inl less ↦ inr (stop_fork table p rows d stop s (omega (arith, s.is)) less)
       | inr all ↦
           let e : (first_of rows d).len ≡ stop = omega (arith, s.is) in
-          inl (row_from (rows_kept table) (front stop (first_of rows d).bits) (first_of rows d) (first_long table p rows d stop s).there (path_front (first_of rows d) ∙ ap (λ n. front n (first_of rows d).bits) e))
+          inl (row_from (rows_kept table) (start stop (first_of rows d).bits) (first_of rows d) (first_long table p rows d stop s).there (path_start (first_of rows d) ∙ ap (λ n. start n (first_of rows d).bits) e))
     ]
 
 pub stop_way : (table : List Row) (p : List Bool) (rows : List Row) (d : Row) (stop : ℕ) → Stops table p rows d stop → IsWay (rows_kept table) p (way_of p rows d stop)

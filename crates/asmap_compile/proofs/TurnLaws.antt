@@ -9,8 +9,8 @@ use Rattle.prefix_table.specs.declared.row.Row.{Row}
 use Rattle.prefix_table.specs.Rows.{path, IsRow, IsTable, Precedes}
 use Rattle.asmap_compile.specs.Compiled.{rows_kept, stays, goes_on, Single, Forked, onward}
 use Rattle.asmap_compile.specs.Inside.{bit_of, is_low, IsLonger}
-use Rattle.asmap_compile.proofs.Bits.{begins_front, begins_long, sides_same, false_true, filter_item, item_filter}
-use Rattle.asmap_compile.proofs.OrderLaws.{pairs_filter, bits_rise, begun_front, next_bit, bit_rises, first_same}
+use Rattle.asmap_compile.proofs.Bits.{begins_start, begins_long, sides_same, false_true, filter_item, item_filter}
+use Rattle.asmap_compile.proofs.OrderLaws.{pairs_filter, bits_rise, begun_start, next_bit, bit_rises, first_same}
 use Rattle.asmap_compile.proofs.PartLaws.{kept_is_row}
 use Rattle.asmap_compile.proofs.RowLaws.{path_long}
 use Rattle.asmap_compile.proofs.Ways.{side_from, begun_side}
@@ -56,7 +56,7 @@ side_long p side row h = omega (arith, begins_long (path row) (p ++ side ∷ [])
 -- rows with the same first bits, of which one is no greater
 pub bit_up : (table : List Row) (p : List Bool) (a b : Row) → LongRow table p a → LongRow table p b → a.bits ≤ b.bits → bit_of a.bits (length p) ≡ true → bit_of b.bits (length p) ≡ true
 bit_up table p a b r s le h =
-    let same = sym (begun_front a p r.is.len r.begins) ∙ begun_front b p s.is.len s.begins in
+    let same = sym (begun_start a p r.is.len r.begins) ∙ begun_start b p s.is.len s.begins in
     let low : length p < 128 = omega (arith, r.long, r.is.len) in
     bit_rises (length p) a.bits b.bits low (first_same (length p) a.bits b.bits (omega arith) r.is.bits s.is.bits same) le h
 
@@ -97,7 +97,7 @@ none_ends table p rows l none side =
     false_from_ne_true (goes_on (rows_kept table) p side)
     (λ h.
     let b = begun_side (rows_kept table) p side h in
-    let has = item_longer table p rows l b.item b.there (begins_front (path b.item) p (side ∷ []) b.passes) (side_long p side b.item b.passes) in
+    let has = item_longer table p rows l b.item b.there (begins_start (path b.item) p (side ∷ []) b.passes) (side_long p side b.item b.passes) in
     omega (arith, has.1, none))
 
 -- a side that a row has
@@ -134,7 +134,7 @@ ends_single table p rows l d some same =
     false_from_ne_true (goes_on (rows_kept table) p (not (bit_of first.bits (length p))))
     (λ h.
     let b = begun_side (rows_kept table) p (not (bit_of first.bits (length p))) h in
-    let has = item_longer table p rows l b.item b.there (begins_front (path b.item) p (not (bit_of first.bits (length p)) ∷ []) b.passes) (side_long p (not (bit_of first.bits (length p))) b.item b.passes) in
+    let has = item_longer table p rows l b.item b.there (begins_start (path b.item) p (not (bit_of first.bits (length p)) ∷ []) b.passes) (side_long p (not (bit_of first.bits (length p))) b.item b.passes) in
     let t = longer_item table p rows l b.item has in
     let mid = between rows (longer_rises table p rows l) d b.item has in
     let at = side_is table p b.item (not (bit_of first.bits (length p))) t b.passes in
