@@ -60,16 +60,16 @@ twelve_bits_of_cjdns : group_of (address Cjdns (0xfc ∷ 0x12 ∷ replicate 14 0
 unfolding in_range
 twelve_bits_of_cjdns = refl
 
-internal_alone : group_of (address Internal (1 ∷ 2 ∷ 3 ∷ 4 ∷ 5 ∷ 6 ∷ 7 ∷ 8 ∷ 9 ∷ 10 ∷ [])) 0 ≡ 6 ∷ 1 ∷ 2 ∷ 3 ∷ 4 ∷ 5 ∷ 6 ∷ 7 ∷ 8 ∷ 9 ∷ 10 ∷ []
-internal_alone = refl
+only_internal_addresses : group_of (address Internal (1 ∷ 2 ∷ 3 ∷ 4 ∷ 5 ∷ 6 ∷ 7 ∷ 8 ∷ 9 ∷ 10 ∷ [])) 0 ≡ 6 ∷ 1 ∷ 2 ∷ 3 ∷ 4 ∷ 5 ∷ 6 ∷ 7 ∷ 8 ∷ 9 ∷ 10 ∷ []
+only_internal_addresses = refl
 
 mapped_bits : asmap_bits (ipv4 1 2 3 4) ≡ Some 0xffff01020304
 unfolding in_range
 mapped_bits = refl
 
-bits_as_they_stand : asmap_bits (ipv6 0x80) ≡ Some 0x20010480abcd01010101010101010101
+the_bits_of_an_ipv6_address : asmap_bits (ipv6 0x80) ≡ Some 0x20010480abcd01010101010101010101
 unfolding in_range
-bits_as_they_stand = refl
+the_bits_of_an_ipv6_address = refl
 
 onion_not_looked_up : asmap_bits (address Onion (replicate 32 0xab)) ≡ None
 unfolding in_range

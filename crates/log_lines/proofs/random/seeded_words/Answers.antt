@@ -9,9 +9,9 @@ one_more : (state : List ℕ) (left less : ℕ) → left ≡ suc less → output
 one_more state left less e = ap (outputs state) e
 
 -- a word more, and one less to come
-told_more : (words more next : List ℕ) (state : List ℕ) (left less word : ℕ) (all : List ℕ) → words ++ outputs state left ≡ all → left ≡ suc less →
+one_word_more : (words more next : List ℕ) (state : List ℕ) (left less word : ℕ) (all : List ℕ) → words ++ outputs state left ≡ all → left ≡ suc less →
     more ≡ words ++ word ∷ [] → word ≡ (plus_plus state).0 → next ≡ (plus_plus state).1 → more ++ outputs next less ≡ all
-told_more words more next state left less word all told e items is moved =
+one_word_more words more next state left less word all told e items is moved =
     ap (λ ws. ws ++ outputs next less) items
     ∙ append_assoc words (word ∷ []) (outputs next less)
     ∙ (λ i. words ++ is i ∷ outputs (moved i) less)
@@ -31,7 +31,7 @@ loop-init c = record {
 
 pub loop-preserved : goal.loop-preserved
 loop-preserved c = record {
-  told = told_more c.loop.words.items c.push.new.self.items c.next_word.new.self c.loop.generator (c.args.count - c.loop.counter) (c.args.count - (c.loop.counter + 1)) c.next_word.result (seeded_words c.args.seed c.args.count)
+  told = one_word_more c.loop.words.items c.push.new.self.items c.next_word.new.self c.loop.generator (c.args.count - c.loop.counter) (c.args.count - (c.loop.counter + 1)) c.next_word.result (seeded_words c.args.seed c.args.count)
       c.loop.invariant.told (omega (arith, c.loop-test.true)) c.in_ok-push.ensures.items (ap (λ p. p.0) c.next_word.ensures) (ap (λ p. p.1) c.next_word.ensures);
   counted = omega (arith, c.loop.invariant.counted, c.in_ok-push.ensures.len);
 }
