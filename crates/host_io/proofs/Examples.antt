@@ -3,7 +3,7 @@ use Rattle.std.proofs.Common.{◌≡◌, ◌^◌, ◌-◌, [], ◌∷◌, Some, 
 use Rattle.std.proofs.lemmas.Bool.{false≢true}
 use Rattle.std.specs.Prelude.{codes}
 use Rattle.host_io.specs.Faults.{Rose, raised}
-use Rattle.host_io.specs.Files.{Files, told_bytes, IsThere}
+use Rattle.host_io.specs.Files.{Files, known_bytes, IsThere}
 use Rattle.host_io.specs.Lines.{lines_of}
 use Rattle.host_io.specs.Reading.{MovesBytes, TakesAtMost}
 use Rattle.host_io.specs.Writing.{Appended, AppendedPrefix, AppendedPart}
@@ -27,7 +27,7 @@ one_file = record {
   bans_temp = None;
 }
 
-bytes_of_the_file : told_bytes (Some one_file) name.Asmap ≡ Some (1 ∷ 2 ∷ [])
+bytes_of_the_file : known_bytes (Some one_file) name.Asmap ≡ Some (1 ∷ 2 ∷ [])
 bytes_of_the_file = refl
 
 no_file_of_another_name : IsThere (Some one_file) name.AsmapTemp → ⊥

@@ -24,8 +24,8 @@ take_on (Some bytes) mid new text at most limit moved place more within =
     )
 
 -- unknown bytes stay unknown
-pub untold_on : (old mid : Option (List ℕ)) (new : ℕ → Option (List ℕ)) (at : ℕ)
+pub unknown_on : (old mid : Option (List ℕ)) (new : ℕ → Option (List ℕ)) (at : ℕ)
     → IfNone old (mid ≡ None) → ((later : ℕ) → IfNone mid (new later ≡ None))
     → IfNone old (new at ≡ None)
-untold_on (Some bytes) mid new at before after = tt
-untold_on None mid new at before after = rw before at (after at)
+unknown_on (Some bytes) mid new at before after = tt
+unknown_on None mid new at before after = rw before at (after at)

@@ -19,7 +19,7 @@ written-step (Some before) now new bytes done more h k =
     ∙ ap (λ xs. before ++ xs) (sym (take-add done more bytes)))
 
 -- the unknown bytes of a sink stay unknown
-pub untold-step : (old now new : Option (List ℕ))
+pub unknown-step : (old now new : Option (List ℕ))
     → IfNone old (now ≡ None) → IfNone now (new ≡ None) → IfNone old (new ≡ None)
-untold-step (Some before) now new h k = tt
-untold-step None now new h k = rw h at k
+unknown-step (Some before) now new h k = tt
+unknown-step None now new h k = rw h at k

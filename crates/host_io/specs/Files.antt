@@ -9,9 +9,9 @@ abbrev pub Files : Type 0
 Files = PerName (Option (List ℕ))
 
 -- The bytes of a file, if contracts know the folder's files and this one is there.
-abbrev pub told_bytes : Option Files → Name → Option (List ℕ)
-told_bytes None name = None
-told_bytes (Some files) name = under files name
+abbrev pub known_bytes : Option Files → Name → Option (List ℕ)
+known_bytes None name = None
+known_bytes (Some files) name = under files name
 
 -- The file is there, if contracts know the folder's files.
 abbrev pub IsThere : Option Files → Name → Type 0

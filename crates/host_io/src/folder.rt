@@ -1,7 +1,7 @@
 ghost use Rattle.std.specs.Prelude.{◌≡◌, ℕ, ◌<◌, ◌≤◌, ◌↔◌, ◌++◌, length, take, drop, Option, IfOk, IfSome, OnErr};
 ghost use Rattle.std.specs.Option.{option_map};
 ghost use Rattle.host_io.specs.Faults.{Rose};
-ghost use Rattle.host_io.specs.Files.{Files, IsThere, told_bytes};
+ghost use Rattle.host_io.specs.Files.{Files, IsThere, known_bytes};
 ghost use Rattle.host_io.specs.PerName.{under};
 
 use crate::failed::Failed;
@@ -30,11 +30,11 @@ pub trait Folder {
         requires room { 0 < length buf.old }
         requires there { IsThere (files self.old) name }
         ensures within { IfOk result (λ n. n ≤ length buf.old) }
-        ensures available { IfOk result (λ n. IfSome (told_bytes (files self.old) name) (λ bytes.
+        ensures available { IfOk result (λ n. IfSome (known_bytes (files self.old) name) (λ bytes.
             n ≤ length (drop at bytes))) }
-        ensures copied { IfOk result (λ n. IfSome (told_bytes (files self.old) name) (λ bytes.
+        ensures copied { IfOk result (λ n. IfSome (known_bytes (files self.old) name) (λ bytes.
             buf.new ≡ take n (drop at bytes) ++ drop n buf.old)) }
-        ensures end { IfOk result (λ n. IfSome (told_bytes (files self.old) name) (λ bytes.
+        ensures end { IfOk result (λ n. IfSome (known_bytes (files self.old) name) (λ bytes.
             (n ≡ 0) ↔ (length bytes ≤ at))) }
         ensures same { files self.new ≡ files self.old }
         ensures cause { OnErr result (Rose (faults self.old) (faults self.new)) }

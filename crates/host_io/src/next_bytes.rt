@@ -1,7 +1,7 @@
 ghost use Rattle.std.specs.Prelude.{◌≡◌, ℕ, ◌+◌, ◌<◌, ◌≤◌, ◌↔◌, ◌++◌, List, [], length, take, drop, Option, None, IfOk, IfSome, IfNone, OnErr, ⊤};
 ghost use Rattle.std.specs.Option.{option_map};
 ghost use Rattle.host_io.specs.Faults.{Rose};
-ghost use Rattle.host_io.specs.Files.{Files, IsThere, told_bytes};
+ghost use Rattle.host_io.specs.Files.{Files, IsThere, known_bytes};
 
 use crate::failed::Failed;
 use crate::folder::Folder;
@@ -38,7 +38,7 @@ pub trait NextBytes<T> {
         ensures end { IfOk result (λ n. IfSome (rest self.now object.old at) (λ bytes.
             (n ≡ 0) ↔ (bytes ≡ []))) }
         ensures err { OnErr result (rest self.now object.new at ≡ rest self.now object.old at) }
-        ensures untold { (later : ℕ) → IfNone (rest self.now object.old at)
+        ensures unknown { (later : ℕ) → IfNone (rest self.now object.old at)
             (rest self.now object.new later ≡ None) }
         ensures there { can_read self.now object.new }
         ensures same { files object.new ≡ files object.old }
@@ -73,7 +73,7 @@ pub struct OfFile {
 }
 
 impl<F: Folder> NextBytes<F> for OfFile {
-    ghost rest = { λ file folder at. option_map (drop at) (told_bytes (F.files folder) file.name) };
+    ghost rest = { λ file folder at. option_map (drop at) (known_bytes (F.files folder) file.name) };
 
     ghost files = { λ folder. F.files folder };
 

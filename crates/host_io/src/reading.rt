@@ -35,7 +35,7 @@ fn read_piece<T, W: NextBytes<T>>(
     ensures taken { IfSome (W.rest way.now object.old (vec_len text.old)) (λ bytes.
         (n : ℕ) × (n ≤ length piece.old) ×
         (W.rest way.now object.new (vec_len text.old + n) ≡ Some (drop n bytes))) }
-    ensures untold { (later : ℕ) → IfNone (W.rest way.now object.old (vec_len text.old))
+    ensures unknown { (later : ℕ) → IfNone (W.rest way.now object.old (vec_len text.old))
         (W.rest way.now object.new later ≡ None) }
     ensures grown { IfOk result (λ n. vec_len text.new ≡ vec_len text.old + n) }
     ensures within { IfOk result (λ n. n ≤ length piece.old) }
@@ -65,7 +65,7 @@ pub fn read_past<T, W: NextBytes<T>>(
     ensures err { OnErr result (IfSome (W.rest way.now object.old 0) (λ bytes.
         (n : ℕ) × (n ≤ limit + 1) ×
         (W.rest way.now object.new n ≡ Some (drop n bytes)))) }
-    ensures untold { IfNone (W.rest way.now object.old 0)
+    ensures unknown { IfNone (W.rest way.now object.old 0)
         ((n : ℕ) × (W.rest way.now object.new n ≡ None)) }
     ensures same { W.files object.new ≡ W.files object.old }
     ensures cause { IsErrOf result ReadFault.Failed →
@@ -97,7 +97,7 @@ pub fn read_to_end<L: Source>(
     ensures too_long { IsErrOf result ToEndFault.TooLong →
         IfSome (L.left source.old) (λ bytes. limit < length bytes) }
     ensures taken { TakesAtMost (L.left source.old) (L.left source.new) (limit + 1) }
-    ensures untold { IfNone (L.left source.old) (L.left source.new ≡ None) }
+    ensures unknown { IfNone (L.left source.old) (L.left source.new ≡ None) }
     ensures cause { IsErrOf result ToEndFault.Failed →
         Rose (L.faults source.old) (L.faults source.new) }
     ensures never_falls { L.faults source.old ≤ L.faults source.new }

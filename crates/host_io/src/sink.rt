@@ -19,7 +19,7 @@ pub trait Sink {
         ensures appended { IfOk result (λ n.
             Appended (written self.old) (written self.new) (take n piece.now)) }
         ensures err { OnErr result (written self.new ≡ written self.old) }
-        ensures untold { IfNone (written self.old) (written self.new ≡ None) }
+        ensures unknown { IfNone (written self.old) (written self.new ≡ None) }
         ensures cause { OnErr result (Rose (faults self.old) (faults self.new)) }
         ensures never_falls { faults self.old ≤ faults self.new };
 }
@@ -28,7 +28,7 @@ pub trait Sink {
 pub fn write_all<K: Sink>(sink: &mut K, bytes: &[u8]) -> Result<(), Failed>
     ensures all { OnOk result (Appended (K.written sink.old) (K.written sink.new) bytes.now) }
     ensures err { OnErr result (AppendedPart (K.written sink.old) (K.written sink.new) bytes.now) }
-    ensures untold { IfNone (K.written sink.old) (K.written sink.new ≡ None) }
+    ensures unknown { IfNone (K.written sink.old) (K.written sink.new ≡ None) }
     ensures cause { OnErr result (Rose (K.faults sink.old) (K.faults sink.new)) }
     ensures never_falls { K.faults sink.old ≤ K.faults sink.new }
 {

@@ -22,7 +22,7 @@ pub trait Source {
             buf.new ≡ take n bytes ++ drop n buf.old)) }
         ensures end { IfOk result (λ n. IfSome (left self.old) (λ bytes. (n ≡ 0) ↔ (bytes ≡ []))) }
         ensures err { OnErr result (left self.new ≡ left self.old) }
-        ensures untold { IfNone (left self.old) (left self.new ≡ None) }
+        ensures unknown { IfNone (left self.old) (left self.new ≡ None) }
         ensures cause { OnErr result (Rose (faults self.old) (faults self.new)) }
         ensures never_falls { faults self.old ≤ faults self.new };
 }

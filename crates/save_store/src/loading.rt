@@ -1,7 +1,7 @@
 ghost use Rattle.std.specs.Prelude.{◌≡◌, ℕ, ◌<◌, ◌≤◌, ◌⊎◌, length, IfOk, IfSome, IsErrOf};
 ghost use Rattle.std.specs.Option.{option_map};
 ghost use Rattle.host_io.specs.Faults.{Rose};
-ghost use Rattle.host_io.specs.Files.{told_bytes};
+ghost use Rattle.host_io.specs.Files.{known_bytes};
 ghost use Rattle.host_io.specs.PerName.{under};
 
 use crate::load_fault::LoadFault;
@@ -22,7 +22,7 @@ pub fn load<F: Folder>(
     ensures within { IfOk result (λ loaded. IfSome loaded (λ bytes. length bytes ≤ limit)) }
     ensures absent { IfSome (F.files folder.old) (λ files. under files name ≡ None →
         (result ≡ Ok None) ⊎ (result ≡ Err LoadFault.Disk)) }
-    ensures larger { IfSome (told_bytes (F.files folder.old) name) (λ bytes. limit < length bytes →
+    ensures larger { IfSome (known_bytes (F.files folder.old) name) (λ bytes. limit < length bytes →
         (result ≡ Err (LoadFault.TooLarge (length bytes))) ⊎ (result ≡ Err LoadFault.Disk)) }
     ensures too_large { (size : ℕ) → result ≡ Err (LoadFault.TooLarge size) → limit < size }
     ensures told_size { (size : ℕ) → result ≡ Err (LoadFault.TooLarge size) →

@@ -11,7 +11,7 @@ invariant-loop-text g l = record {
   same : g.W.NextBytes.files l.object ≡ g.W.NextBytes.files l.fn.object;
   never_falls : g.W.NextBytes.faults l.fn.object ≤ g.W.NextBytes.faults l.object;
   moved : MovesBytes (g.W.NextBytes.rest l.way l.fn.object 0) (g.W.NextBytes.rest l.way l.object (vec_len l.text)) [] l.text.items;
-  untold : IfNone (g.W.NextBytes.rest l.way l.fn.object 0) (g.W.NextBytes.rest l.way l.object (vec_len l.text) ≡ None);
+  unknown : IfNone (g.W.NextBytes.rest l.way l.fn.object 0) (g.W.NextBytes.rest l.way l.object (vec_len l.text) ≡ None);
 }
 
 abbrev pub decreases-loop-text : goal.decreases-loop-text

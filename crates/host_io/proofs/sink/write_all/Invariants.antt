@@ -6,7 +6,7 @@ abbrev pub invariant-loop-done : goal.invariant-loop-done
 invariant-loop-done g l = record {
   within : l.done ≤ length l.bytes;
   told : IfSome (g.K.Sink.written l.fn.sink) (λ before. g.K.Sink.written l.sink ≡ Some (before ++ take l.done l.bytes));
-  untold : IfNone (g.K.Sink.written l.fn.sink) (g.K.Sink.written l.sink ≡ None);
+  unknown : IfNone (g.K.Sink.written l.fn.sink) (g.K.Sink.written l.sink ≡ None);
   never_falls : g.K.Sink.faults l.fn.sink ≤ g.K.Sink.faults l.sink;
 }
 
