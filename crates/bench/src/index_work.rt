@@ -13,18 +13,18 @@ pub(crate) type Index = PeerIndex<BuildHasherDefault<FoldHasher>>;
 
 /// The most records that an index is filled with.
 const MOST_RECORDS: usize = 10_000_000;
-/// Records are found and removed in steps of this many: a prime, so that each comes once where their
-/// number is no multiple of it.
+/// The records from one that is found or removed to the next one: a prime, so that each record
+/// comes once unless their number is a multiple of it.
 const STEP: u64 = 7_919;
 
 /// A kind of work on an index.
 #[derive(Clone, Copy, Debug, PartialEq, Eq)]
 pub(crate) enum Kind {
-    /// So many times an index is made and filled.
+    /// An index is made and filled this many times.
     Adds,
     /// An index is made and filled once, and this many times some of its records are found.
     Finds,
-    /// So many times an index is made and filled, and some of its records are removed.
+    /// An index is made and filled, and some of its records are removed, this many times.
     Removes,
     /// An index is made and filled once, and this many times some of its records are removed and
     /// added again.

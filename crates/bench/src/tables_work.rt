@@ -6,20 +6,20 @@ use std::alloc::Global;
 /// The slots of the new table, 1024 buckets of 64.
 const NEW_SLOTS: usize = 65_536;
 
-/// Puts an id into a slot by its index: first those of the new table, then those of the tried table.
-fn put(grid: &mut Grid, place: usize, id: usize) {
-    let slot = (place % 64) as u8;
-    if place < NEW_SLOTS {
-        grid.set_new((place / 64) as u16, slot, Some(id));
+/// Puts an id into a slot by its index: the slots of the new table come first.
+fn put(grid: &mut Grid, index: usize, id: usize) {
+    let slot = (index % 64) as u8;
+    if index < NEW_SLOTS {
+        grid.set_new((index / 64) as u16, slot, Some(id));
     } else {
-        grid.set_tried((place / 64 % 256) as u16, slot, Some(id));
+        grid.set_tried((index / 64 % 256) as u16, slot, Some(id));
     }
 }
 
 /// Puts the id of each record into a slot.
 fn put_all(grid: &mut Grid, index: &Index) {
-    for place in 0..index.len() {
-        put(grid, place, index.at(place));
+    for position in 0..index.len() {
+        put(grid, position, index.at(position));
     }
 }
 
