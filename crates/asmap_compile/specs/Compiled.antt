@@ -1,6 +1,6 @@
 -- The asmap that a table of prefixes compiles to: a tree by paths. A path is a list of address
--- bits, high bit first. The instructions are those of Bitcoin Core's util/asmap.cpp. Which of
--- the trees for a table it is, is our own choice.
+-- bits, high bit first. The instructions are those of Bitcoin Core's util/asmap.cpp. The choice
+-- of a tree for a table is our own.
 use Prim.Native.Nat.{zero, suc}
 use Rattle.std.specs.Prelude.{◌==◌, ℕ, Bool, true, false, not, ◌&&◌, List, [], ◌∷◌, ◌++◌, filter, take, drop, nat_lt}
 use Rattle.std.specs.List.{list_any}

@@ -68,8 +68,8 @@ fn match_number(bits: u128, from: u8, to: u8) -> u32
     (1u32 << size) + digits as u32
 }
 
-/// Puts matches of the bits from one index up to another, of eight bits each except the last, before
-/// the part after them.
+/// Puts matches of the bits from one index up to another, of eight bits each except the last,
+/// before the part after them.
 pub(crate) fn put_matches(out: &mut BitFront, bits: u128, from: u8, to: u8) -> Result<(), Memory>
     requires order { from ≤ to }
     requires within { to ≤ 128 }

@@ -111,8 +111,8 @@ pub(crate) fn prepend_bits(bytes: &mut Vec<u8>, bits: u64, len: u32) -> u8
     low_bits(bits, len % 8)
 }
 
-/// Puts the bits of `rest` before those of some bytes, which move up. Returns the bits that no longer
-/// fit.
+/// Puts the bits of `rest` before those of some bytes, which move up. Returns the bits that no
+/// longer fit.
 pub(crate) fn shift_in(bytes: &mut [u8], rest: u8, rest_len: u32) -> u8
     requires few { rest_len < 8 }
     requires rest { rest < 2 ^ rest_len }

@@ -10,8 +10,8 @@ use std::marker::Model;
 use std::rt::Files;
 use std::{fs, io};
 
-/// The current folder of the process. Contracts do not know its files. The file whose size was asked
-/// last stays open until the next call on another name, so that it is read as it was then, even if
+/// The current folder of the process. Contracts do not know its files. The file whose size was
+/// asked last stays open until the next call on another name, so that it is read as it was then, even if
 /// it is replaced meanwhile.
 #[derive(Drop)]
 pub struct DirFolder<'a, R: Files> {

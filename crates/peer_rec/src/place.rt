@@ -5,7 +5,8 @@ ghost use Rattle.peer_rec.specs.Buckets.{with_bucket, without_bucket};
 
 use crate::Buckets;
 
-/// Where a record is: in the new table, in one to eight buckets in rising order, or in the tried table.
+/// Where a record is: in the new table, in one to eight buckets in rising order, or in the tried
+/// table.
 #[derive(Drop)]
 pub enum Place {
     New(Buckets),

@@ -12,10 +12,10 @@ const AHEAD: u64 = 600;
 const HORIZON: u64 = 2_592_000;
 /// From this many tries on, a peer that never succeeded is given up (`ADDRMAN_RETRIES`).
 const RETRIES: u32 = 3;
-/// More seconds than this without a success are too many, with as many tries as below
-/// (`ADDRMAN_MIN_FAIL`).
+/// A peer is given up after more seconds than this without a success, if it was tried as often as
+/// `MAX_FAILURES` (`ADDRMAN_MIN_FAIL`).
 const MIN_FAIL: u64 = 604_800;
-/// So many tries (`ADDRMAN_MAX_FAILURES`).
+/// The tries that are too many then (`ADDRMAN_MAX_FAILURES`).
 const MAX_FAILURES: u32 = 10;
 /// Seconds in which a try counts as recent.
 const RECENT: u64 = 600;
@@ -29,7 +29,7 @@ pub struct Rec {
     pub peer: Peer,
     /// The address that first announced the peer.
     pub source: NetAddr,
-    /// When the peer was last seen, as announced.
+    /// When the peer was last seen, as far as the node knows.
     pub time: u32,
     pub services: u64,
     pub last_success: u32,

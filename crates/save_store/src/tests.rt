@@ -25,8 +25,8 @@ fn loads_a_file_up_to_the_limit(rt: HostRuntime) -> Result<(), Fail> {
     Ok(())
 }
 
-/// A folder whose files contracts do not know. Each has the same bytes, given two a read, and says that
-/// its size is `size`.
+/// A folder whose files contracts do not know. Each has the same bytes, given two a read, and says
+/// that its size is `size`.
 #[derive(Drop)]
 struct ShortFolder {
     size: u64,
