@@ -267,6 +267,16 @@ fn assert_reply(rt: &(impl Abort + AllocGlobal), reply: &Reply, want: &str) -> R
     Ok(())
 }
 
+/// The reply to a message, by its fault.
+const REFUSALS: [(MsgFault, &str); 6] = [
+    (MsgFault::Truncated, "refused truncated\n"),
+    (MsgFault::NonCanonical, "refused non-canonical\n"),
+    (MsgFault::TooMany, "refused too-many\n"),
+    (MsgFault::BadLength, "refused bad-length\n"),
+    (MsgFault::TooLong, "refused too-long\n"),
+    (MsgFault::Trailing, "refused trailing\n"),
+];
+
 #[test]
 fn replies_are_lines(rt: HostRuntime) -> Result<(), Fail> {
     assert_reply(&rt, &Reply::Now { time: 5000 }, "now 5000\n")?;
@@ -279,36 +289,9 @@ fn replies_are_lines(rt: HostRuntime) -> Result<(), Fail> {
         "added 1 of 2\n",
     )?;
     assert_reply(&rt, &Reply::Found(None), "unknown\n")?;
-    assert_reply(
-        &rt,
-        &Reply::Refused(MsgFault::Truncated),
-        "refused truncated\n",
-    )?;
-    assert_reply(
-        &rt,
-        &Reply::Refused(MsgFault::NonCanonical),
-        "refused non-canonical\n",
-    )?;
-    assert_reply(
-        &rt,
-        &Reply::Refused(MsgFault::TooMany),
-        "refused too-many\n",
-    )?;
-    assert_reply(
-        &rt,
-        &Reply::Refused(MsgFault::BadLength),
-        "refused bad-length\n",
-    )?;
-    assert_reply(
-        &rt,
-        &Reply::Refused(MsgFault::TooLong),
-        "refused too-long\n",
-    )?;
-    assert_reply(
-        &rt,
-        &Reply::Refused(MsgFault::Trailing),
-        "refused trailing\n",
-    )?;
+    for (fault, want) in REFUSALS {
+        assert_reply(&rt, &Reply::Refused(fault), want)?;
+    }
     assert_reply(&rt, &Reply::Short { need: 3, have: 2 }, "short 3 2\n")?;
     assert_reply(&rt, &Reply::Good(Good::Already), "already\n")?;
     assert_reply(&rt, &Reply::Good(Good::Clash), "clash\n")?;
@@ -334,35 +317,22 @@ fn replies_of_tables_are_lines(rt: HostRuntime) -> Result<(), Fail> {
         clashes: 3,
     };
     assert_reply(&rt, &Reply::Size(counts), "size new 1 tried 2 clashes 3\n")?;
-    let resolved = Resolved {
+    let resolved = Reply::Resolved(Resolved {
         erased: 1,
         moved: 2,
         kept: 3,
-    };
-    assert_reply(
-        &rt,
-        &Reply::Resolved(resolved),
-        "resolved erased 1 moved 2 kept 3\n",
-    )?;
-    assert_reply(
-        &rt,
-        &Reply::Picked(Picked::One(peer, 9)),
-        "one 8.8.8.8:8333 9\n",
-    )?;
+    });
+    assert_reply(&rt, &resolved, "resolved erased 1 moved 2 kept 3\n")?;
+    let picked = Reply::Picked(Picked::One(peer, 9));
+    assert_reply(&rt, &picked, "one 8.8.8.8:8333 9\n")?;
     assert_reply(&rt, &Reply::Picked(Picked::Nothing), "nothing\n")?;
     assert_reply(&rt, &Reply::Picked(Picked::Exhausted), "exhausted\n")?;
-    assert_reply(
-        &rt,
-        &Reply::Clash(Some((peer, 9))),
-        "clash 8.8.8.8:8333 9\n",
-    )?;
+    let clash = Reply::Clash(Some((peer, 9)));
+    assert_reply(&rt, &clash, "clash 8.8.8.8:8333 9\n")?;
     assert_reply(&rt, &Reply::Clash(None), "none\n")?;
     let peers = Peers::of(vec![in rt.alloc(); peer, peer]?);
-    assert_reply(
-        &rt,
-        &Reply::Sample(peers),
-        "sample 2 8.8.8.8:8333 8.8.8.8:8333\n",
-    )?;
+    let sample = Reply::Sample(peers);
+    assert_reply(&rt, &sample, "sample 2 8.8.8.8:8333 8.8.8.8:8333\n")?;
     let none = Peers::of(Vec::new(rt.alloc()));
     assert_reply(&rt, &Reply::Sample(none), "sample 0\n")
 }

@@ -41,64 +41,66 @@ fn the_cheap_hash_is_the_first_bytes_of_the_double_hash(rt: HostRuntime) {
     assert_eq!(rt; cheap(b""), 0xd3591376e2e0f65d);
 }
 
-// A peer, a source that announces it, and the peer's new bucket, new slot, tried bucket and tried
-// slot.
-type Row = (&'static str, &'static str, [u16; 4]);
-
-const ZERO_KEY: [Row; 8] = [
-    ("8.8.8.8:8333", "1.2.3.4", [87, 37, 126, 9]),
-    ("8.8.8.8:8333", "8.8.8.8", [803, 36, 126, 9]),
-    ("250.1.1.1:8333", "250.1.1.1", [289, 52, 65, 43]),
-    ("250.1.2.1:8333", "250.1.2.1", [289, 44, 182, 58]),
-    (
-        "[2001:470:1234:5678::1]:8333",
-        "[2002:102:304::]",
-        [771, 47, 68, 12],
-    ),
-    (
-        "onion:53890b30557a9fc4e90e33587da2c7ec11365b80a5caef14395e83a8cdf2173c:8333",
-        "i2p:c0ffee03203d5a7794b1ceeb0825425f7c99b6d3f00d2a4764819ebbd8f5122f",
-        [644, 44, 97, 46],
-    ),
-    (
-        "i2p:c0ffee03203d5a7794b1ceeb0825425f7c99b6d3f00d2a4764819ebbd8f5122f:0",
-        "onion:53890b30557a9fc4e90e33587da2c7ec11365b80a5caef14395e83a8cdf2173c",
-        [287, 2, 150, 17],
-    ),
-    (
-        "cjdns:fc120714212e3b4855626f7c8996a3b0:8333",
-        "internal:0102030405060708090a",
-        [68, 44, 207, 56],
-    ),
-];
+/// A peer, a source that announces it, and the peer's new bucket, new slot, tried bucket and tried
+/// slot under each of two keys: 32 zero bytes, and `ONE_HASH`, the key of Bitcoin Core's tests.
+struct Row {
+    peer: &'static str,
+    source: &'static str,
+    zero_key: [u16; 4],
+    core_key: [u16; 4],
+}
 
 // Among these the new bucket 786 (`caddrinfo_get_new_bucket_legacy` in addrman_tests.cpp of Bitcoin
 // Core) and the tried bucket 40 (`caddrinfo_get_tried_bucket_legacy`).
-const CORE_KEY: [Row; 8] = [
-    ("8.8.8.8:8333", "1.2.3.4", [823, 63, 82, 29]),
-    ("8.8.8.8:8333", "8.8.8.8", [369, 39, 82, 29]),
-    ("250.1.1.1:8333", "250.1.1.1", [786, 9, 40, 28]),
-    ("250.1.2.1:8333", "250.1.2.1", [786, 55, 14, 5]),
-    (
-        "[2001:470:1234:5678::1]:8333",
-        "[2002:102:304::]",
-        [13, 17, 16, 13],
-    ),
-    (
-        "onion:53890b30557a9fc4e90e33587da2c7ec11365b80a5caef14395e83a8cdf2173c:8333",
-        "i2p:c0ffee03203d5a7794b1ceeb0825425f7c99b6d3f00d2a4764819ebbd8f5122f",
-        [789, 20, 28, 38],
-    ),
-    (
-        "i2p:c0ffee03203d5a7794b1ceeb0825425f7c99b6d3f00d2a4764819ebbd8f5122f:0",
-        "onion:53890b30557a9fc4e90e33587da2c7ec11365b80a5caef14395e83a8cdf2173c",
-        [166, 33, 253, 8],
-    ),
-    (
-        "cjdns:fc120714212e3b4855626f7c8996a3b0:8333",
-        "internal:0102030405060708090a",
-        [94, 49, 31, 54],
-    ),
+const ROWS: [Row; 8] = [
+    Row {
+        peer: "8.8.8.8:8333",
+        source: "1.2.3.4",
+        zero_key: [87, 37, 126, 9],
+        core_key: [823, 63, 82, 29],
+    },
+    Row {
+        peer: "8.8.8.8:8333",
+        source: "8.8.8.8",
+        zero_key: [803, 36, 126, 9],
+        core_key: [369, 39, 82, 29],
+    },
+    Row {
+        peer: "250.1.1.1:8333",
+        source: "250.1.1.1",
+        zero_key: [289, 52, 65, 43],
+        core_key: [786, 9, 40, 28],
+    },
+    Row {
+        peer: "250.1.2.1:8333",
+        source: "250.1.2.1",
+        zero_key: [289, 44, 182, 58],
+        core_key: [786, 55, 14, 5],
+    },
+    Row {
+        peer: "[2001:470:1234:5678::1]:8333",
+        source: "[2002:102:304::]",
+        zero_key: [771, 47, 68, 12],
+        core_key: [13, 17, 16, 13],
+    },
+    Row {
+        peer: "onion:53890b30557a9fc4e90e33587da2c7ec11365b80a5caef14395e83a8cdf2173c:8333",
+        source: "i2p:c0ffee03203d5a7794b1ceeb0825425f7c99b6d3f00d2a4764819ebbd8f5122f",
+        zero_key: [644, 44, 97, 46],
+        core_key: [789, 20, 28, 38],
+    },
+    Row {
+        peer: "i2p:c0ffee03203d5a7794b1ceeb0825425f7c99b6d3f00d2a4764819ebbd8f5122f:0",
+        source: "onion:53890b30557a9fc4e90e33587da2c7ec11365b80a5caef14395e83a8cdf2173c",
+        zero_key: [287, 2, 150, 17],
+        core_key: [166, 33, 253, 8],
+    },
+    Row {
+        peer: "cjdns:fc120714212e3b4855626f7c8996a3b0:8333",
+        source: "internal:0102030405060708090a",
+        zero_key: [68, 44, 207, 56],
+        core_key: [94, 49, 31, 54],
+    },
 ];
 
 fn places(placer: &Placer<'_>, peer: &Peer, source: &NetAddr) -> [u16; 4] {
@@ -109,13 +111,14 @@ fn places(placer: &Placer<'_>, peer: &Peer, source: &NetAddr) -> [u16; 4] {
     [new, u16::from(new_slot), tried, u16::from(tried_slot)]
 }
 
-fn assert_places(rt: &impl Abort, placer: &Placer<'_>, row: &Row) {
-    let (peer, source, want) = *row;
-    match (parse_peer(peer.as_bytes()), parse_addr(source.as_bytes())) {
+fn assert_places(rt: &impl Abort, placer: &Placer<'_>, row: &Row, want: [u16; 4]) {
+    let peer = parse_peer(row.peer.as_bytes());
+    let source = parse_addr(row.source.as_bytes());
+    match (peer, source) {
         (Some(peer), Some(source)) => {
             assert_eq!(rt; places(placer, &peer, &source), want, "the peer {peer:?}");
         }
-        _ => assert!(rt; false, "the peer {peer}"),
+        _ => assert!(rt; false, "the peer {}", row.peer),
     }
 }
 
@@ -123,13 +126,11 @@ fn assert_places(rt: &impl Abort, placer: &Placer<'_>, row: &Row) {
 fn buckets_and_slots_are_those_of_bitcoin_core(rt: HostRuntime) {
     let zero = Placer::make([0; 32], None);
     assert_eq!(rt; zero.key(), [0; 32]);
-    for row in &ZERO_KEY {
-        assert_places(&rt, &zero, row);
-    }
     let core = Placer::make(ONE_HASH, None);
     assert_eq!(rt; core.key(), ONE_HASH);
-    for row in &CORE_KEY {
-        assert_places(&rt, &core, row);
+    for row in &ROWS {
+        assert_places(&rt, &zero, row, row.zero_key);
+        assert_places(&rt, &core, row, row.core_key);
     }
 }
 
