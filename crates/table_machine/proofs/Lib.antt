@@ -13,5 +13,14 @@ pub mod Finds
 pub mod Tried
 pub mod Moved
 pub mod Waiting
+pub mod Reached
+pub mod Marks
+pub mod Exchanged
+pub mod Kept
+pub mod Unchanged
+pub mod Folds
+pub mod Refusals
 mod SoundExamples
 mod StepExamples
+mod TriedExamples
+mod PickExamples

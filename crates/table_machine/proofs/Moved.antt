@@ -9,8 +9,9 @@ use Rattle.peer_rec.specs.Rec.{IsRec, buckets_of, is_tried}
 use Rattle.peer_rec.specs.declared.rec.Rec.{Rec}
 use Rattle.peer_rec.specs.declared.place.Place.TheVariants.{New, Tried}
 use Rattle.table_machine.specs.State.{State, is_new_at, is_tried_at, new_occupant, tried_occupant}
-use Rattle.table_machine.specs.Entries.{clear_slot, delete, take_bucket, with_record}
+use Rattle.table_machine.specs.Entries.{delete, take_bucket, with_record}
 use Rattle.table_machine.specs.Sound.{IsSound}
+use Rattle.table_machine.specs.Tried.{back_to_new, clear_new, displace, move_to_tried}
 use Rattle.table_machine.proofs.Lists.{find-Some, find_none_from, none_in_nil}
 use Rattle.table_machine.proofs.Buckets.{IsRec-placed, new_bucket-below, placed}
 use Rattle.table_machine.proofs.Records.{changed_cases, changed_other, changed_own, new_at_parts, same_record, tried_at-is_tried, tried_at_parts, without_number-keeps}
@@ -18,29 +19,6 @@ use Rattle.table_machine.proofs.SoundBut.{IsMidway, Never, midway_more, sound_bu
 use Rattle.table_machine.proofs.Primitives.{IsAtTried}
 use Rattle.table_machine.proofs.Slots.{clear_slot-keeps, delete-empties, take-empties, untried-listed}
 use Rattle.table_machine.proofs.Tried.{SharesTried, back-keeps, bare-keeps, take_tried-sound}
-
--- PROPOSED DEFINITIONS (specs): a move to tried (`AddrManImpl::MakeTried`)
-abbrev clear_new : State → ℕ → Option Rec → State
-clear_new st bucket None = st
-clear_new st bucket (Some occupant) = clear_slot st occupant bucket
-
--- the record goes back to the new table, to the bucket of its own source
-abbrev back_to_new : State → Rec → State
-back_to_new st r =
-    let bucket = new_bucket st.places r.peer r.source in
-    with_record (clear_new st bucket (new_occupant st bucket (new_slot st.places r.peer bucket))) (record r { place = New (bucket ∷ []) })
-
-abbrev displace : State → Option Rec → State
-displace st None = st
-displace st (Some old) = back_to_new st old
-
-abbrev move_to_tried : State → Rec → State
-move_to_tried st r =
-    let left = with_record st (record r { place = New [] }) in
-    let bucket = tried_bucket st.places r.peer in
-    with_record (displace left (tried_occupant left bucket (tried_slot st.places r.peer bucket))) (record r { place = Tried })
-
--- END OF PROPOSED DEFINITIONS
 
 -- the last two parts: the occupant of the tried slot goes back to an empty slot, and the record, in no bucket, takes its own
 settle : (st : State) (r old : Rec) (bucket : ℕ) → IsMidway r.number (SharesTried st.places r.peer) st → Contains st.records (placed r (New []))

@@ -13,7 +13,7 @@ use Rattle.peer_rec.specs.declared.rec.Rec.{Rec}
 use Rattle.peer_rec.specs.declared.place.Place.TheVariants.{New}
 use Rattle.table_machine.specs.State.{State, find_peer, new_occupant}
 
--- the answer to an entry, whether it got a slot, and the state after it
+-- a yes or no (whether an entry got a slot, whether a peer is known), and the state after it
 pub record Outcome : Type 0 where
   pub answer : Bool
   pub state : State

@@ -2,10 +2,10 @@
 use Rattle.std.specs.Prelude.{◌≡◌, ◌≢◌, ℕ, ◌<◌, ◌≤◌, ◌^◌, length, map, All, AllPairs, Contains, true, IsSome, IfSome, IsPermutation}
 use Rattle.std.specs.List.Sorted.{IsStrictlyIncreasing}
 use Rattle.net_addr.specs.Ranges.{is_valid}
-use Rattle.placing.specs.Places.{IsPlaces, tried_bucket, tried_slot}
+use Rattle.placing.specs.Places.{IsPlaces}
 use Rattle.peer_rec.specs.Rec.{IsRec}
 use Rattle.peer_rec.specs.declared.rec.Rec.{Rec}
-use Rattle.table_machine.specs.State.{State, find_number, is_new_at, is_tried_at, tried_occupant}
+use Rattle.table_machine.specs.State.{State, find_number, is_new_at, is_tried_at, opponent_of}
 
 -- two records that say they are at one slot of the new table are one record
 abbrev pub AloneInNew : State → Type 0
@@ -19,9 +19,7 @@ AloneInTried st = (bucket slot : ℕ) (r q : Rec) → Contains st.records r → 
 
 -- the tried slot of a newcomer that waits is occupied
 abbrev pub HasOpponent : State → ℕ → Type 0
-HasOpponent st number = IfSome (find_number st number) (λ r.
-    let bucket = tried_bucket st.places r.peer in
-    IsSome (tried_occupant st bucket (tried_slot st.places r.peer bucket)))
+HasOpponent st number = IfSome (find_number st number) (λ r. IsSome (opponent_of st r.peer))
 
 -- One record a slot; the order names each record once; peers are distinct and valid; numbers rise and are below the
 -- next number; the newcomers that wait are at most ten, by rising numbers below the next, and each has an opponent; and

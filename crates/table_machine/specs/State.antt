@@ -54,3 +54,9 @@ is_tried_at places bucket slot r =
 -- the record at the slot of the tried table's bucket
 abbrev pub tried_occupant : State → ℕ → ℕ → Option Rec
 tried_occupant st bucket slot = find (is_tried_at st.places bucket slot) st.records
+
+-- the record at the peer's own slot of the tried table
+abbrev pub opponent_of : State → Peer → Option Rec
+opponent_of st peer =
+    let bucket = tried_bucket st.places peer in
+    tried_occupant st bucket (tried_slot st.places peer bucket)
