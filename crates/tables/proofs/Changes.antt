@@ -20,9 +20,9 @@ use Rattle.peer_index.proofs.Lookups.{id_of-rec_of, same_peer_same_id}
 use Rattle.table_machine.specs.State.{State, is_new_at, is_tried_at, new_occupant, find_peer, find_number}
 use Rattle.table_machine.specs.Entries.{with_record, with_last, delete, take_bucket, change_number}
 use Rattle.tables.specs.Inside.{AreStored, state_with}
-use Rattle.tables.proofs.Searches.{some_is, one_rec, not_both, state-none, state-only}
-use Rattle.tables.proofs.Records.{was, AreNumbers-put, AreNumbers-had, HadNumbers-set, HadNumbers-gone, records-set, records-put, records-gone, order-set, order-put, order-gone}
-use Rattle.tables.proofs.Places.{IsBare, IsAsBefore, IsRight, AreSlots-put, AreSlots-gone, AreSlots-set, moved-at, any-with, any-with-own, any-without, any-without-own}
+use Rattle.tables.proofs.Searches.{some_is, one_rec, state-none, state-only}
+use Rattle.tables.proofs.Records.{AreNumbers-put, AreNumbers-had, HadNumbers-set, HadNumbers-gone, records-set, records-put, records-gone, order-set, order-put, order-gone}
+use Rattle.tables.proofs.Places.{IsBare, IsAsBefore, IsTriedAsBefore, IsRight, IsTriedRight, right-taken, right-left, new-right, AreSlots-put, AreSlots-gone, AreSlots-set, moved-at, any-with, any-with-own, any-without, any-without-own}
 
 -- a record with no bucket is bare
 pub bare-new : (r : Rec) → r.place ≡ New [] → IsBare r
@@ -43,14 +43,14 @@ module _ (places : Places) (order new : Order) (slots : Slots) (next id : ℕ) (
     grid = AreSlots-gone places order new slots id old stored.grid before at others (bare-new old bare);
   }
 
-  stored-set : (after : Slots) (old rec : Rec) → rec_of order id ≡ Some old → rec_of new id ≡ Some rec → rec.number ≡ old.number
+  pub stored-set : (after : Slots) (old rec : Rec) → rec_of order id ≡ Some old → rec_of new id ≡ Some rec → rec.number ≡ old.number
       → ((b s : ℕ) → b < 1024 → s < 64 → IsAsBefore places slots after old rec b s ⊎ IsRight places new after b s)
-      → ((b s : ℕ) → is_tried_at places b s rec ≡ is_tried_at places b s old) → SameTried slots after
+      → ((b s : ℕ) → b < 256 → s < 64 → IsTriedAsBefore places slots after old rec b s ⊎ IsTriedRight places new after b s)
       → AreStored places new after next
-  stored-set after old rec before at number each tried same = record {
+  stored-set after old rec before at number news trieds = record {
     index = still;
     numbers = AreNumbers-had order new next stored.numbers (HadNumbers-set order new id old rec before at others number);
-    grid = AreSlots-set places order new slots after id old rec stored.grid before at others each tried same;
+    grid = AreSlots-set places order new slots after id old rec stored.grid before at others news trieds;
   }
 
   -- another record of the same number, peer and place
@@ -59,8 +59,7 @@ module _ (places : Places) (order new : Order) (slots : Slots) (next id : ℕ) (
   stored-kept old rec before at number peer place =
       stored-set slots old rec before at number
       (λ b s low small. inl (refl, λ i. list_any (λ x. x == b) (buckets_by (place i)) && (new_slot places (peer i) b == s)))
-      (λ b s i. tried_by (place i) && (tried_bucket places (peer i) == b) && (tried_slot places (peer i) b == s))
-      (λ b s low small. refl)
+      (λ b s low small. inl (refl, λ i. tried_by (place i) && (tried_bucket places (peer i) == b) && (tried_slot places (peer i) b == s)))
 
   untried-moved : (old : Rec) (xs : List ℕ) → is_tried old ≡ false → (b s : ℕ) → is_tried_at places b s (record old { place = New xs }) ≡ is_tried_at places b s old
   untried-moved old xs untried b s = sym (ap (λ t. t && (tried_bucket places old.peer == b) && (tried_slot places old.peer b == s)) untried)
@@ -71,7 +70,7 @@ module _ (places : Places) (order new : Order) (slots : Slots) (next id : ℕ) (
     pub stored-take : rec_of new id ≡ Some (record old { place = New (with_bucket bucket (buckets_of old)) })
         → bucket < 1024 → slot < 64 → new_id slots bucket slot ≡ None → new_id after bucket slot ≡ Some id → AreStored places new after next
     stored-take at low small empty written =
-        stored-set after old rec before at refl each (untried-moved old xs untried) same
+        stored-set after old rec before at refl each (λ b s low small. inl (same b s low small, untried-moved old xs untried b s))
       where
         xs : List ℕ
         xs = with_bucket bucket (buckets_of old)
@@ -83,13 +82,9 @@ module _ (places : Places) (order new : Order) (slots : Slots) (next id : ℕ) (
         own-at = λ i. any-with-own bucket (buckets_of old) i && eq-eqb (new_slot places old.peer bucket) slot own i
 
         right : IsRight places new after bucket slot
-        right = (
-          λ j found. let one : id ≡ j = some_is id j (sym written ∙ found) in (rec, ap (rec_of new) (sym one) ∙ at, own-at),
-          λ j r found stands. elim (was order new id (Some rec) at others j r found) [
-            | inl a ↦ written ∙ ap Some (sym a.0)
-            | inr a ↦ let had = stored.grid.new_to bucket slot j r low small a.1 stands in absurd (cc)
-          ],
-        )
+        right =
+            right-taken order new id rec at others (is_new_at places bucket slot) (new_id slots bucket slot) (new_id after bucket slot)
+            (new-right places order slots stored.grid bucket slot low small) empty written own-at
 
         each : (b s : ℕ) → b < 1024 → s < 64 → IsAsBefore places slots after old rec b s ⊎ IsRight places new after b s
         each b s below few = elim (cases_eq b bucket) [
@@ -104,7 +99,7 @@ module _ (places : Places) (order new : Order) (slots : Slots) (next id : ℕ) (
     pub stored-leave : rec_of new id ≡ Some (record old { place = New (without_bucket bucket (buckets_of old)) })
         → bucket < 1024 → slot < 64 → new_id slots bucket slot ≡ Some id → new_id after bucket slot ≡ None → AreStored places new after next
     stored-leave at low small had written =
-        stored-set after old rec before at refl each (untried-moved old xs untried) same
+        stored-set after old rec before at refl each (λ b s low small. inl (same b s low small, untried-moved old xs untried b s))
       where
         xs : List ℕ
         xs = without_bucket bucket (buckets_of old)
@@ -116,13 +111,9 @@ module _ (places : Places) (order new : Order) (slots : Slots) (next id : ℕ) (
         not-at = ap (λ c. c && (new_slot places old.peer bucket == slot)) (any-without-own bucket (buckets_of old))
 
         right : IsRight places new after bucket slot
-        right = (
-          λ j found. absurd (cc),
-          λ j r found stands. elim (was order new id (Some rec) at others j r found) [
-            | inl a ↦ not_both (is_new_at places bucket slot r) stands (ap (is_new_at places bucket slot) (sym (some_is rec r a.1)) ∙ not-at)
-            | inr a ↦ absurd (a.0 (some_is j id (sym (stored.grid.new_to bucket slot j r low small a.1 stands) ∙ had)))
-          ],
-        )
+        right =
+            right-left order new id rec at others (is_new_at places bucket slot) (new_id slots bucket slot) (new_id after bucket slot)
+            (new-right places order slots stored.grid bucket slot low small) had written not-at
 
         each : (b s : ℕ) → b < 1024 → s < 64 → IsAsBefore places slots after old rec b s ⊎ IsRight places new after b s
         each b s below few = elim (cases_eq b bucket) [

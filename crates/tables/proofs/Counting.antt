@@ -1,21 +1,35 @@
 -- How many records of a state are in each table.
-use Rattle.std.proofs.Common.{◌≡◌, ℕ, ◌-◌, cond, length, refl, ◌∙◌, arith}
+use Rattle.std.proofs.Common.{◌≡◌, ℕ, ◌-◌, ◌≤◌, Bool, true, false, ◌&&◌, cond, List, length, refl, ◌∙◌, arith}
 use Rattle.std.specs.Prelude.{count_by, not}
 use Rattle.std.proofs.lemmas.List.{length-map}
 use Rattle.std.proofs.lemmas.List.Filters.{length-filter_both}
-use Rattle.std.proofs.lemmas.List.Sums.{length-filter}
+use Rattle.std.proofs.lemmas.List.Sums.{length-filter, sum_by-le-sum_by}
 use Rattle.std.proofs.lemmas.List.Sorted.{length_permutation, sum_by-IsPermutation}
 use Rattle.peer_rec.specs.Rec.{is_tried}
+use Rattle.peer_rec.specs.declared.rec.Rec.{Rec}
 use Rattle.peer_index.specs.Order.{records}
 use Rattle.tables.specs.declared.store.Store.{Store}
 use Rattle.tables.specs.Inside.{IsTables, state_of}
 use Rattle.tables.proofs.Listing.{same_records}
 
+-- the order has as many records that pass a test as the state
+pub count-same : {H G : Type 0} (s : Store H G) → IsTables s → (p : Rec → Bool) → count_by p (records s.index) ≡ count_by p (state_of s).records
+count-same s is p =
+    sum_by-IsPermutation (λ r. cond (p r) 1 0) (state_of s).records (records s.index)
+    (same_records s.index s.next_number is.stored.index is.stored.numbers is.sound.order)
+
+-- fewer pass two tests than one
+pub count-both : (p q : Rec → Bool) (rs : List Rec) → count_by (λ r. p r && q r) rs ≤ count_by p rs
+count-both p q rs = sum_by-le-sum_by (λ r. cond (p r && q r) 1 0) (λ r. cond (p r) 1 0) rs (λ r. by (p r) (q r))
+  where
+    by : (a b : Bool) → cond (a && b) 1 0 ≤ cond a 1 0
+    by true true = omega arith
+    by true false = omega arith
+    by false b = omega arith
+
 module _ {H G : Type 0} (s : Store H G) (is : IsTables s) (count tried : ℕ) (all : count ≡ length s.index) (some : tried ≡ count_by is_tried (records s.index)) where
   pub tried-count : tried ≡ count_by is_tried (state_of s).records
-  tried-count =
-      some ∙ sum_by-IsPermutation (λ r. cond (is_tried r) 1 0) (state_of s).records (records s.index)
-      (same_records s.index s.next_number is.stored.index is.stored.numbers is.sound.order)
+  tried-count = some ∙ count-same s is is_tried
 
   pub new-count : count - tried ≡ count_by (λ r. not (is_tried r)) (state_of s).records
   new-count =

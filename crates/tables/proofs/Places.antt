@@ -1,5 +1,5 @@
 -- What each change of a record and of a slot leaves of the agreement of slots and records.
-use Rattle.std.proofs.Common.{◌≡◌, ◌≢◌, ℕ, ◌<◌, Bool, true, false, cond, List, [], ◌∷◌, Some, None, refl, sym, ap, ◌∙◌, inl, inr, arith, ◌⊎◌, ◌==◌, ◌&&◌, ◌||◌, nat_lt}
+use Rattle.std.proofs.Common.{◌≡◌, ◌≢◌, ℕ, ◌<◌, Bool, true, false, cond, List, [], ◌∷◌, Option, Some, None, refl, sym, ap, ◌∙◌, inl, inr, arith, ◌⊎◌, ◌==◌, ◌&&◌, ◌||◌, nat_lt}
 use Rattle.std.specs.Prelude.{filter, not}
 use Rattle.std.specs.List.{list_any}
 use Rattle.std.proofs.lemmas.Bool.{cases_eq, eq-eqb, ne_eqb}
@@ -9,7 +9,7 @@ use Rattle.peer_rec.specs.Rec.{buckets_of, is_tried}
 use Rattle.peer_rec.specs.Buckets.{with_bucket, without_bucket}
 use Rattle.peer_rec.specs.declared.rec.Rec.{Rec}
 use Rattle.peer_rec.specs.declared.place.Place.TheVariants.{New}
-use Rattle.slot_grid.specs.Slots.{Slots, new_id, SameTried}
+use Rattle.slot_grid.specs.Slots.{Slots, new_id, tried_id}
 use Rattle.peer_index.specs.Order.{Order, SameOthers, rec_of}
 use Rattle.table_machine.specs.State.{is_new_at, is_tried_at}
 use Rattle.tables.specs.Inside.{AreSlots}
@@ -100,58 +100,99 @@ moved-at places bucket slot old xs others own b s away = elim (cases_eq b bucket
   ]
 ]
 
+-- the id at a slot is the one of the record that says it is there
+abbrev pub IsRightAt : Order → (Rec → Bool) → Option ℕ → Type 0
+IsRightAt order is_there id =
+    ((j : ℕ) → id ≡ Some j → (r : Rec) × (rec_of order j ≡ Some r) × (is_there r ≡ true))
+    × ((j : ℕ) (r : Rec) → rec_of order j ≡ Some r → is_there r ≡ true → id ≡ Some j)
+
+module _ (order new : Order) (id : ℕ) (rec : Rec) (at : rec_of new id ≡ Some rec) (others : SameOthers order new id)
+    (is_there : Rec → Bool) (had has : Option ℕ) where
+  -- a slot stays as it is
+  right-kept : (old : Rec) → rec_of order id ≡ Some old → has ≡ had → is_there rec ≡ is_there old → IsRightAt order is_there had → IsRightAt new is_there has
+  right-kept old before same stays right = (
+    λ j found.
+        let p = right.0 j (sym same ∙ found) in
+        elim (cases_eq j id) [
+          | inl one ↦
+              let own : p.0 ≡ old = one_rec order id p.0 old (ap (rec_of order) (sym one) ∙ p.1) before in
+              (rec, ap (rec_of new) one ∙ at, stays ∙ sym (ap is_there own) ∙ p.2)
+          | inr differs ↦ (p.0, others j differs ∙ p.1, p.2)
+        ],
+    λ j r found stands. elim (was order new id (Some rec) at others j r found) [
+      | inl a ↦
+          let own : rec ≡ r = some_is rec r a.1 in
+          same ∙ right.1 j old (ap (rec_of order) a.0 ∙ before) (sym stays ∙ ap is_there own ∙ stands)
+      | inr a ↦ same ∙ right.1 j r a.1 stands
+    ],
+  )
+
+  -- a record takes an empty slot
+  pub right-taken : IsRightAt order is_there had → had ≡ None → has ≡ Some id → is_there rec ≡ true → IsRightAt new is_there has
+  right-taken right empty written own = (
+    λ j found. let one : id ≡ j = some_is id j (sym written ∙ found) in (rec, ap (rec_of new) (sym one) ∙ at, own),
+    λ j r found stands. elim (was order new id (Some rec) at others j r found) [
+      | inl a ↦ written ∙ ap Some (sym a.0)
+      | inr a ↦ let there = right.1 j r a.1 stands in absurd (cc)
+    ],
+  )
+
+  -- a record leaves its slot
+  pub right-left : IsRightAt order is_there had → had ≡ Some id → has ≡ None → is_there rec ≡ false → IsRightAt new is_there has
+  right-left right full written away = (
+    λ j found. absurd (cc),
+    λ j r found stands. elim (was order new id (Some rec) at others j r found) [
+      | inl a ↦ not_both (is_there r) stands (ap is_there (sym (some_is rec r a.1)) ∙ away)
+      | inr a ↦ absurd (a.0 (some_is j id (sym (right.1 j r a.1 stands) ∙ full)))
+    ],
+  )
+
 -- a slot has what it had, and so has the record
 abbrev pub IsAsBefore : Places → Slots → Slots → Rec → Rec → ℕ → ℕ → Type 0
 IsAsBefore places slots after old rec b s =
     (new_id after b s ≡ new_id slots b s) × (is_new_at places b s rec ≡ is_new_at places b s old)
 
+abbrev pub IsTriedAsBefore : Places → Slots → Slots → Rec → Rec → ℕ → ℕ → Type 0
+IsTriedAsBefore places slots after old rec b s =
+    (tried_id after b s ≡ tried_id slots b s) × (is_tried_at places b s rec ≡ is_tried_at places b s old)
+
 -- or the slot has what the new order says
 abbrev pub IsRight : Places → Order → Slots → ℕ → ℕ → Type 0
-IsRight places new after b s =
-    ((j : ℕ) → new_id after b s ≡ Some j → (r : Rec) × (rec_of new j ≡ Some r) × (is_new_at places b s r ≡ true))
-    × ((j : ℕ) (r : Rec) → rec_of new j ≡ Some r → is_new_at places b s r ≡ true → new_id after b s ≡ Some j)
+IsRight places new after b s = IsRightAt new (is_new_at places b s) (new_id after b s)
+
+abbrev pub IsTriedRight : Places → Order → Slots → ℕ → ℕ → Type 0
+IsTriedRight places new after b s = IsRightAt new (is_tried_at places b s) (tried_id after b s)
+
+module _ (places : Places) (order : Order) (slots : Slots) (grid : AreSlots places order slots) where
+  pub new-right : (b s : ℕ) → b < 1024 → s < 64 → IsRight places order slots b s
+  new-right b s low small = (λ j found. grid.new_from b s j low small found, λ j r found stands. grid.new_to b s j r low small found stands)
+
+  pub tried-right : (b s : ℕ) → b < 256 → s < 64 → IsTriedRight places order slots b s
+  tried-right b s low small = (λ j found. grid.tried_from b s j low small found, λ j r found stands. grid.tried_to b s j r low small found stands)
 
 pub AreSlots-set : (places : Places) (order new : Order) (slots after : Slots) (id : ℕ) (old rec : Rec) → AreSlots places order slots
     → rec_of order id ≡ Some old → rec_of new id ≡ Some rec → SameOthers order new id
     → ((b s : ℕ) → b < 1024 → s < 64 → IsAsBefore places slots after old rec b s ⊎ IsRight places new after b s)
-    → ((b s : ℕ) → is_tried_at places b s rec ≡ is_tried_at places b s old) → SameTried slots after
+    → ((b s : ℕ) → b < 256 → s < 64 → IsTriedAsBefore places slots after old rec b s ⊎ IsTriedRight places new after b s)
     → AreSlots places new after
-AreSlots-set places order new slots after id old rec grid before at others each tried same = record {
-  new_from = λ b s j low small found. elim (each b s low small) [
-    | inr right ↦ right.0 j found
-    | inl here ↦
-        let p = grid.new_from b s j low small (sym here.0 ∙ found) in
-        elim (cases_eq j id) [
-          | inl one ↦
-              let own : p.0 ≡ old = one_rec order id p.0 old (ap (rec_of order) (sym one) ∙ p.1) before in
-              (rec, ap (rec_of new) one ∙ at, here.1 ∙ sym (ap (is_new_at places b s) own) ∙ p.2)
-          | inr differs ↦ (p.0, others j differs ∙ p.1, p.2)
-        ]
-  ];
-  new_to = λ b s j r low small found stands. elim (each b s low small) [
-    | inr right ↦ right.1 j r found stands
-    | inl here ↦ elim (was order new id (Some rec) at others j r found) [
-      | inl a ↦
-          let own : rec ≡ r = some_is rec r a.1 in
-          here.0 ∙ grid.new_to b s j old low small (ap (rec_of order) a.0 ∙ before) (sym here.1 ∙ ap (is_new_at places b s) own ∙ stands)
-      | inr a ↦ here.0 ∙ grid.new_to b s j r low small a.1 stands
-    ]
-  ];
-  tried_from = λ b s j low small found.
-      let p = grid.tried_from b s j low small (sym (same b s low small) ∙ found) in
-      elim (cases_eq j id) [
-        | inl one ↦
-            let own : p.0 ≡ old = one_rec order id p.0 old (ap (rec_of order) (sym one) ∙ p.1) before in
-            (rec, ap (rec_of new) one ∙ at, tried b s ∙ sym (ap (is_tried_at places b s) own) ∙ p.2)
-        | inr differs ↦ (p.0, others j differs ∙ p.1, p.2)
-      ];
-  tried_to = λ b s j r low small found stands. elim (was order new id (Some rec) at others j r found) [
-    | inl a ↦
-        let own : rec ≡ r = some_is rec r a.1 in
-        same b s low small ∙ grid.tried_to b s j old low small (ap (rec_of order) a.0 ∙ before) (sym (tried b s) ∙ ap (is_tried_at places b s) own ∙ stands)
-    | inr a ↦ same b s low small ∙ grid.tried_to b s j r low small a.1 stands
-  ];
+AreSlots-set places order new slots after id old rec grid before at others news trieds = record {
+  new_from = λ b s j low small. (in_new b s low small).0 j;
+  new_to = λ b s j r low small. (in_new b s low small).1 j r;
+  tried_from = λ b s j low small. (in_tried b s low small).0 j;
+  tried_to = λ b s j r low small. (in_tried b s low small).1 j r;
 }
+  where
+    in_new : (b s : ℕ) → b < 1024 → s < 64 → IsRight places new after b s
+    in_new b s low small = elim (news b s low small) [
+      | inl same ↦ right-kept order new id rec at others (is_new_at places b s) (new_id slots b s) (new_id after b s) old before same.0 same.1 (new-right places order slots grid b s low small)
+      | inr right ↦ right
+    ]
+
+    in_tried : (b s : ℕ) → b < 256 → s < 64 → IsTriedRight places new after b s
+    in_tried b s low small = elim (trieds b s low small) [
+      | inl same ↦ right-kept order new id rec at others (is_tried_at places b s) (tried_id slots b s) (tried_id after b s) old before same.0 same.1 (tried-right places order slots grid b s low small)
+      | inr right ↦ right
+    ]
 
 -- a record that is in no slot
 pub record IsBare (r : Rec) : Type 0 where

@@ -1,7 +1,8 @@
 -- Which state an order of records and a grid of slots stand for, which no public clause cites.
-use Rattle.std.specs.Prelude.{◌≡◌, ℕ, zero, suc, ◌<◌, ◌++◌, ◌==◌, List, [], length, map, find, Bool, true, false, Option, Some}
+use Rattle.std.specs.Prelude.{◌≡◌, ℕ, zero, suc, ◌<◌, ◌++◌, ◌==◌, List, [], length, map, find, All, Contains, IsPermutation, Bool, true, false, Option, Some}
 use Rattle.std.specs.Option.{option_to_list}
-use Rattle.placing.specs.Places.{Places, new_slot}
+use Rattle.net_addr.specs.declared.peer.Peer.{Peer}
+use Rattle.placing.specs.Places.{Places, new_slot, tried_bucket, tried_slot}
 use Rattle.peer_rec.specs.Rec.{buckets_of, is_tried}
 use Rattle.peer_rec.specs.declared.rec.Rec.{Rec}
 use Rattle.peer_rec.specs.declared.place.Place.TheVariants.{New}
@@ -12,6 +13,7 @@ use Rattle.table_machine.specs.Sound.{IsSound}
 use Rattle.table_machine.specs.Entries.{Outcome}
 use Rattle.tables.specs.declared.store.Store.{Store}
 use Rattle.tables.specs.declared.reach.Reach.{Reach}
+use Rattle.tables.specs.declared.waiter.Waiter.{Waiter}
 use Rattle.tables.specs.Reach.{IsReach}
 
 -- the record of the number
@@ -61,6 +63,16 @@ state_with places order collisions last_good next = record {
 abbrev pub state_of : {H G : Type 0} → Store H G → State
 state_of s = state_with s.placer s.index s.clashes.items s.last_good s.next_number
 
+-- the waiting numbers with their peers, and what places depend on, are the same
+pub record SameRest {H G : Type 0} (old new : Store H G) : Type 0 where
+  pub placer : new.placer ≡ old.placer
+  pub waiters : new.waiters.items ≡ old.waiters.items
+
+-- Each number that waits is kept once, with the peer of its record, if there still is one.
+pub record AreWaiters (st : State) (waiters : List Waiter) : Type 0 where
+  pub numbers : IsPermutation (map (λ w. w.number) waiters) st.collisions
+  pub peers : All (λ w. (r : Rec) → Contains st.records r → r.number ≡ w.number → r.peer ≡ w.peer) waiters
+
 abbrev pub outcome : Bool → State → Outcome
 outcome answer st = record { answer = answer; state = st }
 
@@ -75,6 +87,31 @@ pub record CanTake (places : Places) (bucket slot : ℕ) (r : Rec) : Type 0 wher
   pub untried : is_tried r ≡ false
   pub room : length (buckets_of r) < 8
   pub own : new_slot places r.peer bucket ≡ slot
+
+-- a record of the new table whose buckets are in range
+pub record IsMovable (r : Rec) : Type 0 where
+  pub untried : is_tried r ≡ false
+  pub below : All (λ b. b < 1024) (buckets_of r)
+
+-- the slot of the bucket is the peer's in the tried table
+pub record IsOwnTried (places : Places) (bucket slot : ℕ) (peer : Peer) : Type 0 where
+  pub own_bucket : tried_bucket places peer ≡ bucket
+  pub own_slot : tried_slot places peer bucket ≡ slot
+
+-- a record that is in no slot, and the slot of its peer in the tried table
+pub record CanTry (places : Places) (bucket slot : ℕ) (r : Rec) : Type 0 where
+  pub bare : r.place ≡ New []
+  pub own : IsOwnTried places bucket slot r.peer
+
+-- the records that no bucket of the new table lists are the same
+abbrev pub SameUnlisted : Order → Order → Type 0
+SameUnlisted old new =
+    (id : ℕ) (r : Rec) → rec_of old id ≡ Some r → buckets_of r ≡ [] → rec_of new id ≡ Some r
+
+-- the records that are in no slot are the same
+abbrev pub SameBare : Order → Order → Type 0
+SameBare old new =
+    (id : ℕ) (r : Rec) → rec_of old id ≡ Some r → r.place ≡ New [] → rec_of new id ≡ Some r
 
 -- two records of one number, peer and place
 pub record IsSameOne (r q : Rec) : Type 0 where
@@ -92,3 +129,4 @@ pub record AreTables {H G : Type 0} (s : Store H G) (r : Reach) : Type 0 where
   pub stored : IsStore s
   pub sound : IsSound (state_of s)
   pub reach : IsReach s.placer r
+  pub waiters : AreWaiters (state_of s) s.waiters.items

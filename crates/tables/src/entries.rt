@@ -12,7 +12,7 @@ impl<'a, H: BuildHasher> Store<'a, H> {
     ghost use Rattle.slot_grid.specs.Slots.{new_id};
     ghost use Rattle.peer_index.specs.Order.{id_of, rec_of};
     ghost use Rattle.table_machine.specs.Entries.{makes_way, enter_occupied, enter_bucket, add_known, add_unknown, add};
-    ghost use Rattle.tables.specs.Inside.{IsStore, state_of, outcome, IsReady};
+    ghost use Rattle.tables.specs.Inside.{IsStore, SameRest, state_of, outcome, IsReady};
     ghost use Rattle.tables.specs.Reach.{IsReach};
 
     /// One entry of a source, with a penalty in seconds and a random word, at a time in seconds
@@ -32,6 +32,7 @@ impl<'a, H: BuildHasher> Store<'a, H> {
         requires more { self.old.next_number < 2 ^ 63 }
         ensures stored { OnOk result (IsStore self.new) }
         ensures reach { IsReach self.new.placer reach.new }
+        ensures rest { SameRest self.old self.new }
         ensures outcome { IfOk result (λ answer. outcome answer (state_of self.new)
             ≡ add (state_of self.old) now entry.now source.now penalty word) }
         ensures err { OnErr result (self.new ≡ self.old) }
@@ -62,6 +63,7 @@ impl<'a, H: BuildHasher> Store<'a, H> {
         requires live { IsSomeAnd (rec_of self.old.index id) (λ r. r.peer ≡ entry.now.peer) }
         ensures stored { IsStore self.new }
         ensures reach { IsReach self.new.placer reach.new }
+        ensures rest { SameRest self.old self.new }
         ensures outcome { (r : Rec) → rec_of self.old.index id ≡ Some r → outcome result (state_of self.new)
             ≡ add_known (state_of self.old) now r entry.now source.now penalty word }
     {
@@ -91,6 +93,7 @@ impl<'a, H: BuildHasher> Store<'a, H> {
         requires absent { id_of self.old.index entry.now.peer ≡ None }
         ensures stored { OnOk result (IsStore self.new) }
         ensures reach { IsReach self.new.placer reach.new }
+        ensures rest { SameRest self.old self.new }
         ensures outcome { IfOk result (λ answer. outcome answer (state_of self.new)
             ≡ add_unknown (state_of self.old) now entry.now source.now penalty) }
         ensures err { OnErr result (self.new ≡ self.old) }
@@ -126,6 +129,7 @@ impl<'a, H: BuildHasher> Store<'a, H> {
         requires ready { IsSomeAnd (rec_of self.old.index id) (IsReady is_new) }
         ensures stored { IsStore self.new }
         ensures reach { IsReach self.new.placer reach.new }
+        ensures rest { SameRest self.old self.new }
         ensures outcome { (r : Rec) → rec_of self.old.index id ≡ Some r → outcome result (state_of self.new)
             ≡ enter_bucket (state_of self.old) now r is_new source.now }
     {
@@ -158,7 +162,7 @@ impl<'a, H: BuildHasher> Store<'a, H> {
         requires slot { slot < 64 }
         requires at { new_id self.old.grid bucket slot ≡ Some occupant }
         ensures stored { IsStore self.new }
-        ensures placer { self.new.placer ≡ self.old.placer }
+        ensures rest { SameRest self.old self.new }
         ensures outcome { (r o : Rec) → rec_of self.old.index id ≡ Some r → rec_of self.old.index occupant ≡ Some o
             → outcome result (state_of self.new) ≡ enter_occupied (state_of self.old) now r is_new bucket o }
     {

@@ -56,6 +56,13 @@ pub(crate) fn penalty_of(entry: &Entry, source: &NetAddr, penalty: u32) -> u32
     }
 }
 
+/// Whether a record has a number. The peer of a record that was deleted may have another one.
+pub(crate) fn has_number(rec: &Rec, number: u64) -> bool
+    ensures { result ≡ (rec.now.number == number) }
+{
+    rec.number == number
+}
+
 /// What the types say of an entry and its source, for the proofs: it does nothing.
 pub(crate) fn check_fields(entry: &Entry, source: &NetAddr)
     ensures { AreFields entry.now source.now }

@@ -1,12 +1,16 @@
+use crate::wanted::is_wanted;
 use crate::{Memory, Store};
+use net_addr::Net;
 use peer_rec::Rec;
 use std::hash::BuildHasher;
 
 impl<'a, H: BuildHasher> Store<'a, H> {
-    ghost use Rattle.std.specs.Prelude.{◌≡◌, ◌<◌, Some, length, slice_get, IfOk, count_by};
+    ghost use Rattle.std.specs.Prelude.{◌≡◌, ◌<◌, ◌&&◌, not, Some, length, slice_get, IfOk, count_by};
     ghost use Rattle.std.specs.List.Sorted.{IsPermutation, IsNonDecreasingBy};
     ghost use Rattle.peer_rec.specs.Rec.{is_tried};
     ghost use Rattle.peer_index.specs.Order.{records};
+    ghost use Rattle.table_machine.specs.Picks.{exchange, is_wanted};
+    ghost use Rattle.tables.specs.Inside.{IsStore, SameRest, state_of};
 
     /// The record at a position of the order.
     fn record_at(&self, position: usize) -> &Rec
@@ -30,6 +34,27 @@ impl<'a, H: BuildHasher> Store<'a, H> {
         count
     }
 
+    /// How many records of the new table, and of the tried table, are of the network, or how many
+    /// there are if none is named.
+    pub(crate) fn count_wanted(&self, net: Option<Net>) -> (usize, usize)
+        ensures new { result.0 ≡ count_by (λ r. not (is_tried r) && is_wanted net r) (records self.now.index) }
+        ensures tried { result.1 ≡ count_by (λ r. is_tried r && is_wanted net r) (records self.now.index) }
+    {
+        let mut new = 0;
+        let mut tried = 0;
+        for position in 0..self.index.len() {
+            let rec = self.record_at(position);
+            if is_wanted(net, rec) {
+                if rec.place.is_tried() {
+                    tried += 1;
+                } else {
+                    new += 1;
+                }
+            }
+        }
+        (new, tried)
+    }
+
     /// The records in their order.
     fn copies(&self) -> Result<Vec<Rec>, Memory>
         ensures { IfOk result (λ v. v.items ≡ records self.now.index) }
@@ -49,5 +74,17 @@ impl<'a, H: BuildHasher> Store<'a, H> {
         let mut copies = self.copies()?;
         copies.sort_unstable_by_key(|rec| rec.number);
         Ok(copies)
+    }
+
+    /// Exchanges two positions of the order.
+    pub(crate) fn swap(&mut self, i: usize, j: usize)
+        requires stored { IsStore self.old }
+        requires first { i < length self.old.index }
+        requires second { j < length self.old.index }
+        ensures stored { IsStore self.new }
+        ensures state { state_of self.new ≡ exchange (state_of self.old) i j }
+        ensures rest { SameRest self.old self.new }
+    {
+        self.index.swap(i, j);
     }
 }

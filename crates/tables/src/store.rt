@@ -1,4 +1,5 @@
 use crate::Memory;
+use crate::waiter::Waiter;
 use arrayvec::ArrayVec;
 use peer_index::PeerIndex;
 use peer_rec::Rec;
@@ -17,6 +18,8 @@ pub(crate) struct Store<'a, H: BuildHasher> {
     pub(crate) index: PeerIndex<H>,
     /// The numbers of the records that wait for a slot of the tried table, rising.
     pub(crate) clashes: ArrayVec<u64, 10>,
+    /// Their peers, by which their records are found.
+    pub(crate) waiters: ArrayVec<Waiter, 10>,
     /// When a peer was last reached, in seconds since 1970.
     pub(crate) last_good: u32,
     /// The number of the next record.
@@ -33,7 +36,7 @@ impl<'a, H: BuildHasher> Store<'a, H> {
     ghost use Rattle.slot_grid.specs.Slots.{new_id};
     ghost use Rattle.peer_index.specs.Order.{SameOthers, id_of, rec_of};
     ghost use Rattle.table_machine.specs.Entries.{with_last, with_record, give_bucket, take_bucket, delete, clear_slot};
-    ghost use Rattle.tables.specs.Inside.{IsStore, state_of, CanTake, IsSameOne};
+    ghost use Rattle.tables.specs.Inside.{IsStore, SameRest, state_of, CanTake, IsSameOne};
 
     /// Puts a record of a new peer, which is in no bucket, last, and gives its id. Where there is
     /// no memory, nothing changes.
@@ -47,7 +50,7 @@ impl<'a, H: BuildHasher> Store<'a, H> {
         ensures stored { OnOk result (IsStore self.new) }
         ensures state { OnOk result (state_of self.new ≡ with_last (state_of self.old) rec) }
         ensures at { IfOk result (λ id. rec_of self.new.index id ≡ Some rec) }
-        ensures placer { self.new.placer ≡ self.old.placer }
+        ensures rest { SameRest self.old self.new }
         ensures err { OnErr result (self.new ≡ self.old) }
     {
         let id = self.index.add(rec)?;
@@ -62,7 +65,7 @@ impl<'a, H: BuildHasher> Store<'a, H> {
         ensures stored { IsStore self.new }
         ensures state { state_of self.new ≡ with_record (state_of self.old) rec }
         ensures at { rec_of self.new.index id ≡ Some rec }
-        ensures placer { self.new.placer ≡ self.old.placer }
+        ensures rest { SameRest self.old self.new }
     {
         self.index.set(id, rec);
     }
@@ -76,7 +79,7 @@ impl<'a, H: BuildHasher> Store<'a, H> {
         requires can { IsSomeAnd (rec_of self.old.index id) (CanTake self.old.placer bucket slot) }
         ensures stored { IsStore self.new }
         ensures state { (r : Rec) → rec_of self.old.index id ≡ Some r → state_of self.new ≡ give_bucket (state_of self.old) r bucket }
-        ensures placer { self.new.placer ≡ self.old.placer }
+        ensures rest { SameRest self.old self.new }
     {
         let rec = self.index.get(id).with_bucket(bucket);
         self.index.set(id, rec);
@@ -84,7 +87,7 @@ impl<'a, H: BuildHasher> Store<'a, H> {
     }
 
     /// Takes the bucket of a slot from the record that is there.
-    fn leave_slot(&mut self, id: usize, bucket: u16, slot: u8)
+    pub(crate) fn leave_slot(&mut self, id: usize, bucket: u16, slot: u8)
         requires stored { IsStore self.old }
         requires bucket { bucket < 1024 }
         requires slot { slot < 64 }
@@ -95,7 +98,7 @@ impl<'a, H: BuildHasher> Store<'a, H> {
             → rec_of self.new.index id ≡ Some (record r { place = New (without_bucket bucket (buckets_of r)) }) }
         ensures others { SameOthers self.old.index self.new.index id }
         ensures empty { new_id self.new.grid bucket slot ≡ None }
-        ensures placer { self.new.placer ≡ self.old.placer }
+        ensures rest { SameRest self.old self.new }
     {
         let rec = self.index.get(id).without_bucket(bucket);
         self.index.set(id, rec);
@@ -110,7 +113,7 @@ impl<'a, H: BuildHasher> Store<'a, H> {
         ensures state { (r : Rec) → rec_of self.old.index id ≡ Some r → state_of self.new ≡ delete (state_of self.old) r }
         ensures others { SameOthers self.old.index self.new.index id }
         ensures grid { self.new.grid ≡ self.old.grid }
-        ensures placer { self.new.placer ≡ self.old.placer }
+        ensures rest { SameRest self.old self.new }
     {
         let peer = self.index.get(id).peer;
         self.index.remove(&peer);
@@ -127,7 +130,7 @@ impl<'a, H: BuildHasher> Store<'a, H> {
         ensures state { (r : Rec) → rec_of self.old.index id ≡ Some r → state_of self.new ≡ clear_slot (state_of self.old) r bucket }
         ensures others { SameOthers self.old.index self.new.index id }
         ensures empty { new_id self.new.grid bucket slot ≡ None }
-        ensures placer { self.new.placer ≡ self.old.placer }
+        ensures rest { SameRest self.old self.new }
     {
         self.leave_slot(id, bucket, slot);
         if self.index.get(id).place.bucket_count() == 0 {

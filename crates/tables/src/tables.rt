@@ -1,10 +1,11 @@
-use crate::known::check_fields;
+use crate::known::{check_fields, has_number};
+use crate::marks::{after_try, still_connected, with_services};
 use crate::reach::Reach;
 use crate::{Memory, Store};
 use arrayvec::ArrayVec;
-use net_addr::{Entry, NetAddr, Peer};
+use net_addr::{Entry, Net, NetAddr, Peer};
 use peer_index::PeerIndex;
-use peer_rec::{Counts, Rec, Recs};
+use peer_rec::{Counts, Good, Rec, Recs};
 use placing::Placer;
 use slot_grid::Grid;
 use std::alloc::Global;
@@ -52,6 +53,7 @@ impl<'a, H: BuildHasher + Drop> Tables<'a, H> {
             grid: Grid::make(alloc)?,
             index: PeerIndex::make(alloc, hasher),
             clashes: ArrayVec::new(),
+            waiters: ArrayVec::new(),
             last_good: 1,
             next_number: 0,
         };
@@ -63,13 +65,16 @@ impl<'a, H: BuildHasher + Drop> Tables<'a, H> {
 }
 
 impl<'a, H: BuildHasher> Tables<'a, H> {
-    ghost use Rattle.std.specs.Prelude.{◌≡◌, ◌<◌, ◌^◌, length, None, Some, IfOk, OnOk, OnErr, option_map, slice_get, ◌≤◌, map, count_by, sum_by, not, IsPermutation};
+    ghost use Rattle.std.specs.Prelude.{◌≡◌, ◌<◌, ◌^◌, length, None, Some, IfOk, OnOk, OnErr, option_map, slice_get, ◌≤◌, map, count_by, sum_by, not, Contains, IsPermutation};
     ghost use Rattle.peer_rec.specs.Rec.{buckets_of, is_tried};
     ghost use Rattle.peer_index.specs.Order.{Order, IsOrder, records};
     ghost use Rattle.tables.specs.Parts.{AreOf};
-    ghost use Rattle.table_machine.specs.State.{State, empty_state, find_peer, find_number, new_occupant};
+    ghost use Rattle.table_machine.specs.State.{State, empty_state, find_peer, find_number, new_occupant, tried_occupant, opponent_of};
     ghost use Rattle.table_machine.specs.Sound.{IsSound};
     ghost use Rattle.table_machine.specs.Entries.{add};
+    ghost use Rattle.table_machine.specs.Tried.{good, attempt, connected, set_services};
+    ghost use Rattle.table_machine.specs.Clashes.{erase_clash};
+    ghost use Rattle.table_machine.specs.Picks.{exchange, wanted_new, wanted_tried};
 
     /// The number of the next record: records are numbered in the order in which they are made,
     /// and no number is used twice.
@@ -100,6 +105,69 @@ impl<'a, H: BuildHasher> Tables<'a, H> {
         check_fields(entry, source);
         self.store
             .add(entry, source, penalty, word, now, &mut self.reach)
+    }
+
+    /// A peer was reached, at a time in seconds since 1970. A record of the new table moves to the
+    /// tried one. With `testing`, it waits instead if its slot there is occupied, unless ten wait
+    /// already; the answer is `Clash` either way (`AddrManImpl::Good_`).
+    pub fn good(&mut self, peer: &Peer, testing: bool, now: u32) -> Good
+        ensures answer { result ≡ (good self.old now peer.now testing).answer }
+        ensures state { self.new ≡ (good self.old now peer.now testing).state }
+        ensures sound { IsSound self.new }
+    {
+        self.store.good(peer, testing, now)
+    }
+
+    /// A connection to a peer was tried, at a time in seconds since 1970. With `counted`, the try
+    /// counts as a failure if the last one that counted is older than the last success of any peer.
+    /// False if the peer is not known (`AddrManImpl::Attempt_`).
+    pub fn attempt(&mut self, peer: &Peer, counted: bool, now: u32) -> bool
+        ensures answer { result ≡ (attempt self.old now peer.now counted).answer }
+        ensures state { self.new ≡ (attempt self.old now peer.now counted).state }
+        ensures sound { IsSound self.new }
+    {
+        match self.store.index.find(peer) {
+            Some(id) => {
+                let rec = after_try(self.store.index.get(id), self.store.last_good, now, counted);
+                self.store.change(id, rec);
+                true
+            }
+            None => false,
+        }
+    }
+
+    /// A peer is connected, at a time in seconds since 1970. False if the peer is not known
+    /// (`AddrManImpl::Connected_`).
+    pub fn connected(&mut self, peer: &Peer, now: u32) -> bool
+        ensures answer { result ≡ (connected self.old now peer.now).answer }
+        ensures state { self.new ≡ (connected self.old now peer.now).state }
+        ensures sound { IsSound self.new }
+    {
+        match self.store.index.find(peer) {
+            Some(id) => {
+                let rec = still_connected(self.store.index.get(id), now);
+                self.store.change(id, rec);
+                true
+            }
+            None => false,
+        }
+    }
+
+    /// A peer told which services it offers. False if the peer is not known
+    /// (`AddrManImpl::SetServices_`).
+    pub fn services(&mut self, peer: &Peer, services: u64) -> bool
+        ensures answer { result ≡ (set_services self.old peer.now services).answer }
+        ensures state { self.new ≡ (set_services self.old peer.now services).state }
+        ensures sound { IsSound self.new }
+    {
+        match self.store.index.find(peer) {
+            Some(id) => {
+                let rec = with_services(self.store.index.get(id), services);
+                self.store.change(id, rec);
+                true
+            }
+            None => false,
+        }
     }
 
     /// The peer's record, None if there is none.
@@ -142,6 +210,81 @@ impl<'a, H: BuildHasher> Tables<'a, H> {
         }
     }
 
+    /// The record at a slot of the tried table, None if the slot is empty. The bucket is below 256
+    /// and the slot below 64.
+    pub fn tried_rec_at(&self, bucket: u16, slot: u8) -> Option<&Rec>
+        requires bucket { bucket < 256 }
+        requires slot { slot < 64 }
+        ensures { option_map (λ r. r.now) result ≡ tried_occupant self.now bucket slot }
+    {
+        match self.store.grid.tried_at(bucket, slot) {
+            Some(id) => Some(self.store.index.get(id)),
+            None => None,
+        }
+    }
+
+    /// The record at the slot of the tried table that a peer has there, None if the slot is empty.
+    pub fn tried_occupant(&self, peer: &Peer) -> Option<&Rec>
+        ensures { option_map (λ r. r.now) result ≡ opponent_of self.now peer.now }
+    {
+        let bucket = self.store.placer.tried_bucket(peer);
+        let slot = self.store.placer.tried_slot(peer, bucket);
+        self.tried_rec_at(bucket, slot)
+    }
+
+    /// The record of a newcomer that waits for a slot of the tried table, by its number; None if
+    /// it was deleted.
+    pub fn by_number(&self, number: u64) -> Option<&Rec>
+        requires waits { Contains self.now.collisions number }
+        ensures { option_map (λ r. r.now) result ≡ find_number self.now number }
+    {
+        let peer = self.store.waiter(number)?.peer;
+        let rec = self.find(&peer)?;
+        if has_number(rec, number) {
+            Some(rec)
+        } else {
+            None
+        }
+    }
+
+    /// The numbers of the newcomers that wait for a slot of the tried table, at most ten, rising.
+    pub fn clashes(&self) -> &[u64]
+        ensures clashes { result.now ≡ self.now.collisions }
+        ensures sound { IsSound self.now }
+    {
+        self.store.clashes.as_slice()
+    }
+
+    /// The newcomer of a number waits no more.
+    pub fn erase_clash(&mut self, number: u64)
+        requires waits { Contains self.old.collisions number }
+        ensures state { self.new ≡ erase_clash self.old number }
+        ensures sound { IsSound self.new }
+    {
+        self.store.erase_clash(number);
+    }
+
+    /// Exchanges two positions of the order.
+    pub fn order_swap(&mut self, i: usize, j: usize)
+        requires first { i < length self.old.order }
+        requires second { j < length self.old.order }
+        ensures state { self.new ≡ exchange self.old i j }
+        ensures sound { IsSound self.new }
+    {
+        self.store.swap(i, j);
+    }
+
+    /// How many records of the new table, and of the tried table, are of the network, or how many
+    /// there are if none is named. A record whose address is not routable counts for
+    /// `Net::Unroutable`.
+    pub fn wanted(&self, net: Option<Net>) -> (u32, u32)
+        ensures new { result.0 ≡ wanted_new self.now net }
+        ensures tried { result.1 ≡ wanted_tried self.now net }
+    {
+        let (new, tried) = self.store.count_wanted(net);
+        (new as u32, tried as u32)
+    }
+
     /// How many records are in the new and in the tried table, and how many newcomers wait for a
     /// slot of the tried table.
     pub fn counts(&self) -> Counts
@@ -167,7 +310,7 @@ impl<'a, H: BuildHasher> Tables<'a, H> {
         Ok(Recs::of(self.store.sorted()?))
     }
 
-    /// The slots. Each has the id, in the index, of the record that is there.
+    /// The slots. Each has the id of the record that is there; `parts` gives the index with it.
     pub fn grid(&self) -> &Grid
         ensures { (order : Order) × AreOf self.now result.now order }
     {

@@ -1,0 +1,21 @@
+use Rattle.std.proofs.Common.{ap, sym, ◌∙◌}
+use Rattle.table_machine.specs.Tried.{clear_new}
+use Rattle.tables.specs.Inside.{state_of}
+use Rattle.tables.proofs.Changes.{occupant-none, occupant-some}
+use Rattle.tables.proofs.store.Store.clear_new.Goals as goal
+
+pub returns-in-Some-clause-state : goal.returns-in-Some-clause-state
+returns-in-Some-clause-state g c =
+    let st = c.args.self.now in
+    let there = sym c.new_at.ensures ∙ c.in-Some.is in
+    let p = c.requires.stored.grid.new_from c.args.bucket c.args.slot c.in-Some.occupant c.requires.bucket c.requires.slot there in
+    c.clear_slot.ensures.state p.0 p.1
+    ∙ sym (ap (clear_new (state_of st) c.args.bucket)
+    (occupant-some st.placer st.index st.grid st.next_number st.clashes.items st.last_good c.requires.stored c.args.bucket c.args.slot c.in-Some.occupant p.0 c.requires.bucket c.requires.slot there p.1))
+
+pub returns-in_default-clause-state : goal.returns-in_default-clause-state
+returns-in_default-clause-state g c =
+    let st = c.args.self.now in
+    sym (ap (clear_new (state_of st) c.args.bucket)
+    (occupant-none st.placer st.index st.grid st.next_number st.clashes.items st.last_good c.requires.stored c.args.bucket c.args.slot c.requires.bucket c.requires.slot
+    (sym c.new_at.ensures ∙ c.in_default.is)))
