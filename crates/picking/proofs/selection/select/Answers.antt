@@ -1,0 +1,12 @@
+use Rattle.std.proofs.Common.{◌≤◌, ◌∙◌, length, sym, arith}
+use Rattle.std.proofs.lemmas.Grind.{common_steps}
+use Rattle.table_machine.specs.Picks.{meetings_of_either}
+use Rattle.table_machine.proofs.Refusals.{few_refusals}
+use Rattle.picking.proofs.selection.select.Goals as goal
+
+-- both tables have wanted records
+pub returns-clause-few : goal.returns-clause-few
+returns-clause-few g c = λ exhausted.
+    let few : length (meetings_of_either c.args.tables.now c.args.net c.args.words.now) ≤ 44 =
+    few_refusals c.args.now (meetings_of_either c.args.tables.now c.args.net c.args.words.now) (sym c.search_either.ensures ∙ exhausted) in
+    grind (arith, common_steps)

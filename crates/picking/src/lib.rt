@@ -1,0 +1,17 @@
+//! Picks from the tables: a peer to connect to, and peers to tell another node of. The caller gives
+//! the random words.
+#![tactic(auto)]
+
+mod bucket;
+mod fault;
+mod limit;
+mod sampling;
+mod search;
+mod selection;
+mod told;
+mod turn;
+
+pub use fault::SampleFault;
+pub use peer_rec::{Peers, Picked};
+pub use sampling::sample;
+pub use selection::select;

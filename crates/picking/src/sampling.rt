@@ -1,0 +1,79 @@
+ghost use Rattle.std.specs.Prelude.{◌≡◌, ◌<◌, ◌≤◌, ◌^◌, ℕ, length, Err, IfOk, OnOk, OnErr, vec_len, vec_capacity};
+ghost use Rattle.table_machine.specs.Picks.{sample, sample_from};
+ghost use Rattle.table_machine.specs.Sound.{IsSound};
+
+use crate::limit::{count_of, sample_limit};
+use crate::turn::draw;
+use crate::{Peers, SampleFault};
+use net_addr::{Net, Peer};
+use std::alloc::Global;
+use std::hash::BuildHasher;
+use tables::Tables;
+
+/// Appends the peers that the random words draw, from the first position of the order on, until
+/// there are as many as the limit. There is room for these.
+fn fill<H: BuildHasher>(
+    tables: &mut Tables<'_, H>,
+    peers: &mut Vec<Peer>,
+    limit: usize,
+    class: Option<Net>,
+    words: &[u64],
+    now: u32,
+)
+    requires empty { vec_len peers.old ≡ 0 }
+    requires room { limit ≤ vec_capacity peers.old }
+    requires words { length tables.old.order ≤ length words.now }
+    requires sound { IsSound tables.old }
+    ensures peers { peers.new.items ≡ (sample_from tables.old class now 0 limit words.now).peers }
+    ensures state { tables.new ≡ (sample_from tables.old class now 0 limit words.now).state }
+    ensures sound { IsSound tables.new }
+{
+    for position in 0..tables.len() {
+        if peers.len() == limit {
+            return;
+        }
+        if let Some(peer) = draw(tables, class, now, position, words[position]) {
+            peers.push_reserved(peer);
+        }
+    }
+}
+
+/// Peers to tell another node of, at a time in seconds since 1970: at most `max`, and at most `pct`
+/// percent of all records, where 0 is no limit; of one class of networks or of any; and none that
+/// is terrible. They come in the order that the random words draw, one word for each record. The
+/// tables' own order stays as the draws leave it (`AddrManImpl::GetAddr_` in addrman.cpp of Bitcoin
+/// Core).
+pub fn sample<H: BuildHasher>(
+    alloc: Global,
+    tables: &mut Tables<'_, H>,
+    max: u32,
+    pct: u32,
+    class: Option<Net>,
+    words: &[u64],
+    now: u32,
+) -> Result<Peers, SampleFault>
+    requires percent { pct ≤ 100 }
+    requires few_words { length words.now < 2 ^ 32 }
+    ensures peers { IfOk result
+        (λ p. p ≡ (sample tables.old max pct class words.now now).peers) }
+    ensures state { OnOk result
+        (tables.new ≡ (sample tables.old max pct class words.now now).state) }
+    ensures enough { OnOk result (length tables.old.order ≤ length words.now) }
+    ensures short { (need have : ℕ) → result ≡ Err (SampleFault.ShortWords need have) →
+        (need ≡ length tables.old.order) × ((have ≡ length words.now) × (have < need)) }
+    ensures sound { IsSound tables.new }
+    ensures err { OnErr result (tables.new ≡ tables.old) }
+{
+    let count = count_of(tables);
+    if words.len() < count as usize {
+        return Err(SampleFault::ShortWords {
+            need: count,
+            have: words.len() as u32,
+        });
+    }
+    let limit = sample_limit(count, max, pct) as usize;
+    let mut peers = Vec::new(alloc);
+    peers.reserve(limit)?;
+    fill(tables, &mut peers, limit, class, words, now);
+    Ok(Peers::of(peers))
+}

@@ -1,0 +1,52 @@
+ghost use Rattle.std.specs.Prelude.{◌≡◌, ◌%◌, ◌<◌, Contains, get_or, length};
+ghost use Rattle.table_machine.specs.State.{find_number};
+ghost use Rattle.table_machine.specs.Sound.{IsSound};
+ghost use Rattle.table_machine.specs.Clashes.{clash_pick, pick_newcomer};
+
+use net_addr::Peer;
+use std::hash::BuildHasher;
+use tables::Tables;
+
+/// The occupant of a slot of the tried table that one of the newcomers which wait is to displace,
+/// and when it was last tried, in seconds since 1970. A random word draws the newcomer; one whose
+/// record was deleted waits no more. None if no newcomer waits, or if the record was deleted
+/// (`AddrManImpl::SelectTriedCollision_` in addrman.cpp of Bitcoin Core). Takes no memory.
+pub fn clash_pick<H: BuildHasher>(tables: &mut Tables<'_, H>, word: u64) -> Option<(Peer, u32)>
+    ensures answer { result ≡ (clash_pick tables.old word).answer }
+    ensures state { tables.new ≡ (clash_pick tables.old word).state }
+    ensures sound { IsSound tables.new }
+{
+    let numbers = tables.clashes();
+    if numbers.is_empty() {
+        return None;
+    }
+    let number = drawn(numbers, word);
+    opponent(tables, number)
+}
+
+// The number that a random word draws.
+fn drawn(numbers: &[u64], word: u64) -> u64
+    requires some { 0 < length numbers.now }
+    ensures drawn { result ≡ get_or numbers.now (word % length numbers.now) 0 }
+    ensures waits { Contains numbers.now result }
+{
+    numbers[(word % numbers.len() as u64) as usize]
+}
+
+// The occupant that the newcomer of a number that waits is to displace.
+fn opponent<H: BuildHasher>(tables: &mut Tables<'_, H>, number: u64) -> Option<(Peer, u32)>
+    requires waits { Contains tables.old.collisions number }
+    ensures answer { result ≡ (pick_newcomer tables.old number (find_number tables.old number)).answer }
+    ensures state { tables.new ≡ (pick_newcomer tables.old number (find_number tables.old number)).state }
+{
+    let peer = tables.by_number(number).map(|newcomer| newcomer.peer);
+    match peer {
+        None => {
+            tables.erase_clash(number);
+            None
+        }
+        Some(peer) => tables
+            .tried_occupant(&peer)
+            .map(|occupant| (occupant.peer, occupant.last_try)),
+    }
+}

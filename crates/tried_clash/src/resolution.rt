@@ -1,0 +1,87 @@
+ghost use Rattle.std.specs.Prelude.{◌≡◌, Contains};
+ghost use Rattle.table_machine.specs.State.{find_number};
+ghost use Rattle.table_machine.specs.Sound.{IsSound};
+ghost use Rattle.table_machine.specs.Clashes.{after_fate, fate_of, move_in, resolve};
+ghost use Rattle.tried_clash.specs.Fates.{meant};
+
+use crate::Fate;
+use arrayvec::ArrayVec;
+use peer_rec::Resolved;
+use std::hash::BuildHasher;
+use tables::Tables;
+
+/// Decides of each newcomer that waits for a slot of the tried table, by rising numbers, at a time
+/// in seconds since 1970: how many met each fate (`AddrManImpl::ResolveCollisions_` in addrman.cpp
+/// of Bitcoin Core). Takes no memory.
+pub fn resolve<H: BuildHasher>(tables: &mut Tables<'_, H>, now: u32) -> Resolved
+    ensures answer { result ≡ (resolve tables.old now).answer }
+    ensures state { tables.new ≡ (resolve tables.old now).state }
+    ensures sound { IsSound tables.new }
+{
+    let numbers = waiting(tables);
+    let mut resolved = Resolved {
+        erased: 0,
+        moved: 0,
+        kept: 0,
+    };
+    for number in numbers.as_slice() {
+        let fate = settle(tables, *number, now);
+        resolved = fate.one_more(resolved);
+    }
+    resolved
+}
+
+// The numbers that wait.
+fn waiting<H: BuildHasher>(tables: &Tables<'_, H>) -> ArrayVec<u64, 10>
+    ensures waiting { result.items ≡ tables.now.collisions }
+    ensures sound { IsSound tables.now }
+{
+    let mut numbers = ArrayVec::new();
+    // There is room for all of them.
+    let _ = numbers.try_extend_from_slice(tables.clashes());
+    numbers
+}
+
+// A number that waits has its turn.
+fn settle<H: BuildHasher>(tables: &mut Tables<'_, H>, number: u64, now: u32) -> Fate
+    requires waits { Contains tables.old.collisions number }
+    ensures fate { meant result ≡ fate_of tables.old (find_number tables.old number) now }
+    ensures state { tables.new ≡ after_fate (meant result) tables.old (find_number tables.old number) number now }
+{
+    let fate = fate_of(tables, number, now);
+    match fate {
+        Fate::Erased => tables.erase_clash(number),
+        Fate::Kept => {}
+        Fate::Moved => {
+            move_in(tables, number, now);
+            tables.erase_clash(number);
+        }
+    }
+    fate
+}
+
+// The fate of the newcomer of a number that waits.
+fn fate_of<H: BuildHasher>(tables: &Tables<'_, H>, number: u64, now: u32) -> Fate
+    requires waits { Contains tables.now.collisions number }
+    ensures { meant result ≡ fate_of tables.now (find_number tables.now number) now }
+{
+    match tables.by_number(number) {
+        None => Fate::Erased,
+        Some(newcomer) => match tables.tried_occupant(&newcomer.peer) {
+            None => Fate::Moved,
+            Some(occupant) => Fate::against(newcomer, occupant, now),
+        },
+    }
+}
+
+// The newcomer of a number that waits takes its slot of the tried table.
+fn move_in<H: BuildHasher>(tables: &mut Tables<'_, H>, number: u64, now: u32)
+    requires waits { Contains tables.old.collisions number }
+    ensures state { tables.new ≡ move_in tables.old (find_number tables.old number) now }
+    ensures waiting { tables.new.collisions ≡ tables.old.collisions }
+{
+    let peer = tables.by_number(number).map(|newcomer| newcomer.peer);
+    if let Some(peer) = peer {
+        tables.good(&peer, false, now);
+    }
+}
