@@ -1,11 +1,17 @@
 -- What a command is answered, and what it leaves.
-use Rattle.std.specs.Prelude.{◌≡◌, ◌≢◌, ◌⊎◌, ℕ, ◌<◌, ◌≤◌, List, length, take, Option, ⊤}
+use Rattle.std.specs.Prelude.{◌≡◌, ◌≢◌, ◌⊎◌, ℕ, ◌<◌, ◌≤◌, List, length, take, count_by, not, Option, ⊤}
 use Rattle.net_addr.specs.Address.{Address}
 use Rattle.net_addr.specs.declared.entry.Entry.{Entry}
 use Rattle.addr_codecs.specs.Layout.{IsAddrMessage, IsAddrv2Message, HasAddrFault, HasAddrv2Fault}
 use Rattle.addr_codecs.specs.declared.fault.MsgFault.{MsgFault}
 use Rattle.addr_codecs.specs.declared.fault.MsgFault.TheVariants as msg
-use Rattle.table_machine.specs.State.{find_peer}
+use Rattle.net_addr.specs.declared.net.Net.{Net}
+use Rattle.peer_rec.specs.Rec.{is_tried}
+use Rattle.peer_rec.specs.declared.counts.Counts.{Counts}
+use Rattle.table_machine.specs.State.{State, find_peer}
+use Rattle.table_machine.specs.Tried.{good, attempt, connected, set_services}
+use Rattle.table_machine.specs.Clashes.{resolve, clash_pick}
+use Rattle.table_machine.specs.Picks.{select, sample}
 use Rattle.log_lines.specs.declared.command.Command.{Command}
 use Rattle.log_lines.specs.declared.command.Command.TheVariants as command
 use Rattle.log_lines.specs.declared.reply.Reply.{Reply}
@@ -26,43 +32,75 @@ MessageStep IsMessage HasFault old source words answer new =
     ((fault : MsgFault) × HasFault fault × (fault ≢ msg.Memory) × (answer ≡ reply.Refused fault) × (new ≡ old))
     ⊎ ((entries : List (Option Entry)) × IsMessage entries × EntriesStep old entries source words answer new)
 
+-- the answer, and the tables after it
+abbrev pub Gives : Machine → Reply → State → Reply → Machine → Type 0
+Gives old told tables answer new = (answer ≡ told) × (new ≡ record old { tables = tables })
+
+-- the answer to a question, which changes nothing
+abbrev pub Tells : Machine → Reply → Reply → Machine → Type 0
+Tells old told answer new = (answer ≡ told) × (new ≡ old)
+
+-- how many records are in each table, and how many newcomers wait for a slot of the tried one
+abbrev pub counts_of : State → Counts
+counts_of st = record {
+  new_count = count_by (λ r. not (is_tried r)) st.records;
+  tried_count = count_by is_tried st.records;
+  clashes = length st.collisions;
+}
+
+-- A sample of the tables. With fewer random words than there are records it changes nothing.
+abbrev pub SampleStep : Machine → ℕ → ℕ → Option Net → List ℕ → Reply → Machine → Type 0
+SampleStep old max pct class words answer new =
+    ((length words < length old.tables.order) × Tells old (reply.Short (length old.tables.order) (length words)) answer new)
+    ⊎ ((length old.tables.order ≤ length words)
+    × Gives old (reply.Sample (sample old.tables max pct class words old.clock).peers) (sample old.tables max pct class words old.clock).state answer new)
+
 -- the commands that are built so far
 abbrev pub IsBuilt : Command → Type 0
 IsBuilt (command.Now time) = ⊤
 IsBuilt (command.Addr source payload words) = ⊤
 IsBuilt (command.Addr2 source payload words) = ⊤
 IsBuilt (command.Find peer) = ⊤
-IsBuilt (command.Good peer testing) = ⊥
-IsBuilt (command.Attempt peer count) = ⊥
-IsBuilt (command.Connected peer) = ⊥
-IsBuilt (command.Services peer services) = ⊥
-IsBuilt command.Size = ⊥
-IsBuilt (command.Select new_only net words) = ⊥
-IsBuilt (command.Sample max pct class words) = ⊥
-IsBuilt command.Resolve = ⊥
-IsBuilt (command.Clash word) = ⊥
-IsBuilt command.Dump = ⊥
+IsBuilt (command.Good peer testing) = ⊤
+IsBuilt (command.Attempt peer count) = ⊤
+IsBuilt (command.Connected peer) = ⊤
+IsBuilt (command.Services peer services) = ⊤
+IsBuilt command.Size = ⊤
+IsBuilt (command.Select new_only net words) = ⊤
+IsBuilt (command.Sample max pct class words) = ⊤
+IsBuilt command.Resolve = ⊤
+IsBuilt (command.Clash word) = ⊤
+IsBuilt command.Dump = ⊤
 IsBuilt command.Save = ⊥
 IsBuilt command.SaveBegin = ⊥
 IsBuilt (command.SaveStep count) = ⊥
 IsBuilt command.SaveEnd = ⊥
+
+-- a sample is of at most all records
+abbrev pub HasPercent : Command → Type 0
+HasPercent (command.Sample max pct class words) = pct ≤ 100
+HasPercent other = ⊤
 
 -- what a command is answered, and the machine after it
 abbrev pub Step : Machine → Command → Reply → Machine → Type 0
 Step old (command.Now time) answer new = (answer ≡ reply.Now time) × (new ≡ record old { clock = time })
 Step old (command.Addr source payload words) answer new = MessageStep (IsAddrMessage payload) (HasAddrFault payload) old source words answer new
 Step old (command.Addr2 source payload words) answer new = MessageStep (IsAddrv2Message payload) (HasAddrv2Fault payload) old source words answer new
-Step old (command.Find peer) answer new = (answer ≡ reply.Found (find_peer old.tables peer)) × (new ≡ old)
-Step old (command.Good peer testing) answer new = ⊥
-Step old (command.Attempt peer count) answer new = ⊥
-Step old (command.Connected peer) answer new = ⊥
-Step old (command.Services peer services) answer new = ⊥
-Step old command.Size answer new = ⊥
-Step old (command.Select new_only net words) answer new = ⊥
-Step old (command.Sample max pct class words) answer new = ⊥
-Step old command.Resolve answer new = ⊥
-Step old (command.Clash word) answer new = ⊥
-Step old command.Dump answer new = ⊥
+Step old (command.Good peer testing) answer new =
+    Gives old (reply.Good (good old.tables old.clock peer testing).answer) (good old.tables old.clock peer testing).state answer new
+Step old (command.Attempt peer count) answer new =
+    Gives old (reply.Known (attempt old.tables old.clock peer count).answer) (attempt old.tables old.clock peer count).state answer new
+Step old (command.Connected peer) answer new =
+    Gives old (reply.Known (connected old.tables old.clock peer).answer) (connected old.tables old.clock peer).state answer new
+Step old (command.Services peer services) answer new =
+    Gives old (reply.Known (set_services old.tables peer services).answer) (set_services old.tables peer services).state answer new
+Step old (command.Find peer) answer new = Tells old (reply.Found (find_peer old.tables peer)) answer new
+Step old command.Size answer new = Tells old (reply.Size (counts_of old.tables)) answer new
+Step old (command.Select new_only net words) answer new = Tells old (reply.Picked (select old.tables new_only net words old.clock)) answer new
+Step old (command.Sample max pct class words) answer new = SampleStep old max pct class words answer new
+Step old command.Resolve answer new = Gives old (reply.Resolved (resolve old.tables old.clock).answer) (resolve old.tables old.clock).state answer new
+Step old (command.Clash word) answer new = Gives old (reply.Clash (clash_pick old.tables word).answer) (clash_pick old.tables word).state answer new
+Step old command.Dump answer new = Tells old (reply.Dump old.tables.records) answer new
 Step old command.Save answer new = ⊥
 Step old command.SaveBegin answer new = ⊥
 Step old (command.SaveStep count) answer new = ⊥
@@ -97,10 +135,10 @@ NeedsMemory (command.Connected peer) = ⊥
 NeedsMemory (command.Services peer services) = ⊥
 NeedsMemory command.Size = ⊥
 NeedsMemory (command.Select new_only net words) = ⊥
-NeedsMemory (command.Sample max pct class words) = ⊥
+NeedsMemory (command.Sample max pct class words) = ⊤
 NeedsMemory command.Resolve = ⊥
 NeedsMemory (command.Clash word) = ⊥
-NeedsMemory command.Dump = ⊥
+NeedsMemory command.Dump = ⊤
 NeedsMemory command.Save = ⊥
 NeedsMemory command.SaveBegin = ⊥
 NeedsMemory (command.SaveStep count) = ⊥

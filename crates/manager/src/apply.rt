@@ -1,5 +1,5 @@
 ghost use Rattle.std.specs.Prelude.{◌≡◌, ◌≢◌, ◌+◌, ◌≤◌, ◌<◌, ◌^◌, IfOk, OnErr};
-ghost use Rattle.manager.specs.Step.{Step, IsBuilt, NeedsMemory, LeavesPart};
+ghost use Rattle.manager.specs.Step.{Step, IsBuilt, HasPercent, NeedsMemory, LeavesPart};
 
 use crate::{Manager, Memory};
 use addr_codecs::MsgFault;
@@ -12,6 +12,7 @@ impl<'a, H: BuildHasher> Manager<'a, H> {
     /// whole message.
     pub fn apply(&mut self, alloc: Global, command: &Command) -> Result<Reply, Memory>
         requires built { IsBuilt command.now }
+        requires percent { HasPercent command.now }
         requires room { self.old.tables.next_number < 2 ^ 62 }
         ensures step { IfOk result (λ answer. Step self.old command.now answer self.new) }
         ensures numbers { self.new.tables.next_number ≤ self.old.tables.next_number + 1000 }
@@ -34,23 +35,28 @@ impl<'a, H: BuildHasher> Manager<'a, H> {
                 payload,
                 words,
             } => self.take_addrv2(alloc, source, payload, words),
-            Command::Find { peer } => {
-                Ok(Reply::Found(self.tables.find(peer).map(|rec| rec.copy())))
-            }
-            Command::Good { .. }
-            | Command::Attempt { .. }
-            | Command::Connected { .. }
-            | Command::Services { .. }
-            | Command::Size
-            | Command::Select { .. }
-            | Command::Sample { .. }
-            | Command::Resolve
-            | Command::Clash { .. }
-            | Command::Dump
-            | Command::Save
-            | Command::SaveBegin
-            | Command::SaveStep { .. }
-            | Command::SaveEnd => unreachable!(),
+            Command::Good { peer, testing } => Ok(self.good(peer, *testing)),
+            Command::Attempt { peer, count } => Ok(self.attempt(peer, *count)),
+            Command::Connected { peer } => Ok(self.connected(peer)),
+            Command::Services { peer, services } => Ok(self.services(peer, *services)),
+            Command::Find { peer } => Ok(self.find(peer)),
+            Command::Size => Ok(self.size()),
+            Command::Select {
+                new_only,
+                net,
+                words,
+            } => Ok(self.select(*new_only, *net, words)),
+            Command::Sample {
+                max,
+                pct,
+                class,
+                words,
+            } => self.sample(alloc, *max, *pct, *class, words),
+            Command::Resolve => Ok(self.resolve()),
+            Command::Clash { word } => Ok(self.clash(*word)),
+            Command::Dump => self.dump(),
+            Command::Save | Command::SaveBegin | Command::SaveStep { .. } | Command::SaveEnd =>
+                unreachable!(),
         }
     }
 }

@@ -8,21 +8,20 @@ pub fn is_built(command: &Command) -> bool
     ensures { IsTrue result ↔ IsBuilt command.now }
 {
     match command {
-        Command::Now { .. } | Command::Addr { .. } | Command::Addr2 { .. } | Command::Find { .. } =>
-            true,
-        Command::Good { .. }
+        Command::Save | Command::SaveBegin | Command::SaveStep { .. } | Command::SaveEnd => false,
+        Command::Now { .. }
+        | Command::Addr { .. }
+        | Command::Addr2 { .. }
+        | Command::Good { .. }
         | Command::Attempt { .. }
         | Command::Connected { .. }
         | Command::Services { .. }
+        | Command::Find { .. }
         | Command::Size
         | Command::Select { .. }
         | Command::Sample { .. }
         | Command::Resolve
         | Command::Clash { .. }
-        | Command::Dump
-        | Command::Save
-        | Command::SaveBegin
-        | Command::SaveStep { .. }
-        | Command::SaveEnd => false,
+        | Command::Dump => true,
     }
 }

@@ -3,9 +3,13 @@
 
 mod apply;
 mod built;
+mod collisions;
 mod manager;
 mod memory;
 mod messages;
+mod news;
+mod picks;
+mod questions;
 
 pub use built::is_built;
 pub use manager::Manager;

@@ -1,0 +1,12 @@
+use Rattle.std.proofs.Common.{◌∙◌, refl, ap}
+use Rattle.table_machine.specs.Picks.{select}
+use Rattle.log_lines.specs.declared.reply.Reply.TheVariants as reply
+use Rattle.manager.proofs.manager.Manager.select.Goals as goal
+
+pub returns-clause-step : goal.returns-clause-step
+returns-clause-step g c =
+    let words = c.items.ensures.items in (
+      ap reply.Picked (c.select.ensures.picked
+          ∙ (λ j. select (c.self.view_is j).tables c.args.new_only c.args.net (words j) (c.self.view_is j).clock)),
+      refl,
+    )

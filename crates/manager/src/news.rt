@@ -1,0 +1,46 @@
+ghost use Rattle.std.specs.Prelude.{◌≡◌, ◌≢◌};
+ghost use Rattle.manager.specs.Step.{Step};
+
+use crate::Manager;
+use addr_codecs::MsgFault;
+use log_lines::{Command, Reply};
+use net_addr::Peer;
+use std::hash::BuildHasher;
+
+impl<'a, H: BuildHasher> Manager<'a, H> {
+    /// A connection to a peer succeeded; with `testing`, the occupant of its tried slot stays.
+    pub(crate) fn good(&mut self, peer: &Peer, testing: bool) -> Reply
+        ensures step { Step self.old (Command.Good peer.now testing) result self.new }
+        ensures numbers { self.new.tables.next_number ≡ self.old.tables.next_number }
+        ensures spoken { result ≢ Reply.Refused MsgFault.Memory }
+    {
+        Reply::Good(self.tables.good(peer, testing, self.clock))
+    }
+
+    /// A connection to a peer was tried; with `count`, it counts as a failure.
+    pub(crate) fn attempt(&mut self, peer: &Peer, count: bool) -> Reply
+        ensures step { Step self.old (Command.Attempt peer.now count) result self.new }
+        ensures numbers { self.new.tables.next_number ≡ self.old.tables.next_number }
+        ensures spoken { result ≢ Reply.Refused MsgFault.Memory }
+    {
+        Reply::Known(self.tables.attempt(peer, count, self.clock))
+    }
+
+    /// A peer is still connected.
+    pub(crate) fn connected(&mut self, peer: &Peer) -> Reply
+        ensures step { Step self.old (Command.Connected peer.now) result self.new }
+        ensures numbers { self.new.tables.next_number ≡ self.old.tables.next_number }
+        ensures spoken { result ≢ Reply.Refused MsgFault.Memory }
+    {
+        Reply::Known(self.tables.connected(peer, self.clock))
+    }
+
+    /// A peer said which services it offers.
+    pub(crate) fn services(&mut self, peer: &Peer, services: u64) -> Reply
+        ensures step { Step self.old (Command.Services peer.now services) result self.new }
+        ensures numbers { self.new.tables.next_number ≡ self.old.tables.next_number }
+        ensures spoken { result ≢ Reply.Refused MsgFault.Memory }
+    {
+        Reply::Known(self.tables.services(peer, services))
+    }
+}
