@@ -11,7 +11,9 @@ addr 1.2.3.4 0100f15365010000000000000000000000000000000000ffff08080808208d 0\n\
 find 8.8.8.8:8333\n\
 addr 1.2.3.4 0100f15365010000000000000000000000000000000000ffff08080808208d 0\n\
 addr 1.2.3.4 0100f15365010000000000000000000000000000000000ffff08080808208d 1\n\
-find 8.8.8.8:8333\n",
+find 8.8.8.8:8333\n\
+size\n\
+dump\n",
         replies: "\
 now 1700000000\n\
 added 1 of 1\n\
@@ -20,7 +22,11 @@ ew 87\n\
 added 0 of 1\n\
 added 0 of 1\n\
 peer 8.8.8.8:8333 source 1.2.3.4 time 1699992800 services 1 success 0 try 0 attempts 0 n\
-ew 87\n",
+ew 87\n\
+size new 1 tried 0 clashes 0\n\
+peer 8.8.8.8:8333 source 1.2.3.4 time 1699992800 services 1 success 0 try 0 attempts 0 n\
+ew 87\n\
+end 1\n",
     },
     Replay {
         log: "\
@@ -42,7 +48,8 @@ find 8.8.8.8:8333\n\
 addr 11.2.3.4 0100f15365010000000000000000000000000000000000ffff08080808208d 0\n\
 find 8.8.8.8:8333\n\
 addr 12.2.3.4 0100f15365010000000000000000000000000000000000ffff08080808208d 0\n\
-find 8.8.8.8:8333\n",
+find 8.8.8.8:8333\n\
+size\n",
         replies: "\
 now 1700000000\n\
 added 1 of 1\n\
@@ -71,20 +78,23 @@ peer 8.8.8.8:8333 source 1.2.3.4 time 1699992800 services 1 success 0 try 0 atte
 ew 87,139,208,253,379,648,827,948\n\
 added 0 of 1\n\
 peer 8.8.8.8:8333 source 1.2.3.4 time 1699992800 services 1 success 0 try 0 attempts 0 n\
-ew 87,139,208,253,379,648,827,948\n",
+ew 87,139,208,253,379,648,827,948\n\
+size new 1 tried 0 clashes 0\n",
     },
     Replay {
         log: "\
 now 1700000000\n\
 addr 1.2.3.4 0100f15365010000000000000000000000000000000000ffff08080808208d 0\n\
 addr 2.2.3.4 0100f15365010000000000000000000000000000000000ffff08080808208d 1\n\
-find 8.8.8.8:8333\n",
+find 8.8.8.8:8333\n\
+size\n",
         replies: "\
 now 1700000000\n\
 added 1 of 1\n\
 added 0 of 1\n\
 peer 8.8.8.8:8333 source 1.2.3.4 time 1699992800 services 1 success 0 try 0 attempts 0 n\
-ew 87\n",
+ew 87\n\
+size new 1 tried 0 clashes 0\n",
     },
 ];
 
@@ -97,7 +107,8 @@ addr 1.2.3.4 0100f15365010000000000000000000000000000000000ffff08080808208d 0\n\
 now 1702584800\n\
 addr 1.2.3.4 01e0617b65010000000000000000000000000000000000ffff080808080016 0\n\
 find 8.8.8.8:8333\n\
-find 8.8.8.8:22\n",
+find 8.8.8.8:22\n\
+size\n",
         replies: "\
 now 1700000000\n\
 added 1 of 1\n\
@@ -105,7 +116,8 @@ now 1702584800\n\
 added 0 of 1\n\
 peer 8.8.8.8:8333 source 1.2.3.4 time 1699992800 services 1 success 0 try 0 attempts 0 n\
 ew 87\n\
-unknown\n",
+unknown\n\
+size new 1 tried 0 clashes 0\n",
     },
     Replay {
         log: "\
@@ -116,7 +128,8 @@ addr 1.2.3.4 01e1617b65010000000000000000000000000000000000ffff080808080000 0\n\
 addr 1.2.3.4 01e1617b65010000000000000000000000000000000000ffff080808080016 0\n\
 find 8.8.8.8:8333\n\
 find 8.8.8.8:22\n\
-find 8.8.8.8:0\n",
+find 8.8.8.8:0\n\
+size\n",
         replies: "\
 now 1700000000\n\
 added 1 of 1\n\
@@ -126,8 +139,9 @@ added 1 of 1\n\
 unknown\n\
 peer 8.8.8.8:22 source 1.2.3.4 time 1702577601 services 1 success 0 try 0 attempts 0 ne\
 w 87\n\
-peer 8.8.8.8:0 source 1.2.3.4 time 1702577601 services 1 success 0 try 0 attempts 0 ne\
-w 87\n",
+peer 8.8.8.8:0 source 1.2.3.4 time 1702577601 services 1 success 0 try 0 attempts 0 new \
+87\n\
+size new 2 tried 0 clashes 0\n",
     },
     Replay {
         log: "\
@@ -137,7 +151,8 @@ addr 2.2.3.4 0100f15365010000000000000000000000000000000000ffff08080808208d 0\n\
 find 8.8.8.8:8333\n\
 addr 1.2.3.4 0100f15365010000000000000000000000000000000000ffff080808080016 0\n\
 find 8.8.8.8:8333\n\
-find 8.8.8.8:22\n",
+find 8.8.8.8:22\n\
+size\n",
         replies: "\
 now 1700000000\n\
 added 1 of 1\n\
@@ -148,7 +163,8 @@ added 1 of 1\n\
 peer 8.8.8.8:8333 source 1.2.3.4 time 1699992800 services 1 success 0 try 0 attempts 0 n\
 ew 827\n\
 peer 8.8.8.8:22 source 1.2.3.4 time 1699992800 services 1 success 0 try 0 attempts 0 ne\
-w 87\n",
+w 87\n\
+size new 2 tried 0 clashes 0\n",
     },
 ];
 

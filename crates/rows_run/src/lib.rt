@@ -5,7 +5,11 @@
 #[cfg(test)]
 mod asmaps;
 #[cfg(test)]
+mod collisions;
+#[cfg(test)]
 mod faults;
+#[cfg(test)]
+mod generated;
 #[cfg(test)]
 mod known_peers;
 #[cfg(test)]
@@ -19,9 +23,15 @@ mod lookups;
 #[cfg(test)]
 mod messages;
 #[cfg(test)]
+mod reached;
+#[cfg(test)]
 mod replies;
 #[cfg(test)]
 mod runs;
+#[cfg(test)]
+mod samples;
+#[cfg(test)]
+mod selects;
 #[cfg(test)]
 mod sizes;
 #[cfg(test)]

@@ -1,12 +1,14 @@
 // Lines at fault.
 use crate::log_text::{FIRST_LINES, FIRST_REPLIES};
-use crate::runs::assert_run;
+use crate::runs::{assert_run, replay_words, run_over};
 use addrman_run::Status;
+use host_io::{MemSink, MemSource};
 use log_lines::LineFault;
+use std::process::Abort;
 use std::test::Fail;
 
 /// Lines, and the first fault of each.
-const FAULTS: [(&str, LineFault); 26] = [
+const FAULTS: [(&str, LineFault); 52] = [
     ("nowe 1", LineFault::Word),
     ("Now 1", LineFault::Word),
     (" now 1", LineFault::Word),
@@ -33,7 +35,93 @@ const FAULTS: [(&str, LineFault); 26] = [
     ("select any all 1,,2", LineFault::Words),
     ("addr 1.2.3.4 - 18446744073709551616", LineFault::Words),
     ("good 8.8.8.8:8333 no", LineFault::Word),
+    ("  ", LineFault::Word),
+    ("\t", LineFault::Word),
+    ("\r", LineFault::Word),
+    ("   now 1", LineFault::Word),
+    ("now 1\0", LineFault::Number),
+    ("size ", LineFault::Fields),
+    ("size\r", LineFault::Word),
+    ("resolve\t", LineFault::Word),
+    ("dump 1", LineFault::Fields),
+    ("select any all\t-", LineFault::Fields),
+    ("select any unroutable -", LineFault::Word),
+    ("select any any -", LineFault::Word),
+    ("select old all -", LineFault::Word),
+    ("sample 0 101 all -", LineFault::Number),
+    ("sample 4294967296 0 all -", LineFault::Number),
+    ("sample 0 0 tor -", LineFault::Word),
+    ("clash 18446744073709551616", LineFault::Number),
+    (
+        "services 8.8.8.8:8333 18446744073709551616",
+        LineFault::Number,
+    ),
+    ("services 8.8.8.8 0", LineFault::Peer),
+    ("attempt 8.8.8.8:8333 test", LineFault::Word),
+    ("connected 8.8.8.8:08333", LineFault::Peer),
+    ("good 8.8.8.8:8333 test ", LineFault::Fields),
+    ("select any all @1:1000001", LineFault::Words),
+    ("select any all @1", LineFault::Words),
+    ("clash -1", LineFault::Number),
+    ("sample 0 0 all 1, 2", LineFault::Fields),
 ];
+
+/// What stands before and after a field of a million digits, and the fault of the line.
+const LONG_FIELDS: [(&str, &str, LineFault); 11] = [
+    ("", "", LineFault::Word),
+    ("size ", "", LineFault::Fields),
+    ("now ", "", LineFault::Number),
+    ("find ", "", LineFault::Peer),
+    ("good ", " test", LineFault::Peer),
+    ("good 8.8.8.8:8333 ", "", LineFault::Word),
+    ("services 8.8.8.8:8333 ", "", LineFault::Number),
+    ("select any all ", "", LineFault::Words),
+    ("sample 0 ", " all -", LineFault::Number),
+    ("addr ", " 00 -", LineFault::Peer),
+    ("addr 1.2.3.4 0", " -", LineFault::Hex),
+];
+
+/// A replay under the key of 64 zeros of a line with this many bytes of one kind in it.
+fn assert_long(
+    rt: &(impl Abort + AllocGlobal),
+    (before, byte, after): (&str, u8, &str),
+    want: Status,
+    text: &str,
+) -> Result<(), Fail> {
+    let mut line = Vec::new(rt.alloc());
+    line.extend_from_slice(before.as_bytes())?;
+    line.extend_from_slice(vec![in rt.alloc(); byte; 1_000_000]?.as_slice())?;
+    line.extend_from_slice(after.as_bytes())?;
+    let words = replay_words(rt.alloc())?;
+    let mut source = MemSource::make(rt.alloc(), line.as_slice(), 65_536, &[])?;
+    let mut sink = MemSink::make(rt.alloc(), &[])?;
+    let status = run_over(rt.alloc(), words.as_slice(), &mut source, &mut sink);
+    assert_eq!(rt; sink.bytes(), text.as_bytes(), "written for {before:?}");
+    assert_eq!(rt; status, want, "status for {before:?}");
+    Ok(())
+}
+
+/// Each kind of field. A payload of 500,000 bytes is in form, and no message.
+#[test]
+fn a_field_of_a_million_digits_is_at_fault_as_a_short_one(rt: HostRuntime) -> Result<(), Fail> {
+    for (before, after, fault) in LONG_FIELDS {
+        let first = Status::LogLine { line: 1, fault };
+        assert_long(&rt, (before, b'1', after), first, "")?;
+    }
+    let message = ("addr 1.2.3.4 ", b'1', " -");
+    assert_long(&rt, message, Status::Done, "refused trailing\n")
+}
+
+/// Spaces, tabs, carriage returns and bytes 0.
+#[test]
+fn a_million_bytes_that_are_no_word_are_at_fault(rt: HostRuntime) -> Result<(), Fail> {
+    for byte in [b' ', b'\t', b'\r', b'\0'] {
+        let fault = LineFault::Word;
+        let first = Status::LogLine { line: 1, fault };
+        assert_long(&rt, ("", byte, ""), first, "")?;
+    }
+    Ok(())
+}
 
 /// A line at fault ends the run with its number and its first fault. The lines before it are
 /// answered, and the line after it is not carried out.

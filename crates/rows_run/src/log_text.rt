@@ -1,4 +1,5 @@
 // The text of the logs that the tests hand in.
+use crate::runs::Replay;
 use std::alloc::{AllocError, Global};
 
 /// The key of 64 zeros.
@@ -11,6 +12,12 @@ pub(crate) const FIRST_LINES: &str =
 
 /// The replies to these lines.
 pub(crate) const FIRST_REPLIES: &str = "now 1700000000\nadded 1 of 1\n";
+
+/// The same lines as a replay.
+pub(crate) const FIRST: Replay = Replay {
+    log: FIRST_LINES,
+    replies: FIRST_REPLIES,
+};
 
 /// The payload of one entry: when it was seen, in seconds since 1970, the four bytes of its address
 /// in hexadecimal, and its port. It offers the service 1.

@@ -11,12 +11,14 @@ addr 1.2.3.4 0200f15365010000000000000000000000000000000000ffff0a000001208d00f15
 0000000000000000000000000000000ffff00000000208d 0,0\n\
 addr 1.2.3.4 0200f15365010000000000000000000000000000000000ffff0a000001208d00f1536501000\
 0000000000000000000000000000000ffff00000000208d 0\n\
-find 10.0.0.1:8333\n",
+find 10.0.0.1:8333\n\
+size\n",
         replies: "\
 now 1700000000\n\
 added 0 of 2\n\
 short 2 1\n\
-unknown\n",
+unknown\n\
+size new 0 tried 0 clashes 0\n",
     },
     Replay {
         log: "\
@@ -28,7 +30,8 @@ addr 1.2.3.4 0100f15365010000000000000000000000000000000000ffff08080808208d00 0\
 addr 1.2.3.4 - 0\n\
 addr 1.2.3.4 00 0\n\
 addr 1.2.3.4 0100f15365010000000000000000000000000000000000ffff0808080820 0\n\
-find 8.8.8.8:8333\n",
+find 8.8.8.8:8333\n\
+size\n",
         replies: "\
 now 1700000000\n\
 refused too-many\n\
@@ -38,7 +41,8 @@ refused trailing\n\
 refused truncated\n\
 added 0 of 0\n\
 refused truncated\n\
-unknown\n",
+unknown\n\
+size new 0 tried 0 clashes 0\n",
     },
 ];
 
@@ -80,7 +84,9 @@ addrv2 1.2.3.4 0100f1536501041f0707070707070707070707070707070707070707070707070
 addrv2 1.2.3.4 0100f15365fd0100010408080808208d 0\n\
 addrv2 1.2.3.4 0100f15365010105208d 0\n\
 addrv2 1.2.3.4 0100f1536501010508080808 0\n\
-find 8.8.8.8:8333\n",
+find 8.8.8.8:8333\n\
+size\n\
+dump\n",
     replies: "\
 now 1700000000\n\
 added 1 of 1\n\
@@ -93,7 +99,11 @@ refused non-canonical\n\
 refused bad-length\n\
 refused bad-length\n\
 peer 8.8.8.8:8333 source 1.2.3.4 time 1699992800 services 1 success 0 try 0 attempts 0 n\
-ew 87\n",
+ew 87\n\
+size new 1 tried 0 clashes 0\n\
+peer 8.8.8.8:8333 source 1.2.3.4 time 1699992800 services 1 success 0 try 0 attempts 0 n\
+ew 87\n\
+end 1\n",
 }];
 
 /// A message of the old form is taken whole or refused with its first fault.

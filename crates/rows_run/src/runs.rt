@@ -88,6 +88,22 @@ pub(crate) fn assert_replays(
     Ok(())
 }
 
+/// Each replay goes on from the first one, and writes the replies to both.
+pub(crate) fn assert_replays_after(
+    rt: &(impl Abort + AllocGlobal),
+    first: Replay,
+    replays: &[Replay],
+) -> Result<(), Fail> {
+    for replay in replays {
+        let (first_log, first_replies) = (first.log, first.replies);
+        let (log, replies) = (replay.log, replay.replies);
+        let log = format!(in rt.alloc(); "{first_log}{log}")?;
+        let replies = format!(in rt.alloc(); "{first_replies}{replies}")?;
+        assert_run(rt, log.as_str(), Status::Done, replies.as_str())?;
+    }
+    Ok(())
+}
+
 /// A request with the files of its folder, some of whose calls fail.
 #[derive(Clone, Copy)]
 pub(crate) struct InFolder<'a> {

@@ -4,24 +4,8 @@ use crate::runs::assert_run;
 use addrman_run::Status;
 use std::test::Fail;
 
-/// A line of each command that is not supported yet.
-const LINES: [&str; 15] = [
-    "good 8.8.8.8:8333 test",
-    "good 8.8.8.8:8333 force",
-    "attempt 8.8.8.8:8333 count",
-    "connected 8.8.8.8:8333",
-    "services 8.8.8.8:8333 1",
-    "size",
-    "select any all -",
-    "sample 0 0 all @1:2",
-    "resolve",
-    "clash 0",
-    "dump",
-    "save",
-    "save-begin",
-    "save-step 4000",
-    "save-end",
-];
+/// The lines that save the tables.
+const LINES: [&str; 4] = ["save", "save-begin", "save-step 4000", "save-end"];
 
 /// After the first two lines, a comment and an empty line the line is the fifth. It ends the run,
 /// and the line after it is not carried out.

@@ -8,6 +8,8 @@ mod entry;
 #[cfg(test)]
 mod four_classes;
 #[cfg(test)]
+mod full_size;
+#[cfg(test)]
 mod grids;
 #[cfg(test)]
 mod known_orders;
@@ -21,5 +23,7 @@ mod orders;
 mod plain_grid;
 #[cfg(test)]
 mod plain_index;
+#[cfg(test)]
+mod refused_entries;
 #[cfg(test)]
 mod samples;
