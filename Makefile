@@ -19,6 +19,7 @@ demo: all
 	cd examples && ../bin/addrman lookup '[2606:4700::1111]:8333'
 	bin/addrman replay --key $(ZERO_KEY) < examples/one-address.log
 	cd examples && ../bin/addrman replay --key=$(ZERO_KEY) < all-networks.log
+	cd examples && ../bin/addrman replay --key=$(ZERO_KEY) < every-line.log
 
 endings: all
 	bench/endings
