@@ -39,14 +39,14 @@ pub fn select<H: BuildHasher>(
     ensures picked { result ≡ select tables.now new_only net words.now now }
     ensures few { result ≡ Exhausted → length (meetings_of tables.now new_only net words.now) ≤ 44 }
 {
-    let (new, tried) = tables.wanted(net);
-    if new_only || tried == 0 {
-        if new == 0 {
+    let has_new = tables.has_new(net);
+    if new_only || !tables.has_tried(net) {
+        if !has_new {
             return Picked::Nothing;
         }
         return search(tables, true, net, words, now);
     }
-    if new == 0 {
+    if !has_new {
         return search(tables, false, net, words, now);
     }
     search_either(tables, net, words, now)

@@ -1,9 +1,10 @@
 -- How many records of a state are in each table.
-use Rattle.std.proofs.Common.{◌≡◌, ℕ, ◌-◌, ◌≤◌, Bool, true, false, ◌&&◌, cond, List, length, refl, ◌∙◌, arith}
+use Rattle.std.proofs.Common.{◌≡◌, ℕ, ◌-◌, ◌≤◌, Bool, true, false, ◌&&◌, nat_lt, cond, List, length, take, refl, ◌∙◌, arith}
 use Rattle.std.specs.Prelude.{count_by, not}
+use Rattle.std.proofs.lemmas.Bool.{lt-ltb}
 use Rattle.std.proofs.lemmas.List.{length-map}
 use Rattle.std.proofs.lemmas.List.Filters.{length-filter_both}
-use Rattle.std.proofs.lemmas.List.Sums.{length-filter, sum_by-le-sum_by}
+use Rattle.std.proofs.lemmas.List.Sums.{length-filter, sum_by-le-sum_by, sum_by-take-le}
 use Rattle.std.proofs.lemmas.List.Sorted.{length_permutation, sum_by-IsPermutation}
 use Rattle.peer_rec.specs.Rec.{is_tried}
 use Rattle.peer_rec.specs.declared.rec.Rec.{Rec}
@@ -17,6 +18,12 @@ pub count-same : {H G : Type 0} (s : Store H G) → IsTables s → (p : Rec → 
 count-same s is p =
     sum_by-IsPermutation (λ r. cond (p r) 1 0) (state_of s).records (records s.index)
     (same_records s.index s.next_number is.stored.index is.stored.numbers is.sound.order)
+
+-- if one of the first passes a test, some pass
+pub some-counted : (p : Rec → Bool) (rs : List Rec) (i : ℕ) → 1 ≡ count_by p (take i rs) → nat_lt 0 (count_by p rs) ≡ true
+some-counted p rs i one =
+    let less = sum_by-take-le (λ r. cond (p r) 1 0) rs i in
+    lt-ltb 0 (count_by p rs) (omega (arith, one, less))
 
 -- fewer pass two tests than one
 pub count-both : (p q : Rec → Bool) (rs : List Rec) → count_by (λ r. p r && q r) rs ≤ count_by p rs

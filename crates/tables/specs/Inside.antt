@@ -1,5 +1,5 @@
 -- Which state an order of records and a grid of slots stand for, which no public clause cites.
-use Rattle.std.specs.Prelude.{◌≡◌, ℕ, zero, suc, ◌<◌, ◌++◌, ◌==◌, List, [], length, map, find, All, Contains, IsPermutation, Bool, true, false, Option, Some}
+use Rattle.std.specs.Prelude.{◌≡◌, ℕ, zero, suc, ◌<◌, ◌++◌, ◌==◌, List, [], length, map, find, All, Contains, IsPermutation, ◌&&◌, not, Bool, true, false, Option, Some}
 use Rattle.std.specs.Option.{option_to_list}
 use Rattle.net_addr.specs.declared.peer.Peer.{Peer}
 use Rattle.placing.specs.Places.{Places, new_slot, tried_bucket, tried_slot}
@@ -8,7 +8,9 @@ use Rattle.peer_rec.specs.declared.rec.Rec.{Rec}
 use Rattle.peer_rec.specs.declared.place.Place.TheVariants.{New}
 use Rattle.slot_grid.specs.Slots.{Slots, new_id, tried_id}
 use Rattle.peer_index.specs.Order.{Order, IsOrder, rec_of, records}
+use Rattle.net_addr.specs.declared.net.Net.{Net}
 use Rattle.table_machine.specs.State.{State, is_new_at, is_tried_at}
+use Rattle.table_machine.specs.Picks.{is_wanted}
 use Rattle.table_machine.specs.Sound.{IsSound}
 use Rattle.table_machine.specs.Entries.{Outcome}
 use Rattle.tables.specs.declared.store.Store.{Store}
@@ -72,6 +74,11 @@ pub record SameRest {H G : Type 0} (old new : Store H G) : Type 0 where
 pub record AreWaiters (st : State) (waiters : List Waiter) : Type 0 where
   pub numbers : IsPermutation (map (λ w. w.number) waiters) st.collisions
   pub peers : All (λ w. (r : Rec) → Contains st.records r → r.number ≡ w.number → r.peer ≡ w.peer) waiters
+
+-- the record is wanted, and in the new or in the tried table
+abbrev pub is_wanted_in : Bool → Option Net → Rec → Bool
+is_wanted_in true asked r = not (is_tried r) && is_wanted asked r
+is_wanted_in false asked r = is_tried r && is_wanted asked r
 
 abbrev pub outcome : Bool → State → Outcome
 outcome answer st = record { answer = answer; state = st }

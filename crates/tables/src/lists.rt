@@ -1,16 +1,16 @@
-use crate::wanted::is_wanted;
+use crate::wanted::{is_wanted, is_wanted_in};
 use crate::{Memory, Store};
 use net_addr::Net;
 use peer_rec::Rec;
 use std::hash::BuildHasher;
 
 impl<'a, H: BuildHasher> Store<'a, H> {
-    ghost use Rattle.std.specs.Prelude.{◌≡◌, ◌<◌, ◌&&◌, not, Some, length, slice_get, IfOk, count_by};
+    ghost use Rattle.std.specs.Prelude.{◌≡◌, ◌<◌, ◌&&◌, nat_lt, not, Some, length, slice_get, IfOk, count_by};
     ghost use Rattle.std.specs.List.Sorted.{IsPermutation, IsNonDecreasingBy};
     ghost use Rattle.peer_rec.specs.Rec.{is_tried};
     ghost use Rattle.peer_index.specs.Order.{records};
     ghost use Rattle.table_machine.specs.Picks.{exchange, is_wanted};
-    ghost use Rattle.tables.specs.Inside.{IsStore, SameRest, state_of};
+    ghost use Rattle.tables.specs.Inside.{IsStore, SameRest, is_wanted_in, state_of};
 
     /// The record at a position of the order.
     fn record_at(&self, position: usize) -> &Rec
@@ -53,6 +53,19 @@ impl<'a, H: BuildHasher> Store<'a, H> {
             }
         }
         (new, tried)
+    }
+
+    /// Whether a table, the new or the tried one, has a record of the network, or any if none is
+    /// named. The walk ends at the first.
+    pub(crate) fn has_wanted(&self, in_new: bool, net: Option<Net>) -> bool
+        ensures { result ≡ nat_lt 0 (count_by (is_wanted_in in_new net) (records self.now.index)) }
+    {
+        for position in 0..self.index.len() {
+            if is_wanted_in(in_new, net, self.record_at(position)) {
+                return true;
+            }
+        }
+        false
     }
 
     /// The records in their order.

@@ -65,7 +65,7 @@ impl<'a, H: BuildHasher + Drop> Tables<'a, H> {
 }
 
 impl<'a, H: BuildHasher> Tables<'a, H> {
-    ghost use Rattle.std.specs.Prelude.{◌≡◌, ◌<◌, ◌^◌, length, None, Some, IfOk, OnOk, OnErr, option_map, slice_get, ◌≤◌, map, count_by, sum_by, not, Contains, IsPermutation};
+    ghost use Rattle.std.specs.Prelude.{◌≡◌, ◌<◌, ◌^◌, length, None, Some, IfOk, OnOk, OnErr, option_map, slice_get, ◌≤◌, map, count_by, sum_by, nat_lt, not, Contains, IsPermutation};
     ghost use Rattle.peer_rec.specs.Rec.{buckets_of, is_tried};
     ghost use Rattle.peer_index.specs.Order.{Order, IsOrder, records};
     ghost use Rattle.tables.specs.Parts.{AreOf};
@@ -283,6 +283,20 @@ impl<'a, H: BuildHasher> Tables<'a, H> {
     {
         let (new, tried) = self.store.count_wanted(net);
         (new as u32, tried as u32)
+    }
+
+    /// Whether the new table has a record of the network, or any if none is named.
+    pub fn has_new(&self, net: Option<Net>) -> bool
+        ensures { result ≡ nat_lt 0 (wanted_new self.now net) }
+    {
+        self.store.has_wanted(true, net)
+    }
+
+    /// Whether the tried table has a record of the network, or any if none is named.
+    pub fn has_tried(&self, net: Option<Net>) -> bool
+        ensures { result ≡ nat_lt 0 (wanted_tried self.now net) }
+    {
+        self.store.has_wanted(false, net)
     }
 
     /// How many records are in the new and in the tried table, and how many newcomers wait for a

@@ -1,5 +1,6 @@
 ghost use Rattle.std.specs.Prelude.{◌≡◌};
 ghost use Rattle.table_machine.specs.Picks.{is_asked, is_wanted, network_of};
+ghost use Rattle.tables.specs.Inside.{is_wanted_in};
 
 use net_addr::Net;
 use peer_rec::Rec;
@@ -23,6 +24,14 @@ fn network_of(rec: &Rec) -> Net
     } else {
         Net::Unroutable
     }
+}
+
+/// Whether a record is in a table, the new or the tried one, and of the network that is asked for,
+/// if one is.
+pub(crate) fn is_wanted_in(in_new: bool, asked: Option<Net>, rec: &Rec) -> bool
+    ensures { result ≡ is_wanted_in in_new asked rec.now }
+{
+    rec.place.is_tried() != in_new && is_wanted(asked, rec)
 }
 
 /// Whether a record is of the network that is asked for, if one is.
