@@ -6,7 +6,7 @@ use Rattle.host_io.specs.PerName.{under}
 use Rattle.host_io.specs.Outside.{Outside}
 use Rattle.host_io.specs.Writing.{Appended}
 use Rattle.host_io.specs.declared.name.Name.TheVariants as name
-use Rattle.asmap_vm.specs.Asmap.{Asmap}
+use Rattle.asmap_vm.specs.Asmap.{Asmap, IsAsmap}
 use Rattle.asmap_vm.specs.Code.{Tree, IsSaneFile}
 use Rattle.asmap_vm.specs.declared.fault.CodeFault.{CodeFault}
 use Rattle.asmap_vm.specs.declared.fault.CodeFault.TheVariants.{Insane}
@@ -44,10 +44,17 @@ has_map files (Some bytes) (Some m) found small is = record {
   sane = is.1;
 }
 
+-- what was checked is an asmap
+checked : (loaded : Option (List ℕ)) (map : Option Asmap) → IsMapOf loaded map → IfSome map IsAsmap
+checked None None is = tt
+checked None (Some m) is = absurd is
+checked (Some bytes) None is = tt
+checked (Some bytes) (Some m) is = is.1
+
 -- the same over a folder that may not tell its files
 pub map_in : (told : Option Files) (loaded : Option (List ℕ)) (map : Option Asmap) → IfSome told (λ files. loaded ≡ under files name.Asmap) → IfSome loaded (λ b. length b ≤ most_asmap) → IsMapOf loaded map → IsMapIn told map
-map_in None loaded map found small is = tt
-map_in (Some files) loaded map found small is = has_map files loaded map found small is
+map_in None loaded map found small is = (tt, checked loaded map is)
+map_in (Some files) loaded map found small is = (has_map files loaded map found small is, checked loaded map is)
 
 writes : (IsText : Machine → List ℕ → List ℕ → Type 0) (key text : List ℕ) (map : Option Asmap) (start : Machine) (old new : Outside) →
     IsMapIn old.files map → IfSome old.left (λ bytes. text ≡ bytes) → start ≡ opening key map → Told (λ m t. IsText m text t) start old.written new.written → Writes IsText key old new

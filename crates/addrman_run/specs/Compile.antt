@@ -1,5 +1,5 @@
 -- What compiling prefixes.txt writes, and how it ends.
-use Rattle.std.specs.Prelude.{◌≡◌, ℕ, List, ◌++◌, length, Option, None, IfSome, codes, decimal}
+use Rattle.std.specs.Prelude.{◌≡◌, ℕ, ◌≤◌, List, ◌++◌, length, Option, None, IfSome, codes, decimal}
 use Rattle.host_io.specs.Files.{Files}
 use Rattle.host_io.specs.PerName.{under}
 use Rattle.host_io.specs.Outside.{Outside}
@@ -8,7 +8,7 @@ use Rattle.host_io.specs.declared.name.Name.TheVariants as name
 use Rattle.prefix_table.specs.declared.row.Row.{Row}
 use Rattle.asmap_vm.specs.Code.{code, IsSaneFile}
 use Rattle.asmap_compile.specs.Compiled.{compiled}
-use Rattle.addrman_run.specs.Tables.{HasTable, RefusesTable}
+use Rattle.addrman_run.specs.Tables.{HasTable, RefusesTable, most_bits}
 use Rattle.addrman_run.specs.Lookup.{TellsAbsence}
 use Rattle.addrman_run.specs.declared.status.Status.{Status}
 use Rattle.addrman_run.specs.declared.status.Status.TheVariants.{Done, Usage, LogLine, AsmapRefused, TableRefused, ReadFault, WriteFault, DiskFault, LogTooLong, Memory, NoFile, NotBuilt}
@@ -19,10 +19,11 @@ compile_text rows file =
     codes "compiled " ++ decimal (length rows) ++ codes " rows " ++ decimal (length (code (compiled rows))) ++ codes " bits "
     ++ decimal (length file) ++ codes " bytes\n"
 
--- the text of the folder's table and the file of its compiled tree
+-- the text of the folder's table and the file of its compiled tree, whose code is not too long
 abbrev pub Compiles : (List ℕ → Type 0) → Option Files → Type 0
 Compiles IsText told = IfSome told (λ files.
-    (rows : List Row) × HasTable files rows × ((file : List ℕ) × IsSaneFile (compiled rows) file × IsText (compile_text rows file)))
+    (rows : List Row) × HasTable files rows × (length (code (compiled rows)) ≤ most_bits)
+    × ((file : List ℕ) × IsSaneFile (compiled rows) file × IsText (compile_text rows file)))
 
 -- what is written for each status, and why it comes
 abbrev pub CompileText : Option Files → Option (List ℕ) → Option (List ℕ) → Status → Type 0

@@ -4,7 +4,7 @@ use Rattle.host_io.specs.Files.{Files}
 use Rattle.host_io.specs.Outside.{Outside}
 use Rattle.host_io.specs.Reading.{TakesAtMost}
 use Rattle.host_io.specs.Writing.{Appended}
-use Rattle.asmap_vm.specs.Asmap.{Asmap}
+use Rattle.asmap_vm.specs.Asmap.{Asmap, IsAsmap}
 use Rattle.log_lines.specs.Spelling.{HasFault}
 use Rattle.manager.specs.Machine.{Machine, empty_machine}
 use Rattle.addrman_run.specs.Asmaps.{HasMap, RefusesAsmap}
@@ -21,9 +21,9 @@ most_log = 16777216
 abbrev pub opening : List ℕ → Option Asmap → Machine
 opening key map = empty_machine (record { key = key; map = map })
 
--- the map is the asmap of the folder, if the folder tells its files
+-- the map is the asmap of the folder, if the folder tells its files, and that of a sane tree in any case
 abbrev pub IsMapIn : Option Files → Option Asmap → Type 0
-IsMapIn told map = IfSome told (λ files. HasMap files map)
+IsMapIn told map = IfSome told (λ files. HasMap files map) × IfSome map IsAsmap
 
 -- The folder's asmap is accepted, and a text of this kind was appended: one of the log's replies, from the machine that
 -- the replay begins with.

@@ -16,7 +16,7 @@ returns-in-Ok-write_all-clause-text g c =
     let small = subst (λ o. IfSome o (λ b. length b ≤ 134217728)) c.in-Ok-Some.field-0-is c.in-Ok-Some.ensures.within in
     let text = subst (λ b. IsTableText b rows) c.items.ensures c.in-Ok.ensures.found in
     table_line files bytes rows c.in-Ok-compile.file.bytes c.as_slice.result.now (Appended (g.K.Sink.written c.args.out.now) (g.K.Sink.written c.write_all.new.sink))
-    found small text c.in-Ok-compile.ensures.sane
+    found small text (subst (λ n. n ≤ 67108864) c.in-Ok-compile.ensures.bits c.in-Ok-compile.ensures.small) c.in-Ok-compile.ensures.sane
     (compile_line rows c.in-Ok-compile.file.bytes c.as_slice.result.now (length c.rows.result.now) c.bits.result (length c.code.result.now) (c.as_slice.ensures.value ∙ c.in-Ok-line_of.ensures)
     (ap length c.rows.ensures.value) (c.bits.ensures ∙ c.in-Ok-compile.ensures.bits) (ap length c.code.ensures))
     c.in-Ok-write_all.ensures.all
@@ -30,7 +30,7 @@ returns-clause-text g c =
     let small = subst (λ o. IfSome o (λ b. length b ≤ 134217728)) c.in-Ok-Some.field-0-is c.in-Ok-Some.ensures.within in
     let text = subst (λ b. IsTableText b rows) c.items.ensures c.in-Ok.ensures.found in
     table_line files bytes rows c.in-Ok-compile.file.bytes c.as_slice.result.now (AppendedPart (g.K.Sink.written c.args.out.now) (g.K.Sink.written c.write_all.new.sink))
-    found small text c.in-Ok-compile.ensures.sane
+    found small text (subst (λ n. n ≤ 67108864) c.in-Ok-compile.ensures.bits c.in-Ok-compile.ensures.small) c.in-Ok-compile.ensures.sane
     (compile_line rows c.in-Ok-compile.file.bytes c.as_slice.result.now (length c.rows.result.now) c.bits.result (length c.code.result.now) (c.as_slice.ensures.value ∙ c.in-Ok-line_of.ensures)
     (ap length c.rows.ensures.value) (c.bits.ensures ∙ c.in-Ok-compile.ensures.bits) (ap length c.code.ensures))
     c.in-Err-write_all.ensures.err
