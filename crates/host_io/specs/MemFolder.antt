@@ -6,8 +6,8 @@ use Rattle.host_io.specs.declared.call.Call.{Call}
 use Rattle.host_io.specs.declared.call.Action.{Action}
 
 -- The files; the calls that fail, each by its number, and whether it changes the folder all the
--- same; the calls made until now; how many they were, how many of them failed, and how many of them found
--- no memory for what they keep.
+-- same; the calls made until now; how many they were, how many of them failed, and how many of them
+-- found no memory for what they keep.
 pub record FolderState : Type 0 where
   pub files : Files
   pub fails : List (ℕ × Bool)

@@ -15,14 +15,14 @@ impl Model for Bytes {
 }
 
 impl Bytes {
-    /// The bytes of a vector. Takes no memory.
+    /// Makes the list of a vector's bytes. Takes no memory.
     pub fn of(items: Vec<u8>) -> Bytes
         ensures { result ≡ items.items }
     {
         Bytes { items }
     }
 
-    /// The bytes as a slice.
+    /// Returns the bytes as a slice.
     pub fn items(&self) -> &[u8]
         ensures { result.now ≡ self.now }
     {

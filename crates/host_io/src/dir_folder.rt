@@ -1,7 +1,7 @@
 ghost use Rattle.std.specs.Prelude.{◌≡◌, ℕ, ◌<◌, ◌≤◌, length, IfOk, OnOk, OnErr, None};
 ghost use Rattle.host_io.specs.Faults.{Rose, raised};
 
-use crate::failed::Failed;
+use crate::failed::{Failed, fault};
 use crate::folder::Folder;
 use crate::name::Name;
 use std::fs::OpenFile;
@@ -11,8 +11,8 @@ use std::rt::Files;
 use std::{fs, io};
 
 /// The current folder of the process. Contracts do not know its files. The file whose size was
-/// asked last stays open until the next call on another name, so that it is read as it was then, even if
-/// it is replaced meanwhile.
+/// asked last stays open until the next call on another name, so that it is read as it was then,
+/// even if it is replaced meanwhile.
 #[derive(Drop)]
 pub struct DirFolder<'a, R: Files> {
     rt: &'a R,
@@ -34,7 +34,7 @@ impl<'a, R: Files> Model for DirFolder<'a, R> {
 }
 
 impl<'a, R: Files + Alloc> DirFolder<'a, R> {
-    /// The current folder as `rt` reaches it. Contracts see it as its count of faults.
+    /// Returns the current folder, as `rt` reaches it. Contracts see it as its count of faults.
     pub fn make(rt: &'a R) -> DirFolder<'a, R>
         ensures { result ≡ 0 }
     {
@@ -61,7 +61,7 @@ impl<'a, R: Files + Alloc> DirFolder<'a, R> {
         }
     }
 
-    /// One read of the file, from offset `at` on. Opens it unless it is open.
+    /// Reads once from the file, from offset `at` on. Opens it unless it is open.
     fn read_open(&mut self, name: Name, at: u64, buf: &mut [u8]) -> io::Result<usize>
         ensures within { IfOk result (λ n. n ≤ length buf.old) }
         ensures same { self.new ≡ self.old }
@@ -81,8 +81,8 @@ impl<'a, R: Files + Alloc> Folder for DirFolder<'a, R> {
 
     ghost faults = { λ f. f };
 
-    /// Opens the file and keeps it open. `None` if no file of this name is found. Each other error
-    /// is a fault, and so is anything of this name that is not a regular file.
+    /// Opens the file, keeps it open and returns its length, or `None` if no file has this name.
+    /// Each other error is a fault, and so is anything of this name that is not a regular file.
     fn size(&mut self, name: Name) -> Result<Option<u64>, Failed>
         ensures steady { OnOk result (self.new ≡ self.old) }
         ensures counted { OnErr result (self.new ≡ raised self.old) }
@@ -91,10 +91,7 @@ impl<'a, R: Files + Alloc> Folder for DirFolder<'a, R> {
     {
         match self.reopen(name) {
             Ok(size) => Ok(size),
-            Err(_) => {
-                self.faults = self.faults.saturating_add(1);
-                Err(Failed)
-            }
+            Err(_) => Err(fault(&mut self.faults)),
         }
     }
 
@@ -109,10 +106,7 @@ impl<'a, R: Files + Alloc> Folder for DirFolder<'a, R> {
     {
         match self.read_open(name, at, buf) {
             Ok(count) => Ok(count),
-            Err(_) => {
-                self.faults = self.faults.saturating_add(1);
-                Err(Failed)
-            }
+            Err(_) => Err(fault(&mut self.faults)),
         }
     }
 }
@@ -128,7 +122,7 @@ fn open_regular<R: Files>(rt: &R, path: &str) -> io::Result<(R::File, u64)> {
     Ok((file, size))
 }
 
-/// One read of an open file, from offset `at` on.
+/// Reads once from an open file, from offset `at` on.
 fn read_at<T: Read + Seek>(file: &mut T, at: u64, buf: &mut [u8]) -> io::Result<usize>
     ensures { IfOk result (λ n. n ≤ length buf.old) }
 {

@@ -15,7 +15,7 @@ pub trait Folder {
     /// How often it has failed; the count stops at 2^64 - 1.
     ghost faults: { Self → ℕ };
 
-    /// The length of the file in bytes, or `None` if it is absent.
+    /// Returns the length of the file in bytes, or `None` if it is absent.
     fn size(&mut self, name: Name) -> Result<Option<u64>, Failed>
         ensures found { IfOk result (λ size. IfSome (files self.old) (λ all.
             size ≡ option_map length (under all name))) }

@@ -6,6 +6,7 @@
 
 mod bytes;
 mod call;
+mod chosen;
 mod dir_folder;
 mod failed;
 mod folder;

@@ -7,7 +7,7 @@ ghost use Rattle.host_io.specs.declared.name.Name.{Name};
 
 use crate::bytes::Bytes;
 use crate::call::{Action, Call};
-use crate::failed::Failed;
+use crate::failed::{Failed, fault};
 use crate::folder::Folder;
 use crate::memory::Memory;
 use crate::name::Name;
@@ -44,8 +44,8 @@ impl Model for MemFolder {
 }
 
 impl MemFolder {
-    /// A folder without files. The calls of `Folder` whose numbers, from 0, are in `fails` will
-    /// fail; the truth value says whether such a call changes the folder all the same.
+    /// Makes a folder without files. The calls of `Folder` whose numbers, from 0, are in `fails`
+    /// will fail; the truth value says whether such a call changes the folder all the same.
     pub fn make(alloc: Global, fails: &[(u64, bool)]) -> Result<MemFolder, Memory>
         ensures empty { IfOk result (λ folder. (name : Name) → under folder.files name ≡ None) }
         ensures chosen { IfOk result (λ folder. folder.fails ≡ fails.now) }
@@ -90,7 +90,7 @@ impl MemFolder {
         Ok(())
     }
 
-    /// The bytes of a file, or `None` if it is absent.
+    /// Returns the bytes of a file, or `None` if it is absent.
     pub fn get(&self, name: Name) -> Option<&[u8]>
         ensures { option_map (λ bytes. bytes.now) result ≡ under self.now.files name }
     {
@@ -100,28 +100,28 @@ impl MemFolder {
         }
     }
 
-    /// The calls of `Folder` made until now, in order, without those that found no memory.
+    /// Returns the calls of `Folder` in order, without those that found no memory.
     pub fn history(&self) -> &[Call]
         ensures { result.now ≡ self.now.history }
     {
         &self.history
     }
 
-    /// How many calls of `Folder` there were; the count stops at 2^64 - 1.
+    /// Returns how many calls of `Folder` there were; the count stops at 2^64 - 1.
     pub fn calls(&self) -> u64
         ensures { result ≡ self.now.calls }
     {
         self.calls
     }
 
-    /// How many calls found no memory for their record; the count stops at 2^64 - 1.
+    /// Returns how many calls found no memory for their record; the count stops at 2^64 - 1.
     pub fn starved(&self) -> u64
         ensures { result ≡ self.now.starved }
     {
         self.starved
     }
 
-    /// The next call is one of those that were chosen to fail.
+    /// Returns whether the next call is one of those that were chosen to fail.
     fn next_fails(&self) -> bool
         ensures { IsTrue result ↔ NextFails self.now }
     {
@@ -141,12 +141,10 @@ impl MemFolder {
         self.calls = number.saturating_add(1);
         if self.history.push(Call { number, action }).is_err() {
             self.starved = self.starved.saturating_add(1);
-            self.faults = self.faults.saturating_add(1);
-            return Err(Failed);
+            return Err(fault(&mut self.faults));
         }
         if chosen {
-            self.faults = self.faults.saturating_add(1);
-            return Err(Failed);
+            return Err(fault(&mut self.faults));
         }
         Ok(())
     }

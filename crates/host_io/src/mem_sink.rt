@@ -2,7 +2,8 @@ ghost use Rattle.std.specs.Prelude.{◌≡◌, ◌<◌, ◌≤◌, [], length, C
 ghost use Rattle.host_io.specs.MemSink.{sink_after_write, sink_after_fault, sink_after_no_memory};
 ghost use Rattle.host_io.specs.Faults.{Rose};
 
-use crate::failed::Failed;
+use crate::chosen::Chosen;
+use crate::failed::{Failed, fault};
 use crate::memory::Memory;
 use crate::sink::Sink;
 use std::alloc::Global;
@@ -12,9 +13,7 @@ use std::marker::Model;
 #[derive(Debug, Drop)]
 pub struct MemSink {
     bytes: Vec<u8>,
-    fails: Vec<u64>,
-    calls: u64,
-    faults: u64,
+    chosen: Chosen,
     starved: u64,
 }
 
@@ -25,15 +24,15 @@ impl Model for MemSink {
 
     ghost view = { λ s. record {
       bytes = s.bytes.items;
-      fails = s.fails.items;
-      calls = s.calls;
-      faults = s.faults;
+      fails = s.chosen.fails.items;
+      calls = s.chosen.calls;
+      faults = s.chosen.faults;
       starved = s.starved;
     } };
 }
 
 impl MemSink {
-    /// An empty sink. The calls of `write` whose numbers, from 0, are in `fails` will fail.
+    /// Makes an empty sink. The calls of `write` whose numbers, from 0, are in `fails` will fail.
     pub fn make(alloc: Global, fails: &[u64]) -> Result<MemSink, Memory>
         ensures { IfOk result (λ sink. sink ≡ record {
           bytes = [];
@@ -45,21 +44,19 @@ impl MemSink {
     {
         Ok(MemSink {
             bytes: Vec::new(alloc),
-            fails: fails.to_vec(alloc)?,
-            calls: 0,
-            faults: 0,
+            chosen: Chosen::make(alloc, fails)?,
             starved: 0,
         })
     }
 
-    /// The bytes that were written.
+    /// Returns the bytes that were written.
     pub fn bytes(&self) -> &[u8]
         ensures { result.now ≡ self.now.bytes }
     {
         &self.bytes
     }
 
-    /// How many calls found no memory for their piece; the count stops at 2^64 - 1.
+    /// Returns how many calls found no memory for their piece; the count stops at 2^64 - 1.
     pub fn starved(&self) -> u64
         ensures { result ≡ self.now.starved }
     {
@@ -87,16 +84,10 @@ impl Sink for MemSink {
         ensures cause { OnErr result (Rose self.old.faults self.new.faults) }
         ensures never_falls { self.old.faults ≤ self.new.faults }
     {
-        let chosen = self.fails.contains(&self.calls);
-        self.calls = self.calls.saturating_add(1);
-        if chosen {
-            self.faults = self.faults.saturating_add(1);
-            return Err(Failed);
-        }
+        self.chosen.begin()?;
         if self.bytes.extend_from_slice(piece).is_err() {
             self.starved = self.starved.saturating_add(1);
-            self.faults = self.faults.saturating_add(1);
-            return Err(Failed);
+            return Err(fault(&mut self.chosen.faults));
         }
         Ok(piece.len())
     }

@@ -2,6 +2,7 @@ ghost use Rattle.std.specs.Prelude.{◌≡◌, ◌<◌, ◌≤◌, ◌↔◌, �
 ghost use Rattle.host_io.specs.MemSource.{source_after_read, source_after_fault};
 ghost use Rattle.host_io.specs.Faults.{Rose};
 
+use crate::chosen::Chosen;
 use crate::failed::Failed;
 use crate::memory::Memory;
 use crate::source::Source;
@@ -15,9 +16,7 @@ pub struct MemSource {
     bytes: Vec<u8>,
     at: usize,
     piece: usize,
-    fails: Vec<u64>,
-    calls: u64,
-    faults: u64,
+    chosen: Chosen,
 }
 
 impl Model for MemSource {
@@ -29,16 +28,16 @@ impl Model for MemSource {
     ghost view = { λ s. record {
       left = drop s.at s.bytes.items;
       piece = s.piece;
-      fails = s.fails.items;
-      calls = s.calls;
-      faults = s.faults;
+      fails = s.chosen.fails.items;
+      calls = s.chosen.calls;
+      faults = s.chosen.faults;
     } };
 
     ghost invariant = { λ s. (s.at ≤ vec_len s.bytes) × (1 ≤ s.piece) };
 }
 
 impl MemSource {
-    /// A source that gives `bytes`, at most `piece` of them a call. The calls of `read` whose
+    /// Makes a source that gives `bytes`, at most `piece` of them a call. The calls of `read` whose
     /// numbers, from 0, are in `fails` will fail.
     pub fn make(
         alloc: Global,
@@ -59,9 +58,7 @@ impl MemSource {
             bytes: bytes.to_vec(alloc)?,
             at: 0,
             piece,
-            fails: fails.to_vec(alloc)?,
-            calls: 0,
-            faults: 0,
+            chosen: Chosen::make(alloc, fails)?,
         })
     }
 }
@@ -85,12 +82,7 @@ impl Source for MemSource {
         ensures cause { OnErr result (Rose self.old.faults self.new.faults) }
         ensures never_falls { self.old.faults ≤ self.new.faults }
     {
-        let chosen = self.fails.contains(&self.calls);
-        self.calls = self.calls.saturating_add(1);
-        if chosen {
-            self.faults = self.faults.saturating_add(1);
-            return Err(Failed);
-        }
+        self.chosen.begin()?;
         let left = &self.bytes[self.at..];
         let count = self.piece.min(buf.len()).min(left.len());
         buf[..count].copy_from_slice(&left[..count]);

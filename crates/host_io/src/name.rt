@@ -15,7 +15,7 @@ impl Name {
     ghost use Rattle.std.specs.Prelude.{◌≡◌};
     ghost use Rattle.host_io.specs.Name.{file_name_of};
 
-    /// The name of the file in its folder.
+    /// Returns the name of the file in its folder.
     pub fn file_name(self) -> &'static str
         ensures { result.now ≡ file_name_of self }
     {

@@ -59,7 +59,7 @@ impl<L: Source> NextBytes<L> for OfSource {
 
     ghost can_read = { λ _ _. ⊤ };
 
-    /// One read of the source.
+    /// Reads once from the source.
     fn next(&self, source: &mut L, _at: u64, buf: &mut [u8]) -> Result<usize, Failed> {
         source.read(buf)
     }
@@ -81,7 +81,7 @@ impl<F: Folder> NextBytes<F> for OfFile {
 
     ghost can_read = { λ file folder. IsThere (F.files folder) file.name };
 
-    /// One read of the file.
+    /// Reads once from the file.
     fn next(&self, folder: &mut F, at: u64, buf: &mut [u8]) -> Result<usize, Failed> {
         folder.read(self.name, at, buf)
     }

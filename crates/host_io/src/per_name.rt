@@ -17,7 +17,7 @@ impl<T> PerName<T> {
     ghost use Rattle.host_io.specs.PerName.{under};
     ghost use Rattle.host_io.specs.declared.name.Name.{Name};
 
-    /// The value of `name`.
+    /// Returns the value of `name`.
     pub fn get(&self, name: Name) -> &T
         ensures { result.now ≡ under self.now name }
     {

@@ -12,7 +12,7 @@ use std::alloc::{AllocError, Global};
 /// The most bytes that one read takes.
 const PIECE: usize = 65_536;
 
-/// Room for one read.
+/// Makes room for one read.
 fn room(alloc: Global) -> Result<Vec<u8>, AllocError>
     ensures { IfOk result (λ piece. vec_len piece ≡ PIECE) }
 {
@@ -50,7 +50,7 @@ fn read_piece<T, W: NextBytes<T>>(
     Ok(count)
 }
 
-/// The first `limit + 1` bytes, or all of them if they are fewer.
+/// Returns the first `limit + 1` bytes, or all of them if they are fewer.
 pub fn read_past<T, W: NextBytes<T>>(
     alloc: Global,
     way: &W,
@@ -85,7 +85,8 @@ pub fn read_past<T, W: NextBytes<T>>(
     Ok(text)
 }
 
-/// All bytes that the source has left, if they are at most `limit`. At most `limit + 1` are taken.
+/// Returns all bytes that the source has left, if they are at most `limit`. `TooLong` comes only if
+/// there are more. Takes at most `limit + 1` bytes.
 pub fn read_to_end<L: Source>(
     alloc: Global,
     source: &mut L,

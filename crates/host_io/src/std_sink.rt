@@ -1,7 +1,7 @@
 ghost use Rattle.std.specs.Prelude.{◌≡◌, ℕ, ◌<◌, ◌≤◌, length, IfOk, OnOk, OnErr, None};
 ghost use Rattle.host_io.specs.Faults.{Rose, raised};
 
-use crate::failed::Failed;
+use crate::failed::{Failed, fault};
 use crate::sink::Sink;
 use std::io::Write;
 use std::marker::Model;
@@ -20,7 +20,7 @@ impl<W> Model for StdSink<W> {
 }
 
 impl<W: Write> StdSink<W> {
-    /// A sink that writes to `writer`. Contracts see it as its count of faults.
+    /// Makes a sink that writes to `writer`. Contracts see it as its count of faults.
     pub fn make(writer: W) -> StdSink<W>
         ensures { result ≡ 0 }
     {
@@ -45,10 +45,7 @@ impl<W: Write> Sink for StdSink<W> {
     {
         match self.writer.write(piece) {
             Ok(count) if 0 < count && self.writer.flush().is_ok() => Ok(count),
-            _ => {
-                self.faults = self.faults.saturating_add(1);
-                Err(Failed)
-            }
+            _ => Err(fault(&mut self.faults)),
         }
     }
 }

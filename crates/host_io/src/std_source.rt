@@ -1,7 +1,7 @@
 ghost use Rattle.std.specs.Prelude.{◌≡◌, ℕ, ◌<◌, ◌≤◌, length, IfOk, OnOk, OnErr, None};
 ghost use Rattle.host_io.specs.Faults.{Rose, raised};
 
-use crate::failed::Failed;
+use crate::failed::{Failed, fault};
 use crate::source::Source;
 use std::io::Read;
 use std::marker::Model;
@@ -20,7 +20,7 @@ impl<R> Model for StdSource<R> {
 }
 
 impl<R: Read> StdSource<R> {
-    /// A source that reads `reader`. Contracts see it as its count of faults.
+    /// Makes a source that reads `reader`. Contracts see it as its count of faults.
     pub fn make(reader: R) -> StdSource<R>
         ensures { result ≡ 0 }
     {
@@ -33,7 +33,7 @@ impl<R: Read> Source for StdSource<R> {
 
     ghost faults = { λ s. s };
 
-    /// One read of the reader. Each of its errors is a fault.
+    /// Reads once from the reader. Each of its errors is a fault.
     fn read(&mut self, buf: &mut [u8]) -> Result<usize, Failed>
         requires { 0 < length buf.old }
         ensures within { IfOk result (λ n. n ≤ length buf.old) }
@@ -44,10 +44,7 @@ impl<R: Read> Source for StdSource<R> {
     {
         match self.reader.read(buf) {
             Ok(count) => Ok(count),
-            Err(_) => {
-                self.faults = self.faults.saturating_add(1);
-                Err(Failed)
-            }
+            Err(_) => Err(fault(&mut self.faults)),
         }
     }
 }

@@ -9,7 +9,7 @@ use crate::name::Name;
 pub struct SureFolder;
 
 impl SureFolder {
-    /// A folder without files.
+    /// Makes a folder without files.
     pub fn make() -> SureFolder {
         SureFolder
     }
@@ -20,14 +20,14 @@ impl Folder for SureFolder {
 
     ghost faults = { λ _. 0 };
 
-    /// Every file is absent.
+    /// Returns `None`: every file is absent.
     fn size(&mut self, _name: Name) -> Result<Option<u64>, Failed>
         ensures absent { result ≡ Ok None }
     {
         Ok(None)
     }
 
-    /// Every file is at its end.
+    /// Returns 0: every file is at its end.
     fn read(&mut self, _name: Name, _at: u64, buf: &mut [u8]) -> Result<usize, Failed>
         requires { 0 < length buf.old }
         ensures nothing { result ≡ Ok 0 }

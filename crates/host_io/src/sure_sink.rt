@@ -8,7 +8,7 @@ use crate::sink::Sink;
 pub struct SureSink;
 
 impl SureSink {
-    /// A sink that keeps nothing.
+    /// Makes a sink that keeps nothing.
     pub fn make() -> SureSink {
         SureSink
     }

@@ -17,7 +17,7 @@ impl<'a> Model for SureSource<'a> {
 }
 
 impl<'a> SureSource<'a> {
-    /// A source that gives `bytes`.
+    /// Makes a source that gives `bytes`.
     pub fn make(bytes: &'a [u8]) -> SureSource<'a>
         ensures { result ≡ bytes.now }
     {
