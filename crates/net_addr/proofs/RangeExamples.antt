@@ -1,5 +1,5 @@
 -- The tests of an address at the ends of each range and next to them, each computed.
-use Rattle.std.specs.Prelude.{◌≡◌, ℕ, true, false, not, List, [], ◌∷◌, map, replicate, Some, None, refl}
+use Rattle.std.specs.Prelude.{◌≡◌, ℕ, true, false, not, List, [], ◌∷◌, map, replicate, Option, Some, None, refl}
 use Rattle.std.specs.List.{list_all}
 use Rattle.std.specs.Net.Addr.{octets_of}
 use Rattle.net_addr.specs.Address.{Address}
@@ -74,25 +74,37 @@ this_host : map is_local (ipv6 0 0 0 0 0 0 0 1 ∷ ipv6 0 0 0 0 0 0 0 2 ∷ ipv4
 unfolding in_range
 this_host = refl
 
--- both ends of NAT64 64:ff9b::/96, an address between them, and their neighbours
-linked_by_nat64 : map linked_ipv4 (ipv6 0x64 0xff9a 0xffff 0xffff 0xffff 0xffff 0xffff 0xffff ∷ ipv6 0x64 0xff9b 0 0 0 0 0 0 ∷ ipv6 0x64 0xff9b 0 0 0 0 0x102 0x304 ∷ ipv6 0x64 0xff9b 0 0 0 0 0xffff 0xffff ∷ ipv6 0x64 0xff9b 0 0 0 0x1 0 0 ∷ []) ≡ None ∷ Some (0 ∷ 0 ∷ 0 ∷ 0 ∷ []) ∷ Some (1 ∷ 2 ∷ 3 ∷ 4 ∷ []) ∷ Some (0xff ∷ 0xff ∷ 0xff ∷ 0xff ∷ []) ∷ None ∷ []
-unfolding in_range
-linked_by_nat64 = refl
+-- an address, and the IPv4 address that it carries
+abbrev linked_rows : List (Address × Option (List ℕ))
+linked_rows =
+    -- both ends of NAT64 64:ff9b::/96, an address between them, and their neighbours
+    (ipv6 0x64 0xff9a 0xffff 0xffff 0xffff 0xffff 0xffff 0xffff, None) ∷
+    (ipv6 0x64 0xff9b 0 0 0 0 0 0, Some (0 ∷ 0 ∷ 0 ∷ 0 ∷ [])) ∷
+    (ipv6 0x64 0xff9b 0 0 0 0 0x102 0x304, Some (1 ∷ 2 ∷ 3 ∷ 4 ∷ [])) ∷
+    (ipv6 0x64 0xff9b 0 0 0 0 0xffff 0xffff, Some (0xff ∷ 0xff ∷ 0xff ∷ 0xff ∷ [])) ∷
+    (ipv6 0x64 0xff9b 0 0 0 0x1 0 0, None) ∷
+    -- the same of SIIT ::ffff:0:0:0/96
+    (ipv6 0 0 0 0 0xfffe 0xffff 0xffff 0xffff, None) ∷
+    (ipv6 0 0 0 0 0xffff 0 0 0, Some (0 ∷ 0 ∷ 0 ∷ 0 ∷ [])) ∷
+    (ipv6 0 0 0 0 0xffff 0 0x102 0x304, Some (1 ∷ 2 ∷ 3 ∷ 4 ∷ [])) ∷
+    (ipv6 0 0 0 0 0xffff 0 0xffff 0xffff, Some (0xff ∷ 0xff ∷ 0xff ∷ 0xff ∷ [])) ∷
+    (ipv6 0 0 0 0 0xffff 0x1 0 0, None) ∷
+    -- of 6to4 2002::/16
+    (ipv6 0x2001 0xffff 0xffff 0xffff 0xffff 0xffff 0xffff 0xffff, None) ∷
+    (ipv6 0x2002 0 0 0 0 0 0 0, Some (0 ∷ 0 ∷ 0 ∷ 0 ∷ [])) ∷
+    (ipv6 0x2002 0x102 0x304 0 0 0 0 0, Some (1 ∷ 2 ∷ 3 ∷ 4 ∷ [])) ∷
+    (ipv6 0x2002 0xffff 0xffff 0xffff 0xffff 0xffff 0xffff 0xffff, Some (0xff ∷ 0xff ∷ 0xff ∷ 0xff ∷ [])) ∷
+    (ipv6 0x2003 0 0 0 0 0 0 0, None) ∷
+    -- and of Teredo 2001:0::/32, by the complement
+    (ipv6 0x2000 0xffff 0xffff 0xffff 0xffff 0xffff 0xffff 0xffff, None) ∷
+    (ipv6 0x2001 0 0 0 0 0 0 0, Some (0xff ∷ 0xff ∷ 0xff ∷ 0xff ∷ [])) ∷
+    (ipv6 0x2001 0 0 0 0 0 0x102 0x304, Some (0xfe ∷ 0xfd ∷ 0xfc ∷ 0xfb ∷ [])) ∷
+    (ipv6 0x2001 0 0xffff 0xffff 0xffff 0xffff 0xffff 0xffff, Some (0 ∷ 0 ∷ 0 ∷ 0 ∷ [])) ∷
+    (ipv6 0x2001 0x1 0 0 0 0 0 0, None) ∷ []
 
--- both ends of SIIT ::ffff:0:0:0/96, an address between them, and their neighbours
-linked_by_siit : map linked_ipv4 (ipv6 0 0 0 0 0xfffe 0xffff 0xffff 0xffff ∷ ipv6 0 0 0 0 0xffff 0 0 0 ∷ ipv6 0 0 0 0 0xffff 0 0x102 0x304 ∷ ipv6 0 0 0 0 0xffff 0 0xffff 0xffff ∷ ipv6 0 0 0 0 0xffff 0x1 0 0 ∷ []) ≡ None ∷ Some (0 ∷ 0 ∷ 0 ∷ 0 ∷ []) ∷ Some (1 ∷ 2 ∷ 3 ∷ 4 ∷ []) ∷ Some (0xff ∷ 0xff ∷ 0xff ∷ 0xff ∷ []) ∷ None ∷ []
+linked : map (λ row. linked_ipv4 row.0) linked_rows ≡ map (λ row. row.1) linked_rows
 unfolding in_range
-linked_by_siit = refl
-
--- both ends of 6to4 2002::/16, an address between them, and their neighbours
-linked_by_6to4 : map linked_ipv4 (ipv6 0x2001 0xffff 0xffff 0xffff 0xffff 0xffff 0xffff 0xffff ∷ ipv6 0x2002 0 0 0 0 0 0 0 ∷ ipv6 0x2002 0x102 0x304 0 0 0 0 0 ∷ ipv6 0x2002 0xffff 0xffff 0xffff 0xffff 0xffff 0xffff 0xffff ∷ ipv6 0x2003 0 0 0 0 0 0 0 ∷ []) ≡ None ∷ Some (0 ∷ 0 ∷ 0 ∷ 0 ∷ []) ∷ Some (1 ∷ 2 ∷ 3 ∷ 4 ∷ []) ∷ Some (0xff ∷ 0xff ∷ 0xff ∷ 0xff ∷ []) ∷ None ∷ []
-unfolding in_range
-linked_by_6to4 = refl
-
--- both ends of Teredo 2001:0::/32, by the complement, an address between them, and their neighbours
-linked_by_teredo : map linked_ipv4 (ipv6 0x2000 0xffff 0xffff 0xffff 0xffff 0xffff 0xffff 0xffff ∷ ipv6 0x2001 0 0 0 0 0 0 0 ∷ ipv6 0x2001 0 0 0 0 0 0x102 0x304 ∷ ipv6 0x2001 0 0xffff 0xffff 0xffff 0xffff 0xffff 0xffff ∷ ipv6 0x2001 0x1 0 0 0 0 0 0 ∷ []) ≡ None ∷ Some (0xff ∷ 0xff ∷ 0xff ∷ 0xff ∷ []) ∷ Some (0xfe ∷ 0xfd ∷ 0xfc ∷ 0xfb ∷ []) ∷ Some (0 ∷ 0 ∷ 0 ∷ 0 ∷ []) ∷ None ∷ []
-unfolding in_range
-linked_by_teredo = refl
+linked = refl
 
 -- a linked IPv4 address can be one that is not routed
 linked_though_private : linked_ipv4 (ipv6 0x2002 0x0a00 1 0 0 0 0 0) ≡ Some (10 ∷ 0 ∷ 0 ∷ 1 ∷ [])

@@ -3,7 +3,7 @@ ghost use Rattle.net_addr.specs.Address.{mapped_prefix, internal_prefix};
 
 use crate::Net;
 use crate::old_form::{
-    INTERNAL_PREFIX, MAPPED_PREFIX, TORV2_PREFIX, four, internal, is_old_form, mapped, ten,
+    INTERNAL_PREFIX, MAPPED_PREFIX, TORV2_PREFIX, array_of, internal, is_old_form, mapped,
 };
 use crate::ranges::{
     carried, in_range, is_cjdns, is_ipv4_invalid, is_ipv4_local, is_ipv4_reserved, is_ipv6_invalid,
@@ -20,6 +20,27 @@ enum Bytes {
     I2p([u8; 32]),
     Cjdns([u8; 16]),
     Internal([u8; 10]),
+}
+
+impl Bytes {
+    ghost use Rattle.net_addr.specs.Address.{length_of};
+    ghost use Rattle.net_addr.specs.Inside.{address_of};
+
+    /// Returns the bytes, as many as the network's addresses have.
+    fn as_slice(&self) -> &[u8]
+        ensures value { result.now ≡ (address_of self.now).bytes }
+        ensures len { length (address_of self.now).bytes ≡ length_of (address_of self.now).net }
+        ensures all { All (λ b. b < 256) (address_of self.now).bytes }
+    {
+        match self {
+            Bytes::Ipv4(bytes) => lent(bytes),
+            Bytes::Ipv6(bytes) => lent(bytes),
+            Bytes::Onion(bytes) => lent(bytes),
+            Bytes::I2p(bytes) => lent(bytes),
+            Bytes::Cjdns(bytes) => lent(bytes),
+            Bytes::Internal(bytes) => lent(bytes),
+        }
+    }
 }
 
 /// An address of one of the six networks.
@@ -53,9 +74,9 @@ impl NetAddr {
     ghost use Rattle.net_addr.specs.Ranges.{range, in_range, is_valid, is_local, is_routable, reserved_by, linked_by, linked_ipv4, net_class};
     ghost use Rattle.net_addr.specs.OldForm.{address, from_v1, v1_bytes};
 
-    /// The address of a network and its bytes in the order of the wire. `None` for the network
-    /// `Unroutable`, for another number of bytes than the network's addresses have, and for IPv6
-    /// bytes that are the old form of an address of another kind.
+    /// Returns the address of a network with these bytes, which are in the order of the wire.
+    /// Returns `None` for the network `Unroutable`, for another number of bytes than the network's
+    /// addresses have, and for IPv6 bytes that are the old form of another address.
     pub fn of(net: Net, bytes: &[u8]) -> Option<NetAddr>
         ensures found { IfSome result (λ a. a ≡ address net bytes.now) }
         ensures address { IfSome result IsAddress }
@@ -75,7 +96,7 @@ impl NetAddr {
         Some(NetAddr { bytes })
     }
 
-    /// The IPv4 address of four bytes in the order of the wire.
+    /// Returns the IPv4 address of four bytes in the order of the wire.
     pub fn ipv4(bytes: [u8; 4]) -> NetAddr
         ensures value { result ≡ address Ipv4 bytes }
         ensures address { IsAddress result }
@@ -85,20 +106,20 @@ impl NetAddr {
         }
     }
 
-    /// The address of sixteen bytes of the old form (`CNetAddr::SetLegacyIPv6` in netaddress.cpp
-    /// of Bitcoin Core).
+    /// Returns the address of sixteen bytes of the old form (`CNetAddr::SetLegacyIPv6` in
+    /// netaddress.cpp of Bitcoin Core).
     pub fn from_v1(bytes: &[u8; 16]) -> NetAddr
         ensures value { result ≡ from_v1 bytes.now }
         ensures address { IsAddress result }
     {
         if bytes.starts_with(&MAPPED_PREFIX) {
             return NetAddr {
-                bytes: Bytes::Ipv4(four(&bytes[12..])),
+                bytes: Bytes::Ipv4(array_of(&bytes[12..])),
             };
         }
         if bytes.starts_with(&INTERNAL_PREFIX) {
             return NetAddr {
-                bytes: Bytes::Internal(ten(&bytes[6..])),
+                bytes: Bytes::Internal(array_of(&bytes[6..])),
             };
         }
         if bytes.starts_with(&TORV2_PREFIX) {
@@ -111,7 +132,7 @@ impl NetAddr {
         }
     }
 
-    /// The network of the address.
+    /// Returns the network of the address.
     pub fn net(&self) -> Net
         ensures { result ≡ self.now.net }
     {
@@ -125,22 +146,15 @@ impl NetAddr {
         }
     }
 
-    /// The bytes of the address, as many as its network has, in the order of the wire.
+    /// Returns the bytes of the address, as many as its network has, in the order of the wire.
     pub fn bytes(&self) -> &[u8]
         ensures value { result.now ≡ self.now.bytes }
         ensures address { IsAddress self.now }
     {
-        match &self.bytes {
-            Bytes::Ipv4(bytes) => lent(bytes),
-            Bytes::Ipv6(bytes) => lent(bytes),
-            Bytes::Onion(bytes) => lent(bytes),
-            Bytes::I2p(bytes) => lent(bytes),
-            Bytes::Cjdns(bytes) => lent(bytes),
-            Bytes::Internal(bytes) => lent(bytes),
-        }
+        self.bytes.as_slice()
     }
 
-    /// Whether the bytes can be an address at all (`CNetAddr::IsValid` in netaddress.cpp of
+    /// Returns whether the bytes can be an address at all (`CNetAddr::IsValid` in netaddress.cpp of
     /// Bitcoin Core).
     pub fn is_valid(&self) -> bool
         ensures { result ≡ is_valid self.now }
@@ -154,7 +168,7 @@ impl NetAddr {
         }
     }
 
-    /// Whether the address is this host (`CNetAddr::IsLocal`).
+    /// Returns whether the address is this host (`CNetAddr::IsLocal`).
     pub fn is_local(&self) -> bool
         ensures { result ≡ is_local self.now }
     {
@@ -165,14 +179,14 @@ impl NetAddr {
         }
     }
 
-    /// Whether the address can be reached over the public network (`CNetAddr::IsRoutable`).
+    /// Returns whether the address can be reached over the public network (`CNetAddr::IsRoutable`).
     pub fn is_routable(&self) -> bool
         ensures { result ≡ is_routable self.now }
     {
         self.is_valid() && !self.is_local() && !self.is_reserved()
     }
 
-    /// Whether the address begins with the first `bits` bits of the base.
+    /// Returns whether the address begins with the first `bits` bits of the base.
     pub fn is_in_range(&self, base: &[u8], bits: usize) -> bool
         requires base_holds { bits ≤ 8 * length base.now }
         requires address_holds { length base.now ≤ length self.now.bytes }
@@ -181,7 +195,7 @@ impl NetAddr {
         in_range(self.bytes(), base, bits)
     }
 
-    /// Whether the address is in a range that is not routed.
+    /// Returns whether the address is in a range that is not routed.
     fn is_reserved(&self) -> bool
         ensures { result ≡ reserved_by self.now.net self.now.bytes }
     {
@@ -192,8 +206,8 @@ impl NetAddr {
         }
     }
 
-    /// The four bytes of the IPv4 address that the address is or carries, whether or not it is
-    /// routable.
+    /// Returns the four bytes of the IPv4 address that the address is or carries, whether or not it
+    /// is routable, or `None` if there is none.
     pub fn linked_bytes(&self) -> Option<[u8; 4]>
         ensures { result ≡ linked_by self.now.net self.now.bytes }
     {
@@ -204,8 +218,8 @@ impl NetAddr {
         }
     }
 
-    /// The IPv4 address that a routable address is or carries, the first of its four bytes the
-    /// highest (`CNetAddr::GetLinkedIPv4`).
+    /// Returns the IPv4 address that a routable address is or carries, the first of its four bytes
+    /// the highest, or `None` if there is none (`CNetAddr::GetLinkedIPv4`).
     pub fn linked_ipv4(&self) -> Option<u32>
         ensures value { result ≡ option_map (from_be_bytes w32) (linked_ipv4 self.now) }
         ensures bytes { linked_ipv4 self.now ≡ option_map (to_be_bytes w32) result }
@@ -217,7 +231,7 @@ impl NetAddr {
         Some(u32::from_be_bytes(bytes))
     }
 
-    /// The network that the address is reached through (`CNetAddr::GetNetClass`).
+    /// Returns the network that the address is reached through (`CNetAddr::GetNetClass`).
     pub fn net_class(&self) -> Net
         ensures { result ≡ net_class self.now }
     {
@@ -229,8 +243,8 @@ impl NetAddr {
         }
     }
 
-    /// The sixteen bytes of the form that messages had before BIP 155, if the address has one
-    /// (`CNetAddr::SerializeV1Array`).
+    /// Returns the sixteen bytes of the old form, in which messages had addresses before BIP 155,
+    /// or `None` if the address has no such form (`CNetAddr::SerializeV1Array`).
     pub fn v1_bytes(&self) -> Option<[u8; 16]>
         ensures { result ≡ v1_bytes self.now }
     {
@@ -243,7 +257,7 @@ impl NetAddr {
     }
 }
 
-/// The bytes of an array.
+/// Returns the bytes of an array.
 fn lent<const N: usize>(bytes: &[u8; N]) -> &[u8]
     ensures value { result.now ≡ bytes.now }
     ensures len { length bytes.now ≡ N }
@@ -252,7 +266,7 @@ fn lent<const N: usize>(bytes: &[u8; N]) -> &[u8]
     same(bytes.as_slice())
 }
 
-/// The bytes themselves, of which the contract says that they are below 256.
+/// Returns the bytes themselves, of which the contract says that they are below 256.
 fn same(bytes: &[u8]) -> &[u8]
     ensures value { result.now ≡ bytes.now }
     ensures all { All (λ b. b < 256) bytes.now }

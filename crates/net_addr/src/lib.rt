@@ -17,6 +17,7 @@ pub use address::NetAddr;
 pub use entry::Entry;
 pub use memory::Memory;
 pub use net::Net;
+pub use old_form::{INTERNAL_PREFIX, MAPPED_PREFIX, TORV2_PREFIX};
 pub use peer::Peer;
 pub use print::{put_addr, put_ipv4, put_ipv6, put_peer};
 pub use read::{around_last, parse_addr, parse_ipv4, parse_ipv6, parse_number, parse_peer};

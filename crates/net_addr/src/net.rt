@@ -15,15 +15,15 @@ impl Net {
     ghost use Rattle.std.specs.Prelude.{◌≡◌};
     ghost use Rattle.net_addr.specs.Address.{number_of, length_of};
 
-    /// The number of the network as `enum Network` in netaddress.h of Bitcoin Core has it: 0 for
-    /// `Unroutable` up to 6 for `Internal`.
+    /// Returns the number of the network as `enum Network` in netaddress.h of Bitcoin Core has it:
+    /// 0 for `Unroutable` up to 6 for `Internal`.
     pub fn number(self) -> u8
         ensures { result ≡ number_of self }
     {
         self as u8
     }
 
-    // How many bytes an address of the network has.
+    /// Returns how many bytes an address of the network has.
     pub(crate) fn len(self) -> usize
         ensures { result ≡ length_of self }
     {

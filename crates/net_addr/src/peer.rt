@@ -13,9 +13,9 @@ impl Peer {
     ghost use Rattle.std.specs.Prelude.{◌≡◌};
     ghost use Rattle.net_addr.specs.OldForm.{key_bytes};
 
-    /// The bytes by which a peer is hashed: the old form of its address if it has one, else the
-    /// address's bytes, and the port with its high byte first (`CService::GetKey` in netaddress.cpp
-    /// of Bitcoin Core).
+    /// Returns the bytes by which a peer is hashed: the old form of its address if it has one, else
+    /// the address's bytes, and the port with its high byte first (`CService::GetKey` in
+    /// netaddress.cpp of Bitcoin Core).
     pub fn key_bytes(&self) -> ArrayVec<u8, 34>
         ensures { result.items ≡ key_bytes self.now }
     {

@@ -7,7 +7,7 @@ ghost use Rattle.std.specs.String.{string_bytes};
 ghost use Rattle.arrayvec.specs.ArrayVec.{array_vec_len};
 
 use crate::append::append;
-use crate::old_form::{four, sixteen};
+use crate::old_form::array_of;
 use crate::{Memory, Net, NetAddr, Peer};
 use arrayvec::ArrayVec;
 use itoa::Buffer;
@@ -55,7 +55,7 @@ pub fn put_peer(peer: &Peer, out: &mut Vec<u8>) -> Result<(), Memory>
     put(text.as_slice(), out)
 }
 
-/// Appends the text.
+/// Appends `text`.
 fn put(text: &[u8], out: &mut Vec<u8>) -> Result<(), Memory>
     ensures ok { OnOk result (out.new.items ≡ out.old.items ++ text.now) }
     ensures err { OnErr result (out.new.items ≡ out.old.items) }
@@ -64,7 +64,7 @@ fn put(text: &[u8], out: &mut Vec<u8>) -> Result<(), Memory>
     Ok(())
 }
 
-/// The text of a peer.
+/// Returns the text of a peer.
 fn text_of_peer(peer: &Peer, alloc: Global) -> Result<Vec<u8>, AllocError>
     ensures text { IfOk result (λ text. text.items ≡ peer_text peer.now) }
     ensures address { IsAddress peer.now.addr }
@@ -77,14 +77,14 @@ fn text_of_peer(peer: &Peer, alloc: Global) -> Result<Vec<u8>, AllocError>
     Ok(text)
 }
 
-/// The text of an address.
+/// Returns the text of an address.
 fn text_of(addr: &NetAddr, alloc: Global) -> Result<Vec<u8>, AllocError>
     ensures text { IfOk result (λ text. text.items ≡ addr_text addr.now) }
     ensures address { IsAddress addr.now }
 {
     let bytes = addr.bytes();
     match addr.net() {
-        Net::Ipv4 => Vec::from_slice(alloc, dotted(four(bytes)).as_slice()),
+        Net::Ipv4 => Vec::from_slice(alloc, dotted(array_of(bytes)).as_slice()),
         Net::Ipv6 => bracketed(bytes, alloc),
         Net::Onion => labelled("onion:", bytes, alloc),
         Net::I2p => labelled("i2p:", bytes, alloc),
@@ -94,19 +94,19 @@ fn text_of(addr: &NetAddr, alloc: Global) -> Result<Vec<u8>, AllocError>
     }
 }
 
-/// Sixteen bytes as groups of hexadecimal digits with colons between them.
+/// Returns sixteen bytes as groups of hexadecimal digits with colons between them.
 fn groups(bytes: [u8; 16], alloc: Global) -> Result<String, AllocError>
     ensures { IfOk result (λ text. string_bytes text ≡ ipv6_text bytes) }
 {
     format!(in alloc; "{}", Ipv6Addr::from_octets(bytes).hex_groups())
 }
 
-/// The text of an IPv6 address in square brackets.
+/// Returns the text of an IPv6 address in square brackets.
 fn bracketed(bytes: &[u8], alloc: Global) -> Result<Vec<u8>, AllocError>
     requires { length bytes.now ≡ 16 }
     ensures { IfOk result (λ text. text.items ≡ codes "[" ++ ipv6_text bytes.now ++ codes "]") }
 {
-    let inner = groups(sixteen(bytes), alloc)?;
+    let inner = groups(array_of(bytes), alloc)?;
     let mut text = Vec::new(alloc);
     text.extend_from_slice(b"[")?;
     text.extend_from_slice(inner.as_bytes())?;
@@ -114,7 +114,7 @@ fn bracketed(bytes: &[u8], alloc: Global) -> Result<Vec<u8>, AllocError>
     Ok(text)
 }
 
-/// A label and the hexadecimal digits of the bytes.
+/// Returns a label and the hexadecimal digits of the bytes.
 fn labelled(label: &str, bytes: &[u8], alloc: Global) -> Result<Vec<u8>, AllocError>
     ensures { IfOk result (λ text. text.items ≡ label.now ++ encode_lower bytes.now) }
 {
@@ -125,7 +125,7 @@ fn labelled(label: &str, bytes: &[u8], alloc: Global) -> Result<Vec<u8>, AllocEr
     Ok(text)
 }
 
-/// Four decimal numbers with dots between them.
+/// Returns four decimal numbers with dots between them.
 fn dotted(bytes: [u8; 4]) -> ArrayVec<u8, 15>
     ensures { result.items ≡ ipv4_text bytes }
 {

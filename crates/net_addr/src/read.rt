@@ -11,8 +11,8 @@ ghost use Rattle.net_addr.specs.declared.peer.Peer.{Peer};
 use crate::{Net, NetAddr, Peer};
 use std::net::{Ipv4Addr, Ipv6Addr};
 
-/// The number that the text writes in decimal, if it is at most `most`. A sign or a leading zero is
-/// not read.
+/// Returns the number that the text writes in decimal, or `None` if it writes none, has a sign or a
+/// leading zero, or the number is above `most`.
 pub fn parse_number(text: &[u8], most: u64) -> Option<u64>
     ensures found { IfSome result (λ n. (n ≤ most) × (text.now ≡ decimal n)) }
     ensures only { (n : ℕ) → n ≤ most → text.now ≡ decimal n → result ≡ Some n }
@@ -30,8 +30,8 @@ pub fn parse_number(text: &[u8], most: u64) -> Option<u64>
     Some(value)
 }
 
-/// The IPv4 address that the text writes as its four bytes in decimal, divided by dots and with no
-/// leading zeros; the first byte is the highest.
+/// Returns the IPv4 address that the text writes, or `None`: four bytes in decimal, the highest
+/// first, with dots between them and no leading zeros.
 pub fn parse_ipv4(text: &[u8]) -> Option<u32>
     ensures found { IfSome result (λ n. IsIpv4Text text.now n) }
     ensures only { (n : ℕ) → IsIpv4Text text.now n → result ≡ Some n }
@@ -42,9 +42,9 @@ pub fn parse_ipv4(text: &[u8]) -> Option<u32>
     }
 }
 
-/// The IPv6 address that the text writes as groups of hexadecimal digits, without brackets; the
-/// first of its sixteen bytes is the highest. The last groups cannot be written as an IPv4 address
-/// (RFC 4291, 2.2, forms 1 and 2).
+/// Returns the IPv6 address that the text writes as groups of hexadecimal digits, without brackets,
+/// or `None`. The first of its sixteen bytes is the highest. The last groups cannot be written as
+/// an IPv4 address (RFC 4291, 2.2, forms 1 and 2).
 pub fn parse_ipv6(text: &[u8]) -> Option<u128>
     ensures found { IfSome result (λ n. IsIpv6Text text.now n) }
     ensures only { (n : ℕ) → IsIpv6Text text.now n → result ≡ Some n }
@@ -58,7 +58,7 @@ pub fn parse_ipv6(text: &[u8]) -> Option<u128>
     }
 }
 
-/// The address that the text writes.
+/// Returns the address that the text writes, or `None` if it writes none.
 pub fn parse_addr(text: &[u8]) -> Option<NetAddr>
     ensures found { IfSome result (λ a. IsAddrText text.now a) }
     ensures address { IfSome result IsAddress }
@@ -74,7 +74,8 @@ pub fn parse_addr(text: &[u8]) -> Option<NetAddr>
     Some(NetAddr::ipv4(bits.to_be_bytes()))
 }
 
-/// The peer that the text writes: an address, a colon, and a port from 0 to 65535.
+/// Returns the peer that the text writes, or `None` if it writes none: an address, a colon, and a
+/// port from 0 to 65535.
 pub fn parse_peer(text: &[u8]) -> Option<Peer>
     ensures found { IfSome result (λ p. IsPeerText text.now p) }
     ensures address { IfSome result (λ p. IsAddress p.addr) }
@@ -89,7 +90,7 @@ pub fn parse_peer(text: &[u8]) -> Option<Peer>
     })
 }
 
-/// The address that the text after an opening bracket writes.
+/// Returns the address that the text after an opening bracket writes.
 fn parse_bracketed(text: &[u8]) -> Option<NetAddr>
     ensures found { IfSome result (λ a. IsBracketText (91 ∷ text.now) a) }
     ensures address { IfSome result IsAddress }
@@ -100,7 +101,7 @@ fn parse_bracketed(text: &[u8]) -> Option<NetAddr>
     Some(NetAddr::from_v1(&bits.to_be_bytes()))
 }
 
-/// The network whose label the text begins with, and the text after the label.
+/// Returns the network whose label the text begins with, and the text after the label, or `None`.
 fn after_label(text: &[u8]) -> Option<(Net, &[u8])>
     ensures network { IfSome result (λ found. HasLabel found.0) }
     ensures cut { IfSome result (λ found. text.now ≡ label_of found.0 ++ found.1.now) }
@@ -122,7 +123,7 @@ fn after_label(text: &[u8]) -> Option<(Net, &[u8])>
     None
 }
 
-/// The address of the network whose bytes the text writes in hexadecimal digits.
+/// Returns the address of the network whose bytes the text writes in hexadecimal digits.
 fn from_hex(net: Net, text: &[u8]) -> Option<NetAddr>
     requires network { (net ≢ Unroutable) × (net ≢ Ipv6) }
     ensures found { IfSome result (λ a. IsHexOf net text.now a) }
@@ -137,7 +138,7 @@ fn from_hex(net: Net, text: &[u8]) -> Option<NetAddr>
     }
 }
 
-/// Whether the text has a dot.
+/// Returns whether the text has a dot.
 fn has_dot(text: &[u8]) -> bool
     ensures { MatchBool result
         ((k : ℕ) × (k < length text.now) × (slice_index text.now k ≡ 46))
@@ -146,7 +147,7 @@ fn has_dot(text: &[u8]) -> bool
     text.contains(&b'.')
 }
 
-/// The number of sixteen bytes, the first the highest.
+/// Returns the number of sixteen bytes, the first the highest.
 fn bits_of(bytes: &[u8; 16]) -> u128
     ensures value { result ≡ from_be_bytes w128 bytes.now }
     ensures bytes { to_be_bytes w128 result ≡ bytes.now }
@@ -154,14 +155,15 @@ fn bits_of(bytes: &[u8; 16]) -> u128
     u128::from_be_bytes(*bytes)
 }
 
-/// Whether the text begins with a zero and has more digits.
+/// Returns whether the text begins with a zero and has more digits.
 fn is_padded(text: &[u8]) -> bool
     ensures { IsTrue result ↔ ((1 < length text.now) × (slice_index text.now 0 ≡ 48)) }
 {
     text.len() > 1 && text[0] == b'0'
 }
 
-/// The number with one more decimal digit, if the byte is a digit and the number is at most `most`.
+/// Returns the number with one more decimal digit, if the byte is a digit and the number is at most
+/// `most`.
 fn with_digit(value: u64, byte: u8, most: u64) -> Option<u64>
     requires { value ≤ most }
     ensures found { IfSome result (λ n.
@@ -175,7 +177,8 @@ fn with_digit(value: u64, byte: u8, most: u64) -> Option<u64>
     if next <= most { Some(next) } else { None }
 }
 
-/// The text before the last `byte`, and the text after it.
+/// Returns the text before the last `byte` and the text after it, or `None` if the text has no such
+/// byte.
 pub fn around_last(text: &[u8], byte: u8) -> Option<(&[u8], &[u8])>
     ensures cut { IfSome result (λ parts. text.now ≡ parts.0.now ++ byte ∷ parts.1.now) }
     ensures last { IfSome result (λ parts. All (λ c. c ≢ byte) parts.1.now) }

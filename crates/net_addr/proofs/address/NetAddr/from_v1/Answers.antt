@@ -5,15 +5,15 @@ use Rattle.net_addr.proofs.address.NetAddr.from_v1.Goals as goal
 
 pub returns-then-starts_with-clause-value : goal.returns-then-starts_with-clause-value
 returns-then-starts_with-clause-value c =
-    from_v1-mapped c.args.bytes.now c.four.result c.told-bytes (sym c.starts_with.ensures.value ∙ c.if-starts_with.true) c.four.ensures
+    from_v1-mapped c.args.bytes.now c.array_of.result c.told-bytes (sym c.starts_with.ensures.value ∙ c.if-starts_with.true) c.array_of.ensures
 
 pub returns-then-starts_with-clause-address : goal.returns-then-starts_with-clause-address
 returns-then-starts_with-clause-address c =
-    subst IsAddress (sym (from_v1-mapped c.args.bytes.now c.four.result c.told-bytes (sym c.starts_with.ensures.value ∙ c.if-starts_with.true) c.four.ensures)) (IsAddress-from_v1 c.args.bytes.now c.told-bytes (All_bytes _ c.fits-bytes))
+    subst IsAddress (sym (from_v1-mapped c.args.bytes.now c.array_of.result c.told-bytes (sym c.starts_with.ensures.value ∙ c.if-starts_with.true) c.array_of.ensures)) (IsAddress-from_v1 c.args.bytes.now c.told-bytes (All_bytes _ c.fits-bytes))
 
 pub returns-then-starts_with-2-clause-address : goal.returns-then-starts_with-2-clause-address
 returns-then-starts_with-2-clause-address c =
-    subst IsAddress (sym (from_v1-internal c.args.bytes.now c.ten.result c.told-bytes (sym c.starts_with.ensures.value ∙ c.if-starts_with.false) (sym c.starts_with-2.ensures.value ∙ c.if-starts_with-2.true) c.ten.ensures)) (IsAddress-from_v1 c.args.bytes.now c.told-bytes (All_bytes _ c.fits-bytes))
+    subst IsAddress (sym (from_v1-internal c.args.bytes.now c.array_of-then-starts_with-2.result c.told-bytes (sym c.starts_with.ensures.value ∙ c.if-starts_with.false) (sym c.starts_with-2.ensures.value ∙ c.if-starts_with-2.true) c.array_of-then-starts_with-2.ensures)) (IsAddress-from_v1 c.args.bytes.now c.told-bytes (All_bytes _ c.fits-bytes))
 
 pub returns-clause-address : goal.returns-clause-address
 returns-clause-address c =
