@@ -5,9 +5,9 @@ ghost use Rattle.net_group.specs.Group.{asmap_bits, looked_up};
 
 use net_addr::{Net, NetAddr};
 
-/// The 128 bits of an address that are looked up in an asmap, the highest bit first. `None` unless
-/// the address is reached over IPv4 or IPv6 (`NetGroupManager::GetMappedAS` in netgroup.cpp of
-/// Bitcoin Core).
+/// Returns the 128 bits of an address that are looked up in an asmap, the highest bit first. `None`
+/// unless the address is reached over IPv4 or IPv6 (`NetGroupManager::GetMappedAS` in netgroup.cpp
+/// of Bitcoin Core).
 pub fn asmap_bits(addr: &NetAddr) -> Option<u128>
     ensures { result ≡ asmap_bits addr.now }
 {
@@ -17,8 +17,8 @@ pub fn asmap_bits(addr: &NetAddr) -> Option<u128>
     }
 }
 
-/// The bits of an address that is looked up: those of `::ffff:` and the IPv4 address that it is or
-/// carries, else its own.
+/// Returns the bits of an address that is looked up: those of `::ffff:` and the IPv4 address that
+/// it is or carries, else its own.
 fn looked_up(addr: &NetAddr) -> u128
     requires { IsSome (asmap_bits addr.now) }
     ensures { result ≡ looked_up addr.now }
@@ -29,7 +29,7 @@ fn looked_up(addr: &NetAddr) -> u128
     }
 }
 
-/// The bits of `::ffff:` and an IPv4 address.
+/// Returns the bits of `::ffff:` and an IPv4 address.
 fn mapped(ipv4: [u8; 4]) -> u128
     ensures { result ≡ from_be_bytes w128 (mapped_prefix ++ ipv4) }
 {
@@ -37,7 +37,7 @@ fn mapped(ipv4: [u8; 4]) -> u128
     u128::from_be_bytes([0, 0, 0, 0, 0, 0, 0, 0, 0, 0, 0xff, 0xff, a, b, c, d])
 }
 
-/// The bits of sixteen bytes, the first the highest.
+/// Returns the bits of sixteen bytes, the first the highest.
 fn whole(bytes: &[u8]) -> u128
     requires { length bytes.now ≡ 16 }
     ensures { result ≡ from_be_bytes w128 bytes.now }

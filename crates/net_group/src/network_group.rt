@@ -7,7 +7,7 @@ ghost use Rattle.net_addr.specs.Ranges.{in_range, linked_by, net_class};
 use arrayvec::ArrayVec;
 use net_addr::{Net, NetAddr};
 
-/// The network group of an address in the autonomous system `asn`, 0 if that is not known
+/// Returns the network group of an address in the autonomous system `asn`, 0 if that is not known
 /// (`NetGroupManager::GetGroup` in netgroup.cpp of Bitcoin Core).
 pub fn group(addr: &NetAddr, asn: u32) -> ArrayVec<u8, 11>
     ensures { result.items ≡ group_of addr.now asn }
@@ -21,7 +21,7 @@ pub fn group(addr: &NetAddr, asn: u32) -> ArrayVec<u8, 11>
     group
 }
 
-/// The number of the class, and the part of the address that its class groups by.
+/// Returns the number of the class, and the part of the address that its class groups by.
 fn group_by_class(addr: &NetAddr, class: Net) -> ArrayVec<u8, 11>
     requires { class ≡ net_class addr.now }
     ensures { result.items ≡ number_of class ∷ part_by class addr.now }
@@ -39,7 +39,7 @@ fn group_by_class(addr: &NetAddr, class: Net) -> ArrayVec<u8, 11>
     group
 }
 
-/// The number of bits that an IPv6 address is grouped by: 36 in Hurricane Electric's
+/// Returns the number of bits that an IPv6 address is grouped by: 36 in Hurricane Electric's
 /// 2001:470::/32, else 32.
 fn ipv6_bits(addr: &NetAddr) -> usize
     requires { length addr.now.bytes ≡ 16 }

@@ -3,7 +3,7 @@ ghost use Rattle.placing.specs.Places.{double_sha256, cheap_hash, sized};
 
 use sha2::{Digest, Sha256};
 
-/// SHA-256 of SHA-256 of the bytes (FIPS 180-4).
+/// Returns SHA-256 of SHA-256 of the bytes (FIPS 180-4).
 #[tactic(auto, unfolding(crate::specs::Places::double_sha256))]
 pub(crate) fn double_sha256(bytes: &[u8]) -> [u8; 32]
     ensures { result ≡ double_sha256 bytes.now }
@@ -11,7 +11,7 @@ pub(crate) fn double_sha256(bytes: &[u8]) -> [u8; 32]
     Sha256::digest(Sha256::digest(bytes).as_slice())
 }
 
-/// The first eight bytes of the double hash as a number, the low byte first
+/// Returns the first eight bytes of the double hash as a number, the low byte first
 /// (`HashWriter::GetCheapHash` in hash.h of Bitcoin Core).
 pub fn cheap(bytes: &[u8]) -> u64
     ensures { result ≡ cheap_hash bytes.now }
@@ -32,7 +32,7 @@ pub(crate) fn add_sized(hasher: &mut Sha256, bytes: &[u8])
     hasher.update(bytes);
 }
 
-/// The hash of the bytes that were fed.
+/// Returns the hash of the bytes that were fed.
 #[tactic(auto, unfolding(crate::specs::Places::cheap_hash, crate::specs::Places::double_sha256))]
 pub(crate) fn finish(hasher: Sha256) -> u64
     ensures { (m : List ℕ) → ⟦<Sha256 as Digest>⟧.holds hasher m → result ≡ cheap_hash m }

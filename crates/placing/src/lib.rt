@@ -5,4 +5,4 @@ mod hash;
 mod placer;
 
 pub use hash::cheap;
-pub use placer::Placer;
+pub use placer::{Placer, number_of};

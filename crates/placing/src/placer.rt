@@ -9,6 +9,7 @@ use asmap_vm::Sane;
 use net_addr::{NetAddr, Peer};
 use net_group::asmap_bits;
 use sha2::{Digest, Sha256};
+use std::array::from_fn;
 use std::marker::Model;
 
 /// What buckets and slots depend on: a node's secret key, which nobody else knows, and the node's
@@ -38,14 +39,14 @@ impl<'a> Placer<'a> {
     ghost use Rattle.placing.specs.Places.{IsPlaces, hash_of, sized, slot, group_choice, asn, sum_of, group, source_bucket, source_buckets, source_choice, group_bucket, group_buckets, new_bucket, tried_bucket, new_slot, tried_slot};
     ghost use Rattle.placing.specs.Inside.{map_of};
 
-    /// The placer of a node with this key and this asmap.
+    /// Makes the placer of a node with this key and this asmap.
     pub fn make(key: [u8; 32], asmap: Option<Sane<'a>>) -> Placer<'a>
         ensures { result ≡ record { key = key; map = map_of asmap.entry } }
     {
         Placer { key, asmap }
     }
 
-    /// The node's secret key.
+    /// Returns the node's secret key.
     pub fn key(&self) -> [u8; 32]
         ensures value { result ≡ self.now.key }
         ensures places { IsPlaces self.now }
@@ -53,7 +54,8 @@ impl<'a> Placer<'a> {
         copied(&self.key)
     }
 
-    /// The checksum of the asmap's file: SHA-256 of its SHA-256, or 32 zero bytes without an asmap.
+    /// Returns the checksum of the asmap's file: SHA-256 of its SHA-256, or 32 zero bytes if there
+    /// is no asmap.
     pub fn sum(&self) -> [u8; 32]
         ensures { result ≡ sum_of self.now.map }
     {
@@ -63,25 +65,26 @@ impl<'a> Placer<'a> {
         }
     }
 
-    /// The number of the autonomous system that announces an address, 0 if none is known.
+    /// Returns the number of the autonomous system that announces an address, 0 if none is known.
     pub fn asn(&self, addr: &NetAddr) -> u32
         ensures { result ≡ asn self.now.map addr.now }
     {
         match &self.asmap {
-            Some(asmap) => number(asmap, addr),
+            Some(asmap) => number_of(asmap, addr),
             None => 0,
         }
     }
 
-    /// The network group of an address: addresses of one group are assumed to have one owner.
+    /// Returns the network group of an address: addresses of one group are assumed to have one
+    /// owner.
     pub fn group(&self, addr: &NetAddr) -> ArrayVec<u8, 11>
         ensures { result.items ≡ group self.now addr.now }
     {
         net_group::group(addr, self.asn(addr))
     }
 
-    /// The index, below 64, of the bucket for peers of one group among the buckets of a source
-    /// group. Groups have at most 11 bytes.
+    /// Returns the index, below 64, of the bucket for peers of one group among the buckets of a
+    /// source group. Groups have at most 11 bytes.
     pub fn source_choice(&self, peer_group: &[u8], source_group: &[u8]) -> u8
         requires peer { length peer_group.now ≤ 11 }
         requires source { length source_group.now ≤ 11 }
@@ -95,7 +98,7 @@ impl<'a> Placer<'a> {
         (finish(hasher) % 64) as u8
     }
 
-    /// The bucket of the new table, below 1024, at an index among the 64 of a source group.
+    /// Returns the bucket of the new table, below 1024, at an index among the 64 of a source group.
     pub fn source_bucket(&self, source_group: &[u8], choice: u8) -> u16
         requires { length source_group.now ≤ 11 }
         ensures value { result ≡ source_bucket self.now source_group.now choice }
@@ -104,7 +107,7 @@ impl<'a> Placer<'a> {
         (self.indexed(source_group, choice) % 1024) as u16
     }
 
-    /// The bucket of the tried table, below 256, at an index among the 8 of a group.
+    /// Returns the bucket of the tried table, below 256, at an index among the 8 of a group.
     fn group_bucket(&self, group: &[u8], choice: u8) -> u16
         requires { length group.now ≤ 11 }
         ensures value { result ≡ group_bucket self.now group.now choice }
@@ -113,7 +116,7 @@ impl<'a> Placer<'a> {
         (self.indexed(group, choice) % 256) as u16
     }
 
-    /// The hash of the key, a group and an index.
+    /// Returns the hash of the key, a group and an index.
     fn indexed(&self, group: &[u8], index: u8) -> u64
         requires { length group.now ≤ 11 }
         ensures { result ≡ hash_of (self.now.key ∷ sized group.now ∷ to_le_bytes w64 index ∷ []) }
@@ -125,8 +128,8 @@ impl<'a> Placer<'a> {
         finish(hasher)
     }
 
-    /// The bucket of the new table, below 1024, for a peer that a source announces: one of the 64
-    /// buckets of the source's group, so that one source reaches few buckets
+    /// Returns the bucket of the new table, below 1024, for a peer that a source announces: one of
+    /// the 64 buckets of the source's group, so that one source reaches few buckets
     /// (`AddrInfo::GetNewBucket` in addrman.cpp of Bitcoin Core).
     #[tactic(auto, unfolding(crate::specs::Places::new_bucket))]
     pub fn new_bucket(&self, peer: &Peer, source: &NetAddr) -> u16
@@ -140,8 +143,8 @@ impl<'a> Placer<'a> {
         self.source_bucket(source_group.as_slice(), choice)
     }
 
-    /// The bucket of the tried table, below 256, for a peer: one of the 8 buckets of its group
-    /// (`AddrInfo::GetTriedBucket`).
+    /// Returns the bucket of the tried table, below 256, for a peer: one of the 8 buckets of its
+    /// group (`AddrInfo::GetTriedBucket`).
     #[tactic(auto, unfolding(crate::specs::Places::tried_bucket))]
     pub fn tried_bucket(&self, peer: &Peer) -> u16
         ensures value { result ≡ tried_bucket self.now peer.now }
@@ -153,7 +156,7 @@ impl<'a> Placer<'a> {
         self.group_bucket(group.as_slice(), choice)
     }
 
-    /// The index, below 8, of a peer's bucket among those of its group.
+    /// Returns the index, below 8, of a peer's bucket among those of its group.
     fn group_choice(&self, peer: &Peer) -> u8
         ensures value { result ≡ group_choice self.now peer.now }
         ensures below { result < 8 }
@@ -164,7 +167,7 @@ impl<'a> Placer<'a> {
         (finish(hasher) % 8) as u8
     }
 
-    /// The slot of a peer in a bucket of the new table, below 64
+    /// Returns the slot of a peer in a bucket of the new table, below 64
     /// (`AddrInfo::GetBucketPosition` in addrman.cpp of Bitcoin Core).
     #[tactic(auto, unfolding(crate::specs::Places::new_slot))]
     pub fn new_slot(&self, peer: &Peer, bucket: u16) -> u8
@@ -174,7 +177,7 @@ impl<'a> Placer<'a> {
         self.slot(b'N', peer, bucket)
     }
 
-    /// The slot of a peer in a bucket of the tried table, below 64.
+    /// Returns the slot of a peer in a bucket of the tried table, below 64.
     #[tactic(auto, unfolding(crate::specs::Places::tried_slot))]
     pub fn tried_slot(&self, peer: &Peer, bucket: u16) -> u8
         ensures value { result ≡ tried_slot self.now peer.now bucket }
@@ -183,7 +186,7 @@ impl<'a> Placer<'a> {
         self.slot(b'K', peer, bucket)
     }
 
-    /// The slot of a peer in a bucket of the table that the letter names.
+    /// Returns the slot of a peer in a bucket of the table that the letter names.
     fn slot(&self, letter: u8, peer: &Peer, bucket: u16) -> u8
         ensures value { result ≡ slot letter self.now peer.now bucket }
         ensures below { result < 64 }
@@ -196,8 +199,8 @@ impl<'a> Placer<'a> {
         (finish(hasher) % 64) as u8
     }
 
-    /// The 64 buckets of the new table for peers that sources of a group announce. A group has at
-    /// most 11 bytes.
+    /// Returns the 64 buckets of the new table for peers that sources of a group announce. A group
+    /// has at most 11 bytes.
     pub fn source_buckets(&self, group: &[u8]) -> [u16; 64]
         requires { length group.now ≤ 11 }
         ensures { result ≡ source_buckets self.now group.now }
@@ -209,21 +212,17 @@ impl<'a> Placer<'a> {
         buckets
     }
 
-    /// The 8 buckets of the tried table for peers of a group. A group has at most 11 bytes.
+    /// Returns the 8 buckets of the tried table for peers of a group. A group has at most 11 bytes.
     pub fn group_buckets(&self, group: &[u8]) -> [u16; 8]
         requires { length group.now ≤ 11 }
         ensures { result ≡ group_buckets self.now group.now }
     {
-        let mut buckets = [0; 8];
-        for i in 0..8 {
-            buckets[i] = self.group_bucket(group, i as u8);
-        }
-        buckets
+        from_fn(|i| self.group_bucket(group, i as u8))
     }
 }
 
-/// The number that an asmap gives for an address, 0 if the address is not looked up.
-fn number(asmap: &Sane<'_>, addr: &NetAddr) -> u32
+/// Returns the number that an asmap gives for an address, 0 if the address is not looked up.
+pub fn number_of(asmap: &Sane<'_>, addr: &NetAddr) -> u32
     ensures { result ≡ number_by (tree_held asmap.now) (asmap_bits addr.now) }
 {
     match asmap_bits(addr) {
@@ -232,7 +231,7 @@ fn number(asmap: &Sane<'_>, addr: &NetAddr) -> u32
     }
 }
 
-/// The bytes of a key, each below 256.
+/// Returns the bytes of a key, each below 256.
 fn copied(key: &[u8]) -> [u8; 32]
     requires { length key.now ≡ 32 }
     ensures value { result ≡ key.now }
