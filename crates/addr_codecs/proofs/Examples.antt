@@ -76,7 +76,7 @@ long_services : all_of (message_at addrv2_entry_at) Trailing (1 ∷ (time ++ 0xf
 unfolding message_at addrv2_entry_at compact_at times_at
 long_services = refl
 
--- a length is judged before its bytes
+-- a length is checked before its bytes
 ipv4_of_five_bytes : all_of (message_at addrv2_entry_at) Trailing (1 ∷ (time ++ 1 ∷ 1 ∷ 5 ∷ [])) ≡ Err BadLength
 unfolding message_at addrv2_entry_at address_at length_at compact_at times_at
 ipv4_of_five_bytes = refl

@@ -6,23 +6,13 @@ ghost use Rattle.addr_codecs.specs.Network.{network_of, is_length, address_of};
 ghost use Rattle.addr_codecs.specs.Inside.{length_at, address_at};
 
 use crate::fault::MsgFault;
-use net_addr::{Net, NetAddr};
+use net_addr::{MAPPED_PREFIX, Net, NetAddr, TORV2_PREFIX};
 use wire_num::{take_byte, take_bytes, take_compact};
 
 /// The most bytes that an address may have (`MAX_ADDRV2_SIZE` in netaddress.h of Bitcoin Core).
 const MOST_BYTES: u64 = 512;
 
-/// The prefix of IPv6 bytes that are an IPv4 address (`IPV4_IN_IPV6_PREFIX` in
-/// netaddress.h of Bitcoin Core).
-pub(crate) const MAPPED_PREFIX: [u8; 12] = [0, 0, 0, 0, 0, 0, 0, 0, 0, 0, 0xff, 0xff];
-
-/// The prefix of IPv6 bytes that are an internal name (`INTERNAL_IN_IPV6_PREFIX`).
-pub(crate) const INTERNAL_PREFIX: [u8; 6] = [0xfd, 0x6b, 0x88, 0xc0, 0x87, 0x24];
-
-/// The prefix of IPv6 bytes that were a Tor v2 address (`TORV2_IN_IPV6_PREFIX`).
-const TORV2_PREFIX: [u8; 6] = [0xfd, 0x87, 0xd8, 0x7e, 0xeb, 0x43];
-
-/// The network that a number of BIP 155 names.
+/// Returns the network that a number of BIP 155 names.
 fn network(id: u8) -> Option<Net>
     ensures value { result ≡ network_of id }
     ensures own { IfSome result (λ net. net ≢ Unroutable) }
@@ -37,7 +27,8 @@ fn network(id: u8) -> Option<Net>
     }
 }
 
-/// Whether addresses of the network have this length. Those of an unknown network may have any.
+/// Returns whether addresses of the network have this length. Those of an unknown network may have
+/// any.
 fn fits(network: Option<Net>, length: u64) -> bool
     ensures { result ≡ is_length network length }
 {
@@ -66,7 +57,7 @@ fn take_length(network: Option<Net>, bytes: &[u8]) -> Result<(usize, &[u8]), Msg
     Ok((length as usize, rest))
 }
 
-/// The address of sixteen IPv6 bytes, unless they are an IPv4 or a Tor v2 address.
+/// Returns the address of sixteen IPv6 bytes, unless they are an IPv4 or a Tor v2 address.
 fn ipv6(bytes: &[u8; 16]) -> Option<NetAddr>
     ensures { result ≡ address_of (Some Ipv6) bytes.now }
 {
@@ -76,7 +67,7 @@ fn ipv6(bytes: &[u8; 16]) -> Option<NetAddr>
     Some(NetAddr::from_v1(bytes))
 }
 
-/// The address of the network with these bytes, and `None` for an entry that is skipped.
+/// Returns the address of the network with these bytes, and `None` for an entry that is skipped.
 fn address(network: Option<Net>, bytes: &[u8]) -> Option<NetAddr>
     requires own { IfSome network (λ net. net ≢ Unroutable) }
     requires length { IsTrue (is_length network (length bytes.now)) }

@@ -19,14 +19,14 @@ impl Model for Entries {
 }
 
 impl Entries {
-    /// The entries of a vector. Takes no memory.
+    /// Makes the list of a vector's entries. Takes no memory.
     pub fn of(items: Vec<Option<Entry>>) -> Entries
         ensures { result ≡ items.items }
     {
         Entries { items }
     }
 
-    /// The entries as a slice.
+    /// Returns the entries as a slice.
     pub fn items(&self) -> &[Option<Entry>]
         ensures { result.now ≡ self.now }
     {

@@ -42,7 +42,7 @@ fn take_entries(
     Ok((entries, rest))
 }
 
-/// The entries of a message of this form: the count, the entries, and nothing after them.
+/// Returns the entries of a message of this form: the count, the entries, and nothing after them.
 #[tactic(auto, unfolding(crate::specs::Inside::message_at))]
 fn read_message(alloc: Global, form: Form, bytes: &[u8]) -> Result<Entries, MsgFault>
     ensures found { GivesUnlessMemory (λ x. x) result

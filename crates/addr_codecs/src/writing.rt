@@ -7,11 +7,10 @@ ghost use Rattle.addr_codecs.specs.Inside.{CanWrite, text_in};
 ghost use Rattle.addr_codecs.specs.Layout.{IsAddrMessage, IsAddrv2Message};
 ghost use Rattle.addr_codecs.specs.Texts.{addr_entry_text, addrv2_entry_text, address_text, prefix_of, id_of, message_text};
 
-use crate::address::{INTERNAL_PREFIX, MAPPED_PREFIX};
 use crate::form::Form;
 use crate::memory::Memory;
 use host_io::Bytes;
-use net_addr::{Entry, Net, NetAddr};
+use net_addr::{Entry, INTERNAL_PREFIX, MAPPED_PREFIX, Net, NetAddr};
 use std::alloc::Global;
 use wire_num::put_compact;
 
@@ -43,7 +42,7 @@ pub(crate) fn put_addr_entry(out: &mut Vec<u8>, entry: &Entry) -> Result<(), Mem
     Ok(())
 }
 
-/// The number of a network in BIP 155. An internal name has none, and is written as IPv6.
+/// Returns the number of a network in BIP 155. An internal name has none, and is written as IPv6.
 fn id(net: Net) -> u8
     ensures { result ≡ id_of net }
 {
@@ -57,7 +56,8 @@ fn id(net: Net) -> u8
     }
 }
 
-/// What is written before the bytes of an address: an internal name is written in the old form.
+/// Returns what is written before the bytes of an address: an internal name is written in the old
+/// form.
 fn prefix(net: Net) -> &'static [u8]
     ensures { result.now ≡ prefix_of net }
 {

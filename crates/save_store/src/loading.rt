@@ -8,8 +8,8 @@ use crate::load_fault::LoadFault;
 use host_io::{Bytes, Folder, Name, OfFile, read_past};
 use std::alloc::Global;
 
-/// The bytes of a file as it was when its size was asked, or `None` if it is absent. If the size
-/// is above `limit`, no byte is read. Otherwise the file is read at least once. A folder whose
+/// Returns the bytes of a file as it was when its size was asked, or `None` if it is absent. If the
+/// size is above `limit`, no byte is read. Otherwise the file is read at least once. A folder whose
 /// files contracts do not know may give fewer bytes than the size; then those are the result.
 pub fn load<F: Folder>(
     alloc: Global,

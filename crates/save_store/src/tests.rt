@@ -52,7 +52,7 @@ impl Folder for ShortFolder {
     }
 }
 
-/// What is loaded from a folder that says `size` and gives `bytes`, and in how many reads.
+/// Returns what is loaded from a folder that says `size` and gives `bytes`, and in how many reads.
 fn load_short(rt: &HostRuntime, size: u64, bytes: &'static [u8]) -> Result<(usize, u64), Fail> {
     let mut folder = ShortFolder {
         size,

@@ -9,8 +9,8 @@ use crate::fault::WireFault;
 use crate::memory::Memory;
 use crate::numbers::{read_le16, read_le32, read_le64};
 
-// A number that was read in `length` bytes, of which the first gives the width. Fewer bytes fit
-// only a number below `least`.
+/// Returns a number that was read in `length` bytes, of which the first gives the width, with this
+/// length. A number below `least` fits fewer bytes, and is refused.
 fn in_width(number: Option<u64>, least: u64, length: usize) -> Result<(u64, usize), WireFault>
     ensures cut { IfNone number (result ≡ Err Truncated) }
     ensures found { IfSome number (λ n. result ≡
@@ -23,7 +23,7 @@ fn in_width(number: Option<u64>, least: u64, length: usize) -> Result<(u64, usiz
     Ok((number, length))
 }
 
-// What `read_compact` answers, as the reading of a CompactSize gives it.
+/// Returns the CompactSize at the start of the bytes and its length in bytes, or the first fault.
 #[tactic(auto, unfolding(crate::specs::Readings::compact_at))]
 fn compact_of(bytes: &[u8]) -> Result<(u64, usize), WireFault>
     ensures { GivesLength result bytes.now (compact_at bytes.now) }
@@ -37,8 +37,9 @@ fn compact_of(bytes: &[u8]) -> Result<(u64, usize), WireFault>
     }
 }
 
-/// The CompactSize at the start of the bytes, and how many bytes it takes (`ReadCompactSize` in
-/// serialize.h of Bitcoin Core, without its limit on the value). Bytes may follow it.
+/// Returns the CompactSize at the start of the bytes, and how many bytes it takes
+/// (`ReadCompactSize` in serialize.h of Bitcoin Core, without its limit on the value). Bytes may
+/// follow it.
 pub fn read_compact(bytes: &[u8]) -> Result<(u64, usize), WireFault>
     ensures found { IfOk result (λ x. (x.1 ≤ length bytes.now) ×
         (take x.1 bytes.now ≡ compact_size x.0)) }

@@ -1,7 +1,7 @@
 ghost use Rattle.std.specs.Prelude.{◌≡◌};
 ghost use Rattle.wire_num.specs.Numbers.{le16_at, le32_at, le64_at, be16_at};
 
-/// The number of the two bytes from `at` on, low byte first, or `None` if fewer are there.
+/// Returns the number of the two bytes from `at` on, low byte first, or `None` if fewer are there.
 pub(crate) fn read_le16(bytes: &[u8], at: usize) -> Option<u16>
     ensures { result ≡ le16_at bytes.now at }
 {
@@ -9,7 +9,7 @@ pub(crate) fn read_le16(bytes: &[u8], at: usize) -> Option<u16>
     Some(u16::from_le_bytes(*number))
 }
 
-/// The number of the four bytes from `at` on, low byte first, or `None` if fewer are there.
+/// Returns the number of the four bytes from `at` on, low byte first, or `None` if fewer are there.
 pub fn read_le32(bytes: &[u8], at: usize) -> Option<u32>
     ensures { result ≡ le32_at bytes.now at }
 {
@@ -17,7 +17,8 @@ pub fn read_le32(bytes: &[u8], at: usize) -> Option<u32>
     Some(u32::from_le_bytes(*number))
 }
 
-/// The number of the eight bytes from `at` on, low byte first, or `None` if fewer are there.
+/// Returns the number of the eight bytes from `at` on, low byte first, or `None` if fewer are
+/// there.
 pub fn read_le64(bytes: &[u8], at: usize) -> Option<u64>
     ensures { result ≡ le64_at bytes.now at }
 {
@@ -25,7 +26,7 @@ pub fn read_le64(bytes: &[u8], at: usize) -> Option<u64>
     Some(u64::from_le_bytes(*number))
 }
 
-/// The number of the two bytes from `at` on, high byte first, or `None` if fewer are there.
+/// Returns the number of the two bytes from `at` on, high byte first, or `None` if fewer are there.
 pub fn read_be16(bytes: &[u8], at: usize) -> Option<u16>
     ensures { result ≡ be16_at bytes.now at }
 {
