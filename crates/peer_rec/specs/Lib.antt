@@ -1,3 +1,4 @@
 pub mod Rec
 pub mod Buckets
 pub mod Deletion
+pub mod Blank

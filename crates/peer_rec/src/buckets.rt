@@ -20,21 +20,21 @@ impl Model for Buckets {
 }
 
 impl Buckets {
-    /// The buckets of a list of at most eight.
+    /// Makes the buckets of a list of at most eight.
     pub fn of(items: ArrayVec<u16, 8>) -> Buckets
         ensures { result ≡ items.items }
     {
         Buckets { items }
     }
 
-    /// No bucket.
+    /// Returns the empty list.
     pub fn none() -> Buckets
         ensures { result ≡ [] }
     {
         Buckets::of(ArrayVec::new())
     }
 
-    /// A single bucket.
+    /// Returns the list of one bucket.
     pub fn one(bucket: u16) -> Buckets
         ensures { result ≡ bucket ∷ [] }
     {
@@ -43,7 +43,7 @@ impl Buckets {
         Buckets::of(items)
     }
 
-    /// The buckets as a slice.
+    /// Returns the buckets as a slice.
     pub fn items(&self) -> &[u16]
         ensures items { result.now ≡ self.now }
         ensures few { length self.now ≤ 8 }
@@ -51,14 +51,14 @@ impl Buckets {
         self.items.as_slice()
     }
 
-    /// The same list; it takes no memory.
+    /// Returns a copy of the list. Takes no memory.
     pub fn copy(&self) -> Buckets
         ensures { result ≡ self.now }
     {
         Buckets::of(list_of(self.items.as_slice()))
     }
 
-    /// Whether there is no bucket.
+    /// Returns whether there is no bucket.
     pub fn is_empty(&self) -> bool
         ensures { result ≡ (length self.now == 0) }
     {
@@ -85,7 +85,7 @@ impl Buckets {
     }
 }
 
-/// At most eight buckets as a list of their own.
+/// Copies at most eight buckets.
 fn list_of(buckets: &[u16]) -> ArrayVec<u16, 8>
     requires { length buckets.now ≤ 8 }
     ensures { result.items ≡ buckets.now }
@@ -104,7 +104,7 @@ fn append(items: &mut ArrayVec<u16, 8>, more: &[u16])
     let _ = items.try_extend_from_slice(more);
 }
 
-/// The buckets below `bucket`.
+/// Returns the buckets below `bucket`.
 fn below(buckets: &[u16], bucket: u16) -> ArrayVec<u16, 8>
     requires { length buckets.now ≤ 8 }
     ensures { result.items ≡ filter (λ b. nat_lt b bucket) buckets.now }
@@ -114,7 +114,7 @@ fn below(buckets: &[u16], bucket: u16) -> ArrayVec<u16, 8>
     items
 }
 
-/// The buckets above `bucket`.
+/// Returns the buckets above `bucket`.
 fn above(buckets: &[u16], bucket: u16) -> ArrayVec<u16, 8>
     requires { length buckets.now ≤ 8 }
     ensures { result.items ≡ filter (λ b. nat_lt bucket b) buckets.now }

@@ -19,14 +19,14 @@ impl Model for Peers {
 }
 
 impl Peers {
-    /// The peers of a vector. Takes no memory.
+    /// Makes the list of a vector's peers. Takes no memory.
     pub fn of(items: Vec<Peer>) -> Peers
         ensures { result ≡ items.items }
     {
         Peers { items }
     }
 
-    /// The peers as a slice.
+    /// Returns the peers as a slice.
     pub fn items(&self) -> &[Peer]
         ensures { result.now ≡ self.now }
     {

@@ -14,7 +14,7 @@ pub enum Place {
 }
 
 impl Place {
-    /// The same place; it takes no memory.
+    /// Returns a copy of the place. Takes no memory.
     pub fn copy(&self) -> Place
         ensures { result ≡ self.now }
     {
@@ -24,14 +24,14 @@ impl Place {
         }
     }
 
-    /// Whether it is the tried table.
+    /// Returns whether the record is in the tried table.
     pub fn is_tried(&self) -> bool
         ensures { result ≡ tried_by self.now }
     {
         matches!(self, Place::Tried)
     }
 
-    /// How many buckets of the new table list the record.
+    /// Returns how many buckets of the new table list the record.
     pub fn bucket_count(&self) -> usize
         ensures count { result ≡ length (buckets_by self.now) }
         ensures few { result ≤ 8 }
@@ -42,7 +42,8 @@ impl Place {
         }
     }
 
-    /// The new table, with one more bucket than the fewer than eight that there are.
+    /// Returns the place in the new table with `bucket` added. There must be fewer than eight
+    /// buckets.
     pub fn with_bucket(&self, bucket: u16) -> Place
         requires room { length (buckets_by self.now) < 8 }
         ensures { result ≡ New (with_bucket bucket (buckets_by self.now)) }
@@ -57,7 +58,7 @@ impl Place {
         }
     }
 
-    /// The new table, without one bucket.
+    /// Returns the place in the new table without `bucket`.
     pub fn without_bucket(&self, bucket: u16) -> Place
         ensures { result ≡ New (without_bucket bucket (buckets_by self.now)) }
     {

@@ -47,7 +47,7 @@ impl Rec {
     ghost use Rattle.peer_rec.specs.Rec.{buckets_of, is_terrible, chance};
     ghost use Rattle.peer_rec.specs.Buckets.{with_bucket, without_bucket};
 
-    /// The same record; it takes no memory.
+    /// Returns a copy of the record. Takes no memory.
     pub fn copy(&self) -> Rec
         ensures { result ≡ self.now }
     {
@@ -65,7 +65,7 @@ impl Rec {
         }
     }
 
-    /// The record, listed in one more bucket of the new table than the fewer than eight that list
+    /// Returns the record in the new table with `bucket` added. Fewer than eight buckets must list
     /// it.
     pub fn with_bucket(&self, bucket: u16) -> Rec
         requires room { length (buckets_of self.now) < 8 }
@@ -78,7 +78,7 @@ impl Rec {
         }
     }
 
-    /// The record in the new table, without one of the buckets that list it.
+    /// Returns the record in the new table without `bucket`.
     pub fn without_bucket(&self, bucket: u16) -> Rec
         ensures { result ≡ record self.now { place = New (without_bucket bucket (buckets_of self.now)) } }
     {
@@ -89,7 +89,7 @@ impl Rec {
         }
     }
 
-    /// Whether the record is not worth keeping at a time, in seconds since 1970
+    /// Returns whether the record is not worth keeping at the time `now`, in seconds since 1970
     /// (`AddrInfo::IsTerrible`).
     pub fn terrible(&self, now: u32) -> bool
         ensures { result ≡ is_terrible self.now now }
@@ -104,7 +104,7 @@ impl Rec {
             || (u64::from(self.last_success) + MIN_FAIL < now && self.attempts >= MAX_FAILURES)
     }
 
-    /// How likely the record is to be picked at a time, in seconds since 1970. The chance is in
+    /// Returns how likely the record is to be picked at the time `now`, in seconds since 1970, in
     /// parts of 2^30 (`AddrInfo::GetChance`, there a fraction).
     pub fn chance(&self, now: u32) -> u64
         ensures { result ≡ chance self.now now }
@@ -118,8 +118,8 @@ impl Rec {
     }
 }
 
-/// What this many tries leave of 2^30 parts: 66 in 100 for each of the first eight, rounded down
-/// once.
+/// Returns what this many tries leave of 2^30 parts: 66 in 100 for each of the first eight, rounded
+/// down once.
 fn parts_after(attempts: u32) -> u64
     ensures { let tries = min attempts 8 in result ≡ (2 ^ 30 * 66 ^ tries) / 100 ^ tries }
 {

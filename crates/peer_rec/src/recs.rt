@@ -19,14 +19,14 @@ impl Model for Recs {
 }
 
 impl Recs {
-    /// The records of a vector. Takes no memory.
+    /// Makes the list of a vector's records. Takes no memory.
     pub fn of(items: Vec<Rec>) -> Recs
         ensures { result ≡ items.items }
     {
         Recs { items }
     }
 
-    /// The records as a slice.
+    /// Returns the records as a slice.
     pub fn items(&self) -> &[Rec]
         ensures { result.now ≡ self.now }
     {
