@@ -79,9 +79,6 @@ first_bits old bytes len n rest h e =
 
 -- ---- a byte after some bits
 
-pub joined-lt : (r rest byte : ℕ) → rest < 2 ^ r → byte < 256 → rest + byte * 2 ^ r < 256 * 2 ^ r
-joined-lt r rest byte h k = grind arith
-
 -- a byte is moved up within sixteen bits
 pub byte_shift : (r byte : ℕ) → r < 8 → byte < 256 → byte * 2 ^ r % 65536 ≡ byte * 2 ^ r
 byte_shift r byte h k =

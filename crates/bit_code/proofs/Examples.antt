@@ -1,25 +1,13 @@
 -- Worked examples of the definitions, computed by the check.
-use Rattle.std.proofs.Common.{◌≡◌, ◌+◌, true, false, [], ◌∷◌, Some, None, refl}
+use Rattle.std.proofs.Common.{◌≡◌, ◌+◌, map, true, false, [], ◌∷◌, Some, None, refl}
 use Rattle.bit_code.specs.declared.coder.Coder.TheVariants.{Kind, Asn, Match, Jump}
 use Rattle.bit_code.specs.Coder.{digits, low_digits, file_bits, least, sizes, values_of, spelling, spelling_by, number_of}
 use Rattle.bit_code.specs.Reading.{read_value, read_by, digits_at}
 
 -- the first value past those of each coder
-kind_end : least Kind + values_of (sizes Kind) ≡ 4
+ends : map (λ coder. least coder + values_of (sizes coder)) (Kind ∷ Asn ∷ Match ∷ Jump ∷ []) ≡ 4 ∷ 33521665 ∷ 512 ∷ 2147483633 ∷ []
 unfolding sizes values_of
-kind_end = refl
-
-asn_end : least Asn + values_of (sizes Asn) ≡ 33521665
-unfolding sizes values_of
-asn_end = refl
-
-match_end : least Match + values_of (sizes Match) ≡ 512
-unfolding sizes values_of
-match_end = refl
-
-jump_end : least Jump + values_of (sizes Jump) ≡ 2147483633
-unfolding sizes values_of
-jump_end = refl
+ends = refl
 
 -- the second kind, and the last
 kind_one : spelling Kind 1 ≡ true ∷ false ∷ []

@@ -1,11 +1,12 @@
 -- The number that the digits of a window begin with.
-use Rattle.std.proofs.Common.{◌≡◌, ℕ, zero, suc, ◌+◌, ◌-◌, ◌*◌, ◌/◌, ◌^◌, ◌<◌, ◌≤◌, Bool, true, false, List, [], ◌∷◌, ◌++◌, length, take, drop, Some, refl, ap, sym, ◌∙◌, arith, append_assoc, length-append, add-one, min, nat_lt}
+use Rattle.std.proofs.Common.{◌≡◌, ℕ, zero, suc, ◌+◌, ◌-◌, ◌*◌, ◌/◌, ◌^◌, ◌<◌, ◌≤◌, Bool, true, false, List, [], ◌∷◌, ◌++◌, length, take, drop, Some, refl, ap, sym, ◌∙◌, arith, append_assoc, length-append, add-one, nat_lt}
 use Rattle.std.specs.List.{range_with_len}
 use Rattle.std.proofs.Math.Seq.{take-append_seam, drop-append_seam, drop-append-add}
 use Rattle.std.proofs.lemmas.Bool.{le-ltb}
-use Rattle.bit_code.specs.Coder.{low_digits, number_of, has_bit, sizes}
-use Rattle.bit_code.specs.Inside.{class_head, IsClass}
+use Rattle.bit_code.specs.Coder.{low_digits, number_of, has_bit, sizes, least}
+use Rattle.bit_code.specs.Inside.{class_head, IsClass, longest}
 use Rattle.bit_code.specs.Reading.{digits_at, read_by, after_values, read_value}
+use Rattle.bit_code.specs.declared.coder.Coder.{Coder}
 use Rattle.bit_code.specs.declared.coder.Coder.TheVariants as coders
 use Rattle.bit_code.proofs.LowDigits.{length-low_digits, low_digits_split}
 use Rattle.bit_code.proofs.RisingClasses.{read_class, low_digits_head}
@@ -53,15 +54,18 @@ module _ (n class last first : ℕ) (more : List Bool) (c : IsClass n class last
       ∙ ap (after_values least) (read ∙ ap (after_values (2 ^ size - 2 ^ first)) front)
       ∙ ap (λ xs. Some (least + (2 ^ size - 2 ^ first + number_of ds), xs)) (sym rest)
 
-  pub read_rising : (least : ℕ) → head + class ≤ 2 * last → after_values least (read_by (range_with_len first (last + 1)) bits) ≡ Some (least + (2 ^ (first + class) - 2 ^ first) + number_of ds, drop (head + (first + class)) bits)
-  read_rising least h =
-      let e : least + (2 ^ (first + class) - 2 ^ first + number_of ds) ≡ least + (2 ^ (first + class) - 2 ^ first) + number_of ds = omega arith in
-      rw add-one (read_parts least (cut (2 * last - head - class) (omega (arith, h))) ∙ ap (λ x. Some (x, drop (head + (first + class)) bits)) e)
+  pub read_rising : (coder : Coder) (low : ℕ) → low ≡ least coder → sizes coder ≡ range_with_len first (last + 1) → first + 2 * last ≡ longest coder → head + class ≤ 2 * last → read_value coder (low_digits (longest coder) n ++ more) ≡ Some (low + (2 ^ (first + class) - 2 ^ first) + number_of ds, drop (head + (first + class)) (low_digits (longest coder) n ++ more))
+  unfolding read_value
+  read_rising coder low same_least same_sizes same_longest h =
+      let e : low + (2 ^ (first + class) - 2 ^ first + number_of ds) ≡ low + (2 ^ (first + class) - 2 ^ first) + number_of ds = omega arith in
+      rw (← same_least, same_sizes, ← same_longest, add-one)
+      (read_parts low (cut (2 * last - head - class) (omega (arith, h))) ∙ ap (λ x. Some (x, drop (head + (first + class)) bits)) e)
 
 -- ---- the four kinds
 
+-- how many bits spell a kind
 abbrev pub kind_len : ℕ → ℕ
-kind_len kind = min (kind + 1) 3
+kind_len kind = length (class_head kind 3)
 
 read_kind : (kind : ℕ) (a b c : Bool) (more : List Bool) → kind ≤ 3 → (0 < kind → a ≡ true) → (1 < kind → b ≡ true) → (2 < kind → c ≡ true) → (kind ≡ 0 → a ≡ false) → (kind ≡ 1 → b ≡ false) → (kind ≡ 2 → c ≡ false) → read_value coders.Kind (a ∷ b ∷ c ∷ more) ≡ Some (kind, drop (kind_len kind) (a ∷ b ∷ c ∷ more))
 unfolding read_value read_by digits_at sizes number_of

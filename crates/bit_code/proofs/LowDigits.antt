@@ -1,11 +1,11 @@
 -- The digits of a number, low digit first.
-use Rattle.std.proofs.Common.{◌≡◌, ℕ, zero, suc, ◌+◌, ◌-◌, ◌*◌, ◌/◌, ◌%◌, ◌^◌, ◌<◌, ◌≤◌, Bool, [], ◌∷◌, ◌++◌, length, get_or, refl, ap, sym, ◌∙◌, inl, inr, arith, append_assoc, append-nil, length-append, eqb}
+use Rattle.std.proofs.Common.{◌≡◌, ℕ, zero, suc, ◌+◌, ◌-◌, ◌*◌, ◌/◌, ◌%◌, ◌^◌, ◌<◌, ◌≤◌, Bool, [], ◌∷◌, ◌++◌, length, reverse, get_or, refl, ap, sym, ◌∙◌, inl, inr, arith, append_assoc, append-nil, length-append, eqb}
 use Rattle.std.proofs.Math.ListN.{get_or-append}
-use Rattle.std.proofs.lemmas.List.{get_or-append_right}
+use Rattle.std.proofs.lemmas.List.{get_or-append_right, reverse-append}
 use Rattle.std.proofs.lemmas.Bool.{cases_lt}
 use Rattle.std.proofs.lemmas.Nat.{shr-shr, shr_high}
-use Rattle.std.proofs.lemmas.Nat.Bits.{bit_at_cat_low}
-use Rattle.bit_code.specs.Coder.{has_bit, low_digits}
+use Rattle.bit_code.specs.Coder.{has_bit, digits, low_digits}
+use Rattle.bit_code.specs.DigitLaws.{digits_low}
 
 pub length-low_digits : (k n : ℕ) → length (low_digits k n) ≡ k
 unfolding low_digits
@@ -38,14 +38,16 @@ low_digits_split j (suc k) n =
     let top : has_bit n (j + k) ≡ has_bit (n / 2 ^ j) k = ap (λ m. eqb (m % 2) 1) (sym (shr-shr n j k)) in
     rw (e, low_digits_split j k n, top) (append_assoc (low_digits j n) (low_digits k (n / 2 ^ j)) (has_bit (n / 2 ^ j) k ∷ []))
 
+-- the digits in the other order
+pub low_digits-reverse : (k n : ℕ) → low_digits k n ≡ reverse (digits k n)
+unfolding low_digits digits
+low_digits-reverse zero n = refl
+low_digits-reverse (suc k) n = ap (λ xs. xs ++ has_bit n k ∷ []) (low_digits-reverse k n) ∙ sym (reverse-append (has_bit n k ∷ []) (digits k n))
+
 -- the low digits don't depend on the high part
 pub low_digits_low : (j k a m : ℕ) → j ≤ k → low_digits j (a * 2 ^ k + m) ≡ low_digits j m
-unfolding low_digits
-low_digits_low zero k a m h = refl
-low_digits_low (suc j) k a m h =
-    let e : has_bit (a * 2 ^ k + m) j ≡ has_bit m j = ap (λ b. eqb b 1) (bit_at_cat_low a k m j (omega arith)) in
-    let s : low_digits j (a * 2 ^ k + m) ≡ low_digits j m = low_digits_low j k a m (omega arith) in
-    cc
+low_digits_low j k a m h =
+    low_digits-reverse j (a * 2 ^ k + m) ∙ ap reverse (digits_low j k a m h) ∙ sym (low_digits-reverse j m)
 
 -- the digits of a low part and of a high part
 pub low_digits_cat : (j k a m : ℕ) → m < 2 ^ j → low_digits (j + k) (a * 2 ^ j + m) ≡ low_digits j m ++ low_digits k a

@@ -42,15 +42,25 @@ read_class (suc class) (suc last) first rest h =
     ∙ after_twice (2 ^ first) (2 ^ (first + suc class) - 2 ^ (first + 1)) (digits_at (first + suc class) rest)
     ∙ ap (λ n. after_values n (digits_at (first + suc class) rest)) sum
 
-pub length-class_head_low : (class last : ℕ) → class < last → length (class_head class last) ≡ class + 1
+length-class_head_low : (class last : ℕ) → class < last → length (class_head class last) ≡ class + 1
 length-class_head_low zero zero h = absurd (omega arith)
 length-class_head_low zero (suc last) h = refl
 length-class_head_low (suc class) zero h = absurd (omega arith)
 length-class_head_low (suc class) (suc last) h = omega (arith, length-class_head_low class last (omega arith))
 
-pub length-class_head_last : (class : ℕ) → length (class_head class class) ≡ class
+length-class_head_last : (class : ℕ) → length (class_head class class) ≡ class
 length-class_head_last zero = refl
 length-class_head_last (suc class) = omega (arith, length-class_head_last class)
+
+-- the one-bits and the zero-bit after them
+pub head_length : (class last more : ℕ) → class ≤ last → (class < last → more ≡ 1) → (class ≡ last → more ≡ 0) → class + more ≡ length (class_head class last)
+head_length class last more h one none =
+    elim (cases_lt class last) [
+      | inl low ↦ omega (arith, one low, length-class_head_low class last low)
+      | inr high ↦
+          let e : last ≡ class = omega arith in
+          rw e (omega (arith, none (sym e), length-class_head_last class))
+    ]
 
 half_bit : (n i : ℕ) → has_bit (n / 2) i ≡ has_bit n (suc i)
 half_bit n i = ap (λ b. eqb b 1) (sym (bit_at-suc n i))

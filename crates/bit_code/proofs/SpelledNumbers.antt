@@ -1,22 +1,22 @@
 -- The spelling of a number as a number.
-use Rattle.std.proofs.Common.{◌≡◌, ℕ, zero, suc, ◌+◌, ◌-◌, ◌*◌, ◌^◌, ◌<◌, ◌≤◌, [], ◌∷◌, ◌++◌, length, reverse, min, refl, ap, sym, ◌∙◌, arith, inl, inr, append-nil, add-one, Some}
+use Rattle.std.proofs.Common.{◌≡◌, ℕ, zero, suc, ◌+◌, ◌-◌, ◌*◌, ◌^◌, ◌<◌, ◌≤◌, [], ◌++◌, length, reverse, refl, ap, sym, ◌∙◌, arith, inl, inr, append-nil, add-one, Some}
 use Rattle.std.specs.List.{range_with_len}
 use Rattle.std.specs.Int.Count.{count_leading_zeros}
 use Rattle.std.proofs.Math.Nat.{pow-suc}
 use Rattle.std.proofs.Math.Pow.{pow_mono}
-use Rattle.std.proofs.lemmas.List.{reverse-append, reverse-reverse}
+use Rattle.std.proofs.lemmas.List.{reverse-reverse}
 use Rattle.std.proofs.lemmas.Nat.{pow_pos, leading_top}
 use Rattle.std.proofs.lemmas.Bool.{cases_lt}
 use Rattle.std.proofs.lemmas.Nat.Bits.{bit_at_ones, bit_at_ones_above}
 use Rattle.bit_code.specs.declared.coder.Coder.TheVariants as coders
-use Rattle.bit_code.specs.Coder.{low_digits, digits, number_of, spelling, spelling_by, sizes, values_of, has_bit}
+use Rattle.bit_code.specs.Coder.{low_digits, digits, number_of, spelling, spelling_by, sizes, values_of}
 use Rattle.bit_code.specs.Inside.{class_head, IsClass}
 use Rattle.bit_code.specs.Reading.{read_by, after_values}
-use Rattle.bit_code.proofs.LowDigits.{length-low_digits}
+use Rattle.bit_code.proofs.LowDigits.{length-low_digits, low_digits-reverse}
 use Rattle.bit_code.specs.DigitLaws.{length-digits, digits_low, digits-number_of, number_of-digits}
 use Rattle.bit_code.proofs.RisingClasses.{low_digits_head, read_class, one_bit, no_bit}
-use Rattle.bit_code.proofs.FrontNumbers.{digits_at_front}
-use Rattle.bit_code.specs.ReadingLaws.{read_by-takes}
+use Rattle.bit_code.proofs.FrontNumbers.{digits_at_front, kind_len}
+use Rattle.bit_code.specs.ReadingLaws.{read_by-takes, values_of_none, values_of_cons}
 
 pub pow_cancel : (i j : ℕ) → 2 ^ i < 2 ^ j → i < j
 pow_cancel i j h =
@@ -42,12 +42,6 @@ top_range n top first last low high some below =
     let least : first < suc top = pow_cancel first (suc top) (omega (arith, low, high, some, pow-suc 2 top)) in
     let most : top < first + last + 1 = pow_cancel top (first + last + 1) (omega arith) in
     (omega arith, omega arith)
-
--- the digits in the other order
-low_digits-reverse : (k n : ℕ) → low_digits k n ≡ reverse (digits k n)
-unfolding low_digits digits
-low_digits-reverse zero n = refl
-low_digits-reverse (suc k) n = ap (λ xs. xs ++ has_bit n k ∷ []) (low_digits-reverse k n) ∙ sym (reverse-append (has_bit n k ∷ []) (digits k n))
 
 pub low_digits-front : (k n : ℕ) → low_digits k (number_of (low_digits k n)) ≡ digits k n
 low_digits-front k n =
@@ -95,7 +89,7 @@ ones-lt class head h =
     let rises : 2 ^ class ≤ 2 ^ head = pow_mono h in
     omega (arith, rises, pow_pos head)
 
-pub spelled_kind : (n : ℕ) → n < 4 → low_digits (min (n + 1) 3) (2 ^ n - 1) ≡ spelling coders.Kind n
+pub spelled_kind : (n : ℕ) → n < 4 → low_digits (kind_len n) (2 ^ n - 1) ≡ spelling coders.Kind n
 unfolding low_digits spelling spelling_by sizes digits
 spelled_kind zero h = refl
 spelled_kind (suc zero) h = refl
@@ -107,14 +101,15 @@ pub kind_values : values_of (sizes coders.Kind) ≡ 4
 unfolding sizes values_of
 kind_values = refl
 
-pub asn_values : values_of (sizes coders.Asn) ≡ 33521664
-unfolding sizes values_of
-asn_values = refl
-
-pub match_values : values_of (sizes coders.Match) ≡ 510
-unfolding sizes values_of
-match_values = refl
-
-pub jump_values : values_of (sizes coders.Jump) ≡ 2147483616
-unfolding sizes values_of
-jump_values = refl
+-- how many values classes of rising sizes have
+pub rising_values : (first last : ℕ) → values_of (range_with_len first (last + 1)) + 2 ^ first ≡ 2 ^ (first + last + 1)
+rising_values first zero =
+    let e : first + 0 + 1 ≡ suc first = omega arith in
+    rw e (omega (arith, values_of_cons first [], values_of_none, pow-suc 2 first))
+rising_values first (suc last) =
+    let count : suc last + 1 ≡ suc (last + 1) = omega arith in
+    let e : first + suc last + 1 ≡ first + 1 + last + 1 = omega arith in
+    let next : first + 1 ≡ suc first = omega arith in
+    let two : 2 ^ (first + 1) ≡ 2 * 2 ^ first = rw next (omega (arith, pow-suc 2 first)) in
+    let more = rising_values (first + 1) last in
+    rw (count, e) (omega (arith, values_of_cons first (range_with_len (first + 1) (last + 1)), two, more))

@@ -1,5 +1,5 @@
 -- The laws of binary digits and of the numbers that they are the digits of. The crates above cite them too.
-use Rattle.std.proofs.Common.{◌≡◌, ℕ, zero, suc, ◌+◌, ◌-◌, ◌*◌, ◌/◌, ◌%◌, ◌^◌, ◌<◌, ◌≤◌, Bool, true, false, List, [], ◌∷◌, ◌++◌, length, refl, ap, sym, ◌∙◌, inl, inr, arith, length-append, eqb}
+use Rattle.std.proofs.Common.{◌≡◌, ℕ, zero, suc, ◌+◌, ◌-◌, ◌*◌, ◌/◌, ◌%◌, ◌^◌, ◌<◌, ◌≤◌, Bool, true, false, List, [], ◌∷◌, ◌++◌, length, refl, ap, sym, ◌∙◌, inl, inr, arith, eqb}
 use Rattle.std.specs.Int.{bit_at}
 use Rattle.std.proofs.Math.Nat.{pow-suc}
 use Rattle.std.proofs.lemmas.Nat.{shr-shr}
@@ -46,18 +46,6 @@ unfolding number_of
 number_of-lt [] = omega arith
 number_of-lt (true ∷ bs) = omega (arith, number_of-lt bs, pow-suc 2 (length bs))
 number_of-lt (false ∷ bs) = omega (arith, number_of-lt bs, pow-suc 2 (length bs))
-
-pow_push : (bs : List Bool) (b : Bool) → 2 ^ length (bs ++ b ∷ []) ≡ 2 * 2 ^ length bs
-pow_push bs b =
-    let e : length (bs ++ b ∷ []) ≡ suc (length bs) = omega (arith, length-append bs (b ∷ [])) in
-    rw e (omega (arith, pow-suc 2 (length bs)))
-
-pub number_of_push : (bs : List Bool) (b : Bool) → number_of (bs ++ b ∷ []) ≡ 2 * number_of bs + bit b
-unfolding number_of
-number_of_push [] true = refl
-number_of_push [] false = refl
-number_of_push (true ∷ bs) b = omega (arith, number_of_push bs b, pow_push bs b)
-number_of_push (false ∷ bs) b = omega (arith, number_of_push bs b)
 
 -- the top digit of b 2 ^ k + m
 top_digit : (b : Bool) (k m : ℕ) → m < 2 ^ k → has_bit (bit b * 2 ^ k + m) k ≡ b

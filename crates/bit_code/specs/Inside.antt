@@ -35,6 +35,7 @@ pub record HasClasses (coder : Coder) (classes : Classes) : Type 0 where
   pub longest : classes.first + 2 * classes.last ≡ longest coder
   pub some : 0 < classes.first
   pub fits : classes.first + classes.last ≤ 30
+  pub short : classes.first + 2 * classes.last ≤ 55
   pub low : classes.least < 32
 
 -- the bits before the digits of a value of a class, by the class and the last class

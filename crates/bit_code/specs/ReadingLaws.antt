@@ -54,7 +54,7 @@ after_some passed n rest (Some r) h =
     let same_rest : r.1 ≡ rest = ap (λ p. p.1) e in
     (r.0, ap (λ x. Some (r.0, x)) same_rest, ap (λ p. p.0) e)
 
-values_of_none : values_of [] ≡ 0
+pub values_of_none : values_of [] ≡ 0
 unfolding values_of
 values_of_none = refl
 

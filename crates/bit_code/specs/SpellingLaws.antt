@@ -1,5 +1,5 @@
 -- How many bits a spelling has. The crates above cite it too.
-use Rattle.std.proofs.Common.{ℕ, zero, suc, ◌+◌, ◌-◌, ◌^◌, ◌<◌, ◌≤◌, [], ◌∷◌, length, arith, inl, inr}
+use Rattle.std.proofs.Common.{ℕ, zero, suc, ◌+◌, ◌-◌, ◌^◌, ◌<◌, ◌≤◌, length, arith, inl, inr}
 use Rattle.std.specs.List.{range_with_len}
 use Rattle.std.proofs.lemmas.Bool.{cases_lt, lt-ltb, le-ltb}
 use Rattle.bit_code.specs.declared.coder.Coder.TheVariants as coders
@@ -24,20 +24,7 @@ one_more size last n =
       | inr later ↦ rw (le-ltb n (2 ^ size) later) (omega (arith, shortest (size + 1) last (n - 2 ^ size)))
     ]
 
-kind_shortest : (n : ℕ) → 1 ≤ length (spelling_by (0 ∷ 0 ∷ 1 ∷ []) n)
-unfolding spelling_by
-kind_shortest n =
-    elim (cases_lt n (2 ^ 0)) [
-      | inl here ↦ rw (lt-ltb n (2 ^ 0) here) (omega arith)
-      | inr later ↦ rw (le-ltb n (2 ^ 0) later) (omega arith)
-    ]
-
 -- the number of an autonomous system takes sixteen bits at least
 pub length-spelling_asn : (n : ℕ) → 16 ≤ length (spelling coders.Asn n)
 unfolding spelling sizes
 length-spelling_asn n = one_more 15 8 (n - 1)
-
--- and a kind takes one
-pub length-spelling_kind : (n : ℕ) → 1 ≤ length (spelling coders.Kind n)
-unfolding spelling sizes
-length-spelling_kind n = kind_shortest (n - 0)

@@ -1,10 +1,9 @@
 ghost use Rattle.std.specs.Prelude.{◌≡◌, ◌+◌, ◌-◌, ◌*◌, ◌^◌, ◌<◌, ◌≤◌, Bool, List, ◌++◌, Some, drop, length};
-ghost use Rattle.std.specs.List.{range_with_len};
 ghost use Rattle.bit_code.specs.Coder.{low_digits, coder_after};
-ghost use Rattle.bit_code.specs.Reading.{read_value, read_by, after_values};
-ghost use Rattle.bit_code.specs.Inside.{longest, class_head, IsClass};
+ghost use Rattle.bit_code.specs.Reading.{read_value};
+ghost use Rattle.bit_code.specs.Inside.{longest, class_head, IsClass, HasClasses};
 
-use crate::classes::{ASN, Classes, JUMP, MATCH, classes_after};
+use crate::classes::{Classes, classes_after, classes_of};
 use crate::coder::Coder;
 use crate::reversal::front_digits;
 
@@ -17,7 +16,7 @@ pub(crate) struct Number {
     pub len: u32,
 }
 
-/// The value of a coder that a window begins with.
+/// Returns the value of `coder` that a window begins with.
 #[inline(always)]
 pub(crate) fn number_ahead(window: u64, coder: Coder) -> Number
     ensures least { 0 < result.len }
@@ -25,15 +24,13 @@ pub(crate) fn number_ahead(window: u64, coder: Coder) -> Number
     ensures value { (more : List Bool) → let bits = low_digits (longest coder) window ++ more in
         read_value coder bits ≡ Some (result.value, drop result.len bits) }
 {
-    match coder {
-        Coder::Kind => kind_ahead(window),
-        Coder::Asn => rising_ahead(window, ASN),
-        Coder::Match => rising_ahead(window, MATCH),
-        Coder::Jump => rising_ahead(window, JUMP),
+    match classes_of(coder) {
+        Some(classes) => rising_ahead(window, classes),
+        None => kind_ahead(window),
     }
 }
 
-/// The number that a window begins with after a kind, read without a branch on the kind.
+/// Returns the number that a window begins with after `kind`, without a branch on the kind.
 #[inline(always)]
 pub(crate) fn number_after(window: u64, kind: u32) -> Number
     requires { kind ≤ 3 }
@@ -46,7 +43,8 @@ pub(crate) fn number_after(window: u64, kind: u32) -> Number
     rising_ahead(window, classes_after(kind))
 }
 
-/// The kind that a window begins with: the number of one-bits before the first zero-bit, at most 3.
+/// Returns the kind that a window begins with: the number of one-bits before the first zero-bit, at
+/// most 3.
 #[inline(always)]
 pub(crate) fn kind_ahead(window: u64) -> Number
     ensures least { 0 < result.len }
@@ -59,12 +57,12 @@ pub(crate) fn kind_ahead(window: u64) -> Number
     let kind = class_ahead(window, 3);
     Number {
         value: kind,
-        len: (kind + 1).min(3),
+        len: head_len(kind, 3),
     }
 }
 
-/// The class that a window begins with: the number of one-bits before the first zero-bit, at most
-/// `last`.
+/// Returns the class that a window begins with: the number of one-bits before the first zero-bit,
+/// at most `last`.
 #[inline(always)]
 fn class_ahead(window: u64, last: u32) -> u32
     requires { last < 64 }
@@ -74,19 +72,17 @@ fn class_ahead(window: u64, last: u32) -> u32
     (!window | (1 << last)).trailing_zeros()
 }
 
-/// The number that a window begins with over classes of rising sizes.
+/// Returns the number that a window begins with over classes of rising sizes.
 #[inline(always)]
 fn rising_ahead(window: u64, classes: Classes) -> Number
     requires some { 0 < classes.first }
     requires fits { classes.first + classes.last ≤ 30 }
     requires low { classes.least < 32 }
     ensures least { 0 < result.len }
-    ensures most { result.len ≤ classes.first + 2 * classes.last }
-    ensures low { classes.least ≤ result.value }
-    ensures value { (more : List Bool) →
-        let bits = low_digits (classes.first + 2 * classes.last) window ++ more in
-        after_values classes.least (read_by (range_with_len classes.first (classes.last + 1)) bits)
-        ≡ Some (result.value, drop result.len bits) }
+    ensures most { (coder : Coder) → HasClasses coder classes → result.len ≤ longest coder }
+    ensures value { (coder : Coder) (more : List Bool) → HasClasses coder classes →
+        let bits = low_digits (longest coder) window ++ more in
+        read_value coder bits ≡ Some (result.value, drop result.len bits) }
 {
     let class = class_ahead(window, classes.last);
     let head = head_len(class, classes.last);
@@ -98,14 +94,28 @@ fn rising_ahead(window: u64, classes: Classes) -> Number
     }
 }
 
-/// The number of bits before the digits of a value, by its class and the last class.
+/// Returns the number of bits before the digits of a value, by its class and the last class.
 #[inline(always)]
 pub(crate) fn head_len(class: u32, last: u32) -> u32
     requires { class ≤ last }
-    ensures least { class ≤ result }
     ensures len { result ≡ length (class_head class last) }
-    ensures most { result + class ≤ 2 * last }
+    ensures least { class ≤ result }
+    ensures most { result ≤ last }
     ensures one { result ≤ class + 1 }
+    ensures some { 0 < last → 0 < result }
 {
-    if class < last { class + 1 } else { class }
+    class + zero_bits(class, last)
+}
+
+/// Returns the number of zero-bits after the one-bits of a class: one, and none in the last class.
+#[inline(always)]
+fn zero_bits(class: u32, last: u32) -> u32
+    requires { class ≤ last }
+    ensures one { class < last → result ≡ 1 }
+    ensures none { class ≡ last → result ≡ 0 }
+    ensures few { result + class ≤ last }
+    ensures most { result ≤ 1 }
+    ensures some { 0 < last → 0 < class + result }
+{
+    if class < last { 1 } else { 0 }
 }

@@ -4,7 +4,7 @@ ghost use Rattle.bit_code.specs.Files.{IsFileOf};
 
 use crate::coder::Coder;
 use crate::memory::Memory;
-use crate::packing::{cat_bits, make_room, prepend_bits, shift_in};
+use crate::packing::{cat_bits, closed, make_room, prepend_bits, shift_in};
 use crate::spelled::spell;
 use std::alloc::Global;
 use std::marker::Model;
@@ -34,7 +34,7 @@ impl Model for BitFront {
 }
 
 impl BitFront {
-    /// No bits. Takes no memory.
+    /// Makes an empty list of bits. Takes no memory.
     pub fn make(alloc: Global) -> BitFront
         ensures { result ≡ [] }
     {
@@ -45,14 +45,15 @@ impl BitFront {
         }
     }
 
-    /// The number of bits.
+    /// Returns the number of bits.
     pub fn len(&self) -> usize
         ensures { result ≡ length self.now }
     {
         self.bytes.len() * 8 + self.rest_len as usize
     }
 
-    /// Puts the spelling of a value of the coder before the bits that are there.
+    /// Puts the spelling of a value of `coder` before the bits that are there. If memory runs out,
+    /// the bits are unchanged.
     pub fn put_number_front(&mut self, coder: Coder, value: u32) -> Result<(), Memory>
         requires { HasValue coder value }
         ensures bits { OnOk result (self.new ≡ spelling coder value ++ self.old) }
@@ -67,16 +68,14 @@ impl BitFront {
         Ok(())
     }
 
-    /// The bytes of the file of these bits: zero-bits follow up to a whole byte. Takes no memory.
+    /// Returns the bytes of the file of these bits, with zero-bits after them up to a whole byte.
+    /// Takes no memory.
     pub fn into_bytes(self) -> Vec<u8>
         ensures { IsFileOf self result.items }
     {
         let mut bytes = self.bytes;
         bytes.reverse();
         let rest = shift_in(&mut bytes, self.rest, self.rest_len);
-        if self.rest_len > 0 {
-            bytes.push_reserved(rest);
-        }
-        bytes
+        closed(bytes, rest, self.rest_len)
     }
 }

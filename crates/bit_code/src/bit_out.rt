@@ -4,7 +4,7 @@ ghost use Rattle.bit_code.specs.Files.{IsFileOf};
 
 use crate::coder::Coder;
 use crate::memory::Memory;
-use crate::packing::{append_bits, append_bytes, cat_bits, make_room};
+use crate::packing::{append_bits, append_bytes, cat_bits, closed, make_room};
 use crate::spelled::spell;
 use std::alloc::Global;
 use std::marker::Model;
@@ -33,7 +33,7 @@ impl Model for BitOut {
 }
 
 impl BitOut {
-    /// No bits. Takes no memory.
+    /// Makes an empty list of bits. Takes no memory.
     pub fn make(alloc: Global) -> BitOut
         ensures { result ≡ [] }
     {
@@ -44,14 +44,14 @@ impl BitOut {
         }
     }
 
-    /// The number of bits.
+    /// Returns the number of bits.
     pub fn len(&self) -> usize
         ensures { result ≡ length self.now }
     {
         self.bytes.len() * 8 + self.rest_len as usize
     }
 
-    /// Appends the spelling of a value of the coder.
+    /// Appends the spelling of a value of `coder`. If memory runs out, the bits are unchanged.
     pub fn put_number(&mut self, coder: Coder, value: u32) -> Result<(), Memory>
         requires { HasValue coder value }
         ensures bits { OnOk result (self.new ≡ self.old ++ spelling coder value) }
@@ -66,7 +66,7 @@ impl BitOut {
         Ok(())
     }
 
-    /// Appends the bits of another list.
+    /// Appends the bits of `other`. If memory runs out, the bits are unchanged.
     pub fn put_out(&mut self, other: &BitOut) -> Result<(), Memory>
         ensures bits { OnOk result (self.new ≡ self.old ++ other.now) }
         ensures err { OnErr result (self.new ≡ self.old) }
@@ -85,14 +85,11 @@ impl BitOut {
         Ok(())
     }
 
-    /// The bytes of the file of these bits: zero-bits follow up to a whole byte. Takes no memory.
+    /// Returns the bytes of the file of these bits, with zero-bits after them up to a whole byte.
+    /// Takes no memory.
     pub fn into_bytes(self) -> Vec<u8>
         ensures { IsFileOf self result.items }
     {
-        let mut bytes = self.bytes;
-        if self.rest_len > 0 {
-            bytes.push_reserved(self.rest);
-        }
-        bytes
+        closed(self.bytes, self.rest, self.rest_len)
     }
 }

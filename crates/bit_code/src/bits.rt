@@ -23,7 +23,7 @@ impl<'a> Model for Bits<'a> {
 }
 
 impl<'a> Bits<'a> {
-    /// The bits of a file of at most 2^23 bytes.
+    /// Makes the bits of a file of at most 8,388,608 bytes.
     #[inline]
     pub fn of(bytes: &'a [u8]) -> Bits<'a>
         requires { length bytes.now ≤ 8388608 }
@@ -33,7 +33,7 @@ impl<'a> Bits<'a> {
         Bits { bytes }
     }
 
-    /// The number of bits, eight to a byte.
+    /// Returns the number of bits, eight to a byte.
     #[inline]
     pub fn len(&self) -> usize
         ensures { result ≡ length self.now }
@@ -41,7 +41,7 @@ impl<'a> Bits<'a> {
         self.bytes.len() * 8
     }
 
-    /// The bit at an offset, counted from 0.
+    /// Returns the bit at offset `at`, counted from 0.
     #[inline]
     pub fn get(&self, at: usize) -> bool
         requires { at < length self.now }
@@ -51,7 +51,8 @@ impl<'a> Bits<'a> {
         (self.bytes[at / 8] >> (at % 8)) & 1 == 1
     }
 
-    /// At least 57 bits from an offset on, the first as the lowest. Any bits follow the last one.
+    /// Returns at least 57 bits from an offset on, the first as the lowest. Any bits follow the
+    /// last one.
     #[inline(always)]
     pub(crate) fn window(&self, at: usize) -> u64
         requires { at ≤ length self.now }
@@ -61,7 +62,7 @@ impl<'a> Bits<'a> {
     }
 }
 
-/// The bytes from byte `q` on, the first as the lowest.
+/// Returns the bytes from byte `q` on, the first as the lowest.
 #[inline(always)]
 fn word_from(bytes: &[u8], q: usize) -> u64
     requires { q ≤ length bytes.now }
@@ -74,7 +75,7 @@ fn word_from(bytes: &[u8], q: usize) -> u64
     }
 }
 
-/// Eight bytes from byte `q` on, the first as the lowest.
+/// Returns eight bytes from byte `q` on, the first as the lowest.
 #[inline(always)]
 fn word_at(bytes: &[u8], q: usize) -> u64
     requires { q + 8 ≤ length bytes.now }
@@ -93,7 +94,7 @@ fn word_at(bytes: &[u8], q: usize) -> u64
     ])
 }
 
-/// The last bytes, fewer than eight, and zeros after them, the first as the lowest.
+/// Returns the last bytes, fewer than eight, and zeros after them, the first as the lowest.
 #[inline(never)]
 fn last_word(bytes: &[u8], q: usize) -> u64
     requires q { q ≤ length bytes.now }
@@ -103,7 +104,7 @@ fn last_word(bytes: &[u8], q: usize) -> u64
     word_at(&with_zeros(&bytes[q..]), 0)
 }
 
-/// These bytes and zeros after them, eight in all.
+/// Returns these bytes and zeros after them, eight in all.
 fn with_zeros(bytes: &[u8]) -> [u8; 8]
     requires { length bytes.now ≤ 8 }
     ensures { result ≡ bytes.now ++ drop (length bytes.now) (replicate 8 0) }

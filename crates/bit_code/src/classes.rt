@@ -1,6 +1,8 @@
-ghost use Rattle.std.specs.Prelude.{◌≤◌};
+ghost use Rattle.std.specs.Prelude.{◌≡◌, ◌≤◌, IfSome, IfNone};
 ghost use Rattle.bit_code.specs.Coder.{coder_after};
 ghost use Rattle.bit_code.specs.Inside.{HasClasses};
+
+use crate::coder::Coder;
 
 /// Classes whose sizes rise by one, of the coders of `DecodeASN`, `DecodeMatch` and `DecodeJump` in
 /// Bitcoin Core's `util/asmap.cpp`.
@@ -15,30 +17,46 @@ pub(crate) struct Classes {
 }
 
 /// The classes of `Coder::Asn`.
-pub(crate) const ASN: Classes = Classes {
+const ASN: Classes = Classes {
     least: 1,
     first: 15,
     last: 9,
 };
 
 /// The classes of `Coder::Match`.
-pub(crate) const MATCH: Classes = Classes {
+const MATCH: Classes = Classes {
     least: 2,
     first: 1,
     last: 7,
 };
 
 /// The classes of `Coder::Jump`.
-pub(crate) const JUMP: Classes = Classes {
+const JUMP: Classes = Classes {
     least: 17,
     first: 5,
     last: 25,
 };
 
+/// Returns the classes of a coder, or `None` for `Coder::Kind`, whose classes do not rise by one.
+#[inline(always)]
+#[tactic(auto, unfolding(crate::specs::Coder::sizes))]
+pub(crate) fn classes_of(coder: Coder) -> Option<Classes>
+    ensures found { IfSome result (HasClasses coder) }
+    ensures none { IfNone result (coder ≡ Coder.Kind) }
+{
+    match coder {
+        Coder::Kind => None,
+        Coder::Asn => Some(ASN),
+        Coder::Match => Some(MATCH),
+        Coder::Jump => Some(JUMP),
+    }
+}
+
 /// The classes of the number after each kind.
 static AFTER_KINDS: [Classes; 4] = [ASN, JUMP, MATCH, ASN];
 
-/// The classes of the number after a kind, from a table, so that nothing branches on the kind.
+/// Returns the classes of the number after a kind, from a table, so that nothing branches on the
+/// kind.
 #[inline(always)]
 pub(crate) fn classes_after(kind: u32) -> Classes
     requires { kind ≤ 3 }

@@ -1,4 +1,5 @@
-//! The bits of an asmap file and the numbers that they spell, as in `util/asmap.cpp` of Bitcoin Core.
+//! The bits of an asmap file and the numbers that they spell, as in `util/asmap.cpp` of Bitcoin
+//! Core.
 #![tactic(auto)]
 
 mod ahead;

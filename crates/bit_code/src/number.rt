@@ -5,8 +5,9 @@ use crate::ahead::{kind_ahead, number_after, number_ahead};
 use crate::bits::Bits;
 use crate::coder::Coder;
 
-/// The value of a coder that is spelled at an offset, and the offset after it, both in bits. None if
-/// the spelling runs past the end. This is `DecodeBits` of `util/asmap.cpp` in Bitcoin Core.
+/// Reads the value of `coder` that is spelled at offset `at`. Returns it and the offset after it,
+/// or `None` if the spelling runs past the end. Offsets are in bits. This is `DecodeBits` of
+/// `util/asmap.cpp` in Bitcoin Core.
 #[inline]
 pub fn read_number(bits: &Bits<'_>, at: usize, coder: Coder) -> Option<(u32, usize)>
     requires { at ≤ length bits.now }
@@ -37,8 +38,8 @@ pub struct KindAndNumber {
     pub end: usize,
 }
 
-/// The kind that is spelled at an offset in bits, and the number after it. None if their spelling
-/// runs past the end.
+/// Reads the kind that is spelled at offset `at` in bits, and the number after it. Returns `None`
+/// if their spelling runs past the end.
 #[inline(always)]
 pub fn read_kind_and_number(bits: &Bits<'_>, at: usize) -> Option<KindAndNumber>
     requires { at ≤ length bits.now }
@@ -64,7 +65,7 @@ pub fn read_kind_and_number(bits: &Bits<'_>, at: usize) -> Option<KindAndNumber>
     })
 }
 
-/// The offset after `len` more bits, None if that is past the end.
+/// Returns the offset after `len` more bits, or `None` if that is past the end.
 #[inline(always)]
 fn offset_after(at: usize, len: u32, total: usize) -> Option<usize>
     requires { at ≤ total }

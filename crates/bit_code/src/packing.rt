@@ -1,5 +1,6 @@
-ghost use Rattle.std.specs.Prelude.{◌≡◌, ◌+◌, ◌-◌, ◌*◌, ◌/◌, ◌%◌, ◌^◌, ◌<◌, ◌≤◌, ◌++◌, length, reverse, vec_len, vec_capacity, OnOk};
+ghost use Rattle.std.specs.Prelude.{◌≡◌, ◌+◌, ◌-◌, ◌*◌, ◌/◌, ◌%◌, ◌^◌, ◌<◌, ◌≤◌, Bool, List, ◌++◌, length, reverse, vec_len, vec_capacity, OnOk};
 ghost use Rattle.bit_code.specs.Coder.{file_bits, low_digits};
+ghost use Rattle.bit_code.specs.Files.{IsFileOf};
 
 use crate::memory::Memory;
 
@@ -21,7 +22,7 @@ pub(crate) fn make_room(bytes: &mut Vec<u8>, more: usize) -> Result<(), Memory>
     Ok(())
 }
 
-/// The lowest bits, fewer than eight.
+/// Returns the lowest `len` bits, fewer than eight.
 #[inline(always)]
 fn low_bits(bits: u64, len: u32) -> u8
     requires { len < 8 }
@@ -31,7 +32,7 @@ fn low_bits(bits: u64, len: u32) -> u8
     (bits % (1 << len)) as u8
 }
 
-/// The first bits and then the last ones. In each number the first bit is the lowest.
+/// Returns the first bits and then the last ones. In each number the first bit is the lowest.
 #[inline(always)]
 pub(crate) fn cat_bits(first: u64, first_len: u32, last: u64, last_len: u32) -> u64
     requires few { first_len + last_len < 64 }
@@ -61,7 +62,7 @@ pub(crate) fn append_bits(bytes: &mut Vec<u8>, bits: u64, len: u32) -> u8
     low_bits(bits >> (len - len % 8), len % 8)
 }
 
-/// The first eight of the bits of `rest` and then of a byte, and the bits that are left.
+/// Returns the first eight of the bits of `rest` and then of a byte, and the bits that are left.
 #[inline(always)]
 fn join_byte(rest: u8, rest_len: u32, byte: u8) -> (u8, u8)
     requires few { rest_len < 8 }
@@ -127,4 +128,19 @@ pub(crate) fn shift_in(bytes: &mut [u8], rest: u8, rest_len: u32) -> u8
         left = next;
     }
     left
+}
+
+/// Returns the bytes of the file of some whole bytes and then the bits of `rest`.
+pub(crate) fn closed(bytes: Vec<u8>, rest: u8, rest_len: u32) -> Vec<u8>
+    requires few { rest_len < 8 }
+    requires rest { rest < 2 ^ rest_len }
+    requires room { 0 < rest_len → vec_len bytes < vec_capacity bytes }
+    ensures { (bits : List Bool) → file_bits bytes.items ++ low_digits rest_len rest ≡ bits
+        → IsFileOf bits result.items }
+{
+    let mut bytes = bytes;
+    if rest_len > 0 {
+        bytes.push_reserved(rest);
+    }
+    bytes
 }

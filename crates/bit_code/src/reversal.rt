@@ -18,7 +18,7 @@ static REVERSED: [u8; 256] = [
     239, 31, 159, 95, 223, 63, 191, 127, 255,
 ];
 
-/// The byte with its bits in the other order.
+/// Returns the byte with its bits in the other order.
 #[inline(always)]
 fn reverse_byte(byte: u8) -> u8
     ensures { result ≡ number_of (low_digits 8 byte) }
@@ -26,7 +26,7 @@ fn reverse_byte(byte: u8) -> u8
     REVERSED[byte as usize]
 }
 
-/// The number whose first digit is the lowest bit. A table is used since the toolchain's
+/// Returns the number whose first digit is the lowest bit. A table is used since the toolchain's
 /// `reverse_bits` goes bit by bit.
 #[inline(always)]
 pub(crate) fn front_digits(bits: u64, len: u32) -> u32

@@ -3,7 +3,7 @@ ghost use Rattle.std.specs.List.{range_with_len};
 ghost use Rattle.bit_code.specs.Coder.{HasValue, spelling, spelling_by, low_digits};
 
 use crate::ahead::head_len;
-use crate::classes::{ASN, Classes, JUMP, MATCH};
+use crate::classes::{Classes, classes_of};
 use crate::coder::Coder;
 use crate::packing::cat_bits;
 use crate::reversal::front_digits;
@@ -17,7 +17,7 @@ pub(crate) struct Spelled {
     pub len: u32,
 }
 
-/// The spelling of a value of the coder.
+/// Spells a value of `coder`.
 #[inline]
 pub(crate) fn spell(coder: Coder, value: u32) -> Spelled
     requires { HasValue coder value }
@@ -25,15 +25,13 @@ pub(crate) fn spell(coder: Coder, value: u32) -> Spelled
     ensures few { result.len ≤ 55 }
     ensures within { result.bits < 2 ^ result.len }
 {
-    match coder {
-        Coder::Kind => spell_kind(value),
-        Coder::Asn => spell_rising(value - 1, ASN),
-        Coder::Match => spell_rising(value - 2, MATCH),
-        Coder::Jump => spell_rising(value - 17, JUMP),
+    match classes_of(coder) {
+        Some(classes) => spell_rising(value - classes.least, classes),
+        None => spell_kind(value),
     }
 }
 
-/// The spelling of a kind: as many one-bits, and a zero-bit after fewer than three.
+/// Spells a kind: as many one-bits, and a zero-bit after fewer than three.
 #[inline(always)]
 fn spell_kind(value: u32) -> Spelled
     requires { value < 4 }
@@ -43,11 +41,11 @@ fn spell_kind(value: u32) -> Spelled
 {
     Spelled {
         bits: (1 << value) - 1,
-        len: (value + 1).min(3),
+        len: head_len(value, 3),
     }
 }
 
-/// The spelling of a number, counted from 0, over classes of rising sizes.
+/// Spells a number, counted from 0, over classes of rising sizes.
 #[inline(always)]
 fn spell_rising(number: u32, classes: Classes) -> Spelled
     requires some { 0 < classes.first }
@@ -69,7 +67,7 @@ fn spell_rising(number: u32, classes: Classes) -> Spelled
     }
 }
 
-/// The index of the highest digit that is set, which is the size of one of the classes.
+/// Returns the index of the highest digit that is set, which is the size of one of the classes.
 #[inline(always)]
 fn top_digit(number: u32, classes: Classes) -> u32
     requires fits { classes.first + classes.last ≤ 30 }

@@ -20,8 +20,8 @@ overflow_add-result-2 c =
     omega (arith, c.front_digits.ensures.small, shifted, most)
 
 pub returns-clause-value : goal.returns-clause-value
-returns-clause-value c = λ more.
+returns-clause-value c = λ coder more h.
     let first = c.args.classes.first in
     let size = first + c.class_ahead-class.result in
     rw (one_shl size 32 (omega (arith, c.class_ahead-class.ensures.most)), one_shl first 32 (omega arith), c.front_digits.ensures.value, c.head_len-head.ensures.len)
-    (read_rising c.args.window c.class_ahead-class.result c.args.classes.last first more c.class_ahead-class.ensures.class c.args.classes.least (omega (arith, c.head_len-head.ensures.len, c.head_len-head.ensures.most)))
+    (read_rising c.args.window c.class_ahead-class.result c.args.classes.last first more c.class_ahead-class.ensures.class coder c.args.classes.least h.least h.sizes h.longest (omega (arith, c.head_len-head.ensures.len, c.head_len-head.ensures.most, c.class_ahead-class.ensures.most)))

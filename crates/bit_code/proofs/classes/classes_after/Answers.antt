@@ -7,10 +7,10 @@ use Rattle.bit_code.proofs.classes.classes_after.Goals as goal
 
 after_kind : (kind : ℕ) (d : Classes) → kind ≤ 3 → HasClasses (coder_after kind) (get_or AFTER_KINDS kind d)
 unfolding sizes
-after_kind zero d h = record { least = refl; sizes = refl; longest = refl; some = omega arith; fits = omega arith; low = omega arith }
-after_kind (suc zero) d h = record { least = refl; sizes = refl; longest = refl; some = omega arith; fits = omega arith; low = omega arith }
-after_kind (suc (suc zero)) d h = record { least = refl; sizes = refl; longest = refl; some = omega arith; fits = omega arith; low = omega arith }
-after_kind (suc (suc (suc zero))) d h = record { least = refl; sizes = refl; longest = refl; some = omega arith; fits = omega arith; low = omega arith }
+after_kind zero d h = record { least = refl; sizes = refl; longest = refl; some = omega arith; fits = omega arith; short = omega arith; low = omega arith }
+after_kind (suc zero) d h = record { least = refl; sizes = refl; longest = refl; some = omega arith; fits = omega arith; short = omega arith; low = omega arith }
+after_kind (suc (suc zero)) d h = record { least = refl; sizes = refl; longest = refl; some = omega arith; fits = omega arith; short = omega arith; low = omega arith }
+after_kind (suc (suc (suc zero))) d h = record { least = refl; sizes = refl; longest = refl; some = omega arith; fits = omega arith; short = omega arith; low = omega arith }
 after_kind (suc (suc (suc (suc kind)))) d h = absurd (omega arith)
 
 pub returns : goal.returns
