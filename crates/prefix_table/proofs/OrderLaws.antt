@@ -37,8 +37,3 @@ not_after_last rows bits len count d rising point some bound other (k, within, i
           ]
       | inr late ↦ absurd (false≢true (sym (point.1 k other late within) ∙ ap (is_up_to bits len) is ∙ up_to))
     ]
-
--- if none is
-pub none_up_to : (rows : List Row) (bits len : ℕ) → IsPartitionPoint (λ row. is_up_to bits len row ≡ true) (λ row. is_up_to bits len row ≡ false) rows 0 → (other : Row) → Contains rows other → is_up_to bits len other ≡ true → ⊥
-none_up_to rows bits len point other (k, within, is) up_to =
-    false≢true (sym (point.1 k other (omega arith) within) ∙ ap (is_up_to bits len) is ∙ up_to)

@@ -9,7 +9,7 @@ use Rattle.std.proofs.lemmas.List.Sorted.{IsPermutation-map, length_permutation,
 use Rattle.prefix_table.specs.Rows.{IsRow, SamePrefix, Precedes}
 use Rattle.host_io.specs.Lines.{lines_of}
 use Rattle.prefix_table.specs.Text.{IsTableText, IsFault, HasFault}
-use Rattle.prefix_table.specs.Numbered.{IsSettled, row_in, AreNumbered, NotAfter, IsRepeatAt, LineHas, IsWhole, StopsAt, Overflows, IsReadingOf}
+use Rattle.prefix_table.specs.Numbered.{IsSettled, row_in, AreNumbered, NotAfter, IsRepeatAt, IsWhole, StopsAt, Overflows, IsReadingOf}
 use Rattle.prefix_table.specs.declared.row.Row.{Row}
 use Rattle.prefix_table.specs.declared.row.TheConstants.{MOST_ROWS}
 use Rattle.prefix_table.specs.declared.numbered.NumberedRow.{NumberedRow}
@@ -151,12 +151,12 @@ repeated_is text rows n read is least =
       settled = first_settled (split.before ++ split.line ∷ []) split.after (subst (All IsSettled) (split.lines_are ∙ sym (append_assoc split.before (split.line ∷ []) split.after)) read.settled);
     }
 
-has_fault : (before : List Row) (line : List ℕ) (n : ℕ) (fault : TableFault) → LineHas line n fault → HasFault before line n fault
+has_fault : (before : List Row) (line : List ℕ) (n : ℕ) (fault : TableFault) → HasFault [] line n fault → HasFault before line n fault
 has_fault before line n (Form at) h = h
 has_fault before line n (Number at) h = h
 has_fault before line n (HostBits at) h = h
-has_fault before line n (Repeated at) h = absurd h
-has_fault before line n TooMany h = absurd h
+has_fault before line n (Repeated at) h = absurd (omega (arith, h.1.is_earlier.1))
+has_fault before line n TooMany h = absurd (omega (arith, h.full))
 has_fault before line n (TooLarge size) h = absurd h
 has_fault before line n Memory h = absurd h
 
@@ -257,7 +257,7 @@ reading_stops text rows (Form n) s = s
 reading_stops text rows (Number n) s = s
 reading_stops text rows (HostBits n) s = s
 reading_stops text rows (Repeated n) s = s
-reading_stops text rows TooMany s = absurd s.has
+reading_stops text rows TooMany s = absurd (omega (arith, s.has.full))
 reading_stops text rows (TooLarge n) s = s
 reading_stops text rows Memory s = s
 

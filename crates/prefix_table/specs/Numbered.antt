@@ -2,14 +2,14 @@
 use Rattle.std.specs.Prelude.{◌≡◌, ◌⊎◌, ℕ, ◌+◌, ◌<◌, ◌≤◌, List, [], ◌∷◌, ◌++◌, All, Option, Some, None, length, slice_index_or}
 use Rattle.prefix_table.specs.Rows.{SamePrefix, Precedes}
 use Rattle.host_io.specs.Lines.{IsPassedOver, lines_of}
-use Rattle.prefix_table.specs.Text.{IsEntry, IsRowLine, HasNoForm, IsOutOfRange, HasHostBits}
+use Rattle.prefix_table.specs.Text.{IsEntry, IsRowLine, HasFault}
 use Rattle.prefix_table.specs.declared.row.Row.{Row}
 use Rattle.prefix_table.specs.declared.entry.Entry.{Entry}
 use Rattle.prefix_table.specs.declared.row.TheConstants.{MOST_ROWS}
 use Rattle.prefix_table.specs.declared.numbered.NumberedRow.{NumberedRow}
 use Rattle.prefix_table.specs.declared.rows.Reading.{Reading}
 use Rattle.prefix_table.specs.declared.fault.TableFault.{TableFault}
-use Rattle.prefix_table.specs.declared.fault.TableFault.TheVariants.{Form, Number, HostBits, Repeated, TooMany, TooLarge, Memory}
+use Rattle.prefix_table.specs.declared.fault.TableFault.TheVariants.{TooMany}
 
 abbrev pub row_in : NumberedRow → Row
 row_in n = record { bits = n.bits; len = n.len; asn = n.asn }
@@ -29,16 +29,6 @@ AreNumbered n (line ∷ lines) (row ∷ rows) =
     (IsPassedOver line × AreNumbered (n + 1) lines (row ∷ rows))
     ⊎ ((row.line ≡ n) × IsRowLine line (row_in row) × AreNumbered (n + 1) lines rows)
 
--- the line of this number has the fault; this says nothing of rows before it
-abbrev pub LineHas : List ℕ → ℕ → TableFault → Type 0
-LineHas line n (Form at) = (at ≡ n) × HasNoForm line
-LineHas line n (Number at) = (at ≡ n) × IsOutOfRange line
-LineHas line n (HostBits at) = (at ≡ n) × HasHostBits line
-LineHas line n (Repeated at) = ⊥
-LineHas line n TooMany = ⊥
-LineHas line n (TooLarge size) = ⊥
-LineHas line n Memory = ⊥
-
 -- all lines of the text are those of the rows
 pub record IsWhole (text : List ℕ) (rows : List NumberedRow) : Type 0 where
   pub lines : AreNumbered 1 (lines_of text) rows
@@ -54,7 +44,7 @@ pub record StopsAt (text : List ℕ) (rows : List NumberedRow) (fault : TableFau
   pub are_rows : AreNumbered 1 before rows
   pub few : length rows ≤ MOST_ROWS
   pub settled : All IsSettled (before ++ line ∷ [])
-  pub has : LineHas line (length before + 1) fault
+  pub has : HasFault [] line (length before + 1) fault
 
 -- the lines before one are those of as many rows as a table has, and this one is that of the last row
 pub record Overflows (text : List ℕ) (rows : List NumberedRow) : Type 0 where

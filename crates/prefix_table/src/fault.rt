@@ -4,10 +4,10 @@ ghost use Rattle.prefix_table.specs.declared.fault.TableFault.TheVariants as fau
 use std::alloc::AllocError;
 use thiserror::Error;
 
-/// Why a text is not read as a table. Lines are counted from 1, and the first line at fault decides.
+/// Why a text is not read as a table. Lines are counted from 1; the first malformed line decides.
 #[derive(Clone, Copy, Debug, PartialEq, Eq, Error)]
 pub enum TableFault {
-    /// The line does not have the form of a row.
+    /// The line is malformed: neither empty, nor a comment, nor a row.
     #[error("form")]
     Form {
         /// The line.
@@ -40,7 +40,7 @@ pub enum TableFault {
         /// The length of the file in bytes.
         size: u64,
     },
-    /// There is no memory for the rows.
+    /// Out of memory.
     #[error("out of memory")]
     Memory,
 }

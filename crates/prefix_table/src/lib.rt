@@ -17,4 +17,5 @@ pub use fault::TableFault;
 pub use print::put_table;
 pub use read::{MOST_TEXT, read_table};
 pub use row::{MOST_ASN, MOST_ROWS, Row};
+pub use search::common_bits;
 pub use table::Table;

@@ -1,7 +1,7 @@
-ghost use Rattle.std.specs.Prelude.{◌≡◌, ◌≢◌, ℕ, ◌⊎◌, ◌+◌, ◌<◌, ◌≤◌, ◌^◌, ◌↔◌, ◌∷◌, ◌++◌, All, IsTrue, IfSome, IfNone, IfOk, IfErr, MatchOption, Some};
+ghost use Rattle.std.specs.Prelude.{◌≡◌, ◌≢◌, ℕ, ◌⊎◌, ◌+◌, ◌<◌, ◌≤◌, ◌^◌, ◌↔◌, [], ◌∷◌, ◌++◌, All, IsTrue, IfSome, IfNone, IfOk, IfErr, MatchOption, Some};
 ghost use Rattle.host_io.specs.Lines.{IsPassedOver};
-ghost use Rattle.prefix_table.specs.Text.{IsAddress, IsEntry, IsInRange, IsClear, IsRowLine, row_of, width};
-ghost use Rattle.prefix_table.specs.Numbered.{LineHas, IsSettled};
+ghost use Rattle.prefix_table.specs.Text.{HasFault, IsAddress, IsEntry, IsInRange, IsClear, IsRowLine, row_of, width};
+ghost use Rattle.prefix_table.specs.Numbered.{IsSettled};
 ghost use Rattle.prefix_table.specs.declared.entry.Entry.{Entry};
 ghost use Rattle.prefix_table.specs.declared.entry.Family.{Family};
 
@@ -13,10 +13,10 @@ use net_addr::{around_last, parse_ipv4, parse_ipv6, parse_number};
 /// The largest number of ten digits.
 const MOST_NUMBER: u64 = 9_999_999_999;
 
-/// The row of the line with this number, or `None` if the line is passed over.
+/// Returns the row of the line, which has number `line`, or `None` if it is passed over.
 pub(crate) fn read_line(text: &[u8], line: u32) -> Result<Option<Row>, TableFault>
     ensures found { IfOk result (λ row. MatchOption row (IsPassedOver text.now) (IsRowLine text.now)) }
-    ensures cause { IfErr result (LineHas text.now line) }
+    ensures cause { IfErr result (HasFault [] text.now line) }
     ensures settled { IsSettled text.now }
 {
     if is_passed_over(text) {
@@ -35,7 +35,7 @@ pub(crate) fn read_line(text: &[u8], line: u32) -> Result<Option<Row>, TableFaul
     Ok(Some(row))
 }
 
-/// Whether the line is empty or a comment.
+/// Returns whether the line is empty or a comment.
 fn is_passed_over(line: &[u8]) -> bool
     ensures { IsTrue result ↔ IsPassedOver line.now }
 {
@@ -45,7 +45,7 @@ fn is_passed_over(line: &[u8]) -> bool
     }
 }
 
-/// What the line says, if it has the form of a row.
+/// Returns what the line says, or `None` if it does not have the form of a row.
 fn read_entry(line: &[u8]) -> Option<Entry>
     requires { IsPassedOver line.now → ⊥ }
     ensures found { IfSome result (IsEntry line.now) }
@@ -64,7 +64,7 @@ fn read_entry(line: &[u8]) -> Option<Entry>
     })
 }
 
-/// The address that the text writes, and its family.
+/// Returns the address that the text writes, with its family, or `None` if there is none.
 fn read_address(text: &[u8]) -> Option<(Family, u128)>
     ensures found { IfSome result (λ read. IsAddress read.0 text.now read.1) }
     ensures address { IfSome result (λ read. read.1 < 2 ^ width read.0) }
@@ -77,7 +77,7 @@ fn read_address(text: &[u8]) -> Option<(Family, u128)>
     Some((Family::Ipv6, parse_ipv6(text)?))
 }
 
-/// Whether the length fits the family, and the AS number is one that an asmap can spell.
+/// Returns whether the length fits the family and an asmap can spell the AS number.
 fn is_in_range(entry: &Entry) -> bool
     ensures { IsTrue result ↔ IsInRange entry.now }
 {
@@ -88,7 +88,7 @@ fn is_in_range(entry: &Entry) -> bool
     entry.len <= width && 1 <= entry.asn && entry.asn <= u64::from(MOST_ASN)
 }
 
-/// The row that the entry says.
+/// Returns the row that the entry says.
 fn row_of(entry: &Entry) -> Row
     requires address { entry.now.address < 2 ^ width entry.now.family }
     requires in_range { IsInRange entry.now }
@@ -105,7 +105,7 @@ fn row_of(entry: &Entry) -> Row
     }
 }
 
-/// Whether no bit is set after the prefix.
+/// Returns whether no bit is set after the prefix.
 fn is_clear(row: &Row) -> bool
     requires { row.now.len ≤ 128 }
     ensures { IsTrue result ↔ IsClear row.now }

@@ -23,7 +23,7 @@ impl NumberedRow {
     ghost use Rattle.prefix_table.specs.Numbered.{row_in, with_line};
     ghost use Rattle.prefix_table.specs.Rows.{SamePrefix};
 
-    /// The row of a line.
+    /// Gives a row the number of its line.
     pub(crate) fn of(row: Row, line: u32) -> NumberedRow
         ensures { result ≡ with_line row line }
     {
@@ -35,7 +35,7 @@ impl NumberedRow {
         }
     }
 
-    /// The row without the number of its line.
+    /// Returns the row without the number of its line.
     pub(crate) fn row(&self) -> Row
         ensures { result ≡ row_in self.now }
     {
@@ -46,7 +46,7 @@ impl NumberedRow {
         }
     }
 
-    /// Whether the two have the same prefix.
+    /// Returns whether the two rows have the same prefix.
     pub(crate) fn is_same_prefix(&self, other: &NumberedRow) -> bool
         ensures { IsTrue result ↔ SamePrefix (row_in self.now) (row_in other.now) }
     {
@@ -54,7 +54,7 @@ impl NumberedRow {
     }
 }
 
-/// The rows without the numbers of their lines.
+/// Returns the rows without the numbers of their lines.
 pub(crate) fn rows_in(alloc: Global, rows: &[NumberedRow]) -> Result<Vec<Row>, AllocError>
     ensures { IfOk result (λ v. v.items ≡ map row_in rows.now) }
 {

@@ -8,8 +8,8 @@ use crate::{Row, Table};
 use itoa::Buffer;
 use net_addr::{Memory, put_ipv4, put_ipv6};
 
-/// Appends the rows of the table in their order, one a line. A row of mapped addresses is written in
-/// the IPv4 form.
+/// Appends the rows of the table in their order, one a line. A row of mapped addresses is written
+/// in the IPv4 form. If memory runs out, `out` is unchanged.
 pub fn put_table(table: &Table, out: &mut Vec<u8>) -> Result<(), Memory>
     ensures ok { OnOk result (out.new.items ≡ out.old.items ++ table_text table.now) }
     ensures err { OnErr result (out.new.items ≡ out.old.items) }
@@ -23,7 +23,7 @@ pub fn put_table(table: &Table, out: &mut Vec<u8>) -> Result<(), Memory>
     put
 }
 
-/// Appends the lines of the rows. After an error some of them are there.
+/// Appends the lines of the rows. If memory runs out, some of them may have been appended.
 fn put_rows(rows: &[Row], out: &mut Vec<u8>) -> Result<(), Memory>
     requires { All IsRow rows.now }
     ensures ok { OnOk result (out.new.items ≡ out.old.items ++ flat_map row_text rows.now) }
@@ -37,7 +37,7 @@ fn put_rows(rows: &[Row], out: &mut Vec<u8>) -> Result<(), Memory>
     Ok(())
 }
 
-/// Appends the line of a row. After an error a part of it is there.
+/// Appends the line of a row. If memory runs out, a part of it may have been appended.
 fn put_row(row: &Row, out: &mut Vec<u8>) -> Result<(), Memory>
     requires { IsRow row.now }
     ensures ok { OnOk result (out.new.items ≡ out.old.items ++ row_text row.now) }
@@ -68,7 +68,7 @@ fn put_address(entry: &Entry, out: &mut Vec<u8>) -> Result<(), Memory>
     }
 }
 
-/// How the row is printed.
+/// Returns how the row is printed.
 fn entry_of(row: &Row) -> Entry
     requires { row.now.bits < 2 ^ 128 }
     ensures value { result ≡ entry_of row.now }

@@ -9,15 +9,16 @@ use crate::rows::read_rows;
 use crate::{Table, TableFault};
 use std::alloc::Global;
 
-/// The most bytes of a text.
+/// The most bytes of a text that `read_table` takes.
 pub const MOST_TEXT: usize = 134_217_728;
 
-/// The table that the text writes. The fault is that of the first line at fault.
+/// Reads the text of a table. Its rows may be in any order, among empty lines and comments. The
+/// fault is that of the first malformed line, unless memory runs out.
 pub fn read_table(alloc: Global, text: &[u8]) -> Result<Table, TableFault>
     requires { length text.now ≤ MOST_TEXT }
     ensures found { IfOk result (IsTableText text.now) }
     ensures cause { IfErr result (λ fault. (fault ≡ faults.Memory) ⊎ IsFault text.now fault) }
-    // A text that is a table's is read as that table, unless memory runs out.
+    // The text of a table is read as that table, unless memory runs out.
     ensures only { (rows : List Row) → IsTableText text.now rows
         → MatchResult result (λ table. table ≡ rows) (λ fault. fault ≡ faults.Memory) }
     // A text that has a fault is answered with that fault, unless memory runs out.

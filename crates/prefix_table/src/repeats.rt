@@ -3,7 +3,7 @@ ghost use Rattle.prefix_table.specs.Numbered.{IsRepeatAt};
 
 use crate::numbered::NumberedRow;
 
-/// The least line of a row whose prefix is that of the row before it.
+/// Returns the least line of a row whose prefix is that of the row before it.
 pub(crate) fn first_repeat(rows: &[NumberedRow]) -> Option<u32>
     ensures found { IfSome result (λ n. (k : ℕ) × IsRepeatAt rows.now k n) }
     ensures least { IfSome result (λ n. (k m : ℕ) → IsRepeatAt rows.now k m → n ≤ m) }
@@ -18,7 +18,7 @@ pub(crate) fn first_repeat(rows: &[NumberedRow]) -> Option<u32>
     first
 }
 
-/// The earlier of a line, if there is one, and another.
+/// Returns the earlier of two lines, or `line` if there is only one.
 fn earlier(first: Option<u32>, line: u32) -> u32
     ensures { MatchOption first (result ≡ line) (λ known. result ≡ min known line) }
 {

@@ -1,6 +1,7 @@
-ghost use Rattle.std.specs.Prelude.{◌≡◌, ◌≤◌, length, IfOk};
+ghost use Rattle.std.specs.Prelude.{◌≡◌, ◌<◌, ◌≤◌, true, false, length, IfOk};
 ghost use Rattle.prefix_table.specs.Numbered.{IsReading};
 ghost use Rattle.prefix_table.specs.declared.read.TheConstants.{MOST_TEXT};
+ghost use Rattle.prefix_table.specs.declared.row.TheConstants.{MOST_ROWS};
 
 use crate::line::read_line;
 use crate::numbered::NumberedRow;
@@ -8,11 +9,13 @@ use crate::{MOST_ROWS, TableFault};
 use host_io::split_line;
 use std::alloc::{AllocError, Global};
 
-/// The rows of a text's lines in the order of the text, as far as a fault that a line has by
-/// itself, or as far as one row more than a table has. Prefixes may repeat.
+/// The rows of a text in the order of its lines, up to the first line that is malformed by itself,
+/// or up to one row more than a table has. Prefixes may repeat.
 #[derive(Drop)]
 pub(crate) struct Reading {
+    /// The rows.
     pub rows: Vec<NumberedRow>,
+    /// The fault of the line after them, or of the last row.
     pub fault: Option<TableFault>,
 }
 
@@ -32,7 +35,7 @@ pub(crate) fn read_rows(alloc: Global, text: &[u8]) -> Result<Reading, AllocErro
             Ok(None) => {}
             Ok(Some(row)) => {
                 rows.push(NumberedRow::of(row, line))?;
-                if rows.len() > MOST_ROWS {
+                if is_too_many(rows.len()) {
                     let fault = Some(TableFault::TooMany);
                     return Ok(Reading { rows, fault });
                 }
@@ -44,4 +47,12 @@ pub(crate) fn read_rows(alloc: Global, text: &[u8]) -> Result<Reading, AllocErro
         }
     }
     Ok(Reading { rows, fault: None })
+}
+
+/// Returns whether there are more rows than a table has.
+fn is_too_many(count: usize) -> bool
+    ensures many { result ≡ true → MOST_ROWS < count }
+    ensures few { result ≡ false → count ≤ MOST_ROWS }
+{
+    count > MOST_ROWS
 }

@@ -1,4 +1,4 @@
-ghost use Rattle.std.specs.Prelude.{◌≡◌, ℕ, ◌<◌, ◌≤◌, ◌^◌, ◌↔◌, ◌⊎◌, IfSome, IfNone, Contains, AllPairs, true, false, length};
+ghost use Rattle.std.specs.Prelude.{◌≡◌, ℕ, ◌<◌, ◌≤◌, ◌^◌, ◌↔◌, ◌⊎◌, ◌-◌, IfSome, IfNone, Contains, AllPairs, true, false, length, slice_index_or};
 ghost use Rattle.std.specs.List.Sorted.{IsPartitionPoint};
 ghost use Rattle.prefix_table.specs.Rows.{IsTable, IsLongest, Precedes, covers, first_bits};
 ghost use Rattle.prefix_table.specs.Inside.{cut, is_up_to};
@@ -6,8 +6,8 @@ ghost use Rattle.prefix_table.specs.declared.row.Row.{Row};
 
 use crate::Row;
 
-/// The longest row that covers the address. Each search shortens the prefixes that are left, so
-/// there are at most 129.
+/// Returns the longest row that covers the address. Each search shortens the prefixes that are
+/// left, so there are at most 129.
 pub(crate) fn longest_match(rows: &[Row], address: u128) -> Option<Row>
     requires { IsTable rows.now }
     ensures found { IfSome result (λ row. IsLongest rows.now address row) }
@@ -25,7 +25,7 @@ pub(crate) fn longest_match(rows: &[Row], address: u128) -> Option<Row>
     }
 }
 
-/// The last row that is not after one of these bits and this length.
+/// Returns the last row that is not after one of these bits and this length.
 fn last_up_to(rows: &[Row], bits: u128, len: u8) -> Option<Row>
     requires { AllPairs Precedes rows.now }
     ensures found { IfSome result (λ row. Contains rows.now row) }
@@ -39,10 +39,19 @@ fn last_up_to(rows: &[Row], bits: u128, len: u8) -> Option<Row>
     if count == 0 {
         return None;
     }
-    Some(rows[count - 1])
+    Some(row_before(rows, count))
 }
 
-/// How many rows are not after one of these bits and this length.
+/// Returns the row before an index.
+fn row_before(rows: &[Row], index: usize) -> Row
+    requires some { 0 < index }
+    requires within { index ≤ length rows.now }
+    ensures { (d : Row) → result ≡ slice_index_or rows.now (index - 1) d }
+{
+    rows[index - 1]
+}
+
+/// Returns how many rows are not after one of these bits and this length.
 fn count_up_to(rows: &[Row], bits: u128, len: u8) -> usize
     requires { AllPairs Precedes rows.now }
     ensures bound { result ≤ length rows.now }
@@ -52,14 +61,14 @@ fn count_up_to(rows: &[Row], bits: u128, len: u8) -> usize
     rows.partition_point(|row| is_up_to(row, bits, len))
 }
 
-/// Whether the row is not after one of these bits and this length.
+/// Returns whether the row is not after one of these bits and this length.
 fn is_up_to(row: &Row, bits: u128, len: u8) -> bool
     ensures { result ≡ is_up_to bits len row.now }
 {
     row.bits < bits || (row.bits == bits && row.len <= len)
 }
 
-/// The first `len` bits, and zeros.
+/// Returns the first `len` bits, and zeros after them.
 pub(crate) fn cut(bits: u128, len: u8) -> u128
     requires { len ≤ 128 }
     ensures { result ≡ cut bits len }
@@ -71,8 +80,8 @@ pub(crate) fn cut(bits: u128, len: u8) -> u128
     }
 }
 
-/// How many bits two addresses begin with in common.
-fn common_bits(a: u128, b: u128) -> u8
+/// Returns how many bits two addresses begin with in common.
+pub fn common_bits(a: u128, b: u128) -> u8
     ensures most { result ≤ 128 }
     ensures common { (len : ℕ) → len ≤ 128
         → (first_bits len a ≡ first_bits len b) ↔ (len ≤ result) }

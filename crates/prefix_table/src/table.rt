@@ -28,7 +28,7 @@ impl Model for Table {
 }
 
 impl Table {
-    /// The table of these rows, which rise and have distinct prefixes.
+    /// Makes a table of these rows, which rise and have distinct prefixes.
     pub(crate) fn of(alloc: Global, rows: &[NumberedRow]) -> Result<Table, AllocError>
         requires { IsTable (map row_in rows.now) }
         ensures { IfOk result (λ table. table ≡ map row_in rows.now) }
@@ -38,7 +38,7 @@ impl Table {
         })
     }
 
-    /// The rows, rising by bits and then by length.
+    /// Returns the rows, rising by bits and then by length.
     pub fn rows(&self) -> &[Row]
         ensures value { result.now ≡ self.now }
         ensures table { IsTable self.now }
@@ -46,7 +46,8 @@ impl Table {
         self.rows.as_slice()
     }
 
-    /// The AS number of the most specific row that covers the address, or 0 (RFC 4632, section 5.1).
+    /// Returns the AS number of the most specific row that covers `address`, or 0 if none does
+    /// (RFC 4632, section 5.1). An IPv4 address is asked for as the mapped IPv6 address.
     pub fn best(&self, address: u128) -> u32
         ensures found { result ≡ best self.now address }
         ensures longest { (row : Row) → IsLongest self.now address row → result ≡ row.asn }

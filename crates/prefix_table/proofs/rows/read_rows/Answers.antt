@@ -24,7 +24,7 @@ loop-rest-preserved c =
     let is = subst (λ (o : Option Row). MatchOption o (IsPassedOver c.split_line.result.0.now) (IsRowLine c.split_line.result.0.now)) c.in-Ok-Some.field-0-is c.in-Ok-Some.ensures.found in
     let rows = c.loop-rest.rows.items in
     let items = c.in_ok-push-in-Ok-Some.ensures.items ∙ ap (λ (row : NumberedRow). rows ++ row ∷ []) c.of.ensures in
-    let room : length rows + 1 ≤ 2000000 = omega (arith, c.in_ok-push-in-Ok-Some.ensures.len, c.len.ensures) in
+    let room : length rows + 1 ≤ 2000000 = omega (arith, c.in_ok-push-in-Ok-Some.ensures.len, c.len.ensures, c.is_too_many.ensures.few c.if-is_too_many.false) in
     let so = so_far_row c.args.text.now c.loop-rest.rest.now c.split_line.result.1.now c.split_line.result.0.now rows c.loop-rest.line c.in-Ok-Some.row c.loop-rest.invariant c.split_line.ensures.first c.split_line.ensures.fewer c.in-Ok-Some.ensures.settled is room in
     subst (λ (rows : List NumberedRow). SoFar c.args.text.now c.split_line.result.1.now rows (c.loop-rest.line + 1)) (sym items) so
 
@@ -33,12 +33,12 @@ returns c =
     let none = nil_from_length c.loop-rest.rest.now (eqb-true (length c.loop-rest.rest.now) 0 (sym c.is_empty.ensures ∙ c.loop-rest-test.false)) in
     whole c.args.text.now c.loop-rest.rows.items c.loop-rest.line c.loop-rest.rest.now c.loop-rest.invariant none
 
-pub returns-then-len-gt-MOST_ROWS : goal.returns-then-len-gt-MOST_ROWS
-returns-then-len-gt-MOST_ROWS c =
+pub returns-then-is_too_many : goal.returns-then-is_too_many
+returns-then-is_too_many c =
     let is = subst (λ (o : Option Row). MatchOption o (IsPassedOver c.split_line.result.0.now) (IsRowLine c.split_line.result.0.now)) c.in-Ok-Some.field-0-is c.in-Ok-Some.ensures.found in
     let rows = c.loop-rest.rows.items in
     let items = c.in_ok-push-in-Ok-Some.ensures.items ∙ ap (λ (row : NumberedRow). rows ++ row ∷ []) c.of.ensures in
-    let full : 2000000 < length (rows ++ with_line c.in-Ok-Some.row (c.loop-rest.line + 1) ∷ []) = omega (arith, c.if-len-gt-MOST_ROWS.true, c.len.ensures, ap (λ (rs : List NumberedRow). length rs) items) in
+    let full : 2000000 < length (rows ++ with_line c.in-Ok-Some.row (c.loop-rest.line + 1) ∷ []) = omega (arith, c.is_too_many.ensures.many c.if-is_too_many.true, c.len.ensures, ap (λ (rs : List NumberedRow). length rs) items) in
     let over = overflows c.args.text.now c.loop-rest.rest.now c.split_line.result.1.now c.split_line.result.0.now rows c.loop-rest.line c.in-Ok-Some.row c.loop-rest.invariant c.split_line.ensures.first c.in-Ok-Some.ensures.settled is full in
     subst (Overflows c.args.text.now) (sym items) over
 
