@@ -1,11 +1,11 @@
 -- The bits of an address from some offset on.
-use Rattle.std.proofs.Common.{◌≡◌, ℕ, zero, suc, ◌+◌, ◌-◌, ◌*◌, ◌/◌, ◌%◌, ◌^◌, ◌<◌, ◌≤◌, Bool, true, false, List, [], ◌∷◌, ◌++◌, length, take, drop, refl, ap, sym, ◌∙◌, arith, eqb, eq-eqb, bit_and}
+use Rattle.std.proofs.Common.{◌≡◌, ℕ, ◌+◌, ◌-◌, ◌*◌, ◌/◌, ◌%◌, ◌^◌, ◌≤◌, Bool, true, false, List, [], ◌∷◌, ◌++◌, length, take, drop, refl, ap, sym, ◌∙◌, arith, eqb, eq-eqb, bit_and}
 use Rattle.std.proofs.Math.Seq.{take-append_seam, drop-append_seam}
-use Rattle.std.proofs.lemmas.Nat.{shr-shr, shr_split, pow_pos, one_shl, and_mask}
+use Rattle.std.proofs.lemmas.Nat.{shr_split, pow_pos, one_shl, and_mask}
 use Rattle.std.proofs.Math.Pow.{mod-mod-pow}
 use Rattle.std.proofs.lemmas.Bool.{eqb-true}
-use Rattle.bit_code.specs.Coder.{has_bit, digits, number_of}
-use Rattle.bit_code.specs.DigitLaws.{length-digits, digits_cons, digits_above, digits_low, number_of-digits}
+use Rattle.bit_code.specs.Coder.{digits, number_of}
+use Rattle.bit_code.specs.DigitLaws.{length-digits, digits_above, digits_low, number_of-digits}
 use Rattle.asmap_vm.specs.Code.{begins_with}
 
 -- the low digits of a number are those of its low part

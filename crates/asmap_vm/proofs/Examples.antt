@@ -1,5 +1,5 @@
 -- Worked examples of the definitions, computed by the check.
-use Rattle.std.proofs.Common.{◌≡◌, ℕ, zero, suc, ◌+◌, ◌-◌, ◌*◌, ◌^◌, Bool, true, false, List, [], ◌∷◌, get_or, replicate, refl, ap, sym, ◌∙◌, subst, arith}
+use Rattle.std.proofs.Common.{◌≡◌, ℕ, zero, suc, ◌+◌, ◌-◌, ◌*◌, ◌^◌, true, false, List, [], ◌∷◌, get_or, replicate, refl, ap, sym, ◌∙◌, subst, arith}
 use Rattle.bit_code.specs.Coder.{digits, low_digits, file_bits, number_of, sizes, values_of, spelling, spelling_by}
 use Rattle.bit_code.specs.Reading.{read_value, read_by, digits_at}
 use Rattle.asmap_vm.specs.Code.{Tree, Return, Jump, Match, Default, code, IsSane, IsSaneWithin, IsSaneFile, begins_with, meaning, asn_of}

@@ -1,6 +1,6 @@
 -- An instruction and its kind and number.
-use Rattle.std.proofs.Common.{◌≡◌, ℕ, zero, suc, ◌<◌, Bool, List, ◌++◌, refl, arith}
-use Rattle.bit_code.specs.Coder.{spelling, HasValue, SpellsBoth, coder_after, values_of, sizes}
+use Rattle.std.proofs.Common.{◌≡◌, ℕ, zero, suc, ◌<◌, Bool, List, refl, arith}
+use Rattle.bit_code.specs.Coder.{HasValue, SpellsBoth, coder_after, values_of, sizes}
 use Rattle.bit_code.specs.declared.coder.Coder.TheVariants as coders
 use Rattle.asmap_vm.specs.Instructions.{kind_of, coder_of, number_in, instruction_at, IsNext}
 use Rattle.asmap_vm.specs.declared.instruction.Instruction.{Instruction}

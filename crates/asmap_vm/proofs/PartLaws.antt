@@ -1,5 +1,5 @@
 -- A part of a file by its first instruction.
-use Rattle.std.proofs.Common.{◌≡◌, ◌≢◌, ℕ, ◌+◌, ◌-◌, ◌<◌, ◌≤◌, Bool, true, List, ◌∷◌, ◌++◌, length, refl, ap, sym, ◌∙◌, inl, inr, arith, append_assoc, append-nil, length-append}
+use Rattle.std.proofs.Common.{◌≡◌, ◌≢◌, ℕ, ◌+◌, ◌-◌, ◌<◌, ◌≤◌, Bool, true, List, ◌∷◌, ◌++◌, length, refl, ap, sym, subst, ◌∙◌, inl, inr, arith, append_assoc, append-nil, length-append}
 use Rattle.std.proofs.lemmas.Bool.{cases_lt, lt-ltb, le-ltb}
 use Rattle.bit_code.specs.Coder.{number_of, spelling, HasValue}
 use Rattle.bit_code.specs.declared.coder.Coder.TheVariants as coders
@@ -28,6 +28,22 @@ head_value left (Return n) h = h
 head_value left (Jump l r) h = h.1
 head_value left (Match wanted t) h = match_value wanted h.0.some h.0.most
 head_value left (Default n t) h = h.0
+
+-- the tree begins with the instruction
+abbrev pub HasHead : Instruction → Tree → Type 0
+HasHead (instructions.Return n) t = t ≡ Return n
+HasHead (instructions.Jump over) t = (l : Tree) × (r : Tree) × (t ≡ Jump l r) × (length (code l) ≡ over)
+HasHead (instructions.Match n) t = (wanted : List Bool) × (u : Tree) × (t ≡ Match wanted u) × (number_of (true ∷ wanted) ≡ n)
+HasHead (instructions.Default n) t = (u : Tree) × (t ≡ Default n u)
+
+own_head : (t : Tree) → HasHead (head t) t
+own_head (Return n) = refl
+own_head (Jump l r) = (l, r, refl, refl)
+own_head (Match wanted t) = (wanted, t, refl, refl)
+own_head (Default n t) = (t, refl)
+
+pub has_head : (t : Tree) (i : Instruction) → head t ≡ i → HasHead i t
+has_head t i e = subst (λ j. HasHead j t) e (own_head t)
 
 -- a part whose first instruction was read
 pub record Opened (i : Instruction) (before : Before) (left : ℕ) (after rest : List Bool) : Type 0 where
@@ -120,10 +136,9 @@ unfolding IsSaneWithin
 sane_match left wanted t m fits sane = (m, fits, sane)
 
 pub split_return : (t : Tree) (n : ℕ) (before : Before) (after rest : List Bool) → head t ≡ instructions.Return n → Suits before t → after ≡ tail t ++ rest → (before ≢ befores.Default) × (after ≡ rest)
-split_return (Return m) n before after rest e s h = (suits_return before m s, h)
-split_return (Jump l r) n before after rest e s h = cc
-split_return (Match wanted t) n before after rest e s h = cc
-split_return (Default m t) n before after rest e s h = cc
+split_return t n before after rest e s h =
+    let is = has_head t (instructions.Return n) e in
+    (suits_return before n (subst (Suits before) is s), h ∙ ap (λ u. tail u ++ rest) is)
 
 pub join_return : (n : ℕ) (before : Before) (left : ℕ) (after : List Bool) → HasValue coders.Asn n → before ≢ befores.Default → Opened (instructions.Return n) before left after after
 join_return n before left after value h =
@@ -135,13 +150,12 @@ pub record DefaultPart (before : Before) (left : ℕ) (after rest : List Bool) :
 
 pub split_default : (t : Tree) (n : ℕ) (before : Before) (left : ℕ) (after rest : List Bool) → head t ≡ instructions.Default n → IsSaneWithin left t → Suits before t → after ≡ tail t ++ rest → DefaultPart before left after rest
 unfolding IsSaneWithin
-split_default (Return m) n before left after rest e sane s h = cc
-split_default (Jump l r) n before left after rest e sane s h = cc
-split_default (Match wanted t) n before left after rest e sane s h = cc
-split_default (Default m t) n before left after rest e sane s h =
+split_default t n before left after rest e sane s h =
+    let d = has_head t (instructions.Default n) e in
+    let within : IsSaneWithin left (Default n d.0) = subst (IsSaneWithin left) d.1 sane in
     record {
-      first = suits_default before m t s;
-      part = record { tree = t; sane = sane.2; suits = sane.1; spelled = h };
+      first = suits_default before n d.0 (subst (Suits before) d.1 s);
+      part = record { tree = d.0; sane = within.2; suits = within.1; spelled = h ∙ ap (λ u. tail u ++ rest) d.1 };
     }
 
 pub join_default : (n : ℕ) (before : Before) (left : ℕ) (after rest : List Bool) → HasValue coders.Asn n → DefaultPart before left after rest → Opened (instructions.Default n) before left after rest
@@ -163,18 +177,19 @@ pub record JumpParts (over left : ℕ) (after rest : List Bool) : Type 0 where
 
 pub split_jump : (t : Tree) (over left : ℕ) (after rest : List Bool) → head t ≡ instructions.Jump over → IsSaneWithin left t → after ≡ tail t ++ rest → JumpParts over left after rest
 unfolding IsSaneWithin
-split_jump (Return m) over left after rest e sane h = cc
-split_jump (Match wanted t) over left after rest e sane h = cc
-split_jump (Default m t) over left after rest e sane h = cc
-split_jump (Jump l r) over left after rest e sane h =
-    let same : length (code l) ≡ over = cc in
-    let parts : after ≡ code l ++ (code r ++ rest) = h ∙ append_assoc (code l) (code r) rest in
+split_jump t over left after rest e sane h =
+    let j = has_head t (instructions.Jump over) e in
+    let l = j.0 in
+    let r = j.1 in
+    let size = j.3 in
+    let within : IsSaneWithin left (Jump l r) = subst (IsSaneWithin left) j.2 sane in
+    let parts : after ≡ code l ++ (code r ++ rest) = h ∙ ap (λ u. tail u ++ rest) j.2 ∙ append_assoc (code l) (code r) rest in
     record {
-      room = sane.0;
+      room = within.0;
       middle = code r ++ rest;
-      left_part = record { tree = l; sane = sane.2; suits = tt; spelled = parts };
-      right_part = record { tree = r; sane = sane.3; suits = tt; spelled = refl };
-      over_is = rw parts (omega (arith, length-append (code l) (code r ++ rest)));
+      left_part = record { tree = l; sane = within.2; suits = tt; spelled = parts };
+      right_part = record { tree = r; sane = within.3; suits = tt; spelled = refl };
+      over_is = rw parts (omega (arith, size, length-append (code l) (code r ++ rest)));
     }
 
 pub join_jump : (over : ℕ) (before : Before) (left : ℕ) (after rest : List Bool) → HasValue coders.Jump over → JumpParts over left after rest → Opened (instructions.Jump over) before left after rest
@@ -197,16 +212,15 @@ pub record MatchPart (n : ℕ) (before : Before) (left : ℕ) (after rest : List
 
 pub split_match : (t : Tree) (n : ℕ) (before : Before) (left : ℕ) (after rest : List Bool) → head t ≡ instructions.Match n → IsSaneWithin left t → Suits before t → after ≡ tail t ++ rest → MatchPart n before left after rest
 unfolding IsSaneWithin
-split_match (Return m) n before left after rest e sane s h = cc
-split_match (Jump l r) n before left after rest e sane s h = cc
-split_match (Default m t) n before left after rest e sane s h = cc
-split_match (Match wanted t) n before left after rest e sane s h =
-    let number : number_of (true ∷ wanted) ≡ n = cc in
-    let size : match_size n ≡ length wanted = rw number at (match_size-wanted wanted sane.0.most) in
+split_match t n before left after rest e sane s h =
+    let m = has_head t (instructions.Match n) e in
+    let wanted = m.0 in
+    let within : IsSaneWithin left (Match wanted m.1) = subst (IsSaneWithin left) m.2 sane in
+    let size : match_size n ≡ length wanted = rw m.3 at (match_size-wanted wanted within.0.most) in
     record {
-      fits = rw size sane.1;
-      joined = rw size (suits_match before wanted t s);
-      part = rw size (record { tree = t; sane = sane.2; suits = after_suits (length wanted) t sane.0.joined; spelled = h });
+      fits = rw size within.1;
+      joined = rw size (suits_match before wanted m.1 (subst (Suits before) m.2 s));
+      part = rw size (record { tree = m.1; sane = within.2; suits = after_suits (length wanted) m.1 within.0.joined; spelled = h ∙ ap (λ u. tail u ++ rest) m.2 });
     }
 
 pub join_match : (n : ℕ) (before : Before) (left : ℕ) (after rest : List Bool) → 2 ≤ n → n < 512 → MatchPart n before left after rest → Opened (instructions.Match n) before left after rest

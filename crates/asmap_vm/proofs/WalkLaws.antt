@@ -1,8 +1,8 @@
 -- What one instruction does to a lookup.
-use Rattle.std.proofs.Common.{◌≡◌, ℕ, suc, ◌+◌, ◌-◌, ◌<◌, ◌≤◌, Bool, true, false, List, ◌∷◌, ◌++◌, length, drop, replicate, refl, ap, sym, ◌∙◌, arith, append_assoc, length-append, length-drop}
+use Rattle.std.proofs.Common.{◌≡◌, ℕ, suc, ◌+◌, ◌-◌, ◌<◌, ◌≤◌, Bool, true, false, List, ◌∷◌, ◌++◌, length, drop, replicate, refl, ap, sym, subst, ◌∙◌, arith, append_assoc, length-append, length-drop}
 use Rattle.std.proofs.Math.Seq.{drop-append_seam}
 use Rattle.std.proofs.lemmas.List.{drop-drop}
-use Rattle.bit_code.specs.Coder.{has_bit, digits, number_of, file_bits}
+use Rattle.bit_code.specs.Coder.{has_bit, digits, file_bits}
 use Rattle.asmap_vm.specs.Code.{Tree, Return, Jump, Match, Default, code, IsSaneWithin, IsSaneFile, begins_with, meaning, asn_of}
 use Rattle.asmap_vm.specs.Instructions.{IsNext, head, tail}
 use Rattle.asmap_vm.specs.Matches.{match_size, match_bits}
@@ -13,7 +13,7 @@ use Rattle.asmap_vm.specs.declared.instruction.Instruction.TheVariants as instru
 use Rattle.asmap_vm.specs.declared.scan.Before.TheVariants as befores
 use Rattle.asmap_vm.specs.declared.walk.Walk.{Walk}
 use Rattle.asmap_vm.proofs.MatchLaws.{match_size-wanted, match_bits-wanted}
-use Rattle.asmap_vm.proofs.PartLaws.{part_next}
+use Rattle.asmap_vm.proofs.PartLaws.{part_next, has_head}
 use Rattle.asmap_vm.proofs.StepLaws.{Reads}
 use Rattle.bit_code.specs.DigitLaws.{digits_cons}
 use Rattle.asmap_vm.proofs.AddressLaws.{digits_past}
@@ -39,27 +39,21 @@ opened bits address w next i answer reads a =
     record { tree = a.tree; rest = a.rest; sane = a.sane; head_is = sym same.0; tail_is = same.1; room = a.left; gives = a.gives }
 
 module _ (bits : List Bool) (address left default next answer : ℕ) where
-  return_gives : (t : Tree) (n : ℕ) → head t ≡ instructions.Return n → meaning t (digits left address) default ≡ answer → n ≡ answer
-  unfolding meaning
-  return_gives (Return m) n e g = let same : m ≡ n = cc in sym same ∙ g
-  return_gives (Jump l r) n e g = cc
-  return_gives (Match wanted t) n e g = cc
-  return_gives (Default m t) n e g = cc
+  -- the same with another form of the tree
+  as_tree : (i : Instruction) (o : Opened bits address left default next i answer) (t : Tree) → o.tree ≡ t → IsSaneWithin left t × (drop next bits ≡ tail t ++ o.rest) × (meaning t (digits left address) default ≡ answer)
+  as_tree i o t is =
+      (subst (IsSaneWithin left) is o.sane, o.tail_is ∙ ap (λ u. tail u ++ o.rest) is, subst (λ u. meaning u (digits left address) default ≡ answer) is o.gives)
 
   pub return_answers : (n : ℕ) → Opened bits address left default next (instructions.Return n) answer → n ≡ answer
-  return_answers n o = return_gives o.tree n o.head_is o.gives
-
-  default_gives : (t : Tree) (n : ℕ) (rest : List Bool) → head t ≡ instructions.Default n → IsSaneWithin left t → drop next bits ≡ tail t ++ rest → left ≤ 128 → meaning t (digits left address) default ≡ answer → Answers bits address (record { offset = next; left = left; default = n }) answer
-  unfolding meaning IsSaneWithin
-  default_gives (Return m) n rest e sane h room g = cc
-  default_gives (Jump l r) n rest e sane h room g = cc
-  default_gives (Match wanted t) n rest e sane h room g = cc
-  default_gives (Default m t) n rest e sane h room g =
-      let same : m ≡ n = cc in
-      record { tree = t; rest = rest; sane = sane.2; spelled = h; left = room; gives = rw same at g }
+  unfolding meaning
+  return_answers n o = (as_tree _ o (Return n) (has_head o.tree (instructions.Return n) o.head_is)).2
 
   pub default_answers : (n : ℕ) → Opened bits address left default next (instructions.Default n) answer → Answers bits address (record { offset = next; left = left; default = n }) answer
-  default_answers n o = default_gives o.tree n o.rest o.head_is o.sane o.tail_is o.room o.gives
+  unfolding meaning IsSaneWithin
+  default_answers n o =
+      let d = has_head o.tree (instructions.Default n) o.head_is in
+      let t = as_tree _ o (Default n d.0) d.1 in
+      record { tree = d.0; rest = o.rest; sane = t.0.2; spelled = t.1; left = o.room; gives = t.2 }
 
   jump_bits : 0 < left → digits left address ≡ has_bit address (left - 1) ∷ digits (left - 1) address
   jump_bits h = let e : left ≡ suc (left - 1) = omega arith in ap (λ n. digits n address) e ∙ digits_cons (left - 1) address
@@ -71,25 +65,24 @@ module _ (bits : List Bool) (address left default next answer : ℕ) where
     pub zero : has_bit address (left - 1) ≡ false → Answers bits address (record { offset = next; left = left - 1; default = default }) answer
     pub one : has_bit address (left - 1) ≡ true → Answers bits address (record { offset = next + over; left = left - 1; default = default }) answer
 
-  jump_sides : (t : Tree) (over : ℕ) (rest : List Bool) → head t ≡ instructions.Jump over → IsSaneWithin left t → drop next bits ≡ tail t ++ rest → left ≤ 128 → meaning t (digits left address) default ≡ answer → Sides over
-  unfolding meaning IsSaneWithin
-  jump_sides (Return m) over rest e sane h room g = cc
-  jump_sides (Match wanted t) over rest e sane h room g = cc
-  jump_sides (Default m t) over rest e sane h room g = cc
-  jump_sides (Jump l r) over rest e sane h room g =
-      let size : length (code l) ≡ over = cc in
-      let parts : drop next bits ≡ code l ++ (code r ++ rest) = h ∙ append_assoc (code l) (code r) rest in
-      let long : length (drop next bits) ≡ over + length (code r ++ rest) = rw (parts, ← size) (length-append (code l) (code r ++ rest)) in
-      let past : drop (next + over) bits ≡ code r ++ rest = sym (drop-drop over next bits) ∙ (rw (parts, ← size) (drop-append_seam (code l) (code r ++ rest))) in
-      record {
-        taken = sane.0;
-        within = λ inside. omega (arith, long, length-drop next bits);
-        zero = λ b. record { tree = l; rest = code r ++ rest; sane = sane.2; spelled = parts; left = omega arith; gives = rw (jump_bits sane.0, b) at g };
-        one = λ b. record { tree = r; rest = rest; sane = sane.3; spelled = past; left = omega arith; gives = rw (jump_bits sane.0, b) at g };
-      }
-
   pub jump_answers : (over : ℕ) → Opened bits address left default next (instructions.Jump over) answer → Sides over
-  jump_answers over o = jump_sides o.tree over o.rest o.head_is o.sane o.tail_is o.room o.gives
+  unfolding meaning IsSaneWithin
+  jump_answers over o =
+      let j = has_head o.tree (instructions.Jump over) o.head_is in
+      let l = j.0 in
+      let r = j.1 in
+      let size = j.3 in
+      let rest = o.rest in
+      let t = as_tree _ o (Jump l r) j.2 in
+      let parts : drop next bits ≡ code l ++ (code r ++ rest) = t.1 ∙ append_assoc (code l) (code r) rest in
+      let long : length (drop next bits) ≡ over + length (code r ++ rest) = omega (arith, ap length parts, length-append (code l) (code r ++ rest), size) in
+      let past : drop (next + over) bits ≡ code r ++ rest = sym (drop-drop over next bits) ∙ ap (drop over) parts ∙ ap (λ n. drop n (code l ++ (code r ++ rest))) (sym size) ∙ drop-append_seam (code l) (code r ++ rest) in
+      record {
+        taken = t.0.0;
+        within = λ inside. omega (arith, long, length-drop next bits);
+        zero = λ b. record { tree = l; rest = code r ++ rest; sane = t.0.2; spelled = parts; left = omega (arith, o.room); gives = rw (jump_bits t.0.0, b) at t.2 };
+        one = λ b. record { tree = r; rest = rest; sane = t.0.3; spelled = past; left = omega (arith, o.room); gives = rw (jump_bits t.0.0, b) at t.2 };
+      }
 
   -- what a match says of the bits that are left
   pub record Matching (n : ℕ) : Type 0 where
@@ -97,24 +90,20 @@ module _ (bits : List Bool) (address left default next answer : ℕ) where
     pub same : begins_with (digits left address) (match_bits n) ≡ true → Answers bits address (record { offset = next; left = left - match_size n; default = default }) answer
     pub differs : begins_with (digits left address) (match_bits n) ≡ false → default ≡ answer
 
-  match_says : (t : Tree) (n : ℕ) (rest : List Bool) → head t ≡ instructions.Match n → IsSaneWithin left t → drop next bits ≡ tail t ++ rest → left ≤ 128 → meaning t (digits left address) default ≡ answer → Matching n
-  unfolding meaning IsSaneWithin
-  match_says (Return m) n rest e sane h room g = cc
-  match_says (Jump l r) n rest e sane h room g = cc
-  match_says (Default m t) n rest e sane h room g = cc
-  match_says (Match wanted t) n rest e sane h room g =
-      let number : number_of (true ∷ wanted) ≡ n = cc in
-      let size : match_size n ≡ length wanted = rw number at (match_size-wanted wanted sane.0.most) in
-      let want : match_bits n ≡ wanted = rw number at (match_bits-wanted wanted sane.0.most) in
-      let back : drop (length wanted) (digits left address) ≡ digits (left - length wanted) address = digits_past (length wanted) left address sane.1 in
-      record {
-        fits = rw size sane.1;
-        same = λ b. rw size (record { tree = t; rest = rest; sane = sane.2; spelled = h; left = omega arith; gives = rw (rw want at b, back) at g });
-        differs = λ b. rw (rw want at b) at g;
-      }
-
   pub match_answers : (n : ℕ) → Opened bits address left default next (instructions.Match n) answer → Matching n
-  match_answers n o = match_says o.tree n o.rest o.head_is o.sane o.tail_is o.room o.gives
+  unfolding meaning IsSaneWithin
+  match_answers n o =
+      let m = has_head o.tree (instructions.Match n) o.head_is in
+      let wanted = m.0 in
+      let t = as_tree _ o (Match wanted m.1) m.2 in
+      let size : match_size n ≡ length wanted = rw m.3 at (match_size-wanted wanted t.0.0.most) in
+      let want : match_bits n ≡ wanted = rw m.3 at (match_bits-wanted wanted t.0.0.most) in
+      let back : drop (length wanted) (digits left address) ≡ digits (left - length wanted) address = digits_past (length wanted) left address t.0.1 in
+      record {
+        fits = rw size t.0.1;
+        same = λ b. rw size (record { tree = m.1; rest = o.rest; sane = t.0.2; spelled = t.1; left = omega (arith, o.room); gives = rw (rw want at b, back) at t.2 });
+        differs = λ b. rw (rw want at b) at t.2;
+      }
 
 -- the lookup goes on, with the answer ahead that was ahead at first
 pub record IsFollowing (bits : List Bool) (address : ℕ) (w : Walk) : Type 0 where

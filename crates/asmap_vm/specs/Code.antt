@@ -1,7 +1,7 @@
 -- The tree of instructions of an asmap file: its spelling in bits, which trees are sane, and the
 -- number that a tree gives for an address. The rules are those of `Interpret` and `SanityCheckASMap`
 -- in util/asmap.cpp of Bitcoin Core, for 128 address bits.
-use Rattle.std.specs.Prelude.{◌≡◌, ℕ, ◌+◌, ◌-◌, ◌<◌, ◌≤◌, Bool, true, false, List, [], ◌∷◌, ◌++◌, if◌then◌else◌, length, drop, replicate, ⊤}
+use Rattle.std.specs.Prelude.{ℕ, ◌-◌, ◌<◌, ◌≤◌, Bool, true, false, List, [], ◌∷◌, ◌++◌, if◌then◌else◌, length, drop, ⊤}
 use Rattle.bit_code.specs.Coder.{digits, number_of, spelling, HasValue}
 use Rattle.bit_code.specs.Files as files
 use Rattle.bit_code.specs.declared.coder.Coder.TheVariants as coders

@@ -8,4 +8,3 @@ pub mod Walking
 pub mod Held
 pub mod CodedTree
 pub mod Asmap
-pub mod CodeLaws

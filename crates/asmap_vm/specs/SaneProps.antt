@@ -2,8 +2,6 @@
 use Rattle.std.specs.Prelude.{ℕ, ◌-◌, List, length, Bool}
 use Rattle.std.specs.Coded.{Unit-prop, le_prop}
 use Rattle.std.proofs.Props.{props}
-use Rattle.bit_code.specs.Coder.{HasValue}
-use Rattle.bit_code.specs.declared.coder.Coder.{Coder}
 use Rattle.asmap_vm.specs.Code.{Tree, Return, Jump, Match, Default, IsSaneWithin, IsMatch, IsNoShortMatch, TakesDefault, IsSaneFile}
 
 TakesDefault-prop : (t : Tree) → IsProp (TakesDefault t)

@@ -12,10 +12,11 @@ use bit_code::Bits;
 /// The most bytes that a file may have.
 const MAX_BYTES: usize = 8_388_608;
 
-/// Checks that the bytes are the file of a sane tree. The rules are those of `SanityCheckASMap` in
-/// `util/asmap.cpp` of Bitcoin Core for 128 address bits. The limit on the size is our own.
+/// Checks that the bytes are the file of a sane tree, and returns them as one to look addresses up
+/// in. The rules are those of `SanityCheckASMap` in `util/asmap.cpp` of Bitcoin Core for 128
+/// address bits. The limit on the size is our own.
 pub fn check(code: &[u8]) -> Result<Sane<'_>, CodeFault>
-    // What is accepted is the file of a sane tree, and the value holds its bytes.
+    // What is accepted is the file of a sane tree, and the value has its bytes.
     ensures sane { IfOk result (λ s. (bytes_held s ≡ code.now) × (length code.now ≤ MAX_BYTES)
         × IsSaneFile (tree_held s) code.now) }
 

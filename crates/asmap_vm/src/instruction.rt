@@ -17,8 +17,8 @@ pub(crate) enum Instruction {
     Default(u32),
 }
 
-/// Reads the instruction at an offset in bits. Gives it and the offset after it, None if the file ends
-/// within it.
+/// Reads the instruction at offset `at` in bits. Returns it and the offset after it, or `None` if
+/// the file ends within it.
 #[inline(always)]
 pub(crate) fn read_instruction(bits: &Bits<'_>, at: usize) -> Option<(Instruction, usize)>
     requires { at ≤ length bits.now }
@@ -32,7 +32,7 @@ pub(crate) fn read_instruction(bits: &Bits<'_>, at: usize) -> Option<(Instructio
     Some((instruction_at(read.kind, read.number), read.end))
 }
 
-/// The instruction of this kind with this number.
+/// Returns the instruction of this kind with this number.
 #[inline(always)]
 fn instruction_at(kind: u32, number: u32) -> Instruction
     ensures { result ≡ instruction_at kind number }

@@ -1,4 +1,5 @@
-//! The asmap file of Bitcoin Core: its sanity check and the lookup of an address (`util/asmap.cpp`).
+//! The asmap file of Bitcoin Core: its sanity check and the lookup of an address
+//! (`util/asmap.cpp`).
 #![tactic(auto)]
 
 mod checking;

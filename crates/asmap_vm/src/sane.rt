@@ -6,7 +6,7 @@ ghost use Rattle.asmap_vm.specs.SaneProps.{IsSaneFile-prop};
 use crate::walk::Walk;
 use bit_code::Bits;
 
-/// The bytes of a sane file, which `check` gives.
+/// The bytes of a sane file, as `check` returns them.
 #[derive(Clone, Copy, Debug)]
 pub struct Sane<'a> {
     pub(crate) code: &'a [u8],
@@ -19,15 +19,16 @@ impl<'a> Sane<'a> {
     ghost use Rattle.asmap_vm.specs.Code.{asn_of};
     ghost use Rattle.asmap_vm.specs.Held.{bytes_held, tree_held};
 
-    /// The number of the autonomous system that the file gives for an address, or 0. The address is
-    /// read from its high bit on. This is `Interpret` of `util/asmap.cpp` in Bitcoin Core.
+    /// Returns the number of the autonomous system that the file gives for `address`, or 0 if it
+    /// gives none. The address is read from its high bit on. This is `Interpret` of
+    /// `util/asmap.cpp` in Bitcoin Core.
     pub fn asn(&self, address: u128) -> u32
         ensures { result ≡ asn_of (tree_held self.now) address }
     {
         Walk::follow(&Bits::of(self.code), address)
     }
 
-    /// The bytes of the file.
+    /// Returns the bytes of the file.
     pub fn code(&self) -> &'a [u8]
         ensures { result.now ≡ bytes_held self.now }
     {

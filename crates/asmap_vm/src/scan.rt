@@ -1,4 +1,4 @@
-ghost use Rattle.std.specs.Prelude.{◌≡◌, ℕ, ◌+◌, ◌-◌, ◌^◌, ◌<◌, ◌≤◌, ◌↔◌, ◌≢◌, [], ◌∷◌, IsTrue, length, drop, if◌then◌else◌, nat_lt};
+ghost use Rattle.std.specs.Prelude.{◌≡◌, ℕ, ◌+◌, ◌-◌, ◌^◌, ◌<◌, ◌≤◌, ◌↔◌, ◌≢◌, [], ◌∷◌, true, false, IsTrue, length, drop, if◌then◌else◌, nat_lt};
 ghost use Rattle.asmap_vm.specs.declared.stack.RightPart.{RightPart};
 ghost use Rattle.asmap_vm.specs.Matches.{match_size};
 ghost use Rattle.asmap_vm.specs.Scanning.{Completes, IsUnderWay, IsPadding, IsStuck, Advances, after_match, start};
@@ -19,7 +19,7 @@ pub(crate) enum Before {
 }
 
 impl Before {
-    /// Whether it is a default.
+    /// Returns whether it is a default.
     fn is_default(self) -> bool
         ensures { IsTrue result ↔ (self ≡ Before.Default) }
     {
@@ -51,7 +51,7 @@ pub(crate) enum Step {
     Insane,
 }
 
-/// The number of address bits that a match with this number compares.
+/// Returns the number of address bits that a match with this number compares.
 #[inline]
 pub(crate) fn match_size(number: u32) -> u8
     requires low { 2 ≤ number }
@@ -63,7 +63,7 @@ pub(crate) fn match_size(number: u32) -> u8
     (31 - number.leading_zeros()) as u8
 }
 
-/// What a match of this many bits is to the part after it.
+/// Returns what a match of this many bits is to the part after it.
 fn after_match(size: u8) -> Before
     ensures { result ≡ after_match size }
 {
@@ -74,12 +74,20 @@ fn after_match(size: u8) -> Before
     }
 }
 
-/// Whether the bits from an offset on are padding: at most seven, all zero.
+/// Returns whether there are few enough bits for padding, which ends within a byte.
+fn is_few(count: usize) -> bool
+    ensures few { result ≡ true → count ≤ 7 }
+    ensures many { result ≡ false → 7 < count }
+{
+    count <= 7
+}
+
+/// Returns whether the bits from an offset on are padding: at most seven, all zero.
 fn is_padding(bits: &Bits<'_>, at: usize) -> bool
     requires { at ≤ length bits.now }
     ensures { IsTrue result ↔ IsPadding (drop at bits.now) }
 {
-    if bits.len() - at > 7 {
+    if !is_few(bits.len() - at) {
         return false;
     }
     for offset in at..bits.len() {
@@ -90,7 +98,7 @@ fn is_padding(bits: &Bits<'_>, at: usize) -> bool
     true
 }
 
-/// The file goes on, or it is that of no sane tree.
+/// Returns that the file goes on, or that it is that of no sane tree.
 fn more_if(may_go_on: bool) -> Step
     ensures { result ≡ (if may_go_on then Step.More else Step.Insane) }
 {
@@ -98,7 +106,7 @@ fn more_if(may_go_on: bool) -> Step
 }
 
 impl Scan {
-    /// Before the first instruction.
+    /// Starts before the first instruction.
     fn start() -> Scan
         ensures { result ≡ start }
     {
@@ -110,7 +118,7 @@ impl Scan {
         }
     }
 
-    /// Goes on with the left part of a jump.
+    /// Goes on with the left part of a jump. Returns `false` if no address bit is left for it.
     fn jump(&mut self, over: u32) -> bool
         requires open_jumps { self.old.left + length self.old.pending ≤ 128 }
         requires offset { self.old.offset < 2 ^ 32 }
@@ -135,7 +143,7 @@ impl Scan {
         true
     }
 
-    /// Goes on with the part after a match.
+    /// Goes on with the part after a match. Returns `false` if no sane tree has the match here.
     fn match_bits(&mut self, number: u32) -> bool
         requires low { 2 ≤ number }
         requires high { number < 512 }
@@ -212,7 +220,7 @@ impl Scan {
         }
     }
 
-    /// Goes on with the part after a default.
+    /// Goes on with the part after a default. Returns `false` right after another default.
     fn set_default(&mut self) -> bool
         ensures answer { IsTrue result ↔ (self.old.before ≢ Before.Default) }
         ensures part { IsTrue result → self.new ≡ record self.old { before = Before.Default } }
@@ -224,7 +232,7 @@ impl Scan {
         true
     }
 
-    /// Whether the bits are the code of a sane tree and padding, in one pass over them.
+    /// Returns whether the bits are the code of a sane tree and padding, in one pass over them.
     pub fn is_sane(bits: &Bits<'_>) -> bool
         requires { length bits.now < 2 ^ 32 }
         ensures { IsTrue result ↔ Completes bits.now start }

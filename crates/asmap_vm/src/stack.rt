@@ -35,7 +35,7 @@ impl Model for RightParts {
 }
 
 impl RightParts {
-    /// No right parts.
+    /// Makes an empty list.
     pub fn new() -> RightParts
         ensures { result ≡ [] }
     {
@@ -54,7 +54,7 @@ impl RightParts {
         self.len += 1;
     }
 
-    /// Takes the first right part, if there is one.
+    /// Removes the first right part and returns it, or `None` if there is none.
     pub fn pop(&mut self) -> Option<RightPart>
         ensures { MatchOption result ((self.old ≡ []) × (self.new ≡ []))
             (λ part. self.old ≡ part ∷ self.new) }

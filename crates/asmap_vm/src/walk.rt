@@ -19,7 +19,7 @@ pub(crate) struct Walk {
     pub default: u32,
 }
 
-/// Whether a bit of the address is one, counted from the low one.
+/// Returns whether bit `k` of the address, counted from the low one, is one.
 #[inline]
 fn has_bit(address: u128, k: u8) -> bool
     requires { k < 128 }
@@ -28,7 +28,7 @@ fn has_bit(address: u128, k: u8) -> bool
     (address >> k) & 1 == 1
 }
 
-/// Whether the address bits above the `left` lowest begin with the bits of a match.
+/// Returns whether the address bits above the `left` lowest begin with the bits of a match.
 #[inline]
 fn is_matched(address: u128, left: u8, number: u32) -> bool
     requires low { 2 ≤ number }
@@ -42,7 +42,7 @@ fn is_matched(address: u128, left: u8, number: u32) -> bool
 }
 
 impl Walk {
-    /// Follows one instruction, and gives the answer if it ends there.
+    /// Follows one instruction, and returns the answer if it ends there.
     fn step(&mut self, bits: &Bits<'_>, address: u128) -> Option<u32>
         requires size { length bits.now < 2 ^ 32 }
         requires offset { self.old.offset ≤ length bits.now }
@@ -75,7 +75,7 @@ impl Walk {
         None
     }
 
-    /// Follows an address to its answer.
+    /// Follows an address to its answer, and returns that.
     pub fn follow(bits: &Bits<'_>, address: u128) -> u32
         requires size { length bits.now < 2 ^ 32 }
         requires ahead { (answer : ℕ) × Answers bits.now address set_out answer }

@@ -1,4 +1,4 @@
-use Rattle.std.proofs.Common.{◌≡◌, true, sym, refl, ap, ◌∙◌, length, arith}
+use Rattle.std.proofs.Common.{◌≡◌, true, sym, refl, ◌∙◌, arith}
 use Rattle.asmap_vm.proofs.TreeLaws.{tree_of-file}
 use Rattle.asmap_vm.proofs.FileLaws.{sound_file, complete_file}
 use Rattle.asmap_vm.proofs.checking.check.Goals as goal

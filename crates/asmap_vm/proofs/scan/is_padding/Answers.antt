@@ -1,4 +1,4 @@
-use Rattle.std.proofs.Common.{arith, refl}
+use Rattle.std.proofs.Common.{◌≤◌, ◌-◌, length, arith, refl}
 use Rattle.asmap_vm.proofs.PaddingLaws.{zeros_none, zeros_more, zeros_all, not_zeros}
 use Rattle.asmap_vm.proofs.scan.is_padding.Goals as goal
 
@@ -15,4 +15,5 @@ loop-offset-preserved c =
 
 pub returns : goal.returns
 returns c =
-    (λ _. zeros_all c.args.bits.now c.args.at c.loop-offset.offset c.requires (omega arith) (omega arith) (omega arith) c.loop-offset.invariant, λ _. refl)
+    let few : length c.args.bits.now - c.args.at ≤ 7 = omega (arith, c.is_few.ensures.few c.if-not-is_few.false, c.len.ensures) in
+    (λ _. zeros_all c.args.bits.now c.args.at c.loop-offset.offset c.requires few (omega arith) (omega arith) c.loop-offset.invariant, λ _. refl)

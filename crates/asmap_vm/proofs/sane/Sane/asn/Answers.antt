@@ -1,4 +1,4 @@
-use Rattle.std.proofs.Common.{arith, ap, length}
+use Rattle.std.proofs.Common.{arith}
 use Rattle.asmap_vm.specs.Code.{asn_of}
 use Rattle.asmap_vm.specs.Held.{tree_held}
 use Rattle.asmap_vm.proofs.WalkLaws.{sane_ahead}
