@@ -1,10 +1,9 @@
 -- A row is a prefix of an address if its path is a prefix of the address bits.
-use Rattle.std.proofs.Common.{◌≡◌, ℕ, zero, suc, ◌+◌, ◌-◌, ◌/◌, ◌%◌, ◌^◌, ◌<◌, ◌≤◌, true, List, ◌∷◌, ◌++◌, length, take, refl, ap, sym, ◌∙◌, arith, eqb, eq-eqb}
+use Rattle.std.proofs.Common.{◌≡◌, ℕ, ◌+◌, ◌-◌, ◌^◌, ◌<◌, ◌≤◌, true, List, ◌++◌, length, take, ap, sym, ◌∙◌, arith, eq-eqb}
 use Rattle.std.specs.Option.{option_map_or}
-use Rattle.std.proofs.lemmas.Nat.{shr-shr}
 use Rattle.std.proofs.lemmas.List.{take_at}
 use Rattle.std.proofs.lemmas.Bool.{eqb-true}
-use Rattle.bit_code.specs.Coder.{has_bit, digits, number_of}
+use Rattle.bit_code.specs.Coder.{digits, number_of}
 use Rattle.bit_code.specs.DigitLaws.{length-digits, digits_above, number_of-digits}
 use Rattle.asmap_vm.specs.Code.{begins_with}
 use Rattle.prefix_table.specs.declared.row.Row.{Row}

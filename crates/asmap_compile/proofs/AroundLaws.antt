@@ -26,9 +26,6 @@ pub record IsAround (rows : List Row) (i : ℕ) (around : List Row) : Type 0 whe
   pub off : (j : ℕ) (d : Row) → j < i → ((k : ℕ) × (k < length around) × (get_or around k d ≡ get_or rows j d))
       ⊎ ((m : ℕ) → i ≤ m → m < length rows → covers (get_or rows j d) (get_or rows m d).bits ≡ false)
 
-table_row : (rows : List Row) → IsTable rows → (i : ℕ) (d : Row) → i < length rows → IsRow (get_or rows i d)
-table_row rows is i d low = is.each i d low
-
 -- a row that covers a later one is shorter
 address_path : (b : Row) → IsRow b → digits 128 b.bits ≡ path b ++ digits (128 - b.len) b.bits
 unfolding path
@@ -56,13 +53,6 @@ covers_later a b c low high off =
     let bc = div-le-div b.bits c.bits (2 ^ (128 - a.len)) p high in
     let other = eqb-false (first_bits a.len b.bits) (first_bits a.len a.bits) off in
     ne_eqb (first_bits a.len c.bits) (first_bits a.len a.bits) (λ same. other (omega (arith, ab, bc, same)))
-
-pub around_start : (rows : List Row) → IsAround rows 0 []
-around_start rows = record {
-  there = λ k d low. absurd (omega arith);
-  grows = λ a b d less low. absurd (omega arith);
-  off = λ j d low. absurd (omega arith);
-}
 
 -- the rows that are left for the next one
 pub record IsLeft (around : List Row) (address count : ℕ) : Type 0 where

@@ -48,25 +48,28 @@ child_part table p left part depth above default is side sub e goes =
       none = λ zero_after. is.none (number_stays kept are p (side ∷ []) zero_after);
     }
 
-point_low : (test : Row → Bool) (xs : List Row) (n : ℕ) → ((k : ℕ) (d : Row) → k < n → k < length xs → test (get_or xs k d) ≡ true) → ((k : ℕ) (d : Row) → n ≤ k → k < length xs → test (get_or xs k d) ≡ false) → filter test xs ≡ take n xs
-point_low test [] zero low high = refl
-point_low test [] (suc n) low high = refl
-point_low test (x ∷ xs) zero low high =
-    ap (λ b. cond b (x ∷ filter test xs) (filter test xs)) (high 0 x (omega arith) (omega arith))
-    ∙ point_low test xs zero (λ k d less fits. absurd (omega arith)) (λ k d more fits. high (suc k) d (omega arith) (omega arith))
-point_low test (x ∷ xs) (suc n) low high =
-    ap (λ b. cond b (x ∷ filter test xs) (filter test xs)) (low 0 x (omega arith) (omega arith))
-    ∙ ap (λ ys. x ∷ ys) (point_low test xs n (λ k d less fits. low (suc k) d (omega arith) (omega arith)) (λ k d more fits. high (suc k) d (omega arith) (omega arith)))
+-- the rows of a side of a point: those before it, or those from it on
+abbrev pub side_of : Bool → ℕ → List Row → List Row
+side_of false n rows = take n rows
+side_of true n rows = drop n rows
 
-point_high : (test : Row → Bool) (xs : List Row) (n : ℕ) → ((k : ℕ) (d : Row) → k < n → k < length xs → test (get_or xs k d) ≡ false) → ((k : ℕ) (d : Row) → n ≤ k → k < length xs → test (get_or xs k d) ≡ true) → filter test xs ≡ drop n xs
-point_high test [] zero low high = refl
-point_high test [] (suc n) low high = refl
-point_high test (x ∷ xs) zero low high =
+point_side : (test : Row → Bool) (xs : List Row) (n : ℕ) (side : Bool) → ((k : ℕ) (d : Row) → k < n → k < length xs → test (get_or xs k d) ≡ not side) → ((k : ℕ) (d : Row) → n ≤ k → k < length xs → test (get_or xs k d) ≡ side) → filter test xs ≡ side_of side n xs
+point_side test [] zero false low high = refl
+point_side test [] zero true low high = refl
+point_side test [] (suc n) false low high = refl
+point_side test [] (suc n) true low high = refl
+point_side test (x ∷ xs) zero false low high =
     ap (λ b. cond b (x ∷ filter test xs) (filter test xs)) (high 0 x (omega arith) (omega arith))
-    ∙ ap (λ ys. x ∷ ys) (point_high test xs zero (λ k d less fits. absurd (omega arith)) (λ k d more fits. high (suc k) d (omega arith) (omega arith)))
-point_high test (x ∷ xs) (suc n) low high =
+    ∙ point_side test xs zero false (λ k d less fits. absurd (omega arith)) (λ k d more fits. high (suc k) d (omega arith) (omega arith))
+point_side test (x ∷ xs) zero true low high =
+    ap (λ b. cond b (x ∷ filter test xs) (filter test xs)) (high 0 x (omega arith) (omega arith))
+    ∙ ap (λ ys. x ∷ ys) (point_side test xs zero true (λ k d less fits. absurd (omega arith)) (λ k d more fits. high (suc k) d (omega arith) (omega arith)))
+point_side test (x ∷ xs) (suc n) false low high =
     ap (λ b. cond b (x ∷ filter test xs) (filter test xs)) (low 0 x (omega arith) (omega arith))
-    ∙ point_high test xs n (λ k d less fits. low (suc k) d (omega arith) (omega arith)) (λ k d more fits. high (suc k) d (omega arith) (omega arith))
+    ∙ ap (λ ys. x ∷ ys) (point_side test xs n false (λ k d less fits. low (suc k) d (omega arith) (omega arith)) (λ k d more fits. high (suc k) d (omega arith) (omega arith)))
+point_side test (x ∷ xs) (suc n) true low high =
+    ap (λ b. cond b (x ∷ filter test xs) (filter test xs)) (low 0 x (omega arith) (omega arith))
+    ∙ point_side test xs n true (λ k d less fits. low (suc k) d (omega arith) (omega arith)) (λ k d more fits. high (suc k) d (omega arith) (omega arith))
 
 -- the rows that go on through a side, among those that are longer
 side_rows : (table : List Row) (p : List Bool) (rows : List Row) → AreLonger table p rows → (side : Bool) →
@@ -79,36 +82,22 @@ side_rows table p rows l side =
     (λ row has. same_tests (longer row && test row) (test row) (λ h. (and_parts (longer row) (test row) h).1)
     (λ h. and_from (longer row) (test row) (and_from (begins_with (path row) p) (nat_lt (length p) row.len) (begins_start (path row) p (side ∷ []) h) (lt-ltb (length p) row.len (side_long p side row h))) h))
 
-not_self : (b : Bool) → b ≡ not b → ⊥
-not_self true e = false_true e refl
-not_self false e = false_true refl e
-
 -- which side a row goes on through
-row_side : (table : List Row) (p : List Bool) (row : Row) → LongRow table p row → (side : Bool) → bit_of row.bits (length p) ≡ side → begins_with (path row) (p ++ side ∷ []) ≡ true
-row_side table p row r side e = subst (λ b. begins_with (path row) (p ++ b ∷ []) ≡ true) e (long_side table p row r)
+row_side : (table : List Row) (p : List Bool) (row : Row) → LongRow table p row → (side bit : Bool) → bit_of row.bits (length p) ≡ bit → begins_with (path row) (p ++ side ∷ []) ≡ cond bit side (not side)
+row_side table p row r true true e = subst (λ b. begins_with (path row) (p ++ b ∷ []) ≡ true) e (long_side table p row r)
+row_side table p row r false false e = subst (λ b. begins_with (path row) (p ++ b ∷ []) ≡ true) e (long_side table p row r)
+row_side table p row r true false e = false_from_ne_true (begins_with (path row) (p ++ true ∷ [])) (λ h. false_true e (side_is table p row true r h))
+row_side table p row r false true e = false_from_ne_true (begins_with (path row) (p ++ false ∷ [])) (λ h. false_true (side_is table p row false r h) e)
 
-off_side : (table : List Row) (p : List Bool) (row : Row) → LongRow table p row → (side : Bool) → bit_of row.bits (length p) ≡ not side → begins_with (path row) (p ++ side ∷ []) ≡ false
-off_side table p row r side e = false_from_ne_true (begins_with (path row) (p ++ side ∷ [])) (λ h. not_self side (sym (side_is table p row side r h) ∙ e))
-
-pub low_rows : (table : List Row) (p : List Bool) (rows : List Row) → AreLonger table p rows → (n : ℕ) → n ≤ length rows →
+pub rows_of_side : (table : List Row) (p : List Bool) (rows : List Row) → AreLonger table p rows → (n : ℕ) → n ≤ length rows →
     IsPartitionPoint (λ row. is_low (length p) row ≡ true) (λ row. is_low (length p) row ≡ false) rows n →
-    take n rows ≡ filter (λ row. begins_with (path row) (p ++ false ∷ [])) (rows_kept table)
-low_rows table p rows l n fits point =
+    (side : Bool) → side_of side n rows ≡ filter (λ row. begins_with (path row) (p ++ side ∷ [])) (rows_kept table)
+rows_of_side table p rows l n fits point side =
     sym
-    (point_low (λ row. begins_with (path row) (p ++ false ∷ [])) rows n
-    (λ k d less low. row_side table p (get_or rows k d) (longer_at table p rows l k d low) false (not-true (bit_of (get_or rows k d).bits (length p)) (point.0 k d (omega arith) less)))
-    (λ k d more low. off_side table p (get_or rows k d) (longer_at table p rows l k d low) false (not-false (bit_of (get_or rows k d).bits (length p)) (point.1 k d more low))))
-    ∙ side_rows table p rows l false
-
-pub high_rows : (table : List Row) (p : List Bool) (rows : List Row) → AreLonger table p rows → (n : ℕ) → n ≤ length rows →
-    IsPartitionPoint (λ row. is_low (length p) row ≡ true) (λ row. is_low (length p) row ≡ false) rows n →
-    drop n rows ≡ filter (λ row. begins_with (path row) (p ++ true ∷ [])) (rows_kept table)
-high_rows table p rows l n fits point =
-    sym
-    (point_high (λ row. begins_with (path row) (p ++ true ∷ [])) rows n
-    (λ k d less low. off_side table p (get_or rows k d) (longer_at table p rows l k d low) true (not-true (bit_of (get_or rows k d).bits (length p)) (point.0 k d (omega arith) less)))
-    (λ k d more low. row_side table p (get_or rows k d) (longer_at table p rows l k d low) true (not-false (bit_of (get_or rows k d).bits (length p)) (point.1 k d more low))))
-    ∙ side_rows table p rows l true
+    (point_side (λ row. begins_with (path row) (p ++ side ∷ [])) rows n side
+    (λ k d less low. row_side table p (get_or rows k d) (longer_at table p rows l k d low) side false (not-true (bit_of (get_or rows k d).bits (length p)) (point.0 k d (omega arith) less)))
+    (λ k d more low. row_side table p (get_or rows k d) (longer_at table p rows l k d low) side true (not-false (bit_of (get_or rows k d).bits (length p)) (point.1 k d more low))))
+    ∙ side_rows table p rows l side
 
 -- the number at the end of a way at which no row ends
 way_number : (rows : List Row) (p bits : List Bool) → IsWay rows p bits → is_row rows (p ++ bits) ≡ false → number_at rows (p ++ bits) ≡ number_at rows p

@@ -87,12 +87,6 @@ begun_start row p top h =
     let d = begins_cut (path row) (start (length p) row.bits) (start_begins row (length p) top low) in
     sym (take_at p c.rest (length p) refl) ∙ ap (take (length p)) (sym c.is ∙ d.is) ∙ take_at (start (length p) row.bits) d.rest (length p) (between_long row.bits 0 (length p) ∙ (let e : length p - 0 ≡ length p = omega arith in e))
 
--- fewer first bits in common
-pub fewer_first : (m n a b : ℕ) → m ≤ n → n ≤ 128 → first_bits n a ≡ first_bits n b → first_bits m a ≡ first_bits m b
-fewer_first m n a b low top e =
-    let k : (128 - n) + (n - m) ≡ 128 - m = omega arith in
-    ap (λ j. a / 2 ^ j) (sym k) ∙ sym (shr-shr a (128 - n) (n - m)) ∙ ap (λ x. x / 2 ^ (n - m)) e ∙ shr-shr b (128 - n) (n - m) ∙ ap (λ j. b / 2 ^ j) k
-
 -- the next bit, as what is left over of one more first bit
 pub next_first : (k bits : ℕ) → k < 128 → first_bits (k + 1) bits / 2 ≡ first_bits k bits
 next_first k bits low =

@@ -10,7 +10,7 @@ use Rattle.prefix_table.specs.declared.row.Row.{Row}
 use Rattle.prefix_table.specs.Rows.{first_bits}
 use Rattle.asmap_compile.specs.Compiled.{number_at, rows_kept, Forked, onward, matches, under_default, tree_at}
 use Rattle.asmap_compile.specs.Inside.{bits_between, bit_of, is_low, IsPart, IsLonger}
-use Rattle.asmap_compile.proofs.ChildLaws.{child_part, low_rows, high_rows, way_part, part_end, end_value, part_way, part_value}
+use Rattle.asmap_compile.proofs.ChildLaws.{child_part, rows_of_side, way_part, part_end, end_value, part_way, part_value}
 use Rattle.asmap_compile.proofs.StopLaws.{Stops, way_of, stop_after}
 use Rattle.asmap_compile.proofs.TurnLaws.{AreLonger, longer_at, longer_rises, rows_le, low_first, ends_fork}
 use Rattle.asmap_compile.proofs.Ways.{fork_sides}
@@ -56,7 +56,7 @@ facts_low table p left part depth above default number rows f fork n fits point 
     let l = facts_longer table p left part depth above default number rows f in
     let at = subst (λ k. IsMiddle k rows n) (sym f.is.long) point in
     subst (λ m. IsPart table (p ++ false ∷ []) (left - 1) (take n rows) (depth + 1) m default) (sym f.number_is)
-    (child_part table p left part depth above default f.is false (take n rows) (low_rows table p rows l n fits at) (fork_sides (rows_kept table) p fork false))
+    (child_part table p left part depth above default f.is false (take n rows) (rows_of_side table p rows l n fits at false) (fork_sides (rows_kept table) p fork false))
 
 pub facts_high : (table : List Row) (p : List Bool) (left : ℕ) (part : List Row) (depth above default number : ℕ) (rows : List Row) → Facts table p left part depth above default number rows →
     onward (rows_kept table) p ≡ Forked → (n : ℕ) → n ≤ length rows → IsMiddle depth rows n → IsPart table (p ++ true ∷ []) (left - 1) (take (length rows - n) (drop n rows)) (depth + 1) number default
@@ -64,7 +64,7 @@ facts_high table p left part depth above default number rows f fork n fits point
     let l = facts_longer table p left part depth above default number rows f in
     let at = subst (λ k. IsMiddle k rows n) (sym f.is.long) point in
     subst (λ m. IsPart table (p ++ true ∷ []) (left - 1) (take (length rows - n) (drop n rows)) (depth + 1) m default) (sym f.number_is)
-    (child_part table p left part depth above default f.is true (take (length rows - n) (drop n rows)) (take_rest rows n ∙ high_rows table p rows l n fits at) (fork_sides (rows_kept table) p fork true))
+    (child_part table p left part depth above default f.is true (take (length rows - n) (drop n rows)) (take_rest rows n ∙ rows_of_side table p rows l n fits at true) (fork_sides (rows_kept table) p fork true))
 
 -- the first and the last row go on through the same side
 pub facts_stops : (table : List Row) (p : List Bool) (left : ℕ) (part : List Row) (depth above default number : ℕ) (rows : List Row) → Facts table p left part depth above default number rows → 0 < length rows →

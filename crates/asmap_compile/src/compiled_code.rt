@@ -18,14 +18,14 @@ impl Model for Compiled {
 impl Compiled {
     ghost use Rattle.std.specs.Prelude.{◌≡◌};
 
-    /// The bytes of the file.
+    /// Returns the bytes of the file.
     pub fn code(&self) -> &[u8]
         ensures { result.now ≡ self.now.bytes }
     {
         self.bytes.as_slice()
     }
 
-    /// How many bits the code has, without the zero-bits after it.
+    /// Returns how many bits the code has, without the zero-bits after it.
     pub fn bits(&self) -> u64
         ensures { result ≡ self.now.bits }
     {

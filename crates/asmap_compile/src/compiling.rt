@@ -13,10 +13,12 @@ use bit_code::BitFront;
 use prefix_table::Table;
 use std::alloc::Global;
 
-/// The most bits that a code may have: those of 8,388,608 bytes.
+/// The most bits that a code may have: those of 8,388,608 bytes, the most that `check` of asmap_vm
+/// accepts.
 pub const MAX_BITS: u64 = 67_108_864;
 
-/// Compiles a table into an asmap file, which gives each address the AS number of its longest match.
+/// Compiles a table into an asmap file, which gives each address the AS number of its longest
+/// match. Returns the file and the number of bits of its code.
 pub fn compile(alloc: Global, table: &Table) -> Result<Compiled, CompileFault>
     // The file is that of the compiled tree, which is sane.
     ensures sane { IfOk result (λ file. IsSaneFile (compiled table.now) file.bytes) }

@@ -55,7 +55,7 @@ fn put_match(out: &mut BitFront, bits: u128, from: u8, to: u8) -> Result<(), Mem
     put_instruction(out, 2, Coder::Match, match_number(bits, from, to))
 }
 
-/// The number of a match of these bits: their digits after a leading one.
+/// Returns the number of a match of these bits: their digits after a leading one.
 fn match_number(bits: u128, from: u8, to: u8) -> u32
     requires some { from < to }
     requires few { to ≤ from + 8 }

@@ -6,7 +6,7 @@ ghost use Rattle.asmap_compile.specs.Compiled.{rows_kept};
 use prefix_table::Row;
 use std::alloc::{AllocError, Global};
 
-/// The first `len` bits, as a number.
+/// Returns the first `len` bits as a number.
 fn first_bits(bits: u128, len: u8) -> u128
     requires { len ≤ 128 }
     ensures { result ≡ first_bits len bits }
@@ -14,7 +14,7 @@ fn first_bits(bits: u128, len: u8) -> u128
     if len == 0 { 0 } else { bits >> (128 - len) }
 }
 
-/// Whether the row is a prefix of the address.
+/// Returns whether the row is a prefix of the address.
 fn covers(row: &Row, address: u128) -> bool
     requires { row.now.len ≤ 128 }
     ensures { result ≡ covers row.now address }
@@ -22,7 +22,7 @@ fn covers(row: &Row, address: u128) -> bool
     first_bits(address, row.len) == first_bits(row.bits, row.len)
 }
 
-/// How many rows are left without those at the end that are no prefix of the address.
+/// Returns how many rows are left without those at the end that are no prefix of the address.
 fn count_around(rows: &[Row], address: u128) -> usize
     requires { (k : ℕ) (d : Row) → k < length rows.now → (slice_index_or rows.now k d).len ≤ 128 }
     ensures bound { result ≤ length rows.now }
@@ -38,7 +38,7 @@ fn count_around(rows: &[Row], address: u128) -> usize
     count
 }
 
-/// The AS number of the last row, or 0.
+/// Returns the AS number of the last row, or 0 if there is no row.
 fn last_asn(rows: &[Row]) -> u32
     ensures none { length rows.now ≡ 0 → result ≡ 0 }
     ensures some { (d : Row) → 0 < length rows.now
@@ -50,8 +50,8 @@ fn last_asn(rows: &[Row]) -> u32
     }
 }
 
-/// The rows that stay in the asmap, in one pass. Of the rows before the next one, `around` has
-/// those that may be a prefix of it or of a later one, the longest last.
+/// Returns the rows that stay in the asmap, in one pass. Of the rows before the next one, `around`
+/// has those that may be a prefix of it or of a later one, the longest last.
 pub(crate) fn kept_of(alloc: Global, rows: &[Row]) -> Result<Vec<Row>, AllocError>
     requires { IsTable rows.now }
     ensures { IfOk result (λ kept. kept.items ≡ rows_kept rows.now) }

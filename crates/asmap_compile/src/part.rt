@@ -1,14 +1,13 @@
-ghost use Rattle.std.specs.Prelude.{◌≡◌, ℕ, ◌<◌, ◌≤◌, ◌↔◌, Bool, true, false, List, length};
+ghost use Rattle.std.specs.Prelude.{◌≡◌, ℕ, ◌<◌, ◌≤◌, Bool, true, false, List, length};
 ghost use Rattle.std.specs.List.Sorted.{IsPartitionPoint, IsPartitionedBy};
 ghost use Rattle.bit_code.specs.Coder.{has_bit};
-ghost use Rattle.prefix_table.specs.Rows.{first_bits};
 ghost use Rattle.prefix_table.specs.declared.row.Row.{Row};
 ghost use Rattle.asmap_compile.specs.Compiled.{number_at, rows_kept};
 ghost use Rattle.asmap_compile.specs.Inside.{IsPart, IsLonger, bit_of, is_low};
 
 use prefix_table::Row;
 
-/// The number of the path that all rows of a part begin with.
+/// Returns the number of the path that all rows of a part begin with.
 pub(crate) fn number_of_path(part: &[Row], depth: u8, above: u32) -> u32
     requires { 0 < length part.now }
     ensures { (table : List Row) (p : List Bool) (left default : ℕ)
@@ -22,7 +21,7 @@ pub(crate) fn number_of_path(part: &[Row], depth: u8, above: u32) -> u32
     }
 }
 
-/// The rows of a part that are longer than the path.
+/// Returns the rows of a part that are longer than the path.
 pub(crate) fn longer_rows<'a>(part: &'a [Row], depth: u8) -> &'a [Row]
     requires { 0 < length part.now }
     ensures { (table : List Row) (p : List Bool) (left above default : ℕ)
@@ -35,7 +34,7 @@ pub(crate) fn longer_rows<'a>(part: &'a [Row], depth: u8) -> &'a [Row]
     }
 }
 
-/// The address bit after the first `depth` ones.
+/// Returns the address bit after the first `depth` bits.
 pub(crate) fn bit_of(bits: u128, depth: u8) -> bool
     requires { depth < 128 }
     ensures { result ≡ bit_of bits depth }
@@ -43,7 +42,7 @@ pub(crate) fn bit_of(bits: u128, depth: u8) -> bool
     (bits >> (127 - depth)) & 1 == 1
 }
 
-/// How many rows have a zero-bit after the first `depth` ones: these come first.
+/// Returns how many rows have a zero-bit after the first `depth` bits. These come first.
 pub(crate) fn middle_of(rows: &[Row], depth: u8) -> usize
     requires depth { depth < 128 }
     requires sides { IsPartitionedBy (is_low depth) rows.now }
@@ -52,13 +51,4 @@ pub(crate) fn middle_of(rows: &[Row], depth: u8) -> usize
         (λ row. is_low depth row ≡ false) rows.now result }
 {
     rows.partition_point(|row| !bit_of(row.bits, depth))
-}
-
-/// How many bits two addresses begin with in common.
-pub(crate) fn common_bits(a: u128, b: u128) -> u8
-    ensures most { result ≤ 128 }
-    ensures common { (len : ℕ) → len ≤ 128
-        → (first_bits len a ≡ first_bits len b) ↔ (len ≤ result) }
-{
-    (a ^ b).leading_zeros() as u8
 }

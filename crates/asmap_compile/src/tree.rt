@@ -5,9 +5,9 @@ ghost use Rattle.asmap_compile.specs.Compiled.{rows_kept, tree_at};
 ghost use Rattle.asmap_compile.specs.Inside.{IsPart};
 
 use crate::instructions::{put_default, put_jump, put_matches, put_return};
-use crate::part::{bit_of, common_bits, longer_rows, middle_of, number_of_path};
+use crate::part::{bit_of, longer_rows, middle_of, number_of_path};
 use bit_code::{BitFront, Memory};
-use prefix_table::Row;
+use prefix_table::{Row, common_bits};
 
 /// Puts the code of the tree of a path before the bits that are there. All rows of the part begin
 /// with the path, of `depth` bits; `above` is the number of the path without its last bit.

@@ -1,6 +1,7 @@
 // Which texts are tables, and the fault of the others.
 use prefix_table::{TableFault, read_table};
 use std::alloc::Global;
+use std::process::Abort;
 use std::test::Fail;
 
 /// The first fault of a text, if it has one.
@@ -12,6 +13,13 @@ fn fault_of(alloc: Global, text: &str) -> Option<TableFault> {
     match read_table(alloc, bytes) {
         Ok(_) => None,
         Err(fault) => Some(fault),
+    }
+}
+
+/// Each of the texts has this fault, or none.
+fn assert_fault(rt: &impl Abort, alloc: Global, texts: &[&str], fault: Option<TableFault>) {
+    for text in texts {
+        assert_eq!(rt; fault_of(alloc, text), fault, "of {text:?}");
     }
 }
 
@@ -27,9 +35,7 @@ fn texts_in_form_are_tables(rt: HostRuntime) {
         "::/128 AS1",
         "ABCD::/16 AS1\nABCD::/17 AS1",
     ];
-    for text in texts {
-        assert_eq!(rt; fault_of(rt.alloc(), text), None, "of {text:?}");
-    }
+    assert_fault(&rt, rt.alloc(), &texts, None);
 }
 
 #[test]
@@ -55,36 +61,37 @@ fn a_line_out_of_form_is_a_fault(rt: HostRuntime) {
         "1.0.0.0/8 AS",
         "1.0.0.0/8 AS1#",
     ];
-    for text in texts {
-        let fault = Some(TableFault::Form { line: 1 });
-        assert_eq!(rt; fault_of(rt.alloc(), text), fault, "of {text:?}");
-    }
+    assert_fault(&rt, rt.alloc(), &texts, Some(TableFault::Form { line: 1 }));
 }
 
 #[test]
 fn a_number_out_of_range_is_a_fault_before_host_bits(rt: HostRuntime) {
-    let texts = [
-        "1.0.0.0/33 AS1",
-        "1.0.0.0/32 AS0",
-        "1.0.0.0/32 AS33521665",
-        "::/129 AS1",
-        "1.0.0.0/8 AS9999999999",
-        "1.0.0.0/9999999999 AS1",
-        "1.0.0.1/33 AS0",
+    let cases = [
+        (
+            TableFault::Number { line: 1 },
+            [
+                "1.0.0.0/33 AS1",
+                "1.0.0.0/32 AS0",
+                "1.0.0.0/32 AS33521665",
+                "::/129 AS1",
+                "1.0.0.0/8 AS9999999999",
+                "1.0.0.0/9999999999 AS1",
+                "1.0.0.1/33 AS0",
+            ]
+            .as_slice(),
+        ),
+        (
+            TableFault::HostBits { line: 1 },
+            &[
+                "1.0.0.1/8 AS1",
+                "1.0.0.0/7 AS1",
+                "::1/127 AS1",
+                "8000::/0 AS1",
+            ],
+        ),
     ];
-    for text in texts {
-        let fault = Some(TableFault::Number { line: 1 });
-        assert_eq!(rt; fault_of(rt.alloc(), text), fault, "of {text:?}");
-    }
-    let texts = [
-        "1.0.0.1/8 AS1",
-        "1.0.0.0/7 AS1",
-        "::1/127 AS1",
-        "8000::/0 AS1",
-    ];
-    for text in texts {
-        let fault = Some(TableFault::HostBits { line: 1 });
-        assert_eq!(rt; fault_of(rt.alloc(), text), fault, "of {text:?}");
+    for (fault, texts) in cases {
+        assert_fault(&rt, rt.alloc(), texts, Some(fault));
     }
 }
 
