@@ -13,33 +13,36 @@ use Rattle.peer_rec.specs.declared.rec.Rec.{Rec}
 use Rattle.table_machine.specs.State.{State, empty_state, find_peer}
 use Rattle.table_machine.specs.Entries.{add, add_by, add_known, add_unknown, enter_bucket, lag, new_record, no, penalty_of, refresh, with_last, with_record}
 use Rattle.table_machine.specs.Sound.{IsSound}
+use Rattle.table_machine.proofs.Fields.{IsRec-with}
 use Rattle.table_machine.proofs.Lists.{none_in_nil}
 use Rattle.table_machine.proofs.Buckets.{HasRoom, HasRoom-from_IsRec, placed}
 use Rattle.table_machine.proofs.Records.{changed_cases, changed_own, new_at_parts, peer_found, tried_at-same, new_at-same}
 use Rattle.table_machine.proofs.SoundBut.{Never, sound_but, sound_from_but}
 use Rattle.table_machine.proofs.Primitives.{change-keeps, last-keeps}
-use Rattle.table_machine.proofs.Slots.{alone-untried, enter-sound}
+use Rattle.table_machine.proofs.Slots.{only-untried, enter-sound}
 
 pub sound_empty : (places : Places) → IsPlaces places → IsSound (empty_state places)
 sound_empty places is = record {
+  listed = record {
+    order = IsPermutation-refl [];
+    peers = λ i j d below within. absurd (omega arith);
+    valid = λ k d within. absurd (omega arith);
+    rising = λ k within. absurd (omega arith);
+    below_next = λ k d within. absurd (omega arith);
+  };
+  waiting = record {
+    collisions = λ k within. absurd (omega arith);
+    few_collisions = omega arith;
+    collisions_below_next = λ k d within. absurd (omega arith);
+  };
+  ranges = record { places = is; last_good = omega arith; next_number = omega arith };
   new_slots = λ bucket slot r q c. absurd (none_in_nil r c);
   tried_slots = λ bucket slot r q c. absurd (none_in_nil r c);
-  order = IsPermutation-refl [];
-  peers = λ i j d below within. absurd (omega arith);
-  valid = λ k d within. absurd (omega arith);
-  rising = λ k within. absurd (omega arith);
-  below_next = λ k d within. absurd (omega arith);
-  collisions = λ k within. absurd (omega arith);
-  few_collisions = omega arith;
-  collisions_below_next = λ k d within. absurd (omega arith);
   opponents = λ k d within. absurd (omega arith);
   records = λ k d within. absurd (omega arith);
-  places = is;
-  last_good = omega arith;
-  next_number = omega arith;
 }
 
--- a change of a record that leaves its number, peer and place
+-- a record is changed, except for its number, peer and place
 pub mark-sound : (st : State) (r s : Rec) → IsSound st → Contains st.records r → s.number ≡ r.number → s.peer ≡ r.peer → s.place ≡ r.place → IsRec s
     → IsSound (with_record st s)
 mark-sound st r s sound has number peer place fits =
@@ -54,18 +57,11 @@ mark-sound st r s sound has number peer place fits =
 
 -- a refreshed record fits
 refresh-fits : (r : Rec) (entry : Entry) (penalty now : ℕ) → IsRec r → entry.time < 2 ^ 32 → entry.services < 2 ^ 64 → IsRec (refresh r entry penalty now)
-refresh-fits r entry penalty now fits time services = record {
-  addr = fits.addr;
-  port = fits.port;
-  source = fits.source;
-  time = cond_both (nat_lt (r.time + lag now entry.time + penalty) entry.time) (entry.time - penalty) r.time (λ t. t < 2 ^ 32) (λ _. omega arith) (λ _. fits.time);
-  services = or_lt 64 r.services entry.services fits.services services;
-  last_success = fits.last_success;
-  last_try = fits.last_try;
-  last_count = fits.last_count;
-  attempts = fits.attempts;
-  place = fits.place;
-}
+refresh-fits r entry penalty now fits time services =
+    IsRec-with r _ _ _ _ _ _ _ fits
+    (cond_both (nat_lt (r.time + lag now entry.time + penalty) entry.time) (entry.time - penalty) r.time (λ t. t < 2 ^ 32) (λ _. omega arith) (λ _. fits.time))
+    (or_lt 64 r.services entry.services fits.services services)
+    fits.last_success fits.last_try fits.last_count fits.attempts fits.place
 
 known-sound : (st : State) (now : ℕ) (r : Rec) (entry : Entry) (source : Address) (penalty word : ℕ) → IsSound st → Contains st.records r
     → entry.time < 2 ^ 32 → entry.services < 2 ^ 64 → IsSound (add_known st now r entry source penalty word).state
@@ -99,7 +95,7 @@ unknown-sound st now entry source penalty sound next missing routable addr port 
     enter-sound (with_last st r) now r true source
     (last-keeps r.number Never st r (sound_but r.number st sound) refl missing valid
     (λ bucket slot q c at other. absurd (none_in_nil bucket (new_at_parts st.places bucket slot r at).0))
-    (alone-untried st r refl) (λ other. absurd (other refl)) (omega arith))
+    (only-untried st r refl) (λ other. absurd (other refl)) (omega arith))
     (Contains-push st.records r) refl room (λ new. refl) (λ old. absurd (true≢false old))
   where
     r : Rec

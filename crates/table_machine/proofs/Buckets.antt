@@ -1,10 +1,11 @@
--- A record's list of buckets with one more, and without one.
-use Rattle.std.proofs.Common.{◌≡◌, ◌≢◌, ℕ, suc, ◌+◌, ◌<◌, ◌≤◌, Bool, true, false, not, ◌==◌, nat_lt, List, [], ◌∷◌, length, get_or, All, Contains, filter, sym, ap, subst, ◌∙◌, inl, inr, ⊎_elim, ◌⊎◌, arith, length-append, if◌then◌else◌}
+-- A record's list of buckets with another one, and without one.
+use Rattle.std.proofs.Common.{◌≡◌, ◌≢◌, ℕ, suc, ◌+◌, ◌<◌, ◌≤◌, Bool, not, ◌==◌, nat_lt, List, ◌∷◌, length, get_or, All, Contains, filter, sym, ap, ◌∙◌, inl, inr, ⊎_elim, ◌⊎◌, arith, length-append}
 use Rattle.std.specs.List.Sorted.{IsStrictlyIncreasing}
-use Rattle.std.proofs.lemmas.Bool.{both_ways, ltb-true, cases_order, lt-ltb}
+use Rattle.std.proofs.lemmas.Bool.{both_ways, ltb-true}
 use Rattle.std.proofs.lemmas.Bool.Decides.{Decides-eqb}
-use Rattle.std.proofs.lemmas.List.Elements.{All-filter, All-append, All-cons, filter_passes, Contains-append_cases, Contains-append_left, Contains-append_right}
+use Rattle.std.proofs.lemmas.List.Elements.{All-filter, All-append, All-cons, filter_passes, Contains-append_cases}
 use Rattle.std.proofs.lemmas.List.Kept.{IsStrictlyIncreasing-filter, AllPairs-from_increasing, AllPairs-cons, AllPairs-filter}
+use Rattle.std.proofs.lemmas.List.Sums.{count_by-le-length, length-filter}
 use Rattle.std.proofs.lemmas.Nat.{mod_below}
 use Rattle.net_addr.specs.Address.{Address}
 use Rattle.net_addr.specs.declared.peer.Peer.{Peer}
@@ -15,17 +16,13 @@ use Rattle.peer_rec.specs.declared.place.Place.{Place}
 use Rattle.peer_rec.specs.declared.place.Place.TheVariants.{New, Tried}
 use Rattle.peer_rec.proofs.Lists.{length-below_above}
 use Rattle.peer_rec.specs.Buckets.{with_bucket, without_bucket}
-use Rattle.table_machine.proofs.Lists.{Contains-cases, Contains-head, Contains-tail, Contains-from_filter, Contains-filter, increasing_from_pairs, pairs_append_by}
+use Rattle.table_machine.proofs.Fields.{IsRec-with}
+use Rattle.table_machine.proofs.Lists.{Contains-cases, Contains-from_filter, increasing_from_pairs, pairs_append_by}
 
 pub length_filter_le : {X : Type 0} (p : X → Bool) (xs : List X) → length (filter p xs) ≤ length xs
-length_filter_le p [] = omega arith
-length_filter_le {X} p (x ∷ xs) = by (p x) (length_filter_le p xs)
-  where
-    by : (b : Bool) → length (filter p xs) ≤ length xs → length (if b then x ∷ filter p xs else filter p xs) ≤ suc (length xs)
-    by true less = omega arith
-    by false less = omega arith
+length_filter_le p xs = let few = count_by-le-length p xs in omega (arith, length-filter p xs)
 
--- a list with one more bucket
+-- a list with another bucket
 pub with_bucket-cases : (bucket : ℕ) (buckets : List ℕ) (b : ℕ) → Contains (with_bucket bucket buckets) b → (b ≡ bucket) ⊎ Contains buckets b
 with_bucket-cases bucket buckets b c =
     ⊎_elim
@@ -33,22 +30,6 @@ with_bucket-cases bucket buckets b c =
     (λ rest. ⊎_elim (λ (one : bucket ≡ b). inl (sym one)) (λ high. inr (Contains-from_filter (λ n. nat_lt bucket n) buckets b high).0)
     (Contains-cases bucket (filter (λ n. nat_lt bucket n) buckets) b rest))
     (Contains-append_cases (filter (λ n. nat_lt n bucket) buckets) (bucket ∷ filter (λ n. nat_lt bucket n) buckets) b c)
-
-pub with_bucket-own : (bucket : ℕ) (buckets : List ℕ) → Contains (with_bucket bucket buckets) bucket
-with_bucket-own bucket buckets =
-    Contains-append_right (filter (λ n. nat_lt n bucket) buckets) (bucket ∷ filter (λ n. nat_lt bucket n) buckets) bucket
-    (Contains-head bucket (filter (λ n. nat_lt bucket n) buckets))
-
-pub with_bucket-keeps : (bucket : ℕ) (buckets : List ℕ) (b : ℕ) → Contains buckets b → Contains (with_bucket bucket buckets) b
-with_bucket-keeps bucket buckets b c =
-    let low = filter (λ n. nat_lt n bucket) buckets in
-    let high = filter (λ n. nat_lt bucket n) buckets in
-    ⊎_elim
-    (λ (one : b ≡ bucket). subst (Contains (with_bucket bucket buckets)) (sym one) (with_bucket-own bucket buckets))
-    (⊎_elim
-    (λ below. Contains-append_left low (bucket ∷ high) b (Contains-filter (λ n. nat_lt n bucket) buckets b c (lt-ltb b bucket below)))
-    (λ above. Contains-append_right low (bucket ∷ high) b (Contains-tail bucket high b (Contains-filter (λ n. nat_lt bucket n) buckets b c (lt-ltb bucket b above)))))
-    (cases_order b bucket)
 
 pub rising-with_bucket : (bucket : ℕ) (buckets : List ℕ) → IsStrictlyIncreasing buckets → IsStrictlyIncreasing (with_bucket bucket buckets)
 rising-with_bucket bucket buckets rising =
@@ -86,24 +67,14 @@ abbrev pub placed : Rec → Place → Rec
 placed r place = record r { place = place }
 
 pub IsRec-placed : (r : Rec) (old new : Place) → IsRec (placed r old) → IsPlace new → IsRec (placed r new)
-IsRec-placed r old new fits is = record {
-  addr = fits.addr;
-  port = fits.port;
-  source = fits.source;
-  time = fits.time;
-  services = fits.services;
-  last_success = fits.last_success;
-  last_try = fits.last_try;
-  last_count = fits.last_count;
-  attempts = fits.attempts;
-  place = is;
-}
+IsRec-placed r old new fits is =
+    IsRec-with (placed r old) _ _ _ _ _ _ new fits fits.time fits.services fits.last_success fits.last_try fits.last_count fits.attempts is
 
 pub AreBuckets-of : (place : Place) → IsPlace place → 0 < length (buckets_by place) → AreBuckets (buckets_by place)
 AreBuckets-of (New buckets) is some = is
 AreBuckets-of Tried is some = absurd (omega arith)
 
--- with one more bucket it fits
+-- with another bucket it fits
 pub IsRec-with_bucket : (r : Rec) (bucket : ℕ) → HasRoom r → bucket < 1024 → IsRec (placed r (New (with_bucket bucket (buckets_of r))))
 IsRec-with_bucket r bucket room below =
     let buckets = buckets_of r in

@@ -24,7 +24,7 @@ use Rattle.table_machine.specs.State.{State}
 use Rattle.table_machine.specs.Sound.{IsSound}
 use Rattle.table_machine.proofs.Buckets.{AreBuckets-of}
 use Rattle.table_machine.proofs.Lists.{All-from_Contains, AllPairs-from_map, AllPairs-map, pairs_append_by}
-use Rattle.table_machine.proofs.Records.{new_at_from, tried_at_from}
+use Rattle.table_machine.proofs.Records.{new_at_from, own_slot, tried_at_from}
 
 -- a slot of a bucket is below 64, a bucket of the tried table below 256
 pub new_slot-below : (places : Places) (peer : Peer) (bucket : ℕ) → new_slot places peer bucket < 64
@@ -153,14 +153,14 @@ few_new st sound =
 
 -- the peer's slot in the tried table, numbered across the buckets
 abbrev tried_number : Places → Peer → ℕ
-tried_number places peer = tried_bucket places peer * 64 + tried_slot places peer (tried_bucket places peer)
+tried_number places peer = tried_bucket places peer * 64 + own_slot places peer
 
 tried_numbers-differ : (st : State) → IsSound st → (r q : Rec) → Contains st.records r → Contains st.records q → r.number ≢ q.number
     → is_tried r ≡ true → is_tried q ≡ true → tried_number st.places r.peer ≢ tried_number st.places q.peer
 tried_numbers-differ st sound r q has_r has_q apart r_tried q_tried same =
     let bucket = tried_bucket st.places r.peer in
     let slot = tried_slot st.places r.peer bucket in
-    let parts = same_from_place bucket slot (tried_bucket st.places q.peer) (tried_slot st.places q.peer (tried_bucket st.places q.peer)) 64
+    let parts = same_from_place bucket slot (tried_bucket st.places q.peer) (own_slot st.places q.peer) 64
     (tried_slot-below st.places r.peer bucket) (tried_slot-below st.places q.peer (tried_bucket st.places q.peer)) same in
     apart (sound.tried_slots bucket slot r q has_r has_q
     (tried_at_from st.places bucket slot r r_tried refl refl)

@@ -1,156 +1,103 @@
--- A turn of those that wait, a pick among them, and a sample: the state after them is sound, has the
--- same places and next number, and keeps peers.
-use Rattle.std.proofs.Common.{◌≡◌, ◌≢◌, ℕ, ◌+◌, ◌-◌, ◌%◌, ◌<◌, ◌^◌, ◌==◌, nat_lt, Bool, true, false, ◌&&◌, List, [], ◌∷◌, length, get_or, Contains, IsSome, IfSome, Option, Some, None, refl, inl, inr, ◌⊎◌, sym, subst, ◌∙◌, arith, if◌then◌else◌}
+-- The states after the decisions on all collisions, a pick among them, and a sample are sound, have
+-- the same next number, and keep peers.
+use Rattle.std.proofs.Common.{◌≡◌, ◌≢◌, ℕ, ◌+◌, ◌-◌, ◌%◌, ◌<◌, ◌^◌, ◌==◌, nat_lt, Bool, true, false, ◌&&◌, List, [], ◌∷◌, length, get_or, is_some, IsSome, IfSome, Option, Some, None, true≢false, refl, ap, inl, inr, ◌⊎◌, sym, subst, ◌∙◌, arith, if◌then◌else◌}
 use Rattle.std.proofs.lemmas.Bool.{and_parts, eqb-false, ltb-true}
 use Rattle.std.proofs.lemmas.Bool.Decides.{Decides-eqb}
 use Rattle.std.proofs.lemmas.Nat.{mod_below}
 use Rattle.net_addr.specs.declared.net.Net.{Net}
+use Rattle.net_addr.specs.declared.peer.Peer.{Peer}
 use Rattle.peer_rec.specs.declared.rec.Rec.{Rec}
 use Rattle.table_machine.specs.State.{State, find_number, opponent_of}
 use Rattle.table_machine.specs.Tried.{good}
 use Rattle.table_machine.specs.Clashes.{Fate, after_fate, clash_pick, erase_clash, fate_of, pick_newcomer, pick_opponent, resolve, resolve_all}
 use Rattle.table_machine.specs.Clashes.Fate.{Erased, Kept, Moved}
-use Rattle.table_machine.specs.Picks.{exchange, sample, sample_from, sample_limit, told_at, with_told}
+use Rattle.table_machine.specs.Picks.{Sample, exchange, sample, sample_from, sample_limit, told_at, with_told}
 use Rattle.table_machine.specs.Sound.{IsSound}
 use Rattle.table_machine.proofs.Exchanged.{erase_clash-sound, exchange-sound}
 use Rattle.table_machine.proofs.Kept.{KeepsPeers, good-keeps_peers}
 use Rattle.table_machine.proofs.Reached.{good-sound}
-use Rattle.table_machine.proofs.Unchanged.{good-next, good-rest}
+use Rattle.table_machine.proofs.Unchanged.{good-next}
 
--- a state that keeps peers and the next number, after one that does, does
-pub keeps_peers-itself : (st : State) → KeepsPeers st st
-keeps_peers-itself st q c low = (q, c, refl, refl)
+-- the next number is the same, and peers are kept
+abbrev pub KeepsNumbers : State → State → Type 0
+KeepsNumbers old new = (new.next_number ≡ old.next_number) × KeepsPeers old new
 
-pub keeps_peers-chain : (old middle new : State) → middle.next_number ≡ old.next_number → KeepsPeers old middle → KeepsPeers middle new → KeepsPeers old new
-keeps_peers-chain old middle new next first second q c low =
-    let h = second q c (subst (λ n. q.number < n) (sym next) low) in
-    let g = first h.0 h.1 (subst (λ n. n < old.next_number) (sym h.2) low) in
-    (g.0, g.1, g.2 ∙ h.2, g.3 ∙ h.3)
+keeps_numbers-itself : (st : State) → KeepsNumbers st st
+keeps_numbers-itself st = (refl, λ q c low. (q, c, refl, refl))
 
--- a state with the same records keeps peers
-pub keeps_peers-same : (old new : State) → new.records ≡ old.records → KeepsPeers old new
-keeps_peers-same old new same q c low = (q, subst (λ (records : List Rec). Contains records q) same c, refl, refl)
+keeps_numbers-chain : (old middle new : State) → KeepsNumbers old middle → KeepsNumbers middle new → KeepsNumbers old new
+keeps_numbers-chain old middle new first second = (second.0 ∙ first.0, keeps)
+  where
+    keeps : KeepsPeers old new
+    keeps q c low =
+        let h = second.1 q c (subst (λ n. q.number < n) (sym first.0) low) in
+        let g = first.1 h.0 h.1 (subst (λ n. n < old.next_number) (sym h.2) low) in
+        (g.0, g.1, g.2 ∙ h.2, g.3 ∙ h.3)
 
--- the turn of one number
-pub after_fate-next : (fate : Fate) (st : State) (o : Option Rec) (number now : ℕ) → (after_fate fate st o number now).next_number ≡ st.next_number
-after_fate-next Erased st o number now = refl
-after_fate-next Kept st o number now = refl
-after_fate-next Moved st None number now = refl
-after_fate-next Moved st (Some r) number now = good-next st now r.peer false
+-- A reflexive and transitive relation holds over all decisions if it holds when a collision is
+-- dropped and over a success.
+module _ (now : ℕ) (R : State → State → Type 0) (itself : (st : State) → R st st)
+    (chain : (old middle new : State) → R old middle → R middle new → R old new)
+    (erases : (st : State) (number : ℕ) → R st (erase_clash st number))
+    (succeeds : (st : State) (peer : Peer) → R st (good st now peer false).state) where
+  after_fate-along : (fate : Fate) (st : State) (o : Option Rec) (number : ℕ) → R st (after_fate fate st o number now)
+  after_fate-along Erased st o number = erases st number
+  after_fate-along Kept st o number = itself st
+  after_fate-along Moved st None number = erases st number
+  after_fate-along Moved st (Some r) number =
+      let moved = (good st now r.peer false).state in
+      chain st moved (erase_clash moved number) (succeeds st r.peer) (erases moved number)
 
-pub after_fate-places : (fate : Fate) (st : State) (o : Option Rec) (number now : ℕ) → (after_fate fate st o number now).places ≡ st.places
-after_fate-places Erased st o number now = refl
-after_fate-places Kept st o number now = refl
-after_fate-places Moved st None number now = refl
-after_fate-places Moved st (Some r) number now = (good-rest st now r.peer false).places
+  resolve_all-along : (st : State) (numbers : List ℕ) → R st (resolve_all st now numbers).state
+  resolve_all-along st [] = itself st
+  resolve_all-along st (number ∷ numbers) =
+      let newcomer = find_number st number in
+      let fate = fate_of st newcomer now in
+      let next = after_fate fate st newcomer number now in
+      chain st next (resolve_all next now numbers).state (after_fate-along fate st newcomer number) (resolve_all-along next numbers)
 
-pub after_fate-sound : (fate : Fate) (st : State) (o : Option Rec) (number now : ℕ) → IsSound st → now < 2 ^ 32 → IsSound (after_fate fate st o number now)
-after_fate-sound Erased st o number now sound low = erase_clash-sound st number sound
-after_fate-sound Kept st o number now sound low = sound
-after_fate-sound Moved st None number now sound low = erase_clash-sound st number sound
-after_fate-sound Moved st (Some r) number now sound low = erase_clash-sound (good st now r.peer false).state number (good-sound st now r.peer false sound low)
-
-pub after_fate-keeps_peers : (fate : Fate) (st : State) (o : Option Rec) (number now : ℕ) → KeepsPeers st (after_fate fate st o number now)
-after_fate-keeps_peers Erased st o number now = keeps_peers-itself st
-after_fate-keeps_peers Kept st o number now = keeps_peers-itself st
-after_fate-keeps_peers Moved st None number now = keeps_peers-itself st
-after_fate-keeps_peers Moved st (Some r) number now = good-keeps_peers st now r.peer false
-
--- all turns
-pub resolve_all-next : (st : State) (now : ℕ) (numbers : List ℕ) → (resolve_all st now numbers).state.next_number ≡ st.next_number
-resolve_all-next st now [] = refl
-resolve_all-next st now (number ∷ numbers) =
-    let newcomer = find_number st number in
-    let fate = fate_of st newcomer now in
-    resolve_all-next (after_fate fate st newcomer number now) now numbers ∙ after_fate-next fate st newcomer number now
-
-pub resolve_all-places : (st : State) (now : ℕ) (numbers : List ℕ) → (resolve_all st now numbers).state.places ≡ st.places
-resolve_all-places st now [] = refl
-resolve_all-places st now (number ∷ numbers) =
-    let newcomer = find_number st number in
-    let fate = fate_of st newcomer now in
-    resolve_all-places (after_fate fate st newcomer number now) now numbers ∙ after_fate-places fate st newcomer number now
-
-pub resolve_all-sound : (st : State) (now : ℕ) (numbers : List ℕ) → IsSound st → now < 2 ^ 32 → IsSound (resolve_all st now numbers).state
-resolve_all-sound st now [] sound low = sound
-resolve_all-sound st now (number ∷ numbers) sound low =
-    let newcomer = find_number st number in
-    let fate = fate_of st newcomer now in
-    resolve_all-sound (after_fate fate st newcomer number now) now numbers (after_fate-sound fate st newcomer number now sound low) low
-
-pub resolve_all-keeps_peers : (st : State) (now : ℕ) (numbers : List ℕ) → KeepsPeers st (resolve_all st now numbers).state
-resolve_all-keeps_peers st now [] = keeps_peers-itself st
-resolve_all-keeps_peers st now (number ∷ numbers) =
-    let newcomer = find_number st number in
-    let fate = fate_of st newcomer now in
-    let next = after_fate fate st newcomer number now in
-    keeps_peers-chain st next (resolve_all next now numbers).state (after_fate-next fate st newcomer number now)
-    (after_fate-keeps_peers fate st newcomer number now) (resolve_all-keeps_peers next now numbers)
-
-pub resolve-next : (st : State) (now : ℕ) → (resolve st now).state.next_number ≡ st.next_number
-resolve-next st now = resolve_all-next st now st.collisions
-
-pub resolve-places : (st : State) (now : ℕ) → (resolve st now).state.places ≡ st.places
-resolve-places st now = resolve_all-places st now st.collisions
+  resolve-along : (st : State) → R st (resolve st now).state
+  resolve-along st = resolve_all-along st st.collisions
 
 pub resolve-sound : (st : State) (now : ℕ) → IsSound st → now < 2 ^ 32 → IsSound (resolve st now).state
-resolve-sound st now = resolve_all-sound st now st.collisions
+resolve-sound st now sound low =
+    resolve-along now (λ old new. IsSound old → IsSound new) (λ s is. is) (λ old middle new first second is. second (first is))
+    erase_clash-sound (λ s peer is. good-sound s now peer false is low) st sound
 
-pub resolve-keeps_peers : (st : State) (now : ℕ) → KeepsPeers st (resolve st now).state
-resolve-keeps_peers st now = resolve_all-keeps_peers st now st.collisions
+pub resolve-keeps_numbers : (st : State) (now : ℕ) → KeepsNumbers st (resolve st now).state
+resolve-keeps_numbers st now =
+    resolve-along now KeepsNumbers keeps_numbers-itself keeps_numbers-chain
+    (λ s number. keeps_numbers-itself s) (λ s peer. (good-next s now peer false, good-keeps_peers s now peer false)) st
 
--- a pick among those that wait: the state is the same, or one number waits no more
-pub data IsPicked (st : State) : State → Type 0 where
-  same : IsPicked st st
-  erased : (number : ℕ) → IsPicked st (erase_clash st number)
+pub resolve-next : (st : State) (now : ℕ) → (resolve st now).state.next_number ≡ st.next_number
+resolve-next st now = (resolve-keeps_numbers st now).0
 
-pub clash_pick-cases : (st : State) (word : ℕ) → IsPicked st (clash_pick st word).state
-clash_pick-cases st word = by (length st.collisions == 0) (find_number st number)
-  where
-    number : ℕ
-    number = get_or st.collisions (word % length st.collisions) 0
+-- What holds of a state, and of it without any one collision, holds after a pick among the
+-- collisions.
+module _ (st : State) (P : State → Type 0) (same : P st) (erased : (number : ℕ) → P (erase_clash st number)) where
+  clash_pick-along : (word : ℕ) → P (clash_pick st word).state
+  clash_pick-along word = by (length st.collisions == 0) (find_number st number)
+    where
+      number : ℕ
+      number = get_or st.collisions (word % length st.collisions) 0
 
-    picked : (o : Option Rec) → IsPicked st (pick_opponent st o).state
-    picked None = same
-    picked (Some occupant) = same
+      picked : (o : Option Rec) → P (pick_opponent st o).state
+      picked None = same
+      picked (Some occupant) = same
 
-    by : (none : Bool) (o : Option Rec) → IsPicked st (if none then record { answer = None; state = st } else pick_newcomer st number o).state
-    by true o = same
-    by false None = erased number
-    by false (Some r) = picked (opponent_of st r.peer)
-
-pub clash_pick-next : (st : State) (word : ℕ) → (clash_pick st word).state.next_number ≡ st.next_number
-clash_pick-next st word = by (clash_pick st word).state (clash_pick-cases st word)
-  where
-    by : (new : State) → IsPicked st new → new.next_number ≡ st.next_number
-    by new same = refl
-    by new (erased number) = refl
+      by : (none : Bool) (o : Option Rec) → P (if none then record { answer = None; state = st } else pick_newcomer st number o).state
+      by true o = same
+      by false None = erased number
+      by false (Some r) = picked (opponent_of st r.peer)
 
 pub clash_pick-sound : (st : State) (word : ℕ) → IsSound st → IsSound (clash_pick st word).state
-clash_pick-sound st word sound = by (clash_pick st word).state (clash_pick-cases st word)
-  where
-    by : (new : State) → IsPicked st new → IsSound new
-    by new same = sound
-    by new (erased number) = erase_clash-sound st number sound
+clash_pick-sound st word sound = clash_pick-along st IsSound sound (λ number. erase_clash-sound st number sound) word
 
-pub clash_pick-records : (st : State) (word : ℕ) → (clash_pick st word).state.records ≡ st.records
-clash_pick-records st word = by (clash_pick st word).state (clash_pick-cases st word)
-  where
-    by : (new : State) → IsPicked st new → new.records ≡ st.records
-    by new same = refl
-    by new (erased number) = refl
+pub clash_pick-keeps_numbers : (st : State) (word : ℕ) → KeepsNumbers st (clash_pick st word).state
+clash_pick-keeps_numbers st word = clash_pick-along st (KeepsNumbers st) (keeps_numbers-itself st) (λ number. keeps_numbers-itself st) word
 
-pub clash_pick-places : (st : State) (word : ℕ) → (clash_pick st word).state.places ≡ st.places
-clash_pick-places st word = by (clash_pick st word).state (clash_pick-cases st word)
-  where
-    by : (new : State) → IsPicked st new → new.places ≡ st.places
-    by new same = refl
-    by new (erased number) = refl
-
-pub clash_pick-keeps_peers : (st : State) (word : ℕ) → KeepsPeers st (clash_pick st word).state
-clash_pick-keeps_peers st word = keeps_peers-same st (clash_pick st word).state (clash_pick-records st word)
-
--- In a sound state a pick finds no occupant only if none waits, or if the newcomer drawn was deleted.
+-- In a sound state a pick finds no occupant only if there is no collision, or the record of the one
+-- drawn was deleted.
 pub clash_pick-None : (st : State) (word : ℕ) → IsSound st → (clash_pick st word).answer ≡ None
     → (length st.collisions ≡ 0) ⊎ (find_number st (get_or st.collisions (word % length st.collisions) 0) ≡ None)
 clash_pick-None st word sound = by (length st.collisions == 0) (find_number st number) refl refl
@@ -164,8 +111,8 @@ clash_pick-None st word sound = by (length st.collisions == 0) (find_number st n
         subst (λ o. IfSome o (λ q. IsSome (opponent_of st q.peer))) found (sound.opponents (word % length st.collisions) 0 below)
 
     picked : (o : Option Rec) → IsSome o → (pick_opponent st o).answer ≡ None → ⊥
-    picked None some none = absurd (cc)
-    picked (Some occupant) some none = let apart : Some (occupant.peer, occupant.last_try) ≡ None = none in absurd (cc)
+    picked None some none = absurd (true≢false (sym some))
+    picked (Some occupant) some none = absurd (true≢false (ap is_some none))
 
     by : (none : Bool) (o : Option Rec) → (length st.collisions == 0) ≡ none → find_number st number ≡ o
         → (if none then record { answer = None; state = st } else pick_newcomer st number o).answer ≡ None
@@ -174,53 +121,39 @@ clash_pick-None st word sound = by (length st.collisions == 0) (find_number st n
     by false None some found none = inr found
     by false (Some r) some found none = absurd (picked (opponent_of st r.peer) (occupied r found (eqb-false _ _ some)) none)
 
--- a sample changes only the order
-pub record SameButOrder (old new : State) : Type 0 where
-  pub places : new.places ≡ old.places
-  pub records : new.records ≡ old.records
-  pub collisions : new.collisions ≡ old.collisions
-  pub last_good : new.last_good ≡ old.last_good
-  pub next_number : new.next_number ≡ old.next_number
+-- A reflexive and transitive relation holds over a sample if it holds over an exchange in the
+-- order.
+module _ (asked : Option Net) (now : ℕ) (R : State → State → Type 0) (itself : (st : State) → R st st)
+    (chain : (old middle new : State) → R old middle → R middle new → R old new)
+    (exchanges : (st : State) (i j : ℕ) → i < length st.order → j < length st.order → R st (exchange st i j)) where
+  sample_from-along : (st : State) (i left : ℕ) (words : List ℕ) → R st (sample_from st asked now i left words).state
+  sample_from-along st i left [] = itself st
+  sample_from-along st i left (word ∷ words) =
+      by (nat_lt i (length st.order) && nat_lt 0 left) refl (sample_from-along next (i + 1) (left - length (told_at next asked now i)) words)
+    where
+      next : State
+      next = exchange st i (i + word % (length st.order - i))
 
-pub sample_from-rest : (st : State) (asked : Option Net) (now i left : ℕ) (words : List ℕ) → SameButOrder st (sample_from st asked now i left words).state
-sample_from-rest st asked now i left [] = record { places = refl; records = refl; collisions = refl; last_good = refl; next_number = refl }
-sample_from-rest st asked now i left (word ∷ words) =
-    by (nat_lt i (length st.order) && nat_lt 0 left) (sample_from-rest next asked now (i + 1) (left - length (told_at next asked now i)) words)
-  where
-    next : State
-    next = exchange st i (i + word % (length st.order - i))
+      rest : Sample
+      rest = sample_from next asked now (i + 1) (left - length (told_at next asked now i)) words
 
-    by : (goes : Bool) → SameButOrder next (sample_from next asked now (i + 1) (left - length (told_at next asked now i)) words).state
-        → SameButOrder st (if goes then with_told (told_at next asked now i) (sample_from next asked now (i + 1) (left - length (told_at next asked now i)) words) else record { peers = []; state = st }).state
-    by true rest = record { places = rest.places; records = rest.records; collisions = rest.collisions; last_good = rest.last_good; next_number = rest.next_number }
-    by false rest = record { places = refl; records = refl; collisions = refl; last_good = refl; next_number = refl }
-
-pub sample_from-sound : (st : State) (asked : Option Net) (now i left : ℕ) (words : List ℕ) → IsSound st → IsSound (sample_from st asked now i left words).state
-sample_from-sound st asked now i left [] sound = sound
-sample_from-sound st asked now i left (word ∷ words) sound =
-    by (nat_lt i (length st.order) && nat_lt 0 left) refl (sample_from-sound next asked now (i + 1) (left - length (told_at next asked now i)) words)
-  where
-    next : State
-    next = exchange st i (i + word % (length st.order - i))
-
-    by : (goes : Bool) → (nat_lt i (length st.order) && nat_lt 0 left) ≡ goes
-        → (IsSound next → IsSound (sample_from next asked now (i + 1) (left - length (told_at next asked now i)) words).state)
-        → IsSound (if goes then with_told (told_at next asked now i) (sample_from next asked now (i + 1) (left - length (told_at next asked now i)) words) else record { peers = []; state = st }).state
-    by true h more =
-        let first : i < length st.order = ltb-true i (length st.order) (and_parts (nat_lt i (length st.order)) (nat_lt 0 left) h).0 in
-        let draw = mod_below word (length st.order - i) (omega arith) in
-        more (exchange-sound st i (i + word % (length st.order - i)) sound first (omega arith))
-    by false h more = sound
-
-pub sample-rest : (st : State) (most percent : ℕ) (asked : Option Net) (words : List ℕ) (now : ℕ) → SameButOrder st (sample st most percent asked words now).state
-sample-rest st most percent asked words now = sample_from-rest st asked now 0 (sample_limit (length st.order) most percent) words
-
-pub sample-next : (st : State) (most percent : ℕ) (asked : Option Net) (words : List ℕ) (now : ℕ) → (sample st most percent asked words now).state.next_number ≡ st.next_number
-sample-next st most percent asked words now = (sample-rest st most percent asked words now).next_number
+      by : (goes : Bool) → (nat_lt i (length st.order) && nat_lt 0 left) ≡ goes → R next rest.state
+          → R st (if goes then with_told (told_at next asked now i) rest else record { peers = []; state = st }).state
+      by true h more =
+          let first : i < length st.order = ltb-true i (length st.order) (and_parts (nat_lt i (length st.order)) (nat_lt 0 left) h).0 in
+          let draw = mod_below word (length st.order - i) (omega arith) in
+          chain st next rest.state (exchanges st i (i + word % (length st.order - i)) first (omega arith)) more
+      by false h more = itself st
 
 pub sample-sound : (st : State) (most percent : ℕ) (asked : Option Net) (words : List ℕ) (now : ℕ) → IsSound st → IsSound (sample st most percent asked words now).state
-sample-sound st most percent asked words now sound = sample_from-sound st asked now 0 (sample_limit (length st.order) most percent) words sound
+sample-sound st most percent asked words now =
+    sample_from-along asked now (λ old new. IsSound old → IsSound new) (λ s is. is) (λ old middle new first second is. second (first is))
+    (λ s i j first second is. exchange-sound s i j is first second) st 0 (sample_limit (length st.order) most percent) words
 
-pub sample-keeps_peers : (st : State) (most percent : ℕ) (asked : Option Net) (words : List ℕ) (now : ℕ) → KeepsPeers st (sample st most percent asked words now).state
-sample-keeps_peers st most percent asked words now =
-    keeps_peers-same st (sample st most percent asked words now).state (sample-rest st most percent asked words now).records
+pub sample-keeps_numbers : (st : State) (most percent : ℕ) (asked : Option Net) (words : List ℕ) (now : ℕ) → KeepsNumbers st (sample st most percent asked words now).state
+sample-keeps_numbers st most percent asked words now =
+    sample_from-along asked now KeepsNumbers keeps_numbers-itself keeps_numbers-chain
+    (λ s i j first second. keeps_numbers-itself s) st 0 (sample_limit (length st.order) most percent) words
+
+pub sample-next : (st : State) (most percent : ℕ) (asked : Option Net) (words : List ℕ) (now : ℕ) → (sample st most percent asked words now).state.next_number ≡ st.next_number
+sample-next st most percent asked words now = (sample-keeps_numbers st most percent asked words now).0

@@ -24,17 +24,17 @@ use Rattle.table_machine.proofs.Records.{changed_cases, peer_found, without_numb
 abbrev pub IsKnown : ℕ → List Rec → Rec → Type 0
 IsKnown n records q = q.number < n → (p : Rec) × Contains records p × (p.number ≡ q.number) × (p.peer ≡ q.peer)
 
--- each record of the list is known so
+-- each record of a list is known in this sense
 abbrev pub AllKnown : ℕ → List Rec → List Rec → Type 0
 AllKnown n old records = (q : Rec) → Contains records q → IsKnown n old q
 
 abbrev pub KeepsPeers : State → State → Type 0
-KeepsPeers old new = (q : Rec) → Contains new.records q → q.number < old.next_number → (p : Rec) × Contains old.records p × (p.number ≡ q.number) × (p.peer ≡ q.peer)
+KeepsPeers old new = AllKnown old.next_number old.records new.records
 
 known-itself : (n : ℕ) (records : List Rec) (r : Rec) → Contains records r → IsKnown n records r
 known-itself n records r c low = (r, c, refl, refl)
 
--- the parts of a step, after which all records are known if they were before
+-- after each part of a step all records are known if they were before
 module _ (n : ℕ) (old : List Rec) where
   pub changed-known : (st : State) (r : Rec) → AllKnown n old st.records → IsKnown n old r → AllKnown n old (with_record st r).records
   changed-known st r all known q c = ⊎_elim (λ is. subst (IsKnown n old) is known) (λ h. all q h.0) (changed_cases r.number r st.records q c)
@@ -110,7 +110,7 @@ module _ (n : ℕ) (old : List Rec) where
           changed-known (back_to_new left occupant) (placed r Tried)
           (back-known left occupant all_left (all_left occupant (find-Some (is_tried_at st.places own (tried_slot st.places r.peer own)) left.records occupant is).0)) known
 
--- what an entry does
+-- an entry
 pub add-keeps_peers : (st : State) (now : ℕ) (entry : Entry) (source : Address) (penalty word : ℕ) → KeepsPeers st (add st now entry source penalty word).state
 add-keeps_peers st now entry source penalty word = by (is_routable entry.peer.addr) (find_peer st entry.peer) refl
   where
@@ -138,7 +138,7 @@ add-keeps_peers st now entry source penalty word = by (is_routable entry.peer.ad
         (nat_le entry.time fresh.time || is_tried fresh || length (buckets_of fresh) == 8) (word % 2 ^ length (buckets_of fresh) == 0)
     by false o other = all
 
--- what a mark does
+-- a mark
 mark-keeps_peers : (change : Rec → Rec) (st : State) (peer : Peer) → IsMark change → KeepsPeers st (mark change st (find_peer st peer)).state
 mark-keeps_peers change st peer is = by (find_peer st peer) refl
   where
@@ -157,7 +157,7 @@ connected-keeps_peers st now peer = mark-keeps_peers (still_connected now) st pe
 pub services-keeps_peers : (st : State) (peer : Peer) (services : ℕ) → KeepsPeers st (set_services st peer services).state
 services-keeps_peers st peer services = mark-keeps_peers (with_services services) st peer (services-marks services)
 
--- what a success does
+-- a success
 pub good-keeps_peers : (st : State) (now : ℕ) (peer : Peer) (testing : Bool) → KeepsPeers st (good st now peer testing).state
 good-keeps_peers st now peer testing = by (find_peer later peer) refl
   where

@@ -2,6 +2,7 @@ mod Examples
 pub mod Lists
 pub mod Records
 pub mod Orders
+pub mod Fields
 pub mod Buckets
 pub mod SoundBut
 pub mod Primitives
@@ -9,7 +10,6 @@ pub mod Slots
 pub mod Added
 pub mod Rest
 pub mod Counts
-pub mod Finds
 pub mod Tried
 pub mod Moved
 pub mod Waiting
@@ -20,6 +20,7 @@ pub mod Kept
 pub mod Unchanged
 pub mod Folds
 pub mod Refusals
+pub mod ExampleStates
 mod SoundExamples
 mod StepExamples
 mod TriedExamples

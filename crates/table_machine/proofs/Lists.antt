@@ -1,11 +1,12 @@
 -- Lemmas on lists: what a search finds, what an edit leaves, and what a permutation keeps.
-use Rattle.std.proofs.Common.{◌≡◌, ℕ, zero, suc, ◌+◌, ◌<◌, Bool, true, false, cond, ◌==◌, ◌||◌, List, [], ◌∷◌, ◌++◌, map, length, get_or, set, All, AllPairs, Contains, filter, find, swap, Option, Some, None, IsSome, refl, sym, ap, subst, ◌∙◌, inl, inr, ⊎_elim, ◌⊎◌, arith, true≢false}
+use Rattle.std.proofs.Common.{◌≡◌, ℕ, zero, suc, ◌+◌, ◌<◌, Bool, true, false, cond, ◌==◌, List, [], ◌∷◌, ◌++◌, map, length, get_or, set, All, AllPairs, Contains, filter, find, swap, Option, Some, None, IsSome, refl, sym, ap, subst, ◌∙◌, inl, inr, ⊎_elim, ◌⊎◌, arith}
 use Rattle.std.specs.List.{list_any, AllByRecursion}
 use Rattle.std.specs.List.Sorted.{IsPermutation, IsStrictlyIncreasing}
 use Rattle.std.proofs.lemmas.Bool.{both_ways, cases_order}
 use Rattle.std.proofs.lemmas.Bool.Decides.{Decides-eqb}
 use Rattle.std.proofs.lemmas.List.{get_or-map, get_or_default, length-map}
 use Rattle.std.proofs.lemmas.List.Elements.{All-append, All-contains, All-contains_itself, All-filter, All-map, All-weaker, filter_passes}
+use Rattle.std.proofs.lemmas.List.Folds.{Any-from_list_any, list_any-from_Any}
 use Rattle.std.proofs.lemmas.List.Kept.{AllPairs-cons, AllPairs-from_increasing}
 use Rattle.std.proofs.lemmas.List.Quantifiers.{all_pairs_push}
 use Rattle.std.proofs.lemmas.List.Sorted.{IsPermutation-refl, IsPermutation-keeps, IsPermutation-trans, IsPermutation-cons, IsPermutation-swap}
@@ -138,38 +139,33 @@ All-same_images P f xs ys same h = All-from_map P f ys (subst (All P) (sym same)
 pub All-from_Contains : {X : Type 0} (P : X → Type 0) (xs : List X) → ((x : X) → Contains xs x → P x) → All P xs
 All-from_Contains P xs each k d within = each (get_or xs k d) (All-contains_itself xs k d within)
 
+-- If each element is related to all later ones, two elements of which neither is related to the
+-- other are one.
+pub same_unless_related : {X : Type 0} (R : X → X → Type 0) (xs : List X) (x y : X) → AllPairs R xs → Contains xs x → Contains xs y → (R x y → ⊥) → (R y x → ⊥) → x ≡ y
+same_unless_related {X} R xs x y apart c e before after = by (cases_order c.0 e.0)
+  where
+    there : get_or xs e.0 x ≡ y
+    there = get_or_default xs e.0 x y e.1 ∙ e.2
+
+    by : (c.0 ≡ e.0) ⊎ ((c.0 < e.0) ⊎ (e.0 < c.0)) → x ≡ y
+    by (inl one) = sym c.2 ∙ ap (λ k. get_or xs k x) one ∙ there
+    by (inr (inl below)) = absurd (before (subst (R x) there (subst (λ (z : X). R z (get_or xs e.0 x)) c.2 (apart c.0 e.0 x below e.1))))
+    by (inr (inr above)) = absurd (after (subst (λ (z : X). R z x) there (subst (R (get_or xs e.0 x)) c.2 (apart e.0 c.0 x above c.1))))
+
 -- where numbers rise along a list, two elements of one number are one element
 pub same_by_number : {X : Type 0} (f : X → ℕ) (xs : List X) (x y : X) → IsStrictlyIncreasing (map f xs) → Contains xs x → Contains xs y → f x ≡ f y → x ≡ y
 same_by_number {X} f xs x y rising c e same =
-    let apart = AllPairs-from_map (λ m n. m < n) f xs (AllPairs-from_increasing (map f xs) rising) in
-    let there : get_or xs e.0 x ≡ y = get_or_default xs e.0 x y e.1 ∙ e.2 in
-    let first = c.2 in
-    let within = c.1 in
-    let inside = e.1 in
-    ⊎_elim
-    (λ (one : c.0 ≡ e.0). sym first ∙ ap (λ k. get_or xs k x) one ∙ there)
-    (⊎_elim
-    (λ (below : c.0 < e.0). let h : f (get_or xs c.0 x) < f (get_or xs e.0 x) = apart c.0 e.0 x below inside in absurd (omega (arith, ap f first, ap f there)))
-    (λ (above : e.0 < c.0). let h : f (get_or xs e.0 x) < f (get_or xs c.0 x) = apart e.0 c.0 x above within in absurd (omega (arith, ap f first, ap f there))))
-    (cases_order c.0 e.0)
+    same_unless_related (λ (a : X) (b : X). f a < f b) xs x y (AllPairs-from_map (λ m n. m < n) f xs (AllPairs-from_increasing (map f xs) rising)) c e
+    (λ below. omega arith) (λ above. omega arith)
 
 -- `list_any` by equality is membership
 pub list_any-Contains : (n : ℕ) (ns : List ℕ) → list_any (λ m. m == n) ns ≡ true → Contains ns n
-list_any-Contains n [] h = absurd (true≢false (sym h))
-list_any-Contains n (m ∷ ms) h = by (m == n) refl (list_any-Contains n ms) h
-  where
-    by : (b : Bool) → (m == n) ≡ b → (list_any (λ k. k == n) ms ≡ true → Contains ms n) → (b || list_any (λ k. k == n) ms) ≡ true → Contains (m ∷ ms) n
-    by true same more any = subst (Contains (m ∷ ms)) ((Decides-eqb m n).0 same) (Contains-head m ms)
-    by false same more any = Contains-tail m ms n (more any)
+list_any-Contains n ns h =
+    let a = Any-from_list_any (λ m. m == n) ns h in
+    subst (Contains ns) ((Decides-eqb a.1 n).0 a.4) (a.0, a.2, a.3)
 
 pub Contains-list_any : (n : ℕ) (ns : List ℕ) → Contains ns n → list_any (λ m. m == n) ns ≡ true
-Contains-list_any n [] c = absurd (none_in_nil n c)
-Contains-list_any n (m ∷ ms) c = by (m == n) refl (Contains-list_any n ms) (Contains-cases m ms n c)
-  where
-    by : (b : Bool) → (m == n) ≡ b → (Contains ms n → list_any (λ k. k == n) ms ≡ true) → (m ≡ n) ⊎ Contains ms n → (b || list_any (λ k. k == n) ms) ≡ true
-    by true same more cases = refl
-    by false same more (inl one) = absurd (true≢false (sym ((Decides-eqb m n).1 one) ∙ same))
-    by false same more (inr rest) = more rest
+Contains-list_any n ns c = list_any-from_Any (λ m. m == n) ns (c.0, n, c.1, c.2, (Decides-eqb n n).1 refl)
 
 -- A relation holds between a list and each of its permutations if it is reflexive and transitive,
 -- holds under a common head, and holds when the first two elements are exchanged.
@@ -237,7 +233,7 @@ pairs_append_by R (x ∷ xs) ys one two apart =
     let rest = pairs_append_by R xs ys (λ i j d below within. one (suc i) (suc j) d (omega arith) (omega arith)) two (λ k d within. apart (suc k) d (omega arith)) in
     AllPairs-cons R x (xs ++ ys) (All-append (R x) xs ys (λ k d within. one 0 (suc k) d (omega arith) (omega arith)) (apart 0 x (omega arith))) rest
 
--- rising numbers still rise with a greater one put last
+-- rising numbers with a greater one appended rise
 pub rising-push : (ns : List ℕ) (m : ℕ) → IsStrictlyIncreasing ns → All (λ n. n < m) ns → IsStrictlyIncreasing (ns ++ m ∷ [])
 rising-push ns m rising below =
     increasing_from_pairs (ns ++ m ∷ []) (all_pairs_push (λ i j. i < j) ns m (AllPairs-from_increasing ns rising) (λ k d within. below k d within))

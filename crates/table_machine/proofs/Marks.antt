@@ -1,4 +1,4 @@
--- The states after a try, a connection and news of a peer's services are sound.
+-- The states after a try, a connection and new services of a peer are sound.
 use Rattle.std.proofs.Common.{◌≡◌, ℕ, ◌+◌, ◌<◌, ◌^◌, min, Bool, true, false, ◌&&◌, nat_lt, Option, Some, None, refl, arith, if◌then◌else◌}
 use Rattle.std.proofs.lemmas.List.Elements.{All-contains}
 use Rattle.net_addr.specs.declared.peer.Peer.{Peer}
@@ -8,9 +8,10 @@ use Rattle.table_machine.specs.State.{State, find_peer}
 use Rattle.table_machine.specs.Sound.{IsSound}
 use Rattle.table_machine.specs.Tried.{after_try, attempt, connected, mark, set_services, still_connected, with_services}
 use Rattle.table_machine.proofs.Added.{mark-sound}
+use Rattle.table_machine.proofs.Fields.{IsRec-with}
 use Rattle.table_machine.proofs.Records.{peer_found}
 
--- a change of a record that leaves its number, peer and place
+-- a change of a record, except for its number, peer and place
 pub record IsMark (change : Rec → Rec) : Type 0 where
   pub number : (r : Rec) → (change r).number ≡ r.number
   pub peer : (r : Rec) → (change r).peer ≡ r.peer
@@ -35,32 +36,12 @@ abbrev tried : ℕ → Rec → Rec
 tried now r = record r { last_try = now }
 
 failed-fits : (now : ℕ) (r : Rec) → now < 2 ^ 32 → IsRec r → IsRec (failed now r)
-failed-fits now r low is = record {
-  addr = is.addr;
-  port = is.port;
-  source = is.source;
-  time = is.time;
-  services = is.services;
-  last_success = is.last_success;
-  last_try = low;
-  last_count = low;
-  attempts = omega arith;
-  place = is.place;
-}
+failed-fits now r low is =
+    IsRec-with r _ _ _ _ _ _ _ is is.time is.services is.last_success low low (omega arith) is.place
 
 tried-fits : (now : ℕ) (r : Rec) → now < 2 ^ 32 → IsRec r → IsRec (tried now r)
-tried-fits now r low is = record {
-  addr = is.addr;
-  port = is.port;
-  source = is.source;
-  time = is.time;
-  services = is.services;
-  last_success = is.last_success;
-  last_try = low;
-  last_count = is.last_count;
-  attempts = is.attempts;
-  place = is.place;
-}
+tried-fits now r low is =
+    IsRec-with r _ _ _ _ _ _ _ is is.time is.services is.last_success low is.last_count is.attempts is.place
 
 try-fits : (last_good now : ℕ) (counted : Bool) → now < 2 ^ 32 → (r : Rec) → IsRec r → IsRec (after_try last_good now counted r)
 try-fits last_good now counted low r is =
@@ -76,23 +57,13 @@ try-marks last_good now counted = record {
   place = λ r. elim (counted && nat_lt r.last_count last_good) as (λ b. (if b then failed now r else tried now r).place ≡ r.place) [ true ↦ refl | false ↦ refl ];
 }
 
--- a record that was seen just now
+-- a record of a peer that was seen now
 abbrev seen : ℕ → Rec → Rec
 seen now r = record r { time = now }
 
 seen-fits : (now : ℕ) (r : Rec) → now < 2 ^ 32 → IsRec r → IsRec (seen now r)
-seen-fits now r low is = record {
-  addr = is.addr;
-  port = is.port;
-  source = is.source;
-  time = low;
-  services = is.services;
-  last_success = is.last_success;
-  last_try = is.last_try;
-  last_count = is.last_count;
-  attempts = is.attempts;
-  place = is.place;
-}
+seen-fits now r low is =
+    IsRec-with r _ _ _ _ _ _ _ is low is.services is.last_success is.last_try is.last_count is.attempts is.place
 
 connected-fits : (now : ℕ) → now < 2 ^ 32 → (r : Rec) → IsRec r → IsRec (still_connected now r)
 connected-fits now low r is = elim (nat_lt (r.time + 1200) now) as (λ b. IsRec (if b then seen now r else r)) [ true ↦ seen-fits now r low is | false ↦ is ]
@@ -105,18 +76,8 @@ connected-marks now = record {
 }
 
 services-fits : (services : ℕ) → services < 2 ^ 64 → (r : Rec) → IsRec r → IsRec (with_services services r)
-services-fits services low r is = record {
-  addr = is.addr;
-  port = is.port;
-  source = is.source;
-  time = is.time;
-  services = low;
-  last_success = is.last_success;
-  last_try = is.last_try;
-  last_count = is.last_count;
-  attempts = is.attempts;
-  place = is.place;
-}
+services-fits services low r is =
+    IsRec-with r _ _ _ _ _ _ _ is is.time low is.last_success is.last_try is.last_count is.attempts is.place
 
 pub services-marks : (services : ℕ) → IsMark (with_services services)
 services-marks services = record { number = λ r. refl; peer = λ r. refl; place = λ r. refl }

@@ -25,7 +25,7 @@ distinct_from_rising ns rising =
 flips : (m n : ℕ) → (m == n) ≡ (n == m)
 flips m n = same_from_decides (m == n) (n == m) (Decides-eqb m n) (Decides-like (n == m) sym sym (Decides-eqb n m))
 
--- without the number at a position, the others are left if no other is the same
+-- without the number at a position the others are left, if the numbers are distinct
 others-without_position : (ns order : List ℕ) (n i : ℕ) → IsDistinct ◌==◌ ns → IsPermutation ns order → i < length order → get_or order i n ≡ n
     → IsPermutation (others n ns) (without_position order i)
 others-without_position ns [] n i distinct same within at = absurd (omega arith)

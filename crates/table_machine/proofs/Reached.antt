@@ -12,33 +12,22 @@ use Rattle.table_machine.specs.Entries.{with_record}
 use Rattle.table_machine.specs.Sound.{IsSound}
 use Rattle.table_machine.specs.Tried.{after_success, good, good_by, good_known, move_to_tried, good_outcome, wait}
 use Rattle.table_machine.proofs.Added.{mark-sound}
-use Rattle.table_machine.proofs.Finds.{find_number-is}
+use Rattle.table_machine.proofs.Fields.{IsRec-with}
 use Rattle.table_machine.proofs.Moved.{move-sound}
-use Rattle.table_machine.proofs.Records.{changed_own, peer_found}
-use Rattle.table_machine.proofs.SoundBut.{Never, sound_but}
+use Rattle.table_machine.proofs.Records.{changed_own, find-number, peer_found}
 use Rattle.table_machine.proofs.Waiting.{last_good-sound, wait-sound}
 
--- a record whose peer was reached just now fits
+-- the record of a peer that was reached now fits
 after_success-fits : (r : Rec) (now : ℕ) → IsRec r → now < 2 ^ 32 → IsRec (after_success r now)
-after_success-fits r now fits low = record {
-  addr = fits.addr;
-  port = fits.port;
-  source = fits.source;
-  time = fits.time;
-  services = fits.services;
-  last_success = low;
-  last_try = low;
-  last_count = fits.last_count;
-  attempts = omega arith;
-  place = fits.place;
-}
+after_success-fits r now fits low =
+    IsRec-with r _ _ _ _ _ _ _ fits fits.time fits.services low low fits.last_count (omega arith) fits.place
 
--- a record whose tried slot is occupied waits for it, if fewer than ten do
+-- a record whose tried slot is occupied becomes a collision, if there are fewer than ten
 pub waits-sound : (st : State) (r : Rec) → IsSound st → Contains st.records r → IsSome (opponent_of st r.peer) → IsSound (wait st r.number)
 waits-sound st r sound has occupied = by (nat_lt (length st.collisions) 10) refl
   where
     found : find_number st r.number ≡ Some r
-    found = find_number-is r.number Never st (sound_but r.number st sound) r has
+    found = find-number st.records r sound.rising has
 
     by : (few : Bool) → nat_lt (length st.collisions) 10 ≡ few → IsSound (if few then record st { collisions = with_bucket r.number st.collisions } else st)
     by true few =

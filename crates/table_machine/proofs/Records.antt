@@ -1,5 +1,5 @@
 -- Records by number, by peer and by slot, and what a change or a deletion of one leaves.
-use Rattle.std.proofs.Common.{◌≡◌, ◌≢◌, ℕ, Bool, true, false, not, ◌&&◌, ◌==◌, List, [], ◌∷◌, map, Contains, filter, find, Some, None, refl, sym, ap, subst, ◌∙◌, inl, inr, ◌⊎◌, true≢false, if◌then◌else◌}
+use Rattle.std.proofs.Common.{◌≡◌, ◌≢◌, ℕ, Bool, true, false, not, ◌&&◌, ◌==◌, List, [], ◌∷◌, map, AllPairs, Contains, filter, find, Some, None, refl, sym, ap, subst, ◌∙◌, inl, inr, ◌⊎◌, true≢false, if◌then◌else◌}
 use Rattle.std.specs.List.{list_any}
 use Rattle.std.specs.List.Sorted.{IsStrictlyIncreasing}
 use Rattle.std.proofs.lemmas.Bool.{and_parts, and_from, both_ways}
@@ -11,7 +11,7 @@ use Rattle.peer_rec.specs.Rec.{buckets_of, is_tried}
 use Rattle.peer_rec.specs.declared.rec.Rec.{Rec}
 use Rattle.table_machine.specs.State.{is_new_at, is_tried_at}
 use Rattle.table_machine.specs.Entries.{change_number}
-use Rattle.table_machine.proofs.Lists.{Contains-from_map, Contains-map, Contains-from_filter, Contains-filter, find-Some, find-None, find_only, same_by_number, Contains-head, Contains-tail, list_any-Contains, Contains-list_any}
+use Rattle.table_machine.proofs.Lists.{Contains-from_map, Contains-map, Contains-from_filter, Contains-filter, find-Some, find-None, find_only, same_by_number, same_unless_related, Contains-head, Contains-tail, list_any-Contains, Contains-list_any}
 
 abbrev pub numbers : List Rec → List ℕ
 numbers records = map (λ r. r.number) records
@@ -19,6 +19,10 @@ numbers records = map (λ r. r.number) records
 -- two records of one number are one record
 pub same_record : (records : List Rec) (r q : Rec) → IsStrictlyIncreasing (numbers records) → Contains records r → Contains records q → r.number ≡ q.number → r ≡ q
 same_record records r q = same_by_number (λ (s : Rec). s.number) records r q
+
+-- two records of one peer are one record
+pub same_by_peer : (records : List Rec) (r q : Rec) → AllPairs (λ p s. p.peer ≢ s.peer) records → Contains records r → Contains records q → r.peer ≡ q.peer → r ≡ q
+same_by_peer records r q apart c e same = same_unless_related (λ (p : Rec) (s : Rec). p.peer ≢ s.peer) records r q apart c e (λ differ. differ same) (λ differ. differ (sym same))
 
 -- a record is found by its number
 pub find-number : (records : List Rec) (r : Rec) → IsStrictlyIncreasing (numbers records) → Contains records r → find (λ q. q.number == r.number) records ≡ Some r
@@ -98,29 +102,15 @@ without_number-keeps n records q c other = by (q.number == n) refl
     by true h = absurd (other ((Decides-eqb q.number n).0 h))
     by false h = Contains-filter (λ (p : Rec). not (p.number == n)) records q c (ap not h)
 
--- whether a record is at a slot depends only on its peer and its place
+-- the slot of a peer in its own bucket of the tried table
+abbrev pub own_slot : Places → Peer → ℕ
+own_slot places peer = tried_slot places peer (tried_bucket places peer)
+
+-- a record at a slot of the tried table is in the tried table
 pub tried_at-is_tried : (places : Places) (bucket slot : ℕ) (r : Rec) → is_tried_at places bucket slot r ≡ true → is_tried r ≡ true
 tried_at-is_tried places bucket slot r at =
     (and_parts (is_tried r) (tried_bucket places r.peer == bucket)
     (and_parts (is_tried r && tried_bucket places r.peer == bucket) (tried_slot places r.peer bucket == slot) at).0).0
-
-pub tried_at-same : (places : Places) (bucket slot : ℕ) (r q : Rec) → r.peer ≡ q.peer → (is_tried r ≡ true → is_tried q ≡ true)
-    → is_tried_at places bucket slot r ≡ true → is_tried_at places bucket slot q ≡ true
-tried_at-same places bucket slot r q peer stays at =
-    let outer = and_parts (is_tried r && tried_bucket places r.peer == bucket) (tried_slot places r.peer bucket == slot) at in
-    let inner = and_parts (is_tried r) (tried_bucket places r.peer == bucket) outer.0 in
-    and_from (is_tried q && tried_bucket places q.peer == bucket) (tried_slot places q.peer bucket == slot)
-    (and_from (is_tried q) (tried_bucket places q.peer == bucket) (stays inner.0)
-    (subst (λ (p : Peer). (tried_bucket places p == bucket) ≡ true) peer inner.1))
-    (subst (λ (p : Peer). (tried_slot places p bucket == slot) ≡ true) peer outer.1)
-
-pub new_at-same : (places : Places) (bucket slot : ℕ) (r q : Rec) → r.peer ≡ q.peer → (Contains (buckets_of r) bucket → Contains (buckets_of q) bucket)
-    → is_new_at places bucket slot r ≡ true → is_new_at places bucket slot q ≡ true
-new_at-same places bucket slot r q peer stays at =
-    let parts = and_parts (list_any (λ b. b == bucket) (buckets_of r)) (new_slot places r.peer bucket == slot) at in
-    and_from (list_any (λ b. b == bucket) (buckets_of q)) (new_slot places q.peer bucket == slot)
-    (Contains-list_any bucket (buckets_of q) (stays (list_any-Contains bucket (buckets_of r) parts.0)))
-    (subst (λ (p : Peer). (new_slot places p bucket == slot) ≡ true) peer parts.1)
 
 -- a record is at a slot of the new table if it lists the bucket and the slot is the peer's there
 pub new_at_parts : (places : Places) (bucket slot : ℕ) (r : Rec) → is_new_at places bucket slot r ≡ true → Contains (buckets_of r) bucket × (new_slot places r.peer bucket ≡ slot)
@@ -147,3 +137,17 @@ tried_at_parts places bucket slot r at =
     let outer = and_parts (is_tried r && tried_bucket places r.peer == bucket) (tried_slot places r.peer bucket == slot) at in
     let inner = and_parts (is_tried r) (tried_bucket places r.peer == bucket) outer.0 in
     ((Decides-eqb (tried_bucket places r.peer) bucket).0 inner.1, (Decides-eqb (tried_slot places r.peer bucket) slot).0 outer.1)
+
+-- whether a record is at a slot depends only on its peer and its place
+pub tried_at-same : (places : Places) (bucket slot : ℕ) (r q : Rec) → r.peer ≡ q.peer → (is_tried r ≡ true → is_tried q ≡ true)
+    → is_tried_at places bucket slot r ≡ true → is_tried_at places bucket slot q ≡ true
+tried_at-same places bucket slot r q peer stays at =
+    let parts = tried_at_parts places bucket slot r at in
+    tried_at_from places bucket slot q (stays (tried_at-is_tried places bucket slot r at))
+    (subst (λ (p : Peer). tried_bucket places p ≡ bucket) peer parts.0) (subst (λ (p : Peer). tried_slot places p bucket ≡ slot) peer parts.1)
+
+pub new_at-same : (places : Places) (bucket slot : ℕ) (r q : Rec) → r.peer ≡ q.peer → (Contains (buckets_of r) bucket → Contains (buckets_of q) bucket)
+    → is_new_at places bucket slot r ≡ true → is_new_at places bucket slot q ≡ true
+new_at-same places bucket slot r q peer stays at =
+    let parts = new_at_parts places bucket slot r at in
+    new_at_from places bucket slot q (stays parts.0) (subst (λ (p : Peer). new_slot places p bucket ≡ slot) peer parts.1)

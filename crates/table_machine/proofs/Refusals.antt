@@ -1,4 +1,4 @@
--- A search for a peer refuses at most 44 records: after that the factor makes up for the least
+-- A search for a peer refuses at most 44 records: after that the factor outweighs even the least
 -- chance.
 use Rattle.std.proofs.Common.{◌≡◌, ℕ, zero, suc, ◌+◌, ◌*◌, ◌/◌, ◌%◌, ◌<◌, ◌≤◌, ◌^◌, min, nat_lt, Bool, true, false, List, [], ◌∷◌, length, refl, sym, subst, arith, ⊎_elim, if◌then◌else◌}
 use Rattle.std.proofs.lemmas.Bool.{both_ways, lt-ltb, cases_order}
@@ -12,7 +12,7 @@ use Rattle.table_machine.specs.Picks.{first_accepted, first_factor, is_accepted,
 abbrev chance_after : ℕ → ℕ
 chance_after tries = (2 ^ 30 * 66 ^ tries) / 100 ^ tries
 
--- with at most eight tries, it and its hundredth are at least these
+-- the least that it and its hundredth can be, with at most eight tries
 least_after : (tries : ℕ) → tries ≤ 8 → (386590 ≤ chance_after tries / 100) × (386590 ≤ chance_after tries)
 least_after zero few = (omega arith, omega arith)
 least_after (suc zero) few = (omega arith, omega arith)
@@ -47,7 +47,7 @@ accepts r now word =
     let high = mul-le 386590 3272462624709 (chance r now) (factor_after 44) (least_chance r now) (omega (arith, after_all)) in
     omega arith)
 
--- a search refuses no more than are left to 44
+-- a search that has refused some records refuses at most 44 in all
 bounded : (now refused : ℕ) (ms : List (Rec × ℕ)) → refused ≤ 44 → first_accepted now (factor_after refused) ms ≡ Exhausted → length ms + refused ≤ 44
 bounded now refused [] few is = omega arith
 bounded now refused (m ∷ ms) few is = by (is_accepted m.0 now (factor_after refused) m.1) refl is (bounded now (suc refused) ms)

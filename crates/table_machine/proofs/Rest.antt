@@ -1,4 +1,4 @@
--- What of a state an entry leaves as it is.
+-- The parts of a state that an entry does not change.
 use Rattle.std.proofs.Common.{◌≡◌, ℕ, ◌+◌, ◌%◌, ◌≤◌, ◌^◌, ◌==◌, ◌||◌, nat_le, Bool, true, false, List, length, Option, None, Some, refl, arith, if◌then◌else◌}
 use Rattle.net_addr.specs.Address.{Address}
 use Rattle.net_addr.specs.Ranges.{is_routable}
@@ -11,12 +11,14 @@ use Rattle.table_machine.specs.State.{State, find_peer, new_occupant}
 use Rattle.table_machine.specs.Entries.{add, add_by, change_number, delete, enter_bucket, enter_slot, give_bucket, makes_way, new_record, no, penalty_of, refresh, take_bucket, with_last, with_record, yes}
 
 -- places, collisions and last success are the same; the next number rises by at most one
-pub record KeepsRest (old new : State) : Type 0 where
-  pub places : new.places ≡ old.places
-  pub collisions : new.collisions ≡ old.collisions
-  pub last_good : new.last_good ≡ old.last_good
-  pub least : old.next_number ≤ new.next_number
-  pub most : new.next_number ≤ old.next_number + 1
+abbrev pub KeepsRest : State → State → Type 0
+KeepsRest old new = record {
+  places : new.places ≡ old.places;
+  collisions : new.collisions ≡ old.collisions;
+  last_good : new.last_good ≡ old.last_good;
+  least : old.next_number ≤ new.next_number;
+  most : new.next_number ≤ old.next_number + 1;
+}
 
 enter-rest : (old st : State) (now : ℕ) (r : Rec) (is_new : Bool) (source : Address) → KeepsRest old st → KeepsRest old (enter_bucket st now r is_new source).state
 enter-rest old st now r is_new source keeps = by (new_occupant st bucket (new_slot st.places r.peer bucket))
@@ -27,16 +29,13 @@ enter-rest old st now r is_new source keeps = by (new_occupant st bucket (new_sl
     occupied : (occupant : Rec) (same way none : Bool)
         → KeepsRest old (if same then no st else if way then yes (give_bucket (if none then delete st occupant else take_bucket st occupant bucket) r bucket) else no (if is_new then delete st r else st)).state
     occupied occupant true way none = keeps
-    occupied occupant false true true = record { places = keeps.places; collisions = keeps.collisions; last_good = keeps.last_good; least = keeps.least; most = keeps.most }
-    occupied occupant false true false = record { places = keeps.places; collisions = keeps.collisions; last_good = keeps.last_good; least = keeps.least; most = keeps.most }
+    occupied occupant false true true = keeps
+    occupied occupant false true false = keeps
     occupied occupant false false none =
-        elim is_new as (λ b. KeepsRest old (no (if b then delete st r else st)).state) [
-          | true ↦ record { places = keeps.places; collisions = keeps.collisions; last_good = keeps.last_good; least = keeps.least; most = keeps.most }
-          | false ↦ keeps
-        ]
+        elim is_new as (λ b. KeepsRest old (no (if b then delete st r else st)).state) [ true ↦ keeps | false ↦ keeps ]
 
     by : (o : Option Rec) → KeepsRest old (enter_slot st now r is_new bucket o).state
-    by None = record { places = keeps.places; collisions = keeps.collisions; last_good = keeps.last_good; least = keeps.least; most = keeps.most }
+    by None = keeps
     by (Some occupant) = occupied occupant (occupant.number == r.number) (makes_way occupant r now) (length (without_bucket bucket (buckets_of occupant)) == 0)
 
 pub add-rest : (st : State) (now : ℕ) (entry : Entry) (source : Address) (penalty word : ℕ) → KeepsRest st (add st now entry source penalty word).state

@@ -10,14 +10,14 @@ use Rattle.peer_rec.specs.Rec.{IsRec, buckets_by, buckets_of, is_tried, tried_by
 use Rattle.peer_rec.specs.declared.rec.Rec.{Rec}
 use Rattle.peer_rec.specs.declared.place.Place.{Place}
 use Rattle.peer_rec.specs.declared.place.Place.TheVariants.{New, Tried}
-use Rattle.table_machine.specs.State.{State, is_new_at, new_occupant}
+use Rattle.table_machine.specs.State.{State, is_new_at, is_tried_at, new_occupant}
 use Rattle.table_machine.specs.Entries.{delete, give_bucket, take_bucket, clear_slot, makes_way, enter_bucket, enter_slot, yes, no}
 use Rattle.table_machine.specs.Sound.{IsSound}
 use Rattle.table_machine.proofs.Lists.{find-Some, find-None, find_none_from, none_in_nil}
 use Rattle.table_machine.proofs.Buckets.{HasRoom, IsRec-with_bucket, IsRec-without_bucket, placed, with_bucket-cases, without_bucket-cases, new_bucket-below}
 use Rattle.table_machine.proofs.Records.{changed_cases, changed_other, new_at_parts, new_at_from, tried_at-is_tried, same_record, without_number-cases, without_number-keeps}
 use Rattle.table_machine.proofs.SoundBut.{IsMidway, IsSoundBut, Never, sound_from_but}
-use Rattle.table_machine.proofs.Primitives.{IsAloneInNew, IsAloneInTried, change-keeps, delete-keeps}
+use Rattle.table_machine.proofs.Primitives.{IsOnlyAt, change-keeps, delete-keeps}
 
 -- a record that lists a bucket is not in tried
 pub untried-listed : (r : Rec) (bucket : ℕ) → Contains (buckets_of r) bucket → is_tried r ≡ false
@@ -28,8 +28,8 @@ untried-listed r bucket c = by r.place c
     by Tried listed = absurd (none_in_nil bucket listed)
 
 -- a record that is not in tried is at no tried slot
-pub alone-untried : (st : State) (r : Rec) → is_tried r ≡ false → IsAloneInTried st r
-alone-untried st r untried bucket slot q c at other = absurd (both_ways (is_tried r) untried (tried_at-is_tried st.places bucket slot r at))
+pub only-untried : (st : State) (r : Rec) → is_tried r ≡ false → IsOnlyAt (is_tried_at st.places) st.records r
+only-untried st r untried bucket slot q c at other = absurd (both_ways (is_tried r) untried (tried_at-is_tried st.places bucket slot r at))
 
 -- A record takes an empty slot of the new table.
 module _ (n : ℕ) (MayBeEmpty : Peer → Type 0) (st : State) (r : Rec) (bucket : ℕ) (but : IsMidway n MayBeEmpty st) (has : Contains st.records r) (untried : is_tried r ≡ false)
@@ -37,8 +37,8 @@ module _ (n : ℕ) (MayBeEmpty : Peer → Type 0) (st : State) (r : Rec) (bucket
   pub given : Rec
   given = placed r (New (with_bucket bucket (buckets_of r)))
 
-  alone : IsAloneInNew st (placed r (New (with_bucket bucket (buckets_of r))))
-  alone b slot q c at_given at_q =
+  only_given : IsOnlyAt (is_new_at st.places) st.records (placed r (New (with_bucket bucket (buckets_of r))))
+  only_given b slot q c at_given at_q =
       let parts = new_at_parts st.places b slot (placed r (New (with_bucket bucket (buckets_of r)))) at_given in
       by parts.1 (with_bucket-cases bucket (buckets_of r) b parts.0)
     where
@@ -52,11 +52,11 @@ module _ (n : ℕ) (MayBeEmpty : Peer → Type 0) (st : State) (r : Rec) (bucket
 
   pub give-keeps : IsMidway n MayBeEmpty (give_bucket st r bucket)
   give-keeps =
-      change-keeps n MayBeEmpty st r (placed r (New (with_bucket bucket (buckets_of r)))) but has refl refl alone
-      (alone-untried st (placed r (New (with_bucket bucket (buckets_of r)))) refl)
+      change-keeps n MayBeEmpty st r (placed r (New (with_bucket bucket (buckets_of r)))) but has refl refl only_given
+      (only-untried st (placed r (New (with_bucket bucket (buckets_of r)))) refl)
       (λ tried. absurd (both_ways (is_tried r) untried tried)) (λ other. IsRec-with_bucket r bucket room below)
 
--- if that record is the exempt one, the state is sound again
+-- the state is sound again if that record is the exempt one
 pub give-sound : (st : State) (r : Rec) (bucket : ℕ) → IsSoundBut r.number st → Contains st.records r → is_tried r ≡ false → HasRoom r → bucket < 1024
     → new_occupant st bucket (new_slot st.places r.peer bucket) ≡ None → IsSound (give_bucket st r bucket)
 give-sound st r bucket but has untried room below empty =
@@ -73,7 +73,7 @@ module _ (n : ℕ) (MayBeEmpty : Peer → Type 0) (st : State) (r : Rec) (bucket
       (λ b slot q c at_taken at_q.
       let parts = new_at_parts st.places b slot (placed r (New (without_bucket bucket (buckets_of r)))) at_taken in
       but.new_slots b slot q r c has at_q (new_at_from st.places b slot r (without_bucket-cases bucket (buckets_of r) b parts.0).0 parts.1))
-      (alone-untried st (placed r (New (without_bucket bucket (buckets_of r)))) refl)
+      (only-untried st (placed r (New (without_bucket bucket (buckets_of r)))) refl)
       (λ tried. absurd (both_ways (is_tried r) untried tried)) (λ other. IsRec-without_bucket r bucket fits some)
 
 -- The occupant of a slot leaves it, and is deleted if that was its last.
@@ -135,8 +135,8 @@ evict-sound st r occupant bucket but has untried room below is other =
         (changed_other occupant.number (placed occupant (New (without_bucket bucket (buckets_of occupant)))) st.records r has other) untried room below
         (take-empties r.number Never st occupant bucket slot but is fits)
 
--- A record that has room is to get a bucket. One made for this entry lists none so far; a known one
--- fits as it is.
+-- A record that has room is to get a bucket. One that was made for this entry lists none; a known
+-- one fits as it is.
 pub enter-sound : (st : State) (now : ℕ) (r : Rec) (is_new : Bool) (source : Address) → IsSoundBut r.number st → Contains st.records r → is_tried r ≡ false → HasRoom r
     → (is_new ≡ true → buckets_of r ≡ []) → (is_new ≡ false → IsRec r) → IsSound (enter_bucket st now r is_new source).state
 enter-sound st now r is_new source but has untried room none fits = by (new_occupant st bucket (new_slot st.places r.peer bucket)) refl

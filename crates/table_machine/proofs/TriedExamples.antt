@@ -1,11 +1,7 @@
--- Worked examples of what successes, tries and waits do, computed over the definitions. Where hashes
--- would be slow, buckets and slots are named instead.
+-- Worked examples of what successes, tries and collisions do, computed over the definitions.
+-- Buckets and slots are given, and not hashed.
 use Rattle.std.proofs.Common.{◌≡◌, ℕ, ◌-◌, true, false, List, [], ◌∷◌, map, get_or, Option, None, Some, refl, ap}
-use Rattle.net_addr.specs.Address.{Address}
 use Rattle.net_addr.specs.Same.{same_address}
-use Rattle.net_addr.specs.OldForm.{address}
-use Rattle.net_addr.specs.declared.net.Net.TheVariants.{Ipv4}
-use Rattle.net_addr.specs.declared.peer.Peer.{Peer}
 use Rattle.placing.specs.Places.{new_bucket, new_slot}
 use Rattle.peer_rec.specs.Rec.{is_tried}
 use Rattle.peer_rec.specs.declared.good.Good.TheVariants.{Already, Clash, Moved, Unknown}
@@ -18,64 +14,27 @@ use Rattle.table_machine.specs.Tried.{after_try, attempt, back_to_new, clear_new
 use Rattle.table_machine.specs.Clashes.{clash_pick, fate_against, resolve}
 use Rattle.table_machine.specs.Clashes.Fate.{Erased, Kept}
 use Rattle.table_machine.specs.Clashes.Fate.{Moved as MovesIn}
+use Rattle.table_machine.proofs.ExampleStates.{now, peer, rec, state}
 
-abbrev now : ℕ
-now = 1700000000
-
-abbrev dns : Address
-dns = address Ipv4 (8 ∷ 8 ∷ 8 ∷ 8 ∷ [])
-
-abbrev teller : Address
-teller = address Ipv4 (1 ∷ 2 ∷ 3 ∷ 4 ∷ [])
-
-abbrev peer : ℕ → Peer
-peer port = record { addr = dns; port = port }
-
--- a record of a port of 8.8.8.8 that failed twice
-abbrev rec : ℕ → ℕ → Place → Rec
-rec number port place = record {
-  number = number;
-  peer = peer port;
-  source = teller;
-  time = 1699990000;
-  services = 1;
-  last_success = 0;
-  last_try = 1699990000;
-  last_count = 1699990000;
-  attempts = 2;
-  place = place;
-}
-
--- a state of some records, in an order, with some that wait
-abbrev state : List Rec → List ℕ → List ℕ → State
-state records order collisions = record {
-  places = record { key = []; map = None };
-  records = records;
-  order = order;
-  collisions = collisions;
-  last_good = 1;
-  next_number = 20;
-}
-
--- where each record is
+-- the number and the place of each record
 abbrev places : State → List (ℕ × Place)
 places st = map (λ r. (r.number, r.place)) st.records
 
--- a peer that is not known sets the time of the last success all the same
-unknown : (good (state [] [] []) now (peer 1) true).answer ≡ Unknown
+-- the success of an unknown peer sets the time of the last success too
+unknown : (good (state [] [] [] 20) now (peer 1) true).answer ≡ Unknown
 unknown = refl
 
-unknown_counts : (good (state [] [] []) now (peer 1) true).state.last_good ≡ now
+unknown_counts : (good (state [] [] [] 20) now (peer 1) true).state.last_good ≡ now
 unknown_counts = refl
 
--- one that is in tried already
-already : (good (state (rec 0 1 Tried ∷ []) (0 ∷ []) []) now (peer 1) false).answer ≡ Already
+-- a record that is in the tried table already
+already : (good (state (rec 0 1 Tried ∷ []) (0 ∷ []) [] 20) now (peer 1) false).answer ≡ Already
 unfolding same_address
 already = refl
 
 -- a record moves to an empty slot of the tried table, although testing is asked for
 abbrev two_new : State
-two_new = state (rec 0 1 (New (3 ∷ 9 ∷ [])) ∷ rec 1 2 (New (4 ∷ [])) ∷ []) (0 ∷ 1 ∷ []) []
+two_new = state (rec 0 1 (New (3 ∷ 9 ∷ [])) ∷ rec 1 2 (New (4 ∷ [])) ∷ []) (0 ∷ 1 ∷ []) [] 20
 
 moves : (good two_new now (peer 1) true).answer ≡ Moved
 unfolding same_address
@@ -89,8 +48,8 @@ marks_of_success : get_or (good two_new now (peer 1) true).state.records 0 (rec 
 unfolding same_address
 marks_of_success = refl
 
--- A record of the tried table goes back to a bucket whose slot has an occupant, or none, and another
--- takes its slot.
+-- A record of the tried table goes back to a bucket whose slot is empty or occupied, and another
+-- record takes its slot.
 abbrev goes_back : State → Rec → ℕ → Option Rec → State
 goes_back st old bucket occupant = with_record (clear_new st bucket occupant) (record old { place = New (bucket ∷ []) })
 
@@ -106,7 +65,7 @@ abbrev after_displacing : State → Rec → Rec → ℕ → Option Rec → State
 after_displacing st r old bucket occupant = with_record (goes_back (with_record st (record r { place = New [] })) old bucket occupant) (record r { place = Tried })
 
 abbrev three : Place → State
-three place = state (rec 0 1 (New (3 ∷ [])) ∷ rec 1 2 Tried ∷ rec 2 3 place ∷ []) (0 ∷ 1 ∷ 2 ∷ []) []
+three place = state (rec 0 1 (New (3 ∷ [])) ∷ rec 1 2 Tried ∷ rec 2 3 place ∷ []) (0 ∷ 1 ∷ 2 ∷ []) [] 20
 
 empty_new_slot : places (after_displacing (three (New (5 ∷ []))) (rec 0 1 (New (3 ∷ []))) (rec 1 2 Tried) 7 None) ≡ (0, Tried) ∷ (1, New (7 ∷ [])) ∷ (2, New (5 ∷ [])) ∷ []
 empty_new_slot = refl
@@ -117,30 +76,30 @@ one_bucket_deleted = refl
 two_buckets_stays : places (after_displacing (three (New (5 ∷ 7 ∷ []))) (rec 0 1 (New (3 ∷ []))) (rec 1 2 Tried) 7 (Some (rec 2 3 (New (5 ∷ 7 ∷ []))))) ≡ (0, Tried) ∷ (1, New (7 ∷ [])) ∷ (2, New (5 ∷ [])) ∷ []
 two_buckets_stays = refl
 
--- with testing a record waits for a slot that is occupied, and without it moves
+-- with testing a record becomes a collision if its slot is occupied, and without testing it moves
 waits_for_slot : (st : State) (r old : Rec) → is_tried r ≡ false → opponent_of st r.peer ≡ Some old → good_known st r true ≡ good_outcome Clash (wait st r.number)
 waits_for_slot st r old untried is = rw (untried, is) refl
 
 moves_without_testing : (st : State) (r : Rec) → is_tried r ≡ false → good_known st r false ≡ good_outcome Moved (move_to_tried st r)
 moves_without_testing st r untried = rw untried refl
 
--- One more waits beside nine, by rising numbers, and not beside ten. One that waits already is not
--- doubled.
+-- A collision is added to nine, in the order of numbers, but not to ten, and not if it is there
+-- already.
 abbrev nine : List ℕ
 nine = 0 ∷ 1 ∷ 2 ∷ 3 ∷ 4 ∷ 6 ∷ 7 ∷ 8 ∷ 9 ∷ []
 
-tenth : (wait (state [] [] nine) 5).collisions ≡ 0 ∷ 1 ∷ 2 ∷ 3 ∷ 4 ∷ 5 ∷ 6 ∷ 7 ∷ 8 ∷ 9 ∷ []
+tenth : (wait (state [] [] nine 20) 5).collisions ≡ 0 ∷ 1 ∷ 2 ∷ 3 ∷ 4 ∷ 5 ∷ 6 ∷ 7 ∷ 8 ∷ 9 ∷ []
 tenth = refl
 
-no_eleventh : (wait (state [] [] (0 ∷ nine)) 5).collisions ≡ 0 ∷ nine
+no_eleventh : (wait (state [] [] (0 ∷ nine) 20) 5).collisions ≡ 0 ∷ nine
 no_eleventh = refl
 
-waits_already : (wait (state [] [] nine) 4).collisions ≡ nine
+waits_already : (wait (state [] [] nine 20) 4).collisions ≡ nine
 waits_already = refl
 
--- a try that counts, unless a counted one is as late as the last success of any peer
+-- a try counts if the last one that counted is before the last success of any peer
 abbrev untried : Rec
-untried = record (rec 0 1 Tried) { last_count = 1699990000 }
+untried = record (rec 0 1 Tried) { last_count = 1699990000; attempts = 2 }
 
 before_success : after_try 1699990001 now true untried ≡ record untried { last_try = now; last_count = now; attempts = 3 }
 before_success = refl
@@ -154,19 +113,19 @@ not_counted = refl
 most_attempts : (after_try 1699990001 now true (record untried { attempts = 2147483647 })).attempts ≡ 2147483647
 most_attempts = refl
 
--- a peer of which nothing is known is not marked
+-- an unknown peer is not marked
 no_mark : (attempt two_new now (peer 5) true).answer ≡ false
 unfolding same_address
 no_mark = refl
 
--- seen twenty minutes ago, and a second more
+-- last seen twenty minutes ago, and a second earlier
 stays_seen : (still_connected now (record untried { time = 1699998800 })).time ≡ 1699998800
 stays_seen = refl
 
 seen_anew : (still_connected now (record untried { time = 1699998799 })).time ≡ now
 seen_anew = refl
 
--- services are replaced, and not joined
+-- new services replace the old ones
 other_services : (with_services 8 untried).services ≡ 8
 other_services = refl
 
@@ -198,18 +157,18 @@ tried_long_ago = refl
 newcomer_after_forty_minutes : fate_against (ago 2401 2401) (ago 20000 14400) now ≡ MovesIn
 newcomer_after_forty_minutes = refl
 
--- no pick where none waits, and a number that is gone is dropped
+-- there is no collision, and one of a deleted record is dropped
 none_waits : (clash_pick two_new 7).answer ≡ None
 none_waits = refl
 
-gone : (clash_pick (state (rec 0 1 Tried ∷ []) (0 ∷ []) (3 ∷ 5 ∷ [])) 7).state.collisions ≡ 3 ∷ []
+gone : (clash_pick (state (rec 0 1 Tried ∷ []) (0 ∷ []) (3 ∷ 5 ∷ []) 20) 7).state.collisions ≡ 3 ∷ []
 gone = refl
 
--- of two that wait one is gone, and the slot of the other is empty
-one_of_two : (resolve (state (rec 0 1 (New (3 ∷ [])) ∷ []) (0 ∷ []) (0 ∷ 5 ∷ [])) now).answer ≡ record { erased = 1; moved = 1; kept = 0 }
+-- of two collisions, the record of one was deleted, and the slot of the other is empty
+one_of_two : (resolve (state (rec 0 1 (New (3 ∷ [])) ∷ []) (0 ∷ []) (0 ∷ 5 ∷ []) 20) now).answer ≡ record { erased = 1; moved = 1; kept = 0 }
 unfolding same_address
 one_of_two = refl
 
-none_waits_on : (resolve (state (rec 0 1 (New (3 ∷ [])) ∷ []) (0 ∷ []) (0 ∷ 5 ∷ [])) now).state.collisions ≡ []
+none_waits_on : (resolve (state (rec 0 1 (New (3 ∷ [])) ∷ []) (0 ∷ []) (0 ∷ 5 ∷ []) 20) now).state.collisions ≡ []
 unfolding same_address
 none_waits_on = refl

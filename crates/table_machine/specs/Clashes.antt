@@ -1,5 +1,7 @@
--- What becomes of the newcomers that wait for a slot of the tried table
--- (`AddrManImpl::ResolveCollisions_` and `SelectTriedCollision_` in addrman.cpp of Bitcoin Core).
+-- How collisions are resolved (`AddrManImpl::ResolveCollisions_` and `SelectTriedCollision_` in
+-- addrman.cpp of Bitcoin Core). A collision is the number of a record, the newcomer, that was reached
+-- (`good` with testing) while its slot of the tried table was occupied. It stays until `resolve` or
+-- `clash_pick` drops it, also if the record is deleted or moved meanwhile.
 use Rattle.std.specs.Prelude.{ℕ, ◌+◌, ◌%◌, List, [], ◌∷◌, length, filter, get_or, not, ◌==◌, nat_lt, false, Option, Some, None, if◌then◌else◌}
 use Rattle.net_addr.specs.declared.peer.Peer.{Peer}
 use Rattle.peer_rec.specs.declared.rec.Rec.{Rec}
@@ -7,20 +9,20 @@ use Rattle.peer_rec.specs.declared.resolved.Resolved.{Resolved}
 use Rattle.table_machine.specs.State.{State, find_number, opponent_of}
 use Rattle.table_machine.specs.Tried.{good}
 
--- a number waits no more
+-- a collision is dropped
 abbrev pub erase_clash : State → ℕ → State
 erase_clash st number = record st { collisions = filter (λ n. not (n == number)) st.collisions }
 
--- Erased: the number is dropped. Kept: it waits on. Moved: its peer was reached without testing, and
--- the number is dropped.
+-- Erased: the collision is dropped. Kept: it stays. Moved: its peer counts as reached, without
+-- testing, and the collision is dropped.
 pub data Fate : Type 0 where
   Erased : Fate
   Kept : Fate
   Moved : Fate
 
 -- An occupant that was reached within four hours keeps the slot. If it was tried within four hours,
--- the newcomer moves in once more than a minute has passed since. If not, it moves in once its own
--- success is more than forty minutes old.
+-- the newcomer moves in as soon as that try is more than a minute old. If not, the newcomer moves
+-- in as soon as its own success is more than forty minutes old.
 abbrev pub fate_against : Rec → Rec → ℕ → Fate
 fate_against newcomer occupant now =
     if nat_lt now (occupant.last_success + 14400) then Erased
@@ -28,33 +30,33 @@ fate_against newcomer occupant now =
     else if nat_lt (newcomer.last_success + 2400) now then Moved
     else Kept
 
--- in a sound state the slot of a newcomer that waits is never empty
+-- in a sound state the slot of a collision is never empty
 abbrev pub fate_by : Rec → Option Rec → ℕ → Fate
 fate_by newcomer None now = Moved
 fate_by newcomer (Some occupant) now = fate_against newcomer occupant now
 
--- a newcomer that was deleted waits no more
+-- a collision is dropped if its record was deleted
 abbrev pub fate_of : State → Option Rec → ℕ → Fate
 fate_of st None now = Erased
 fate_of st (Some newcomer) now = fate_by newcomer (opponent_of st newcomer.peer) now
 
--- a newcomer in the tried table already only gets the marks of a success
+-- a newcomer that is in the tried table already only gets the marks of a success
 abbrev pub move_in : State → Option Rec → ℕ → State
 move_in st None now = st
 move_in st (Some newcomer) now = (good st now newcomer.peer false).state
 
--- the state after a waiting number has had its turn
+-- the state after the decision on a collision
 abbrev pub after_fate : Fate → State → Option Rec → ℕ → ℕ → State
 after_fate Erased st newcomer number now = erase_clash st number
 after_fate Kept st newcomer number now = st
 after_fate Moved st newcomer number now = erase_clash (move_in st newcomer now) number
 
--- how many newcomers met each fate, and the state after it
+-- how many collisions met each fate, and the state afterwards
 pub record Resolution : Type 0 where
   pub answer : Resolved
   pub state : State
 
--- one newcomer more
+-- the counts with another collision of the fate
 abbrev pub one_more : Fate → Resolved → Resolved
 one_more Erased r = record r { erased = 1 + r.erased }
 one_more Kept r = record r { kept = 1 + r.kept }
@@ -63,6 +65,7 @@ one_more Moved r = record r { moved = 1 + r.moved }
 abbrev pub with_fate : Fate → Resolution → Resolution
 with_fate fate rest = record { answer = one_more fate rest.answer; state = rest.state }
 
+-- the decisions on some collisions, one after another
 abbrev pub resolve_all : State → ℕ → List ℕ → Resolution
 resolve_all st now [] = record { answer = record { erased = 0; moved = 0; kept = 0 }; state = st }
 resolve_all st now (number ∷ numbers) =
@@ -70,11 +73,11 @@ resolve_all st now (number ∷ numbers) =
     let fate = fate_of st newcomer now in
     with_fate fate (resolve_all (after_fate fate st newcomer number now) now numbers)
 
--- all that wait, by rising numbers (`ResolveCollisions_`)
+-- the decisions on all collisions, by rising numbers (`ResolveCollisions_`)
 abbrev pub resolve : State → ℕ → Resolution
 resolve st now = resolve_all st now st.collisions
 
--- the occupant to be tested and when it was last tried, and the state after the pick
+-- the occupant to be tested and the time of its last try, and the state afterwards
 pub record ClashPick : Type 0 where
   pub answer : Option (Peer × ℕ)
   pub state : State
@@ -87,8 +90,8 @@ abbrev pub pick_newcomer : State → ℕ → Option Rec → ClashPick
 pick_newcomer st number None = record { answer = None; state = erase_clash st number }
 pick_newcomer st number (Some newcomer) = pick_opponent st (opponent_of st newcomer.peer)
 
--- The occupant that one of the newcomers that wait is to displace, drawn by the random word. A
--- newcomer that was deleted waits no more (`SelectTriedCollision_`).
+-- The random word draws a collision; the answer is the occupant of its slot. A collision whose
+-- record was deleted is dropped (`SelectTriedCollision_`).
 abbrev pub clash_pick : State → ℕ → ClashPick
 clash_pick st word =
     if length st.collisions == 0 then record { answer = None; state = st }

@@ -1,42 +1,53 @@
--- What holds of every state between two steps.
-use Rattle.std.specs.Prelude.{◌≡◌, ◌≢◌, ℕ, ◌<◌, ◌≤◌, ◌^◌, length, map, All, AllPairs, Contains, true, IsSome, IfSome, IsPermutation}
+-- Which states of the tables are sound: what holds before and after each step.
+use Rattle.std.specs.Prelude.{◌≡◌, ◌≢◌, ℕ, ◌<◌, ◌≤◌, ◌^◌, Bool, true, List, map, length, All, AllPairs, Contains, IsSome, IfSome, IsPermutation}
 use Rattle.std.specs.List.Sorted.{IsStrictlyIncreasing}
 use Rattle.net_addr.specs.Ranges.{is_valid}
-use Rattle.placing.specs.Places.{IsPlaces}
+use Rattle.placing.specs.Places.{IsPlaces, Places}
 use Rattle.peer_rec.specs.Rec.{IsRec}
 use Rattle.peer_rec.specs.declared.rec.Rec.{Rec}
 use Rattle.table_machine.specs.State.{State, find_number, is_new_at, is_tried_at, opponent_of}
 
--- two records that say they are at one slot of the new table are one record
-abbrev pub AloneInNew : State → Type 0
-AloneInNew st = (bucket slot : ℕ) (r q : Rec) → Contains st.records r → Contains st.records q →
-    is_new_at st.places bucket slot r ≡ true → is_new_at st.places bucket slot q ≡ true → r.number ≡ q.number
+-- Each slot has at most one record: two records that is_at finds at one slot of one bucket have the
+-- same number.
+abbrev pub AtMostOne : (ℕ → ℕ → Rec → Bool) → List Rec → Type 0
+AtMostOne is_at records = (bucket slot : ℕ) (r q : Rec) → Contains records r → Contains records q →
+    is_at bucket slot r ≡ true → is_at bucket slot q ≡ true → r.number ≡ q.number
 
--- two records that say they are at one slot of the tried table are one record
-abbrev pub AloneInTried : State → Type 0
-AloneInTried st = (bucket slot : ℕ) (r q : Rec) → Contains st.records r → Contains st.records q →
-    is_tried_at st.places bucket slot r ≡ true → is_tried_at st.places bucket slot q ≡ true → r.number ≡ q.number
-
--- the tried slot of a newcomer that waits is occupied
+-- the tried slot of a collision is occupied
 abbrev pub HasOpponent : State → ℕ → Type 0
 HasOpponent st number = IfSome (find_number st number) (λ r. IsSome (opponent_of st r.peer))
 
--- One record a slot; the order names each record once; peers are distinct and valid; numbers rise and are below the
--- next number; the newcomers that wait are at most ten, by rising numbers below the next, and each has an opponent; and
--- key, map, records and numbers are in their ranges.
+-- The order names each record once; peers are distinct and valid; numbers rise and are below the
+-- next number.
+pub record AreListed (rs : List Rec) (ns : List ℕ) (next : ℕ) : Type 0 where
+  pub order : IsPermutation (map (λ r. r.number) rs) ns
+  pub peers : AllPairs (λ r q. r.peer ≢ q.peer) rs
+  pub valid : All (λ r. is_valid r.peer.addr ≡ true) rs
+  pub rising : IsStrictlyIncreasing (map (λ r. r.number) rs)
+  pub below_next : All (λ r. r.number < next) rs
+
+-- at most ten collisions, by rising numbers below the next number
+pub record AreCollisions (ns : List ℕ) (next : ℕ) : Type 0 where
+  pub collisions : IsStrictlyIncreasing ns
+  pub few_collisions : length ns ≤ 10
+  pub collisions_below_next : All (λ n. n < next) ns
+
+-- key, map, the time of the last success and the next number are in their ranges
+pub record AreInRange (key_and_map : Places) (time next : ℕ) : Type 0 where
+  pub places : IsPlaces key_and_map
+  pub last_good : time < 2 ^ 32
+  pub next_number : next < 2 ^ 64
+
+-- Besides these parts: no slot has two records, the tried slot of each collision is occupied, and
+-- the records are in their ranges.
 pub record IsSound (st : State) : Type 0 where
-  pub new_slots : AloneInNew st
-  pub tried_slots : AloneInTried st
-  pub order : IsPermutation (map (λ r. r.number) st.records) st.order
-  pub peers : AllPairs (λ r q. r.peer ≢ q.peer) st.records
-  pub valid : All (λ r. is_valid r.peer.addr ≡ true) st.records
-  pub rising : IsStrictlyIncreasing (map (λ r. r.number) st.records)
-  pub below_next : All (λ r. r.number < st.next_number) st.records
-  pub collisions : IsStrictlyIncreasing st.collisions
-  pub few_collisions : length st.collisions ≤ 10
-  pub collisions_below_next : All (λ n. n < st.next_number) st.collisions
+  pub listed : AreListed st.records st.order st.next_number
+  pub open listed use *
+  pub waiting : AreCollisions st.collisions st.next_number
+  pub open waiting use *
+  pub ranges : AreInRange st.places st.last_good st.next_number
+  pub open ranges use *
+  pub new_slots : AtMostOne (is_new_at st.places) st.records
+  pub tried_slots : AtMostOne (is_tried_at st.places) st.records
   pub opponents : All (HasOpponent st) st.collisions
   pub records : All IsRec st.records
-  pub places : IsPlaces st.places
-  pub last_good : st.last_good < 2 ^ 32
-  pub next_number : st.next_number < 2 ^ 64

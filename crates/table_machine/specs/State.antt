@@ -1,5 +1,5 @@
--- The state of the tables (`AddrManImpl` in addrman_impl.h of Bitcoin Core). It has no arrays of slots: the occupant of a
--- slot is the record that says it is there.
+-- The state of the tables (`AddrManImpl` in addrman_impl.h of Bitcoin Core). It has no arrays of
+-- slots: the occupant of a slot is the record that has this slot.
 use Rattle.std.specs.Prelude.{ℕ, List, [], Bool, ◌&&◌, ◌==◌, Option, find}
 use Rattle.std.specs.List.{list_any}
 use Rattle.net_addr.specs.Same.{same_peer}
@@ -8,9 +8,10 @@ use Rattle.placing.specs.Places.{Places, new_slot, tried_bucket, tried_slot}
 use Rattle.peer_rec.specs.Rec.{buckets_of, is_tried}
 use Rattle.peer_rec.specs.declared.rec.Rec.{Rec}
 
--- key and map (places), the records by rising number, the order that samples are drawn from (a list of numbers), the
--- numbers of the newcomers that wait for a tried slot (rising), the time of the last success in seconds since 1970,
--- and the number of the next record
+-- The key and the asmap (`places`), the records by rising number, the order that samples are drawn
+-- from (a list of their numbers), the collisions (the rising numbers of records that wait for a
+-- slot of the tried table), the time of the last success in seconds since 1970, and the number of
+-- the next record.
 pub record State : Type 0 where
   pub places : Places
   pub records : List Rec
@@ -19,7 +20,7 @@ pub record State : Type 0 where
   pub last_good : ℕ
   pub next_number : ℕ
 
--- no records, and the last success is the least time (`m_last_good{1}`)
+-- no records; the time of the last success is 1, the least (`m_last_good{1}`)
 abbrev pub empty_state : Places → State
 empty_state places = record {
   places = places;
@@ -30,7 +31,7 @@ empty_state places = record {
   next_number = 0;
 }
 
--- the peer's record
+-- the record of the peer
 abbrev pub find_peer : State → Peer → Option Rec
 find_peer st peer = find (λ r. same_peer peer r.peer) st.records
 

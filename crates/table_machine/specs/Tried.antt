@@ -1,5 +1,6 @@
--- What a success, a try and other news of a peer do to the tables (`AddrManImpl::Good_`,
--- `MakeTried`, `Attempt_`, `Connected_` and `SetServices_` in addrman.cpp of Bitcoin Core).
+-- What a success, a try, a connection and new services of a peer do to the tables
+-- (`AddrManImpl::Good_`, `MakeTried`, `Attempt_`, `Connected_` and `SetServices_` in addrman.cpp of
+-- Bitcoin Core).
 use Rattle.std.specs.Prelude.{ℕ, ◌+◌, min, [], ◌∷◌, length, Bool, ◌&&◌, nat_lt, is_some, Option, Some, None, if◌then◌else◌}
 use Rattle.net_addr.specs.declared.peer.Peer.{Peer}
 use Rattle.placing.specs.Places.{new_bucket, new_slot}
@@ -17,8 +18,8 @@ abbrev pub clear_new : State → ℕ → Option Rec → State
 clear_new st bucket None = st
 clear_new st bucket (Some occupant) = clear_slot st occupant bucket
 
--- A record of the tried table goes back to the new table, to the bucket of its own source. The
--- occupant of its slot there loses the bucket, and is deleted if it has no other.
+-- A record of the tried table goes back to the new table, to the bucket of its source. The occupant
+-- of its slot there loses the bucket, and is deleted if it has no other.
 abbrev pub back_to_new : State → Rec → State
 back_to_new st r =
     let bucket = new_bucket st.places r.peer r.source in
@@ -36,7 +37,7 @@ move_to_tried st r =
     let left = with_record st (record r { place = New [] }) in
     with_record (displace left (opponent_of left r.peer)) (record r { place = Tried })
 
--- what became of a peer that was reached, and the state after it
+-- the answer to a success, and the state afterwards
 pub record GoodOutcome : Type 0 where
   pub answer : Good
   pub state : State
@@ -44,16 +45,16 @@ pub record GoodOutcome : Type 0 where
 abbrev pub good_outcome : Good → State → GoodOutcome
 good_outcome answer st = record { answer = answer; state = st }
 
--- a record whose peer was reached just now; the time that it was seen stays
+-- the record of a peer that was reached now; the time when it was seen stays
 abbrev pub after_success : Rec → ℕ → Rec
 after_success r now = record r { last_success = now; last_try = now; attempts = 0 }
 
--- a number waits for a slot of the tried table, unless ten wait already; the numbers are a set
+-- a number becomes a collision, unless there are ten already; none is there twice
 abbrev pub wait : State → ℕ → State
 wait st number = if nat_lt (length st.collisions) 10 then record st { collisions = with_bucket number st.collisions } else st
 
--- A known peer was reached. With testing, it waits if its tried slot is occupied: the occupant is to
--- be tested first.
+-- A known peer was reached. With testing, its record becomes a collision if its tried slot is
+-- occupied: the occupant is to be tested first.
 abbrev pub good_known : State → Rec → Bool → GoodOutcome
 good_known st r testing =
     if is_tried r then good_outcome Already st
@@ -70,7 +71,7 @@ good st now peer testing =
     let later = record st { last_good = now } in
     good_by (find_peer later peer) later now testing
 
--- yes, and the record of a known peer is changed; no for an unknown peer
+-- the record of a known peer is changed, and the answer is yes; it is no for an unknown peer
 abbrev pub mark : (Rec → Rec) → State → Option Rec → Outcome
 mark change st None = no st
 mark change st (Some r) = yes (with_record st (change r))
@@ -86,7 +87,7 @@ after_try last_good now count r =
 abbrev pub attempt : State → ℕ → Peer → Bool → Outcome
 attempt st now peer count = mark (after_try st.last_good now count) st (find_peer st peer)
 
--- a peer is connected: the time that it was seen is set anew if it is more than twenty minutes old
+-- a peer is connected: the time when it was seen is updated if it is more than twenty minutes old
 -- (`Connected_`)
 abbrev pub still_connected : ℕ → Rec → Rec
 still_connected now r = if nat_lt (r.time + 1200) now then record r { time = now } else r
