@@ -36,7 +36,7 @@ impl<H: BuildHasher> PeerIndex<H> {
     ghost use Rattle.std.specs.Option.{ForSome};
     ghost use Rattle.peer_index.specs.Order.{IsOrder, SameRecs, SameOthers, SameIds, SameOtherIds, id_of, rec_of, ids, records, with_last, with_rec, without};
 
-    /// No records.
+    /// Makes an index with no records.
     pub fn make(alloc: Global, hasher: H) -> PeerIndex<H>
         ensures { result ≡ [] }
     {
@@ -46,7 +46,8 @@ impl<H: BuildHasher> PeerIndex<H> {
         }
     }
 
-    /// How many records there are.
+    /// Returns the number of records.
+    #[tactic(auto, using(crate::proofs::Kept::is_order))]
     pub fn len(&self) -> usize
         ensures count { result ≡ length self.now }
         ensures order { IsOrder self.now }
@@ -54,7 +55,8 @@ impl<H: BuildHasher> PeerIndex<H> {
         self.order.len()
     }
 
-    /// The id of the peer's record, None if there is none.
+    /// Returns the id of the record of `peer`, or `None` if there is none.
+    #[tactic(auto, using(crate::proofs::Kept::is_order))]
     pub fn find(&self, peer: &Peer) -> Option<usize>
         ensures found { result ≡ id_of self.now peer.now }
         ensures live { IfSome result (λ id. IsSomeAnd (rec_of self.now id) (λ r. r.peer ≡ peer.now)) }
@@ -63,7 +65,8 @@ impl<H: BuildHasher> PeerIndex<H> {
         self.order.get(peer).copied()
     }
 
-    /// The record with an id.
+    /// Returns the record with an id.
+    #[tactic(auto, using(crate::proofs::Kept::known_by_peer, crate::proofs::Kept::rec_of_value, crate::proofs::Kept::is_order, crate::proofs::Kept::has_key))]
     pub fn get(&self, id: usize) -> &Rec
         requires { IsSome (rec_of self.now id) }
         ensures found { rec_of self.now id ≡ Some result.now }
@@ -86,7 +89,7 @@ impl<H: BuildHasher> PeerIndex<H> {
         self.recs[id] = rec;
     }
 
-    /// Appends the record of a new peer and returns its id. On an error nothing changes.
+    /// Appends the record of a new peer and returns its id. If memory runs out, nothing changes.
     pub fn add(&mut self, rec: Rec) -> Result<usize, Memory>
         requires few { length self.old < 2 ^ 31 }
         requires absent { id_of self.old rec.peer ≡ None }
@@ -110,7 +113,7 @@ impl<H: BuildHasher> PeerIndex<H> {
         }
     }
 
-    /// Removes the peer's record. The last one of the order moves to its position.
+    /// Removes the record of `peer`. The last one of the order moves to its position.
     pub fn remove(&mut self, peer: &Peer)
         requires { IsSome (id_of self.old peer.now) }
         ensures removed { self.new ≡ without self.old peer.now }
@@ -125,7 +128,8 @@ impl<H: BuildHasher> PeerIndex<H> {
         self.recs.remove(gone);
     }
 
-    /// The id of the record at a position in the order.
+    /// Returns the id of the record at a position in the order.
+    #[tactic(auto, using(crate::proofs::Kept::is_order))]
     pub fn at(&self, position: usize) -> usize
         requires { position < length self.now }
         ensures found { slice_get (ids self.now) position ≡ Some result }

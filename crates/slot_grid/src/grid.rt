@@ -1,4 +1,4 @@
-ghost use Rattle.std.specs.Prelude.{◌≡◌, ◌+◌, ◌*◌, All, None, IfOk, vec_len};
+ghost use Rattle.std.specs.Prelude.{◌≡◌, ◌<◌, ◌+◌, ◌*◌, All, None, IfOk, vec_len};
 
 use crate::Memory;
 use std::alloc::{AllocError, Global};
@@ -33,7 +33,7 @@ impl Grid {
     ghost use Rattle.std.specs.Prelude.{◌≡◌, ◌<◌, IfOk};
     ghost use Rattle.slot_grid.specs.Slots.{new_id, tried_id, AreEmpty, SameNew, SameTried, SameOtherNew, SameOtherTried};
 
-    /// All slots empty.
+    /// Makes a grid whose slots are all empty.
     pub fn make(alloc: Global) -> Result<Grid, Memory>
         ensures { IfOk result AreEmpty }
     {
@@ -41,17 +41,17 @@ impl Grid {
         Ok(Grid { ids })
     }
 
-    /// The record in a slot of the new table, None if it is empty. The bucket is below 1024 and
-    /// the slot below 64.
+    /// Returns the record in a slot of the new table, or `None` if it is empty. The bucket is below
+    /// 1024 and the slot below 64.
     pub fn new_at(&self, bucket: u16, slot: u8) -> Option<usize>
         requires bucket { bucket < 1024 }
         requires slot { slot < 64 }
         ensures { result ≡ new_id self.now bucket slot }
     {
-        self.ids[new_index(bucket, slot)]
+        self.ids[index_of(usize::from(bucket), slot)]
     }
 
-    /// Puts a record into a slot of the new table, or with None empties it.
+    /// Puts a record into a slot of the new table, or with `None` empties it.
     pub fn set_new(&mut self, bucket: u16, slot: u8, id: Option<usize>)
         requires bucket { bucket < 1024 }
         requires slot { slot < 64 }
@@ -59,21 +59,21 @@ impl Grid {
         ensures others { SameOtherNew self.old self.new bucket slot }
         ensures tried { SameTried self.old self.new }
     {
-        let index = new_index(bucket, slot);
+        let index = index_of(usize::from(bucket), slot);
         self.ids[index] = id;
     }
 
-    /// The record in a slot of the tried table, None if it is empty. The bucket is below 256 and
-    /// the slot below 64.
+    /// Returns the record in a slot of the tried table, or `None` if it is empty. The bucket is
+    /// below 256 and the slot below 64.
     pub fn tried_at(&self, bucket: u16, slot: u8) -> Option<usize>
         requires bucket { bucket < 256 }
         requires slot { slot < 64 }
         ensures { result ≡ tried_id self.now bucket slot }
     {
-        self.ids[tried_index(bucket, slot)]
+        self.ids[index_of(NEW_BUCKETS + usize::from(bucket), slot)]
     }
 
-    /// Puts a record into a slot of the tried table, or with None empties it.
+    /// Puts a record into a slot of the tried table, or with `None` empties it.
     pub fn set_tried(&mut self, bucket: u16, slot: u8, id: Option<usize>)
         requires bucket { bucket < 256 }
         requires slot { slot < 64 }
@@ -81,26 +81,20 @@ impl Grid {
         ensures others { SameOtherTried self.old self.new bucket slot }
         ensures new { SameNew self.old self.new }
     {
-        let index = tried_index(bucket, slot);
+        let index = index_of(NEW_BUCKETS + usize::from(bucket), slot);
         self.ids[index] = id;
     }
 }
 
-/// The index of a slot of the new table among all slots.
-fn new_index(bucket: u16, slot: u8) -> usize
+/// Returns the index of a slot among all slots, by its bucket among the buckets of both tables.
+fn index_of(bucket: usize, slot: u8) -> usize
+    requires { bucket < 1280 }
     ensures { result ≡ 64 * bucket + slot }
 {
-    usize::from(bucket) * SLOTS + usize::from(slot)
+    bucket * SLOTS + usize::from(slot)
 }
 
-/// The index of a slot of the tried table among all slots.
-fn tried_index(bucket: u16, slot: u8) -> usize
-    ensures { result ≡ 64 * (1024 + bucket) + slot }
-{
-    (NEW_BUCKETS + usize::from(bucket)) * SLOTS + usize::from(slot)
-}
-
-/// This many empty slots.
+/// Makes `count` empty slots.
 fn empty_slots(alloc: Global, count: usize) -> Result<Vec<Option<usize>>, AllocError>
     ensures length { IfOk result (λ v. vec_len v ≡ count) }
     ensures empty { IfOk result (λ v. All (λ id. id ≡ None) v.items) }
