@@ -15,8 +15,9 @@ impl<'a, H: BuildHasher> Store<'a, H> {
     ghost use Rattle.tables.specs.Inside.{IsStore, SameRest, state_of, outcome, IsReady};
     ghost use Rattle.tables.specs.Reach.{IsReach};
 
-    /// One entry of a source, with a penalty in seconds and a random word, at a time in seconds
-    /// since 1970. True if the entry's peer gets a slot. Where there is no memory, nothing changes.
+    /// Adds an entry that `source` announced, with a penalty in seconds and a random word, at a
+    /// time in seconds since 1970. Returns `true` if the entry's peer gets a slot. If memory runs out,
+    /// nothing changes.
     pub(crate) fn add(
         &mut self,
         entry: &Entry,
@@ -47,7 +48,7 @@ impl<'a, H: BuildHasher> Store<'a, H> {
         }
     }
 
-    // An entry for the peer of a record.
+    /// Adds an entry for a peer that has a record.
     fn add_known(
         &mut self,
         id: usize,
@@ -77,7 +78,7 @@ impl<'a, H: BuildHasher> Store<'a, H> {
         self.enter_bucket(id, false, source, now, reach)
     }
 
-    // An entry for a peer that has no record.
+    /// Adds an entry for a peer that has no record.
     fn add_unknown(
         &mut self,
         entry: &Entry,
@@ -114,8 +115,8 @@ impl<'a, H: BuildHasher> Store<'a, H> {
         Ok(self.enter_bucket(id, true, source, now, reach))
     }
 
-    // Lists a record in the bucket of its peer and a source, if its slot there can be had. A new
-    // record that gets no slot is deleted.
+    /// Lists a record in the bucket of its peer and a source, if its slot there is empty or the
+    /// occupant makes way. A new record that gets no slot is deleted.
     fn enter_bucket(
         &mut self,
         id: usize,
@@ -145,7 +146,7 @@ impl<'a, H: BuildHasher> Store<'a, H> {
         }
     }
 
-    // The same where the slot has an occupant.
+    /// Does the same for a slot that has an occupant.
     fn enter_occupied(
         &mut self,
         id: usize,
@@ -180,7 +181,7 @@ impl<'a, H: BuildHasher> Store<'a, H> {
         false
     }
 
-    // Whether an occupant is terrible, or has other buckets while the record has none.
+    /// Returns `true` if an occupant is terrible, or has other buckets while the record has none.
     fn makes_way(&self, occupant: usize, id: usize, now: u32) -> bool
         requires occupant { IsSome (rec_of self.now.index occupant) }
         requires rec { IsSome (rec_of self.now.index id) }

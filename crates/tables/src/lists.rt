@@ -12,7 +12,7 @@ impl<'a, H: BuildHasher> Store<'a, H> {
     ghost use Rattle.table_machine.specs.Picks.{exchange, is_wanted};
     ghost use Rattle.tables.specs.Inside.{IsStore, SameRest, is_wanted_in, state_of};
 
-    /// The record at a position of the order.
+    /// Returns the record at a position of the order.
     fn record_at(&self, position: usize) -> &Rec
         requires { position < length self.now.index }
         ensures { slice_get (records self.now.index) position ≡ Some result.now }
@@ -21,7 +21,7 @@ impl<'a, H: BuildHasher> Store<'a, H> {
         self.index.get(id)
     }
 
-    /// How many records are in the tried table.
+    /// Returns how many records are in the tried table.
     pub(crate) fn count_tried(&self) -> usize
         ensures { result ≡ count_by is_tried (records self.now.index) }
     {
@@ -34,8 +34,8 @@ impl<'a, H: BuildHasher> Store<'a, H> {
         count
     }
 
-    /// How many records of the new table, and of the tried table, are of the network, or how many
-    /// there are if none is named.
+    /// Returns how many records of the new and of the tried table are of `net`, or how many there
+    /// are in all if `net` is `None`.
     pub(crate) fn count_wanted(&self, net: Option<Net>) -> (usize, usize)
         ensures new { result.0 ≡ count_by (λ r. not (is_tried r) && is_wanted net r) (records self.now.index) }
         ensures tried { result.1 ≡ count_by (λ r. is_tried r && is_wanted net r) (records self.now.index) }
@@ -55,8 +55,8 @@ impl<'a, H: BuildHasher> Store<'a, H> {
         (new, tried)
     }
 
-    /// Whether a table, the new or the tried one, has a record of the network, or any if none is
-    /// named. The walk ends at the first.
+    /// Returns `true` if a table, the new or the tried one, has a record of `net`, or any if `net`
+    /// is `None`. The walk ends at the first.
     pub(crate) fn has_wanted(&self, in_new: bool, net: Option<Net>) -> bool
         ensures { result ≡ nat_lt 0 (count_by (is_wanted_in in_new net) (records self.now.index)) }
     {
@@ -68,7 +68,7 @@ impl<'a, H: BuildHasher> Store<'a, H> {
         false
     }
 
-    /// The records in their order.
+    /// Returns copies of the records in their order.
     fn copies(&self) -> Result<Vec<Rec>, Memory>
         ensures { IfOk result (λ v. v.items ≡ records self.now.index) }
     {
@@ -79,7 +79,7 @@ impl<'a, H: BuildHasher> Store<'a, H> {
         Ok(copies)
     }
 
-    /// The records by rising number.
+    /// Returns copies of the records in increasing order of their numbers.
     pub(crate) fn sorted(&self) -> Result<Vec<Rec>, Memory>
         ensures moved { IfOk result (λ v. IsPermutation (records self.now.index) v.items) }
         ensures sorted { IfOk result (λ v. IsNonDecreasingBy (λ r. r.number) v.items) }

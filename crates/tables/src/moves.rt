@@ -19,9 +19,9 @@ impl<'a, H: BuildHasher> Store<'a, H> {
     ghost use Rattle.tables.specs.Inside.{IsStore, SameRest, SameBare, SameUnlisted, state_of};
     ghost use Rattle.tables.specs.Inside.{CanTry, IsMovable, IsOwnTried, AreWaiters};
 
-    /// A peer was reached, at a time in seconds since 1970. With `testing`, an occupant of its
-    /// tried slot is to be tested before it has to leave (`AddrManImpl::Good_` in addrman.cpp of
-    /// Bitcoin Core).
+    /// Records that a peer was reached, at a time in seconds since 1970. With `testing`, an
+    /// occupant of its tried slot is to be tested before it has to leave (`AddrManImpl::Good_` in
+    /// addrman.cpp of Bitcoin Core).
     pub(crate) fn good(&mut self, peer: &Peer, testing: bool, now: u32) -> Good
         requires stored { IsStore self.old }
         requires sound { IsSound (state_of self.old) }
@@ -39,7 +39,7 @@ impl<'a, H: BuildHasher> Store<'a, H> {
         }
     }
 
-    // The same for a peer that has a record.
+    /// Does the same for a peer that has a record.
     fn good_known(&mut self, id: usize, testing: bool, now: u32) -> Good
         requires stored { IsStore self.old }
         requires sound { IsSound (state_of self.old) }
@@ -68,7 +68,7 @@ impl<'a, H: BuildHasher> Store<'a, H> {
         Good::Moved
     }
 
-    // A record of the new table takes its slot of the tried table (`AddrManImpl::MakeTried`).
+    /// Moves a record of the new table to its slot of the tried table (`AddrManImpl::MakeTried`).
     fn move_to_tried(&mut self, id: usize, bucket: u16, slot: u8)
         requires stored { IsStore self.old }
         requires movable { IsSomeAnd (rec_of self.old.index id) IsMovable }
@@ -86,7 +86,7 @@ impl<'a, H: BuildHasher> Store<'a, H> {
         self.take_tried(id, bucket, slot);
     }
 
-    // Takes a record out of all its buckets of the new table.
+    /// Takes a record out of all its buckets of the new table.
     fn leave_buckets(&mut self, id: usize)
         requires stored { IsStore self.old }
         requires movable { IsSomeAnd (rec_of self.old.index id) IsMovable }
@@ -104,7 +104,7 @@ impl<'a, H: BuildHasher> Store<'a, H> {
         }
     }
 
-    // The first bucket of the new table that lists a record, None if none does.
+    /// Returns the first bucket of the new table that lists a record, or `None` if none does.
     fn first_bucket(&self, id: usize) -> Option<u16>
         requires live { IsSome (rec_of self.now.index id) }
         ensures { (r : Rec) → rec_of self.now.index id ≡ Some r
@@ -116,7 +116,7 @@ impl<'a, H: BuildHasher> Store<'a, H> {
         }
     }
 
-    // Empties a slot of the tried table: its occupant goes back to the new table.
+    /// Empties a slot of the tried table. Its occupant goes back to the new table.
     fn displace(&mut self, bucket: u16, slot: u8)
         requires stored { IsStore self.old }
         requires bucket { bucket < 256 }
@@ -133,8 +133,8 @@ impl<'a, H: BuildHasher> Store<'a, H> {
         }
     }
 
-    // The occupant of a slot of the tried table goes back to the new table, to the bucket of its
-    // own source.
+    /// Moves the occupant of a slot of the tried table back to the new table, to the bucket of its
+    /// own source.
     fn back_to_new(&mut self, id: usize, tried_bucket: u16, tried_slot: u8)
         requires stored { IsStore self.old }
         requires tried_bucket { tried_bucket < 256 }
@@ -155,7 +155,7 @@ impl<'a, H: BuildHasher> Store<'a, H> {
         self.leave_tried(id, tried_bucket, tried_slot, bucket, slot);
     }
 
-    // Empties a slot of the new table if it has an occupant (`AddrManImpl::ClearNew`).
+    /// Empties a slot of the new table if it has an occupant (`AddrManImpl::ClearNew`).
     fn clear_new(&mut self, bucket: u16, slot: u8)
         requires stored { IsStore self.old }
         requires bucket { bucket < 1024 }
@@ -172,8 +172,8 @@ impl<'a, H: BuildHasher> Store<'a, H> {
         }
     }
 
-    // Moves the record of a slot of the tried table to an empty slot of the new one, which is its
-    // peer's there.
+    /// Moves the record of a slot of the tried table to an empty slot of the new one, which is its
+    /// peer's there.
     fn leave_tried(&mut self, id: usize, tried_bucket: u16, tried_slot: u8, bucket: u16, slot: u8)
         requires stored { IsStore self.old }
         requires tried_bucket { tried_bucket < 256 }
@@ -201,8 +201,8 @@ impl<'a, H: BuildHasher> Store<'a, H> {
         self.grid.set_new(bucket, slot, Some(id));
     }
 
-    // Puts a record that is in no bucket into an empty slot of the tried table, which is its
-    // peer's.
+    /// Puts a record that is in no bucket into an empty slot of the tried table, which is its
+    /// peer's.
     fn take_tried(&mut self, id: usize, bucket: u16, slot: u8)
         requires stored { IsStore self.old }
         requires bucket { bucket < 256 }

@@ -8,15 +8,15 @@ use slot_grid::Grid;
 use std::alloc::Global;
 use std::hash::BuildHasher;
 
-/// Records, slots, and what else the tables hold. Between the steps of one change a record may be
-/// in no bucket.
+/// The records, the slots and the other fields of the tables. Between the steps of one change a
+/// record may be in no bucket.
 #[derive(Drop)]
 pub(crate) struct Store<'a, H: BuildHasher> {
     pub(crate) alloc: Global,
     pub(crate) placer: Placer<'a>,
     pub(crate) grid: Grid,
     pub(crate) index: PeerIndex<H>,
-    /// The numbers of the records that wait for a slot of the tried table, rising.
+    /// The numbers of the collisions, in increasing order.
     pub(crate) clashes: ArrayVec<u64, 10>,
     /// Their peers, by which their records are found.
     pub(crate) waiters: ArrayVec<Waiter, 10>,
@@ -38,8 +38,8 @@ impl<'a, H: BuildHasher> Store<'a, H> {
     ghost use Rattle.table_machine.specs.Entries.{with_last, with_record, give_bucket, take_bucket, delete, clear_slot};
     ghost use Rattle.tables.specs.Inside.{IsStore, SameRest, state_of, CanTake, IsSameOne};
 
-    /// Puts a record of a new peer, which is in no bucket, last, and gives its id. Where there is
-    /// no memory, nothing changes.
+    /// Appends the record of a new peer, which is in no bucket, and returns its id. If memory runs
+    /// out, nothing changes.
     pub(crate) fn put_last(&mut self, rec: Rec) -> Result<usize, Memory>
         requires stored { IsStore self.old }
         requires few { length self.old.index < 2 ^ 31 }
@@ -58,7 +58,7 @@ impl<'a, H: BuildHasher> Store<'a, H> {
         Ok(id)
     }
 
-    /// Puts another record of the same number, peer and place under an id.
+    /// Replaces the record under an id by another of the same number, peer and place.
     pub(crate) fn change(&mut self, id: usize, rec: Rec)
         requires stored { IsStore self.old }
         requires same { IsSomeAnd (rec_of self.old.index id) (IsSameOne rec) }
@@ -105,7 +105,7 @@ impl<'a, H: BuildHasher> Store<'a, H> {
         self.grid.set_new(bucket, slot, None);
     }
 
-    /// Takes out a record that is in no bucket.
+    /// Removes a record that is in no bucket.
     pub(crate) fn delete(&mut self, id: usize)
         requires stored { IsStore self.old }
         requires bare { IsSomeAnd (rec_of self.old.index id) (λ r. r.place ≡ New []) }
@@ -133,7 +133,8 @@ impl<'a, H: BuildHasher> Store<'a, H> {
         ensures rest { SameRest self.old self.new }
     {
         self.leave_slot(id, bucket, slot);
-        if self.index.get(id).place.bucket_count() == 0 {
+        let left = self.index.get(id).place.bucket_count();
+        if left == 0 {
             self.delete(id);
         }
     }

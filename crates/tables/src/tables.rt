@@ -18,7 +18,7 @@ use std::marker::Model;
 #[derive(Drop)]
 pub struct Tables<'a, H: BuildHasher> {
     store: Store<'a, H>,
-    /// The buckets of the source that told last: no part of the state.
+    /// The buckets of the last source: no part of the state.
     reach: Reach,
 }
 
@@ -40,10 +40,12 @@ impl<'a, H: BuildHasher> Model for Tables<'a, H> {
 impl<'a, H: BuildHasher + Drop> Tables<'a, H> {
     ghost use Rattle.std.specs.Prelude.{◌≡◌, IfOk};
     ghost use Rattle.table_machine.specs.State.{empty_state};
+    ghost use Rattle.table_machine.specs.Sound.{IsSound};
 
-    /// Tables with no records.
+    /// Makes tables with no records.
     pub fn open(alloc: Global, placer: Placer<'a>, hasher: H) -> Result<Tables<'a, H>, Memory>
-        ensures { IfOk result (λ t. t ≡ empty_state placer.entry) }
+        ensures empty { IfOk result (λ t. t ≡ empty_state placer.entry) }
+        ensures sound { IfOk result IsSound }
     {
         // A placer has a key of 32 bytes: its clause on the key says so.
         let _ = placer.key();
@@ -65,7 +67,7 @@ impl<'a, H: BuildHasher + Drop> Tables<'a, H> {
 }
 
 impl<'a, H: BuildHasher> Tables<'a, H> {
-    ghost use Rattle.std.specs.Prelude.{◌≡◌, ◌<◌, ◌^◌, length, None, Some, IfOk, OnOk, OnErr, option_map, slice_get, ◌≤◌, map, count_by, sum_by, nat_lt, not, Contains, IsPermutation};
+    ghost use Rattle.std.specs.Prelude.{◌≡◌, ◌+◌, ◌<◌, ◌^◌, length, None, Some, IfOk, OnOk, OnErr, option_map, slice_get, ◌≤◌, map, count_by, sum_by, nat_lt, not, Contains, IsPermutation};
     ghost use Rattle.peer_rec.specs.Rec.{buckets_of, is_tried};
     ghost use Rattle.peer_index.specs.Order.{Order, IsOrder, records};
     ghost use Rattle.tables.specs.Parts.{AreOf};
@@ -76,8 +78,8 @@ impl<'a, H: BuildHasher> Tables<'a, H> {
     ghost use Rattle.table_machine.specs.Clashes.{erase_clash};
     ghost use Rattle.table_machine.specs.Picks.{exchange, wanted_new, wanted_tried};
 
-    /// The number of the next record: records are numbered in the order in which they are made,
-    /// and no number is used twice.
+    /// Returns the number of the next record. Records are numbered in the order in which they are
+    /// made, and no number is used twice.
     pub fn next_number(&self) -> u64
         ensures number { result ≡ self.now.next_number }
         ensures sound { IsSound self.now }
@@ -85,9 +87,9 @@ impl<'a, H: BuildHasher> Tables<'a, H> {
         self.store.next_number
     }
 
-    /// One entry that a source tells of, with a penalty in seconds and a random word, at a time in
-    /// seconds since 1970. True if the entry's peer gets a slot. Where there is no memory, nothing
-    /// changes (`AddrManImpl::AddSingle` in addrman.cpp of Bitcoin Core).
+    /// Adds an entry that `source` announced, with a penalty in seconds and a random word, at a
+    /// time in seconds since 1970. Returns `true` if the entry's peer gets a slot. If memory runs
+    /// out, nothing changes (`AddrManImpl::AddSingle` in addrman.cpp of Bitcoin Core).
     pub fn add(
         &mut self,
         entry: &Entry,
@@ -107,9 +109,10 @@ impl<'a, H: BuildHasher> Tables<'a, H> {
             .add(entry, source, penalty, word, now, &mut self.reach)
     }
 
-    /// A peer was reached, at a time in seconds since 1970. A record of the new table moves to the
-    /// tried one. With `testing`, it waits instead if its slot there is occupied, unless ten wait
-    /// already; the answer is `Clash` either way (`AddrManImpl::Good_`).
+    /// Records that `peer` was reached, at a time in seconds since 1970. A record of the new table
+    /// moves to the tried table. With `testing`, it becomes a collision instead if its slot there
+    /// is occupied, unless there are ten collisions already; `Clash` is returned either way
+    /// (`AddrManImpl::Good_`).
     pub fn good(&mut self, peer: &Peer, testing: bool, now: u32) -> Good
         ensures answer { result ≡ (good self.old now peer.now testing).answer }
         ensures state { self.new ≡ (good self.old now peer.now testing).state }
@@ -118,9 +121,9 @@ impl<'a, H: BuildHasher> Tables<'a, H> {
         self.store.good(peer, testing, now)
     }
 
-    /// A connection to a peer was tried, at a time in seconds since 1970. With `counted`, the try
-    /// counts as a failure if the last one that counted is older than the last success of any peer.
-    /// False if the peer is not known (`AddrManImpl::Attempt_`).
+    /// Records a try to connect to `peer`, at a time in seconds since 1970. With `counted`, it
+    /// counts as a failure unless a try to this peer has counted since the last success of any
+    /// peer. Returns `false` if the peer is unknown (`AddrManImpl::Attempt_`).
     pub fn attempt(&mut self, peer: &Peer, counted: bool, now: u32) -> bool
         ensures answer { result ≡ (attempt self.old now peer.now counted).answer }
         ensures state { self.new ≡ (attempt self.old now peer.now counted).state }
@@ -136,8 +139,8 @@ impl<'a, H: BuildHasher> Tables<'a, H> {
         }
     }
 
-    /// A peer is connected, at a time in seconds since 1970. False if the peer is not known
-    /// (`AddrManImpl::Connected_`).
+    /// Sets the time at which `peer` was last seen to `now`, in seconds since 1970, if that is more
+    /// than 20 minutes later. Returns `false` if the peer is unknown (`AddrManImpl::Connected_`).
     pub fn connected(&mut self, peer: &Peer, now: u32) -> bool
         ensures answer { result ≡ (connected self.old now peer.now).answer }
         ensures state { self.new ≡ (connected self.old now peer.now).state }
@@ -153,7 +156,7 @@ impl<'a, H: BuildHasher> Tables<'a, H> {
         }
     }
 
-    /// A peer told which services it offers. False if the peer is not known
+    /// Sets the services that `peer` offers. Returns `false` if the peer is unknown
     /// (`AddrManImpl::SetServices_`).
     pub fn services(&mut self, peer: &Peer, services: u64) -> bool
         ensures answer { result ≡ (set_services self.old peer.now services).answer }
@@ -170,7 +173,7 @@ impl<'a, H: BuildHasher> Tables<'a, H> {
         }
     }
 
-    /// The peer's record, None if there is none.
+    /// Returns the record of `peer`, or `None` if there is none.
     pub fn find(&self, peer: &Peer) -> Option<&Rec>
         ensures { option_map (λ r. r.now) result ≡ find_peer self.now peer.now }
     {
@@ -180,14 +183,14 @@ impl<'a, H: BuildHasher> Tables<'a, H> {
         }
     }
 
-    /// How many records there are.
+    /// Returns the number of records.
     pub fn len(&self) -> usize
         ensures { result ≡ length self.now.order }
     {
         self.store.index.len()
     }
 
-    /// The record at a position of the order.
+    /// Returns the record at a position of the order.
     pub fn order_at(&self, position: usize) -> &Rec
         requires { position < length self.now.order }
         ensures number { slice_get self.now.order position ≡ Some result.now.number }
@@ -197,8 +200,8 @@ impl<'a, H: BuildHasher> Tables<'a, H> {
         self.store.index.get(id)
     }
 
-    /// The record at a slot of the new table, None if the slot is empty. The bucket is below 1024
-    /// and the slot below 64.
+    /// Returns the record in a slot of the new table, or `None` if the slot is empty. The bucket is
+    /// below 1024 and the slot below 64.
     pub fn new_rec_at(&self, bucket: u16, slot: u8) -> Option<&Rec>
         requires bucket { bucket < 1024 }
         requires slot { slot < 64 }
@@ -210,8 +213,8 @@ impl<'a, H: BuildHasher> Tables<'a, H> {
         }
     }
 
-    /// The record at a slot of the tried table, None if the slot is empty. The bucket is below 256
-    /// and the slot below 64.
+    /// Returns the record in a slot of the tried table, or `None` if the slot is empty. The bucket
+    /// is below 256 and the slot below 64.
     pub fn tried_rec_at(&self, bucket: u16, slot: u8) -> Option<&Rec>
         requires bucket { bucket < 256 }
         requires slot { slot < 64 }
@@ -223,7 +226,7 @@ impl<'a, H: BuildHasher> Tables<'a, H> {
         }
     }
 
-    /// The record at the slot of the tried table that a peer has there, None if the slot is empty.
+    /// Returns the record in the slot of `peer` in the tried table, or `None` if the slot is empty.
     pub fn tried_occupant(&self, peer: &Peer) -> Option<&Rec>
         ensures { option_map (λ r. r.now) result ≡ opponent_of self.now peer.now }
     {
@@ -232,8 +235,7 @@ impl<'a, H: BuildHasher> Tables<'a, H> {
         self.tried_rec_at(bucket, slot)
     }
 
-    /// The record of a newcomer that waits for a slot of the tried table, by its number; None if
-    /// it was deleted.
+    /// Returns the record of a collision, by its number, or `None` if it was deleted.
     pub fn by_number(&self, number: u64) -> Option<&Rec>
         requires waits { Contains self.now.collisions number }
         ensures { option_map (λ r. r.now) result ≡ find_number self.now number }
@@ -247,7 +249,8 @@ impl<'a, H: BuildHasher> Tables<'a, H> {
         }
     }
 
-    /// The numbers of the newcomers that wait for a slot of the tried table, at most ten, rising.
+    /// Returns the collisions, at most ten, in increasing order. A collision is the number of a record
+    /// that was reached (`good` with `testing`) while its slot of the tried table was occupied.
     pub fn clashes(&self) -> &[u64]
         ensures clashes { result.now ≡ self.now.collisions }
         ensures sound { IsSound self.now }
@@ -255,7 +258,7 @@ impl<'a, H: BuildHasher> Tables<'a, H> {
         self.store.clashes.as_slice()
     }
 
-    /// The newcomer of a number waits no more.
+    /// Drops a collision, by its number.
     pub fn erase_clash(&mut self, number: u64)
         requires waits { Contains self.old.collisions number }
         ensures state { self.new ≡ erase_clash self.old number }
@@ -274,8 +277,8 @@ impl<'a, H: BuildHasher> Tables<'a, H> {
         self.store.swap(i, j);
     }
 
-    /// How many records of the new table, and of the tried table, are of the network, or how many
-    /// there are if none is named. A record whose address is not routable counts for
+    /// Returns how many records of the new and of the tried table are of `net`, or how many there
+    /// are in all if `net` is `None`. A record whose address is not routable counts for
     /// `Net::Unroutable`.
     pub fn wanted(&self, net: Option<Net>) -> (u32, u32)
         ensures new { result.0 ≡ wanted_new self.now net }
@@ -285,29 +288,31 @@ impl<'a, H: BuildHasher> Tables<'a, H> {
         (new as u32, tried as u32)
     }
 
-    /// Whether the new table has a record of the network, or any if none is named.
+    /// Returns `true` if the new table has a record of `net`, or any if `net` is `None`.
     pub fn has_new(&self, net: Option<Net>) -> bool
         ensures { result ≡ nat_lt 0 (wanted_new self.now net) }
     {
         self.store.has_wanted(true, net)
     }
 
-    /// Whether the tried table has a record of the network, or any if none is named.
+    /// Returns `true` if the tried table has a record of `net`, or any if `net` is `None`.
     pub fn has_tried(&self, net: Option<Net>) -> bool
         ensures { result ≡ nat_lt 0 (wanted_tried self.now net) }
     {
         self.store.has_wanted(false, net)
     }
 
-    /// How many records are in the new and in the tried table, and how many newcomers wait for a
-    /// slot of the tried table.
+    /// Returns how many records are in the new and in the tried table, and how many collisions
+    /// there are.
     pub fn counts(&self) -> Counts
         ensures new { result.new_count ≡ count_by (λ r. not (is_tried r)) self.now.records }
         ensures tried { result.tried_count ≡ count_by is_tried self.now.records }
+        ensures total { result.new_count + result.tried_count ≡ length self.now.order }
         ensures clashes { result.clashes ≡ length self.now.collisions }
         ensures few_new { result.new_count ≤ 65536 }
         ensures few_tried { result.tried_count ≤ 16384 }
         ensures few_buckets { sum_by (λ r. length (buckets_of r)) self.now.records ≤ 65536 }
+        ensures sound { IsSound self.now }
     {
         let tried = self.store.count_tried();
         Counts {
@@ -317,21 +322,21 @@ impl<'a, H: BuildHasher> Tables<'a, H> {
         }
     }
 
-    /// All records by rising number.
+    /// Returns all records in increasing order of their numbers.
     pub fn recs(&self) -> Result<Recs, Memory>
         ensures { IfOk result (λ recs. recs ≡ self.now.records) }
     {
         Ok(Recs::of(self.store.sorted()?))
     }
 
-    /// The slots. Each has the id of the record that is there; `parts` gives the index with it.
+    /// Returns the slots. Each has the id of the record in it; `parts` returns the index with them.
     pub fn grid(&self) -> &Grid
         ensures { (order : Order) × AreOf self.now result.now order }
     {
         &self.store.grid
     }
 
-    /// The records in their order, each with its id.
+    /// Returns the records in their order, each with its id.
     pub fn index(&self) -> &PeerIndex<H>
         ensures order { IsOrder result.now }
         ensures records { IsPermutation self.now.records (records result.now) }
@@ -340,7 +345,7 @@ impl<'a, H: BuildHasher> Tables<'a, H> {
         &self.store.index
     }
 
-    /// The slots and the index together: each slot has the id of the record that is there.
+    /// Returns the slots and the index together: each slot has the id of the record in it.
     pub fn parts(&self) -> (&Grid, &PeerIndex<H>)
         ensures { AreOf self.now result.0.now result.1.now }
     {

@@ -2,7 +2,7 @@ use crate::Store;
 use crate::waiter::Waiter;
 use std::hash::BuildHasher;
 
-/// The most newcomers that wait for a slot of the tried table.
+/// The most collisions at a time.
 const MOST_CLASHES: usize = 10;
 
 impl<'a, H: BuildHasher> Store<'a, H> {
@@ -14,7 +14,7 @@ impl<'a, H: BuildHasher> Store<'a, H> {
     ghost use Rattle.table_machine.specs.Clashes.{erase_clash};
     ghost use Rattle.tables.specs.Inside.{IsStore, AreWaiters, state_of};
 
-    /// The record of an id waits for a slot of the tried table, unless ten do.
+    /// Makes the record of an id a collision, unless there are ten already.
     pub(crate) fn wait(&mut self, id: usize)
         requires stored { IsStore self.old }
         requires rising { IsStrictlyIncreasing self.old.clashes.items }
@@ -37,14 +37,14 @@ impl<'a, H: BuildHasher> Store<'a, H> {
         }
     }
 
-    /// Whether one more newcomer may wait.
+    /// Returns `true` if there may be one more collision.
     fn has_room(&self) -> bool
         ensures { result ≡ nat_lt (length self.now.clashes.items) 10 }
     {
         self.clashes.len() < MOST_CLASHES
     }
 
-    /// The newcomer of a number waits no more.
+    /// Drops the collision of a number.
     pub(crate) fn erase_clash(&mut self, number: u64)
         requires stored { IsStore self.old }
         requires waiters { AreWaiters (state_of self.old) self.old.waiters.items }
@@ -57,7 +57,7 @@ impl<'a, H: BuildHasher> Store<'a, H> {
         self.waiters.retain(|waiter| !waiter.is_of(number));
     }
 
-    /// The newcomer of a number, if it waits.
+    /// Returns the collision of a number, if there is one.
     pub(crate) fn waiter(&self, number: u64) -> Option<&Waiter>
         ensures { option_map (λ w. w.now) result ≡ find (λ w. w.number == number) self.now.waiters.items }
     {

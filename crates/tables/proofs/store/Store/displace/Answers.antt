@@ -1,7 +1,7 @@
 use Rattle.std.proofs.Common.{ap, sym, ◌∙◌}
 use Rattle.table_machine.specs.Tried.{displace}
 use Rattle.tables.specs.Inside.{state_of}
-use Rattle.tables.proofs.Parts.{tried-none, tried-some}
+use Rattle.tables.proofs.Changes.{tried-none, tried-some}
 use Rattle.tables.proofs.store.Store.displace.Goals as goal
 
 pub returns-in-Some-clause-state : goal.returns-in-Some-clause-state

@@ -1,6 +1,6 @@
 use Rattle.std.proofs.Common.{ap, sym, ◌∙◌}
 use Rattle.table_machine.specs.State.{tried_occupant}
-use Rattle.tables.proofs.Parts.{tried-none, tried-some}
+use Rattle.tables.proofs.Changes.{tried-none, tried-some}
 use Rattle.tables.proofs.tables.Tables.tried_rec_at.Goals as goal
 
 pub returns-in-Some : goal.returns-in-Some
