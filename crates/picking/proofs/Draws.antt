@@ -13,7 +13,7 @@ joined : (peers told : List Peer) (rest : Sample) → with_told peers (with_told
 joined peers told rest = ap (λ ps. record { peers = ps; state = rest.state }) (sym (append_assoc peers told rest.peers))
 
 module _ (asked : Option Net) (now limit : ℕ) (words : List ℕ) where
-  -- the peers so far, and then those of the words from a position on
+  -- the peers that were drawn already, and then those of the words from a position on
   abbrev pub sofar : State → List Peer → ℕ → Sample
   sofar st peers i = with_told peers (sample_from st asked now i (limit - length peers) (drop i words))
 

@@ -1,3 +1,2 @@
-pub mod Totals
 pub mod Occupants
 pub mod Draws

@@ -7,10 +7,10 @@ use peer_rec::Rec;
 use std::hash::BuildHasher;
 use tables::{Tables, is_wanted};
 
-/// How many slots a bucket has (`ADDRMAN_BUCKET_SIZE` in addrman_impl.h of Bitcoin Core).
+/// The slots of a bucket (`ADDRMAN_BUCKET_SIZE` in addrman_impl.h of Bitcoin Core).
 pub(crate) const SLOT_COUNT: u8 = 64;
 
-/// The record at a slot of a bucket, of the new table or of the tried table.
+/// Returns the record in a slot of a bucket, of the new table or of the tried table.
 fn occupant_at<'t, H: BuildHasher>(
     tables: &'t Tables<'_, H>,
     in_new: bool,
@@ -28,7 +28,7 @@ fn occupant_at<'t, H: BuildHasher>(
     }
 }
 
-/// The first wanted record of a bucket at the slots from `from` on and before `to`.
+/// Returns the first wanted record of a bucket in the slots `from..to`.
 fn wanted_between<'t, H: BuildHasher>(
     tables: &'t Tables<'_, H>,
     in_new: bool,
@@ -53,7 +53,7 @@ fn wanted_between<'t, H: BuildHasher>(
     None
 }
 
-/// The first wanted record of a bucket, from the slot `start` on and going round.
+/// Returns the first wanted record of a bucket, from the slot `start` on and going round.
 pub(crate) fn first_wanted<'t, H: BuildHasher>(
     tables: &'t Tables<'_, H>,
     in_new: bool,

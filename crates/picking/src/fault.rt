@@ -9,7 +9,7 @@ pub enum SampleFault {
     /// There are fewer random words than records: how many records there are (`need`), and how
     /// many words (`have`).
     ShortWords { need: u32, have: u32 },
-    /// There was no memory for the peers.
+    /// Out of memory.
     Memory,
 }
 

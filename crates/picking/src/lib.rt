@@ -1,5 +1,5 @@
-//! Picks from the tables: a peer to connect to, and peers to tell another node of. The caller gives
-//! the random words.
+//! Picks from the tables: a peer to connect to, and peers to announce to another node. The caller
+//! gives the random words.
 #![tactic(auto)]
 
 mod bucket;

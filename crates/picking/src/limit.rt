@@ -5,19 +5,17 @@ ghost use Rattle.table_machine.specs.Sound.{IsSound};
 use std::hash::BuildHasher;
 use tables::Tables;
 
-/// How many records there are.
+/// Returns the number of records.
 pub(crate) fn count_of<H: BuildHasher>(tables: &Tables<'_, H>) -> u32
     ensures count { result ≡ length tables.now.order }
     ensures sound { IsSound tables.now }
 {
-    // A clause of this call says that the tables are sound.
-    let _ = tables.next_number();
     let counts = tables.counts();
     counts.new_count + counts.tried_count
 }
 
-/// How many peers a sample of `count` records has at most: a part of these in percent, and a
-/// number. For both, 0 is no limit.
+/// Returns the most peers that a sample of `count` records may have: `most`, and `percent` of the
+/// records. For both, 0 is no limit.
 pub(crate) fn sample_limit(count: u32, most: u32, percent: u32) -> u32
     requires percent { percent ≤ 100 }
     ensures limit { result ≡ sample_limit count most percent }

@@ -11,7 +11,7 @@ use std::hash::BuildHasher;
 use tables::Tables;
 
 /// Appends the peers that the random words draw, from the first position of the order on, until
-/// there are as many as the limit. There is room for these.
+/// there are `limit`. The list has room for them.
 fn fill<H: BuildHasher>(
     tables: &mut Tables<'_, H>,
     peers: &mut Vec<Peer>,
@@ -38,11 +38,12 @@ fn fill<H: BuildHasher>(
     }
 }
 
-/// Peers to tell another node of, at a time in seconds since 1970: at most `max`, and at most `pct`
-/// percent of all records, where 0 is no limit; of one class of networks or of any; and none that
-/// is terrible. They come in the order that the random words draw, one word for each record. The
-/// tables' own order stays as the draws leave it (`AddrManImpl::GetAddr_` in addrman.cpp of Bitcoin
-/// Core).
+/// Returns peers to announce to another node, at a time in seconds since 1970: at most `max`, and
+/// at most `pct` percent of all records, where 0 is no limit; of one class of networks, or of any; and
+/// never a terrible one. They come in the order that the random words draw, one word for each
+/// record. The tables' own order stays as the draws leave it (`AddrManImpl::GetAddr_` in
+/// addrman.cpp of Bitcoin Core). `ShortWords` comes if there are fewer words than records. After an error the
+/// tables are unchanged.
 pub fn sample<H: BuildHasher>(
     alloc: Global,
     tables: &mut Tables<'_, H>,

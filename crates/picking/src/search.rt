@@ -7,18 +7,17 @@ use peer_rec::{Picked, Rec};
 use std::hash::BuildHasher;
 use tables::Tables;
 
-/// How many buckets the new table has (`ADDRMAN_NEW_BUCKET_COUNT` in addrman_impl.h of Bitcoin
-/// Core).
+/// The buckets of the new table (`ADDRMAN_NEW_BUCKET_COUNT` in addrman_impl.h of Bitcoin Core).
 const NEW_BUCKETS: u64 = 1024;
-/// How many buckets the tried table has (`ADDRMAN_TRIED_BUCKET_COUNT`).
+/// The buckets of the tried table (`ADDRMAN_TRIED_BUCKET_COUNT`).
 const TRIED_BUCKETS: u64 = 256;
 /// Chances and factors are in parts of this number.
 const PARTS: u64 = 1 << 30;
 /// The factor grows no further than to this one.
 const MOST_FACTOR: u64 = 1 << 60;
 
-/// The first wanted record of the bucket that a random word draws, from the slot on that another
-/// word draws.
+/// Returns the first wanted record of the bucket that a random word draws, from the slot on that
+/// another word draws.
 fn first_met<'t, H: BuildHasher>(
     tables: &'t Tables<'_, H>,
     in_new: bool,
@@ -33,7 +32,7 @@ fn first_met<'t, H: BuildHasher>(
     first_wanted(tables, in_new, asked, (bucket % buckets) as u16, slot)
 }
 
-/// Whether a random word accepts a record, by its chance times the factor.
+/// Returns `true` if a random word accepts a record, by its chance times the factor.
 fn is_accepted(rec: &Rec, now: u32, factor: u64, word: u64) -> bool
     ensures { result ≡ is_accepted rec.now now factor word }
 {
@@ -41,7 +40,7 @@ fn is_accepted(rec: &Rec, now: u32, factor: u64, word: u64) -> bool
     drawn < u128::from(rec.chance(now)) * u128::from(factor)
 }
 
-/// The factor after one more record was refused: a fifth more.
+/// Returns the factor after one more record was refused: a fifth more.
 fn next_factor(factor: u64) -> u64
     requires most { factor ≤ 2 ^ 60 }
     ensures value { result ≡ next_factor factor }

@@ -24,9 +24,9 @@ fn search_either<H: BuildHasher>(
     }
 }
 
-/// A peer to connect to, of one network or of any, at a time in seconds since 1970; with `new_only`,
-/// only one of the new table. Random words draw the table, if both have wanted records, and then
-/// the buckets and slots, and they accept a record by its chance (`AddrManImpl::Select_` in
+/// Returns a peer to connect to, of one network or of any, at a time in seconds since 1970; with
+/// `new_only`, one of the new table. Random words draw the table, if both have wanted records, and
+/// then the buckets and slots, and they accept a record by its chance (`AddrManImpl::Select_` in
 /// addrman.cpp of Bitcoin Core).
 #[tactic(auto, using(table_machine::proofs::Refusals::few_refusals))]
 pub fn select<H: BuildHasher>(

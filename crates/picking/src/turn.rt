@@ -8,7 +8,7 @@ use std::hash::BuildHasher;
 use tables::Tables;
 
 /// Exchanges a position of the order with one that the random word draws, itself or a later one.
-/// Gives the peer that is there then, if others are told of it.
+/// Returns the peer that is there then, if its record may be announced.
 pub(crate) fn draw<H: BuildHasher>(
     tables: &mut Tables<'_, H>,
     class: Option<Net>,

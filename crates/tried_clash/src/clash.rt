@@ -7,9 +7,9 @@ use net_addr::Peer;
 use std::hash::BuildHasher;
 use tables::Tables;
 
-/// The occupant of a slot of the tried table that one of the newcomers which wait is to displace,
-/// and when it was last tried, in seconds since 1970. A random word draws the newcomer; one whose
-/// record was deleted waits no more. None if no newcomer waits, or if the record was deleted
+/// Returns the occupant of the slot that a collision waits for, and when it was last tried, in
+/// seconds since 1970. A random word draws the collision; one whose record was deleted is dropped.
+/// Returns `None` if there is no collision, or if the record was deleted
 /// (`AddrManImpl::SelectTriedCollision_` in addrman.cpp of Bitcoin Core). Takes no memory.
 pub fn clash_pick<H: BuildHasher>(tables: &mut Tables<'_, H>, word: u64) -> Option<(Peer, u32)>
     ensures answer { result ≡ (clash_pick tables.old word).answer }
@@ -24,7 +24,7 @@ pub fn clash_pick<H: BuildHasher>(tables: &mut Tables<'_, H>, word: u64) -> Opti
     opponent(tables, number)
 }
 
-// The number that a random word draws.
+/// Returns the number that a random word draws.
 fn drawn(numbers: &[u64], word: u64) -> u64
     requires some { 0 < length numbers.now }
     ensures drawn { result ≡ get_or numbers.now (word % length numbers.now) 0 }
@@ -33,7 +33,7 @@ fn drawn(numbers: &[u64], word: u64) -> u64
     numbers[(word % numbers.len() as u64) as usize]
 }
 
-// The occupant that the newcomer of a number that waits is to displace.
+/// Returns the occupant of the slot that a collision waits for, by the collision's number.
 fn opponent<H: BuildHasher>(tables: &mut Tables<'_, H>, number: u64) -> Option<(Peer, u32)>
     requires waits { Contains tables.old.collisions number }
     ensures answer { result ≡ (pick_newcomer tables.old number (find_number tables.old number)).answer }

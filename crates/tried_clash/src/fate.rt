@@ -13,7 +13,7 @@ const TEST_TIME: u64 = 60;
 /// (`ADDRMAN_TEST_WINDOW`).
 const TEST_WINDOW: u64 = 2_400;
 
-/// What becomes of a newcomer that waits for a slot of the tried table.
+/// What becomes of a collision.
 #[derive(Clone, Copy, Debug)]
 pub(crate) enum Fate {
     /// It waits no more, and gets no slot.
@@ -25,7 +25,7 @@ pub(crate) enum Fate {
 }
 
 impl Fate {
-    /// The fate of a newcomer whose slot has an occupant, at a time in seconds since 1970
+    /// Returns the fate of a newcomer whose slot has an occupant, at a time in seconds since 1970
     /// (`AddrManImpl::ResolveCollisions_` in addrman.cpp of Bitcoin Core).
     pub(crate) fn against(newcomer: &Rec, occupant: &Rec, now: u32) -> Fate
         ensures { meant result ≡ fate_against newcomer.now occupant.now now }
@@ -47,7 +47,7 @@ impl Fate {
         }
     }
 
-    /// One newcomer more of this fate.
+    /// Counts one more collision of this fate.
     pub(crate) fn one_more(self, resolved: Resolved) -> Resolved
         requires few { resolved.erased + resolved.moved + resolved.kept < 10 }
         ensures { result ≡ one_more (meant self) resolved }

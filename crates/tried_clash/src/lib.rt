@@ -1,5 +1,5 @@
-//! The newcomers that wait for an occupied slot of the tried table: what becomes of them, and which
-//! occupant is to be tested next.
+//! Collisions, the records that wait for an occupied slot of the tried table: what becomes of them,
+//! and which occupant is to be tested next.
 #![tactic(auto)]
 
 mod clash;

@@ -10,9 +10,9 @@ use peer_rec::Resolved;
 use std::hash::BuildHasher;
 use tables::Tables;
 
-/// Decides of each newcomer that waits for a slot of the tried table, by rising numbers, at a time
-/// in seconds since 1970: how many met each fate (`AddrManImpl::ResolveCollisions_` in addrman.cpp
-/// of Bitcoin Core). Takes no memory.
+/// Decides on each collision, in increasing order of record numbers, and returns how many were
+/// erased, moved and kept. `now` is in seconds since 1970 (`AddrManImpl::ResolveCollisions_` in
+/// addrman.cpp of Bitcoin Core). Takes no memory.
 pub fn resolve<H: BuildHasher>(tables: &mut Tables<'_, H>, now: u32) -> Resolved
     ensures answer { result ≡ (resolve tables.old now).answer }
     ensures state { tables.new ≡ (resolve tables.old now).state }
@@ -31,7 +31,7 @@ pub fn resolve<H: BuildHasher>(tables: &mut Tables<'_, H>, now: u32) -> Resolved
     resolved
 }
 
-// The numbers that wait.
+/// Returns the numbers of the collisions.
 fn waiting<H: BuildHasher>(tables: &Tables<'_, H>) -> ArrayVec<u64, 10>
     ensures waiting { result.items ≡ tables.now.collisions }
     ensures sound { IsSound tables.now }
@@ -42,7 +42,7 @@ fn waiting<H: BuildHasher>(tables: &Tables<'_, H>) -> ArrayVec<u64, 10>
     numbers
 }
 
-// A number that waits has its turn.
+/// Decides on one collision.
 fn settle<H: BuildHasher>(tables: &mut Tables<'_, H>, number: u64, now: u32) -> Fate
     requires waits { Contains tables.old.collisions number }
     ensures fate { meant result ≡ fate_of tables.old (find_number tables.old number) now }
@@ -60,7 +60,7 @@ fn settle<H: BuildHasher>(tables: &mut Tables<'_, H>, number: u64, now: u32) -> 
     fate
 }
 
-// The fate of the newcomer of a number that waits.
+/// Returns the fate of a collision, by its number.
 fn fate_of<H: BuildHasher>(tables: &Tables<'_, H>, number: u64, now: u32) -> Fate
     requires waits { Contains tables.now.collisions number }
     ensures { meant result ≡ fate_of tables.now (find_number tables.now number) now }
@@ -74,7 +74,7 @@ fn fate_of<H: BuildHasher>(tables: &Tables<'_, H>, number: u64, now: u32) -> Fat
     }
 }
 
-// The newcomer of a number that waits takes its slot of the tried table.
+/// Moves the record of a collision to its slot of the tried table.
 fn move_in<H: BuildHasher>(tables: &mut Tables<'_, H>, number: u64, now: u32)
     requires waits { Contains tables.old.collisions number }
     ensures state { tables.new ≡ move_in tables.old (find_number tables.old number) now }
