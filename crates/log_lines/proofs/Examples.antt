@@ -4,6 +4,7 @@ use Rattle.std.specs.Prelude.{codes}
 use Rattle.std.specs.Fmt.{digits}
 use Rattle.net_addr.specs.OldForm.{address}
 use Rattle.net_addr.specs.declared.net.Net.TheVariants.{Ipv4}
+use Rattle.peer_rec.specs.Blank.{blank_record}
 use Rattle.peer_rec.specs.declared.rec.Rec.{Rec}
 use Rattle.peer_rec.specs.declared.place.Place.TheVariants.{New, Tried}
 use Rattle.log_lines.specs.Fields.{AreAtFault, AreSeeded}
@@ -28,16 +29,10 @@ unfolding reply_text digits
 reply_to_find = refl
 
 abbrev dns : Rec
-dns = record {
-  number = 0;
-  peer = record { addr = address Ipv4 (8 ∷ 8 ∷ 8 ∷ 8 ∷ []); port = 8333 };
+dns = record (blank_record (record { addr = address Ipv4 (8 ∷ 8 ∷ 8 ∷ 8 ∷ []); port = 8333 })) {
   source = address Ipv4 (1 ∷ 2 ∷ 3 ∷ 4 ∷ []);
   time = 1699992800;
   services = 1;
-  last_success = 0;
-  last_try = 0;
-  last_count = 0;
-  attempts = 0;
   place = New (87 ∷ []);
 }
 

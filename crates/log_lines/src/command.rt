@@ -26,7 +26,7 @@ pub enum Command {
         peer: Peer,
         testing: bool,
     },
-    /// A connection to a peer was tried; with `count`, it counts as a failure.
+    /// A connection to a peer was tried; with `count`, it may count as a failure.
     Attempt {
         peer: Peer,
         count: bool,
@@ -35,7 +35,7 @@ pub enum Command {
     Connected {
         peer: Peer,
     },
-    /// A peer said which services it offers.
+    /// A peer offers these services.
     Services {
         peer: Peer,
         services: u64,
@@ -59,7 +59,7 @@ pub enum Command {
         class: Option<Net>,
         words: Words,
     },
-    /// Settle the collisions in the tried table.
+    /// Decide on all collisions.
     Resolve,
     /// Pick the occupant that a collision is about.
     Clash {

@@ -1,6 +1,7 @@
 use thiserror::Error;
 
-/// Why a line is not read: the first fault of its fields from the left.
+/// Why a line is refused: an unknown first word, a wrong number of fields, or the first malformed
+/// field.
 #[derive(Clone, Copy, Debug, PartialEq, Eq, Error)]
 pub enum LineFault {
     /// The first word is not that of a command, or a field is not one of its words.

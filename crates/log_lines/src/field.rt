@@ -10,8 +10,8 @@ use host_io::Bytes;
 use net_addr::{Net, NetAddr, Peer, parse_addr, parse_number, parse_peer};
 use std::alloc::Global;
 
-/// The number that the text writes in decimal digits, if it is at most `most`. A sign or a leading
-/// zero is refused.
+/// Reads a number in decimal digits, or returns `None` if the text has another form or the number
+/// is above `most`. A sign or a leading zero is refused.
 pub fn read_decimal(text: &[u8], most: u64) -> Option<u64>
     ensures found { IfSome result (λ n. (n ≤ most) × (text.now ≡ decimal n)) }
     ensures only { (n : ℕ) → n ≤ most → text.now ≡ decimal n → result ≡ Some n }
@@ -19,7 +19,7 @@ pub fn read_decimal(text: &[u8], most: u64) -> Option<u64>
     parse_number(text, most)
 }
 
-/// A number from `least` to `most`.
+/// Reads a number from `least` to `most`.
 pub(crate) fn read_number(text: &[u8], least: u64, most: u64) -> Result<u64, LineFault>
     ensures found { IfOk result (λ n. Means (Number least most) text.now (TheNumber n)) }
     ensures within { IfOk result (λ n. n ≤ most) }
@@ -33,7 +33,7 @@ pub(crate) fn read_number(text: &[u8], least: u64, most: u64) -> Result<u64, Lin
     Ok(number)
 }
 
-/// A number of 32 bits.
+/// Reads a number of 32 bits from `least` to `most`.
 pub(crate) fn read_u32(text: &[u8], least: u32, most: u32) -> Result<u32, LineFault>
     ensures found { IfOk result (λ n. Means (Number least most) text.now (TheNumber n)) }
     ensures within { IfOk result (λ n. n ≤ most) }
@@ -44,7 +44,7 @@ pub(crate) fn read_u32(text: &[u8], least: u32, most: u32) -> Result<u32, LineFa
     Ok(number as u32)
 }
 
-/// An address.
+/// Reads an address.
 pub(crate) fn read_addr(text: &[u8]) -> Result<NetAddr, LineFault>
     ensures found { IfOk result (λ a. Means OfAddr text.now (TheAddr a)) }
     ensures unique { IfOk result (λ a. IsOnly OfAddr text.now (TheAddr a)) }
@@ -56,7 +56,7 @@ pub(crate) fn read_addr(text: &[u8]) -> Result<NetAddr, LineFault>
     }
 }
 
-/// A peer.
+/// Reads a peer.
 pub(crate) fn read_peer(text: &[u8]) -> Result<Peer, LineFault>
     ensures found { IfOk result (λ p. Means OfPeer text.now (ThePeer p)) }
     ensures unique { IfOk result (λ p. IsOnly OfPeer text.now (ThePeer p)) }
@@ -68,7 +68,7 @@ pub(crate) fn read_peer(text: &[u8]) -> Result<Peer, LineFault>
     }
 }
 
-/// Whether the text is the first of two words, or the second.
+/// Returns whether the text is the first of two words; it must be the first or the second.
 pub(crate) fn read_either(text: &[u8], first: &[u8], second: &[u8]) -> Result<bool, LineFault>
     requires { first.now ≢ second.now }
     ensures found { IfOk result (λ b.
@@ -87,7 +87,7 @@ pub(crate) fn read_either(text: &[u8], first: &[u8], second: &[u8]) -> Result<bo
     }
 }
 
-/// The bytes that the text writes: `-` for none, or two hexadecimal digits a byte, in either case.
+/// Reads bytes: `-` for none, or two hexadecimal digits a byte, in either case.
 pub fn read_hex(alloc: Global, text: &[u8]) -> Result<Bytes, LineFault>
     ensures found { IfOk result (λ bytes. IsHex text.now bytes) }
     ensures only { (bytes : List ℕ) → IsHex text.now bytes →
@@ -108,7 +108,7 @@ pub fn read_hex(alloc: Global, text: &[u8]) -> Result<Bytes, LineFault>
     }
 }
 
-/// The bytes of a payload.
+/// Reads the bytes of a payload.
 pub(crate) fn read_payload(alloc: Global, text: &[u8]) -> Result<Bytes, LineFault>
     ensures found { IfOk result (λ bytes. Means Hex text.now (TheBytes bytes)) }
     ensures unique { IfOk result (λ bytes. IsOnly Hex text.now (TheBytes bytes)) }
@@ -118,7 +118,7 @@ pub(crate) fn read_payload(alloc: Global, text: &[u8]) -> Result<Bytes, LineFaul
     read_hex(alloc, text)
 }
 
-/// Random words.
+/// Reads random words.
 pub(crate) fn read_random(alloc: Global, text: &[u8]) -> Result<Words, LineFault>
     requires { length text.now ≤ 16777216 }
     ensures found { IfOk result (λ words. Means Random text.now (TheWords words)) }
@@ -129,7 +129,7 @@ pub(crate) fn read_random(alloc: Global, text: &[u8]) -> Result<Words, LineFault
     read_words(alloc, text)
 }
 
-/// A class of addresses, or `None` for all.
+/// Reads a class of addresses, `None` for all.
 pub(crate) fn read_class(text: &[u8]) -> Result<Option<Net>, LineFault>
     ensures found { IfOk result (λ class. Means Class text.now (TheNet class)) }
     ensures unique { IfOk result (λ class. IsOnly Class text.now (TheNet class)) }
@@ -144,7 +144,7 @@ pub(crate) fn read_class(text: &[u8]) -> Result<Option<Net>, LineFault>
     }
 }
 
-/// A network, or `None` for all.
+/// Reads a network, `None` for all.
 pub(crate) fn read_net(text: &[u8]) -> Result<Option<Net>, LineFault>
     ensures found { IfOk result (λ net. Means OfNet text.now (TheNet net)) }
     ensures unique { IfOk result (λ net. IsOnly OfNet text.now (TheNet net)) }
@@ -157,7 +157,7 @@ pub(crate) fn read_net(text: &[u8]) -> Result<Option<Net>, LineFault>
     Ok(net)
 }
 
-/// The network of this name.
+/// Returns the network of this name.
 fn net_of(text: &[u8]) -> Option<Net>
     ensures found { IfSome result (λ net. text.now ≡ net_name net) }
     ensures none { IfNone result ((net : net.Net) → text.now ≢ net_name net) }

@@ -4,7 +4,7 @@ ghost use Rattle.log_lines.specs.Inside.{texts_after};
 
 use crate::pieces::cut_piece;
 
-/// The first field of the text, and the text after the space that ends it, if there is a space.
+/// Returns the first field of the text, and the text after the space that ends it, if there is one.
 pub(crate) fn cut_field(text: &[u8]) -> (&[u8], Option<&[u8]>)
     ensures cut { fields_of text.now ≡ result.0.now ∷ texts_after result.1 }
     ensures short { length result.0.now ≤ length text.now }
@@ -13,7 +13,7 @@ pub(crate) fn cut_field(text: &[u8]) -> (&[u8], Option<&[u8]>)
     cut_piece(text, b' ')
 }
 
-/// Whether there are no fields.
+/// Returns whether there are no fields.
 pub(crate) fn no_fields(rest: Option<&[u8]>) -> bool
     ensures { IsTrue result ↔ (length (texts_after rest.entry) ≡ 0) }
 {
@@ -23,7 +23,7 @@ pub(crate) fn no_fields(rest: Option<&[u8]>) -> bool
     }
 }
 
-/// The only field.
+/// Returns the field if there is only one.
 pub(crate) fn one_field(rest: Option<&[u8]>) -> Option<&[u8]>
     ensures found { IfSome result (λ a. texts_after rest.entry ≡ a.now ∷ []) }
     ensures none { IfNone result (length (texts_after rest.entry) ≢ 1) }
@@ -31,13 +31,10 @@ pub(crate) fn one_field(rest: Option<&[u8]>) -> Option<&[u8]>
         length found.now ≤ length text.now)) }
 {
     let (field, rest) = cut_field(rest?);
-    match rest {
-        None => Some(field),
-        Some(_) => None,
-    }
+    if no_fields(rest) { Some(field) } else { None }
 }
 
-/// The two fields.
+/// Returns the fields if there are two.
 pub(crate) fn two_fields(rest: Option<&[u8]>) -> Option<(&[u8], &[u8])>
     ensures found { IfSome result (λ fields. texts_after rest.entry
         ≡ fields.0.now ∷ fields.1.now ∷ []) }
@@ -50,7 +47,7 @@ pub(crate) fn two_fields(rest: Option<&[u8]>) -> Option<(&[u8], &[u8])>
     Some((a, b))
 }
 
-/// The three fields.
+/// Returns the fields if there are three.
 pub(crate) fn three_fields(rest: Option<&[u8]>) -> Option<(&[u8], &[u8], &[u8])>
     ensures found { IfSome result (λ fields. texts_after rest.entry
         ≡ fields.0.now ∷ fields.1.now ∷ fields.2.now ∷ []) }
@@ -63,7 +60,7 @@ pub(crate) fn three_fields(rest: Option<&[u8]>) -> Option<(&[u8], &[u8], &[u8])>
     Some((a, b, c))
 }
 
-/// The four fields.
+/// Returns the fields if there are four.
 pub(crate) fn four_fields(rest: Option<&[u8]>) -> Option<(&[u8], &[u8], &[u8], &[u8])>
     ensures found { IfSome result (λ fields. texts_after rest.entry
         ≡ fields.0.now ∷ fields.1.now ∷ fields.2.now ∷ fields.3.now ∷ []) }

@@ -1,6 +1,6 @@
 use std::alloc::AllocError;
 
-/// There was no memory for what a call appends.
+/// Out of memory.
 #[derive(Clone, Copy, Debug, PartialEq, Eq)]
 pub struct Memory;
 

@@ -2,8 +2,8 @@ ghost use Rattle.std.specs.Prelude.{◌≡◌, ◌≢◌, ℕ, List, ◌<◌, �
 ghost use Rattle.std.specs.List.{slice_split};
 ghost use Rattle.log_lines.specs.Inside.{pieces_after};
 
-/// The first piece of a text that a byte cuts into pieces, and the text after that byte, if the
-/// byte is there.
+/// Returns the text before the first separator, and the text after it; the whole text if there is
+/// no separator.
 pub(crate) fn cut_piece(text: &[u8], separator: u8) -> (&[u8], Option<&[u8]>)
     ensures cut { slice_split (λ b. b == separator) text.now
         ≡ result.0.now ∷ pieces_after separator result.1 }
@@ -16,7 +16,7 @@ pub(crate) fn cut_piece(text: &[u8], separator: u8) -> (&[u8], Option<&[u8]>)
     }
 }
 
-/// The text before the first such byte, and the text after it.
+/// Returns the text before the first separator and the text after it, or `None` if there is none.
 fn split_at(text: &[u8], separator: u8) -> Option<(&[u8], &[u8])>
     ensures cut { IfSome result (λ parts. text.now ≡ parts.0.now ++ separator ∷ parts.1.now) }
     ensures first { IfSome result (λ parts. All (λ b. b ≢ separator) parts.0.now) }
@@ -30,7 +30,7 @@ fn split_at(text: &[u8], separator: u8) -> Option<(&[u8], &[u8])>
     None
 }
 
-/// The text after its first byte, if it begins with this byte.
+/// Returns the text after its first byte, if that is `byte`.
 pub(crate) fn after_byte(text: &[u8], byte: u8) -> Option<&[u8]>
     ensures found { IfSome result (λ rest. text.now ≡ byte ∷ rest.now) }
     ensures none { IfNone result ((rest : List ℕ) → text.now ≢ byte ∷ rest) }

@@ -10,9 +10,10 @@ use itoa::Buffer;
 use net_addr::{Peer, put_addr, put_peer};
 use peer_rec::{Counts, Good, Picked, Place, Rec, Resolved};
 
-/// Appends the text of a reply, which ends with a line feed.
+/// Appends the text of a reply, which ends with a line feed. If memory runs out, nothing changes.
 ///
-/// A refusal because memory ran out is not a reply of the tables.
+/// The reply must not be `Refused(MsgFault::Memory)`: that is reported as `Memory`, and not as a
+/// reply.
 pub fn put_reply(reply: &Reply, out: &mut Vec<u8>) -> Result<(), Memory>
     requires { reply.now ≢ Reply.Refused MsgFault.Memory }
     ensures ok { OnOk result (out.new.items ≡ out.old.items ++ reply_text reply.now) }
@@ -61,7 +62,7 @@ fn put_line(reply: &Reply, out: &mut Vec<u8>) -> Result<(), Memory>
     }
 }
 
-/// The word for a fault of a message.
+/// Returns the word for a fault of a message.
 fn fault_word(fault: &MsgFault) -> &'static [u8]
     ensures { result.now ≡ fault_text fault.now }
 {
@@ -76,7 +77,7 @@ fn fault_word(fault: &MsgFault) -> &'static [u8]
     }
 }
 
-/// The word for the result of a connection to a peer.
+/// Returns the word for the result of a connection to a peer.
 fn good_word(good: &Good) -> &'static [u8]
     ensures { result.now ≡ good_text good.now }
 {
@@ -88,7 +89,7 @@ fn good_word(good: &Good) -> &'static [u8]
     }
 }
 
-/// The word for whether a peer is known.
+/// Returns the word for whether a peer is known.
 fn known_word(known: bool) -> &'static [u8]
     ensures { result.now ≡ known_text known }
 {
@@ -154,7 +155,7 @@ fn put_peers(peers: &[Peer], out: &mut Vec<u8>) -> Result<(), Memory>
     Ok(())
 }
 
-/// Appends what became of the collisions.
+/// Appends how many collisions had which result.
 fn put_resolved(resolved: &Resolved, out: &mut Vec<u8>) -> Result<(), Memory>
     ensures { OnOk result (out.new.items ≡ out.old.items ++ resolved_text resolved.now) }
 {
@@ -214,7 +215,7 @@ fn put_origin(rec: &Rec, out: &mut Vec<u8>) -> Result<(), Memory>
     Ok(())
 }
 
-/// Appends when a record's peer was seen, in seconds since 1970, and its services.
+/// Appends when a record's peer was last seen, in seconds since 1970, and its services.
 fn put_seen(rec: &Rec, out: &mut Vec<u8>) -> Result<(), Memory>
     ensures { OnOk result (out.new.items ≡ out.old.items ++ seen_text rec.now) }
 {

@@ -1,4 +1,4 @@
-ghost use Rattle.std.specs.Prelude.{◌≡◌, ◌≢◌, ◌≤◌, ◌<◌, ◌^◌, ◌⊎◌, ◌++◌, ◌∷◌, ℕ, List, codes, length, vec_len, IfOk, IsTrue, Ok, Err};
+ghost use Rattle.std.specs.Prelude.{◌≡◌, ◌≤◌, ◌<◌, ◌^◌, ◌⊎◌, ◌∷◌, ℕ, List, codes, length, vec_len, IfOk, IsTrue, Ok, Err};
 ghost use Rattle.log_lines.specs.Fields.{AreWords, AreNumbers, AreSeeded};
 ghost use Rattle.log_lines.specs.Random.{seeded_words};
 
@@ -10,11 +10,11 @@ use rand_core::utils::NextWord;
 use rand_xoshiro::Xoshiro256PlusPlus;
 use std::alloc::{AllocError, Global};
 
-/// The most words that a seed gives.
+/// The most random words that a seed gives.
 const MOST_SEEDED: u64 = 1_000_000;
 
-/// The random words that the text gives: `-` for none, numbers with commas between them, or
-/// `@S:N` for the first N words of the generator with the seed S.
+/// Reads random words: `-` for none, numbers with commas between them, or `@S:N` for the first N
+/// words of the generator with the seed S.
 pub fn read_words(alloc: Global, text: &[u8]) -> Result<Words, LineFault>
     requires { length text.now ≤ 16777216 }
     ensures found { IfOk result (λ words. AreWords text.now words) }
@@ -32,7 +32,7 @@ pub fn read_words(alloc: Global, text: &[u8]) -> Result<Words, LineFault>
     }
 }
 
-/// Whether the text is `-`.
+/// Returns whether the text is `-`.
 fn is_dash(text: &[u8]) -> bool
     ensures yes { IsTrue result → text.now ≡ codes "-" }
     ensures no { text.now ≡ codes "-" → IsTrue result }
@@ -40,7 +40,7 @@ fn is_dash(text: &[u8]) -> bool
     text == b"-".as_slice()
 }
 
-/// Numbers below 2^64 with commas between them.
+/// Reads numbers below 2^64 with commas between them.
 fn read_numbers(alloc: Global, text: &[u8]) -> Result<Words, LineFault>
     requires { length text.now ≤ 16777216 }
     ensures found { IfOk result (λ words. AreNumbers text.now words) }
@@ -64,7 +64,7 @@ fn read_numbers(alloc: Global, text: &[u8]) -> Result<Words, LineFault>
     Ok(Words::of(words))
 }
 
-/// The text after `@`: a seed, a colon, and the number of words.
+/// Reads the text after `@`: a seed, a colon, and the number of random words.
 fn read_seeded(alloc: Global, text: &[u8]) -> Result<Words, LineFault>
     ensures found { IfOk result (λ words. AreSeeded (64 ∷ text.now) words) }
     ensures only { (words : List ℕ) → AreSeeded (64 ∷ text.now) words →
@@ -82,14 +82,23 @@ fn read_seeded(alloc: Global, text: &[u8]) -> Result<Words, LineFault>
     let Some(count) = parse_number(count, MOST_SEEDED) else {
         return Err(LineFault::Words);
     };
-    match seeded_words(alloc, seed, count as usize) {
-        Ok(words) => Ok(Words::of(words)),
+    match seeded_words(alloc, seed, count) {
+        Ok(words) => Ok(words),
         Err(_) => Err(LineFault::Memory),
     }
 }
 
-/// The first words of the generator that the seed gives.
-fn seeded_words(alloc: Global, seed: u64, count: usize) -> Result<Vec<u64>, AllocError>
+/// Returns the first words of the generator with this seed.
+fn seeded_words(alloc: Global, seed: u64, count: u64) -> Result<Words, AllocError>
+    requires { count ≤ MOST_SEEDED }
+    ensures { IfOk result (λ words. words ≡ seeded_words seed count) }
+{
+    let words = first_outputs(alloc, seed, count as usize)?;
+    Ok(Words::of(words))
+}
+
+/// Returns the first outputs of the generator with this seed.
+fn first_outputs(alloc: Global, seed: u64, count: usize) -> Result<Vec<u64>, AllocError>
     ensures words { IfOk result (λ words. words.items ≡ seeded_words seed count) }
     ensures length { IfOk result (λ words. vec_len words ≡ count) }
 {

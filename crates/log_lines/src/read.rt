@@ -1,8 +1,8 @@
-ghost use Rattle.std.specs.Prelude.{◌≡◌, ◌≢◌, ◌-◌, ◌^◌, ◌≤◌, ◌↔◌, ◌⊎◌, [], ◌∷◌, ℕ, List, length, codes, IfOk, IfSome, IfNone, Some, None, Ok, Err, IsTrue};
+ghost use Rattle.std.specs.Prelude.{◌≡◌, ◌≢◌, ◌-◌, ◌^◌, ◌≤◌, ◌↔◌, ◌⊎◌, [], ◌∷◌, length, IfOk, IfSome, IfNone, Some, None, Ok, Err, IsTrue};
 ghost use Rattle.host_io.specs.Lines.{IsPassedOver};
-ghost use Rattle.log_lines.specs.Fields.{Kind, Number, OfAddr, OfPeer, Hex, Random, Either, OfNet, Class, TheNumber, TheAddr, ThePeer, TheBytes, TheWords, TheChoice, TheNet, AllMean, AreAtFault};
+ghost use Rattle.log_lines.specs.Fields.{Number, OfAddr, OfPeer, Hex, Random, Either, TheNumber, TheAddr, ThePeer, TheBytes, TheWords, TheChoice, AllMean, AreAtFault};
 ghost use Rattle.log_lines.specs.Inside.{texts_after, AreOnly};
-ghost use Rattle.log_lines.specs.Spelling.{u32_field, u64_field, word_of, kinds_of, values_of, SpellsAfter, Spells, HasFault};
+ghost use Rattle.log_lines.specs.Spelling.{word_of, kinds_of, values_of, SpellsAfter, Spells, HasFault};
 ghost use Rattle.log_lines.specs.declared.command.Command.{Command};
 ghost use Rattle.log_lines.specs.declared.verb.Verb.{Verb};
 
@@ -16,8 +16,8 @@ use host_io::Bytes;
 use net_addr::{NetAddr, Peer};
 use std::alloc::Global;
 
-/// The command that a line spells, without its line feed, or `None` for a line that is passed over:
-/// an empty one, or one that begins with a `#`.
+/// Reads the command of a line, which has no line feed, or returns `None` for a line that is passed
+/// over: an empty one, or one that begins with `#`.
 pub fn read_line(alloc: Global, line: &[u8]) -> Result<Option<Command>, LineFault>
     requires { length line.now ≤ 16777216 }
     ensures passed { result ≡ Ok None ↔ IsPassedOver line.now }
@@ -35,7 +35,7 @@ pub fn read_line(alloc: Global, line: &[u8]) -> Result<Option<Command>, LineFaul
     Ok(Some(command))
 }
 
-/// The command that a line spells, if the line is not passed over.
+/// Reads the command of a line that is not passed over.
 fn read_spelled(alloc: Global, line: &[u8]) -> Result<Command, LineFault>
     requires short { length line.now ≤ 16777216 }
     requires kept { ¬ IsPassedOver line.now }
@@ -48,14 +48,14 @@ fn read_spelled(alloc: Global, line: &[u8]) -> Result<Command, LineFault>
     read_command(alloc, verb, rest)
 }
 
-/// Whether the line is passed over.
+/// Returns whether the line is passed over.
 fn is_passed_over(line: &[u8]) -> bool
     ensures { IsTrue result ↔ IsPassedOver line.now }
 {
     line.is_empty() || line[0] == b'#'
 }
 
-/// The verb of the first word of a line.
+/// Returns the verb of the first word of a line.
 fn verb_of(word: &[u8]) -> Option<Verb>
     ensures found { IfSome result (λ verb. word.now ≡ word_of verb) }
     ensures none { IfNone result ((verb : Verb) → word.now ≢ word_of verb) }
@@ -101,7 +101,7 @@ fn verb_of(word: &[u8]) -> Option<Verb>
     }
 }
 
-/// The command of a verb and the fields after it.
+/// Reads the fields after a verb.
 fn read_command(alloc: Global, verb: Verb, rest: Option<&[u8]>) -> Result<Command, LineFault>
     requires { IfSome rest (λ text. length text.now ≤ 16777216) }
     ensures found { IfOk result (λ c. SpellsAfter verb (texts_after rest.entry) c) }
@@ -164,7 +164,7 @@ fn read_command(alloc: Global, verb: Verb, rest: Option<&[u8]>) -> Result<Comman
     }
 }
 
-/// The command, if there are no fields.
+/// Returns the command if there are no fields.
 fn with_no_fields(rest: Option<&[u8]>, command: Command) -> Result<Command, LineFault>
     ensures found { IfOk result (λ c. (c ≡ command) × AllMean [] (texts_after rest.entry) []) }
     ensures unique { IfOk result (λ c. AreOnly [] (texts_after rest.entry) []) }
@@ -177,7 +177,7 @@ fn with_no_fields(rest: Option<&[u8]>, command: Command) -> Result<Command, Line
     }
 }
 
-/// A number of 32 bits, at least `least`.
+/// Reads the only field, a number of 32 bits that is at least `least`.
 fn one_u32(rest: Option<&[u8]>, least: u32) -> Result<u32, LineFault>
     ensures found { IfOk result (λ n.
         AllMean (Number least (2 ^ 32 - 1) ∷ []) (texts_after rest.entry)
@@ -191,7 +191,7 @@ fn one_u32(rest: Option<&[u8]>, least: u32) -> Result<u32, LineFault>
     read_u32(number, least, u32::MAX)
 }
 
-/// A peer.
+/// Reads the only field, a peer.
 fn one_peer(rest: Option<&[u8]>) -> Result<Peer, LineFault>
     ensures found { IfOk result (λ p.
         AllMean (OfPeer ∷ []) (texts_after rest.entry) (ThePeer p ∷ [])) }
@@ -204,7 +204,7 @@ fn one_peer(rest: Option<&[u8]>) -> Result<Peer, LineFault>
     read_peer(peer)
 }
 
-/// A peer and one of two words.
+/// Reads a peer and one of two words.
 fn peer_and_choice(
     rest: Option<&[u8]>,
     first: &[u8],
@@ -226,7 +226,7 @@ fn peer_and_choice(
     Ok((peer, choice))
 }
 
-/// The source, the payload and the random words of a message.
+/// Reads the fields of `addr` and `addrv2`: a source, a payload and random words.
 fn message_fields(alloc: Global, rest: Option<&[u8]>) -> Result<(NetAddr, Bytes, Words), LineFault>
     requires { IfSome rest (λ text. length text.now ≤ 16777216) }
     ensures found { IfOk result (λ r.
@@ -245,7 +245,7 @@ fn message_fields(alloc: Global, rest: Option<&[u8]>) -> Result<(NetAddr, Bytes,
     Ok((source, payload, words))
 }
 
-/// The services of a peer.
+/// Reads the fields of `services`.
 fn read_services(rest: Option<&[u8]>) -> Result<Command, LineFault>
     ensures found { IfOk result (λ c. SpellsAfter Verb.Services (texts_after rest.entry) c) }
     ensures unique { IfOk result (λ c.
@@ -259,7 +259,7 @@ fn read_services(rest: Option<&[u8]>) -> Result<Command, LineFault>
     Ok(Command::Services { peer, services })
 }
 
-/// A pick.
+/// Reads the fields of `select`.
 fn read_select(alloc: Global, rest: Option<&[u8]>) -> Result<Command, LineFault>
     requires { IfSome rest (λ text. length text.now ≤ 16777216) }
     ensures found { IfOk result (λ c. SpellsAfter Verb.Select (texts_after rest.entry) c) }
@@ -279,7 +279,7 @@ fn read_select(alloc: Global, rest: Option<&[u8]>) -> Result<Command, LineFault>
     })
 }
 
-/// A sample.
+/// Reads the fields of `sample`.
 fn read_sample(alloc: Global, rest: Option<&[u8]>) -> Result<Command, LineFault>
     requires { IfSome rest (λ text. length text.now ≤ 16777216) }
     ensures found { IfOk result (λ c. SpellsAfter Verb.Sample (texts_after rest.entry) c) }
@@ -301,7 +301,7 @@ fn read_sample(alloc: Global, rest: Option<&[u8]>) -> Result<Command, LineFault>
     })
 }
 
-/// The random word that picks a collision.
+/// Reads the field of `clash`.
 fn read_clash(rest: Option<&[u8]>) -> Result<Command, LineFault>
     ensures found { IfOk result (λ c. SpellsAfter Verb.Clash (texts_after rest.entry) c) }
     ensures unique { IfOk result (λ c.

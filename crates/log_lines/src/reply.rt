@@ -13,7 +13,7 @@ pub enum Reply {
     Refused(MsgFault),
     /// There are fewer random words than are needed.
     Short { need: u32, have: u32 },
-    /// What became of a peer that was reached.
+    /// The result of a connection to a peer.
     Good(Good),
     /// Whether the peer is known.
     Known(bool),
@@ -25,7 +25,7 @@ pub enum Reply {
     Picked(Picked),
     /// The peers of a sample.
     Sample(Peers),
-    /// What became of the collisions.
+    /// How many collisions had which result.
     Resolved(Resolved),
     /// The occupant that a collision is about, and when it was last tried.
     Clash(Option<(Peer, u32)>),

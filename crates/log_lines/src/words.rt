@@ -2,7 +2,7 @@ ghost use Rattle.std.specs.Prelude.{◌≡◌, ◌<◌, ◌^◌, length, vec_len
 
 use std::marker::Model;
 
-/// Random 64-bit words that a line hands in, fewer than 2^32.
+/// The random 64-bit words of a line, fewer than 2^32.
 #[derive(Drop)]
 pub struct Words {
     items: Vec<u64>,
@@ -19,7 +19,7 @@ impl Model for Words {
 }
 
 impl Words {
-    /// The words of a vector. Takes no memory.
+    /// Makes the list of these words. Takes no memory.
     pub fn of(items: Vec<u64>) -> Words
         requires { vec_len items < 2 ^ 32 }
         ensures { result ≡ items.items }
@@ -27,7 +27,7 @@ impl Words {
         Words { items }
     }
 
-    /// The words as a slice.
+    /// Returns the words as a slice.
     pub fn items(&self) -> &[u64]
         ensures items { result.now ≡ self.now }
         ensures few { length self.now < 2 ^ 32 }

@@ -43,7 +43,7 @@ returns-in-Ok-clause-found c =
       omega (arith, c.in-Some-parse_number.ensures.found.0),
       c.in-Some-parse_number-2.ensures.found.0,
       spelled c.args.text.now c.cut_piece.result.0.now c.in-Some.count c.in-Some-parse_number.seed c.in-Some-parse_number-2.count cut c.in-Some-parse_number.ensures.found.1 c.in-Some-parse_number-2.ensures.found.1,
-      c.of.ensures ∙ c.in-Ok.ensures.words,
+      c.in-Ok.ensures,
     )
 
 pub returns-in-Ok-clause-only : goal.returns-in-Ok-clause-only
@@ -53,4 +53,4 @@ returns-in-Ok-clause-only c = λ words s.
     let small : s.1 < 2 ^ 64 = omega (arith, s.3) in
     let seeds = decimal_injective c.in-Some-parse_number.seed s.0 (omega (arith, c.in-Some-parse_number.ensures.found.0)) s.2 (sym c.in-Some-parse_number.ensures.found.1 ∙ pieces.0) in
     let counts = decimal_injective c.in-Some-parse_number-2.count s.1 (omega (arith, c.in-Some-parse_number-2.ensures.found.0)) small (sym c.in-Some-parse_number-2.ensures.found.1 ∙ count) in
-    inl (ap Ok (c.of.ensures ∙ c.in-Ok.ensures.words ∙ (λ i. seeded_words (seeds i) (counts i)) ∙ sym s.5))
+    inl (ap Ok (c.in-Ok.ensures ∙ (λ i. seeded_words (seeds i) (counts i)) ∙ sym s.5))

@@ -2,7 +2,7 @@ use Rattle.std.proofs.Common.{◌≡◌, ℕ, suc, ◌+◌, ◌-◌, List, [], �
 use Rattle.rand_xoshiro.specs.Xoshiro256.{plus_plus, of_seed}
 use Rattle.rand_xoshiro.specs.SplitMix64.{splitmix_seed}
 use Rattle.log_lines.specs.Random.{outputs, seeded_words}
-use Rattle.log_lines.proofs.random.seeded_words.Goals as goal
+use Rattle.log_lines.proofs.random.first_outputs.Goals as goal
 
 -- the next word and those after it
 one_more : (state : List ℕ) (left less : ℕ) → left ≡ suc less → outputs state left ≡ (plus_plus state).0 ∷ outputs (plus_plus state).1 less

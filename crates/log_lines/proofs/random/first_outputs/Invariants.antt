@@ -1,6 +1,6 @@
 use Rattle.std.proofs.Common.{◌≡◌, ◌-◌, ◌++◌, vec_len}
 use Rattle.log_lines.specs.Random.{outputs, seeded_words}
-use Rattle.log_lines.proofs.random.seeded_words.Given as goal
+use Rattle.log_lines.proofs.random.first_outputs.Given as goal
 
 -- the words that were made and those that the generator gives next are all of them
 abbrev pub invariant-loop : goal.invariant-loop
