@@ -1,3 +1,2 @@
 mod Examples
-pub mod NextNumbers
 pub mod Prefixes

@@ -1,3 +1,4 @@
 pub mod Machine
 pub mod Messages
 pub mod Step
+pub mod Inside

@@ -11,7 +11,7 @@ abbrev pub clamp_time : Entry → ℕ → Entry
 clamp_time entry now =
     if nat_le entry.time 100000000 || nat_lt (now + 600) entry.time then record entry { time = now - 432000 } else entry
 
--- the penalty for what a peer tells of others, in seconds
+-- what is subtracted from the time of an entry that a peer announces of another, in seconds
 abbrev pub message_penalty : ℕ
 message_penalty = 7200
 

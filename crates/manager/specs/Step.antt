@@ -40,7 +40,7 @@ Gives old told tables answer new = (answer ≡ told) × (new ≡ record old { ta
 abbrev pub Tells : Machine → Reply → Reply → Machine → Type 0
 Tells old told answer new = (answer ≡ told) × (new ≡ old)
 
--- how many records are in each table, and how many newcomers wait for a slot of the tried one
+-- how many records are in each table, and how many collisions there are
 abbrev pub counts_of : State → Counts
 counts_of st = record {
   new_count = count_by (λ r. not (is_tried r)) st.records;
@@ -55,7 +55,7 @@ SampleStep old max pct class words answer new =
     ⊎ ((length old.tables.order ≤ length words)
     × Gives old (reply.Sample (sample old.tables max pct class words old.clock).peers) (sample old.tables max pct class words old.clock).state answer new)
 
--- the commands that are built so far
+-- the commands that are supported
 abbrev pub IsBuilt : Command → Type 0
 IsBuilt (command.Now time) = ⊤
 IsBuilt (command.Addr source payload words) = ⊤
@@ -76,7 +76,7 @@ IsBuilt command.SaveBegin = ⊥
 IsBuilt (command.SaveStep count) = ⊥
 IsBuilt command.SaveEnd = ⊥
 
--- a sample is of at most all records
+-- a sample is of at most 100 percent
 abbrev pub HasPercent : Command → Type 0
 HasPercent (command.Sample max pct class words) = pct ≤ 100
 HasPercent other = ⊤
@@ -106,7 +106,7 @@ Step old command.SaveBegin answer new = ⊥
 Step old (command.SaveStep count) answer new = ⊥
 Step old command.SaveEnd answer new = ⊥
 
--- the entries of a message before one were taken
+-- the entries of a message before some entry were taken
 abbrev pub TookFirst : Machine → List (Option Entry) → Address → List ℕ → Machine → Type 0
 TookFirst old entries source words new =
     (k : ℕ) × (k < length entries) × (length entries ≤ length words)

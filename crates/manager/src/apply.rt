@@ -1,6 +1,7 @@
-ghost use Rattle.std.specs.Prelude.{◌≡◌, ◌≢◌, ◌+◌, ◌≤◌, ◌<◌, ◌^◌, IfOk, OnErr};
+ghost use Rattle.std.specs.Prelude.{◌≢◌, ◌+◌, ◌≤◌, ◌<◌, ◌^◌, IfOk, OnErr};
 ghost use Rattle.manager.specs.Step.{Step, IsBuilt, HasPercent, NeedsMemory, LeavesPart};
 
+use crate::messages::Form;
 use crate::{Manager, Memory};
 use addr_codecs::MsgFault;
 use log_lines::{Command, Reply};
@@ -8,8 +9,9 @@ use std::alloc::Global;
 use std::hash::BuildHasher;
 
 impl<'a, H: BuildHasher> Manager<'a, H> {
-    /// Carries out a command that is built. The numbers of the tables leave room for those of a
-    /// whole message.
+    /// Carries out a supported command, and returns its reply. The next record number must be below
+    /// 2^62, so that a whole message fits. If memory runs out, nothing changes, except that some of
+    /// the first entries of a message may have been taken.
     pub fn apply(&mut self, alloc: Global, command: &Command) -> Result<Reply, Memory>
         requires built { IsBuilt command.now }
         requires percent { HasPercent command.now }
@@ -29,12 +31,12 @@ impl<'a, H: BuildHasher> Manager<'a, H> {
                 source,
                 payload,
                 words,
-            } => self.take_addr(alloc, source, payload, words),
+            } => self.take_payload(alloc, Form::Addr, payload, source, words),
             Command::Addr2 {
                 source,
                 payload,
                 words,
-            } => self.take_addrv2(alloc, source, payload, words),
+            } => self.take_payload(alloc, Form::Addrv2, payload, source, words),
             Command::Good { peer, testing } => Ok(self.good(peer, *testing)),
             Command::Attempt { peer, count } => Ok(self.attempt(peer, *count)),
             Command::Connected { peer } => Ok(self.connected(peer)),

@@ -3,7 +3,7 @@ ghost use Rattle.manager.specs.Step.{IsBuilt};
 
 use log_lines::Command;
 
-/// Whether the command is built so far.
+/// Returns whether the command is supported.
 pub fn is_built(command: &Command) -> bool
     ensures { IsTrue result ↔ IsBuilt command.now }
 {

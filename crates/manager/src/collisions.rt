@@ -8,7 +8,7 @@ use std::hash::BuildHasher;
 use tried_clash::{clash_pick, resolve};
 
 impl<'a, H: BuildHasher> Manager<'a, H> {
-    /// What becomes of the newcomers that wait for a slot of the tried table.
+    /// Decides on all collisions, and says how many had which result.
     pub(crate) fn resolve(&mut self) -> Reply
         ensures step { Step self.old Command.Resolve result self.new }
         ensures numbers { self.new.tables.next_number ≡ self.old.tables.next_number }
@@ -17,7 +17,7 @@ impl<'a, H: BuildHasher> Manager<'a, H> {
         Reply::Resolved(resolve(&mut self.tables, self.clock))
     }
 
-    /// The occupant of the slot that one of these newcomers waits for, by a random word.
+    /// Picks a collision by a random word, and returns the occupant that it is about.
     pub(crate) fn clash(&mut self, word: u64) -> Reply
         ensures step { Step self.old (Command.Clash word) result self.new }
         ensures numbers { self.new.tables.next_number ≡ self.old.tables.next_number }

@@ -10,7 +10,7 @@ pub struct Manager<'a, H: BuildHasher> {
 }
 
 impl<'a, H: BuildHasher> Model for Manager<'a, H> {
-    ghost use Rattle.std.specs.Prelude.{◌<◌, ◌^◌};
+    ghost use Rattle.std.specs.Prelude.{◌<◌};
     ghost use Rattle.std.specs.Coded.{codes};
     ghost use Rattle.placing.specs.Places.{coded_places};
     ghost use Rattle.manager.specs.Machine.{Machine};
@@ -25,21 +25,21 @@ impl<'a, H: BuildHasher> Model for Manager<'a, H> {
 impl<'a, H: BuildHasher> Manager<'a, H> {
     ghost use Rattle.std.specs.Prelude.{◌≡◌};
 
-    /// The manager of the tables, at the time 0.
+    /// Makes the manager of these tables, with its clock at 0.
     pub fn open(tables: Tables<'a, H>) -> Manager<'a, H>
         ensures { result ≡ record { tables = tables.entry; clock = 0 } }
     {
         Manager { tables, clock: 0 }
     }
 
-    /// The time in seconds since 1970.
+    /// Returns the time in seconds since 1970.
     pub fn clock(&self) -> u32
         ensures { result ≡ self.now.clock }
     {
         self.clock
     }
 
-    /// The tables.
+    /// Returns the tables.
     pub fn tables(&self) -> &Tables<'a, H>
         ensures { result.now ≡ self.now.tables }
     {

@@ -1,4 +1,4 @@
-/// There was no memory for what a command needs.
+/// Out of memory.
 #[derive(Clone, Copy, Debug, PartialEq, Eq)]
 pub struct Memory;
 

@@ -1,21 +1,30 @@
-ghost use Rattle.std.specs.Prelude.{◌≡◌, ◌≢◌, ◌+◌, ◌≤◌, ◌<◌, ◌^◌, length, IfOk, OnOk, OnErr};
+ghost use Rattle.std.specs.Prelude.{◌≡◌, ◌≢◌, ◌+◌, ◌≤◌, ◌<◌, ◌^◌, length, IfOk, IfErr, OnOk, OnErr};
 ghost use Rattle.manager.specs.Messages.{clamp_time, take_entry, take_entries};
-ghost use Rattle.addr_codecs.specs.Layout.{IsAddrMessage, IsAddrv2Message, HasAddrFault, HasAddrv2Fault};
+ghost use Rattle.manager.specs.Inside.{IsMessage, HasFault};
 ghost use Rattle.manager.specs.Step.{EntriesStep, MessageStep, TookFirst, LeavesEntries};
 
 use crate::{Manager, Memory};
-use addr_codecs::{MsgFault, read_addr, read_addrv2};
+use addr_codecs::{Entries, MsgFault, read_addr, read_addrv2};
 use host_io::Bytes;
 use log_lines::{Reply, Words};
 use net_addr::{Entry, NetAddr};
 use std::alloc::Global;
 use std::hash::BuildHasher;
 
-/// The penalty for what a peer tells of others, in seconds (`ProcessMessage` in
-/// net_processing.cpp of Bitcoin Core).
+/// The two messages that announce addresses.
+#[derive(Clone, Copy, Debug, PartialEq, Eq)]
+pub(crate) enum Form {
+    Addr,
+    /// The message of BIP 155.
+    Addrv2,
+}
+
+/// What is subtracted from the time of an entry that a peer announces of another, in seconds
+/// (`ProcessMessage` in net_processing.cpp of Bitcoin Core).
 const MESSAGE_PENALTY: u32 = 7200;
 
-/// An entry with a time long past or ahead counts as five days old (`ProcessMessage`).
+/// Returns the entry with its time clamped: one long past or ahead becomes five days before `now`
+/// (`ProcessMessage`).
 fn clamp_time(entry: &Entry, now: u32) -> Entry
     ensures { result ≡ clamp_time entry.now now }
 {
@@ -29,9 +38,21 @@ fn clamp_time(entry: &Entry, now: u32) -> Entry
     }
 }
 
+/// Reads the entries of the message in a payload.
+fn read_payload(alloc: Global, form: Form, payload: &[u8]) -> Result<Entries, MsgFault>
+    ensures found { IfOk result (λ entries. IsMessage form payload.now entries) }
+    ensures few { IfOk result (λ entries. length entries ≤ 1000) }
+    ensures cause { IfErr result (λ fault. fault ≢ MsgFault.Memory → HasFault form payload.now fault) }
+{
+    match form {
+        Form::Addr => read_addr(alloc, payload),
+        Form::Addrv2 => read_addrv2(alloc, payload),
+    }
+}
+
 impl<'a, H: BuildHasher> Manager<'a, H> {
-    /// Takes an entry of a message, with its random word; a skipped one changes nothing. True if
-    /// the entry got a slot.
+    /// Adds an entry of a message, with its random word, and returns whether it got a slot. A
+    /// skipped one changes nothing.
     fn take_entry(
         &mut self,
         entry: &Option<Entry>,
@@ -56,8 +77,8 @@ impl<'a, H: BuildHasher> Manager<'a, H> {
         }
     }
 
-    /// Takes the entries of a message in order, each with the word at its index, and counts those
-    /// that got a slot.
+    /// Adds the entries of a message in order, each with the random word at its index, and returns
+    /// how many got a slot.
     fn take_entries(
         &mut self,
         entries: &[Option<Entry>],
@@ -80,7 +101,7 @@ impl<'a, H: BuildHasher> Manager<'a, H> {
         Ok(count)
     }
 
-    /// Takes a message of these entries.
+    /// Adds the entries of a message, unless there are fewer random words.
     fn take_message(
         &mut self,
         entries: &[Option<Entry>],
@@ -108,42 +129,22 @@ impl<'a, H: BuildHasher> Manager<'a, H> {
         })
     }
 
-    /// Takes an `addr` message.
-    pub(crate) fn take_addr(
+    /// Reads the message in a payload and adds its entries.
+    pub(crate) fn take_payload(
         &mut self,
         alloc: Global,
-        source: &NetAddr,
+        form: Form,
         payload: &Bytes,
+        source: &NetAddr,
         words: &Words,
     ) -> Result<Reply, Memory>
         requires more { self.old.tables.next_number < 2 ^ 62 }
-        ensures step { IfOk result (λ answer. MessageStep (IsAddrMessage payload.now) (HasAddrFault payload.now) self.old source.now words.now answer self.new) }
+        ensures step { IfOk result (λ answer. MessageStep (IsMessage form payload.now) (HasFault form payload.now) self.old source.now words.now answer self.new) }
         ensures numbers { self.new.tables.next_number ≤ self.old.tables.next_number + 1000 }
         ensures spoken { IfOk result (λ answer. answer ≢ Reply.Refused MsgFault.Memory) }
-        ensures err { OnErr result (LeavesEntries (IsAddrMessage payload.now) self.old source.now words.now self.new) }
+        ensures err { OnErr result (LeavesEntries (IsMessage form payload.now) self.old source.now words.now self.new) }
     {
-        match read_addr(alloc, payload.items()) {
-            Ok(entries) => self.take_message(entries.items(), source, words.items()),
-            Err(MsgFault::Memory) => Err(Memory),
-            Err(fault) => Ok(Reply::Refused(fault)),
-        }
-    }
-
-    /// Takes an `addrv2` message.
-    pub(crate) fn take_addrv2(
-        &mut self,
-        alloc: Global,
-        source: &NetAddr,
-        payload: &Bytes,
-        words: &Words,
-    ) -> Result<Reply, Memory>
-        requires more { self.old.tables.next_number < 2 ^ 62 }
-        ensures step { IfOk result (λ answer. MessageStep (IsAddrv2Message payload.now) (HasAddrv2Fault payload.now) self.old source.now words.now answer self.new) }
-        ensures numbers { self.new.tables.next_number ≤ self.old.tables.next_number + 1000 }
-        ensures spoken { IfOk result (λ answer. answer ≢ Reply.Refused MsgFault.Memory) }
-        ensures err { OnErr result (LeavesEntries (IsAddrv2Message payload.now) self.old source.now words.now self.new) }
-    {
-        match read_addrv2(alloc, payload.items()) {
+        match read_payload(alloc, form, payload.items()) {
             Ok(entries) => self.take_message(entries.items(), source, words.items()),
             Err(MsgFault::Memory) => Err(Memory),
             Err(fault) => Ok(Reply::Refused(fault)),

@@ -8,7 +8,8 @@ use net_addr::Peer;
 use std::hash::BuildHasher;
 
 impl<'a, H: BuildHasher> Manager<'a, H> {
-    /// A connection to a peer succeeded; with `testing`, the occupant of its tried slot stays.
+    /// Records that a connection to a peer succeeded. With `testing`, the occupant of its tried slot
+    /// stays.
     pub(crate) fn good(&mut self, peer: &Peer, testing: bool) -> Reply
         ensures step { Step self.old (Command.Good peer.now testing) result self.new }
         ensures numbers { self.new.tables.next_number ≡ self.old.tables.next_number }
@@ -17,7 +18,7 @@ impl<'a, H: BuildHasher> Manager<'a, H> {
         Reply::Good(self.tables.good(peer, testing, self.clock))
     }
 
-    /// A connection to a peer was tried; with `count`, it counts as a failure.
+    /// Records that a connection to a peer was tried. With `count`, it may count as a failure.
     pub(crate) fn attempt(&mut self, peer: &Peer, count: bool) -> Reply
         ensures step { Step self.old (Command.Attempt peer.now count) result self.new }
         ensures numbers { self.new.tables.next_number ≡ self.old.tables.next_number }
@@ -26,7 +27,7 @@ impl<'a, H: BuildHasher> Manager<'a, H> {
         Reply::Known(self.tables.attempt(peer, count, self.clock))
     }
 
-    /// A peer is still connected.
+    /// Records that a peer is still connected.
     pub(crate) fn connected(&mut self, peer: &Peer) -> Reply
         ensures step { Step self.old (Command.Connected peer.now) result self.new }
         ensures numbers { self.new.tables.next_number ≡ self.old.tables.next_number }
@@ -35,7 +36,7 @@ impl<'a, H: BuildHasher> Manager<'a, H> {
         Reply::Known(self.tables.connected(peer, self.clock))
     }
 
-    /// A peer said which services it offers.
+    /// Records which services a peer offers.
     pub(crate) fn services(&mut self, peer: &Peer, services: u64) -> Reply
         ensures step { Step self.old (Command.Services peer.now services) result self.new }
         ensures numbers { self.new.tables.next_number ≡ self.old.tables.next_number }

@@ -10,7 +10,7 @@ use std::alloc::Global;
 use std::hash::BuildHasher;
 
 impl<'a, H: BuildHasher> Manager<'a, H> {
-    /// A peer to connect to, of a network or of all, by random words.
+    /// Picks a peer to connect to by random words, of one network or of all.
     pub(crate) fn select(&self, new_only: bool, net: Option<Net>, words: &Words) -> Reply
         ensures step { Step self.now (Command.Select new_only net words.now) result self.now }
         ensures spoken { result ≢ Reply.Refused MsgFault.Memory }
@@ -18,8 +18,8 @@ impl<'a, H: BuildHasher> Manager<'a, H> {
         Reply::Picked(select(&self.tables, new_only, net, words.items(), self.clock))
     }
 
-    /// Peers to tell of, by random words: at most `max` and `pct` percent, 0 for no limit, of a
-    /// class or of all.
+    /// Picks peers to announce by random words, of one class or of all: at most `max`, and at most
+    /// `pct` percent of the records. A limit of 0 is none.
     pub(crate) fn sample(
         &mut self,
         alloc: Global,

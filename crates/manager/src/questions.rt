@@ -8,7 +8,7 @@ use net_addr::Peer;
 use std::hash::BuildHasher;
 
 impl<'a, H: BuildHasher> Manager<'a, H> {
-    /// The peer's record.
+    /// Returns the peer's record.
     pub(crate) fn find(&self, peer: &Peer) -> Reply
         ensures step { Step self.now (Command.Find peer.now) result self.now }
         ensures spoken { result ≢ Reply.Refused MsgFault.Memory }
@@ -16,7 +16,7 @@ impl<'a, H: BuildHasher> Manager<'a, H> {
         Reply::Found(self.tables.find(peer).map(|rec| rec.copy()))
     }
 
-    /// How many records there are.
+    /// Counts the records.
     pub(crate) fn size(&self) -> Reply
         ensures step { Step self.now Command.Size result self.now }
         ensures spoken { result ≢ Reply.Refused MsgFault.Memory }
@@ -24,7 +24,7 @@ impl<'a, H: BuildHasher> Manager<'a, H> {
         Reply::Size(self.tables.counts())
     }
 
-    /// All records by rising number.
+    /// Returns all records by rising number.
     pub(crate) fn dump(&self) -> Result<Reply, Memory>
         ensures step { IfOk result (λ answer. Step self.now Command.Dump answer self.now) }
         ensures spoken { IfOk result (λ answer. answer ≢ Reply.Refused MsgFault.Memory) }
