@@ -9,7 +9,7 @@ use std::process::ExitCode;
 use std::rt::Env;
 use std::{env, io};
 
-/// The arguments after the program's name.
+/// Returns the arguments after the program's name.
 fn arguments_of(rt: &(impl Env + AllocGlobal)) -> io::Result<Vec<String>> {
     let mut words = Vec::new(rt.alloc());
     for word in env::args(rt)?.skip(1) {
@@ -18,7 +18,7 @@ fn arguments_of(rt: &(impl Env + AllocGlobal)) -> io::Result<Vec<String>> {
     Ok(words)
 }
 
-/// Tells how the run ended, on standard error.
+/// Prints on standard error how the run ended.
 fn report(rt: &(impl Eprint + AllocGlobal), status: &Status) {
     let mut line = Vec::new(rt.alloc());
     if status_line(status, &mut line).is_ok() {

@@ -18,7 +18,7 @@ Run-more step [] a b c line text reply run one =
 Run-more step (first ∷ done) a b c line text reply run one =
     (run.0, run.1 ++ reply, run.2, ap (λ t. t ++ reply) run.3 ∙ append_assoc run.0 run.1 reply, run.4, Run-more step done run.2 b c line run.1 reply run.5 one)
 
--- the log so far: lines that are answered, and bytes that are not read
+-- the lines of the log that are answered, and the bytes that are left
 pub record SoFar {S : Type 0} (step : Steps S) (start now : S) (log rest : List ℕ) (answered : ℕ) (text : List ℕ) : Type 0 where
   pub lines : List (List ℕ)
   pub split : lines_of log ≡ lines ++ lines_of rest
@@ -46,14 +46,14 @@ unfolding lines_of
 all_answered step start now log [] answered text s h = (now, subst (λ ls. Run step start ls text now) (sym (s.split ∙ append-nil s.lines)) s.run)
 all_answered step start now log (b ∷ rest) answered text s h = absurd (omega arith)
 
--- the answers so far are a prefix, also if the last reply is cut short
+-- the answers are a prefix, also if the last reply is incomplete
 pub prefix_answered : {S : Type 0} (step : Steps S) (start now : S) (log rest : List ℕ) (answered : ℕ) (text : List ℕ) →
-    SoFar step start now log rest answered text → (front more : List ℕ) → text ≡ front ++ more → AnswersPrefix step start log front
-prefix_answered step start now log rest answered text s front more cut = (
+    SoFar step start now log rest answered text → (part more : List ℕ) → text ≡ part ++ more → AnswersPrefix step start log part
+prefix_answered step start now log rest answered text s part more cut = (
   length s.lines,
   more,
   now,
-  subst (λ ls. Run step start ls (front ++ more) now) (sym (ap (take (length s.lines)) s.split ∙ take-append_seam s.lines (lines_of rest)))
+  subst (λ ls. Run step start ls (part ++ more) now) (sym (ap (take (length s.lines)) s.split ∙ take-append_seam s.lines (lines_of rest)))
       (subst (λ t. Run step start s.lines t now) cut s.run),
 )
 
@@ -90,21 +90,14 @@ stops_in_reply step start now next log rest line after answered text reply s fir
   λ none. omega (arith, length-drop n reply, ap length none),
 )
 
--- a text was appended, and a part of another after it
-pub part_after : (P : List ℕ → Type 0) (old mid new : Option (List ℕ)) (text reply : List ℕ) → ((n : ℕ) → P (text ++ take n reply)) →
-    Appended old mid text → AppendedPart mid new reply → (t : List ℕ) × P t × Appended old new t
-part_after P None mid new text reply told whole part = (text ++ take 0 reply, told 0, tt)
-part_after P (Some before) mid new text reply told whole part =
+-- A text was appended, and a part of another after it; not all of it, if contracts know the output.
+pub part_after : (P Q : List ℕ → Type 0) (old mid new : Option (List ℕ)) (text reply : List ℕ) →
+    ((n : ℕ) → P (text ++ take n reply)) → ((n : ℕ) → n < length reply → Q (text ++ take n reply)) →
+    Appended old mid text → AppendedPart mid new reply → (t : List ℕ) × (P t × IfSome old (λ _. Q t)) × Appended old new t
+part_after P Q None mid new text reply told short whole part = (text ++ take 0 reply, (told 0, tt), tt)
+part_after P Q (Some before) mid new text reply told short whole part =
     let p = subst (λ o. IfSome o (λ b. (n : ℕ) × (n < length reply) × (new ≡ Some (b ++ take n reply)))) whole part in
-    (text ++ take p.0 reply, told p.0, p.2 ∙ ap Some (append_assoc before text (take p.0 reply)))
-
--- the same of an output that tells its bytes, where the part is not all
-pub told_part_after : (P : List ℕ → Type 0) (old mid new : Option (List ℕ)) (text reply : List ℕ) → ((n : ℕ) → n < length reply → P (text ++ take n reply)) →
-    Appended old mid text → AppendedPart mid new reply → IfSome old (λ _. (t : List ℕ) × P t × Appended old new t)
-told_part_after P None mid new text reply told whole part = tt
-told_part_after P (Some before) mid new text reply told whole part =
-    let p = subst (λ o. IfSome o (λ b. (n : ℕ) × (n < length reply) × (new ≡ Some (b ++ take n reply)))) whole part in
-    (text ++ take p.0 reply, told p.0 p.1, p.2 ∙ ap Some (append_assoc before text (take p.0 reply)))
+    (text ++ take p.0 reply, (told p.0, short p.0 p.1), p.2 ∙ ap Some (append_assoc before text (take p.0 reply)))
 
 -- a text was appended, and another after it
 pub append_after : (old mid new : Option (List ℕ)) (text reply : List ℕ) → Appended old mid text → Appended mid new reply → Appended old new (text ++ reply)

@@ -23,6 +23,11 @@ abbrev pub HasMap : Files → Option Asmap → Type 0
 HasMap files None = under files name.Asmap ≡ None
 HasMap files (Some m) = HasAsmap files m
 
+-- If contracts know the files, the map is that of the folder's asmap.dat, or none if there is no such file. If they do
+-- not, it is none, or that of a sane tree. In both cases its file is within the limit.
+abbrev pub IsMapIn : Option Files → Option Asmap → Type 0
+IsMapIn told map = IfSome told (λ files. HasMap files map) × IfSome map (λ m. IsAsmap m × (length m.file ≤ most_asmap))
+
 -- why asmap.dat is refused: its size, or its bytes are the file of no sane tree
 abbrev pub RefusesAsmap : Option Files → CodeFault → Type 0
 RefusesAsmap told (TooLarge size) = (most_asmap < size) × IfSome told (λ files. option_map length (under files name.Asmap) ≡ Some size)

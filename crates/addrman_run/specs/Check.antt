@@ -3,6 +3,7 @@ use Rattle.std.specs.Prelude.{◌≡◌, ℕ, List, ◌++◌, length, codes, dec
 use Rattle.host_io.specs.Outside.{Outside}
 use Rattle.host_io.specs.declared.name.Name.TheVariants as name
 use Rattle.asmap_vm.specs.Asmap.{Asmap}
+use Rattle.addrman_run.specs.Log.{SameLog}
 use Rattle.addrman_run.specs.Lookup.{AsmapLineEnds, TellsAbsence}
 use Rattle.addrman_run.specs.declared.status.Status.{Status}
 
@@ -13,5 +14,5 @@ check_text m = codes "sane " ++ decimal (length m.file) ++ codes " bytes\n"
 pub record CheckEnds (old new : Outside) (status : Status) : Type 0 where
   pub text : AsmapLineEnds check_text old.files old.written new.written status
   pub absent : TellsAbsence name.Asmap old.files status
-  pub left : new.left ≡ old.left
+  pub left : SameLog old new
   pub same : new.files ≡ old.files

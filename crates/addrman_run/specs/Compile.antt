@@ -8,7 +8,8 @@ use Rattle.host_io.specs.declared.name.Name.TheVariants as name
 use Rattle.prefix_table.specs.declared.row.Row.{Row}
 use Rattle.asmap_vm.specs.Code.{code, IsSaneFile}
 use Rattle.asmap_compile.specs.Compiled.{compiled}
-use Rattle.addrman_run.specs.Tables.{HasTable, RefusesTable, most_bits}
+use Rattle.addrman_run.specs.Tables.{IsTableIn, RefusesTable, most_bits}
+use Rattle.addrman_run.specs.Log.{SameLog}
 use Rattle.addrman_run.specs.Lookup.{TellsAbsence}
 use Rattle.addrman_run.specs.declared.status.Status.{Status}
 use Rattle.addrman_run.specs.declared.status.Status.TheVariants.{Done, Usage, LogLine, AsmapRefused, TableRefused, ReadFault, WriteFault, DiskFault, LogTooLong, Memory, NoFile, NotBuilt}
@@ -19,11 +20,11 @@ compile_text rows file =
     codes "compiled " ++ decimal (length rows) ++ codes " rows " ++ decimal (length (code (compiled rows))) ++ codes " bits "
     ++ decimal (length file) ++ codes " bytes\n"
 
--- the text of the folder's table and the file of its compiled tree, whose code is not too long
+-- A text, of the kind IsText, of the table and of the file of its compiled tree. The code is within the limit.
 abbrev pub Compiles : (List ℕ → Type 0) → Option Files → Type 0
-Compiles IsText told = IfSome told (λ files.
-    (rows : List Row) × HasTable files rows × (length (code (compiled rows)) ≤ most_bits)
-    × ((file : List ℕ) × IsSaneFile (compiled rows) file × IsText (compile_text rows file)))
+Compiles IsText told =
+    (rows : List Row) × IsTableIn told rows × (length (code (compiled rows)) ≤ most_bits)
+    × ((file : List ℕ) × IsSaneFile (compiled rows) file × IsText (compile_text rows file))
 
 -- what is written for each status, and why it comes
 abbrev pub CompileText : Option Files → Option (List ℕ) → Option (List ℕ) → Status → Type 0
@@ -43,5 +44,5 @@ CompileText files old new (NotBuilt n) = ⊥
 pub record CompileEnds (old new : Outside) (status : Status) : Type 0 where
   pub text : CompileText old.files old.written new.written status
   pub absent : TellsAbsence name.Prefixes old.files status
-  pub left : new.left ≡ old.left
+  pub left : SameLog old new
   pub same : new.files ≡ old.files

@@ -1,6 +1,7 @@
 pub mod Request
 pub mod Asmaps
 pub mod Tables
+pub mod Log
 pub mod Run
 pub mod Lines
 pub mod Replay

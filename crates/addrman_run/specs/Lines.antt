@@ -14,6 +14,6 @@ LineStep old line text new =
     (IsPassedOver line × (text ≡ []) × (new ≡ old))
     ⊎ ((command : Command) × (answer : Reply) × Spells line command × Step old command answer new × (text ≡ reply_text answer))
 
--- a line that spells a command that is not built yet
+-- a line that spells a command that is not supported yet
 abbrev pub IsNotBuilt : List ℕ → Type 0
 IsNotBuilt line = (command : Command) × Spells line command × ¬ IsBuilt command

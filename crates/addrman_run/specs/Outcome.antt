@@ -1,5 +1,5 @@
 -- How a request ends: what it writes, why its status comes, and what it leaves.
-use Rattle.std.specs.Prelude.{◌≡◌}
+use Rattle.std.specs.Prelude.{◌≡◌, ◌≤◌, ℕ}
 use Rattle.host_io.specs.Faults.{Rose}
 use Rattle.host_io.specs.Outside.{Outside}
 use Rattle.addrman_run.specs.Replay.{ReplayEnds}
@@ -17,8 +17,12 @@ Ends Compile old new answer = CompileEnds old new answer
 Ends Check old new answer = CheckEnds old new answer
 Ends (Lookup peer) old new answer = LookupEnds peer old new answer
 
--- a fault of the outside comes only if its count rose
+-- a count of faults did not fall, and rose if the run ended with this fault
+abbrev pub IsCounted : Status → ℕ → ℕ → Status → Type 0
+IsCounted fault before after answer = (before ≤ after) × (answer ≡ fault → Rose before after)
+
+-- a fault of the outside comes only if its count rose, and no count falls
 pub record HasCause (old new : Outside) (answer : Status) : Type 0 where
-  pub log : answer ≡ status.ReadFault → Rose old.log_faults new.log_faults
-  pub out : answer ≡ status.WriteFault → Rose old.out_faults new.out_faults
-  pub folder : answer ≡ status.DiskFault → Rose old.folder_faults new.folder_faults
+  pub log : IsCounted status.ReadFault old.log_faults new.log_faults answer
+  pub out : IsCounted status.WriteFault old.out_faults new.out_faults answer
+  pub folder : IsCounted status.DiskFault old.folder_faults new.folder_faults answer

@@ -1,4 +1,4 @@
--- What the program tells of how a run ended.
+-- The exit code of a run, and its line on standard error.
 use Rattle.std.specs.Prelude.{ℕ, List, [], ◌++◌, codes, decimal}
 use Rattle.host_io.specs.Name.{file_name_of}
 use Rattle.asmap_vm.specs.declared.fault.CodeFault.{CodeFault}
@@ -14,7 +14,7 @@ use Rattle.addrman_run.specs.declared.tables_fault.TablesFault.TheVariants.{Rows
 use Rattle.addrman_run.specs.declared.status.Status.{Status}
 use Rattle.addrman_run.specs.declared.status.Status.TheVariants.{Done, Usage, LogLine, AsmapRefused, TableRefused, ReadFault, WriteFault, DiskFault, LogTooLong, Memory, NoFile, NotBuilt}
 
--- the exit status of the process
+-- the exit code of the process
 abbrev pub code_of : Status → ℕ
 code_of Done = 0
 code_of Usage = 2
@@ -64,7 +64,7 @@ abbrev pub tables_fault_text : TablesFault → List ℕ
 tables_fault_text (Rows fault) = table_fault_text fault
 tables_fault_text (Compile fault) = compile_fault_text fault
 
--- what is told, between the program's name and the line feed
+-- the message, between the program's name and the line feed
 abbrev pub told_of : Status → List ℕ
 told_of Done = []
 told_of Usage = codes "bad usage"

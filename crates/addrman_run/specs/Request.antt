@@ -1,4 +1,4 @@
--- What the words of the command line ask for.
+-- What the arguments ask for.
 use Rattle.std.specs.Prelude.{◌≡◌, ◌⊎◌, ℕ, List, [], ◌∷◌, ◌++◌, length, Ok, codes}
 use Rattle.hex.specs.Hex.{decode_of}
 use Rattle.net_addr.specs.Text.{IsPeerText}
@@ -9,11 +9,11 @@ use Rattle.addrman_run.specs.declared.request.Request.TheVariants.{Replay, Compi
 abbrev pub IsKey : List ℕ → List ℕ → Type 0
 IsKey digits key = (decode_of digits ≡ Ok key) × (length key ≡ 32)
 
--- an option with its value, as two words or as one with = between them
+-- an option with its value, as two arguments or as one with = between them
 abbrev pub IsOption : List ℕ → List ℕ → List (List ℕ) → Type 0
 IsOption name value words = (words ≡ name ∷ value ∷ []) ⊎ (words ≡ (name ++ codes "=" ++ value) ∷ [])
 
--- the words ask for this
+-- the arguments ask for this
 abbrev pub Asks : List (List ℕ) → Request → Type 0
 Asks words (Replay key) =
     (digits : List ℕ) × (options : List (List ℕ)) × IsKey digits key × IsOption (codes "--key") digits options × (words ≡ codes "replay" ∷ options)

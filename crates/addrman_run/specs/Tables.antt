@@ -32,6 +32,11 @@ pub record HasTable (files : Files) (rows : List Row) : Type 0 where
   pub has : HasText files bytes
   pub text : IsTableText bytes rows
 
+-- The rows are those of a text within the limit. If contracts know the files, this text is the folder's prefixes.txt.
+abbrev pub IsTableIn : Option Files → List Row → Type 0
+IsTableIn told rows =
+    (bytes : List ℕ) × IsTableText bytes rows × (length bytes ≤ most_text) × IfSome told (λ files. under files name.Prefixes ≡ Some bytes)
+
 -- the first fault of the text
 abbrev pub HasTextFault : Option Files → TableFault → Type 0
 HasTextFault told fault = IfSome told (λ files. (bytes : List ℕ) × HasText files bytes × IsFault bytes fault)

@@ -1,12 +1,14 @@
-//! The runs of the program: words, log, folder and output in, a status out.
+//! The runs of the program: arguments, log, folder and output in, a status out.
 #![tactic(auto)]
 
-mod asmap_file;
+mod asmap_line;
 mod check;
 mod compile;
+mod input;
 mod line_step;
 mod lookup;
 mod memory;
+mod output;
 mod replay;
 mod report;
 mod request;

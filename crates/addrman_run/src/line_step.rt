@@ -1,7 +1,6 @@
 ghost use Rattle.std.specs.Prelude.{◌≡◌, ◌≢◌, ◌+◌, ◌*◌, ◌≤◌, ◌<◌, ◌^◌, ℕ, List, length, Ok, Err, IfOk};
 ghost use Rattle.log_lines.specs.Spelling.{HasFault};
 ghost use Rattle.log_lines.specs.declared.fault.LineFault.{LineFault};
-ghost use Rattle.manager.specs.Machine.{Machine};
 ghost use Rattle.addrman_run.specs.Lines.{LineStep, IsNotBuilt};
 
 use log_lines::{LineFault, put_reply, read_line};
@@ -12,11 +11,11 @@ use std::hash::BuildHasher;
 /// Why a line is not carried out.
 #[derive(Clone, Copy, Debug, PartialEq, Eq)]
 pub(crate) enum Stop {
-    /// The line is at fault.
+    /// The line is malformed.
     Fault(LineFault),
-    /// The line asks for what is not built yet.
+    /// The line spells a command that is not supported yet.
     NotBuilt,
-    /// There was no memory for what the line needs.
+    /// Out of memory.
     Memory,
 }
 
@@ -25,16 +24,17 @@ pub(crate) trait LineSteps {
     /// A state, a line, the text of its reply, and the next state.
     ghost step: { Self → List ℕ → List ℕ → Self → Type 0 };
 
-    /// The line is at fault.
+    /// The line has this fault.
     ghost has_fault: { List ℕ → LineFault → Type 0 };
 
-    /// The line asks for what is not built yet.
+    /// The line spells a command that is not supported yet.
     ghost not_built: { List ℕ → Type 0 };
 
-    /// There is room for so many more lines.
+    /// There is room for this many more lines.
     ghost has_room: { Self → ℕ → Type 0 };
 
-    /// Carries out a line, and gives the text of its reply, none for a line that is passed over.
+    /// Carries out a line, and returns the text of its reply, which is empty for a line that is
+    /// passed over.
     fn carry_out(&mut self, alloc: Global, line: &[u8]) -> Result<Vec<u8>, Stop>
         requires room { (n : ℕ) × has_room self.old (n + 1) }
         requires short { length line.now ≤ 16777216 }
@@ -44,7 +44,7 @@ pub(crate) trait LineSteps {
         ensures room { (n : ℕ) → has_room self.old (n + 1) → has_room self.new n };
 }
 
-/// Why a line stops the run that is not read.
+/// Returns why a line with this fault is not carried out.
 fn stop_of(fault: LineFault) -> Stop
     ensures fault { (f : LineFault) → result ≡ Stop.Fault f → (f ≡ fault) × (fault ≢ LineFault.Memory) }
     ensures built { result ≢ Stop.NotBuilt }

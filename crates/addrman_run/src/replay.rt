@@ -1,15 +1,15 @@
 ghost use Rattle.std.specs.Prelude.{◌≡◌, ℕ, List, ◌≤◌, length, IfOk, IfSome, Some, Err};
-ghost use Rattle.host_io.specs.Faults.{Rose};
 ghost use Rattle.host_io.specs.Outside.{outside};
 ghost use Rattle.host_io.specs.Reading.{TakesAtMost};
 ghost use Rattle.asmap_vm.specs.Code.{Tree, IsSaneFile};
 ghost use Rattle.asmap_vm.specs.declared.fault.CodeFault.{CodeFault};
 ghost use Rattle.placing.specs.Inside.{map_of};
 ghost use Rattle.addrman_run.specs.Inside.{IsMapOf};
-ghost use Rattle.addrman_run.specs.Replay.{ReplayText, ReplayCause};
+ghost use Rattle.addrman_run.specs.Outcome.{IsCounted};
+ghost use Rattle.addrman_run.specs.Replay.{opening, ReplayText, ReplayCause};
 
 use crate::Status;
-use crate::asmap_file::load_asmap;
+use crate::input::{Input, load_input};
 use crate::run_lines::run_lines;
 use asmap_vm::{CodeFault, Sane, check};
 use host_io::{Bytes, Folder, Sink, Source, ToEndFault, read_to_end};
@@ -22,7 +22,7 @@ use tables::Tables;
 /// The most bytes of a log.
 const MOST_LOG: u64 = 16_777_216;
 
-/// The asmap in some bytes, if there are any.
+/// Checks the asmap in these bytes, if there are any.
 fn check_map(bytes: &Option<Bytes>) -> Result<Option<Sane<'_>>, CodeFault>
     requires { IfSome bytes.now (λ b. length b ≤ 8388608) }
     ensures found { IfOk result (λ map. IsMapOf bytes.now (map_of map)) }
@@ -38,7 +38,20 @@ fn check_map(bytes: &Option<Bytes>) -> Result<Option<Sane<'_>>, CodeFault>
     }
 }
 
-/// Carries out the lines of the log, from empty tables under the key and the folder's asmap.
+/// Returns the manager that a replay begins with.
+fn open_manager<'a, H: BuildHasher + Drop>(
+    alloc: Global,
+    hasher: H,
+    key: [u8; 32],
+    map: Option<Sane<'a>>,
+) -> Result<Manager<'a, H>, tables::Memory>
+    ensures { IfOk result (λ manager. manager ≡ opening key (map_of map.entry)) }
+{
+    let tables = Tables::open(alloc, Placer::make(key, map), hasher)?;
+    Ok(Manager::open(tables))
+}
+
+/// Carries out the lines of the log, from empty tables with the key and the folder's asmap.
 pub(crate) fn replay<L: Source, F: Folder, K: Sink, H: BuildHasher + Drop>(
     alloc: Global,
     hasher: H,
@@ -50,12 +63,12 @@ pub(crate) fn replay<L: Source, F: Folder, K: Sink, H: BuildHasher + Drop>(
     ensures text { ReplayText key (outside L.Source F.Folder K.Sink log.old folder.old out.old) (outside L.Source F.Folder K.Sink log.new folder.new out.new) result }
     ensures cause { ReplayCause (outside L.Source F.Folder K.Sink log.old folder.old out.old) (outside L.Source F.Folder K.Sink log.new folder.new out.new) result }
     ensures taken { TakesAtMost (L.left log.old) (L.left log.new) 16777217 }
-    ensures read { result ≡ Status.ReadFault → Rose (L.faults log.old) (L.faults log.new) }
-    ensures write { result ≡ Status.WriteFault → Rose (K.faults out.old) (K.faults out.new) }
-    ensures disk { result ≡ Status.DiskFault → Rose (F.faults folder.old) (F.faults folder.new) }
+    ensures read { IsCounted Status.ReadFault (L.faults log.old) (L.faults log.new) result }
+    ensures write { IsCounted Status.WriteFault (K.faults out.old) (K.faults out.new) result }
+    ensures disk { IsCounted Status.DiskFault (F.faults folder.old) (F.faults folder.new) result }
     ensures same { F.files folder.new ≡ F.files folder.old }
 {
-    let bytes = match load_asmap(alloc, folder) {
+    let bytes = match load_input(alloc, Input::Asmap, folder) {
         Ok(bytes) => bytes,
         Err(status) => return status,
     };
@@ -69,9 +82,8 @@ pub(crate) fn replay<L: Source, F: Folder, K: Sink, H: BuildHasher + Drop>(
         Err(ToEndFault::TooLong) => return Status::LogTooLong,
         Err(ToEndFault::Memory) => return Status::Memory,
     };
-    let Ok(tables) = Tables::open(alloc, Placer::make(key, map), hasher) else {
+    let Ok(mut manager) = open_manager(alloc, hasher, key, map) else {
         return Status::Memory;
     };
-    let mut manager = Manager::open(tables);
     run_lines(alloc, text.items(), &mut manager, out)
 }

@@ -8,7 +8,7 @@ use log_lines::LineFault;
 use prefix_table::TableFault;
 use std::alloc::{AllocError, Global};
 
-/// The exit status of the program.
+/// Returns the exit code of the program for `status`.
 pub fn code(status: &Status) -> u8
     ensures { result ≡ code_of status.now }
 {
@@ -28,7 +28,7 @@ pub fn code(status: &Status) -> u8
     }
 }
 
-/// The word for a fault of an asmap.
+/// Returns the word for a fault of an asmap.
 fn code_fault_word(fault: &CodeFault) -> &'static [u8]
     ensures { result.now ≡ code_fault_text fault.now }
 {
@@ -38,7 +38,7 @@ fn code_fault_word(fault: &CodeFault) -> &'static [u8]
     }
 }
 
-/// The word for a fault of a line.
+/// Returns the word for a fault of a line.
 fn line_fault_word(fault: &LineFault) -> &'static [u8]
     ensures { result.now ≡ line_fault_text fault.now }
 {
@@ -53,7 +53,7 @@ fn line_fault_word(fault: &LineFault) -> &'static [u8]
     }
 }
 
-/// A fault, and the line that it is in.
+/// Returns the text of a fault and the number of its line.
 fn at_line(alloc: Global, fault: &[u8], line: u32) -> Result<Vec<u8>, AllocError>
     ensures { IfOk result (λ text. text.items ≡ at_line fault.now line) }
 {
@@ -63,7 +63,7 @@ fn at_line(alloc: Global, fault: &[u8], line: u32) -> Result<Vec<u8>, AllocError
     Ok(text)
 }
 
-/// The text of a fault of a table's text.
+/// Returns the text for a fault of a table's text.
 fn table_fault(alloc: Global, fault: &TableFault) -> Result<Vec<u8>, AllocError>
     ensures { IfOk result (λ text. text.items ≡ table_fault_text fault.now) }
 {
@@ -78,7 +78,7 @@ fn table_fault(alloc: Global, fault: &TableFault) -> Result<Vec<u8>, AllocError>
     }
 }
 
-/// The word for why a table is not compiled.
+/// Returns the word for why a table is not compiled.
 fn compile_fault_word(fault: &CompileFault) -> &'static [u8]
     ensures { result.now ≡ compile_fault_text fault.now }
 {
@@ -89,7 +89,7 @@ fn compile_fault_word(fault: &CompileFault) -> &'static [u8]
     }
 }
 
-/// The text of why prefixes.txt is refused.
+/// Returns the text for why prefixes.txt is refused.
 fn tables_fault(alloc: Global, fault: &TablesFault) -> Result<Vec<u8>, AllocError>
     ensures { IfOk result (λ text. text.items ≡ tables_fault_text fault.now) }
 {
@@ -99,16 +99,16 @@ fn tables_fault(alloc: Global, fault: &TablesFault) -> Result<Vec<u8>, AllocErro
     }
 }
 
-/// Two texts, one after the other.
-fn joined(alloc: Global, front: &[u8], back: &[u8]) -> Result<Vec<u8>, AllocError>
-    ensures { IfOk result (λ text. text.items ≡ front.now ++ back.now) }
+/// Returns two texts, one after the other.
+fn joined(alloc: Global, first: &[u8], second: &[u8]) -> Result<Vec<u8>, AllocError>
+    ensures { IfOk result (λ text. text.items ≡ first.now ++ second.now) }
 {
-    let mut text = Vec::from_slice(alloc, front)?;
-    text.extend_from_slice(back)?;
+    let mut text = Vec::from_slice(alloc, first)?;
+    text.extend_from_slice(second)?;
     Ok(text)
 }
 
-/// A line of the log, and its fault.
+/// Returns the message for a malformed line of the log.
 fn log_line(alloc: Global, line: u64, fault: &LineFault) -> Result<Vec<u8>, AllocError>
     ensures { IfOk result (λ text. text.items ≡ codes "log line " ++ decimal line ++ codes ": " ++ line_fault_text fault.now) }
 {
@@ -119,7 +119,7 @@ fn log_line(alloc: Global, line: u64, fault: &LineFault) -> Result<Vec<u8>, Allo
     Ok(text)
 }
 
-/// A word and a line of the log.
+/// Returns a text with the number of a line of the log after it.
 fn word_and_line(alloc: Global, word: &[u8], line: u64) -> Result<Vec<u8>, AllocError>
     ensures { IfOk result (λ text. text.items ≡ word.now ++ decimal line) }
 {
@@ -128,7 +128,7 @@ fn word_and_line(alloc: Global, word: &[u8], line: u64) -> Result<Vec<u8>, Alloc
     Ok(text)
 }
 
-/// Why prefixes.txt is refused, on one line.
+/// Returns the message for why prefixes.txt is refused.
 fn table_refused(alloc: Global, fault: &TablesFault) -> Result<Vec<u8>, AllocError>
     ensures { IfOk result (λ text. text.items ≡ codes "prefixes.txt refused: " ++ tables_fault_text fault.now) }
 {
@@ -136,7 +136,7 @@ fn table_refused(alloc: Global, fault: &TablesFault) -> Result<Vec<u8>, AllocErr
     joined(alloc, b"prefixes.txt refused: ", fault.as_slice())
 }
 
-/// What is told of a status, between the program's name and the line feed.
+/// Returns the message for `status`, which goes between the program's name and the line feed.
 fn told(alloc: Global, status: &Status) -> Result<Vec<u8>, AllocError>
     ensures { IfOk result (λ text. text.items ≡ told_of status.now) }
 {
@@ -158,7 +158,7 @@ fn told(alloc: Global, status: &Status) -> Result<Vec<u8>, AllocError>
     }
 }
 
-/// The whole line on standard error.
+/// Returns the whole line for standard error.
 fn line_of(alloc: Global, told: &[u8]) -> Result<Vec<u8>, AllocError>
     ensures { IfOk result (λ text. text.items ≡ line_of told.now) }
 {
@@ -168,8 +168,8 @@ fn line_of(alloc: Global, told: &[u8]) -> Result<Vec<u8>, AllocError>
     Ok(text)
 }
 
-/// Appends what the program tells of a status on standard error, nothing for `Done`. After
-/// `Memory` the list is as before.
+/// Appends the line that the program prints on standard error for `status`; nothing for `Done`. If
+/// memory runs out, nothing changes.
 pub fn status_line(status: &Status, out: &mut Vec<u8>) -> Result<(), Memory>
     ensures ok { OnOk result (out.new.items ≡ out.old.items ++ status_text status.now) }
     ensures err { OnErr result (out.new.items ≡ out.old.items) }

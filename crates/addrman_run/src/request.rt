@@ -1,14 +1,14 @@
 use net_addr::Peer;
 
-/// What the words of the command line ask for.
+/// What the arguments ask for.
 #[derive(Clone, Copy, Debug)]
 pub enum Request {
-    /// `replay --key HEX64`: carry out the lines of the log, from empty tables under the key.
+    /// `replay --key HEX64`: carry out the lines of the log, from empty tables with this key.
     Replay { key: [u8; 32] },
-    /// `compile`: turn prefixes.txt into an asmap.
+    /// `compile`: compile prefixes.txt, and say how large its asmap is.
     Compile,
     /// `check`: say whether asmap.dat is sane.
     Check,
-    /// `lookup PEER`: the AS number and the group of the peer's address.
+    /// `lookup PEER`: say which AS number and group the peer's address has.
     Lookup { peer: Peer },
 }

@@ -11,8 +11,7 @@ use host_io::{Sink, write_all};
 use log_lines::split_line;
 use std::alloc::Global;
 
-/// Carries out the lines of a log in order, and writes the reply to each before it turns to the
-/// next.
+/// Carries out the lines of a log in order, and writes the reply to each before the next line.
 pub(crate) fn run_lines<S: LineSteps, K: Sink>(
     alloc: Global,
     log: &[u8],
@@ -22,8 +21,8 @@ pub(crate) fn run_lines<S: LineSteps, K: Sink>(
     requires room { S.has_room state.old (length log.now) }
     requires short { length log.now ≤ 16777216 }
     ensures done { result ≡ Status.Done → (text : List ℕ) × AnswersAll S.step state.old log.now text × Appended (K.written out.old) (K.written out.new) text }
-    ensures front { (text : List ℕ) × AnswersPrefix S.step state.old log.now text × Appended (K.written out.old) (K.written out.new) text }
-    ensures in_step { result ≡ Status.WriteFault → IfSome (K.written out.old) (λ _. (text : List ℕ) × StopsInReply S.step state.old log.now text state.new × Appended (K.written out.old) (K.written out.new) text) }
+    ensures memory { result ≡ Status.Memory → (text : List ℕ) × AnswersPrefix S.step state.old log.now text × Appended (K.written out.old) (K.written out.new) text }
+    ensures in_step { result ≡ Status.WriteFault → (text : List ℕ) × (AnswersPrefix S.step state.old log.now text × IfSome (K.written out.old) (λ _. StopsInReply S.step state.old log.now text state.new)) × Appended (K.written out.old) (K.written out.new) text }
     ensures fault { (n : ℕ) (fault : LineFault) → result ≡ Status.LogLine n fault → (text : List ℕ) × StopsAt S.step (λ line. S.has_fault line fault) state.old log.now n text × Appended (K.written out.old) (K.written out.new) text }
     ensures not_built { (n : ℕ) → result ≡ Status.NotBuilt n → (text : List ℕ) × StopsAt S.step S.not_built state.old log.now n text × Appended (K.written out.old) (K.written out.new) text }
     ensures cause { result ≡ Status.WriteFault → Rose (K.faults out.old) (K.faults out.new) }

@@ -8,13 +8,14 @@ use log_lines::LineFault;
 pub enum Status {
     /// Everything was written. A replay has read its log to the end.
     Done,
-    /// The words are not in form.
+    /// The arguments are not those of a command.
     Usage,
-    /// A line of the log is at fault; lines are counted from 1. The lines before it are answered.
+    /// A line of the log is malformed; lines are counted from 1. The replies to those before it are
+    /// written.
     LogLine { line: u64, fault: LineFault },
-    /// asmap.dat is refused.
+    /// asmap.dat is too large, or no file of a sane tree.
     AsmapRefused(CodeFault),
-    /// prefixes.txt is refused.
+    /// prefixes.txt is too large or malformed, or is not compiled.
     TableRefused(TablesFault),
     /// The log cannot be read.
     ReadFault,
@@ -24,10 +25,10 @@ pub enum Status {
     DiskFault,
     /// The log has more than 16,777,216 bytes.
     LogTooLong,
-    /// There was no memory for what the run needs.
+    /// Out of memory.
     Memory,
     /// A file that the command needs is absent.
     NoFile { name: Name },
-    /// A line asks for what is not built yet; lines are counted from 1.
+    /// A line spells a command that is not supported yet; lines are counted from 1.
     NotBuilt { line: u64 },
 }

@@ -7,8 +7,8 @@ use host_io::{SureFolder, SureSink, SureSource};
 use std::alloc::Global;
 use std::hash::BuildHasher;
 
-/// A run over an outside that never fails, which keeps nothing of what is written. Its status is
-/// never a fault of the outside, since those have a cause there.
+/// Runs the program on a log in memory, with no files, and discards the output. Log, folder and
+/// output never fail, so the status is never `ReadFault`, `WriteFault` or `DiskFault`.
 pub fn run_surely<H: BuildHasher + Drop>(
     alloc: Global,
     hasher: H,

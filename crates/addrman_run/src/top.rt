@@ -4,9 +4,10 @@ ghost use Rattle.addrman_run.specs.Request.{Asks};
 ghost use Rattle.addrman_run.specs.Outcome.{Ends, HasCause};
 ghost use Rattle.addrman_run.specs.declared.request.Request.{Request};
 
-use crate::check::check_asmap;
+use crate::asmap_line::tell_asmap;
+use crate::check::Check;
 use crate::compile::compile_table;
-use crate::lookup::lookup;
+use crate::lookup::Lookup;
 use crate::replay::replay;
 use crate::words::read_request;
 use crate::{Request, Status};
@@ -14,10 +15,10 @@ use host_io::{Folder, Sink, Source};
 use std::alloc::Global;
 use std::hash::BuildHasher;
 
-/// Runs the program on its words, those after its name.
+/// Runs the program with these arguments, without the program's name, and returns how it ended.
 ///
-/// `replay --key HEX64` answers the lines of the log one after another, from empty tables under
-/// that key and the folder's asmap.dat, if it has one. `compile` reads and compiles the folder's
+/// `replay --key HEX64` carries out the lines of the log and writes the reply to each, from empty
+/// tables with that key and the folder's asmap.dat, if there is one. `compile` reads and compiles the folder's
 /// prefixes.txt, `check` checks its asmap.dat, and `lookup PEER` writes the AS number and the group
 /// that asmap.dat gives the peer's address.
 pub fn run<L: Source, F: Folder, K: Sink, H: BuildHasher + Drop>(
@@ -41,7 +42,7 @@ pub fn run<L: Source, F: Folder, K: Sink, H: BuildHasher + Drop>(
     match request {
         Request::Replay { key } => replay(alloc, hasher, key, log, folder, out),
         Request::Compile => compile_table(alloc, folder, out),
-        Request::Check => check_asmap(alloc, folder, out),
-        Request::Lookup { peer } => lookup(alloc, &peer, folder, out),
+        Request::Check => tell_asmap(alloc, &Check, folder, out),
+        Request::Lookup { peer } => tell_asmap(alloc, &Lookup { peer }, folder, out),
     }
 }

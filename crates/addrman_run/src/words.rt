@@ -7,7 +7,7 @@ use crate::Request;
 use hex::FromHex;
 use net_addr::parse_peer;
 
-/// The request that the words ask for, or `None` if they ask for none.
+/// Returns the request that the arguments ask for, or `None` if they are not those of a command.
 pub fn read_request(words: &[String]) -> Option<Request>
     ensures found { IfSome result (λ request. Asks (map string_bytes words.now) request) }
     ensures only { (request : Request) → Asks (map string_bytes words.now) request → result ≡ Some request }
@@ -26,7 +26,7 @@ pub fn read_request(words: &[String]) -> Option<Request>
     }
 }
 
-/// The first of the words, and the words after it.
+/// Returns the first argument and those after it.
 fn first_word(words: &[String]) -> Option<(&[u8], &[String])>
     ensures some { IfSome result (λ parts. map string_bytes words.now ≡ parts.0.now ∷ map string_bytes parts.1.now) }
     ensures none { IfNone result (map string_bytes words.now ≡ []) }
@@ -35,7 +35,7 @@ fn first_word(words: &[String]) -> Option<(&[u8], &[String])>
     Some((first.as_bytes(), rest))
 }
 
-/// The request, if there are no words.
+/// Returns the request if there are no arguments.
 fn if_no_words(words: &[String], request: Request) -> Option<Request>
     ensures found { IfSome result (λ asked. (asked ≡ request) × (map string_bytes words.now ≡ [])) }
     ensures none { IfNone result (map string_bytes words.now ≢ []) }
@@ -47,7 +47,7 @@ fn if_no_words(words: &[String], request: Request) -> Option<Request>
     }
 }
 
-/// The only word.
+/// Returns the argument if there is only one.
 fn only_word(words: &[String]) -> Option<&[u8]>
     ensures some { IfSome result (λ word. map string_bytes words.now ≡ word.now ∷ []) }
     ensures none { IfNone result ((word : List ℕ) → map string_bytes words.now ≡ word ∷ [] → ⊥) }
@@ -58,7 +58,7 @@ fn only_word(words: &[String]) -> Option<&[u8]>
     }
 }
 
-/// A replay, by the words after the command.
+/// Reads the arguments after `replay`.
 fn read_replay(words: &[String]) -> Option<Request>
     ensures found { IfSome result (λ request. Asks (codes "replay" ∷ map string_bytes words.now) request) }
     ensures only { (request : Request) → Asks (codes "replay" ∷ map string_bytes words.now) request → result ≡ Some request }
@@ -67,7 +67,7 @@ fn read_replay(words: &[String]) -> Option<Request>
     Some(Request::Replay { key })
 }
 
-/// A lookup, by the words after the command.
+/// Reads the arguments after `lookup`.
 fn read_lookup(words: &[String]) -> Option<Request>
     ensures found { IfSome result (λ request. Asks (codes "lookup" ∷ map string_bytes words.now) request) }
     ensures only { (request : Request) → Asks (codes "lookup" ∷ map string_bytes words.now) request → result ≡ Some request }
@@ -76,7 +76,7 @@ fn read_lookup(words: &[String]) -> Option<Request>
     Some(Request::Lookup { peer })
 }
 
-/// The value of an option that the words spell, as two words or as one with `=` between.
+/// Returns the value of the option `name`, in two arguments or in one with `=` between them.
 fn option_value<'a>(words: &'a [String], name: &[u8]) -> Option<&'a [u8]>
     ensures found { IfSome result (λ value. IsOption name.now value.now (map string_bytes words.now)) }
     ensures only { (value : List ℕ) → IsOption name.now value (map string_bytes words.now) → option_map (λ found. found.now) result ≡ Some value }
@@ -89,7 +89,7 @@ fn option_value<'a>(words: &'a [String], name: &[u8]) -> Option<&'a [u8]>
     if first == name { Some(value) } else { None }
 }
 
-/// The value in a word that is a name, `=` and the value.
+/// Returns the value in an argument that is the name, `=` and the value.
 fn value_after_equals<'a>(word: &'a [u8], name: &[u8]) -> Option<&'a [u8]>
     ensures found { IfSome result (λ value. word.now ≡ name.now ++ codes "=" ++ value.now) }
     ensures only { (value : List ℕ) → word.now ≡ name.now ++ codes "=" ++ value → option_map (λ found. found.now) result ≡ Some value }
@@ -97,7 +97,7 @@ fn value_after_equals<'a>(word: &'a [u8], name: &[u8]) -> Option<&'a [u8]>
     after_prefix(after_prefix(word, name)?, b"=")
 }
 
-/// The bytes after the prefix of a text.
+/// Returns what follows `prefix` in a text that begins with it.
 fn after_prefix<'a>(text: &'a [u8], prefix: &[u8]) -> Option<&'a [u8]>
     ensures found { IfSome result (λ rest. text.now ≡ prefix.now ++ rest.now) }
     ensures none { IfNone result ((rest : List ℕ) → text.now ≡ prefix.now ++ rest → ⊥) }
@@ -105,7 +105,7 @@ fn after_prefix<'a>(text: &'a [u8], prefix: &[u8]) -> Option<&'a [u8]>
     text.strip_prefix(prefix)
 }
 
-/// A key of 32 bytes in hexadecimal, in either case.
+/// Reads a key of 32 bytes from 64 hexadecimal digits, in either case.
 fn read_key(digits: &[u8]) -> Option<[u8; 32]>
     ensures found { IfSome result (λ key. IsKey digits.now key) }
     ensures only { (key : List ℕ) → IsKey digits.now key → result ≡ Some key }

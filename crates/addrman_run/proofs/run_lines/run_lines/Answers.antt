@@ -3,7 +3,7 @@ use Rattle.std.proofs.lemmas.Bool.{eqb-true}
 use Rattle.std.proofs.lemmas.List.{append-nil}
 use Rattle.host_io.specs.Writing.{Appended, AppendedPart}
 use Rattle.addrman_run.specs.Run.{AnswersPrefix, StopsInReply}
-use Rattle.addrman_run.proofs.Runs.{all_answered, append_after, one_more, part_after, prefix_answered, prefix_of_next, stops_in_reply, told_part_after}
+use Rattle.addrman_run.proofs.Runs.{all_answered, append_after, one_more, part_after, prefix_answered, prefix_of_next, stops_in_reply}
 use Rattle.addrman_run.proofs.run_lines.run_lines.Goals as goal
 
 pub carry_out-requires-clause-room : goal.carry_out-requires-clause-room
@@ -12,35 +12,19 @@ carry_out-requires-clause-room g c =
     let one : left ≡ left - 1 + 1 = omega (arith, c.loop-rest.invariant.counted) in
     (left - 1, subst (g.S.LineSteps.has_room c.loop-rest.state) one c.loop-rest.invariant.room)
 
-pub returns-in-Err-Fault-clause-front : goal.returns-in-Err-Fault-clause-front
-returns-in-Err-Fault-clause-front g c =
+pub returns-in-Err-Memory-clause-memory : goal.returns-in-Err-Memory-clause-memory
+returns-in-Err-Memory-clause-memory g c = λ _.
     let i = c.loop-rest.invariant in
     (i.text, prefix_answered g.S.LineSteps.step c.args.state.now c.loop-rest.state c.args.log.now c.loop-rest.rest.now c.loop-rest.line_number i.text i.so_far i.text [] (sym (append-nil i.text)), i.written)
-
-pub returns-in-Err-NotBuilt-clause-front : goal.returns-in-Err-NotBuilt-clause-front
-returns-in-Err-NotBuilt-clause-front g c =
-    let i = c.loop-rest.invariant in
-    (i.text, prefix_answered g.S.LineSteps.step c.args.state.now c.loop-rest.state c.args.log.now c.loop-rest.rest.now c.loop-rest.line_number i.text i.so_far i.text [] (sym (append-nil i.text)), i.written)
-
-pub returns-in-Err-Memory-clause-front : goal.returns-in-Err-Memory-clause-front
-returns-in-Err-Memory-clause-front g c =
-    let i = c.loop-rest.invariant in
-    (i.text, prefix_answered g.S.LineSteps.step c.args.state.now c.loop-rest.state c.args.log.now c.loop-rest.rest.now c.loop-rest.line_number i.text i.so_far i.text [] (sym (append-nil i.text)), i.written)
-
-pub returns-in-Err-clause-front : goal.returns-in-Err-clause-front
-returns-in-Err-clause-front g c =
-    let i = c.loop-rest.invariant in
-    let step = g.S.LineSteps.step in
-    part_after (AnswersPrefix step c.args.state.now c.args.log.now) (g.K.Sink.written c.args.out.now) (g.K.Sink.written c.loop-rest.out) (g.K.Sink.written c.write_all.new.sink) i.text c.in-Ok.text.items
-    (prefix_of_next step c.args.state.now c.loop-rest.state c.carry_out.new.self c.args.log.now c.loop-rest.rest.now c.split_line.result.0.now c.split_line.result.1.now c.loop-rest.line_number i.text c.in-Ok.text.items
-    i.so_far c.split_line.ensures.first c.in-Ok.ensures.step)
-    i.written (subst (AppendedPart (g.K.Sink.written c.loop-rest.out) (g.K.Sink.written c.write_all.new.sink)) c.as_slice.ensures.value c.in-Err.ensures.err)
 
 pub returns-in-Err-clause-in_step : goal.returns-in-Err-clause-in_step
 returns-in-Err-clause-in_step g c = λ _.
     let i = c.loop-rest.invariant in
     let step = g.S.LineSteps.step in
-    told_part_after (λ t. StopsInReply step c.args.state.now c.args.log.now t c.carry_out.new.self) (g.K.Sink.written c.args.out.now) (g.K.Sink.written c.loop-rest.out) (g.K.Sink.written c.write_all.new.sink) i.text c.in-Ok.text.items
+    part_after (AnswersPrefix step c.args.state.now c.args.log.now) (λ t. StopsInReply step c.args.state.now c.args.log.now t c.carry_out.new.self)
+    (g.K.Sink.written c.args.out.now) (g.K.Sink.written c.loop-rest.out) (g.K.Sink.written c.write_all.new.sink) i.text c.in-Ok.text.items
+    (prefix_of_next step c.args.state.now c.loop-rest.state c.carry_out.new.self c.args.log.now c.loop-rest.rest.now c.split_line.result.0.now c.split_line.result.1.now c.loop-rest.line_number i.text c.in-Ok.text.items
+    i.so_far c.split_line.ensures.first c.in-Ok.ensures.step)
     (stops_in_reply step c.args.state.now c.loop-rest.state c.carry_out.new.self c.args.log.now c.loop-rest.rest.now c.split_line.result.0.now c.split_line.result.1.now c.loop-rest.line_number i.text c.in-Ok.text.items
     i.so_far c.split_line.ensures.first c.in-Ok.ensures.step)
     i.written (subst (AppendedPart (g.K.Sink.written c.loop-rest.out) (g.K.Sink.written c.write_all.new.sink)) c.as_slice.ensures.value c.in-Err.ensures.err)
@@ -67,8 +51,3 @@ pub returns-clause-done : goal.returns-clause-done
 returns-clause-done g c = λ _.
     let i = c.loop-rest.invariant in
     (i.text, all_answered g.S.LineSteps.step c.args.state.now c.loop-rest.state c.args.log.now c.loop-rest.rest.now c.loop-rest.line_number i.text i.so_far (eqb-true (length c.loop-rest.rest.now) 0 (sym c.is_empty.ensures ∙ c.loop-rest-test.false)), i.written)
-
-pub returns-clause-front : goal.returns-clause-front
-returns-clause-front g c =
-    let i = c.loop-rest.invariant in
-    (i.text, prefix_answered g.S.LineSteps.step c.args.state.now c.loop-rest.state c.args.log.now c.loop-rest.rest.now c.loop-rest.line_number i.text i.so_far i.text [] (sym (append-nil i.text)), i.written)

@@ -3,7 +3,7 @@ use Rattle.host_io.specs.Writing.{Appended}
 use Rattle.addrman_run.proofs.Runs.{SoFar}
 use Rattle.addrman_run.proofs.run_lines.run_lines.Given as goal
 
--- the lines so far are answered, and their replies are written
+-- the lines before the rest are answered, and their replies are written
 abbrev pub invariant-loop-rest : goal.invariant-loop-rest
 invariant-loop-rest g l = record {
   counted : l.line_number + length l.rest ≤ length l.log;

@@ -1,0 +1,101 @@
+ghost use Rattle.std.specs.Prelude.{◌≡◌, ◌⊎◌, ◌≤◌, length, Ok, Err, None, Some, IfOk, IfSome, IfErr};
+ghost use Rattle.host_io.specs.Faults.{Rose};
+ghost use Rattle.host_io.specs.PerName.{under};
+ghost use Rattle.addrman_run.specs.Inside.{name_of, most_of, too_large_of, IsLoadFault, IsNotLoaded};
+
+use crate::{Status, TablesFault};
+use asmap_vm::CodeFault;
+use host_io::{Bytes, Folder, Name};
+use prefix_table::TableFault;
+use save_store::{LoadFault, load};
+use std::alloc::Global;
+
+/// A file that commands load whole.
+#[derive(Clone, Copy, Debug, PartialEq, Eq)]
+pub(crate) enum Input {
+    Asmap,
+    Prefixes,
+}
+
+impl Input {
+    /// Returns the name of the file.
+    fn name(self) -> Name
+        ensures { result ≡ name_of self }
+    {
+        match self {
+            Input::Asmap => Name::Asmap,
+            Input::Prefixes => Name::Prefixes,
+        }
+    }
+
+    /// Returns the most bytes that the file may have.
+    fn most(self) -> u64
+        ensures { result ≡ most_of self }
+    {
+        match self {
+            Input::Asmap => 8_388_608,
+            Input::Prefixes => 134_217_728,
+        }
+    }
+
+    /// Returns the status for a file of more bytes than that.
+    fn too_large(self, size: u64) -> Status
+        ensures { result ≡ too_large_of self size }
+    {
+        match self {
+            Input::Asmap => Status::AsmapRefused(CodeFault::TooLarge { size }),
+            Input::Prefixes => {
+                Status::TableRefused(TablesFault::Rows(TableFault::TooLarge { size }))
+            }
+        }
+    }
+}
+
+/// Loads a file, or returns `None` if it is absent.
+pub(crate) fn load_input<F: Folder>(
+    alloc: Global,
+    input: Input,
+    folder: &mut F,
+) -> Result<Option<Bytes>, Status>
+    ensures found { IfOk result (λ loaded.
+        IfSome (F.files folder.old) (λ files. under files (name_of input) ≡ loaded)) }
+    ensures within { IfOk result (λ loaded. IfSome loaded (λ bytes. length bytes ≤ most_of input)) }
+    ensures absent { IfSome (F.files folder.old) (λ files. under files (name_of input) ≡ None →
+        (result ≡ Ok None) ⊎ (result ≡ Err Status.DiskFault)) }
+    ensures cause { IfErr result (λ status. IsLoadFault input (F.files folder.old) status) }
+    ensures fault { result ≡ Err Status.DiskFault →
+        Rose (F.faults folder.old) (F.faults folder.new) }
+    ensures never_falls { F.faults folder.old ≤ F.faults folder.new }
+    ensures same { F.files folder.new ≡ F.files folder.old }
+{
+    match load(alloc, folder, input.name(), input.most()) {
+        Ok(loaded) => Ok(loaded),
+        Err(LoadFault::Disk) => Err(Status::DiskFault),
+        Err(LoadFault::TooLarge { size }) => Err(input.too_large(size)),
+        Err(LoadFault::Memory) => Err(Status::Memory),
+    }
+}
+
+/// Loads a file that must be there.
+pub(crate) fn load_present<F: Folder>(
+    alloc: Global,
+    input: Input,
+    folder: &mut F,
+) -> Result<Bytes, Status>
+    ensures found { IfOk result (λ bytes.
+        IfSome (F.files folder.old) (λ files. under files (name_of input) ≡ Some bytes)) }
+    ensures within { IfOk result (λ bytes. length bytes ≤ most_of input) }
+    ensures absent { IfSome (F.files folder.old) (λ files. under files (name_of input) ≡ None →
+        (result ≡ Err (Status.NoFile (name_of input))) ⊎ (result ≡ Err Status.DiskFault)) }
+    ensures cause { IfErr result (λ status. IsNotLoaded input (F.files folder.old) status) }
+    ensures fault { result ≡ Err Status.DiskFault →
+        Rose (F.faults folder.old) (F.faults folder.new) }
+    ensures never_falls { F.faults folder.old ≤ F.faults folder.new }
+    ensures same { F.files folder.new ≡ F.files folder.old }
+{
+    match load_input(alloc, input, folder) {
+        Ok(Some(bytes)) => Ok(bytes),
+        Ok(None) => Err(Status::NoFile { name: input.name() }),
+        Err(status) => Err(status),
+    }
+}
