@@ -2,9 +2,8 @@
 // the sums of its text and of the replies.
 ghost use Rattle.std.specs.Prelude.{◌<◌};
 
-use crate::runs::{replay_words, run_over};
+use crate::runs::{Given, REPLAY, ending};
 use addrman_run::Status;
-use host_io::{MemSink, MemSource};
 use rand_core::{Rng, SeedableRng};
 use rand_xoshiro::Xoshiro256PlusPlus;
 use sha2::{Digest, Sha256};
@@ -114,7 +113,11 @@ fn drawn_log(alloc: Global, seed: u64, lines: u32) -> Result<String, AllocError>
 }
 
 /// The bytes have this SHA-256 in hexadecimal.
-fn assert_sum(rt: &(impl Abort + AllocGlobal), bytes: &[u8], want: &str) -> Result<(), Fail> {
+pub(crate) fn assert_sum(
+    rt: &(impl Abort + AllocGlobal),
+    bytes: &[u8],
+    want: &str,
+) -> Result<(), Fail> {
     let sum = hex::encode(rt.alloc(), Sha256::digest(bytes).as_slice())?;
     assert_eq!(rt; sum.as_str(), want);
     Ok(())
@@ -130,12 +133,13 @@ fn assert_drawn(
 ) -> Result<(), Fail> {
     let log = drawn_log(rt.alloc(), 7, lines)?;
     assert_sum(rt, log.as_bytes(), log_sum)?;
-    let words = replay_words(rt.alloc())?;
-    let mut source = MemSource::make(rt.alloc(), log.as_bytes(), 65_536, &[])?;
-    let mut sink = MemSink::make(rt.alloc(), &[])?;
-    let status = run_over(rt.alloc(), words.as_slice(), &mut source, &mut sink);
+    let given = Given {
+        log: log.as_bytes(),
+        ..REPLAY
+    };
+    let (status, out) = ending(rt, given)?;
     assert_eq!(rt; status, Status::Done);
-    assert_sum(rt, sink.bytes(), replies_sum)
+    assert_sum(rt, out.bytes(), replies_sum)
 }
 
 /// 175,565 bytes of lines and 27,163 bytes of replies.

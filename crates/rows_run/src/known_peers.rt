@@ -1,183 +1,80 @@
 // Peers that are known, and slots that are taken. Another program computed the replies.
-use crate::runs::{Replay, assert_replays};
+use crate::runs::REPLAY;
+use crate::transcripts::{FIRST, assert_transcripts};
 use std::test::Fail;
 
-/// 8.8.8.8:8333 comes again: from its source, from nine sources, and with a draw that fails.
-const KNOWN: [Replay; 3] = [
-    Replay {
-        log: "\
-now 1700000000\n\
-addr 1.2.3.4 0100f15365010000000000000000000000000000000000ffff08080808208d 0\n\
-find 8.8.8.8:8333\n\
-addr 1.2.3.4 0100f15365010000000000000000000000000000000000ffff08080808208d 0\n\
-addr 1.2.3.4 0100f15365010000000000000000000000000000000000ffff08080808208d 1\n\
-find 8.8.8.8:8333\n\
-size\n\
-dump\n",
-        replies: "\
-now 1700000000\n\
-added 1 of 1\n\
-peer 8.8.8.8:8333 source 1.2.3.4 time 1699992800 services 1 success 0 try 0 attempts 0 n\
-ew 87\n\
-added 0 of 1\n\
-added 0 of 1\n\
-peer 8.8.8.8:8333 source 1.2.3.4 time 1699992800 services 1 success 0 try 0 attempts 0 n\
-ew 87\n\
-size new 1 tried 0 clashes 0\n\
-peer 8.8.8.8:8333 source 1.2.3.4 time 1699992800 services 1 success 0 try 0 attempts 0 n\
-ew 87\n\
-end 1\n",
-    },
-    Replay {
-        log: "\
-now 1700000000\n\
-addr 1.2.3.4 0100f15365010000000000000000000000000000000000ffff08080808208d 0\n\
-find 8.8.8.8:8333\n\
-addr 2.2.3.4 0100f15365010000000000000000000000000000000000ffff08080808208d 0\n\
-find 8.8.8.8:8333\n\
-addr 3.2.3.4 0100f15365010000000000000000000000000000000000ffff08080808208d 0\n\
-find 8.8.8.8:8333\n\
-addr 4.2.3.4 0100f15365010000000000000000000000000000000000ffff08080808208d 0\n\
-find 8.8.8.8:8333\n\
-addr 6.2.3.4 0100f15365010000000000000000000000000000000000ffff08080808208d 0\n\
-find 8.8.8.8:8333\n\
-addr 7.2.3.4 0100f15365010000000000000000000000000000000000ffff08080808208d 0\n\
-find 8.8.8.8:8333\n\
-addr 9.2.3.4 0100f15365010000000000000000000000000000000000ffff08080808208d 0\n\
-find 8.8.8.8:8333\n\
-addr 11.2.3.4 0100f15365010000000000000000000000000000000000ffff08080808208d 0\n\
-find 8.8.8.8:8333\n\
-addr 12.2.3.4 0100f15365010000000000000000000000000000000000ffff08080808208d 0\n\
-find 8.8.8.8:8333\n\
-size\n",
-        replies: "\
-now 1700000000\n\
-added 1 of 1\n\
-peer 8.8.8.8:8333 source 1.2.3.4 time 1699992800 services 1 success 0 try 0 attempts 0 n\
-ew 87\n\
-added 1 of 1\n\
-peer 8.8.8.8:8333 source 1.2.3.4 time 1699992800 services 1 success 0 try 0 attempts 0 n\
-ew 87,827\n\
-added 1 of 1\n\
-peer 8.8.8.8:8333 source 1.2.3.4 time 1699992800 services 1 success 0 try 0 attempts 0 n\
-ew 87,827,948\n\
-added 1 of 1\n\
-peer 8.8.8.8:8333 source 1.2.3.4 time 1699992800 services 1 success 0 try 0 attempts 0 n\
-ew 87,253,827,948\n\
-added 1 of 1\n\
-peer 8.8.8.8:8333 source 1.2.3.4 time 1699992800 services 1 success 0 try 0 attempts 0 n\
-ew 87,253,648,827,948\n\
-added 1 of 1\n\
-peer 8.8.8.8:8333 source 1.2.3.4 time 1699992800 services 1 success 0 try 0 attempts 0 n\
-ew 87,139,253,648,827,948\n\
-added 1 of 1\n\
-peer 8.8.8.8:8333 source 1.2.3.4 time 1699992800 services 1 success 0 try 0 attempts 0 n\
-ew 87,139,253,379,648,827,948\n\
-added 1 of 1\n\
-peer 8.8.8.8:8333 source 1.2.3.4 time 1699992800 services 1 success 0 try 0 attempts 0 n\
-ew 87,139,208,253,379,648,827,948\n\
-added 0 of 1\n\
-peer 8.8.8.8:8333 source 1.2.3.4 time 1699992800 services 1 success 0 try 0 attempts 0 n\
-ew 87,139,208,253,379,648,827,948\n\
-size new 1 tried 0 clashes 0\n",
-    },
-    Replay {
-        log: "\
-now 1700000000\n\
-addr 1.2.3.4 0100f15365010000000000000000000000000000000000ffff08080808208d 0\n\
-addr 2.2.3.4 0100f15365010000000000000000000000000000000000ffff08080808208d 1\n\
-find 8.8.8.8:8333\n\
-size\n",
-        replies: "\
-now 1700000000\n\
-added 1 of 1\n\
-added 0 of 1\n\
-peer 8.8.8.8:8333 source 1.2.3.4 time 1699992800 services 1 success 0 try 0 attempts 0 n\
-ew 87\n\
-size new 1 tried 0 clashes 0\n",
-    },
-];
+/// 8.8.8.8:8333 is announced again.
+const KNOWN: &str = "\
+# Before that; another peer is unknown.
+find 9.9.9.9:8333 -> unknown
+find 8.8.8.8:8333 -> peer 8.8.8.8:8333 source 1.2.3.4 time 1699992800 services 1 success 0 try 0 attempts 0 new 87
 
-/// Ports 22 and 8333 of 8.8.8.8 share a slot, and port 0 is in another.
-const TAKEN: [Replay; 3] = [
-    Replay {
-        log: "\
-now 1700000000\n\
-addr 1.2.3.4 0100f15365010000000000000000000000000000000000ffff08080808208d 0\n\
-now 1702584800\n\
-addr 1.2.3.4 01e0617b65010000000000000000000000000000000000ffff080808080016 0\n\
-find 8.8.8.8:8333\n\
-find 8.8.8.8:22\n\
-size\n",
-        replies: "\
-now 1700000000\n\
-added 1 of 1\n\
-now 1702584800\n\
-added 0 of 1\n\
-peer 8.8.8.8:8333 source 1.2.3.4 time 1699992800 services 1 success 0 try 0 attempts 0 n\
-ew 87\n\
-unknown\n\
-size new 1 tried 0 clashes 0\n",
-    },
-    Replay {
-        log: "\
-now 1700000000\n\
-addr 1.2.3.4 0100f15365010000000000000000000000000000000000ffff08080808208d 0\n\
-now 1702584801\n\
-addr 1.2.3.4 01e1617b65010000000000000000000000000000000000ffff080808080000 0\n\
-addr 1.2.3.4 01e1617b65010000000000000000000000000000000000ffff080808080016 0\n\
-find 8.8.8.8:8333\n\
-find 8.8.8.8:22\n\
-find 8.8.8.8:0\n\
-size\n",
-        replies: "\
-now 1700000000\n\
-added 1 of 1\n\
-now 1702584801\n\
-added 1 of 1\n\
-added 1 of 1\n\
-unknown\n\
-peer 8.8.8.8:22 source 1.2.3.4 time 1702577601 services 1 success 0 try 0 attempts 0 ne\
-w 87\n\
-peer 8.8.8.8:0 source 1.2.3.4 time 1702577601 services 1 success 0 try 0 attempts 0 new \
-87\n\
-size new 2 tried 0 clashes 0\n",
-    },
-    Replay {
-        log: "\
-now 1700000000\n\
-addr 1.2.3.4 0100f15365010000000000000000000000000000000000ffff08080808208d 0\n\
-addr 2.2.3.4 0100f15365010000000000000000000000000000000000ffff08080808208d 0\n\
-find 8.8.8.8:8333\n\
-addr 1.2.3.4 0100f15365010000000000000000000000000000000000ffff080808080016 0\n\
-find 8.8.8.8:8333\n\
-find 8.8.8.8:22\n\
-size\n",
-        replies: "\
-now 1700000000\n\
-added 1 of 1\n\
-added 1 of 1\n\
-peer 8.8.8.8:8333 source 1.2.3.4 time 1699992800 services 1 success 0 try 0 attempts 0 n\
-ew 87,827\n\
-added 1 of 1\n\
-peer 8.8.8.8:8333 source 1.2.3.4 time 1699992800 services 1 success 0 try 0 attempts 0 n\
-ew 827\n\
-peer 8.8.8.8:22 source 1.2.3.4 time 1699992800 services 1 success 0 try 0 attempts 0 ne\
-w 87\n\
-size new 2 tried 0 clashes 0\n",
-    },
-];
+# By its source.
+find 8.8.8.8:8333 -> peer 8.8.8.8:8333 source 1.2.3.4 time 1699992800 services 1 success 0 try 0 attempts 0 new 87
+addr 1.2.3.4 0100f15365010000000000000000000000000000000000ffff08080808208d 0 -> added 0 of 1
+addr 1.2.3.4 0100f15365010000000000000000000000000000000000ffff08080808208d 1 -> added 0 of 1
+find 8.8.8.8:8333 -> peer 8.8.8.8:8333 source 1.2.3.4 time 1699992800 services 1 success 0 try 0 attempts 0 new 87
+size -> size new 1 tried 0 clashes 0
+dump -> peer 8.8.8.8:8333 source 1.2.3.4 time 1699992800 services 1 success 0 try 0 attempts 0 new 87
+-> end 1
 
-/// A known peer gets a further bucket by the draw, and never more than eight.
+# By nine sources, but a peer is in at most eight buckets.
+find 8.8.8.8:8333 -> peer 8.8.8.8:8333 source 1.2.3.4 time 1699992800 services 1 success 0 try 0 attempts 0 new 87
+addr 2.2.3.4 0100f15365010000000000000000000000000000000000ffff08080808208d 0 -> added 1 of 1
+find 8.8.8.8:8333 -> peer 8.8.8.8:8333 source 1.2.3.4 time 1699992800 services 1 success 0 try 0 attempts 0 new 87,827
+addr 3.2.3.4 0100f15365010000000000000000000000000000000000ffff08080808208d 0 -> added 1 of 1
+find 8.8.8.8:8333 -> peer 8.8.8.8:8333 source 1.2.3.4 time 1699992800 services 1 success 0 try 0 attempts 0 new 87,827,948
+addr 4.2.3.4 0100f15365010000000000000000000000000000000000ffff08080808208d 0 -> added 1 of 1
+find 8.8.8.8:8333 -> peer 8.8.8.8:8333 source 1.2.3.4 time 1699992800 services 1 success 0 try 0 attempts 0 new 87,253,827,948
+addr 6.2.3.4 0100f15365010000000000000000000000000000000000ffff08080808208d 0 -> added 1 of 1
+find 8.8.8.8:8333 -> peer 8.8.8.8:8333 source 1.2.3.4 time 1699992800 services 1 success 0 try 0 attempts 0 new 87,253,648,827,948
+addr 7.2.3.4 0100f15365010000000000000000000000000000000000ffff08080808208d 0 -> added 1 of 1
+find 8.8.8.8:8333 -> peer 8.8.8.8:8333 source 1.2.3.4 time 1699992800 services 1 success 0 try 0 attempts 0 new 87,139,253,648,827,948
+addr 9.2.3.4 0100f15365010000000000000000000000000000000000ffff08080808208d 0 -> added 1 of 1
+find 8.8.8.8:8333 -> peer 8.8.8.8:8333 source 1.2.3.4 time 1699992800 services 1 success 0 try 0 attempts 0 new 87,139,253,379,648,827,948
+addr 11.2.3.4 0100f15365010000000000000000000000000000000000ffff08080808208d 0 -> added 1 of 1
+find 8.8.8.8:8333 -> peer 8.8.8.8:8333 source 1.2.3.4 time 1699992800 services 1 success 0 try 0 attempts 0 new 87,139,208,253,379,648,827,948
+addr 12.2.3.4 0100f15365010000000000000000000000000000000000ffff08080808208d 0 -> added 0 of 1
+find 8.8.8.8:8333 -> peer 8.8.8.8:8333 source 1.2.3.4 time 1699992800 services 1 success 0 try 0 attempts 0 new 87,139,208,253,379,648,827,948
+size -> size new 1 tried 0 clashes 0
+
+# The random word denies it a second bucket.
+addr 2.2.3.4 0100f15365010000000000000000000000000000000000ffff08080808208d 1 -> added 0 of 1
+find 8.8.8.8:8333 -> peer 8.8.8.8:8333 source 1.2.3.4 time 1699992800 services 1 success 0 try 0 attempts 0 new 87
+size -> size new 1 tried 0 clashes 0
+";
+
+/// Ports 22 and 8333 of 8.8.8.8 share a slot, and port 0 has another. The record in a slot leaves
+/// it if it is terrible or in another bucket too.
+const TAKEN: &str = "\
+# It is neither.
+now 1702584800 -> now 1702584800
+addr 1.2.3.4 01e0617b65010000000000000000000000000000000000ffff080808080016 0 -> added 0 of 1
+find 8.8.8.8:8333 -> peer 8.8.8.8:8333 source 1.2.3.4 time 1699992800 services 1 success 0 try 0 attempts 0 new 87
+find 8.8.8.8:22 -> unknown
+size -> size new 1 tried 0 clashes 0
+
+# It is terrible.
+now 1702584801 -> now 1702584801
+addr 1.2.3.4 01e1617b65010000000000000000000000000000000000ffff080808080000 0 -> added 1 of 1
+addr 1.2.3.4 01e1617b65010000000000000000000000000000000000ffff080808080016 0 -> added 1 of 1
+find 8.8.8.8:8333 -> unknown
+find 8.8.8.8:22 -> peer 8.8.8.8:22 source 1.2.3.4 time 1702577601 services 1 success 0 try 0 attempts 0 new 87
+find 8.8.8.8:0 -> peer 8.8.8.8:0 source 1.2.3.4 time 1702577601 services 1 success 0 try 0 attempts 0 new 87
+size -> size new 2 tried 0 clashes 0
+
+# It is in another bucket too.
+addr 2.2.3.4 0100f15365010000000000000000000000000000000000ffff08080808208d 0 -> added 1 of 1
+find 8.8.8.8:8333 -> peer 8.8.8.8:8333 source 1.2.3.4 time 1699992800 services 1 success 0 try 0 attempts 0 new 87,827
+addr 1.2.3.4 0100f15365010000000000000000000000000000000000ffff080808080016 0 -> added 1 of 1
+find 8.8.8.8:8333 -> peer 8.8.8.8:8333 source 1.2.3.4 time 1699992800 services 1 success 0 try 0 attempts 0 new 827
+find 8.8.8.8:22 -> peer 8.8.8.8:22 source 1.2.3.4 time 1699992800 services 1 success 0 try 0 attempts 0 new 87
+size -> size new 2 tried 0 clashes 0
+";
+
+/// A random word decides on the further bucket, the record in its slot on the slot.
 #[test]
-fn a_known_peer_gets_at_most_eight_buckets(rt: HostRuntime) -> Result<(), Fail> {
-    assert_replays(&rt, &KNOWN)
-}
-
-/// A record leaves its slot if it is terrible or in another bucket too.
-#[test]
-fn a_slot_is_taken_from_a_terrible_peer_or_one_with_two_buckets(
-    rt: HostRuntime,
-) -> Result<(), Fail> {
-    assert_replays(&rt, &TAKEN)
+fn an_announced_peer_gets_a_bucket_whose_slot_it_may_take(rt: HostRuntime) -> Result<(), Fail> {
+    assert_transcripts(&rt, REPLAY, FIRST, KNOWN)?;
+    assert_transcripts(&rt, REPLAY, FIRST, TAKEN)
 }

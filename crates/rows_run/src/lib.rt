@@ -15,8 +15,6 @@ mod known_peers;
 #[cfg(test)]
 mod line_faults;
 #[cfg(test)]
-mod log_text;
-#[cfg(test)]
 mod long_log;
 #[cfg(test)]
 mod lookups;
@@ -37,6 +35,6 @@ mod sizes;
 #[cfg(test)]
 mod statuses;
 #[cfg(test)]
-mod unbuilt;
+mod transcripts;
 #[cfg(test)]
 mod words;

@@ -1,8 +1,7 @@
-// Lines at fault.
-use crate::log_text::{FIRST_LINES, FIRST_REPLIES};
-use crate::runs::{assert_run, replay_words, run_over};
+// Lines that end the run: those at fault, and those that are not supported yet.
+use crate::runs::{Given, REPLAY, assert_replay, assert_run};
+use crate::transcripts::{FIRST, Texts};
 use addrman_run::Status;
-use host_io::{MemSink, MemSource};
 use log_lines::LineFault;
 use std::process::Abort;
 use std::test::Fail;
@@ -66,7 +65,7 @@ const FAULTS: [(&str, LineFault); 52] = [
     ("sample 0 0 all 1, 2", LineFault::Fields),
 ];
 
-/// What stands before and after a field of a million digits, and the fault of the line.
+/// The text before and after a field of a million digits, and the fault of the line.
 const LONG_FIELDS: [(&str, &str, LineFault); 11] = [
     ("", "", LineFault::Word),
     ("size ", "", LineFault::Fields),
@@ -92,13 +91,11 @@ fn assert_long(
     line.extend_from_slice(before.as_bytes())?;
     line.extend_from_slice(vec![in rt.alloc(); byte; 1_000_000]?.as_slice())?;
     line.extend_from_slice(after.as_bytes())?;
-    let words = replay_words(rt.alloc())?;
-    let mut source = MemSource::make(rt.alloc(), line.as_slice(), 65_536, &[])?;
-    let mut sink = MemSink::make(rt.alloc(), &[])?;
-    let status = run_over(rt.alloc(), words.as_slice(), &mut source, &mut sink);
-    assert_eq!(rt; sink.bytes(), text.as_bytes(), "written for {before:?}");
-    assert_eq!(rt; status, want, "status for {before:?}");
-    Ok(())
+    let given = Given {
+        log: line.as_slice(),
+        ..REPLAY
+    };
+    assert_run(rt, before, given, want, text)
 }
 
 /// Each kind of field. A payload of 500,000 bytes is in form, and no message.
@@ -123,16 +120,39 @@ fn a_million_bytes_that_are_no_word_are_at_fault(rt: HostRuntime) -> Result<(), 
     Ok(())
 }
 
-/// A line at fault ends the run with its number and its first fault. The lines before it are
-/// answered, and the line after it is not carried out.
+/// The lines that save the tables.
+const NOT_BUILT: [&str; 4] = ["save", "save-begin", "save-step 4000", "save-end"];
+
+/// The line, after two that are answered, a comment and an empty line, ends the run so. The line
+/// after it is not carried out.
+fn assert_fifth_line(
+    rt: &(impl Abort + AllocGlobal),
+    line: &str,
+    want: Status,
+) -> Result<(), Fail> {
+    let mut texts = Texts::new(rt.alloc());
+    texts.add(FIRST)?;
+    texts.log.push_str("# a comment\n\n")?;
+    texts.log.push_str(line)?;
+    texts.log.push_str("\nnow 1\n")?;
+    assert_replay(rt, texts.log.as_str(), want, texts.replies.as_str())
+}
+
+/// A line at fault ends the run with its number and its first fault.
 #[test]
 fn a_line_at_fault_ends_the_run(rt: HostRuntime) -> Result<(), Fail> {
     for (line, fault) in FAULTS {
-        let first = Status::LogLine { line: 1, fault };
-        assert_run(&rt, line, first, "")?;
-        let log = format!(in rt.alloc(); "{FIRST_LINES}# a comment\n\n{line}\nnow 1\n")?;
-        let fifth = Status::LogLine { line: 5, fault };
-        assert_run(&rt, log.as_str(), fifth, FIRST_REPLIES)?;
+        assert_replay(&rt, line, Status::LogLine { line: 1, fault }, "")?;
+        assert_fifth_line(&rt, line, Status::LogLine { line: 5, fault })?;
+    }
+    Ok(())
+}
+
+/// A line in form whose command is not supported ends the run with its number.
+#[test]
+fn a_line_that_is_not_supported_ends_the_run(rt: HostRuntime) -> Result<(), Fail> {
+    for line in NOT_BUILT {
+        assert_fifth_line(&rt, line, Status::NotBuilt { line: 5 })?;
     }
     Ok(())
 }

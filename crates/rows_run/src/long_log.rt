@@ -1,9 +1,7 @@
 // A long log over all networks. Another program computed the replies.
-use crate::runs::{replay_words, run_over};
+use crate::generated::assert_sum;
+use crate::runs::{Given, REPLAY, ending};
 use addrman_run::Status;
-use host_io::{MemSink, MemSource};
-use sha2::{Digest, Sha256};
-use std::process::Abort;
 use std::test::Fail;
 
 /// 249 lines: messages of both forms from and of all networks, some cut short, the clock, and
@@ -464,22 +462,20 @@ find cjdns:fc9af29134a72575e87192076ec33c6a:8333\n\
 find cjdns:fcf3dc8256ee5f46166239b5eff0a719:8333\n\
 find internal:b3164b9ab286227bc7ff:8333\n";
 
-/// How many bytes the replies have, and their SHA-256 in hexadecimal.
-const REPLIES: (usize, &str) = (
-    9450,
-    "169eb5a1974dc91dc5ae0f65e34b7a35026b40539f55179f64a6f54ddaece3e9",
-);
-
 /// The replies to the log are those of another program.
 #[test]
 fn a_long_log_has_the_replies_of_another_program(rt: HostRuntime) -> Result<(), Fail> {
-    let words = replay_words(rt.alloc())?;
-    let mut source = MemSource::make(rt.alloc(), LOG.as_bytes(), 1000, &[])?;
-    let mut sink = MemSink::make(rt.alloc(), &[])?;
-    let status = run_over(rt.alloc(), words.as_slice(), &mut source, &mut sink);
+    let given = Given {
+        log: LOG.as_bytes(),
+        piece: 1000,
+        ..REPLAY
+    };
+    let (status, out) = ending(&rt, given)?;
     assert_eq!(rt; status, Status::Done);
-    assert_eq!(rt; sink.bytes().len(), REPLIES.0);
-    let sum = hex::encode(rt.alloc(), Sha256::digest(sink.bytes()).as_slice())?;
-    assert_eq!(rt; sum.as_str(), REPLIES.1);
-    Ok(())
+    assert_eq!(rt; out.bytes().len(), 9450);
+    assert_sum(
+        &rt,
+        out.bytes(),
+        "169eb5a1974dc91dc5ae0f65e34b7a35026b40539f55179f64a6f54ddaece3e9",
+    )
 }

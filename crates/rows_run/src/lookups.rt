@@ -1,6 +1,5 @@
 // The lookup of addresses in the folder's asmap. Another program computed the lines.
-use crate::asmaps::{ONE_ROW, TWO_HALVES};
-use crate::runs::{InFolder, assert_in_folder};
+use crate::asmaps::{ONE_ROW, TWO_HALVES, assert_one_file};
 use addrman_run::Status;
 use host_io::Name;
 use std::process::Abort;
@@ -45,12 +44,8 @@ fn assert_lookup(
     asmap: &[u8],
     (peer, line): (&str, &str),
 ) -> Result<(), Fail> {
-    let request = InFolder {
-        words: &["lookup", peer],
-        files: &[(Name::Asmap, asmap)],
-        fails: &[],
-    };
-    assert_in_folder(rt, request, Status::Done, line)
+    let words = ["lookup", peer];
+    assert_one_file(rt, &words, (Name::Asmap, asmap), &[], Status::Done, line)
 }
 
 /// An address has the number of its row, and the group that this number or its class gives it.

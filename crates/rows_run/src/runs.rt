@@ -1,42 +1,45 @@
 // Runs of the program over memory.
-use crate::log_text::ZERO_KEY;
+ghost use Rattle.std.specs.Prelude.{◌≤◌};
+
 use addrman_run::{Status, run};
-use host_io::{Folder, MemFolder, MemSink, MemSource, Name, Sink, Source, SureFolder};
+use host_io::{MemFolder, MemSink, MemSource, Name};
 use std::alloc::{AllocError, Global};
 use std::hash::{BuildHasherDefault, FoldHasher};
 use std::process::Abort;
 use std::test::Fail;
 
-/// A replay under the key of 64 zeros: its log and the replies to it.
+/// The key of 64 zeros.
+pub(crate) const ZERO_KEY: &str =
+    "0000000000000000000000000000000000000000000000000000000000000000";
+
+/// What a run is given.
 #[derive(Clone, Copy)]
-pub(crate) struct Replay {
-    pub(crate) log: &'static str,
-    pub(crate) replies: &'static str,
+pub(crate) struct Given<'a> {
+    pub(crate) words: &'a [&'a str],
+    pub(crate) log: &'a [u8],
+    /// How many bytes a read of the log gives at most.
+    pub(crate) piece: usize,
+    pub(crate) files: &'a [(Name, &'a [u8])],
+    /// The numbers of the reads of the log that fail.
+    pub(crate) failing_reads: &'a [u64],
+    /// The numbers of the writes that fail.
+    pub(crate) failing_writes: &'a [u64],
+    /// The numbers of the folder's calls that fail, and whether they change it all the same.
+    pub(crate) failing_calls: &'a [(u64, bool)],
 }
 
-/// A run with std's own hasher.
-pub(crate) fn run_by<L: Source, F: Folder, K: Sink>(
-    alloc: Global,
-    words: &[String],
-    log: &mut L,
-    folder: &mut F,
-    out: &mut K,
-) -> Status {
-    let hasher = BuildHasherDefault::<FoldHasher>::new();
-    run(alloc, hasher, words, log, folder, out)
-}
+/// A replay of an empty log under the key of 64 zeros. The folder is empty, and no call fails.
+pub(crate) const REPLAY: Given<'static> = Given {
+    words: &["replay", "--key", ZERO_KEY],
+    log: b"",
+    piece: 65_536,
+    files: &[],
+    failing_reads: &[],
+    failing_writes: &[],
+    failing_calls: &[],
+};
 
-/// A run in a folder without files.
-pub(crate) fn run_over(
-    alloc: Global,
-    words: &[String],
-    log: &mut MemSource,
-    out: &mut MemSink,
-) -> Status {
-    run_by(alloc, words, log, &mut SureFolder::make(), out)
-}
-
-/// The words as owned text.
+/// Returns the arguments as owned text.
 pub(crate) fn owned(alloc: Global, words: &[&str]) -> Result<Vec<String>, AllocError> {
     let mut all = Vec::new(alloc);
     for word in words {
@@ -45,100 +48,61 @@ pub(crate) fn owned(alloc: Global, words: &[&str]) -> Result<Vec<String>, AllocE
     Ok(all)
 }
 
-/// The words of a replay under the key of 64 zeros.
-pub(crate) fn replay_words(alloc: Global) -> Result<Vec<String>, AllocError> {
-    owned(alloc, &["replay", "--key", ZERO_KEY])
-}
-
-/// A replay by these words ends so, and writes that.
-pub(crate) fn assert_run_by(
+/// Runs the program, and returns its status and its output. The files of the folder are as before.
+pub(crate) fn ending(
     rt: &(impl Abort + AllocGlobal),
-    words: &[String],
-    log: &str,
-    want: Status,
-    text: &str,
-) -> Result<(), Fail> {
-    let mut source = MemSource::make(rt.alloc(), log.as_bytes(), 4096, &[])?;
-    let mut sink = MemSink::make(rt.alloc(), &[])?;
-    let status = run_over(rt.alloc(), words, &mut source, &mut sink);
-    assert_eq!(rt; sink.bytes(), text.as_bytes(), "written for {log:?}");
-    assert_eq!(rt; status, want, "status for {log:?}");
-    Ok(())
-}
-
-/// A replay under the key of 64 zeros ends so, and writes that.
-pub(crate) fn assert_run(
-    rt: &(impl Abort + AllocGlobal),
-    log: &str,
-    want: Status,
-    text: &str,
-) -> Result<(), Fail> {
-    let words = replay_words(rt.alloc())?;
-    assert_run_by(rt, words.as_slice(), log, want, text)
-}
-
-/// Each replay is done and writes its replies.
-pub(crate) fn assert_replays(
-    rt: &(impl Abort + AllocGlobal),
-    replays: &[Replay],
-) -> Result<(), Fail> {
-    for replay in replays {
-        assert_run(rt, replay.log, Status::Done, replay.replies)?;
-    }
-    Ok(())
-}
-
-/// Each replay goes on from the first one, and writes the replies to both.
-pub(crate) fn assert_replays_after(
-    rt: &(impl Abort + AllocGlobal),
-    first: Replay,
-    replays: &[Replay],
-) -> Result<(), Fail> {
-    for replay in replays {
-        let (first_log, first_replies) = (first.log, first.replies);
-        let (log, replies) = (replay.log, replay.replies);
-        let log = format!(in rt.alloc(); "{first_log}{log}")?;
-        let replies = format!(in rt.alloc(); "{first_replies}{replies}")?;
-        assert_run(rt, log.as_str(), Status::Done, replies.as_str())?;
-    }
-    Ok(())
-}
-
-/// A request with the files of its folder, some of whose calls fail.
-#[derive(Clone, Copy)]
-pub(crate) struct InFolder<'a> {
-    pub(crate) words: &'a [&'a str],
-    pub(crate) files: &'a [(Name, &'a [u8])],
-    /// The numbers of the folder's calls that fail, and whether they change it all the same.
-    pub(crate) fails: &'a [(u64, bool)],
-}
-
-/// The request ends so, writes that, and leaves the log and the folder as they were.
-pub(crate) fn assert_in_folder(
-    rt: &(impl Abort + AllocGlobal),
-    request: InFolder<'_>,
-    want: Status,
-    text: &str,
-) -> Result<(), Fail> {
-    let words = owned(rt.alloc(), request.words)?;
-    let mut folder = MemFolder::make(rt.alloc(), request.fails)?;
-    for (name, bytes) in request.files {
+    given: Given<'_>,
+) -> Result<(Status, MemSink), Fail>
+    requires { 1 ≤ given.piece }
+{
+    let alloc = rt.alloc();
+    let words = owned(alloc, given.words)?;
+    let mut log = MemSource::make(alloc, given.log, given.piece, given.failing_reads)?;
+    let mut folder = MemFolder::make(alloc, given.failing_calls)?;
+    for (name, bytes) in given.files {
         folder.put(*name, bytes)?;
     }
-    let mut log = MemSource::make(rt.alloc(), b"now 1\n", 4096, &[])?;
-    let mut sink = MemSink::make(rt.alloc(), &[])?;
-    let status = run_by(
-        rt.alloc(),
-        words.as_slice(),
-        &mut log,
-        &mut folder,
-        &mut sink,
-    );
-    let words = request.words;
-    assert_eq!(rt; status, want, "{words:?}");
-    assert_eq!(rt; sink.bytes(), text.as_bytes(), "{words:?}");
-    for (name, bytes) in request.files {
-        assert_eq!(rt; folder.get(*name), Some(*bytes), "{words:?}");
+    let mut out = MemSink::make(alloc, given.failing_writes)?;
+    let hasher = BuildHasherDefault::<FoldHasher>::new();
+    let status = run(alloc, hasher, &words, &mut log, &mut folder, &mut out);
+    for (name, bytes) in given.files {
+        assert_eq!(rt; folder.get(*name), Some(*bytes), "the file {name:?}");
     }
+    assert_eq!(rt; out.starved(), 0);
+    Ok((status, out))
+}
+
+/// The run ends with the status and writes the text. If not, `shows` is printed.
+pub(crate) fn assert_run(
+    rt: &(impl Abort + AllocGlobal),
+    shows: &str,
+    given: Given<'_>,
+    want: Status,
+    text: &str,
+) -> Result<(), Fail>
+    requires { 1 ≤ given.piece }
+{
+    let (status, out) = ending(rt, given)?;
+    let words = given.words;
+    assert_eq!(rt;
+        str::from_utf8(out.bytes())?,
+        text,
+        "written by {words:?} for {shows}"
+    );
+    assert_eq!(rt; status, want, "status of {words:?} for {shows}");
     Ok(())
+}
+
+/// A replay of the log under the key of 64 zeros ends with the status and writes the text.
+pub(crate) fn assert_replay(
+    rt: &(impl Abort + AllocGlobal),
+    log: &str,
+    want: Status,
+    text: &str,
+) -> Result<(), Fail> {
+    let given = Given {
+        log: log.as_bytes(),
+        ..REPLAY
+    };
+    assert_run(rt, log, given, want, text)
 }

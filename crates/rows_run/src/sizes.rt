@@ -1,7 +1,6 @@
 // The longest logs.
-use crate::runs::{replay_words, run_over};
+use crate::runs::{Given, REPLAY, assert_run};
 use addrman_run::Status;
-use host_io::{MemSink, MemSource};
 use std::process::Abort;
 use std::test::Fail;
 
@@ -12,14 +11,12 @@ fn assert_size(
     count: usize,
     want: Status,
 ) -> Result<(), Fail> {
-    let words = replay_words(rt.alloc())?;
     let log = vec![in rt.alloc(); byte; count]?;
-    let mut source = MemSource::make(rt.alloc(), log.as_slice(), 65536, &[])?;
-    let mut sink = MemSink::make(rt.alloc(), &[])?;
-    let status = run_over(rt.alloc(), words.as_slice(), &mut source, &mut sink);
-    assert_eq!(rt; status, want, "{count} bytes {byte}");
-    assert_eq!(rt; sink.bytes().len(), 0);
-    Ok(())
+    let given = Given {
+        log: log.as_slice(),
+        ..REPLAY
+    };
+    assert_run(rt, "a long log", given, want, "")
 }
 
 /// The longest log that is read.

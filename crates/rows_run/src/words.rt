@@ -1,7 +1,6 @@
 // The words that ask for a request.
-use crate::runs::{owned, run_over};
+use crate::runs::{Given, REPLAY, assert_run};
 use addrman_run::Status;
-use host_io::{MemSink, MemSource};
 use std::process::Abort;
 use std::test::Fail;
 
@@ -24,13 +23,12 @@ fn assert_words(
     want: Status,
     text: &str,
 ) -> Result<(), Fail> {
-    let all = owned(rt.alloc(), words)?;
-    let mut source = MemSource::make(rt.alloc(), b"now 7\n", 4096, &[])?;
-    let mut sink = MemSink::make(rt.alloc(), &[])?;
-    let status = run_over(rt.alloc(), all.as_slice(), &mut source, &mut sink);
-    assert_eq!(rt; status, want, "words {words:?}");
-    assert_eq!(rt; sink.bytes(), text.as_bytes(), "words {words:?}");
-    Ok(())
+    let given = Given {
+        words,
+        log: b"now 7\n",
+        ..REPLAY
+    };
+    assert_run(rt, "the words", given, want, text)
 }
 
 /// The key's digits are in either case, and the option is two words or one.

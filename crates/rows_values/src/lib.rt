@@ -13,3 +13,5 @@ mod numbers;
 mod places;
 #[cfg(test)]
 mod records;
+#[cfg(test)]
+mod tables;

@@ -1,5 +1,7 @@
 // Lines of a log, and the text of replies.
+use crate::codecs;
 use crate::records::{record, two_buckets};
+use crate::tables::{Asked, assert_rows};
 use addr_codecs::MsgFault;
 use log_lines::{Command, LineFault, Reply, put_reply, read_line, read_words, split_line};
 use net_addr::{NetAddr, Peer};
@@ -7,15 +9,130 @@ use peer_rec::{Counts, Good, Peers, Picked, Place, Recs, Resolved};
 use std::process::Abort;
 use std::test::Fail;
 
-// The line has this fault.
-fn assert_fault(rt: &(impl Abort + AllocGlobal), line: &str, want: LineFault) {
+/// Lines, and the fault of the first field of each that is out of form.
+const FAULTS: &str = "\
+Now 1 -> word
+  -> word
+   -> word
+\t -> word
+\0 -> word
+now\01 -> word
+\r -> word
+ now 1 -> word
+good 8.8.8.8:8333 maybe -> word
+attempt 8.8.8.8:8333 test -> word
+select both all - -> word
+select new tor - -> word
+select any unroutable - -> word
+sample 0 0 tor - -> word
+save_begin -> word
+now -> fields
+now  1 -> fields
+now 1  -> fields
+addr 1.2.3.4 00 -> fields
+addrv2 1.2.3.4 00 0 0 -> fields
+good 8.8.8.8:8333 -> fields
+attempt 8.8.8.8:8333 count 1 -> fields
+connected -> fields
+services 8.8.8.8:8333 -> fields
+find 8.8.8.8:8333  -> fields
+size  -> fields
+select new all -> fields
+sample 0 0 all -> fields
+resolve 1 -> fields
+clash -> fields
+dump x -> fields
+save  -> fields
+save-begin 1 -> fields
+save-step -> fields
+save-end 0 -> fields
+now  -> number
+now 1\r -> number
+now +1 -> number
+now 01 -> number
+now 4294967296 -> number
+services 8.8.8.8:8333 18446744073709551616 -> number
+services 8.8.8.8:8333  -> number
+sample 4294967296 0 all - -> number
+sample 0 101 all - -> number
+clash 18446744073709551616 -> number
+clash - -> number
+save-step 0 -> number
+save-step 4294967296 -> number
+good x maybe -> peer
+addr 1.2.3.4:1 00 0 -> peer
+addr  00 0 -> peer
+addrv2 onion:00 00 0 -> peer
+good 8.8.8.8 test -> peer
+attempt 8.8.8.8:65536 count -> peer
+connected 8.8.8.8 -> peer
+services 8.8.8:8333 1 -> peer
+find  -> peer
+find 8.8.8.8:08333 -> peer
+addr 1.2.3.4 0 0 -> hex
+addr 1.2.3.4 0g 0 -> hex
+addrv2 1.2.3.4  0 -> hex
+addr 1.2.3.4 -- 0 -> hex
+addr 1.2.3.4 00 0, -> words
+addr 1.2.3.4 00  -> words
+addrv2 1.2.3.4 - 18446744073709551616 -> words
+select new all , -> words
+select any ipv4 @1 -> words
+sample 0 0 all @1:1000001 -> words
+sample 0 0 all @18446744073709551616:1 -> words
+select any i2p @1:- -> words
+addr 1.2.3.4 00 @1:01 -> words
+";
+
+/// Lines in form of each kind, and lines that are passed over.
+const IN_FORM: &str = "\
+addrv2 onion:79bcc625184b05194975c28b66b66b0469f7f6556fb1ac3189a79b40dda32f1f - - -> read
+good 8.8.8.8:8333 test -> read
+good 8.8.8.8:8333 force -> read
+attempt 8.8.8.8:8333 count -> read
+attempt 8.8.8.8:8333 nocount -> read
+connected [2001:db8::1]:1 -> read
+services 8.8.8.8:8333 18446744073709551615 -> read
+size -> read
+select new cjdns 1,2 -> read
+select any all - -> read
+sample 0 100 unroutable @1:2 -> read
+resolve -> read
+clash 18446744073709551615 -> read
+dump -> read
+save -> read
+save-begin -> read
+save-step 1 -> read
+save-step 4294967295 -> read
+save-end -> read
+ -> passed over
+# -> passed over
+# now 1 -> passed over
+";
+
+/// Returns what the line is: its fault, passed over, or read.
+pub(crate) fn reading(rt: &(impl Abort + AllocGlobal), line: &str) -> Result<String, Fail> {
     assert!(rt; line.len() <= 100);
     match read_line(rt.alloc(), line.as_bytes()) {
-        Err(fault) => assert_eq!(rt; fault, want, "the line {line:?}"),
-        Ok(_) => assert!(rt; false, "the line {line:?} is read"),
+        Ok(Some(_)) => Ok(String::from_str(rt.alloc(), "read")?),
+        Ok(None) => Ok(String::from_str(rt.alloc(), "passed over")?),
+        Err(fault) => Ok(format!(in rt.alloc(); "{fault}")?),
     }
 }
 
+/// The fields are read from the left.
+#[test]
+fn a_line_has_the_fault_of_its_first_field_out_of_form(rt: HostRuntime) -> Result<(), Fail> {
+    assert_rows(&rt, Asked::Line, FAULTS)
+}
+
+/// Comments and empty lines are passed over.
+#[test]
+fn a_line_of_each_kind_is_read(rt: HostRuntime) -> Result<(), Fail> {
+    assert_rows(&rt, Asked::Line, IN_FORM)
+}
+
+/// A command has the number or the peer of its line.
 #[test]
 fn clocks_and_questions_are_read(rt: HostRuntime) -> Result<(), Fail> {
     let now = read_line(rt.alloc(), b"now 4294967295")?;
@@ -29,7 +146,7 @@ fn clocks_and_questions_are_read(rt: HostRuntime) -> Result<(), Fail> {
     Ok(())
 }
 
-// The command hands in what the line of the test below says.
+/// The command is the message of the test below.
 fn assert_handed_in(rt: &impl Abort, command: &Command) {
     match command {
         Command::Addr {
@@ -45,6 +162,7 @@ fn assert_handed_in(rt: &impl Abort, command: &Command) {
     }
 }
 
+/// A message has its source, its bytes and its random word.
 #[test]
 fn a_message_is_read_with_its_word(rt: HostRuntime) -> Result<(), Fail> {
     let command = read_line(rt.alloc(), b"addr 1.2.3.4 0aFf 18446744073709551615")?;
@@ -55,153 +173,7 @@ fn a_message_is_read_with_its_word(rt: HostRuntime) -> Result<(), Fail> {
     Ok(())
 }
 
-#[test]
-fn comments_and_empty_lines_are_passed_over(rt: HostRuntime) {
-    let lines: [&[u8]; 3] = [b"", b"#", b"# now 1"];
-    for line in lines {
-        assert!(rt; line.len() <= 100);
-        assert!(rt;
-            matches!(&read_line(rt.alloc(), line), Ok(None)),
-            "the line {line:?}"
-        );
-    }
-}
-
-#[test]
-fn a_line_has_the_fault_of_its_first_field_out_of_form(rt: HostRuntime) {
-    for line in [
-        " ",
-        "  ",
-        "\t",
-        "\0",
-        "now\01",
-        "\r",
-        " now 1",
-        "Now 1",
-        "good 8.8.8.8:8333 maybe",
-        "attempt 8.8.8.8:8333 test",
-        "select both all -",
-        "select new tor -",
-        "select any unroutable -",
-        "sample 0 0 tor -",
-        "save_begin",
-    ] {
-        assert_fault(&rt, line, LineFault::Word);
-    }
-    for line in [
-        "now",
-        "now  1",
-        "now 1 ",
-        "addr 1.2.3.4 00",
-        "addrv2 1.2.3.4 00 0 0",
-        "good 8.8.8.8:8333",
-        "attempt 8.8.8.8:8333 count 1",
-        "connected",
-        "services 8.8.8.8:8333",
-        "find 8.8.8.8:8333 ",
-        "size ",
-        "select new all",
-        "sample 0 0 all",
-        "resolve 1",
-        "clash",
-        "dump x",
-        "save ",
-        "save-begin 1",
-        "save-step",
-        "save-end 0",
-    ] {
-        assert_fault(&rt, line, LineFault::Fields);
-    }
-    for line in [
-        "now ",
-        "now 1\r",
-        "now +1",
-        "now 01",
-        "now 4294967296",
-        "services 8.8.8.8:8333 18446744073709551616",
-        "services 8.8.8.8:8333 ",
-        "sample 4294967296 0 all -",
-        "sample 0 101 all -",
-        "clash 18446744073709551616",
-        "clash -",
-        "save-step 0",
-        "save-step 4294967296",
-    ] {
-        assert_fault(&rt, line, LineFault::Number);
-    }
-    for line in [
-        "good x maybe",
-        "addr 1.2.3.4:1 00 0",
-        "addr  00 0",
-        "addrv2 onion:00 00 0",
-        "good 8.8.8.8 test",
-        "attempt 8.8.8.8:65536 count",
-        "connected 8.8.8.8",
-        "services 8.8.8:8333 1",
-        "find ",
-        "find 8.8.8.8:08333",
-    ] {
-        assert_fault(&rt, line, LineFault::Peer);
-    }
-    for line in [
-        "addr 1.2.3.4 0 0",
-        "addr 1.2.3.4 0g 0",
-        "addrv2 1.2.3.4  0",
-        "addr 1.2.3.4 -- 0",
-    ] {
-        assert_fault(&rt, line, LineFault::Hex);
-    }
-    for line in [
-        "addr 1.2.3.4 00 0,",
-        "addr 1.2.3.4 00 ",
-        "addrv2 1.2.3.4 - 18446744073709551616",
-        "select new all ,",
-        "select any ipv4 @1",
-        "sample 0 0 all @1:1000001",
-        "sample 0 0 all @18446744073709551616:1",
-        "select any i2p @1:-",
-        "addr 1.2.3.4 00 @1:01",
-    ] {
-        assert_fault(&rt, line, LineFault::Words);
-    }
-}
-
-// The line is read as a command.
-fn assert_read(rt: &(impl Abort + AllocGlobal), line: &str) {
-    assert!(rt; line.len() <= 100);
-    assert!(rt;
-        matches!(&read_line(rt.alloc(), line.as_bytes()), Ok(Some(_))),
-        "the line {line:?}"
-    );
-}
-
-#[test]
-fn a_line_of_each_kind_is_read(rt: HostRuntime) {
-    for line in [
-        "addrv2 onion:79bcc625184b05194975c28b66b66b0469f7f6556fb1ac3189a79b40dda32f1f - -",
-        "good 8.8.8.8:8333 test",
-        "good 8.8.8.8:8333 force",
-        "attempt 8.8.8.8:8333 count",
-        "attempt 8.8.8.8:8333 nocount",
-        "connected [2001:db8::1]:1",
-        "services 8.8.8.8:8333 18446744073709551615",
-        "size",
-        "select new cjdns 1,2",
-        "select any all -",
-        "sample 0 100 unroutable @1:2",
-        "resolve",
-        "clash 18446744073709551615",
-        "dump",
-        "save",
-        "save-begin",
-        "save-step 1",
-        "save-step 4294967295",
-        "save-end",
-    ] {
-        assert_read(&rt, line);
-    }
-}
-
+/// It has a million digits.
 #[test]
 fn a_long_number_is_refused(rt: HostRuntime) -> Result<(), Fail> {
     let mut line = Vec::new(rt.alloc());
@@ -217,40 +189,25 @@ fn a_long_number_is_refused(rt: HostRuntime) -> Result<(), Fail> {
     Ok(())
 }
 
+/// Seeds with counts, and the random words of each, as another program computed them.
+const SEEDS: &str = "\
+@5:0 -> []
+@0:3 -> [5987356902031041503, 7051070477665621255, 6633766593972829180]
+@1:3 -> [14971601782005023387, 13781649495232077965, 1847458086238483744]
+@18446744073709551615:3 -> [6254647548650071986, 16610832622747802512, 16422857234328439435]
+";
+
+/// Returns the random words that `text` gives.
+pub(crate) fn words(rt: &(impl Abort + AllocGlobal), text: &str) -> Result<String, Fail> {
+    assert!(rt; text.len() <= 100);
+    let words = read_words(rt.alloc(), text.as_bytes())?;
+    Ok(format!(in rt.alloc(); "{:?}", words.items())?)
+}
+
+/// The generator is xoshiro256++, whose state SplitMix64 makes of the seed.
 #[test]
 fn a_seed_gives_the_outputs_of_its_generator(rt: HostRuntime) -> Result<(), Fail> {
-    let none = read_words(rt.alloc(), b"@5:0")?;
-    assert!(rt; none.items().is_empty());
-    let zero = read_words(rt.alloc(), b"@0:3")?;
-    assert_eq!(rt;
-        zero.items(),
-        [
-            5987356902031041503,
-            7051070477665621255,
-            6633766593972829180
-        ]
-        .as_slice()
-    );
-    let one = read_words(rt.alloc(), b"@1:3")?;
-    assert_eq!(rt;
-        one.items(),
-        [
-            14971601782005023387,
-            13781649495232077965,
-            1847458086238483744
-        ]
-        .as_slice()
-    );
-    let last = read_words(rt.alloc(), b"@18446744073709551615:3")?;
-    assert_eq!(rt;
-        last.items(),
-        [
-            6254647548650071986,
-            16610832622747802512,
-            16422857234328439435
-        ]
-        .as_slice()
-    );
+    assert_rows(&rt, Asked::Words, SEEDS)?;
     let many = read_words(rt.alloc(), b"@7:1000000")?;
     assert_eq!(rt; many.items().len(), 1000000);
     assert_eq!(rt; many.items().first(), Some(&1021219803524665661));
@@ -258,111 +215,110 @@ fn a_seed_gives_the_outputs_of_its_generator(rt: HostRuntime) -> Result<(), Fail
     Ok(())
 }
 
-// The reply has this text.
-fn assert_reply(rt: &(impl Abort + AllocGlobal), reply: &Reply, want: &str) -> Result<(), Fail> {
+/// The reply has this line.
+fn assert_reply(rt: &(impl Abort + AllocGlobal), reply: &Reply, line: &str) -> Result<(), Fail> {
     assert!(rt; !matches!(reply, Reply::Refused(MsgFault::Memory)));
     let mut text = Vec::new(rt.alloc());
     put_reply(reply, &mut text)?;
+    let want = format!(in rt.alloc(); "{line}\n")?;
     assert_eq!(rt; text.as_slice(), want.as_bytes());
     Ok(())
 }
 
-/// The reply to a message, by its fault.
-const REFUSALS: [(MsgFault, &str); 6] = [
-    (MsgFault::Truncated, "refused truncated\n"),
-    (MsgFault::NonCanonical, "refused non-canonical\n"),
-    (MsgFault::TooMany, "refused too-many\n"),
-    (MsgFault::BadLength, "refused bad-length\n"),
-    (MsgFault::TooLong, "refused too-long\n"),
-    (MsgFault::Trailing, "refused trailing\n"),
+/// Replies without a peer, and their lines.
+const REPLIES: [(Reply, &str); 19] = [
+    (Reply::Now { time: 5000 }, "now 5000"),
+    (ADDED, "added 1 of 2"),
+    (Reply::Found(None), "unknown"),
+    (Reply::Short { need: 3, have: 2 }, "short 3 2"),
+    (Reply::Good(Good::Already), "already"),
+    (Reply::Good(Good::Clash), "clash"),
+    (Reply::Known(true), "ok"),
+    (Reply::Known(false), "unknown"),
+    (Reply::Saved, "saved"),
+    (Reply::NotSaved, "not saved"),
+    (Reply::Busy, "busy"),
+    (Reply::NoSave, "no save"),
+    (Reply::Begun { size: 1000 }, "begun 1000"),
+    (Reply::Stepped { left: 0 }, "stepped 0"),
+    (Reply::Size(COUNTS), "size new 1 tried 2 clashes 3"),
+    (
+        Reply::Resolved(RESOLVED),
+        "resolved erased 1 moved 2 kept 3",
+    ),
+    (Reply::Picked(Picked::Nothing), "nothing"),
+    (Reply::Picked(Picked::Exhausted), "exhausted"),
+    (Reply::Clash(None), "none"),
 ];
 
+/// Some entries of a message were accepted.
+const ADDED: Reply = Reply::Added {
+    accepted: 1,
+    total: 2,
+};
+
+/// Numbers of records that all differ.
+const COUNTS: Counts = Counts {
+    new_count: 1,
+    tried_count: 2,
+    clashes: 3,
+};
+
+/// Numbers of collisions that all differ.
+const RESOLVED: Resolved = Resolved {
+    erased: 1,
+    moved: 2,
+    kept: 3,
+};
+
+/// A refusal has the name of its fault.
 #[test]
-fn replies_are_lines(rt: HostRuntime) -> Result<(), Fail> {
-    assert_reply(&rt, &Reply::Now { time: 5000 }, "now 5000\n")?;
-    assert_reply(
-        &rt,
-        &Reply::Added {
-            accepted: 1,
-            total: 2,
-        },
-        "added 1 of 2\n",
-    )?;
-    assert_reply(&rt, &Reply::Found(None), "unknown\n")?;
-    for (fault, want) in REFUSALS {
-        assert_reply(&rt, &Reply::Refused(fault), want)?;
+fn a_reply_is_a_line(rt: HostRuntime) -> Result<(), Fail> {
+    for (reply, line) in &REPLIES {
+        assert_reply(&rt, reply, line)?;
     }
-    assert_reply(&rt, &Reply::Short { need: 3, have: 2 }, "short 3 2\n")?;
-    assert_reply(&rt, &Reply::Good(Good::Already), "already\n")?;
-    assert_reply(&rt, &Reply::Good(Good::Clash), "clash\n")?;
-    assert_reply(&rt, &Reply::Known(true), "ok\n")?;
-    assert_reply(&rt, &Reply::Known(false), "unknown\n")?;
-    assert_reply(&rt, &Reply::Saved, "saved\n")?;
-    assert_reply(&rt, &Reply::NotSaved, "not saved\n")?;
-    assert_reply(&rt, &Reply::Busy, "busy\n")?;
-    assert_reply(&rt, &Reply::NoSave, "no save\n")?;
-    assert_reply(&rt, &Reply::Begun { size: 1000 }, "begun 1000\n")?;
-    assert_reply(&rt, &Reply::Stepped { left: 0 }, "stepped 0\n")
+    for (fault, text) in codecs::FAULTS {
+        let line = format!(in rt.alloc(); "refused {text}")?;
+        assert_reply(&rt, &Reply::Refused(fault), line.as_str())?;
+    }
+    Ok(())
 }
 
+/// In the text of its address and port.
 #[test]
-fn replies_of_tables_are_lines(rt: HostRuntime) -> Result<(), Fail> {
-    let peer = Peer {
-        addr: NetAddr::ipv4([8, 8, 8, 8]),
-        port: 8333,
-    };
-    let counts = Counts {
-        new_count: 1,
-        tried_count: 2,
-        clashes: 3,
-    };
-    assert_reply(&rt, &Reply::Size(counts), "size new 1 tried 2 clashes 3\n")?;
-    let resolved = Reply::Resolved(Resolved {
-        erased: 1,
-        moved: 2,
-        kept: 3,
-    });
-    assert_reply(&rt, &resolved, "resolved erased 1 moved 2 kept 3\n")?;
+fn a_reply_names_each_of_its_peers(rt: HostRuntime) -> Result<(), Fail> {
+    let peer = record(Place::Tried).peer;
     let picked = Reply::Picked(Picked::One(peer, 9));
-    assert_reply(&rt, &picked, "one 8.8.8.8:8333 9\n")?;
-    assert_reply(&rt, &Reply::Picked(Picked::Nothing), "nothing\n")?;
-    assert_reply(&rt, &Reply::Picked(Picked::Exhausted), "exhausted\n")?;
+    assert_reply(&rt, &picked, "one 8.8.8.8:8333 9")?;
     let clash = Reply::Clash(Some((peer, 9)));
-    assert_reply(&rt, &clash, "clash 8.8.8.8:8333 9\n")?;
-    assert_reply(&rt, &Reply::Clash(None), "none\n")?;
+    assert_reply(&rt, &clash, "clash 8.8.8.8:8333 9")?;
     let peers = Peers::of(vec![in rt.alloc(); peer, peer]?);
     let sample = Reply::Sample(peers);
-    assert_reply(&rt, &sample, "sample 2 8.8.8.8:8333 8.8.8.8:8333\n")?;
+    assert_reply(&rt, &sample, "sample 2 8.8.8.8:8333 8.8.8.8:8333")?;
     let none = Peers::of(Vec::new(rt.alloc()));
-    assert_reply(&rt, &Reply::Sample(none), "sample 0\n")
+    assert_reply(&rt, &Reply::Sample(none), "sample 0")
 }
 
-#[test]
-fn a_dump_has_a_line_for_each_record(rt: HostRuntime) -> Result<(), Fail> {
-    let mut recs = Vec::new(rt.alloc());
-    recs.push(record(Place::Tried))?;
-    assert_reply(
-        &rt,
-        &Reply::Dump(Recs::of(recs)),
-        "peer 8.8.8.8:8333 source 1.2.3.4 time 2 services 3 success 4 try 5 attempts 7 tried\nend 1\n",
-    )?;
-    assert_reply(&rt, &Reply::Dump(Recs::of(Vec::new(rt.alloc()))), "end 0\n")
-}
+/// The line of the record that is in the tried table.
+const IN_TRIED: &str =
+    "peer 8.8.8.8:8333 source 1.2.3.4 time 2 services 3 success 4 try 5 attempts 7 tried";
 
+/// The line of the record that is in two buckets of the new table.
+const IN_NEW: &str =
+    "peer 8.8.8.8:8333 source 1.2.3.4 time 2 services 3 success 4 try 5 attempts 7 new 87,803";
+
+/// A dump has a line for each record, and one for their number.
 #[test]
 fn a_record_is_one_line(rt: HostRuntime) -> Result<(), Fail> {
-    assert_reply(
-        &rt,
-        &Reply::Found(Some(record(two_buckets()))),
-        "peer 8.8.8.8:8333 source 1.2.3.4 time 2 services 3 success 4 try 5 attempts 7 new 87,803\n",
-    )?;
-    assert_reply(
-        &rt,
-        &Reply::Found(Some(record(Place::Tried))),
-        "peer 8.8.8.8:8333 source 1.2.3.4 time 2 services 3 success 4 try 5 attempts 7 tried\n",
-    )
+    assert_reply(&rt, &Reply::Found(Some(record(two_buckets()))), IN_NEW)?;
+    assert_reply(&rt, &Reply::Found(Some(record(Place::Tried))), IN_TRIED)?;
+    let recs = Recs::of(vec![in rt.alloc(); record(Place::Tried)]?);
+    let lines = format!(in rt.alloc(); "{IN_TRIED}\nend 1")?;
+    assert_reply(&rt, &Reply::Dump(recs), lines.as_str())?;
+    assert_reply(&rt, &Reply::Dump(Recs::of(Vec::new(rt.alloc()))), "end 0")
 }
 
+/// A log is split at its first line feed.
 #[test]
 fn the_last_line_of_a_log_may_have_no_line_feed(rt: HostRuntime) {
     let (line, rest) = split_line(b"now 1\n\nnow 2");

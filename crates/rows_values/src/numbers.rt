@@ -2,6 +2,7 @@
 use net_addr::parse_number;
 use wire_num::{read_be16, read_le32, read_le64};
 
+/// Past the end of the bytes there is none.
 #[test]
 fn numbers_have_the_low_byte_first_and_ports_the_high_byte(rt: HostRuntime) {
     let bytes = [0xf1, 0x53, 0x65, 0x01, 0, 0, 0, 0x80, 0x20, 0x8d];
@@ -16,6 +17,7 @@ fn numbers_have_the_low_byte_first_and_ports_the_high_byte(rt: HostRuntime) {
     assert_eq!(rt; read_be16(&bytes, usize::MAX), None);
 }
 
+/// It has no leading zero and no sign.
 #[test]
 fn a_number_is_written_in_only_one_way(rt: HostRuntime) {
     assert_eq!(rt; parse_number(b"0", 0), Some(0));

@@ -5,7 +5,7 @@ use peer_rec::{Buckets, Counts, Good, Peers, Picked, Place, Rec, Recs, Resolved}
 use std::process::Abort;
 use std::test::Fail;
 
-// A record whose numbers all differ.
+/// Returns a record whose numbers all differ.
 pub(crate) fn record(place: Place) -> Rec {
     Rec {
         number: 1,
@@ -24,14 +24,14 @@ pub(crate) fn record(place: Place) -> Rec {
     }
 }
 
-// Two buckets of the new table.
+/// Returns two buckets of the new table.
 pub(crate) fn two_buckets() -> Place {
     let mut items = ArrayVec::new();
     let _ = items.try_extend_from_slice(&[87, 803]);
     Place::New(Buckets::of(items))
 }
 
-// The numbers of the record are those above.
+/// The numbers of the record are those above.
 fn assert_numbers(rt: &impl Abort, rec: &Rec) {
     assert_eq!(rt; rec.number, 1);
     assert_eq!(rt; rec.peer.port, 8333);
@@ -41,6 +41,7 @@ fn assert_numbers(rt: &impl Abort, rec: &Rec) {
     assert_eq!(rt; (rec.last_count, rec.attempts), (6, 7));
 }
 
+/// In either table.
 #[test]
 fn a_copy_has_the_numbers_and_the_place(rt: HostRuntime) {
     let copy = record(two_buckets()).copy();
@@ -54,10 +55,10 @@ fn a_copy_has_the_numbers_and_the_place(rt: HostRuntime) {
     assert_eq!(rt; Buckets::one(87).copy().items(), [87].as_slice());
 }
 
-// The clock of the tests below.
+/// The clock of the tests below.
 const NOW: u32 = 1_700_000_000;
 
-// A record with these times and this many tries.
+/// Returns a record with these times and this many tries.
 fn kept(time: u32, last_success: u32, last_try: u32, attempts: u32) -> Rec {
     Rec {
         time,
@@ -68,6 +69,7 @@ fn kept(time: u32, last_success: u32, last_try: u32, attempts: u32) -> Rec {
     }
 }
 
+/// In parts of 2^30.
 #[test]
 fn a_chance_falls_with_eight_tries_and_for_ten_minutes_after_one(rt: HostRuntime) {
     let rows = [
@@ -102,6 +104,7 @@ fn a_chance_falls_with_eight_tries_and_for_ten_minutes_after_one(rt: HostRuntime
     }
 }
 
+/// On either side of each bound.
 #[test]
 fn each_test_of_a_terrible_record_at_its_bound(rt: HostRuntime) {
     // Time, last success, last try and tries.
@@ -138,6 +141,7 @@ fn each_test_of_a_terrible_record_at_its_bound(rt: HostRuntime) {
     }
 }
 
+/// Equal values are equal, and others are not.
 #[test]
 fn lists_and_answers_are_read_as_they_were_made(rt: HostRuntime) -> Result<(), Fail> {
     let peer = record(Place::Tried).peer;
