@@ -13,19 +13,19 @@ pub(crate) struct Addresses {
 }
 
 impl Addresses {
-    /// The addresses after this seed.
+    /// Starts with this seed.
     pub fn from_seed(state: u64) -> Addresses {
         Addresses { state }
     }
 
-    /// The addresses after this seed, without those of the first `words` words.
+    /// Starts with this seed, after the first `words` words.
     pub fn from_place(seed: u64, words: u64) -> Addresses {
         Addresses {
             state: seed.wrapping_add(words.wrapping_mul(STEP)),
         }
     }
 
-    /// The next word.
+    /// Returns the next word.
     fn next_word(&mut self) -> u64 {
         self.state = self.state.wrapping_add(STEP);
         let mut word = self.state;
@@ -34,13 +34,13 @@ impl Addresses {
         word ^ (word >> 31)
     }
 
-    /// Some `::ffff:a.b.c.d`, as an asmap is asked for an IPv4 address.
+    /// Returns some `::ffff:a.b.c.d`, the form in which an asmap is asked for an IPv4 address.
     pub fn next_ipv4(&mut self) -> u128 {
         let low = self.next_word() >> 32;
         0xFFFF_0000_0000 | u128::from(low)
     }
 
-    /// Some IPv4 address and port.
+    /// Returns some IPv4 address and port.
     pub fn next_peer(&mut self) -> Peer
         ensures { result.addr.net ≡ Ipv4 }
     {
@@ -52,7 +52,7 @@ impl Addresses {
         }
     }
 
-    /// Some address of 2000::/3, the global unicast addresses of RFC 4291.
+    /// Returns some address of 2000::/3, the global unicast addresses of RFC 4291.
     pub fn next_ipv6(&mut self) -> u128 {
         let high = (1 << 61) | (self.next_word() >> 3);
         (u128::from(high) << 64) | u128::from(self.next_word())

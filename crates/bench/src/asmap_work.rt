@@ -1,4 +1,4 @@
-use crate::addresses::Addresses;
+use crate::numbers::{Numbers, sum_of};
 use crate::refusal::Refusal;
 use asmap_vm::{Sane, check};
 use host_io::{Bytes, Folder, Name};
@@ -18,13 +18,13 @@ pub(crate) enum AsmapWork {
 }
 
 impl AsmapWork {
-    /// Does the work over the bytes of the file. Gives the sum of the numbers that were looked up,
+    /// Does the work over the bytes of the file. Returns the sum of the numbers that were looked up,
     /// or how often the file was checked.
     pub fn run(self, code: &[u8]) -> Result<u64, Refusal> {
         match self {
             AsmapWork::Lookups(count) => {
                 let sane = check(code).map_err(|_| Refusal::Insane)?;
-                Ok(sum_numbers(&sane, count))
+                Ok(sum_of(&sane, count))
             }
             AsmapWork::Checks(count) => {
                 check_often(code, count)?;
@@ -34,7 +34,7 @@ impl AsmapWork {
     }
 }
 
-/// The bytes of asmap.dat.
+/// Loads asmap.dat and returns its bytes.
 pub(crate) fn load_asmap<F: Folder>(alloc: Global, folder: &mut F) -> Result<Bytes, Refusal> {
     match load(alloc, folder, Name::Asmap, MOST_ASMAP_BYTES) {
         Ok(Some(bytes)) => Ok(bytes),
@@ -43,19 +43,10 @@ pub(crate) fn load_asmap<F: Folder>(alloc: Global, folder: &mut F) -> Result<Byt
     }
 }
 
-/// The sum, modulo 2^64, of the numbers of `lookups` addresses: IPv4 ones and IPv6 ones in turn.
-fn sum_numbers(sane: &Sane<'_>, lookups: u64) -> u64 {
-    let mut addresses = Addresses::from_seed(1);
-    let mut sum: u64 = 0;
-    for k in 0..lookups {
-        let address = if k % 2 == 0 {
-            addresses.next_ipv4()
-        } else {
-            addresses.next_ipv6()
-        };
-        sum = sum.wrapping_add(u64::from(sane.asn(address)));
+impl Numbers for Sane<'_> {
+    fn number(&self, address: u128) -> u32 {
+        self.asn(address)
     }
-    sum
 }
 
 /// Checks the bytes `times` times.

@@ -3,7 +3,7 @@ use asmap_compile::{CompileFault, compile};
 use prefix_table::Table;
 use std::alloc::Global;
 
-/// Why a table is not compiled.
+/// Returns why a table is not compiled.
 fn refusal_of(fault: CompileFault) -> Refusal {
     match fault {
         CompileFault::Memory => Refusal::NoMemory,
@@ -11,7 +11,7 @@ fn refusal_of(fault: CompileFault) -> Refusal {
     }
 }
 
-/// Compiles the table this many times, and gives the sum, modulo 2^64, of the bits of the codes.
+/// Compiles the table this many times, and returns the sum, modulo 2^64, of the bits of the codes.
 pub(crate) fn compile_often(alloc: Global, table: &Table, times: u64) -> Result<u64, Refusal> {
     let mut sum: u64 = 0;
     for _ in 0..times {

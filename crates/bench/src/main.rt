@@ -1,4 +1,5 @@
-//! Work of a known size for measurements: a script takes the time of whole runs, the program takes none.
+//! Work of a known size for measurements: a script takes the time of whole runs, the program takes
+//! none.
 #![tactic(auto)]
 
 mod addresses;
@@ -7,6 +8,7 @@ mod codecs_work;
 mod compile_work;
 mod index_work;
 mod lines_work;
+mod numbers;
 mod refusal;
 mod table_work;
 mod tables_work;
@@ -22,7 +24,7 @@ use table_work::run_on_text;
 use tables_work::fill_tables;
 use task::Task;
 
-/// The arguments after the program's name.
+/// Returns the arguments after the program's name.
 fn words_of(rt: &(impl Env + AllocGlobal)) -> io::Result<Vec<String>> {
     let mut words = Vec::new(rt.alloc());
     for word in env::args(rt)?.skip(1) {

@@ -1,5 +1,5 @@
-use crate::addresses::Addresses;
 use crate::compile_work::compile_often;
+use crate::numbers::{Numbers, sum_of};
 use crate::refusal::Refusal;
 use host_io::{Folder, Name};
 use prefix_table::{MOST_TEXT, Table, TableFault, read_table};
@@ -18,18 +18,18 @@ pub(crate) enum TableWork {
 }
 
 impl TableWork {
-    /// Does the work over the text. Gives the sum of the rows that were read, of the numbers that
+    /// Does the work over the text. Returns the sum of the rows that were read, of the numbers that
     /// were found, or of the bits that were written.
     pub fn run(self, alloc: Global, text: &[u8]) -> Result<u64, Refusal> {
         match self {
             TableWork::Reads(times) => read_often(alloc, text, times),
-            TableWork::Matches(count) => Ok(sum_best(&read(alloc, text)?, count)),
+            TableWork::Matches(count) => Ok(sum_of(&read(alloc, text)?, count)),
             TableWork::Compiles(times) => compile_often(alloc, &read(alloc, text)?, times),
         }
     }
 }
 
-/// The text of prefixes.txt, read and worked on.
+/// Loads prefixes.txt and does the work over it.
 pub(crate) fn run_on_text<F: Folder>(
     alloc: Global,
     folder: &mut F,
@@ -42,7 +42,7 @@ pub(crate) fn run_on_text<F: Folder>(
     }
 }
 
-/// The table of the text.
+/// Reads the table of the text.
 fn read(alloc: Global, text: &[u8]) -> Result<Table, Refusal> {
     if text.len() > MOST_TEXT {
         return Err(Refusal::NoTable);
@@ -50,7 +50,7 @@ fn read(alloc: Global, text: &[u8]) -> Result<Table, Refusal> {
     read_table(alloc, text).map_err(refusal_of)
 }
 
-/// Why a text is not read.
+/// Returns why a text is not read.
 fn refusal_of(fault: TableFault) -> Refusal {
     match fault {
         TableFault::Memory => Refusal::NoMemory,
@@ -58,7 +58,7 @@ fn refusal_of(fault: TableFault) -> Refusal {
     }
 }
 
-/// Reads the text this many times, and gives the sum, modulo 2^64, of the numbers of the rows.
+/// Reads the text this many times, and returns the sum, modulo 2^64, of the numbers of the rows.
 fn read_often(alloc: Global, text: &[u8], times: u64) -> Result<u64, Refusal> {
     let mut sum: u64 = 0;
     for _ in 0..times {
@@ -68,17 +68,8 @@ fn read_often(alloc: Global, text: &[u8], times: u64) -> Result<u64, Refusal> {
     Ok(sum)
 }
 
-/// The sum, modulo 2^64, of the numbers of this many addresses: IPv4 ones and IPv6 ones in turn.
-fn sum_best(table: &Table, count: u64) -> u64 {
-    let mut addresses = Addresses::from_seed(1);
-    let mut sum: u64 = 0;
-    for k in 0..count {
-        let address = if k % 2 == 0 {
-            addresses.next_ipv4()
-        } else {
-            addresses.next_ipv6()
-        };
-        sum = sum.wrapping_add(u64::from(table.best(address)));
+impl Numbers for Table {
+    fn number(&self, address: u128) -> u32 {
+        self.best(address)
     }
-    sum
 }

@@ -22,17 +22,17 @@ pub(crate) enum Task {
     Tables(u32),
 }
 
-/// The number that an argument spells.
+/// Returns the number that an argument spells.
 fn number(word: &String) -> Result<u64, Refusal> {
     word.as_str().parse::<u64>().map_err(|_| Refusal::Usage)
 }
 
-/// A number of records, of 32 bits.
+/// Returns the number of records that an argument spells, below 2^32.
 fn records_of(word: &String) -> Result<u32, Refusal> {
     word.as_str().parse::<u32>().map_err(|_| Refusal::Usage)
 }
 
-/// The kind of work on messages that an argument names.
+/// Returns the kind of work on messages that an argument names.
 fn codecs_kind(word: &String) -> Result<CodecsKind, Refusal> {
     match word.as_str() {
         "read-addr" => Ok(CodecsKind::ReadAddr),
@@ -45,7 +45,7 @@ fn codecs_kind(word: &String) -> Result<CodecsKind, Refusal> {
 }
 
 impl Task {
-    /// The task that the arguments name: `asmap N`, `check N`, `codecs KIND TIMES`, `table N`,
+    /// Returns the task that the arguments name: `asmap N`, `check N`, `codecs KIND TIMES`, `table N`,
     /// `matches N`, `compile TIMES`, `tables N`, `lines LENGTH TIMES`, `index-adds N TIMES`,
     /// `index-removes N TIMES`, `index-finds N SOME TIMES` or `index-turns N SOME TIMES`.
     pub fn of(words: &[String]) -> Result<Task, Refusal> {
@@ -91,7 +91,7 @@ impl Task {
         }
     }
 
-    // Work on an index.
+    /// Makes a task of work on an index.
     fn on_index(kind: Kind, records: u32, some: u32, times: u64) -> Task {
         Task::Index(IndexWork {
             kind,

@@ -157,26 +157,10 @@ fn a_terrible_occupant_makes_way_and_leaves_the_order(rt: HostRuntime) -> Result
     assert!(rt; !add(&rt, &mut tables, seen(rival, late), source(1), 0, late)?);
     assert_ports(&rt, &tables, &[8333]);
     assert_eq!(rt; tables.next_number(), 2);
-    assert!(rt;
-        add(
-            &rt,
-            &mut tables,
-            seen(other, late + 1),
-            source(1),
-            0,
-            late + 1
-        )?
-    );
-    assert!(rt;
-        add(
-            &rt,
-            &mut tables,
-            seen(rival, late + 1),
-            source(1),
-            0,
-            late + 1
-        )?
-    );
+    let later = late + 1;
+    for peer in [other, rival] {
+        assert!(rt; add(&rt, &mut tables, seen(peer, later), source(1), 0, later)?);
+    }
     assert_ports(&rt, &tables, &[22, 0]);
     assert!(rt; tables.find(&first).is_none());
     assert_eq!(rt; buckets_of(&tables, &rival), [87].as_slice());

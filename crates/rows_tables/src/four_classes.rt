@@ -1,9 +1,9 @@
 ghost use Rattle.std.specs.Prelude.{◌%◌, get_or};
 
-use std::hash::{BuildHasher, Hasher};
+use std::hash::Hasher;
 
-/// A hasher with four answers alone, by the first byte of the last write, so that most keys collide.
-#[derive(Clone, Copy)]
+/// A hasher with only four answers, by the first byte of the last write, so that most keys collide.
+#[derive(Clone, Copy, Default)]
 pub(crate) struct FourClasses(u64);
 
 impl Hasher for FourClasses {
@@ -20,19 +20,5 @@ impl Hasher for FourClasses {
             [first, ..] => u64::from(*first) % 4,
             [] => self.0 % 4,
         };
-    }
-}
-
-/// Makes a `FourClasses` for each key.
-#[derive(Clone, Copy)]
-pub(crate) struct MakesFourClasses;
-
-impl BuildHasher for MakesFourClasses {
-    type Hasher = FourClasses;
-
-    ghost build_hasher = { λ _. record { 0 = 0 } };
-
-    fn build_hasher(&self) -> FourClasses {
-        FourClasses(0)
     }
 }

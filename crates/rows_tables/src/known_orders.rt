@@ -1,5 +1,5 @@
 // Orders that are known beforehand.
-use crate::last_word::MakesLastWord;
+use crate::last_word::LastWord;
 use crate::samples::{peer_of, record};
 use peer_index::PeerIndex;
 use std::hash::{BuildHasher, BuildHasherDefault, FoldHasher};
@@ -123,7 +123,7 @@ fn remove_some<H: BuildHasher + Drop>(
     }
 }
 
-// Ten thousand records under a hasher: some go from the front, the middle and the end, some change
+// Ten thousand records under a hasher: some go from the start, the middle and the end, some change
 // places, and others come after them.
 fn ten_thousand<H: BuildHasher + Drop>(
     rt: &(impl Abort + AllocGlobal),
@@ -163,5 +163,6 @@ fn of_ten_thousand_records_those_that_stay_keep_their_ids(rt: HostRuntime) -> Re
 
 #[test]
 fn ten_thousand_keep_them_too_under_another_hasher(rt: HostRuntime) -> Result<(), Fail> {
-    ten_thousand(&rt, MakesLastWord)
+    let hasher: BuildHasherDefault<LastWord> = BuildHasherDefault::new();
+    ten_thousand(&rt, hasher)
 }

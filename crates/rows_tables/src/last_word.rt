@@ -1,9 +1,9 @@
 ghost use Rattle.std.specs.Prelude.{◌+◌, ◌*◌, ◌%◌, ◌^◌, get_or};
 
-use std::hash::{BuildHasher, Hasher};
+use std::hash::Hasher;
 
 /// A hasher of the first two bytes of the last write, spread over 64 bits.
-#[derive(Clone, Copy)]
+#[derive(Clone, Copy, Default)]
 pub(crate) struct LastWord(u64);
 
 impl Hasher for LastWord {
@@ -19,19 +19,5 @@ impl Hasher for LastWord {
         let low = bytes.first().copied().unwrap_or(0);
         let high = bytes.get(1).copied().unwrap_or(0);
         self.0 = u64::from(low) + 256 * u64::from(high);
-    }
-}
-
-/// Makes a `LastWord` for each key.
-#[derive(Clone, Copy)]
-pub(crate) struct MakesLastWord;
-
-impl BuildHasher for MakesLastWord {
-    type Hasher = LastWord;
-
-    ghost build_hasher = { λ _. record { 0 = 0 } };
-
-    fn build_hasher(&self) -> LastWord {
-        LastWord(0)
     }
 }

@@ -1,20 +1,21 @@
-// Records that find no memory. Try it with each allocation failing in turn, as by
+// Records added when memory runs out. Try it with each allocation failing in turn, as by
 // `rt try --test --fail-alloc 3`: it holds with memory and without.
-use crate::four_classes::MakesFourClasses;
+use crate::four_classes::FourClasses;
 use crate::orders::assert_same;
 use crate::plain_index::PlainIndex;
 use crate::samples::{peer_of, record};
 use peer_index::PeerIndex;
+use std::hash::BuildHasherDefault;
 use std::process::Abort;
 
 /// How many records are handed in.
 const RECORDS: u32 = 100;
 
-// A record is handed in, and the list is longer by it or as it was. No memory for the plain list
-// ends the test, and is told by false.
+// Adds a record: the list is longer by it, or as it was. Returns `false` if the plain list is out of
+// memory, which ends the test.
 fn add(
     rt: &impl Abort,
-    index: &mut PeerIndex<MakesFourClasses>,
+    index: &mut PeerIndex<BuildHasherDefault<FourClasses>>,
     plain: &mut PlainIndex,
     number: u32,
 ) -> bool {
@@ -32,7 +33,7 @@ fn add(
 
 #[test]
 fn a_record_that_finds_no_memory_leaves_list_and_ids_as_they_were(rt: HostRuntime) {
-    let mut index = PeerIndex::make(rt.alloc(), MakesFourClasses);
+    let mut index = PeerIndex::make(rt.alloc(), BuildHasherDefault::new());
     let mut plain = PlainIndex::make(rt.alloc());
     for number in 0..RECORDS {
         if !add(&rt, &mut index, &mut plain, number) {

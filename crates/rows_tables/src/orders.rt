@@ -1,5 +1,5 @@
 // Each call of the index beside the same call of a plain list, and after it the whole of both.
-use crate::four_classes::MakesFourClasses;
+use crate::four_classes::FourClasses;
 use crate::plain_index::PlainIndex;
 use crate::samples::{is_same, peer_of, record};
 use net_addr::Peer;
@@ -129,5 +129,6 @@ fn after_each_call_the_order_is_that_of_a_plain_list(rt: HostRuntime) -> Result<
 
 #[test]
 fn it_is_so_under_a_hasher_whose_keys_collide(rt: HostRuntime) -> Result<(), Fail> {
-    walk(&rt, MakesFourClasses, 2)
+    let hasher: BuildHasherDefault<FourClasses> = BuildHasherDefault::new();
+    walk(&rt, hasher, 2)
 }

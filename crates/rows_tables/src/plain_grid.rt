@@ -12,7 +12,7 @@ const BUCKETS: usize = NEW_BUCKETS + 256;
 const SLOTS: usize = 64;
 
 /// The slots of the new and of the tried table as a plain list of what was written to them, each
-/// time at a place among all slots, the latest first. Each read goes through it from its front.
+/// time at a place among all slots, the latest first. Each read goes through it from its start.
 #[derive(Drop)]
 pub(crate) struct PlainGrid {
     slots: usize,

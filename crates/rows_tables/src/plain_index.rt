@@ -4,7 +4,7 @@ use peer_rec::Rec;
 use std::alloc::{AllocError, Global};
 use std::marker::Model;
 
-/// The order of records as a plain list, which each call goes through from its front.
+/// The order of records as a plain list, which each call goes through from its start.
 #[derive(Drop)]
 pub(crate) struct PlainIndex {
     entries: Vec<Entry>,

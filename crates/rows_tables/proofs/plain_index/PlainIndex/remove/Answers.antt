@@ -1,4 +1,4 @@
-use Rattle.std.proofs.Common.{rules, ◌≡◌, ◌∙◌, ◌-◌, ℕ, Bool, List, [], ◌∷◌, length, take, slice_set, slice_index_or, position, swap_remove, Option, Some, None, ap, sym, arith}
+use Rattle.std.proofs.Common.{rules, ◌≡◌, ◌∙◌, ◌-◌, ℕ, Bool, List, [], ◌∷◌, length, take, slice_set, position, swap_remove, Some, ap, sym, arith}
 use Rattle.std.specs.Option.{option_map_or}
 use Rattle.std.proofs.lemmas.List.{get_or_default}
 use Rattle.net_addr.specs.Same.{same_peer}
