@@ -6,7 +6,7 @@ use Rattle.std.proofs.Math.Seq.{drop-cons}
 use Rattle.net_addr.specs.declared.net.Net.{Net}
 use Rattle.net_addr.specs.declared.peer.Peer.{Peer}
 use Rattle.table_machine.specs.State.{State}
-use Rattle.table_machine.specs.Picks.{Sample, exchange, sample_from, told_at, with_told}
+use Rattle.table_machine.specs.Picks.{Sample, order_swap, sample_from, told_at, with_told}
 
 -- peers told before those of a sample
 joined : (peers told : List Peer) (rest : Sample) → with_told peers (with_told told rest) ≡ with_told (peers ++ told) rest
@@ -18,7 +18,7 @@ module _ (asked : Option Net) (now limit : ℕ) (words : List ℕ) where
   sofar st peers i = with_told peers (sample_from st asked now i (limit - length peers) (drop i words))
 
   abbrev pub next : State → ℕ → ℕ → State
-  next st i word = exchange st i (i + word % (length st.order - i))
+  next st i word = order_swap st i (i + word % (length st.order - i))
 
   step : (st : State) (i left word : ℕ) (rest : List ℕ) → i < length st.order → 0 < left
       → sample_from st asked now i left (word ∷ rest)

@@ -1,5 +1,5 @@
 ghost use Rattle.std.specs.Prelude.{◌≡◌, ◌+◌, ◌-◌, ◌%◌, ◌<◌, length, option_to_list};
-ghost use Rattle.table_machine.specs.Picks.{exchange, told_at};
+ghost use Rattle.table_machine.specs.Picks.{order_swap, told_at};
 ghost use Rattle.table_machine.specs.Sound.{IsSound};
 
 use crate::told::is_told;
@@ -17,7 +17,7 @@ pub(crate) fn draw<H: BuildHasher>(
     word: u64,
 ) -> Option<Peer>
     requires { position < length tables.old.order }
-    ensures state { tables.new ≡ exchange tables.old position
+    ensures state { tables.new ≡ order_swap tables.old position
         (position + word % (length tables.old.order - position)) }
     ensures told { option_to_list result ≡ told_at tables.new class now position }
     ensures sound { IsSound tables.new }

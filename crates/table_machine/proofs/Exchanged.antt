@@ -3,14 +3,14 @@ use Rattle.std.proofs.Common.{ℕ, ◌<◌, length, refl, swap}
 use Rattle.std.proofs.lemmas.List.Sorted.{IsPermutation-swap, IsPermutation-trans}
 use Rattle.table_machine.specs.State.{State}
 use Rattle.table_machine.specs.Clashes.{erase_clash}
-use Rattle.table_machine.specs.Picks.{exchange}
+use Rattle.table_machine.specs.Picks.{order_swap}
 use Rattle.table_machine.specs.Sound.{IsSound}
 use Rattle.table_machine.proofs.Records.{numbers}
 use Rattle.table_machine.proofs.Waiting.{erase-sound}
 
 -- two positions of the order are exchanged
-pub exchange-sound : (st : State) (i j : ℕ) → IsSound st → i < length st.order → j < length st.order → IsSound (exchange st i j)
-exchange-sound st i j sound first second = record {
+pub order_swap-sound : (st : State) (i j : ℕ) → IsSound st → i < length st.order → j < length st.order → IsSound (order_swap st i j)
+order_swap-sound st i j sound first second = record {
   listed = record {
     order = IsPermutation-trans (numbers st.records) st.order (swap st.order i j) sound.order (IsPermutation-swap st.order (swap st.order i j) i j first second refl);
     peers = sound.peers;

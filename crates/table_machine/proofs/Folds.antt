@@ -7,13 +7,13 @@ use Rattle.std.proofs.lemmas.Nat.{mod_below}
 use Rattle.net_addr.specs.declared.net.Net.{Net}
 use Rattle.net_addr.specs.declared.peer.Peer.{Peer}
 use Rattle.peer_rec.specs.declared.rec.Rec.{Rec}
-use Rattle.table_machine.specs.State.{State, find_number, opponent_of}
+use Rattle.table_machine.specs.State.{State, by_number, tried_occupant}
 use Rattle.table_machine.specs.Tried.{good}
 use Rattle.table_machine.specs.Clashes.{Fate, after_fate, clash_pick, erase_clash, fate_of, pick_newcomer, pick_opponent, resolve, resolve_all}
 use Rattle.table_machine.specs.Clashes.Fate.{Erased, Kept, Moved}
-use Rattle.table_machine.specs.Picks.{Sample, exchange, sample, sample_from, sample_limit, told_at, with_told}
+use Rattle.table_machine.specs.Picks.{Sample, order_swap, sample, sample_from, sample_limit, told_at, with_told}
 use Rattle.table_machine.specs.Sound.{IsSound}
-use Rattle.table_machine.proofs.Exchanged.{erase_clash-sound, exchange-sound}
+use Rattle.table_machine.proofs.Exchanged.{erase_clash-sound, order_swap-sound}
 use Rattle.table_machine.proofs.Kept.{KeepsPeers, good-keeps_peers}
 use Rattle.table_machine.proofs.Reached.{good-sound}
 use Rattle.table_machine.proofs.Unchanged.{good-next}
@@ -51,7 +51,7 @@ module _ (now : ℕ) (R : State → State → Type 0) (itself : (st : State) →
   resolve_all-along : (st : State) (numbers : List ℕ) → R st (resolve_all st now numbers).state
   resolve_all-along st [] = itself st
   resolve_all-along st (number ∷ numbers) =
-      let newcomer = find_number st number in
+      let newcomer = by_number st number in
       let fate = fate_of st newcomer now in
       let next = after_fate fate st newcomer number now in
       chain st next (resolve_all next now numbers).state (after_fate-along fate st newcomer number) (resolve_all-along next numbers)
@@ -76,7 +76,7 @@ resolve-next st now = (resolve-keeps_numbers st now).0
 -- collisions.
 module _ (st : State) (P : State → Type 0) (same : P st) (erased : (number : ℕ) → P (erase_clash st number)) where
   clash_pick-along : (word : ℕ) → P (clash_pick st word).state
-  clash_pick-along word = by (length st.collisions == 0) (find_number st number)
+  clash_pick-along word = by (length st.collisions == 0) (by_number st number)
     where
       number : ℕ
       number = get_or st.collisions (word % length st.collisions) 0
@@ -88,7 +88,7 @@ module _ (st : State) (P : State → Type 0) (same : P st) (erased : (number : �
       by : (none : Bool) (o : Option Rec) → P (if none then record { answer = None; state = st } else pick_newcomer st number o).state
       by true o = same
       by false None = erased number
-      by false (Some r) = picked (opponent_of st r.peer)
+      by false (Some r) = picked (tried_occupant st r.peer)
 
 pub clash_pick-sound : (st : State) (word : ℕ) → IsSound st → IsSound (clash_pick st word).state
 clash_pick-sound st word sound = clash_pick-along st IsSound sound (λ number. erase_clash-sound st number sound) word
@@ -99,40 +99,40 @@ clash_pick-keeps_numbers st word = clash_pick-along st (KeepsNumbers st) (keeps_
 -- In a sound state a pick finds no occupant only if there is no collision, or the record of the one
 -- drawn was deleted.
 pub clash_pick-None : (st : State) (word : ℕ) → IsSound st → (clash_pick st word).answer ≡ None
-    → (length st.collisions ≡ 0) ⊎ (find_number st (get_or st.collisions (word % length st.collisions) 0) ≡ None)
-clash_pick-None st word sound = by (length st.collisions == 0) (find_number st number) refl refl
+    → (length st.collisions ≡ 0) ⊎ (by_number st (get_or st.collisions (word % length st.collisions) 0) ≡ None)
+clash_pick-None st word sound = by (length st.collisions == 0) (by_number st number) refl refl
   where
     number : ℕ
     number = get_or st.collisions (word % length st.collisions) 0
 
-    occupied : (r : Rec) → find_number st number ≡ Some r → length st.collisions ≢ 0 → IsSome (opponent_of st r.peer)
+    occupied : (r : Rec) → by_number st number ≡ Some r → length st.collisions ≢ 0 → IsSome (tried_occupant st r.peer)
     occupied r found some =
         let below = mod_below word (length st.collisions) (omega arith) in
-        subst (λ o. IfSome o (λ q. IsSome (opponent_of st q.peer))) found (sound.opponents (word % length st.collisions) 0 below)
+        subst (λ o. IfSome o (λ q. IsSome (tried_occupant st q.peer))) found (sound.opponents (word % length st.collisions) 0 below)
 
     picked : (o : Option Rec) → IsSome o → (pick_opponent st o).answer ≡ None → ⊥
     picked None some none = absurd (true≢false (sym some))
     picked (Some occupant) some none = absurd (true≢false (ap is_some none))
 
-    by : (none : Bool) (o : Option Rec) → (length st.collisions == 0) ≡ none → find_number st number ≡ o
+    by : (none : Bool) (o : Option Rec) → (length st.collisions == 0) ≡ none → by_number st number ≡ o
         → (if none then record { answer = None; state = st } else pick_newcomer st number o).answer ≡ None
-        → (length st.collisions ≡ 0) ⊎ (find_number st number ≡ None)
+        → (length st.collisions ≡ 0) ⊎ (by_number st number ≡ None)
     by true o empty found none = inl ((Decides-eqb (length st.collisions) 0).0 empty)
     by false None some found none = inr found
-    by false (Some r) some found none = absurd (picked (opponent_of st r.peer) (occupied r found (eqb-false _ _ some)) none)
+    by false (Some r) some found none = absurd (picked (tried_occupant st r.peer) (occupied r found (eqb-false _ _ some)) none)
 
 -- A reflexive and transitive relation holds over a sample if it holds over an exchange in the
 -- order.
 module _ (asked : Option Net) (now : ℕ) (R : State → State → Type 0) (itself : (st : State) → R st st)
     (chain : (old middle new : State) → R old middle → R middle new → R old new)
-    (exchanges : (st : State) (i j : ℕ) → i < length st.order → j < length st.order → R st (exchange st i j)) where
+    (exchanges : (st : State) (i j : ℕ) → i < length st.order → j < length st.order → R st (order_swap st i j)) where
   sample_from-along : (st : State) (i left : ℕ) (words : List ℕ) → R st (sample_from st asked now i left words).state
   sample_from-along st i left [] = itself st
   sample_from-along st i left (word ∷ words) =
       by (nat_lt i (length st.order) && nat_lt 0 left) refl (sample_from-along next (i + 1) (left - length (told_at next asked now i)) words)
     where
       next : State
-      next = exchange st i (i + word % (length st.order - i))
+      next = order_swap st i (i + word % (length st.order - i))
 
       rest : Sample
       rest = sample_from next asked now (i + 1) (left - length (told_at next asked now i)) words
@@ -148,7 +148,7 @@ module _ (asked : Option Net) (now : ℕ) (R : State → State → Type 0) (itse
 pub sample-sound : (st : State) (most percent : ℕ) (asked : Option Net) (words : List ℕ) (now : ℕ) → IsSound st → IsSound (sample st most percent asked words now).state
 sample-sound st most percent asked words now =
     sample_from-along asked now (λ old new. IsSound old → IsSound new) (λ s is. is) (λ old middle new first second is. second (first is))
-    (λ s i j first second is. exchange-sound s i j is first second) st 0 (sample_limit (length st.order) most percent) words
+    (λ s i j first second is. order_swap-sound s i j is first second) st 0 (sample_limit (length st.order) most percent) words
 
 pub sample-keeps_numbers : (st : State) (most percent : ℕ) (asked : Option Net) (words : List ℕ) (now : ℕ) → KeepsNumbers st (sample st most percent asked words now).state
 sample-keeps_numbers st most percent asked words now =

@@ -12,7 +12,7 @@ use Rattle.peer_rec.specs.Rec.{buckets_of, is_tried}
 use Rattle.peer_rec.specs.declared.rec.Rec.{Rec}
 use Rattle.peer_rec.specs.declared.good.Good.TheVariants.{Already, Clash, Moved}
 use Rattle.peer_rec.specs.declared.place.Place.TheVariants.{New, Tried}
-use Rattle.table_machine.specs.State.{State, find_peer, is_new_at, is_tried_at, new_occupant, opponent_of}
+use Rattle.table_machine.specs.State.{State, find_peer, is_new_at, is_tried_at, new_rec_at, tried_occupant}
 use Rattle.table_machine.specs.Entries.{add, add_by, clear_slot, delete, enter_bucket, enter_slot, give_bucket, makes_way, new_record, no, penalty_of, refresh, take_bucket, with_last, with_record, yes}
 use Rattle.table_machine.specs.Tried.{after_success, after_try, attempt, back_to_new, clear_new, connected, displace, good, good_by, mark, move_to_tried, good_outcome, set_services, still_connected, wait, with_services}
 use Rattle.table_machine.proofs.Buckets.{placed}
@@ -54,7 +54,7 @@ module _ (n : ℕ) (old : List Rec) where
 
   entered-known : (st : State) (now : ℕ) (r : Rec) (is_new : Bool) (source : Address) → AllKnown n old st.records → IsKnown n old r
       → AllKnown n old (enter_bucket st now r is_new source).state.records
-  entered-known st now r is_new source all known = by (new_occupant st bucket slot) refl
+  entered-known st now r is_new source all known = by (new_rec_at st bucket slot) refl
     where
       bucket : ℕ
       bucket = new_bucket st.places r.peer source
@@ -72,13 +72,13 @@ module _ (n : ℕ) (old : List Rec) where
       occupied occupant is false false true = deleted-known st r all
       occupied occupant is false false false = all
 
-      by : (o : Option Rec) → new_occupant st bucket slot ≡ o → AllKnown n old (enter_slot st now r is_new bucket o).state.records
+      by : (o : Option Rec) → new_rec_at st bucket slot ≡ o → AllKnown n old (enter_slot st now r is_new bucket o).state.records
       by None none = changed-known st given all known
       by (Some occupant) is =
           occupied occupant (all occupant (find-Some (is_new_at st.places bucket slot) st.records occupant is).0) (occupant.number == r.number) (makes_way occupant r now) is_new
 
   back-known : (st : State) (r : Rec) → AllKnown n old st.records → IsKnown n old r → AllKnown n old (back_to_new st r).records
-  back-known st r all known = by (new_occupant st bucket slot) refl
+  back-known st r all known = by (new_rec_at st bucket slot) refl
     where
       bucket : ℕ
       bucket = new_bucket st.places r.peer r.source
@@ -86,14 +86,14 @@ module _ (n : ℕ) (old : List Rec) where
       slot : ℕ
       slot = new_slot st.places r.peer bucket
 
-      by : (o : Option Rec) → new_occupant st bucket slot ≡ o → AllKnown n old (with_record (clear_new st bucket o) (placed r (New (bucket ∷ [])))).records
+      by : (o : Option Rec) → new_rec_at st bucket slot ≡ o → AllKnown n old (with_record (clear_new st bucket o) (placed r (New (bucket ∷ [])))).records
       by None none = changed-known st (placed r (New (bucket ∷ []))) all known
       by (Some occupant) is =
           changed-known (clear_slot st occupant bucket) (placed r (New (bucket ∷ [])))
           (cleared-known st occupant bucket all (all occupant (find-Some (is_new_at st.places bucket slot) st.records occupant is).0)) known
 
   pub moved-known : (st : State) (r : Rec) → AllKnown n old st.records → IsKnown n old r → AllKnown n old (move_to_tried st r).records
-  moved-known st r all known = by (opponent_of left r.peer) refl
+  moved-known st r all known = by (tried_occupant left r.peer) refl
     where
       left : State
       left = with_record st (placed r (New []))
@@ -104,7 +104,7 @@ module _ (n : ℕ) (old : List Rec) where
       own : ℕ
       own = tried_bucket st.places r.peer
 
-      by : (o : Option Rec) → opponent_of left r.peer ≡ o → AllKnown n old (with_record (displace left o) (placed r Tried)).records
+      by : (o : Option Rec) → tried_occupant left r.peer ≡ o → AllKnown n old (with_record (displace left o) (placed r Tried)).records
       by None none = changed-known left (placed r Tried) all_left known
       by (Some occupant) is =
           changed-known (back_to_new left occupant) (placed r Tried)
@@ -184,4 +184,4 @@ good-keeps_peers st now peer testing = by (find_peer later peer) refl
         let s = after_success r now in
         let is : IsKnown n st.records s = known-itself n st.records r (peer_found st.records peer r found).0 in
         known (with_record later s) s (changed-known n st.records later s (known-itself n st.records) is) is
-        (is_tried s) (testing && is_some (opponent_of (with_record later s) s.peer))
+        (is_tried s) (testing && is_some (tried_occupant (with_record later s) s.peer))

@@ -8,7 +8,7 @@ use Rattle.peer_rec.specs.Buckets.{without_bucket}
 use Rattle.peer_rec.specs.Rec.{IsRec, buckets_of, is_tried}
 use Rattle.peer_rec.specs.declared.rec.Rec.{Rec}
 use Rattle.peer_rec.specs.declared.place.Place.TheVariants.{New, Tried}
-use Rattle.table_machine.specs.State.{State, is_new_at, new_occupant, opponent_of}
+use Rattle.table_machine.specs.State.{State, is_new_at, new_rec_at, tried_occupant}
 use Rattle.table_machine.specs.Entries.{delete, take_bucket, with_record}
 use Rattle.table_machine.specs.Sound.{IsSound}
 use Rattle.table_machine.specs.Tried.{back_to_new, clear_new, displace, move_to_tried}
@@ -23,7 +23,7 @@ use Rattle.table_machine.proofs.Tried.{SharesTried, back-keeps, bare-keeps, take
 -- the last two parts: the occupant of the tried slot goes back to an empty slot of the new table,
 -- and the record, in no bucket, takes the tried slot
 settle : (st : State) (r old : Rec) (bucket : ℕ) → IsMidway r.number (SharesTried st.places r.peer) st → Contains st.records (placed r (New []))
-    → Contains st.records old → IsAtTried st r.peer old → bucket < 1024 → new_occupant st bucket (new_slot st.places old.peer bucket) ≡ None → IsRec (placed r Tried)
+    → Contains st.records old → IsAtTried st r.peer old → bucket < 1024 → new_rec_at st bucket (new_slot st.places old.peer bucket) ≡ None → IsRec (placed r Tried)
     → IsSound (with_record (with_record st (placed old (New (bucket ∷ [])))) (placed r Tried))
 settle st r old bucket but has_r has_old at below empty fits =
     take_tried-sound (with_record st (placed old (New (bucket ∷ [])))) (placed r (New []))
@@ -45,7 +45,7 @@ settle st r old bucket but has_r has_old at below empty fits =
         let same = sym own_parts.0 ∙ parts.0 in
         (same, sym own_parts.1 ∙ ap (tried_slot st.places old.peer) same ∙ parts.1)
 
-    none : opponent_of (with_record st (placed old (New (bucket ∷ [])))) r.peer ≡ None
+    none : tried_occupant (with_record st (placed old (New (bucket ∷ [])))) r.peer ≡ None
     none =
         find_none_from (is_at_own st.places r.peer) (with_record st (placed old (New (bucket ∷ [])))).records
         (λ q c at_q. ⊎_elim
@@ -57,7 +57,7 @@ settle st r old bucket but has_r has_old at below empty fits =
 -- the slot to which that occupant goes back is cleared first
 displaced : (st : State) (r old : Rec) → IsMidway r.number (SharesTried st.places r.peer) st → Contains st.records (placed r (New []))
     → Contains st.records old → IsAtTried st r.peer old → IsRec (placed r Tried) → IsSound (with_record (back_to_new st old) (placed r Tried))
-displaced st r old but has_r has_old at fits = by (new_occupant st bucket slot) refl
+displaced st r old but has_r has_old at fits = by (new_rec_at st bucket slot) refl
   where
     bucket : ℕ
     bucket = new_bucket st.places old.peer old.source
@@ -71,7 +71,7 @@ displaced st r old but has_r has_old at fits = by (new_occupant st bucket slot) 
     tried : is_tried old ≡ true
     tried = tried_at-is_tried st.places (tried_bucket st.places r.peer) (own_slot st.places r.peer) old at
 
-    by : (o : Option Rec) → new_occupant st bucket slot ≡ o
+    by : (o : Option Rec) → new_rec_at st bucket slot ≡ o
         → IsSound (with_record (with_record (clear_new st bucket o) (placed old (New (bucket ∷ [])))) (placed r Tried))
     by None empty = settle st r old bucket but has_r has_old at below empty fits
     by (Some occupant) is = cleared (length (without_bucket bucket (buckets_of occupant)) == 0) (clear_slot-keeps r.number (SharesTried st.places r.peer) st occupant bucket slot but is occupant_fits)
@@ -109,7 +109,7 @@ displaced st r old but has_r has_old at fits = by (new_occupant st bucket slot) 
 
 -- a record in new moves to tried
 pub move-sound : (st : State) (r : Rec) → IsSound st → Contains st.records r → is_tried r ≡ false → IsSound (move_to_tried st r)
-move-sound st r sound has untried = by (opponent_of (with_record st (placed r (New []))) r.peer) refl
+move-sound st r sound has untried = by (tried_occupant (with_record st (placed r (New []))) r.peer) refl
   where
     midway : IsMidway r.number (SharesTried st.places r.peer) (with_record st (placed r (New [])))
     midway =
@@ -122,7 +122,7 @@ move-sound st r sound has untried = by (opponent_of (with_record st (placed r (N
     fits : IsRec (placed r Tried)
     fits = IsRec-placed r r.place Tried (All-contains IsRec st.records r sound.records has) tt
 
-    by : (o : Option Rec) → opponent_of (with_record st (placed r (New []))) r.peer ≡ o
+    by : (o : Option Rec) → tried_occupant (with_record st (placed r (New []))) r.peer ≡ o
         → IsSound (with_record (displace (with_record st (placed r (New []))) o) (placed r Tried))
     by None empty = take_tried-sound (with_record st (placed r (New []))) (placed r (New [])) midway there refl fits empty
     by (Some old) is =

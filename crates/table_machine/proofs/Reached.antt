@@ -7,7 +7,7 @@ use Rattle.peer_rec.specs.Rec.{IsRec, is_tried}
 use Rattle.peer_rec.specs.Buckets.{with_bucket}
 use Rattle.peer_rec.specs.declared.rec.Rec.{Rec}
 use Rattle.peer_rec.specs.declared.good.Good.TheVariants.{Already, Clash, Moved}
-use Rattle.table_machine.specs.State.{State, find_number, find_peer, opponent_of}
+use Rattle.table_machine.specs.State.{State, by_number, find_peer, tried_occupant}
 use Rattle.table_machine.specs.Entries.{with_record}
 use Rattle.table_machine.specs.Sound.{IsSound}
 use Rattle.table_machine.specs.Tried.{after_success, good, good_by, good_known, move_to_tried, good_outcome, wait}
@@ -23,27 +23,27 @@ after_success-fits r now fits low =
     IsRec-with r _ _ _ _ _ _ _ fits fits.time fits.services low low fits.last_count (omega arith) fits.place
 
 -- a record whose tried slot is occupied becomes a collision, if there are fewer than ten
-pub waits-sound : (st : State) (r : Rec) → IsSound st → Contains st.records r → IsSome (opponent_of st r.peer) → IsSound (wait st r.number)
+pub waits-sound : (st : State) (r : Rec) → IsSound st → Contains st.records r → IsSome (tried_occupant st r.peer) → IsSound (wait st r.number)
 waits-sound st r sound has occupied = by (nat_lt (length st.collisions) 10) refl
   where
-    found : find_number st r.number ≡ Some r
+    found : by_number st r.number ≡ Some r
     found = find-number st.records r sound.rising has
 
     by : (few : Bool) → nat_lt (length st.collisions) 10 ≡ few → IsSound (if few then record st { collisions = with_bucket r.number st.collisions } else st)
     by true few =
         wait-sound st r.number sound (ltb-true (length st.collisions) 10 few)
         (All-contains (λ q. q.number < st.next_number) st.records r sound.below_next has)
-        (subst (λ o. IfSome o (λ q. IsSome (opponent_of st q.peer))) (sym found) occupied)
+        (subst (λ o. IfSome o (λ q. IsSome (tried_occupant st q.peer))) (sym found) occupied)
     by false many = sound
 
 -- a known peer was reached
 good_known-sound : (st : State) (r : Rec) (testing : Bool) → IsSound st → Contains st.records r → IsSound (good_known st r testing).state
-good_known-sound st r testing sound has = by (is_tried r) (testing && is_some (opponent_of st r.peer)) refl refl
+good_known-sound st r testing sound has = by (is_tried r) (testing && is_some (tried_occupant st r.peer)) refl refl
   where
-    by : (tried blocked : Bool) → is_tried r ≡ tried → (testing && is_some (opponent_of st r.peer)) ≡ blocked
+    by : (tried blocked : Bool) → is_tried r ≡ tried → (testing && is_some (tried_occupant st r.peer)) ≡ blocked
         → IsSound (if tried then good_outcome Already st else if blocked then good_outcome Clash (wait st r.number) else good_outcome Moved (move_to_tried st r)).state
     by true blocked tried h = sound
-    by false true untried h = waits-sound st r sound has (and_parts testing (is_some (opponent_of st r.peer)) h).1
+    by false true untried h = waits-sound st r sound has (and_parts testing (is_some (tried_occupant st r.peer)) h).1
     by false false untried h = move-sound st r sound has untried
 
 -- a peer was reached

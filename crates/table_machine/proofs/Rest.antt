@@ -7,7 +7,7 @@ use Rattle.placing.specs.Places.{new_bucket, new_slot}
 use Rattle.peer_rec.specs.Buckets.{without_bucket}
 use Rattle.peer_rec.specs.Rec.{buckets_of, is_tried}
 use Rattle.peer_rec.specs.declared.rec.Rec.{Rec}
-use Rattle.table_machine.specs.State.{State, find_peer, new_occupant}
+use Rattle.table_machine.specs.State.{State, find_peer, new_rec_at}
 use Rattle.table_machine.specs.Entries.{add, add_by, change_number, delete, enter_bucket, enter_slot, give_bucket, makes_way, new_record, no, penalty_of, refresh, take_bucket, with_last, with_record, yes}
 
 -- places, collisions and last success are the same; the next number rises by at most one
@@ -21,7 +21,7 @@ KeepsRest old new = record {
 }
 
 enter-rest : (old st : State) (now : ℕ) (r : Rec) (is_new : Bool) (source : Address) → KeepsRest old st → KeepsRest old (enter_bucket st now r is_new source).state
-enter-rest old st now r is_new source keeps = by (new_occupant st bucket (new_slot st.places r.peer bucket))
+enter-rest old st now r is_new source keeps = by (new_rec_at st bucket (new_slot st.places r.peer bucket))
   where
     bucket : ℕ
     bucket = new_bucket st.places r.peer source

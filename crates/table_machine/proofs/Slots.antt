@@ -10,7 +10,7 @@ use Rattle.peer_rec.specs.Rec.{IsRec, buckets_by, buckets_of, is_tried, tried_by
 use Rattle.peer_rec.specs.declared.rec.Rec.{Rec}
 use Rattle.peer_rec.specs.declared.place.Place.{Place}
 use Rattle.peer_rec.specs.declared.place.Place.TheVariants.{New, Tried}
-use Rattle.table_machine.specs.State.{State, is_new_at, is_tried_at, new_occupant}
+use Rattle.table_machine.specs.State.{State, is_new_at, is_tried_at, new_rec_at}
 use Rattle.table_machine.specs.Entries.{delete, give_bucket, take_bucket, clear_slot, makes_way, enter_bucket, enter_slot, yes, no}
 use Rattle.table_machine.specs.Sound.{IsSound}
 use Rattle.table_machine.proofs.Lists.{find-Some, find-None, find_none_from, none_in_nil}
@@ -33,7 +33,7 @@ only-untried st r untried bucket slot q c at other = absurd (both_ways (is_tried
 
 -- A record takes an empty slot of the new table.
 module _ (n : ℕ) (MayBeEmpty : Peer → Type 0) (st : State) (r : Rec) (bucket : ℕ) (but : IsMidway n MayBeEmpty st) (has : Contains st.records r) (untried : is_tried r ≡ false)
-    (room : HasRoom r) (below : bucket < 1024) (empty : new_occupant st bucket (new_slot st.places r.peer bucket) ≡ None) where
+    (room : HasRoom r) (below : bucket < 1024) (empty : new_rec_at st bucket (new_slot st.places r.peer bucket) ≡ None) where
   pub given : Rec
   given = placed r (New (with_bucket bucket (buckets_of r)))
 
@@ -58,7 +58,7 @@ module _ (n : ℕ) (MayBeEmpty : Peer → Type 0) (st : State) (r : Rec) (bucket
 
 -- the state is sound again if that record is the exempt one
 pub give-sound : (st : State) (r : Rec) (bucket : ℕ) → IsSoundBut r.number st → Contains st.records r → is_tried r ≡ false → HasRoom r → bucket < 1024
-    → new_occupant st bucket (new_slot st.places r.peer bucket) ≡ None → IsSound (give_bucket st r bucket)
+    → new_rec_at st bucket (new_slot st.places r.peer bucket) ≡ None → IsSound (give_bucket st r bucket)
 give-sound st r bucket but has untried room below empty =
     sound_from_but r.number (give_bucket st r bucket) (give-keeps r.number Never st r bucket but has untried room below empty)
     (λ q c own. ⊎_elim (λ is. subst IsRec is (IsRec-with_bucket r bucket room below)) (λ h. absurd (h.1 own))
@@ -78,7 +78,7 @@ module _ (n : ℕ) (MayBeEmpty : Peer → Type 0) (st : State) (r : Rec) (bucket
 
 -- The occupant of a slot leaves it, and is deleted if that was its last.
 module _ (n : ℕ) (MayBeEmpty : Peer → Type 0) (st : State) (occupant : Rec) (bucket slot : ℕ) (but : IsMidway n MayBeEmpty st)
-    (is : new_occupant st bucket slot ≡ Some occupant) (fits : IsRec occupant) where
+    (is : new_rec_at st bucket slot ≡ Some occupant) (fits : IsRec occupant) where
   there : Contains st.records occupant × (is_new_at st.places bucket slot occupant ≡ true)
   there = find-Some (is_new_at st.places bucket slot) st.records occupant is
 
@@ -89,12 +89,12 @@ module _ (n : ℕ) (MayBeEmpty : Peer → Type 0) (st : State) (occupant : Rec) 
   only : (q : Rec) → Contains st.records q → is_new_at st.places bucket slot q ≡ true → q.number ≡ occupant.number
   only q c at = but.new_slots bucket slot q occupant c there.0 at there.1
 
-  pub delete-empties : new_occupant (delete st occupant) bucket slot ≡ None
+  pub delete-empties : new_rec_at (delete st occupant) bucket slot ≡ None
   delete-empties =
       find_none_from (is_new_at st.places bucket slot) (delete st occupant).records
       (λ q c at. let h = without_number-cases occupant.number st.records q c in h.1 (only q h.0 at))
 
-  pub take-empties : new_occupant (take_bucket st occupant bucket) bucket slot ≡ None
+  pub take-empties : new_rec_at (take_bucket st occupant bucket) bucket slot ≡ None
   take-empties =
       find_none_from (is_new_at st.places bucket slot) (take_bucket st occupant bucket).records
       (λ q c at. ⊎_elim
@@ -115,7 +115,7 @@ module _ (n : ℕ) (MayBeEmpty : Peer → Type 0) (st : State) (occupant : Rec) 
 
 -- a record takes the slot of an occupant that makes way
 pub evict-sound : (st : State) (r occupant : Rec) (bucket : ℕ) → IsSoundBut r.number st → Contains st.records r → is_tried r ≡ false → HasRoom r → bucket < 1024
-    → new_occupant st bucket (new_slot st.places r.peer bucket) ≡ Some occupant → r.number ≢ occupant.number → IsSound (give_bucket (clear_slot st occupant bucket) r bucket)
+    → new_rec_at st bucket (new_slot st.places r.peer bucket) ≡ Some occupant → r.number ≢ occupant.number → IsSound (give_bucket (clear_slot st occupant bucket) r bucket)
 evict-sound st r occupant bucket but has untried room below is other =
     by (length (without_bucket bucket (buckets_of occupant)) == 0) (clear_slot-keeps r.number Never st occupant bucket slot but is fits)
   where
@@ -139,7 +139,7 @@ evict-sound st r occupant bucket but has untried room below is other =
 -- one fits as it is.
 pub enter-sound : (st : State) (now : ℕ) (r : Rec) (is_new : Bool) (source : Address) → IsSoundBut r.number st → Contains st.records r → is_tried r ≡ false → HasRoom r
     → (is_new ≡ true → buckets_of r ≡ []) → (is_new ≡ false → IsRec r) → IsSound (enter_bucket st now r is_new source).state
-enter-sound st now r is_new source but has untried room none fits = by (new_occupant st bucket (new_slot st.places r.peer bucket)) refl
+enter-sound st now r is_new source but has untried room none fits = by (new_rec_at st bucket (new_slot st.places r.peer bucket)) refl
   where
     bucket : ℕ
     bucket = new_bucket st.places r.peer source
@@ -152,7 +152,7 @@ enter-sound st now r is_new source but has untried room none fits = by (new_occu
     as_it_was old = sound_from_but r.number st but (λ q c own. subst IsRec (same_record st.records r q but.listed.rising has c (sym own)) (fits old))
 
     -- a record made for this entry is not the occupant of a slot
-    own : (occupant : Rec) → new_occupant st bucket (new_slot st.places r.peer bucket) ≡ Some occupant → occupant.number ≡ r.number → (b : Bool) → is_new ≡ b → IsSound st
+    own : (occupant : Rec) → new_rec_at st bucket (new_slot st.places r.peer bucket) ≡ Some occupant → occupant.number ≡ r.number → (b : Bool) → is_new ≡ b → IsSound st
     own occupant is same true new =
         let h = find-Some (is_new_at st.places bucket (new_slot st.places r.peer bucket)) st.records occupant is in
         let one = same_record st.records occupant r but.listed.rising h.0 has same in
@@ -166,13 +166,13 @@ enter-sound st now r is_new source but has untried room none fits = by (new_occu
         (λ q c same. absurd ((without_number-cases r.number st.records q c).1 same))
     stays false old = as_it_was old
 
-    taken : (occupant : Rec) → new_occupant st bucket (new_slot st.places r.peer bucket) ≡ Some occupant
+    taken : (occupant : Rec) → new_rec_at st bucket (new_slot st.places r.peer bucket) ≡ Some occupant
         → (same way : Bool) → (occupant.number == r.number) ≡ same
         → IsSound (if same then no st else if way then yes (give_bucket (clear_slot st occupant bucket) r bucket) else no (if is_new then delete st r else st)).state
     taken occupant is true way same = own occupant is ((Decides-eqb occupant.number r.number).0 same) is_new refl
     taken occupant is false true other = evict-sound st r occupant bucket but has untried room below is (λ same. eqb-false _ _ other (sym same))
     taken occupant is false false other = stays is_new refl
 
-    by : (o : Option Rec) → new_occupant st bucket (new_slot st.places r.peer bucket) ≡ o → IsSound (enter_slot st now r is_new bucket o).state
+    by : (o : Option Rec) → new_rec_at st bucket (new_slot st.places r.peer bucket) ≡ o → IsSound (enter_slot st now r is_new bucket o).state
     by None is = give-sound st r bucket but has untried room below is
     by (Some occupant) is = taken occupant is (occupant.number == r.number) (makes_way occupant r now) refl

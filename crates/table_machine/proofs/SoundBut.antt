@@ -7,7 +7,7 @@ use Rattle.net_addr.specs.declared.peer.Peer.{Peer}
 use Rattle.placing.specs.Places.{Places, tried_bucket}
 use Rattle.peer_rec.specs.Rec.{IsRec}
 use Rattle.peer_rec.specs.declared.rec.Rec.{Rec}
-use Rattle.table_machine.specs.State.{State, find_number, is_new_at, is_tried_at, opponent_of}
+use Rattle.table_machine.specs.State.{State, by_number, is_new_at, is_tried_at, tried_occupant}
 use Rattle.table_machine.specs.Sound.{AreInRange, AreListed, AreCollisions, AtMostOne, HasOpponent, IsSound}
 use Rattle.table_machine.proofs.Lists.{All-from_Contains, find-Some, find-IsSome}
 use Rattle.table_machine.proofs.Records.{find-number, number_found, own_slot}
@@ -47,11 +47,11 @@ IsSoundBut n st = IsMidway n Never st
 -- that the tried slots of collisions are occupied, from searches to membership and back
 rivals_from_opponents : (st : State) → IsSound st → (r : Rec) → Contains st.records r → Contains st.collisions r.number → HasRival st.places st.records r.peer
 rivals_from_opponents st sound r c waits =
-    by (opponent_of st r.peer) refl
-    (subst (λ o. IfSome o (λ q. IsSome (opponent_of st q.peer))) (find-number st.records r sound.rising c)
+    by (tried_occupant st r.peer) refl
+    (subst (λ o. IfSome o (λ q. IsSome (tried_occupant st q.peer))) (find-number st.records r sound.rising c)
     (All-contains (HasOpponent st) st.collisions r.number sound.opponents waits))
   where
-    by : (o : Option Rec) → opponent_of st r.peer ≡ o → IsSome o → HasRival st.places st.records r.peer
+    by : (o : Option Rec) → tried_occupant st r.peer ≡ o → IsSome o → HasRival st.places st.records r.peer
     by None found some = absurd (true≢false (sym some))
     by (Some q) found some = let h = find-Some (is_at_own st.places r.peer) st.records q found in (q, h.0, h.1)
 
@@ -59,9 +59,9 @@ opponents_from_rivals : (st : State) → ((r : Rec) → Contains st.records r �
 opponents_from_rivals st rivals = All-from_Contains (HasOpponent st) st.collisions each
   where
     each : (n : ℕ) → Contains st.collisions n → HasOpponent st n
-    each n waits = by (find_number st n) refl
+    each n waits = by (by_number st n) refl
       where
-        by : (o : Option Rec) → find_number st n ≡ o → IfSome o (λ q. IsSome (opponent_of st q.peer))
+        by : (o : Option Rec) → by_number st n ≡ o → IfSome o (λ q. IsSome (tried_occupant st q.peer))
         by None found = tt
         by (Some r) found =
             let h = number_found st.records n r found in

@@ -8,7 +8,7 @@ use Rattle.placing.specs.Places.{Places, new_slot, tried_bucket, tried_slot}
 use Rattle.peer_rec.specs.Rec.{IsRec, is_tried}
 use Rattle.peer_rec.specs.declared.rec.Rec.{Rec}
 use Rattle.peer_rec.specs.declared.place.Place.TheVariants.{New, Tried}
-use Rattle.table_machine.specs.State.{State, is_new_at, is_tried_at, new_occupant, opponent_of}
+use Rattle.table_machine.specs.State.{State, is_new_at, is_tried_at, new_rec_at, tried_occupant}
 use Rattle.table_machine.specs.Entries.{with_record}
 use Rattle.table_machine.specs.Sound.{IsSound}
 use Rattle.table_machine.proofs.Lists.{find-None, none_in_nil, Contains-cases}
@@ -28,7 +28,7 @@ bare-keeps MayBeEmpty st r but has untried =
 
 -- a record in tried goes back to an empty slot of the new table, and its tried slot may be empty
 pub back-keeps : (n : ℕ) (MayBeEmpty : Peer → Type 0) (st : State) (r : Rec) (bucket : ℕ) → IsMidway n MayBeEmpty st → Contains st.records r → IsRec r → bucket < 1024
-    → new_occupant st bucket (new_slot st.places r.peer bucket) ≡ None → ((p : Peer) → IsAtTried st p r → MayBeEmpty p)
+    → new_rec_at st bucket (new_slot st.places r.peer bucket) ≡ None → ((p : Peer) → IsAtTried st p r → MayBeEmpty p)
     → IsMidway n MayBeEmpty (with_record st (placed r (New (bucket ∷ []))))
 back-keeps n MayBeEmpty st r bucket but has fits below empty opens =
     change-keeps n MayBeEmpty st r (placed r (New (bucket ∷ []))) but has refl refl
@@ -54,7 +54,7 @@ SharesTried places p q =
 
 -- a record takes its tried slot, which is empty, and the state is sound again
 pub take_tried-sound : (st : State) (r : Rec) → IsMidway r.number (SharesTried st.places r.peer) st → Contains st.records r → is_tried r ≡ false
-    → IsRec (placed r Tried) → opponent_of st r.peer ≡ None
+    → IsRec (placed r Tried) → tried_occupant st r.peer ≡ None
     → IsSound (with_record st (placed r Tried))
 take_tried-sound st r but has untried fits empty =
     sound_from_midway r.number (SharesTried st.places r.peer) (with_record st (placed r Tried))

@@ -8,7 +8,7 @@ use Rattle.peer_rec.specs.declared.good.Good.TheVariants.{Already, Clash, Moved,
 use Rattle.peer_rec.specs.declared.rec.Rec.{Rec}
 use Rattle.peer_rec.specs.declared.place.Place.{Place}
 use Rattle.peer_rec.specs.declared.place.Place.TheVariants.{New, Tried}
-use Rattle.table_machine.specs.State.{State, new_occupant, opponent_of}
+use Rattle.table_machine.specs.State.{State, new_rec_at, tried_occupant}
 use Rattle.table_machine.specs.Entries.{with_record}
 use Rattle.table_machine.specs.Tried.{after_try, attempt, back_to_new, clear_new, displace, good, good_known, move_to_tried, good_outcome, still_connected, wait, with_services}
 use Rattle.table_machine.specs.Clashes.{clash_pick, fate_against, resolve}
@@ -54,10 +54,10 @@ abbrev goes_back : State → Rec → ℕ → Option Rec → State
 goes_back st old bucket occupant = with_record (clear_new st bucket occupant) (record old { place = New (bucket ∷ []) })
 
 goes_back-is : (st : State) (old : Rec)
-    → back_to_new st old ≡ goes_back st old (new_bucket st.places old.peer old.source) (new_occupant st (new_bucket st.places old.peer old.source) (new_slot st.places old.peer (new_bucket st.places old.peer old.source)))
+    → back_to_new st old ≡ goes_back st old (new_bucket st.places old.peer old.source) (new_rec_at st (new_bucket st.places old.peer old.source) (new_slot st.places old.peer (new_bucket st.places old.peer old.source)))
 goes_back-is st old = refl
 
-displaces : (st : State) (r old : Rec) → opponent_of (with_record st (record r { place = New [] })) r.peer ≡ Some old
+displaces : (st : State) (r old : Rec) → tried_occupant (with_record st (record r { place = New [] })) r.peer ≡ Some old
     → move_to_tried st r ≡ with_record (back_to_new (with_record st (record r { place = New [] })) old) (record r { place = Tried })
 displaces st r old is = ap (λ o. with_record (displace (with_record st (record r { place = New [] })) o) (record r { place = Tried })) is
 
@@ -77,7 +77,7 @@ two_buckets_stays : places (after_displacing (three (New (5 ∷ 7 ∷ []))) (rec
 two_buckets_stays = refl
 
 -- with testing a record becomes a collision if its slot is occupied, and without testing it moves
-waits_for_slot : (st : State) (r old : Rec) → is_tried r ≡ false → opponent_of st r.peer ≡ Some old → good_known st r true ≡ good_outcome Clash (wait st r.number)
+waits_for_slot : (st : State) (r old : Rec) → is_tried r ≡ false → tried_occupant st r.peer ≡ Some old → good_known st r true ≡ good_outcome Clash (wait st r.number)
 waits_for_slot st r old untried is = rw (untried, is) refl
 
 moves_without_testing : (st : State) (r : Rec) → is_tried r ≡ false → good_known st r false ≡ good_outcome Moved (move_to_tried st r)

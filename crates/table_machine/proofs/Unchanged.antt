@@ -10,7 +10,7 @@ use Rattle.peer_rec.specs.Rec.{buckets_of, is_tried}
 use Rattle.peer_rec.specs.declared.rec.Rec.{Rec}
 use Rattle.peer_rec.specs.declared.good.Good.TheVariants.{Already, Clash, Moved}
 use Rattle.peer_rec.specs.declared.place.Place.TheVariants.{New, Tried}
-use Rattle.table_machine.specs.State.{State, find_peer, new_occupant, opponent_of}
+use Rattle.table_machine.specs.State.{State, find_peer, new_rec_at, tried_occupant}
 use Rattle.table_machine.specs.Entries.{add, delete, take_bucket, with_record}
 use Rattle.table_machine.specs.Tried.{after_success, after_try, attempt, back_to_new, clear_new, connected, displace, good, good_by, mark, move_to_tried, good_outcome, set_services, still_connected, wait, with_services}
 use Rattle.table_machine.proofs.Buckets.{placed}
@@ -33,7 +33,7 @@ add-collisions st now entry source penalty word = (add-rest st now entry source 
 
 -- a move to tried
 back-rest : (st : State) (r : Rec) → SameRest st (back_to_new st r)
-back-rest st r = by (new_occupant st bucket (new_slot st.places r.peer bucket))
+back-rest st r = by (new_rec_at st bucket (new_slot st.places r.peer bucket))
   where
     bucket : ℕ
     bucket = new_bucket st.places r.peer r.source
@@ -47,7 +47,7 @@ back-rest st r = by (new_occupant st bucket (new_slot st.places r.peer bucket))
     by (Some occupant) = cleared occupant (length (without_bucket bucket (buckets_of occupant)) == 0)
 
 move-rest : (st : State) (r : Rec) → SameRest st (move_to_tried st r)
-move-rest st r = by (opponent_of left r.peer)
+move-rest st r = by (tried_occupant left r.peer)
   where
     left : State
     left = with_record st (placed r (New []))
@@ -96,7 +96,7 @@ good-rest st now peer testing = by (find_peer later peer) refl
     reached_at : Rec → State
     reached_at r = with_record later (after_success r now)
 
-    known : (r : Rec) → find_peer st peer ≡ Some r → (tried blocked : Bool) → (testing && is_some (opponent_of (reached_at r) r.peer)) ≡ blocked
+    known : (r : Rec) → find_peer st peer ≡ Some r → (tried blocked : Bool) → (testing && is_some (tried_occupant (reached_at r) r.peer)) ≡ blocked
         → IsReached st now peer testing (if tried then good_outcome Already (reached_at r) else if blocked then good_outcome Clash (wait (reached_at r) r.number) else good_outcome Moved (move_to_tried (reached_at r) (after_success r now))).state
     known r found true blocked h = record { places = refl; collisions = inl refl; last_good = refl; next_number = refl }
     known r found false true h =
@@ -104,7 +104,7 @@ good-rest st now peer testing = by (find_peer later peer) refl
         let of : State → List ℕ = λ s. s.collisions in
         record {
           places = ap (λ (s : State). s.places) is;
-          collisions = inr (r, found, (and_parts testing (is_some (opponent_of (reached_at r) r.peer)) h).0, ap of is ∙ sym (ap of (wait-is st r.number)));
+          collisions = inr (r, found, (and_parts testing (is_some (tried_occupant (reached_at r) r.peer)) h).0, ap of is ∙ sym (ap of (wait-is st r.number)));
           last_good = ap (λ (s : State). s.last_good) is;
           next_number = ap (λ (s : State). s.next_number) is;
         }
@@ -115,7 +115,7 @@ good-rest st now peer testing = by (find_peer later peer) refl
     by : (o : Option Rec) → find_peer later peer ≡ o → IsReached st now peer testing (good_by o later now testing).state
     by None missing = record { places = refl; collisions = inl refl; last_good = refl; next_number = refl }
     by (Some r) found =
-        known r found (is_tried r) (testing && is_some (opponent_of (reached_at r) r.peer)) refl
+        known r found (is_tried r) (testing && is_some (tried_occupant (reached_at r) r.peer)) refl
 
 pub good-next : (st : State) (now : ℕ) (peer : Peer) (testing : Bool) → (good st now peer testing).state.next_number ≡ st.next_number
 good-next st now peer testing = (good-rest st now peer testing).next_number

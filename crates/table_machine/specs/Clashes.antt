@@ -6,7 +6,7 @@ use Rattle.std.specs.Prelude.{ℕ, ◌+◌, ◌%◌, List, [], ◌∷◌, length
 use Rattle.net_addr.specs.declared.peer.Peer.{Peer}
 use Rattle.peer_rec.specs.declared.rec.Rec.{Rec}
 use Rattle.peer_rec.specs.declared.resolved.Resolved.{Resolved}
-use Rattle.table_machine.specs.State.{State, find_number, opponent_of}
+use Rattle.table_machine.specs.State.{State, by_number, tried_occupant}
 use Rattle.table_machine.specs.Tried.{good}
 
 -- a collision is dropped
@@ -38,7 +38,7 @@ fate_by newcomer (Some occupant) now = fate_against newcomer occupant now
 -- a collision is dropped if its record was deleted
 abbrev pub fate_of : State → Option Rec → ℕ → Fate
 fate_of st None now = Erased
-fate_of st (Some newcomer) now = fate_by newcomer (opponent_of st newcomer.peer) now
+fate_of st (Some newcomer) now = fate_by newcomer (tried_occupant st newcomer.peer) now
 
 -- a newcomer that is in the tried table already only gets the marks of a success
 abbrev pub move_in : State → Option Rec → ℕ → State
@@ -69,7 +69,7 @@ with_fate fate rest = record { answer = one_more fate rest.answer; state = rest.
 abbrev pub resolve_all : State → ℕ → List ℕ → Resolution
 resolve_all st now [] = record { answer = record { erased = 0; moved = 0; kept = 0 }; state = st }
 resolve_all st now (number ∷ numbers) =
-    let newcomer = find_number st number in
+    let newcomer = by_number st number in
     let fate = fate_of st newcomer now in
     with_fate fate (resolve_all (after_fate fate st newcomer number now) now numbers)
 
@@ -88,11 +88,11 @@ pick_opponent st (Some occupant) = record { answer = Some (occupant.peer, occupa
 
 abbrev pub pick_newcomer : State → ℕ → Option Rec → ClashPick
 pick_newcomer st number None = record { answer = None; state = erase_clash st number }
-pick_newcomer st number (Some newcomer) = pick_opponent st (opponent_of st newcomer.peer)
+pick_newcomer st number (Some newcomer) = pick_opponent st (tried_occupant st newcomer.peer)
 
 -- The random word draws a collision; the answer is the occupant of its slot. A collision whose
 -- record was deleted is dropped (`SelectTriedCollision_`).
 abbrev pub clash_pick : State → ℕ → ClashPick
 clash_pick st word =
     if length st.collisions == 0 then record { answer = None; state = st }
-    else (let number = get_or st.collisions (word % length st.collisions) 0 in pick_newcomer st number (find_number st number))
+    else (let number = get_or st.collisions (word % length st.collisions) 0 in pick_newcomer st number (by_number st number))

@@ -11,7 +11,7 @@ use Rattle.peer_rec.specs.Buckets.{with_bucket, without_bucket}
 use Rattle.peer_rec.specs.Deletion.{without_first}
 use Rattle.peer_rec.specs.declared.rec.Rec.{Rec}
 use Rattle.peer_rec.specs.declared.place.Place.TheVariants.{New}
-use Rattle.table_machine.specs.State.{State, find_peer, new_occupant}
+use Rattle.table_machine.specs.State.{State, find_peer, new_rec_at}
 
 -- an answer (whether an entry got a slot, or whether a peer is known), and the state afterwards
 pub record Outcome : Type 0 where
@@ -79,7 +79,7 @@ enter_slot st now r is_new bucket (Some occupant) = enter_occupied st now r is_n
 abbrev pub enter_bucket : State → ℕ → Rec → Bool → Address → Outcome
 enter_bucket st now r is_new source =
     let bucket = new_bucket st.places r.peer source in
-    enter_slot st now r is_new bucket (new_occupant st bucket (new_slot st.places r.peer bucket))
+    enter_slot st now r is_new bucket (new_rec_at st bucket (new_slot st.places r.peer bucket))
 
 -- An entry replaces the stored time if its own is later by more than this many seconds and the
 -- penalty: an hour if the entry's time is less than a day old, else a day.

@@ -11,7 +11,7 @@ use Rattle.peer_rec.specs.Rec.{chance, is_terrible, is_tried}
 use Rattle.peer_rec.specs.declared.picked.Picked.{Picked}
 use Rattle.peer_rec.specs.declared.picked.Picked.TheVariants.{One, Nothing, Exhausted}
 use Rattle.peer_rec.specs.declared.rec.Rec.{Rec}
-use Rattle.table_machine.specs.State.{State, find_number, new_occupant, tried_occupant}
+use Rattle.table_machine.specs.State.{State, by_number, new_rec_at, tried_rec_at}
 
 -- whether a network is the one asked for; if none is asked for, each is
 abbrev pub is_asked : Option Net → Net → Bool
@@ -34,8 +34,8 @@ wanted_tried st asked = count_by (λ r. is_tried r && is_wanted asked r) st.reco
 
 -- the record at a slot of a bucket, of the new table or of the tried table
 abbrev pub occupant_at : State → Bool → ℕ → ℕ → Option Rec
-occupant_at st true bucket slot = new_occupant st bucket slot
-occupant_at st false bucket slot = tried_occupant st bucket slot
+occupant_at st true bucket slot = new_rec_at st bucket slot
+occupant_at st false bucket slot = tried_rec_at st bucket slot
 
 abbrev pub bucket_count : Bool → ℕ
 bucket_count true = 1024
@@ -123,20 +123,20 @@ pub record Sample : Type 0 where
   pub state : State
 
 -- two positions of the order are exchanged
-abbrev pub exchange : State → ℕ → ℕ → State
-exchange st i j = record st { order = swap st.order i j }
+abbrev pub order_swap : State → ℕ → ℕ → State
+order_swap st i j = record st { order = swap st.order i j }
 
 -- whether a record may be in a sample: of the class, if one is asked for, and not terrible
 abbrev pub is_told : Option Net → ℕ → Rec → Bool
 is_told asked now r = is_asked asked (net_class r.peer.addr) && not (is_terrible r now)
 
 -- the record at a position of the order
-abbrev pub rec_at : State → ℕ → Option Rec
-rec_at st i = option_and_then (find_number st) (slice_get st.order i)
+abbrev pub order_at : State → ℕ → Option Rec
+order_at st i = option_and_then (by_number st) (slice_get st.order i)
 
 -- the peer at a position of the order, if its record may be in a sample
 abbrev pub told_at : State → Option Net → ℕ → ℕ → List Peer
-told_at st asked now i = map (λ r. r.peer) (filter (is_told asked now) (option_to_list (rec_at st i)))
+told_at st asked now i = map (λ r. r.peer) (filter (is_told asked now) (option_to_list (order_at st i)))
 
 -- the sample with some more peers before the rest
 abbrev pub with_told : List Peer → Sample → Sample
@@ -150,7 +150,7 @@ sample_from st asked now i left [] = record { peers = []; state = st }
 sample_from st asked now i left (word ∷ words) =
     if nat_lt i (length st.order) && nat_lt 0 left
     then (
-    let next = exchange st i (i + word % (length st.order - i)) in
+    let next = order_swap st i (i + word % (length st.order - i)) in
     let told = told_at next asked now i in
     with_told told (sample_from next asked now (i + 1) (left - length told) words))
     else record { peers = []; state = st }

@@ -5,7 +5,7 @@ use Rattle.net_addr.specs.Ranges.{is_valid}
 use Rattle.placing.specs.Places.{IsPlaces, Places}
 use Rattle.peer_rec.specs.Rec.{IsRec}
 use Rattle.peer_rec.specs.declared.rec.Rec.{Rec}
-use Rattle.table_machine.specs.State.{State, find_number, is_new_at, is_tried_at, opponent_of}
+use Rattle.table_machine.specs.State.{State, by_number, is_new_at, is_tried_at, tried_occupant}
 
 -- Each slot has at most one record: two records that is_at finds at one slot of one bucket have the
 -- same number.
@@ -15,7 +15,7 @@ AtMostOne is_at records = (bucket slot : ℕ) (r q : Rec) → Contains records r
 
 -- the tried slot of a collision is occupied
 abbrev pub HasOpponent : State → ℕ → Type 0
-HasOpponent st number = IfSome (find_number st number) (λ r. IsSome (opponent_of st r.peer))
+HasOpponent st number = IfSome (by_number st number) (λ r. IsSome (tried_occupant st r.peer))
 
 -- The order names each record once; peers are distinct and valid; numbers rise and are below the
 -- next number.

@@ -36,16 +36,16 @@ abbrev pub find_peer : State → Peer → Option Rec
 find_peer st peer = find (λ r. same_peer peer r.peer) st.records
 
 -- the record of the number
-abbrev pub find_number : State → ℕ → Option Rec
-find_number st number = find (λ r. r.number == number) st.records
+abbrev pub by_number : State → ℕ → Option Rec
+by_number st number = find (λ r. r.number == number) st.records
 
 -- the record is in the new table's bucket, at the slot
 abbrev pub is_new_at : Places → ℕ → ℕ → Rec → Bool
 is_new_at places bucket slot r = list_any (λ b. b == bucket) (buckets_of r) && new_slot places r.peer bucket == slot
 
 -- the record at the slot of the new table's bucket
-abbrev pub new_occupant : State → ℕ → ℕ → Option Rec
-new_occupant st bucket slot = find (is_new_at st.places bucket slot) st.records
+abbrev pub new_rec_at : State → ℕ → ℕ → Option Rec
+new_rec_at st bucket slot = find (is_new_at st.places bucket slot) st.records
 
 -- the record is in the tried table, at the slot of the bucket
 abbrev pub is_tried_at : Places → ℕ → ℕ → Rec → Bool
@@ -53,11 +53,11 @@ is_tried_at places bucket slot r =
     is_tried r && tried_bucket places r.peer == bucket && tried_slot places r.peer bucket == slot
 
 -- the record at the slot of the tried table's bucket
-abbrev pub tried_occupant : State → ℕ → ℕ → Option Rec
-tried_occupant st bucket slot = find (is_tried_at st.places bucket slot) st.records
+abbrev pub tried_rec_at : State → ℕ → ℕ → Option Rec
+tried_rec_at st bucket slot = find (is_tried_at st.places bucket slot) st.records
 
 -- the record at the peer's own slot of the tried table
-abbrev pub opponent_of : State → Peer → Option Rec
-opponent_of st peer =
+abbrev pub tried_occupant : State → Peer → Option Rec
+tried_occupant st peer =
     let bucket = tried_bucket st.places peer in
-    tried_occupant st bucket (tried_slot st.places peer bucket)
+    tried_rec_at st bucket (tried_slot st.places peer bucket)

@@ -10,7 +10,7 @@ use Rattle.peer_rec.specs.declared.good.Good.{Good}
 use Rattle.peer_rec.specs.declared.good.Good.TheVariants.{Unknown, Already, Clash, Moved}
 use Rattle.peer_rec.specs.declared.rec.Rec.{Rec}
 use Rattle.peer_rec.specs.declared.place.Place.TheVariants.{New, Tried}
-use Rattle.table_machine.specs.State.{State, find_peer, new_occupant, opponent_of}
+use Rattle.table_machine.specs.State.{State, find_peer, new_rec_at, tried_occupant}
 use Rattle.table_machine.specs.Entries.{Outcome, clear_slot, no, with_record, yes}
 
 -- a slot of the bucket is emptied: its occupant loses the bucket (`ClearNew`)
@@ -23,7 +23,7 @@ clear_new st bucket (Some occupant) = clear_slot st occupant bucket
 abbrev pub back_to_new : State → Rec → State
 back_to_new st r =
     let bucket = new_bucket st.places r.peer r.source in
-    with_record (clear_new st bucket (new_occupant st bucket (new_slot st.places r.peer bucket))) (record r { place = New (bucket ∷ []) })
+    with_record (clear_new st bucket (new_rec_at st bucket (new_slot st.places r.peer bucket))) (record r { place = New (bucket ∷ []) })
 
 -- the occupant of a tried slot, if there is one, goes back to the new table
 abbrev pub displace : State → Option Rec → State
@@ -35,7 +35,7 @@ displace st (Some old) = back_to_new st old
 abbrev pub move_to_tried : State → Rec → State
 move_to_tried st r =
     let left = with_record st (record r { place = New [] }) in
-    with_record (displace left (opponent_of left r.peer)) (record r { place = Tried })
+    with_record (displace left (tried_occupant left r.peer)) (record r { place = Tried })
 
 -- the answer to a success, and the state afterwards
 pub record GoodOutcome : Type 0 where
@@ -58,7 +58,7 @@ wait st number = if nat_lt (length st.collisions) 10 then record st { collisions
 abbrev pub good_known : State → Rec → Bool → GoodOutcome
 good_known st r testing =
     if is_tried r then good_outcome Already st
-    else if testing && is_some (opponent_of st r.peer) then good_outcome Clash (wait st r.number)
+    else if testing && is_some (tried_occupant st r.peer) then good_outcome Clash (wait st r.number)
     else good_outcome Moved (move_to_tried st r)
 
 abbrev pub good_by : Option Rec → State → ℕ → Bool → GoodOutcome

@@ -9,7 +9,7 @@ impl<'a, H: BuildHasher> Store<'a, H> {
     ghost use Rattle.std.specs.List.Sorted.{IsPermutation, IsNonDecreasingBy};
     ghost use Rattle.peer_rec.specs.Rec.{is_tried};
     ghost use Rattle.peer_index.specs.Order.{records};
-    ghost use Rattle.table_machine.specs.Picks.{exchange, is_wanted};
+    ghost use Rattle.table_machine.specs.Picks.{order_swap, is_wanted};
     ghost use Rattle.tables.specs.Inside.{IsStore, SameRest, is_wanted_in, state_of};
 
     /// Returns the record at a position of the order.
@@ -95,7 +95,7 @@ impl<'a, H: BuildHasher> Store<'a, H> {
         requires first { i < length self.old.index }
         requires second { j < length self.old.index }
         ensures stored { IsStore self.new }
-        ensures state { state_of self.new ≡ exchange (state_of self.old) i j }
+        ensures state { state_of self.new ≡ order_swap (state_of self.old) i j }
         ensures rest { SameRest self.old self.new }
     {
         self.index.swap(i, j);

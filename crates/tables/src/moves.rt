@@ -12,7 +12,7 @@ impl<'a, H: BuildHasher> Store<'a, H> {
     ghost use Rattle.peer_rec.specs.declared.place.Place.TheVariants.{New, Tried};
     ghost use Rattle.slot_grid.specs.Slots.{new_id, tried_id};
     ghost use Rattle.peer_index.specs.Order.{SameOthers, rec_of};
-    ghost use Rattle.table_machine.specs.State.{new_occupant, tried_occupant};
+    ghost use Rattle.table_machine.specs.State.{new_rec_at, tried_rec_at};
     ghost use Rattle.table_machine.specs.Sound.{IsSound};
     ghost use Rattle.table_machine.specs.Entries.{with_record};
     ghost use Rattle.table_machine.specs.Tried.{back_to_new, clear_new, displace, move_to_tried, good, good_by, good_outcome};
@@ -123,7 +123,7 @@ impl<'a, H: BuildHasher> Store<'a, H> {
         requires slot { slot < 64 }
         ensures stored { IsStore self.new }
         ensures state { state_of self.new
-            ≡ displace (state_of self.old) (tried_occupant (state_of self.old) bucket slot) }
+            ≡ displace (state_of self.old) (tried_rec_at (state_of self.old) bucket slot) }
         ensures empty { tried_id self.new.grid bucket slot ≡ None }
         ensures bare { SameBare self.old.index self.new.index }
         ensures rest { SameRest self.old self.new }
@@ -162,7 +162,7 @@ impl<'a, H: BuildHasher> Store<'a, H> {
         requires slot { slot < 64 }
         ensures stored { IsStore self.new }
         ensures state { state_of self.new
-            ≡ clear_new (state_of self.old) bucket (new_occupant (state_of self.old) bucket slot) }
+            ≡ clear_new (state_of self.old) bucket (new_rec_at (state_of self.old) bucket slot) }
         ensures empty { new_id self.new.grid bucket slot ≡ None }
         ensures unlisted { SameUnlisted self.old.index self.new.index }
         ensures rest { SameRest self.old self.new }

@@ -71,12 +71,12 @@ impl<'a, H: BuildHasher> Tables<'a, H> {
     ghost use Rattle.peer_rec.specs.Rec.{buckets_of, is_tried};
     ghost use Rattle.peer_index.specs.Order.{Order, IsOrder, records};
     ghost use Rattle.tables.specs.Parts.{AreOf};
-    ghost use Rattle.table_machine.specs.State.{State, empty_state, find_peer, find_number, new_occupant, tried_occupant, opponent_of};
+    ghost use Rattle.table_machine.specs.State.{State, empty_state, find_peer, by_number, new_rec_at, tried_rec_at, tried_occupant};
     ghost use Rattle.table_machine.specs.Sound.{IsSound};
     ghost use Rattle.table_machine.specs.Entries.{add};
     ghost use Rattle.table_machine.specs.Tried.{good, attempt, connected, set_services};
     ghost use Rattle.table_machine.specs.Clashes.{erase_clash};
-    ghost use Rattle.table_machine.specs.Picks.{exchange, wanted_new, wanted_tried};
+    ghost use Rattle.table_machine.specs.Picks.{order_swap, wanted_new, wanted_tried};
 
     /// Returns the number of the next record. Records are numbered in the order in which they are
     /// made, and no number is used twice.
@@ -194,7 +194,7 @@ impl<'a, H: BuildHasher> Tables<'a, H> {
     pub fn order_at(&self, position: usize) -> &Rec
         requires { position < length self.now.order }
         ensures number { slice_get self.now.order position ≡ Some result.now.number }
-        ensures found { find_number self.now result.now.number ≡ Some result.now }
+        ensures found { by_number self.now result.now.number ≡ Some result.now }
     {
         let id = self.store.index.at(position);
         self.store.index.get(id)
@@ -205,7 +205,7 @@ impl<'a, H: BuildHasher> Tables<'a, H> {
     pub fn new_rec_at(&self, bucket: u16, slot: u8) -> Option<&Rec>
         requires bucket { bucket < 1024 }
         requires slot { slot < 64 }
-        ensures { option_map (λ r. r.now) result ≡ new_occupant self.now bucket slot }
+        ensures { option_map (λ r. r.now) result ≡ new_rec_at self.now bucket slot }
     {
         match self.store.grid.new_at(bucket, slot) {
             Some(id) => Some(self.store.index.get(id)),
@@ -218,7 +218,7 @@ impl<'a, H: BuildHasher> Tables<'a, H> {
     pub fn tried_rec_at(&self, bucket: u16, slot: u8) -> Option<&Rec>
         requires bucket { bucket < 256 }
         requires slot { slot < 64 }
-        ensures { option_map (λ r. r.now) result ≡ tried_occupant self.now bucket slot }
+        ensures { option_map (λ r. r.now) result ≡ tried_rec_at self.now bucket slot }
     {
         match self.store.grid.tried_at(bucket, slot) {
             Some(id) => Some(self.store.index.get(id)),
@@ -228,7 +228,7 @@ impl<'a, H: BuildHasher> Tables<'a, H> {
 
     /// Returns the record in the slot of `peer` in the tried table, or `None` if the slot is empty.
     pub fn tried_occupant(&self, peer: &Peer) -> Option<&Rec>
-        ensures { option_map (λ r. r.now) result ≡ opponent_of self.now peer.now }
+        ensures { option_map (λ r. r.now) result ≡ tried_occupant self.now peer.now }
     {
         let bucket = self.store.placer.tried_bucket(peer);
         let slot = self.store.placer.tried_slot(peer, bucket);
@@ -238,7 +238,7 @@ impl<'a, H: BuildHasher> Tables<'a, H> {
     /// Returns the record of a collision, by its number, or `None` if it was deleted.
     pub fn by_number(&self, number: u64) -> Option<&Rec>
         requires waits { Contains self.now.collisions number }
-        ensures { option_map (λ r. r.now) result ≡ find_number self.now number }
+        ensures { option_map (λ r. r.now) result ≡ by_number self.now number }
     {
         let peer = self.store.waiter(number)?.peer;
         let rec = self.find(&peer)?;
@@ -271,7 +271,7 @@ impl<'a, H: BuildHasher> Tables<'a, H> {
     pub fn order_swap(&mut self, i: usize, j: usize)
         requires first { i < length self.old.order }
         requires second { j < length self.old.order }
-        ensures state { self.new ≡ exchange self.old i j }
+        ensures state { self.new ≡ order_swap self.old i j }
         ensures sound { IsSound self.new }
     {
         self.store.swap(i, j);

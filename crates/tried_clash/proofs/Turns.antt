@@ -7,7 +7,7 @@ use Rattle.std.proofs.lemmas.Bool.Decides.{nat_tests}
 use Rattle.std.proofs.lemmas.List.Kept.{AllPairs-from_increasing}
 use Rattle.peer_rec.specs.declared.rec.Rec.{Rec}
 use Rattle.peer_rec.specs.declared.resolved.Resolved.{Resolved}
-use Rattle.table_machine.specs.State.{State, find_number}
+use Rattle.table_machine.specs.State.{State, by_number}
 use Rattle.net_addr.specs.declared.peer.Peer.{Peer}
 use Rattle.table_machine.specs.Sound.{IsSound}
 use Rattle.table_machine.specs.Tried.{good}
@@ -74,8 +74,8 @@ all_above : (n : ℕ) (ns : List ℕ) → IsStrictlyIncreasing (n ∷ ns) → Al
 all_above n ns rising k d within = AllPairs-from_increasing (n ∷ ns) rising 0 (suc k) d (omega arith) (omega arith)
 
 pub left-more : (old st : State) (now number : ℕ) (r : Resolved) (rest : List ℕ) (fate : Fate) → IsLeft old st now r (number ∷ rest)
-    → fate ≡ fate_of st (find_number st number) now
-    → IsLeft old (after_fate fate st (find_number st number) number now) now (one_more fate r) rest
+    → fate ≡ fate_of st (by_number st number) now
+    → IsLeft old (after_fate fate st (by_number st number) number now) now (one_more fate r) rest
 left-more old st now number r rest fate left is = record {
   whole =
       sym (one_turn fate r (resolve_all (after_fate fate st newcomer number now) now rest))
@@ -86,7 +86,7 @@ left-more old st now number r rest fate left is = record {
 }
   where
     newcomer : Option Rec
-    newcomer = find_number st number
+    newcomer = by_number st number
 
 pub one_more-counts : (fate : Fate) (r counts : Resolved) (i : ℕ) → counts ≡ one_more fate r → r.erased + r.moved + r.kept ≡ i
     → counts.erased + counts.moved + counts.kept ≡ i + 1
@@ -107,8 +107,8 @@ left-waits old st now i r ns xs same within left =
 
 pub left-next : (old st new : State) (now i : ℕ) (r counts : Resolved) (fate : Fate) (ns xs : List ℕ) → xs ≡ ns → i < length xs
     → IsLeft old st now r (drop i ns)
-    → (let number = get_or xs i 0 in fate ≡ fate_of st (find_number st number) now)
-    → (let number = get_or xs i 0 in new ≡ after_fate fate st (find_number st number) number now)
+    → (let number = get_or xs i 0 in fate ≡ fate_of st (by_number st number) now)
+    → (let number = get_or xs i 0 in new ≡ after_fate fate st (by_number st number) number now)
     → counts ≡ one_more fate r
     → IsLeft old new now counts (drop (i + 1) ns)
 left-next old st new now i r counts fate ns xs same within left is after more =

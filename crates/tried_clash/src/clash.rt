@@ -1,5 +1,5 @@
 ghost use Rattle.std.specs.Prelude.{◌≡◌, ◌%◌, ◌<◌, Contains, get_or, length};
-ghost use Rattle.table_machine.specs.State.{find_number};
+ghost use Rattle.table_machine.specs.State.{by_number};
 ghost use Rattle.table_machine.specs.Sound.{IsSound};
 ghost use Rattle.table_machine.specs.Clashes.{clash_pick, pick_newcomer};
 
@@ -36,8 +36,8 @@ fn drawn(numbers: &[u64], word: u64) -> u64
 /// Returns the occupant of the slot that a collision waits for, by the collision's number.
 fn opponent<H: BuildHasher>(tables: &mut Tables<'_, H>, number: u64) -> Option<(Peer, u32)>
     requires waits { Contains tables.old.collisions number }
-    ensures answer { result ≡ (pick_newcomer tables.old number (find_number tables.old number)).answer }
-    ensures state { tables.new ≡ (pick_newcomer tables.old number (find_number tables.old number)).state }
+    ensures answer { result ≡ (pick_newcomer tables.old number (by_number tables.old number)).answer }
+    ensures state { tables.new ≡ (pick_newcomer tables.old number (by_number tables.old number)).state }
 {
     let peer = tables.by_number(number).map(|newcomer| newcomer.peer);
     match peer {

@@ -1,5 +1,5 @@
 ghost use Rattle.std.specs.Prelude.{◌≡◌, Contains};
-ghost use Rattle.table_machine.specs.State.{find_number};
+ghost use Rattle.table_machine.specs.State.{by_number};
 ghost use Rattle.table_machine.specs.Sound.{IsSound};
 ghost use Rattle.table_machine.specs.Clashes.{after_fate, fate_of, move_in, resolve};
 ghost use Rattle.tried_clash.specs.Fates.{meant};
@@ -45,8 +45,8 @@ fn waiting<H: BuildHasher>(tables: &Tables<'_, H>) -> ArrayVec<u64, 10>
 /// Decides on one collision.
 fn settle<H: BuildHasher>(tables: &mut Tables<'_, H>, number: u64, now: u32) -> Fate
     requires waits { Contains tables.old.collisions number }
-    ensures fate { meant result ≡ fate_of tables.old (find_number tables.old number) now }
-    ensures state { tables.new ≡ after_fate (meant result) tables.old (find_number tables.old number) number now }
+    ensures fate { meant result ≡ fate_of tables.old (by_number tables.old number) now }
+    ensures state { tables.new ≡ after_fate (meant result) tables.old (by_number tables.old number) number now }
 {
     let fate = fate_of(tables, number, now);
     match fate {
@@ -63,7 +63,7 @@ fn settle<H: BuildHasher>(tables: &mut Tables<'_, H>, number: u64, now: u32) -> 
 /// Returns the fate of a collision, by its number.
 fn fate_of<H: BuildHasher>(tables: &Tables<'_, H>, number: u64, now: u32) -> Fate
     requires waits { Contains tables.now.collisions number }
-    ensures { meant result ≡ fate_of tables.now (find_number tables.now number) now }
+    ensures { meant result ≡ fate_of tables.now (by_number tables.now number) now }
 {
     match tables.by_number(number) {
         None => Fate::Erased,
@@ -77,7 +77,7 @@ fn fate_of<H: BuildHasher>(tables: &Tables<'_, H>, number: u64, now: u32) -> Fat
 /// Moves the record of a collision to its slot of the tried table.
 fn move_in<H: BuildHasher>(tables: &mut Tables<'_, H>, number: u64, now: u32)
     requires waits { Contains tables.old.collisions number }
-    ensures state { tables.new ≡ move_in tables.old (find_number tables.old number) now }
+    ensures state { tables.new ≡ move_in tables.old (by_number tables.old number) now }
     ensures waiting { tables.new.collisions ≡ tables.old.collisions }
 {
     let peer = tables.by_number(number).map(|newcomer| newcomer.peer);
