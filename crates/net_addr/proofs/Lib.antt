@@ -1,4 +1,5 @@
 pub mod Bits
+pub mod NetSets
 pub mod Bytes
 pub mod Examples
 pub mod Numbers

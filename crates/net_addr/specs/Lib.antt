@@ -4,3 +4,5 @@ pub mod OldForm
 pub mod Text
 pub mod Inside
 pub mod Same
+pub mod NetSet
+pub mod NetBits

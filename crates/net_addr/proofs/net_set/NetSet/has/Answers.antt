@@ -1,0 +1,7 @@
+use Rattle.std.proofs.Common.{◌≡◌, ◌/◌, ◌^◌, ◌==◌, ℕ, bit_and, sym, subst, rules}
+use Rattle.net_addr.specs.NetSet.{has}
+use Rattle.net_addr.proofs.NetSets.{has-nets_of}
+use Rattle.net_addr.proofs.net_set.NetSet.has.Goals as goal
+
+pub returns : goal.returns
+returns c = search (rules, has-nets_of c.self.inside.bits c.args.net)
