@@ -4,14 +4,13 @@ use Rattle.std.proofs.Common.{◌≡◌, ◌≢◌, ℕ, ◌+◌, ◌-◌, ◌%�
 use Rattle.std.proofs.lemmas.Bool.{and_parts, eqb-false, ltb-true}
 use Rattle.std.proofs.lemmas.Bool.Decides.{Decides-eqb}
 use Rattle.std.proofs.lemmas.Nat.{mod_below}
-use Rattle.net_addr.specs.declared.net.Net.{Net}
 use Rattle.net_addr.specs.declared.peer.Peer.{Peer}
 use Rattle.peer_rec.specs.declared.rec.Rec.{Rec}
 use Rattle.table_machine.specs.State.{State, by_number, tried_occupant}
 use Rattle.table_machine.specs.Tried.{good}
 use Rattle.table_machine.specs.Clashes.{Fate, after_fate, clash_pick, erase_clash, fate_of, pick_newcomer, pick_opponent, resolve, resolve_all}
 use Rattle.table_machine.specs.Clashes.Fate.{Erased, Kept, Moved}
-use Rattle.table_machine.specs.Picks.{Sample, order_swap, sample, sample_from, sample_limit, told_at, with_told}
+use Rattle.table_machine.specs.Picks.{Sample, order_swap, sample, sample_from, sample_limit, eligible_at, with_peers}
 use Rattle.table_machine.specs.Sound.{IsSound}
 use Rattle.table_machine.proofs.Exchanged.{erase_clash-sound, order_swap-sound}
 use Rattle.table_machine.proofs.Kept.{KeepsPeers, good-keeps_peers}
@@ -123,37 +122,37 @@ clash_pick-None st word sound = by (length st.collisions == 0) (by_number st num
 
 -- A reflexive and transitive relation holds over a sample if it holds over an exchange in the
 -- order.
-module _ (asked : Option Net) (now : ℕ) (R : State → State → Type 0) (itself : (st : State) → R st st)
+module _ (classes : List ℕ) (now : ℕ) (R : State → State → Type 0) (itself : (st : State) → R st st)
     (chain : (old middle new : State) → R old middle → R middle new → R old new)
     (exchanges : (st : State) (i j : ℕ) → i < length st.order → j < length st.order → R st (order_swap st i j)) where
-  sample_from-along : (st : State) (i left : ℕ) (words : List ℕ) → R st (sample_from st asked now i left words).state
+  sample_from-along : (st : State) (i left : ℕ) (words : List ℕ) → R st (sample_from st classes now i left words).state
   sample_from-along st i left [] = itself st
   sample_from-along st i left (word ∷ words) =
-      by (nat_lt i (length st.order) && nat_lt 0 left) refl (sample_from-along next (i + 1) (left - length (told_at next asked now i)) words)
+      by (nat_lt i (length st.order) && nat_lt 0 left) refl (sample_from-along next (i + 1) (left - length (eligible_at next classes now i)) words)
     where
       next : State
       next = order_swap st i (i + word % (length st.order - i))
 
       rest : Sample
-      rest = sample_from next asked now (i + 1) (left - length (told_at next asked now i)) words
+      rest = sample_from next classes now (i + 1) (left - length (eligible_at next classes now i)) words
 
       by : (goes : Bool) → (nat_lt i (length st.order) && nat_lt 0 left) ≡ goes → R next rest.state
-          → R st (if goes then with_told (told_at next asked now i) rest else record { peers = []; state = st }).state
+          → R st (if goes then with_peers (eligible_at next classes now i) rest else record { peers = []; state = st }).state
       by true h more =
           let first : i < length st.order = ltb-true i (length st.order) (and_parts (nat_lt i (length st.order)) (nat_lt 0 left) h).0 in
           let draw = mod_below word (length st.order - i) (omega arith) in
           chain st next rest.state (exchanges st i (i + word % (length st.order - i)) first (omega arith)) more
       by false h more = itself st
 
-pub sample-sound : (st : State) (most percent : ℕ) (asked : Option Net) (words : List ℕ) (now : ℕ) → IsSound st → IsSound (sample st most percent asked words now).state
-sample-sound st most percent asked words now =
-    sample_from-along asked now (λ old new. IsSound old → IsSound new) (λ s is. is) (λ old middle new first second is. second (first is))
+pub sample-sound : (st : State) (most percent : ℕ) (classes : List ℕ) (words : List ℕ) (now : ℕ) → IsSound st → IsSound (sample st most percent classes words now).state
+sample-sound st most percent classes words now =
+    sample_from-along classes now (λ old new. IsSound old → IsSound new) (λ s is. is) (λ old middle new first second is. second (first is))
     (λ s i j first second is. order_swap-sound s i j is first second) st 0 (sample_limit (length st.order) most percent) words
 
-pub sample-keeps_numbers : (st : State) (most percent : ℕ) (asked : Option Net) (words : List ℕ) (now : ℕ) → KeepsNumbers st (sample st most percent asked words now).state
-sample-keeps_numbers st most percent asked words now =
-    sample_from-along asked now KeepsNumbers keeps_numbers-itself keeps_numbers-chain
+pub sample-keeps_numbers : (st : State) (most percent : ℕ) (classes : List ℕ) (words : List ℕ) (now : ℕ) → KeepsNumbers st (sample st most percent classes words now).state
+sample-keeps_numbers st most percent classes words now =
+    sample_from-along classes now KeepsNumbers keeps_numbers-itself keeps_numbers-chain
     (λ s i j first second. keeps_numbers-itself s) st 0 (sample_limit (length st.order) most percent) words
 
-pub sample-next : (st : State) (most percent : ℕ) (asked : Option Net) (words : List ℕ) (now : ℕ) → (sample st most percent asked words now).state.next_number ≡ st.next_number
-sample-next st most percent asked words now = (sample-keeps_numbers st most percent asked words now).0
+pub sample-next : (st : State) (most percent : ℕ) (classes : List ℕ) (words : List ℕ) (now : ℕ) → (sample st most percent classes words now).state.next_number ≡ st.next_number
+sample-next st most percent classes words now = (sample-keeps_numbers st most percent classes words now).0

@@ -3,6 +3,7 @@
 use Rattle.std.proofs.Common.{◌≡◌, ℕ, ◌+◌, ◌-◌, ◌^◌, ◌==◌, Bool, true, false, List, [], ◌∷◌, filter_map, map, find, replicate, Option, None, Some, refl, if◌then◌else◌}
 use Rattle.std.specs.List.{range_with_len}
 use Rattle.net_addr.specs.Address.{Address}
+use Rattle.net_addr.specs.NetSet.{all, none, with}
 use Rattle.net_addr.specs.OldForm.{address}
 use Rattle.net_addr.specs.Ranges.{in_range}
 use Rattle.net_addr.specs.declared.net.Net.{Net}
@@ -12,8 +13,12 @@ use Rattle.peer_rec.specs.declared.picked.Picked.TheVariants.{One, Nothing, Exha
 use Rattle.peer_rec.specs.declared.rec.Rec.{Rec}
 use Rattle.peer_rec.specs.declared.place.Place.TheVariants.{New, Tried}
 use Rattle.table_machine.specs.State.{State}
-use Rattle.table_machine.specs.Picks.{first_accepted, first_factor, first_wanted, is_accepted, is_wanted, network_of, next_factor, occupant_at, sample, sample_limit, select, slots_from}
+use Rattle.table_machine.specs.Picks.{first_accepted, first_factor, first_candidate, is_accepted, is_wanted, network_of, next_factor, occupant_at, sample, sample_limit, select, slots_from}
 use Rattle.table_machine.proofs.ExampleStates.{failed, now, peer, state}
+
+-- the set of one network
+abbrev only : Net → List ℕ
+only net = with none net
 
 abbrev onion : Address
 onion = address Onion (replicate 32 0xab)
@@ -36,38 +41,63 @@ occupants slot =
     else if slot == 63 then Some (failed 2 3 0 Tried)
     else None
 
-abbrev first_of : (ℕ → Option Rec) → Option Net → ℕ → Option Rec
-first_of occupant asked start = find (is_wanted asked) (filter_map occupant (slots_from start))
+abbrev first_of : (ℕ → Option Rec) → List ℕ → ℕ → Option Rec
+first_of occupant nets start = find (is_wanted nets) (filter_map occupant (slots_from start))
 
-first_wanted-is : (st : State) (in_new : Bool) (asked : Option Net) (bucket start : ℕ)
-    → first_wanted st in_new asked bucket start ≡ first_of (occupant_at st in_new bucket) asked start
-first_wanted-is st in_new asked bucket start = refl
+first_candidate-is : (st : State) (in_new : Bool) (nets : List ℕ) (bucket start : ℕ)
+    → first_candidate st in_new nets bucket start ≡ first_of (occupant_at st in_new bucket) nets start
+first_candidate-is st in_new nets bucket start = refl
 
-abbrev first_of_bucket : Option Net → ℕ → Option Rec
-first_of_bucket asked start = first_of occupants asked start
+abbrev first_of_bucket : List ℕ → ℕ → Option Rec
+first_of_bucket nets start = first_of occupants nets start
 
-at_its_slot : first_of_bucket None 5 ≡ Some (failed 0 1 0 Tried)
+at_its_slot : first_of_bucket all 5 ≡ Some (failed 0 1 0 Tried)
+unfolding in_range
 at_its_slot = refl
 
-last_slot : first_of_bucket None 41 ≡ Some (failed 2 3 0 Tried)
+last_slot : first_of_bucket all 41 ≡ Some (failed 2 3 0 Tried)
+unfolding in_range
 last_slot = refl
 
-of_the_network : first_of_bucket (Some Ipv4) 6 ≡ Some (failed 2 3 0 Tried)
+of_the_network : first_of_bucket (only Ipv4) 6 ≡ Some (failed 2 3 0 Tried)
 unfolding in_range
 of_the_network = refl
 
-goes_round : first_of_bucket (Some Onion) 41 ≡ Some (record (failed 1 2 0 Tried) { peer = record { addr = onion; port = 2 } })
+goes_round : first_of_bucket (only Onion) 41 ≡ Some (record (failed 1 2 0 Tried) { peer = record { addr = onion; port = 2 } })
 unfolding in_range
 goes_round = refl
 
-none_of_the_network : first_of_bucket (Some Cjdns) 0 ≡ None
+none_of_the_network : first_of_bucket (only Cjdns) 0 ≡ None
 unfolding in_range
 none_of_the_network = refl
 
--- the network of an address that is not routable
-private_address : network_of (record (failed 0 1 0 Tried) { peer = record { addr = address Ipv4 (10 ∷ 0 ∷ 0 ∷ 1 ∷ []); port = 1 } }) ≡ Unroutable
+of_either_network : first_of_bucket (with (only Onion) Cjdns) 6 ≡ Some (record (failed 1 2 0 Tried) { peer = record { addr = onion; port = 2 } })
 unfolding in_range
-private_address = refl
+of_either_network = refl
+
+of_no_network : first_of_bucket none 0 ≡ None
+unfolding in_range
+of_no_network = refl
+
+-- a set is a rising list, in whatever order its networks are added
+sets : with (only Onion) Ipv4 ∷ with (only Ipv4) Onion ∷ with (only Onion) Onion ∷ [] ≡ (1 ∷ 3 ∷ []) ∷ (1 ∷ 3 ∷ []) ∷ (3 ∷ []) ∷ []
+sets = refl
+
+-- a record whose address is not routable is of no named network, and of all
+abbrev private : Rec
+private = record (failed 0 1 0 Tried) { peer = record { addr = address Ipv4 (10 ∷ 0 ∷ 0 ∷ 1 ∷ []); port = 1 } }
+
+private_network : network_of private ≡ Unroutable
+unfolding in_range
+private_network = refl
+
+private_wanted : map (λ nets. is_wanted nets private) (all ∷ only Unroutable ∷ only Ipv4 ∷ []) ≡ true ∷ true ∷ false ∷ []
+unfolding in_range
+private_wanted = refl
+
+private_only : select (state (private ∷ []) (0 ∷ []) [] 20) false (only Ipv4) (1 ∷ 2 ∷ 3 ∷ []) now ≡ Nothing
+unfolding in_range
+private_only = refl
 
 -- At the first factor a record that failed once is accepted by the words whose low 30 bits are
 -- below its chance, and one with no failure by each word.
@@ -92,20 +122,22 @@ second_accepted : first_accepted now first_factor twice ≡ One (peer 2) 1699996
 second_accepted = refl
 
 -- no record is wanted, and the words are too few
-nothing_known : select (state [] [] [] 20) false None (1 ∷ 2 ∷ 3 ∷ 4 ∷ []) now ≡ Nothing
+nothing_known : select (state [] [] [] 20) false all (1 ∷ 2 ∷ 3 ∷ 4 ∷ []) now ≡ Nothing
 nothing_known = refl
 
-only_tried : select (state (failed 0 1 0 Tried ∷ []) (0 ∷ []) [] 20) true None (1 ∷ 2 ∷ 3 ∷ []) now ≡ Nothing
+only_tried : select (state (failed 0 1 0 Tried ∷ []) (0 ∷ []) [] 20) true all (1 ∷ 2 ∷ 3 ∷ []) now ≡ Nothing
 only_tried = refl
 
-other_network : select (state (failed 0 1 0 Tried ∷ []) (0 ∷ []) [] 20) false (Some Onion) (1 ∷ 2 ∷ 3 ∷ []) now ≡ Nothing
+other_network : select (state (failed 0 1 0 Tried ∷ []) (0 ∷ []) [] 20) false (only Onion) (1 ∷ 2 ∷ 3 ∷ []) now ≡ Nothing
 unfolding in_range
 other_network = refl
 
-no_words : select (state (failed 0 1 0 (New (3 ∷ [])) ∷ failed 1 2 0 Tried ∷ []) (0 ∷ 1 ∷ []) [] 20) false None [] now ≡ Exhausted
+no_words : select (state (failed 0 1 0 (New (3 ∷ [])) ∷ failed 1 2 0 Tried ∷ []) (0 ∷ 1 ∷ []) [] 20) false all [] now ≡ Exhausted
+unfolding in_range
 no_words = refl
 
-two_words : select (state (failed 0 1 0 (New (3 ∷ [])) ∷ []) (0 ∷ []) [] 20) false None (3 ∷ 5 ∷ []) now ≡ Exhausted
+two_words : select (state (failed 0 1 0 (New (3 ∷ [])) ∷ []) (0 ∷ []) [] 20) false all (3 ∷ 5 ∷ []) now ≡ Exhausted
+unfolding in_range
 two_words = refl
 
 -- how many of 1001 records a sample has at most: all, or a part in percent
@@ -120,24 +152,27 @@ part_and_number = refl
 abbrev two : State
 two = state (failed 0 1 0 Tried ∷ failed 1 2 0 Tried ∷ []) (0 ∷ 1 ∷ []) [] 20
 
-both_peers : (sample two 0 0 None (1 ∷ 7 ∷ []) now).peers ≡ peer 2 ∷ peer 1 ∷ []
+both_peers : (sample two 0 0 all (1 ∷ 7 ∷ []) now).peers ≡ peer 2 ∷ peer 1 ∷ []
+unfolding in_range
 both_peers = refl
 
-order_stays_swapped : (sample two 0 0 None (1 ∷ 7 ∷ []) now).state.order ≡ 1 ∷ 0 ∷ []
+order_stays_swapped : (sample two 0 0 all (1 ∷ 7 ∷ []) now).state.order ≡ 1 ∷ 0 ∷ []
+unfolding in_range
 order_stays_swapped = refl
 
 -- a terrible record is passed over and does not count
 abbrev terrible_first : State
 terrible_first = state (failed 0 1 3 Tried ∷ failed 1 2 0 Tried ∷ []) (0 ∷ 1 ∷ []) [] 20
 
-terrible_passed_over : (sample terrible_first 1 0 None (2 ∷ 7 ∷ []) now).peers ≡ peer 2 ∷ []
+terrible_passed_over : (sample terrible_first 1 0 all (2 ∷ 7 ∷ []) now).peers ≡ peer 2 ∷ []
+unfolding in_range
 terrible_passed_over = refl
 
--- no record has the class that is asked for, and the words still exchange positions
-none_of_the_class : (sample two 0 0 (Some Onion) (1 ∷ 7 ∷ []) now).peers ≡ []
+-- no record has a class of the set, and the words still exchange positions
+none_of_the_class : (sample two 0 0 (only Onion) (1 ∷ 7 ∷ []) now).peers ≡ []
 unfolding in_range
 none_of_the_class = refl
 
-order_still_exchanged : (sample two 0 0 (Some Onion) (1 ∷ 7 ∷ []) now).state.order ≡ 1 ∷ 0 ∷ []
+order_still_exchanged : (sample two 0 0 (only Onion) (1 ∷ 7 ∷ []) now).state.order ≡ 1 ∷ 0 ∷ []
 unfolding in_range
 order_still_exchanged = refl
