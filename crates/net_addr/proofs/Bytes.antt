@@ -1,7 +1,7 @@
--- Lists of four and sixteen bytes, and addresses.
-use Rattle.std.proofs.Common.{◌≡◌, ℕ, suc, ◌<◌, true, false, List, [], ◌∷◌, length, get_or, take, drop, All, Bool, cond, replicate, ◌≢◌, refl, ap, ◌∙◌, arith, rules, inl, inr}
+-- The bytes of addresses.
+use Rattle.std.proofs.Common.{◌≡◌, ℕ, suc, ◌<◌, true, false, List, [], ◌∷◌, length, take, drop, All, Bool, cond, replicate, ◌≢◌, refl, ap, ◌∙◌, arith, rules, inl, inr}
 use Rattle.std.proofs.lemmas.Bool.{cases_lt}
-use Rattle.std.proofs.lemmas.List.{get_or_past, drop_more, drop_all, take_all, length-drop}
+use Rattle.std.proofs.lemmas.List.{get_or_past, take_all, length-drop}
 use Rattle.std.proofs.lemmas.List.Elements.{All-drop}
 use Rattle.net_addr.specs.Address.{IsAddress, length_of, is_old_form, begins_with, mapped_prefix, internal_prefix, torv2_prefix}
 use Rattle.net_addr.specs.OldForm.{address, from_v1}
@@ -11,10 +11,6 @@ use Rattle.net_addr.specs.declared.address.Bytes.TheVariants as B
 use Rattle.net_addr.specs.declared.net.Net.{Net}
 use Rattle.net_addr.specs.declared.net.Net.TheVariants.{Unroutable, Ipv4, Ipv6, Onion, I2p, Cjdns, Internal}
 use Rattle.net_addr.proofs.Bits.{AllBytes}
-
-pub last_four : (xs : List ℕ) → length xs ≡ 16 → drop 12 xs ≡ get_or xs 12 0 ∷ get_or xs 13 0 ∷ get_or xs 14 0 ∷ get_or xs 15 0 ∷ []
-last_four xs h =
-    drop_more xs 12 0 (omega arith) ∙ ap (λ t. get_or xs 12 0 ∷ t) (drop_more xs 13 0 (omega arith) ∙ ap (λ t. get_or xs 13 0 ∷ t) (drop_more xs 14 0 (omega arith) ∙ ap (λ t. get_or xs 14 0 ∷ t) (drop_more xs 15 0 (omega arith) ∙ ap (λ t. get_or xs 15 0 ∷ t) (drop_all 16 xs (omega arith)))))
 
 -- each element is below 256
 pub All_bytes : (xs : List ℕ) → AllBytes xs → All (λ b. b < 256) xs

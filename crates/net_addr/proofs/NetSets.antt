@@ -1,5 +1,5 @@
 -- Sets of networks and the bits that they are stored in.
-use Rattle.std.proofs.Common.{◌≡◌, ℕ, ◌+◌, ◌*◌, ◌/◌, ◌%◌, ◌^◌, ◌<◌, Bool, true, false, cond, ◌&&◌, ◌||◌, ◌==◌, nat_lt, List, [], ◌∷◌, filter, bit_and, bit_or, refl, sym, ap, subst, ◌∙◌, arith}
+use Rattle.std.proofs.Common.{◌≡◌, ℕ, ◌*◌, ◌/◌, ◌%◌, ◌^◌, ◌<◌, Bool, true, false, cond, ◌&&◌, ◌||◌, ◌==◌, nat_lt, List, [], ◌∷◌, filter, bit_and, bit_or, refl, sym, ap, subst, ◌∙◌}
 use Rattle.std.specs.Int.{bit_at}
 use Rattle.std.specs.List.{list_any}
 use Rattle.std.specs.Str.{bytes_eq}
@@ -37,20 +37,27 @@ has_number-filter p number (x ∷ xs) =
     ∙ ap (λ b. ((x == number) && p x) || b) (has_number-filter p number xs)
     ∙ filter_step (x == number) (has_number xs number) (p number) (p x) (λ same. ap p ((Decides-eqb x number).0 same))
 
+-- each network is one of all
+has_number-all : (net : Net) (p : Bool) → (has_number all (number_of net) && p) ≡ p
+has_number-all Unroutable p = refl
+has_number-all Ipv4 p = refl
+has_number-all Ipv6 p = refl
+has_number-all Onion p = refl
+has_number-all I2p p = refl
+has_number-all Cjdns p = refl
+has_number-all Internal p = refl
+
+-- a set with one more network has that network, and of the others those that it had
+pub has-with : (nets : List ℕ) (net other : Net) → has (with nets net) other ≡ (has nets other || number_of other == number_of net)
+has-with nets net other =
+    let p : ℕ → Bool = λ n. has_number nets n || n == number_of net in
+    has_number-filter p (number_of other) all ∙ has_number-all other (p (number_of other))
+
 -- a network is in the set if its bit is set
 pub has-nets_of : (bits : ℕ) (net : Net) → (bit_and (bits / 2 ^ number_of net) 1 == 1) ≡ has (nets_of bits) net
 has-nets_of bits net =
     ap (λ b. b == 1) (shr_and_one bits (number_of net))
-    ∙ sym (has_number-filter (λ n. bit_at bits n == 1) (number_of net) all ∙ known net)
-  where
-    known : (net : Net) → (has_number all (number_of net) && (bit_at bits (number_of net) == 1)) ≡ (bit_at bits (number_of net) == 1)
-    known Unroutable = refl
-    known Ipv4 = refl
-    known Ipv6 = refl
-    known Onion = refl
-    known I2p = refl
-    known Cjdns = refl
-    known Internal = refl
+    ∙ sym (has_number-filter (λ n. bit_at bits n == 1) (number_of net) all ∙ has_number-all net (bit_at bits (number_of net) == 1))
 
 abbrev bits_with : ℕ → ℕ → ℕ
 bits_with number bits = bit_or bits (1 * 2 ^ number % 256)

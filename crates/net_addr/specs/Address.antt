@@ -30,15 +30,15 @@ number_of I2p = 4
 number_of Cjdns = 5
 number_of Internal = 6
 
--- what an IPv4 address begins with in the old sixteen-byte form (`IPV4_IN_IPV6_PREFIX`)
+-- the prefix of an IPv4 address in the old sixteen-byte form (`IPV4_IN_IPV6_PREFIX`)
 abbrev pub mapped_prefix : List ℕ
 mapped_prefix = 0 ∷ 0 ∷ 0 ∷ 0 ∷ 0 ∷ 0 ∷ 0 ∷ 0 ∷ 0 ∷ 0 ∷ 0xff ∷ 0xff ∷ []
 
--- what an internal name begins with there (`INTERNAL_IN_IPV6_PREFIX`)
+-- the prefix of an internal name there (`INTERNAL_IN_IPV6_PREFIX`)
 abbrev pub internal_prefix : List ℕ
 internal_prefix = 0xfd ∷ 0x6b ∷ 0x88 ∷ 0xc0 ∷ 0x87 ∷ 0x24 ∷ []
 
--- what a Tor v2 address began with there (`TORV2_IN_IPV6_PREFIX`)
+-- the prefix of a Tor v2 address there (`TORV2_IN_IPV6_PREFIX`)
 abbrev pub torv2_prefix : List ℕ
 torv2_prefix = 0xfd ∷ 0x87 ∷ 0xd8 ∷ 0x7e ∷ 0xeb ∷ 0x43 ∷ []
 

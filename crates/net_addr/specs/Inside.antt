@@ -9,7 +9,7 @@ use Rattle.net_addr.specs.declared.net.Net.TheVariants.{Unroutable, Ipv4, Ipv6, 
 abbrev address : Net → List ℕ → Address
 address net bytes = record { net = net; bytes = bytes }
 
--- the address that is stored so
+-- the address that has these bytes
 abbrev pub address_of : Bytes → Address
 address_of (B.Ipv4 bytes) = address Ipv4 bytes
 address_of (B.Ipv6 bytes) = address Ipv6 bytes
@@ -31,24 +31,18 @@ bytes_by Internal bytes = B.Internal bytes
 abbrev pub bytes_of : Address → Bytes
 bytes_of a = bytes_by a.net a.bytes
 
--- the network's addresses are written as a label and hexadecimal digits
+-- the network's addresses are printed as a label and hexadecimal digits
 abbrev pub HasLabel : Net → Type 0
 HasLabel Onion = Unit {0}
 HasLabel I2p = Unit {0}
 HasLabel Cjdns = Unit {0}
 HasLabel Internal = Unit {0}
-HasLabel Unroutable = ⊥
-HasLabel Ipv4 = ⊥
-HasLabel Ipv6 = ⊥
+HasLabel other = ⊥
 
 -- an IPv6 value is not the old form of another address
 abbrev pub IsOwnForm : Bytes → Type 0
 IsOwnForm (B.Ipv6 bytes) = is_old_form bytes ≡ false
-IsOwnForm (B.Ipv4 bytes) = Unit {0}
-IsOwnForm (B.Onion bytes) = Unit {0}
-IsOwnForm (B.I2p bytes) = Unit {0}
-IsOwnForm (B.Cjdns bytes) = Unit {0}
-IsOwnForm (B.Internal bytes) = Unit {0}
+IsOwnForm other = Unit {0}
 
 pub bytes_of-address_of : (b : Bytes) → bytes_of (address_of b) ≡ b
 bytes_of-address_of (B.Ipv4 bytes) = refl

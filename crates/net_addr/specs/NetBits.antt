@@ -1,5 +1,5 @@
 -- How a set of networks is stored: one bit for each network.
-use Rattle.std.specs.Prelude.{◌≡◌, ℕ, ◌^◌, ◌<◌, List, filter, sum_by, length, Bool, true, ◌==◌, get_or, refl}
+use Rattle.std.specs.Prelude.{◌≡◌, ℕ, ◌^◌, ◌<◌, List, filter, sum_by, length, Bool, true, ◌==◌, refl}
 use Rattle.std.specs.List.{list_all, range_with_len}
 use Rattle.std.specs.Int.{bit_at}
 use Rattle.std.proofs.Common.{subst, sym, zero-add, ◌∙◌}

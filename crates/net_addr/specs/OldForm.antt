@@ -2,13 +2,13 @@
 use Rattle.std.specs.Prelude.{ℕ, ◌/◌, ◌%◌, List, [], ◌∷◌, ◌++◌, drop, replicate, Option, Some, None, unwrap_or, if◌then◌else◌}
 use Rattle.net_addr.specs.Address.{Address, begins_with, mapped_prefix, internal_prefix, torv2_prefix}
 use Rattle.net_addr.specs.declared.net.Net.{Net}
-use Rattle.net_addr.specs.declared.net.Net.TheVariants.{Unroutable, Ipv4, Ipv6, Onion, I2p, Cjdns, Internal}
+use Rattle.net_addr.specs.declared.net.Net.TheVariants.{Ipv4, Ipv6, Internal}
 use Rattle.net_addr.specs.declared.peer.Peer.{Peer}
 
 abbrev pub address : Net → List ℕ → Address
 address net bytes = record { net = net; bytes = bytes }
 
--- the address that sixteen bytes gave in messages before BIP 155 (`CNetAddr::SetLegacyIPv6`); a Tor v2
+-- the address of sixteen bytes in messages before BIP 155 (`CNetAddr::SetLegacyIPv6`); a Tor v2
 -- address becomes the IPv6 address `::`
 abbrev pub from_v1 : List ℕ → Address
 from_v1 bytes =
@@ -21,10 +21,7 @@ abbrev pub v1_by : Net → List ℕ → Option (List ℕ)
 v1_by Ipv4 bytes = Some (mapped_prefix ++ bytes)
 v1_by Ipv6 bytes = Some bytes
 v1_by Internal bytes = Some (internal_prefix ++ bytes)
-v1_by Unroutable bytes = None
-v1_by Onion bytes = None
-v1_by I2p bytes = None
-v1_by Cjdns bytes = None
+v1_by other bytes = None
 
 -- the sixteen bytes of the old form, if the address has one (`CNetAddr::SerializeV1Array`)
 abbrev pub v1_bytes : Address → Option (List ℕ)

@@ -1,4 +1,4 @@
--- The tests of an address, by the bits that it begins with.
+-- The tests of an address, by its first bits.
 use Rattle.std.specs.Prelude.{ℕ, ◌-◌, List, [], ◌∷◌, take, drop, map, Bool, true, false, ◌&&◌, ◌||◌, not, ◌==◌, Option, Some, None, is_some, if◌then◌else◌}
 use Rattle.std.specs.Int.{bit_at}
 use Rattle.std.specs.List.{flat_map, starts_with, list_any}
@@ -68,13 +68,12 @@ abbrev pub cjdns_range : Range
 cjdns_range = range (0xfc ∷ []) 8
 
 abbrev pub valid_by : Net → List ℕ → Bool
-valid_by Unroutable bytes = false
 valid_by Ipv4 bytes = not (in_some ipv4_invalid bytes)
 valid_by Ipv6 bytes = not (in_some ipv6_invalid bytes)
 valid_by Onion bytes = true
 valid_by I2p bytes = true
 valid_by Cjdns bytes = in_range cjdns_range bytes
-valid_by Internal bytes = false
+valid_by other bytes = false
 
 -- `CNetAddr::IsValid`
 abbrev pub is_valid : Address → Bool
@@ -83,11 +82,7 @@ is_valid a = valid_by a.net a.bytes
 abbrev pub local_by : Net → List ℕ → Bool
 local_by Ipv4 bytes = in_some ipv4_local bytes
 local_by Ipv6 bytes = in_some ipv6_local bytes
-local_by Unroutable bytes = false
-local_by Onion bytes = false
-local_by I2p bytes = false
-local_by Cjdns bytes = false
-local_by Internal bytes = false
+local_by other bytes = false
 
 -- `CNetAddr::IsLocal`
 abbrev pub is_local : Address → Bool
@@ -96,11 +91,7 @@ is_local a = local_by a.net a.bytes
 abbrev pub reserved_by : Net → List ℕ → Bool
 reserved_by Ipv4 bytes = in_some ipv4_reserved bytes
 reserved_by Ipv6 bytes = in_some ipv6_reserved bytes
-reserved_by Unroutable bytes = false
-reserved_by Onion bytes = false
-reserved_by I2p bytes = false
-reserved_by Cjdns bytes = false
-reserved_by Internal bytes = false
+reserved_by other bytes = false
 
 -- `CNetAddr::IsRoutable`
 abbrev pub is_routable : Address → Bool
@@ -120,7 +111,7 @@ six_to_four = range (0x20 ∷ 0x02 ∷ []) 16
 abbrev pub teredo : Range
 teredo = range (0x20 ∷ 0x01 ∷ 0 ∷ 0 ∷ []) 32
 
--- the IPv4 address that an IPv6 address carries, by its range: the last four bytes, the four bytes
+-- the IPv4 address that an IPv6 address embeds, by its range: the last four bytes, the four bytes
 -- after the first two, or the complement of the last four
 abbrev pub carried : List ℕ → Option (List ℕ)
 carried bytes =
@@ -132,13 +123,9 @@ carried bytes =
 abbrev pub linked_by : Net → List ℕ → Option (List ℕ)
 linked_by Ipv4 bytes = Some bytes
 linked_by Ipv6 bytes = carried bytes
-linked_by Unroutable bytes = None
-linked_by Onion bytes = None
-linked_by I2p bytes = None
-linked_by Cjdns bytes = None
-linked_by Internal bytes = None
+linked_by other bytes = None
 
--- the four bytes of the IPv4 address that a routable address is or carries
+-- the four bytes of the IPv4 address that a routable address is or embeds
 -- (`CNetAddr::HasLinkedIPv4`, `GetLinkedIPv4`)
 abbrev pub linked_ipv4 : Address → Option (List ℕ)
 linked_ipv4 a = if is_routable a then linked_by a.net a.bytes else None
@@ -146,11 +133,8 @@ linked_ipv4 a = if is_routable a then linked_by a.net a.bytes else None
 abbrev pub class_by : Net → Address → Net
 class_by Internal a = Internal
 class_by Unroutable a = Unroutable
-class_by Ipv4 a = if is_routable a then Ipv4 else Unroutable
 class_by Ipv6 a = if is_routable a then (if is_some (linked_ipv4 a) then Ipv4 else Ipv6) else Unroutable
-class_by Onion a = if is_routable a then Onion else Unroutable
-class_by I2p a = if is_routable a then I2p else Unroutable
-class_by Cjdns a = if is_routable a then Cjdns else Unroutable
+class_by other a = if is_routable a then other else Unroutable
 
 -- the network that an address is reached through (`CNetAddr::GetNetClass`)
 abbrev pub net_class : Address → Net

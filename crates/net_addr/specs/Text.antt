@@ -1,4 +1,4 @@
--- The text of addresses and peers: how each is printed, and which texts are read.
+-- The text of addresses and peers: how each is printed, and which texts parse as one.
 use Rattle.std.specs.Prelude.{◌≡◌, ◌≢◌, ℕ, ◌^◌, ◌<◌, List, [], ◌++◌, map, All, codes, decimal, Ok}
 use Rattle.std.specs.Int.{w32, w128, to_be_bytes}
 use Rattle.std.specs.List.{join_with_byte}
@@ -21,24 +21,19 @@ ipv4_text bytes = join_with_byte 46 (map decimal bytes)
 abbrev pub ipv6_text : List ℕ → List ℕ
 ipv6_text bytes = hex_groups_text (segments_of bytes)
 
--- the label before the hexadecimal digits of an address; none for networks written otherwise
+-- the label before the hexadecimal digits of an address, for the networks that have one
 abbrev pub label_of : Net → List ℕ
 label_of Onion = codes "onion:"
 label_of I2p = codes "i2p:"
 label_of Cjdns = codes "cjdns:"
 label_of Internal = codes "internal:"
-label_of Unroutable = []
-label_of Ipv4 = []
-label_of Ipv6 = []
+label_of other = []
 
 abbrev pub text_by : Net → List ℕ → List ℕ
 text_by Ipv4 bytes = ipv4_text bytes
 text_by Ipv6 bytes = codes "[" ++ ipv6_text bytes ++ codes "]"
-text_by Onion bytes = label_of Onion ++ encode_lower bytes
-text_by I2p bytes = label_of I2p ++ encode_lower bytes
-text_by Cjdns bytes = label_of Cjdns ++ encode_lower bytes
-text_by Internal bytes = label_of Internal ++ encode_lower bytes
 text_by Unroutable bytes = []
+text_by other bytes = label_of other ++ encode_lower bytes
 
 -- how an address is printed
 abbrev pub addr_text : Address → List ℕ
@@ -52,10 +47,10 @@ peer_text p = addr_text p.addr ++ codes ":" ++ decimal p.port
 abbrev pub IsIpv4Text : List ℕ → ℕ → Type 0
 IsIpv4Text text bits = (bits < 2 ^ 32) × (text ≡ ipv4_text (to_be_bytes w32 bits))
 
--- a text that is read as an IPv6 address of 128 bits. Groups of one to four hexadecimal digits, in
--- either case, are divided by colons, and one `::` may replace a zero group or more (forms 1 and
--- 2 of RFC 4291, 2.2). Form 3, whose last two groups are an IPv4 address, is not read, so the text
--- has no dot
+-- a text that parses as an IPv6 address of 128 bits. Groups of one to four hexadecimal digits, in
+-- either case, are separated by colons, and one `::` may replace a zero group or more (forms 1 and
+-- 2 of RFC 4291, 2.2). Form 3, whose last two groups are an IPv4 address, is not accepted, so the
+-- text has no dot
 pub record IsIpv6Text (text : List ℕ) (bits : ℕ) : Type 0 where
   pub small : bits < 2 ^ 128
   pub groups : IsColonHex text (segments_of (to_be_bytes w128 bits))
@@ -72,8 +67,8 @@ pub record IsHexText (net : Net) (text : List ℕ) (a : Address) : Type 0 where
   pub spelled : text ≡ label_of net ++ digits
   pub hex : IsHexOf net digits a
 
--- an IPv6 text in square brackets; its bytes are read by the old form, so that a mapped IPv4
--- address is that IPv4 address
+-- an IPv6 text in square brackets; its bytes are in the old form, so that a mapped IPv4 address is
+-- that IPv4 address
 pub record IsBracketText (text : List ℕ) (a : Address) : Type 0 where
   pub inner : List ℕ
   pub bits : ℕ
@@ -87,7 +82,7 @@ pub record IsDottedText (text : List ℕ) (a : Address) : Type 0 where
   pub bits_text : IsIpv4Text text bits
   pub address : a ≡ address Ipv4 (to_be_bytes w32 bits)
 
--- a text that is read as the address
+-- a text that parses as the address
 pub data IsAddrText (text : List ℕ) (a : Address) : Type 0 where
   dotted : IsDottedText text a → IsAddrText text a
   bracketed : IsBracketText text a → IsAddrText text a
@@ -96,7 +91,7 @@ pub data IsAddrText (text : List ℕ) (a : Address) : Type 0 where
   cjdns : IsHexText Cjdns text a → IsAddrText text a
   internal : IsHexText Internal text a → IsAddrText text a
 
--- a text that is read as the peer: an address, a colon, and a port of 16 bits
+-- a text that parses as the peer: an address, a colon, and a port of 16 bits
 pub record IsPeerText (text : List ℕ) (p : Peer) : Type 0 where
   pub addr : List ℕ
   pub addr_text : IsAddrText addr p.addr

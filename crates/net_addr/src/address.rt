@@ -1,5 +1,4 @@
-ghost use Rattle.std.specs.Prelude.{◌≡◌, ◌<◌, ◌++◌, length, take, All};
-ghost use Rattle.net_addr.specs.Address.{mapped_prefix, internal_prefix};
+ghost use Rattle.std.specs.Prelude.{◌≡◌, ◌<◌, length, All};
 
 use crate::Net;
 use crate::old_form::{
@@ -26,7 +25,7 @@ impl Bytes {
     ghost use Rattle.net_addr.specs.Address.{length_of};
     ghost use Rattle.net_addr.specs.Inside.{address_of};
 
-    /// Returns the bytes, as many as the network's addresses have.
+    /// Returns the bytes of the address.
     fn as_slice(&self) -> &[u8]
         ensures value { result.now ≡ (address_of self.now).bytes }
         ensures len { length (address_of self.now).bytes ≡ length_of (address_of self.now).net }
@@ -74,9 +73,9 @@ impl NetAddr {
     ghost use Rattle.net_addr.specs.Ranges.{range, in_range, is_valid, is_local, is_routable, reserved_by, linked_by, linked_ipv4, net_class};
     ghost use Rattle.net_addr.specs.OldForm.{address, from_v1, v1_bytes};
 
-    /// Returns the address of a network with these bytes, which are in the order of the wire.
-    /// Returns `None` for the network `Unroutable`, for another number of bytes than the network's
-    /// addresses have, and for IPv6 bytes that are the old form of another address.
+    /// Returns the address of a network with these bytes, in the order of the wire. Returns `None`
+    /// for `Unroutable`, if the number of bytes is not that of the network's addresses, and for
+    /// IPv6 bytes that are the old form of another address.
     pub fn of(net: Net, bytes: &[u8]) -> Option<NetAddr>
         ensures found { IfSome result (λ a. a ≡ address net bytes.now) }
         ensures address { IfSome result IsAddress }
@@ -146,7 +145,7 @@ impl NetAddr {
         }
     }
 
-    /// Returns the bytes of the address, as many as its network has, in the order of the wire.
+    /// Returns the bytes of the address, in the order of the wire.
     pub fn bytes(&self) -> &[u8]
         ensures value { result.now ≡ self.now.bytes }
         ensures address { IsAddress self.now }
@@ -154,8 +153,8 @@ impl NetAddr {
         self.bytes.as_slice()
     }
 
-    /// Returns whether the bytes can be an address at all (`CNetAddr::IsValid` in netaddress.cpp of
-    /// Bitcoin Core).
+    /// Returns `true` if the bytes can be an address at all (`CNetAddr::IsValid` in netaddress.cpp
+    /// of Bitcoin Core).
     pub fn is_valid(&self) -> bool
         ensures { result ≡ is_valid self.now }
     {
@@ -168,7 +167,7 @@ impl NetAddr {
         }
     }
 
-    /// Returns whether the address is this host (`CNetAddr::IsLocal`).
+    /// Returns `true` if the address is this host (`CNetAddr::IsLocal`).
     pub fn is_local(&self) -> bool
         ensures { result ≡ is_local self.now }
     {
@@ -179,14 +178,15 @@ impl NetAddr {
         }
     }
 
-    /// Returns whether the address can be reached over the public network (`CNetAddr::IsRoutable`).
+    /// Returns `true` if the address can be reached over the public network
+    /// (`CNetAddr::IsRoutable`).
     pub fn is_routable(&self) -> bool
         ensures { result ≡ is_routable self.now }
     {
         self.is_valid() && !self.is_local() && !self.is_reserved()
     }
 
-    /// Returns whether the address begins with the first `bits` bits of the base.
+    /// Returns `true` if the address begins with the first `bits` bits of the base.
     pub fn is_in_range(&self, base: &[u8], bits: usize) -> bool
         requires base_holds { bits ≤ 8 * length base.now }
         requires address_holds { length base.now ≤ length self.now.bytes }
@@ -195,7 +195,7 @@ impl NetAddr {
         in_range(self.bytes(), base, bits)
     }
 
-    /// Returns whether the address is in a range that is not routed.
+    /// Returns `true` if the address is in a range that is not routed.
     fn is_reserved(&self) -> bool
         ensures { result ≡ reserved_by self.now.net self.now.bytes }
     {
@@ -206,8 +206,8 @@ impl NetAddr {
         }
     }
 
-    /// Returns the four bytes of the IPv4 address that the address is or carries, whether or not it
-    /// is routable, or `None` if there is none.
+    /// Returns the four bytes of the IPv4 address that the address is or embeds, even if it is not
+    /// routable, or `None` if there is none.
     pub fn linked_bytes(&self) -> Option<[u8; 4]>
         ensures { result ≡ linked_by self.now.net self.now.bytes }
     {
@@ -218,7 +218,7 @@ impl NetAddr {
         }
     }
 
-    /// Returns the IPv4 address that a routable address is or carries, the first of its four bytes
+    /// Returns the IPv4 address that a routable address is or embeds, the first of its four bytes
     /// the highest, or `None` if there is none (`CNetAddr::GetLinkedIPv4`).
     pub fn linked_ipv4(&self) -> Option<u32>
         ensures value { result ≡ option_map (from_be_bytes w32) (linked_ipv4 self.now) }
@@ -243,8 +243,8 @@ impl NetAddr {
         }
     }
 
-    /// Returns the sixteen bytes of the old form, in which messages had addresses before BIP 155,
-    /// or `None` if the address has no such form (`CNetAddr::SerializeV1Array`).
+    /// Returns the sixteen bytes of the old form, that of messages before BIP 155, or `None` if the
+    /// address has none (`CNetAddr::SerializeV1Array`).
     pub fn v1_bytes(&self) -> Option<[u8; 16]>
         ensures { result ≡ v1_bytes self.now }
     {

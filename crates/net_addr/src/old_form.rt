@@ -1,5 +1,5 @@
 ghost use Rattle.std.specs.Prelude.{◌≡◌, ◌++◌, length};
-ghost use Rattle.net_addr.specs.Address.{is_old_form, mapped_prefix, internal_prefix, torv2_prefix};
+ghost use Rattle.net_addr.specs.Address.{is_old_form, mapped_prefix, internal_prefix};
 
 /// The prefix of an IPv4 address in the old form of sixteen bytes (`IPV4_IN_IPV6_PREFIX` in
 /// netaddress.h of Bitcoin Core).
@@ -11,7 +11,7 @@ pub const INTERNAL_PREFIX: [u8; 6] = [0xfd, 0x6b, 0x88, 0xc0, 0x87, 0x24];
 /// The prefix of a Tor v2 address in the old form (`TORV2_IN_IPV6_PREFIX`).
 pub const TORV2_PREFIX: [u8; 6] = [0xfd, 0x87, 0xd8, 0x7e, 0xeb, 0x43];
 
-/// Returns whether sixteen bytes are the old form of something other than an IPv6 address.
+/// Returns `true` if sixteen bytes are the old form of something other than an IPv6 address.
 pub(crate) fn is_old_form(bytes: &[u8]) -> bool
     ensures { result ≡ is_old_form bytes.now }
 {

@@ -1,7 +1,9 @@
 ghost use Rattle.std.specs.Prelude.{◌≡◌, ◌-◌, ◌*◌, ◌≤◌, ◌||◌, length, drop, map};
 ghost use Rattle.net_addr.specs.Ranges.{range, in_range, in_some, ipv4_invalid, ipv6_invalid, ipv4_local, ipv6_local, ipv4_reserved, ipv6_reserved, cjdns_range, nat64, siit, carried};
 
-/// Returns whether the bytes begin with the first `bits` bits of the base.
+use crate::old_form::array_of;
+
+/// Returns `true` if the bytes begin with the first `bits` bits of the base.
 pub(crate) fn in_range(bytes: &[u8], base: &[u8], bits: usize) -> bool
     requires base_holds { bits ≤ 8 * length base.now }
     requires bytes_hold { length base.now ≤ length bytes.now }
@@ -15,7 +17,7 @@ pub(crate) fn in_range(bytes: &[u8], base: &[u8], bits: usize) -> bool
     rest == 0 || base[whole] >> (8 - rest) == bytes[whole] >> (8 - rest)
 }
 
-/// Returns whether the bytes are 0.0.0.0 or 255.255.255.255.
+/// Returns `true` if the bytes are 0.0.0.0 or 255.255.255.255.
 pub(crate) fn is_ipv4_invalid(bytes: &[u8]) -> bool
     requires { length bytes.now ≡ 4 }
     ensures { result ≡ in_some ipv4_invalid bytes.now }
@@ -23,7 +25,7 @@ pub(crate) fn is_ipv4_invalid(bytes: &[u8]) -> bool
     in_range(bytes, &[0, 0, 0, 0], 32) || in_range(bytes, &[255, 255, 255, 255], 32)
 }
 
-/// Returns whether the bytes are `::` or in 2001:db8::/32.
+/// Returns `true` if the bytes are `::` or in 2001:db8::/32.
 pub(crate) fn is_ipv6_invalid(bytes: &[u8]) -> bool
     requires { length bytes.now ≡ 16 }
     ensures { result ≡ in_some ipv6_invalid bytes.now }
@@ -35,7 +37,7 @@ pub(crate) fn is_ipv6_invalid(bytes: &[u8]) -> bool
     ) || in_range(bytes, &[0x20, 0x01, 0x0d, 0xb8], 32)
 }
 
-/// Returns whether the bytes are in 127.0.0.0/8 or 0.0.0.0/8.
+/// Returns `true` if the bytes are in 127.0.0.0/8 or 0.0.0.0/8.
 pub(crate) fn is_ipv4_local(bytes: &[u8]) -> bool
     requires { length bytes.now ≡ 4 }
     ensures { result ≡ in_some ipv4_local bytes.now }
@@ -43,7 +45,7 @@ pub(crate) fn is_ipv4_local(bytes: &[u8]) -> bool
     in_range(bytes, &[127, 0, 0, 0], 8) || in_range(bytes, &[0, 0, 0, 0], 8)
 }
 
-/// Returns whether the bytes are `::1`.
+/// Returns `true` if the bytes are `::1`.
 pub(crate) fn is_ipv6_local(bytes: &[u8]) -> bool
     requires { length bytes.now ≡ 16 }
     ensures { result ≡ in_some ipv6_local bytes.now }
@@ -55,7 +57,7 @@ pub(crate) fn is_ipv6_local(bytes: &[u8]) -> bool
     )
 }
 
-/// Returns whether the bytes are in a range of RFC 1918, 2544, 3927, 6598 or 5737.
+/// Returns `true` if the bytes are in a range of RFC 1918, 2544, 3927, 6598 or 5737.
 pub(crate) fn is_ipv4_reserved(bytes: &[u8]) -> bool
     requires { length bytes.now ≡ 4 }
     ensures { result ≡ in_some ipv4_reserved bytes.now }
@@ -71,7 +73,7 @@ pub(crate) fn is_ipv4_reserved(bytes: &[u8]) -> bool
         || in_range(bytes, &[203, 0, 113, 0], 24)
 }
 
-/// Returns whether the bytes are in a range of RFC 4862, 4193, 4843 or 7343.
+/// Returns `true` if the bytes are in a range of RFC 4862, 4193, 4843 or 7343.
 pub(crate) fn is_ipv6_reserved(bytes: &[u8]) -> bool
     requires { length bytes.now ≡ 16 }
     ensures { result ≡ in_some ipv6_reserved bytes.now }
@@ -82,7 +84,7 @@ pub(crate) fn is_ipv6_reserved(bytes: &[u8]) -> bool
         || in_range(bytes, &[0x20, 0x01, 0, 0x20], 28)
 }
 
-/// Returns whether the bytes begin with fc, as the addresses of CJDNS do.
+/// Returns `true` if the bytes begin with fc, as the addresses of CJDNS do.
 pub(crate) fn is_cjdns(bytes: &[u8]) -> bool
     requires { length bytes.now ≡ 16 }
     ensures { result ≡ in_range cjdns_range bytes.now }
@@ -90,8 +92,8 @@ pub(crate) fn is_cjdns(bytes: &[u8]) -> bool
     in_range(bytes, &[0xfc], 8)
 }
 
-/// Returns whether the bytes are in NAT64's 64:ff9b::/96 or SIIT's `::ffff:0:0:0/96`, which end in
-/// an IPv4 address.
+/// Returns `true` if the bytes are in NAT64's 64:ff9b::/96 or SIIT's `::ffff:0:0:0/96`, which end
+/// in an IPv4 address.
 fn ends_in_ipv4(bytes: &[u8]) -> bool
     requires { length bytes.now ≡ 16 }
     ensures { result ≡ (in_range nat64 bytes.now || in_range siit bytes.now) }
@@ -100,29 +102,21 @@ fn ends_in_ipv4(bytes: &[u8]) -> bool
         || in_range(bytes, &[0, 0, 0, 0, 0, 0, 0, 0, 0xff, 0xff, 0, 0], 96)
 }
 
-/// Returns the four bytes of the IPv4 address that an IPv6 address carries, or `None` if it
-/// carries none.
+/// Returns the four bytes of the IPv4 address that an IPv6 address embeds, or `None` if there is
+/// none.
 pub(crate) fn carried(bytes: &[u8]) -> Option<[u8; 4]>
     requires { length bytes.now ≡ 16 }
     ensures { result ≡ carried bytes.now }
 {
     if ends_in_ipv4(bytes) {
-        Some(last_four(bytes))
+        Some(array_of(&bytes[12..]))
     } else if in_range(bytes, &[0x20, 0x02], 16) {
-        Some([bytes[2], bytes[3], bytes[4], bytes[5]])
+        Some(array_of(&bytes[2..6]))
     } else if in_range(bytes, &[0x20, 0x01, 0, 0], 32) {
-        Some(complement(last_four(bytes)))
+        Some(complement(array_of(&bytes[12..])))
     } else {
         None
     }
-}
-
-/// Returns the last four of sixteen bytes.
-fn last_four(bytes: &[u8]) -> [u8; 4]
-    requires { length bytes.now ≡ 16 }
-    ensures { result ≡ drop 12 bytes.now }
-{
-    [bytes[12], bytes[13], bytes[14], bytes[15]]
 }
 
 /// Returns the complement of each byte.

@@ -1,4 +1,4 @@
-ghost use Rattle.std.specs.Prelude.{◌≡◌, ◌≢◌, ℕ, List, ◌+◌, ◌-◌, ◌*◌, ◌<◌, ◌≤◌, ◌^◌, ◌↔◌, length, slice_index, IsTrue, IfSome, IfNone, Some, decimal, ◌∷◌, ◌++◌, All};
+ghost use Rattle.std.specs.Prelude.{◌≡◌, ◌≢◌, ℕ, List, ◌+◌, ◌-◌, ◌*◌, ◌<◌, ◌≤◌, ◌↔◌, length, slice_index, IsTrue, IfSome, IfNone, Some, decimal, ◌∷◌, ◌++◌, All};
 ghost use Rattle.std.specs.Bool.{MatchBool};
 ghost use Rattle.std.specs.Int.{w128, to_be_bytes, from_be_bytes, IsInRange};
 ghost use Rattle.net_addr.specs.Address.{Address, IsAddress};
@@ -11,11 +11,10 @@ ghost use Rattle.net_addr.specs.declared.peer.Peer.{Peer};
 use crate::{Net, NetAddr, Peer};
 use std::net::{Ipv4Addr, Ipv6Addr};
 
-/// Returns the number that the text writes in decimal, or `None` if it writes none, has a sign or a
-/// leading zero, or the number is above `most`.
-pub fn parse_number(text: &[u8], most: u64) -> Option<u64>
-    ensures found { IfSome result (λ n. (n ≤ most) × (text.now ≡ decimal n)) }
-    ensures only { (n : ℕ) → n ≤ most → text.now ≡ decimal n → result ≡ Some n }
+/// Parses a decimal number of at most `max`, without a sign or leading zeros.
+pub fn parse_number(text: &[u8], max: u64) -> Option<u64>
+    ensures found { IfSome result (λ n. (n ≤ max) × (text.now ≡ decimal n)) }
+    ensures only { (n : ℕ) → n ≤ max → text.now ≡ decimal n → result ≡ Some n }
 {
     if text.is_empty() {
         return None;
@@ -25,13 +24,13 @@ pub fn parse_number(text: &[u8], most: u64) -> Option<u64>
     }
     let mut value = 0;
     for byte in text {
-        value = with_digit(value, *byte, most)?;
+        value = with_digit(value, *byte, max)?;
     }
     Some(value)
 }
 
-/// Returns the IPv4 address that the text writes, or `None`: four bytes in decimal, the highest
-/// first, with dots between them and no leading zeros.
+/// Parses an IPv4 address: four bytes in decimal, the highest first, separated by dots and without
+/// leading zeros.
 pub fn parse_ipv4(text: &[u8]) -> Option<u32>
     ensures found { IfSome result (λ n. IsIpv4Text text.now n) }
     ensures only { (n : ℕ) → IsIpv4Text text.now n → result ≡ Some n }
@@ -42,9 +41,9 @@ pub fn parse_ipv4(text: &[u8]) -> Option<u32>
     }
 }
 
-/// Returns the IPv6 address that the text writes as groups of hexadecimal digits, without brackets,
-/// or `None`. The first of its sixteen bytes is the highest. The last groups cannot be written as
-/// an IPv4 address (RFC 4291, 2.2, forms 1 and 2).
+/// Parses an IPv6 address: groups of hexadecimal digits, without brackets. The first of its sixteen
+/// bytes is the highest. A dotted IPv4 address as the last groups is not accepted (so forms 1 and 2
+/// of RFC 4291, section 2.2).
 pub fn parse_ipv6(text: &[u8]) -> Option<u128>
     ensures found { IfSome result (λ n. IsIpv6Text text.now n) }
     ensures only { (n : ℕ) → IsIpv6Text text.now n → result ≡ Some n }
@@ -58,7 +57,7 @@ pub fn parse_ipv6(text: &[u8]) -> Option<u128>
     }
 }
 
-/// Returns the address that the text writes, or `None` if it writes none.
+/// Parses an address of any network.
 pub fn parse_addr(text: &[u8]) -> Option<NetAddr>
     ensures found { IfSome result (λ a. IsAddrText text.now a) }
     ensures address { IfSome result IsAddress }
@@ -74,8 +73,7 @@ pub fn parse_addr(text: &[u8]) -> Option<NetAddr>
     Some(NetAddr::ipv4(bits.to_be_bytes()))
 }
 
-/// Returns the peer that the text writes, or `None` if it writes none: an address, a colon, and a
-/// port from 0 to 65535.
+/// Parses a peer: an address, a colon, and a port from 0 to 65535.
 pub fn parse_peer(text: &[u8]) -> Option<Peer>
     ensures found { IfSome result (λ p. IsPeerText text.now p) }
     ensures address { IfSome result (λ p. IsAddress p.addr) }
@@ -90,7 +88,7 @@ pub fn parse_peer(text: &[u8]) -> Option<Peer>
     })
 }
 
-/// Returns the address that the text after an opening bracket writes.
+/// Parses the rest of an address after its opening bracket.
 fn parse_bracketed(text: &[u8]) -> Option<NetAddr>
     ensures found { IfSome result (λ a. IsBracketText (91 ∷ text.now) a) }
     ensures address { IfSome result IsAddress }
@@ -123,7 +121,7 @@ fn after_label(text: &[u8]) -> Option<(Net, &[u8])>
     None
 }
 
-/// Returns the address of the network whose bytes the text writes in hexadecimal digits.
+/// Parses the bytes of an address of the network from hexadecimal digits.
 fn from_hex(net: Net, text: &[u8]) -> Option<NetAddr>
     requires network { (net ≢ Unroutable) × (net ≢ Ipv6) }
     ensures found { IfSome result (λ a. IsHexOf net text.now a) }
@@ -138,7 +136,7 @@ fn from_hex(net: Net, text: &[u8]) -> Option<NetAddr>
     }
 }
 
-/// Returns whether the text has a dot.
+/// Returns `true` if the text contains a dot.
 fn has_dot(text: &[u8]) -> bool
     ensures { MatchBool result
         ((k : ℕ) × (k < length text.now) × (slice_index text.now k ≡ 46))
@@ -155,7 +153,7 @@ fn bits_of(bytes: &[u8; 16]) -> u128
     u128::from_be_bytes(*bytes)
 }
 
-/// Returns whether the text begins with a zero and has more digits.
+/// Returns `true` if the text begins with a zero and has more digits.
 fn is_padded(text: &[u8]) -> bool
     ensures { IsTrue result ↔ ((1 < length text.now) × (slice_index text.now 0 ≡ 48)) }
 {
@@ -163,22 +161,21 @@ fn is_padded(text: &[u8]) -> bool
 }
 
 /// Returns the number with one more decimal digit, if the byte is a digit and the number is at most
-/// `most`.
-fn with_digit(value: u64, byte: u8, most: u64) -> Option<u64>
-    requires { value ≤ most }
+/// `max`.
+fn with_digit(value: u64, byte: u8, max: u64) -> Option<u64>
+    requires { value ≤ max }
     ensures found { IfSome result (λ n.
-        (IsInRange 48 57 byte) × (n ≡ value * 10 + (byte - 48)) × (n ≤ most)) }
-    ensures none { IfNone result (IsInRange 48 57 byte → most < value * 10 + (byte - 48)) }
+        (IsInRange 48 57 byte) × (n ≡ value * 10 + (byte - 48)) × (n ≤ max)) }
+    ensures none { IfNone result (IsInRange 48 57 byte → max < value * 10 + (byte - 48)) }
 {
     if !byte.is_ascii_digit() {
         return None;
     }
     let next = value.checked_mul(10)?.checked_add(u64::from(byte - b'0'))?;
-    if next <= most { Some(next) } else { None }
+    if next <= max { Some(next) } else { None }
 }
 
-/// Returns the text before the last `byte` and the text after it, or `None` if the text has no such
-/// byte.
+/// Splits the text around its last `byte`, or returns `None` if it has no such byte.
 pub fn around_last(text: &[u8], byte: u8) -> Option<(&[u8], &[u8])>
     ensures cut { IfSome result (λ parts. text.now ≡ parts.0.now ++ byte ∷ parts.1.now) }
     ensures last { IfSome result (λ parts. All (λ c. c ≢ byte) parts.1.now) }

@@ -1,5 +1,4 @@
-use Rattle.std.proofs.Common.{◌≡◌, ◌/◌, ◌^◌, ◌==◌, ℕ, bit_and, sym, subst, rules}
-use Rattle.net_addr.specs.NetSet.{has}
+use Rattle.std.proofs.Common.{rules}
 use Rattle.net_addr.proofs.NetSets.{has-nets_of}
 use Rattle.net_addr.proofs.net_set.NetSet.has.Goals as goal
 
