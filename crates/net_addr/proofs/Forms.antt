@@ -30,7 +30,7 @@ dotted_first text a h =
     let first = first_digit (n / 16777216 % 256) (46 ∷ join_with_byte 46 (decimal (n / 65536 % 256) ∷ decimal (n / 256 % 256) ∷ decimal (n % 256) ∷ [])) (omega arith) in
     subst (λ x. (48 ≤ x) × (x ≤ 57)) (sym (ap (λ t. get_or t 0 0) h.bits_text.1)) first
 
-bracket_first : (text : List ℕ) (a : Address) → IsBracketText text a → get_or text 0 0 ≡ 91
+pub bracket_first : (text : List ℕ) (a : Address) → IsBracketText text a → get_or text 0 0 ≡ 91
 bracket_first text a h = ap (λ t. get_or t 0 0) h.spelled
 
 onion_first : (text : List ℕ) (a : Address) → IsHexText Onion text a → get_or text 0 0 ≡ 111

@@ -10,3 +10,4 @@ pub mod Forms
 pub mod Digits
 pub mod RangeExamples
 pub mod ReadExamples
+pub mod OneReading

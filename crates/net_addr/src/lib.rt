@@ -5,6 +5,7 @@ mod address;
 mod address_traits;
 mod append;
 mod entry;
+mod law;
 mod memory;
 mod net;
 mod net_set;
@@ -16,6 +17,7 @@ mod read;
 
 pub use address::NetAddr;
 pub use entry::Entry;
+pub use law::texts_have_one_meaning;
 pub use memory::Memory;
 pub use net::Net;
 pub use net_set::NetSet;
