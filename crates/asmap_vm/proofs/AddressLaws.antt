@@ -5,8 +5,8 @@ use Rattle.std.proofs.lemmas.Nat.{shr_split, pow_pos, one_shl, and_mask}
 use Rattle.std.proofs.Math.Pow.{mod-mod-pow}
 use Rattle.std.proofs.lemmas.Bool.{eqb-true}
 use Rattle.bit_code.specs.Coder.{digits, number_of}
-use Rattle.bit_code.specs.DigitLaws.{length-digits, digits_above, digits_low, number_of-digits}
-use Rattle.asmap_vm.specs.Code.{begins_with}
+use Rattle.bit_code.proofs.DigitLaws.{length-digits, digits_above, digits_low, number_of-digits}
+use Rattle.bit_code.specs.Prefixes.{begins_with}
 
 -- the low digits of a number are those of its low part
 digits_mod : (k n : ℕ) → digits k n ≡ digits k (n % 2 ^ k)

@@ -2,7 +2,8 @@
 use Rattle.std.proofs.Common.{◌≡◌, ℕ, zero, suc, ◌+◌, ◌-◌, ◌*◌, ◌^◌, true, false, List, [], ◌∷◌, get_or, replicate, refl, ap, sym, ◌∙◌, subst, arith}
 use Rattle.bit_code.specs.Coder.{digits, low_digits, file_bits, number_of, sizes, values_of, spelling, spelling_by}
 use Rattle.bit_code.specs.Reading.{read_value, read_by, digits_at}
-use Rattle.asmap_vm.specs.Code.{Tree, Return, Jump, Match, Default, code, IsSane, IsSaneWithin, IsSaneFile, begins_with, meaning, asn_of}
+use Rattle.bit_code.specs.Prefixes.{begins_with}
+use Rattle.asmap_vm.specs.Code.{Tree, Return, Jump, Match, Default, code, IsSane, IsSaneWithin, IsSaneFile, meaning, asn_of}
 use Rattle.asmap_vm.specs.TreeOf.{tree_of, read_tree}
 use Rattle.asmap_vm.proofs.TreeLaws.{tree_of-file}
 

@@ -7,7 +7,7 @@ use Rattle.std.proofs.Math.Nat.{pow-suc}
 use Rattle.std.proofs.Math.Pow.{pow_mono}
 use Rattle.bit_code.specs.declared.coder.Coder.TheVariants as coders
 use Rattle.bit_code.specs.Coder.{number_of, digits, HasValue, values_of, sizes}
-use Rattle.bit_code.specs.DigitLaws.{number_of-lt, digits-number_of, digits_low, number_of-digits, length-digits}
+use Rattle.bit_code.proofs.DigitLaws.{number_of-lt, digits-number_of, digits_low, number_of-digits, length-digits}
 use Rattle.asmap_vm.specs.Matches.{match_size, match_bits}
 
 pub match_size_is : (n k : ℕ) → 2 ^ k ≤ n → n < 2 ^ suc k → k < 32 → match_size n ≡ k

@@ -3,9 +3,9 @@ use Rattle.std.proofs.Common.{◌≡◌, ◌≢◌, ℕ, ◌+◌, ◌-◌, ◌<�
 use Rattle.std.proofs.lemmas.Bool.{cases_lt, lt-ltb, le-ltb}
 use Rattle.bit_code.specs.Coder.{number_of, spelling, HasValue}
 use Rattle.bit_code.specs.declared.coder.Coder.TheVariants as coders
-use Rattle.bit_code.specs.DigitLaws.{length-digits}
+use Rattle.bit_code.proofs.DigitLaws.{length-digits}
 use Rattle.asmap_vm.specs.Code.{Tree, Return, Jump, Match, Default, code, IsSaneWithin, IsMatch, IsNoShortMatch, TakesDefault}
-use Rattle.asmap_vm.specs.Instructions.{kind_of, coder_of, number_in, IsNext, head, tail}
+use Rattle.asmap_vm.specs.Instructions.{kind_of, coder_of, number_in, IsNext, HasTree, head, tail}
 use Rattle.asmap_vm.specs.Matches.{match_size, match_bits}
 use Rattle.asmap_vm.specs.Scanning.{Suits, IsPart, after_match}
 use Rattle.asmap_vm.specs.declared.instruction.Instruction.{Instruction}
@@ -28,6 +28,14 @@ head_value left (Return n) h = h
 head_value left (Jump l r) h = h.1
 head_value left (Match wanted t) h = match_value wanted h.0.some h.0.most
 head_value left (Default n t) h = h.0
+
+-- the first instruction of a tree is the next one
+pub first_next : (left : ℕ) (t : Tree) (bits rest : List Bool) → HasTree left t bits rest → IsNext (head t) bits (tail t ++ rest)
+first_next left t bits rest has =
+    record {
+      value = head_value left t has.sane;
+      spelled = has.spelled ∙ ap (λ x. x ++ rest) (code_is t) ∙ simp append_assoc;
+    }
 
 -- the tree begins with the instruction
 abbrev pub HasHead : Instruction → Tree → Type 0
@@ -55,11 +63,7 @@ pub record Opened (i : Instruction) (before : Before) (left : ℕ) (after rest :
 
 -- the first instruction of a part is the next one
 pub part_next : (before : Before) (left : ℕ) (bits rest : List Bool) (part : IsPart before left bits rest) → IsNext (head part.tree) bits (tail part.tree ++ rest)
-part_next before left bits rest part =
-    record {
-      value = head_value left part.tree part.sane;
-      spelled = part.spelled ∙ ap (λ x. x ++ rest) (code_is part.tree) ∙ simp append_assoc;
-    }
+part_next before left bits rest part = first_next left part.tree bits rest (record { sane = part.sane; spelled = part.spelled })
 
 module _ (i : Instruction) (before : Before) (left : ℕ) (bits after rest : List Bool) where
   pub opens : ((j : Instruction) (r : List Bool) → IsNext j bits r → (i ≡ j) × (after ≡ r)) → IsPart before left bits rest → Opened i before left after rest

@@ -4,7 +4,7 @@ use Rattle.bit_code.specs.Coder.{number_of, digits, spelling, spelling_by, sizes
 use Rattle.bit_code.specs.Reading.{read_value}
 use Rattle.bit_code.specs.declared.coder.Coder.{Coder}
 use Rattle.bit_code.specs.declared.coder.Coder.TheVariants as coders
-use Rattle.bit_code.specs.ReadingLaws.{read_value-again}
+use Rattle.bit_code.proofs.ReadingLaws.{read_value-again}
 use Rattle.asmap_vm.specs.Code.{Tree, Return, Jump, Match, Default, code, return_kind, jump_kind, match_kind, default_kind, IsSaneWithin, IsSaneFile}
 use Rattle.asmap_vm.specs.TreeOf.{read_tree, tree_read, tree_of}
 use Rattle.asmap_vm.proofs.MatchLaws.{match_value, match_bits-wanted}

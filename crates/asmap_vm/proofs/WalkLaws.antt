@@ -3,7 +3,8 @@ use Rattle.std.proofs.Common.{◌≡◌, ℕ, suc, ◌+◌, ◌-◌, ◌<◌, �
 use Rattle.std.proofs.Math.Seq.{drop-append_seam}
 use Rattle.std.proofs.lemmas.List.{drop-drop}
 use Rattle.bit_code.specs.Coder.{has_bit, digits, file_bits}
-use Rattle.asmap_vm.specs.Code.{Tree, Return, Jump, Match, Default, code, IsSaneWithin, IsSaneFile, begins_with, meaning, asn_of}
+use Rattle.bit_code.specs.Prefixes.{begins_with}
+use Rattle.asmap_vm.specs.Code.{Tree, Return, Jump, Match, Default, code, IsSaneWithin, IsSaneFile, meaning, asn_of}
 use Rattle.asmap_vm.specs.Instructions.{IsNext, head, tail}
 use Rattle.asmap_vm.specs.Matches.{match_size, match_bits}
 use Rattle.asmap_vm.specs.Walking.{Answers, set_out}
@@ -15,7 +16,7 @@ use Rattle.asmap_vm.specs.declared.walk.Walk.{Walk}
 use Rattle.asmap_vm.proofs.MatchLaws.{match_size-wanted, match_bits-wanted}
 use Rattle.asmap_vm.proofs.PartLaws.{part_next, has_head}
 use Rattle.asmap_vm.proofs.StepLaws.{Reads}
-use Rattle.bit_code.specs.DigitLaws.{digits_cons}
+use Rattle.bit_code.proofs.DigitLaws.{digits_cons}
 use Rattle.asmap_vm.proofs.AddressLaws.{digits_past}
 
 -- the part at an offset, by its first instruction

@@ -1,8 +1,9 @@
 -- The tree of instructions of an asmap file: its spelling in bits, which trees are sane, and the
 -- number that a tree gives for an address. The rules are those of `Interpret` and `SanityCheckASMap`
 -- in util/asmap.cpp of Bitcoin Core, for 128 address bits.
-use Rattle.std.specs.Prelude.{ℕ, ◌-◌, ◌<◌, ◌≤◌, Bool, true, false, List, [], ◌∷◌, ◌++◌, if◌then◌else◌, length, drop, ⊤}
+use Rattle.std.specs.Prelude.{ℕ, ◌-◌, ◌<◌, ◌≤◌, Bool, true, List, [], ◌∷◌, ◌++◌, if◌then◌else◌, length, drop, ⊤}
 use Rattle.bit_code.specs.Coder.{digits, number_of, spelling, HasValue}
+use Rattle.bit_code.specs.Prefixes.{begins_with}
 use Rattle.bit_code.specs.Files as files
 use Rattle.bit_code.specs.declared.coder.Coder.TheVariants as coders
 
@@ -73,14 +74,6 @@ IsFileOf t bytes = files.IsFileOf (code t) bytes
 pub record IsSaneFile (t : Tree) (bytes : List ℕ) : Type 0 where
   pub sane : IsSane t
   pub file : IsFileOf t bytes
-
--- whether a list of bits begins with another
-unfoldable pub begins_with : List Bool → List Bool → Bool
-begins_with bits [] = true
-begins_with [] (w ∷ wanted) = false
-begins_with (true ∷ bits) (true ∷ wanted) = begins_with bits wanted
-begins_with (false ∷ bits) (false ∷ wanted) = begins_with bits wanted
-begins_with (b ∷ bits) (w ∷ wanted) = false
 
 -- the number that a tree gives for these address bits under this default
 unfoldable pub meaning : Tree → List Bool → ℕ → ℕ

@@ -3,7 +3,7 @@ use Rattle.std.specs.Prelude.{◌≡◌, ◌==◌, if◌then◌else◌, ℕ, Boo
 use Rattle.bit_code.specs.Coder.{number_of, spelling, HasValue}
 use Rattle.bit_code.specs.declared.coder.Coder.{Coder}
 use Rattle.bit_code.specs.declared.coder.Coder.TheVariants as coders
-use Rattle.asmap_vm.specs.Code.{Tree, Return, Jump, Match, Default, code, return_kind, jump_kind, match_kind, default_kind}
+use Rattle.asmap_vm.specs.Code.{Tree, Return, Jump, Match, Default, code, IsSaneWithin, return_kind, jump_kind, match_kind, default_kind}
 use Rattle.asmap_vm.specs.declared.instruction.Instruction.{Instruction}
 use Rattle.asmap_vm.specs.declared.instruction.Instruction.TheVariants as instructions
 
@@ -53,3 +53,9 @@ tail (Return n) = []
 tail (Jump l r) = code l ++ code r
 tail (Match wanted t) = code t
 tail (Default n t) = code t
+
+-- The bits begin with the code of a tree, and then go on with the rest. The tree is sane, and no path
+-- in it takes more than this many address bits.
+pub record HasTree (left : ℕ) (t : Tree) (bits rest : List Bool) : Type 0 where
+  pub sane : IsSaneWithin left t
+  pub spelled : bits ≡ code t ++ rest

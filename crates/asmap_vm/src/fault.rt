@@ -1,9 +1,9 @@
 /// Why a file is refused.
 #[derive(Clone, Copy, Debug, PartialEq, Eq)]
 pub enum CodeFault {
-    /// The file has more than 8,388,608 bytes.
+    /// The file has more than `MAX_ASMAP` bytes.
     TooLarge {
-        /// Its number of bytes.
+        /// Its size in bytes.
         size: u64,
     },
     /// The file is that of no sane tree.

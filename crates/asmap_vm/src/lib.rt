@@ -12,4 +12,5 @@ mod walk;
 
 pub use checking::{check, one_tree};
 pub use fault::CodeFault;
+pub use instruction::{Instruction, first_instruction, match_size};
 pub use sane::Sane;

@@ -1,4 +1,5 @@
 ghost use Rattle.std.specs.Prelude.{length, ◌≤◌};
+ghost use Rattle.bit_code.specs.declared.bits.TheConstants.{MAX_ASMAP};
 ghost use Rattle.asmap_vm.specs.Code.{IsSaneFile};
 ghost use Rattle.asmap_vm.specs.TreeOf.{tree_of};
 ghost use Rattle.asmap_vm.specs.SaneProps.{IsSaneFile-prop};
@@ -10,7 +11,7 @@ use bit_code::Bits;
 #[derive(Clone, Copy, Debug)]
 pub struct Sane<'a> {
     pub(crate) code: &'a [u8],
-    pub ghost small: { length code.now ≤ 8388608 },
+    pub ghost small: { length code.now ≤ MAX_ASMAP },
     pub ghost sane: { IsSaneFile (tree_of code.now) code.now } by { IsSaneFile-prop (tree_of code.now) code.now },
 }
 

@@ -3,7 +3,7 @@ ghost use Rattle.asmap_vm.specs.declared.stack.RightPart.{RightPart};
 ghost use Rattle.asmap_vm.specs.Matches.{match_size};
 ghost use Rattle.asmap_vm.specs.Scanning.{Completes, IsUnderWay, IsPadding, IsStuck, Advances, after_match, start};
 
-use crate::instruction::{Instruction, read_instruction};
+use crate::instruction::{Instruction, match_size, read_instruction};
 use crate::stack::{RightPart, RightParts};
 use bit_code::Bits;
 
@@ -49,18 +49,6 @@ pub(crate) enum Step {
     Sane,
     /// The file is that of no sane tree.
     Insane,
-}
-
-/// Returns the number of address bits that a match with this number compares.
-#[inline]
-pub(crate) fn match_size(number: u32) -> u8
-    requires low { 2 ≤ number }
-    requires high { number < 512 }
-    ensures size { result ≡ match_size number }
-    ensures least { 1 ≤ result }
-    ensures most { result ≤ 8 }
-{
-    (31 - number.leading_zeros()) as u8
 }
 
 /// Returns what a match of this many bits is to the part after it.

@@ -1,11 +1,10 @@
 ghost use Rattle.std.specs.Prelude.{◌≡◌, ℕ, ◌+◌, ◌^◌, ◌<◌, ◌≤◌, Bool, length, IfNone};
 ghost use Rattle.bit_code.specs.Coder.{has_bit, digits};
-ghost use Rattle.asmap_vm.specs.Code.{begins_with};
+ghost use Rattle.bit_code.specs.Prefixes.{begins_with};
 ghost use Rattle.asmap_vm.specs.Matches.{match_bits, match_size};
 ghost use Rattle.asmap_vm.specs.Walking.{Answers, GivesOn, set_out};
 
-use crate::instruction::{Instruction, read_instruction};
-use crate::scan::match_size;
+use crate::instruction::{Instruction, match_size, read_instruction};
 use bit_code::Bits;
 
 /// How far an address was followed.

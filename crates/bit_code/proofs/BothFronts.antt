@@ -8,7 +8,7 @@ use Rattle.bit_code.specs.Coder.{low_digits, spelling, Spells, SpellsBoth, coder
 use Rattle.bit_code.specs.Inside.{IsWindow, longest}
 use Rattle.bit_code.specs.Reading.{read_value}
 use Rattle.bit_code.proofs.LowDigits.{length-low_digits, low_digits_split}
-use Rattle.bit_code.specs.ReadingLaws.{read_value-again, read_value-takes}
+use Rattle.bit_code.proofs.ReadingLaws.{read_value-again, read_value-takes}
 use Rattle.bit_code.proofs.Fronts.{shorter, shorter_rest, past_the_end, more_after}
 
 -- with more bits after them, the bits begin with this kind and this number, which this many bits spell

@@ -7,7 +7,7 @@ use Rattle.bit_code.specs.Coder.{low_digits, spelling, Spells}
 use Rattle.bit_code.specs.Inside.{IsWindow, longest}
 use Rattle.bit_code.specs.Reading.{read_value}
 use Rattle.bit_code.proofs.LowDigits.{length-low_digits, low_digits_split}
-use Rattle.bit_code.specs.ReadingLaws.{read_value-again, read_value-takes}
+use Rattle.bit_code.proofs.ReadingLaws.{read_value-again, read_value-takes}
 
 -- the same spelling with fewer bits after it
 pub shorter : (bits after word : List Bool) (len : ℕ) → bits ++ after ≡ word ++ drop len (bits ++ after) → len ≤ length bits → bits ≡ word ++ drop len bits

@@ -10,3 +10,7 @@ pub mod Bytes
 pub mod SpelledNumbers
 pub mod FileEnds
 pub mod LowDigits
+pub mod DigitLaws
+pub mod ReadingLaws
+pub mod SpellingLaws
+pub mod PrefixLaws

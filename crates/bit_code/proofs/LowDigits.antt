@@ -5,7 +5,7 @@ use Rattle.std.proofs.lemmas.List.{get_or-append_right, reverse-append}
 use Rattle.std.proofs.lemmas.Bool.{cases_lt}
 use Rattle.std.proofs.lemmas.Nat.{shr-shr, shr_high}
 use Rattle.bit_code.specs.Coder.{has_bit, digits, low_digits}
-use Rattle.bit_code.specs.DigitLaws.{digits_low}
+use Rattle.bit_code.proofs.DigitLaws.{digits_low}
 
 pub length-low_digits : (k n : ℕ) → length (low_digits k n) ≡ k
 unfolding low_digits

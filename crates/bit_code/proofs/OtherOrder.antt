@@ -6,7 +6,7 @@ use Rattle.std.proofs.lemmas.Nat.{shr_high, pow-add}
 use Rattle.bit_code.specs.declared.reversal.TheConstants.{REVERSED}
 use Rattle.bit_code.specs.Coder.{low_digits, number_of}
 use Rattle.bit_code.proofs.LowDigits.{length-low_digits, low_digits_split, low_digits_low}
-use Rattle.bit_code.specs.DigitLaws.{number_of-lt}
+use Rattle.bit_code.proofs.DigitLaws.{number_of-lt}
 
 table : map (λ b. number_of (low_digits 8 b)) (range_with_len 0 256) ≡ REVERSED
 unfolding low_digits number_of

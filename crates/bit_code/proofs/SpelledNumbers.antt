@@ -13,10 +13,10 @@ use Rattle.bit_code.specs.Coder.{low_digits, digits, number_of, spelling, spelli
 use Rattle.bit_code.specs.Inside.{class_head, IsClass}
 use Rattle.bit_code.specs.Reading.{read_by, after_values}
 use Rattle.bit_code.proofs.LowDigits.{length-low_digits, low_digits-reverse}
-use Rattle.bit_code.specs.DigitLaws.{length-digits, digits_low, digits-number_of, number_of-digits}
+use Rattle.bit_code.proofs.DigitLaws.{length-digits, digits_low, digits-number_of, number_of-digits}
 use Rattle.bit_code.proofs.RisingClasses.{low_digits_head, read_class, one_bit, no_bit}
 use Rattle.bit_code.proofs.FrontNumbers.{digits_at_front, kind_len}
-use Rattle.bit_code.specs.ReadingLaws.{read_by-takes, values_of_none, values_of_cons}
+use Rattle.bit_code.proofs.ReadingLaws.{read_by-takes, values_of_none, values_of_cons}
 
 pub pow_cancel : (i j : ℕ) → 2 ^ i < 2 ^ j → i < j
 pow_cancel i j h =

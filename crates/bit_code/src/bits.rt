@@ -5,6 +5,9 @@ ghost use Rattle.bit_code.specs.Inside.{IsWindow, IsWord, AreBytes, eight};
 
 use std::marker::Model;
 
+/// The most bytes that an asmap file may have. This limit is our own.
+pub const MAX_ASMAP: usize = 8_388_608;
+
 /// The bits of a file: the first byte's first, and of each byte the low bit first.
 #[derive(Debug, Drop)]
 pub struct Bits<'a> {
@@ -14,19 +17,21 @@ pub struct Bits<'a> {
 impl<'a> Model for Bits<'a> {
     ghost use Rattle.std.specs.Prelude.{List, Bool, length, ◌≤◌};
     ghost use Rattle.bit_code.specs.Coder.{file_bits};
+    ghost use Rattle.bit_code.specs.declared.bits.TheConstants.{MAX_ASMAP};
 
     ghost Value = { List Bool };
 
     ghost view = { λ b. file_bits b.bytes.now };
 
-    ghost invariant = { λ b. length b.bytes.now ≤ 8388608 };
+    ghost invariant = { λ b. length b.bytes.now ≤ MAX_ASMAP };
 }
 
 impl<'a> Bits<'a> {
-    /// Makes the bits of a file of at most 8,388,608 bytes.
+    /// Makes the bits of a file of at most `MAX_ASMAP` bytes.
     #[inline]
     pub fn of(bytes: &'a [u8]) -> Bits<'a>
-        requires { length bytes.now ≤ 8388608 }
+        requires { length bytes.now ≤ MAX_ASMAP }
+        ensures limit { MAX_ASMAP ≡ 8388608 }
         ensures bits { result ≡ file_bits bytes.now }
         ensures len { length result ≡ 8 * length bytes.now }
     {

@@ -16,7 +16,7 @@ mod spelled;
 
 pub use bit_front::BitFront;
 pub use bit_out::BitOut;
-pub use bits::Bits;
+pub use bits::{Bits, MAX_ASMAP};
 pub use coder::Coder;
 pub use memory::Memory;
 pub use number::{KindAndNumber, read_kind_and_number, read_number};

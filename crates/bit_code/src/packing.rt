@@ -4,8 +4,8 @@ ghost use Rattle.bit_code.specs.Files.{IsFileOf};
 
 use crate::memory::Memory;
 
-/// The most bytes that are stored. With more, the number of their bits would not fit a `usize`.
-const MOST_BYTES: usize = 1 << 60;
+/// The most bytes of a list of bits. With more, the number of bits would not fit a `usize`.
+const MAX_BYTES: usize = 1 << 60;
 
 /// Makes room for `more` bytes.
 pub(crate) fn make_room(bytes: &mut Vec<u8>, more: usize) -> Result<(), Memory>
@@ -15,7 +15,7 @@ pub(crate) fn make_room(bytes: &mut Vec<u8>, more: usize) -> Result<(), Memory>
     ensures room { OnOk result (vec_len bytes.new + more ≤ vec_capacity bytes.new) }
     ensures few { OnOk result (vec_len bytes.new + more ≤ 2 ^ 60) }
 {
-    if more > MOST_BYTES || bytes.len() > MOST_BYTES - more {
+    if more > MAX_BYTES || bytes.len() > MAX_BYTES - more {
         return Err(Memory);
     }
     bytes.reserve(more)?;

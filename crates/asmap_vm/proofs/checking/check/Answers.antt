@@ -3,8 +3,8 @@ use Rattle.asmap_vm.proofs.TreeLaws.{tree_of-file}
 use Rattle.asmap_vm.proofs.FileLaws.{sound_file, complete_file}
 use Rattle.asmap_vm.proofs.checking.check.Goals as goal
 
-pub returns-then-code-gt-MAX_BYTES-clause-one_tree : goal.returns-then-code-gt-MAX_BYTES-clause-one_tree
-returns-then-code-gt-MAX_BYTES-clause-one_tree c = λ t file. sym (tree_of-file t c.args.code.now file)
+pub returns-then-code-gt-MAX_ASMAP-clause-one_tree : goal.returns-then-code-gt-MAX_ASMAP-clause-one_tree
+returns-then-code-gt-MAX_ASMAP-clause-one_tree c = λ t file. sym (tree_of-file t c.args.code.now file)
 
 pub is_sane-requires : goal.is_sane-requires
 is_sane-requires c = omega (arith, c.of.ensures.len)
@@ -27,7 +27,7 @@ returns-else-is_sane-clause-one_tree c = λ t file. sym (tree_of-file t c.args.c
 pub returns-else-is_sane-clause-insane : goal.returns-else-is_sane-clause-insane
 returns-else-is_sane-clause-insane c = (
   λ _. (
-    c.if-code-gt-MAX_BYTES.false,
+    c.if-code-gt-MAX_ASMAP.false,
     λ t file.
         let yes : c.is_sane.result ≡ true = c.is_sane.ensures.1 (rw c.of.ensures.bits (complete_file t c.args.code.now file)) in
         let no = c.if-is_sane.false in

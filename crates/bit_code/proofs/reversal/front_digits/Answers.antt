@@ -1,6 +1,6 @@
 use Rattle.std.proofs.Common.{◌≡◌, ◌/◌, ◌^◌, ◌-◌, arith}
 use Rattle.bit_code.specs.Coder.{low_digits, number_of}
-use Rattle.bit_code.specs.DigitLaws.{number_of-lt}
+use Rattle.bit_code.proofs.DigitLaws.{number_of-lt}
 use Rattle.bit_code.proofs.LowDigits.{length-low_digits}
 use Rattle.bit_code.proofs.OtherOrder.{reversed_word, front_of_word}
 use Rattle.bit_code.proofs.reversal.front_digits.Goals as goal

@@ -4,7 +4,7 @@ use Rattle.std.specs.List.{range_with_len}
 use Rattle.std.proofs.lemmas.Bool.{cases_lt, lt-ltb, le-ltb}
 use Rattle.bit_code.specs.declared.coder.Coder.TheVariants as coders
 use Rattle.bit_code.specs.Coder.{spelling, spelling_by, sizes}
-use Rattle.bit_code.specs.DigitLaws.{length-digits}
+use Rattle.bit_code.proofs.DigitLaws.{length-digits}
 
 -- a spelling over several classes has a bit and the digits of the first class at least
 shortest : (size last n : ℕ) → size ≤ length (spelling_by (range_with_len size (suc last)) n)

@@ -7,7 +7,7 @@ use Rattle.std.proofs.lemmas.Bool.{cases_lt, lt-ltb, le-ltb, ltb-false}
 use Rattle.bit_code.specs.declared.coder.Coder.{Coder}
 use Rattle.bit_code.specs.Coder.{digits, number_of, values_of, spelling_by, spelling, sizes, least, Spells}
 use Rattle.bit_code.specs.Reading.{digits_at, read_by, read_value, after_values}
-use Rattle.bit_code.specs.DigitLaws.{length-digits, number_of-lt, digits-number_of, number_of-digits}
+use Rattle.bit_code.proofs.DigitLaws.{length-digits, number_of-lt, digits-number_of, number_of-digits}
 
 -- the bits begin with the spelling of number n over the classes, and then go on with the rest
 pub record Begins (classes : List ℕ) (n : ℕ) (bits rest : List Bool) : Type 0 where
