@@ -2,7 +2,7 @@ use crate::compile_work::compile_often;
 use crate::numbers::{Numbers, sum_of};
 use crate::refusal::Refusal;
 use host_io::{Folder, Name};
-use prefix_table::{MOST_TEXT, Table, TableFault, read_table};
+use prefix_table::{MAX_TEXT, Table, TableFault, read_table};
 use save_store::load;
 use std::alloc::Global;
 
@@ -35,7 +35,7 @@ pub(crate) fn run_on_text<F: Folder>(
     folder: &mut F,
     work: TableWork,
 ) -> Result<u64, Refusal> {
-    match load(alloc, folder, Name::Prefixes, MOST_TEXT as u64) {
+    match load(alloc, folder, Name::Prefixes, MAX_TEXT as u64) {
         Ok(Some(bytes)) => work.run(alloc, bytes.items()),
         Ok(None) => Err(Refusal::NoPrefixes),
         Err(_) => Err(Refusal::NotLoaded),
@@ -44,7 +44,7 @@ pub(crate) fn run_on_text<F: Folder>(
 
 /// Reads the table of the text.
 fn read(alloc: Global, text: &[u8]) -> Result<Table, Refusal> {
-    if text.len() > MOST_TEXT {
+    if text.len() > MAX_TEXT {
         return Err(Refusal::NoTable);
     }
     read_table(alloc, text).map_err(refusal_of)

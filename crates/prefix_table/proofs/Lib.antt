@@ -10,4 +10,10 @@ pub mod OrderedLaws
 pub mod ReadLaws
 pub mod PrintLaws
 pub mod OneReading
+pub mod Items
+pub mod Rising
+pub mod PathLaws
+pub mod Settled
+pub mod TextSizes
+pub mod InOrder
 pub mod Examples

@@ -12,7 +12,7 @@ use Rattle.host_io.specs.Lines.{IsPassedOver, lines_of}
 use Rattle.prefix_table.specs.Text.{IsRowLine, IsInRange, IsClear, AreLines, IsTableText, IsFault, HasFault, row_of}
 use Rattle.prefix_table.specs.Numbered.{IsSettled}
 use Rattle.prefix_table.specs.declared.row.Row.{Row}
-use Rattle.prefix_table.specs.declared.row.TheConstants.{MOST_ROWS}
+use Rattle.prefix_table.specs.declared.row.TheConstants.{MAX_ROWS}
 use Rattle.prefix_table.specs.declared.fault.TableFault.{TableFault}
 use Rattle.prefix_table.specs.declared.fault.TableFault.TheVariants.{Form, Number, HostBits, Repeated, TooMany, TooLarge, Memory}
 use Rattle.prefix_table.proofs.NumberedLaws.{Contains-nil, Contains-one}
@@ -81,7 +81,7 @@ apart_last xs tail row earlier apart (k, within, is) same =
     sub_same n = omega arith
 
 -- a line at fault is not passed over, and is not that of one more row
-clash : (xs rest : List Row) (line : List ℕ) (n : ℕ) (fault : TableFault) → IsSettled line → HasFault xs line n fault → GoesOn line rest → AreApart (xs ++ rest) → length (xs ++ rest) ≤ MOST_ROWS → ⊥
+clash : (xs rest : List Row) (line : List ℕ) (n : ℕ) (fault : TableFault) → IsSettled line → HasFault xs line n fault → GoesOn line rest → AreApart (xs ++ rest) → length (xs ++ rest) ≤ MAX_ROWS → ⊥
 clash xs rest line n (Form at) settled h (inl passed) apart few = h.1.not_passed_over passed
 clash xs rest line n (Form at) settled h (inr (row, tail, is, e)) apart few = h.1.no_entry is.entry is.is_entry
 clash xs rest line n (Number at) settled h (inl passed) apart few = h.1.is_entry.not_passed_over passed
@@ -101,11 +101,11 @@ clash xs rest line n (TooLarge size) settled h goes apart few = h
 clash xs rest line n Memory settled h goes apart few = h
 
 -- a fault is not in lines of rows that a table may have
-pub fault_clash : (before : List (List ℕ)) (line : List ℕ) (more : List (List ℕ)) (xs said : List Row) (n : ℕ) (fault : TableFault) → All IsSettled (before ++ line ∷ []) → AreLines before xs → HasFault xs line n fault → AreLines (before ++ line ∷ more) said → AreApart said → length said ≤ MOST_ROWS → ⊥
+pub fault_clash : (before : List (List ℕ)) (line : List ℕ) (more : List (List ℕ)) (xs said : List Row) (n : ℕ) (fault : TableFault) → All IsSettled (before ++ line ∷ []) → AreLines before xs → HasFault xs line n fault → AreLines (before ++ line ∷ more) said → AreApart said → length said ≤ MAX_ROWS → ⊥
 fault_clash before line more xs said n fault settled are h also apart few =
     let on = goes_on before line more xs said settled are also in
     let own = All-contains-last before line settled in
-    clash xs on.0 line n fault own h on.2 (subst AreApart on.1 apart) (subst (λ (rs : List Row). length rs ≤ MOST_ROWS) on.1 few)
+    clash xs on.0 line n fault own h on.2 (subst AreApart on.1 apart) (subst (λ (rs : List Row). length rs ≤ MAX_ROWS) on.1 few)
   where
     All-contains-last : (ls : List (List ℕ)) (l : List ℕ) → All IsSettled (ls ++ l ∷ []) → IsSettled l
     All-contains-last [] l all = All-head IsSettled l [] all

@@ -17,6 +17,7 @@ use Rattle.host_io.specs.Lines.{IsPassedOver, lines_of, onto_first}
 use Rattle.prefix_table.specs.Text.{IsAddress, IsInRange, IsRowLine, AreLines, IsTableText, row_of, width}
 use Rattle.prefix_table.specs.Print.{is_mapped, ipv4_entry, ipv6_entry, entry_of, text_by, address_text, entry_text, row_text, table_text}
 use Rattle.prefix_table.specs.declared.row.Row.{Row}
+use Rattle.prefix_table.specs.declared.row.TheConstants.{MAX_ASN}
 use Rattle.prefix_table.specs.declared.entry.Entry.{Entry}
 use Rattle.prefix_table.specs.declared.entry.Family.{Family}
 use Rattle.prefix_table.specs.declared.entry.Family.TheVariants.{Ipv4, Ipv6}
@@ -113,6 +114,16 @@ entry-fits row false is e =
 len_small : (family : Family) (len : ℕ) → len ≤ width family → len ≤ 128
 len_small Ipv4 len h = omega arith
 len_small Ipv6 len h = h
+
+-- how long the prefix and how large the number of a printed row are
+pub record SmallEntry (entry : Entry) : Type 0 where
+  pub len : entry.len ≤ 128
+  pub most : entry.asn ≤ MAX_ASN
+
+pub row_in_range : (row : Row) → IsRow row → SmallEntry (entry_of row)
+row_in_range row is =
+    let fits : EntryFits row (entry_of row) = entry-fits row (is_mapped row) is refl in
+    record { len = len_small (entry_of row).family (entry_of row).len fits.0.len; most = fits.0.most }
 
 -- a printed row is the line of the row
 row-line : (row : Row) → IsRow row → IsAddress (entry_of row).family (address_text (entry_of row)) (entry_of row).address → IsRowLine (entry_text (entry_of row)) row

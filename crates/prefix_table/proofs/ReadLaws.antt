@@ -11,7 +11,7 @@ use Rattle.host_io.specs.Lines.{lines_of}
 use Rattle.prefix_table.specs.Text.{IsTableText, IsFault, HasFault}
 use Rattle.prefix_table.specs.Numbered.{IsSettled, row_in, AreNumbered, NotAfter, IsRepeatAt, IsWhole, StopsAt, Overflows, IsReadingOf}
 use Rattle.prefix_table.specs.declared.row.Row.{Row}
-use Rattle.prefix_table.specs.declared.row.TheConstants.{MOST_ROWS}
+use Rattle.prefix_table.specs.declared.row.TheConstants.{MAX_ROWS}
 use Rattle.prefix_table.specs.declared.numbered.NumberedRow.{NumberedRow}
 use Rattle.prefix_table.specs.declared.fault.TableFault.{TableFault}
 use Rattle.prefix_table.specs.declared.fault.TableFault.TheVariants.{Form, Number, HostBits, Repeated, TooMany, TooLarge, Memory}
@@ -77,7 +77,7 @@ pub record IsRead (text : List ℕ) (rows : List NumberedRow) : Type 0 where
   pub lines_are : lines_of text ≡ lines ++ more
   pub are_rows : AreNumbered 1 lines rows
   pub settled : All IsSettled lines
-  pub few : length rows ≤ MOST_ROWS + 1
+  pub few : length rows ≤ MAX_ROWS + 1
 
 whole_read : (text : List ℕ) (rows : List NumberedRow) → IsWhole text rows → IsRead text rows
 whole_read text rows w = record { lines = lines_of text; more = []; lines_are = sym (append-nil (lines_of text)); are_rows = w.lines; settled = w.settled; few = omega (arith, w.few) }

@@ -5,7 +5,7 @@ use Rattle.host_io.specs.Lines.{IsPassedOver, lines_of}
 use Rattle.prefix_table.specs.Text.{IsRowLine, HasFault}
 use Rattle.prefix_table.specs.Numbered.{IsSettled, row_in, with_line, AreNumbered, IsWhole, StopsAt, Overflows}
 use Rattle.prefix_table.specs.declared.row.Row.{Row}
-use Rattle.prefix_table.specs.declared.row.TheConstants.{MOST_ROWS}
+use Rattle.prefix_table.specs.declared.row.TheConstants.{MAX_ROWS}
 use Rattle.prefix_table.specs.declared.numbered.NumberedRow.{NumberedRow}
 use Rattle.prefix_table.specs.declared.fault.TableFault.{TableFault}
 
@@ -32,7 +32,7 @@ pub record SoFar (text rest : List ℕ) (rows : List NumberedRow) (line : ℕ) :
   pub are_rows : AreNumbered 1 done rows
   pub settled : All IsSettled done
   pub count : line ≡ length done
-  pub few : length rows ≤ MOST_ROWS
+  pub few : length rows ≤ MAX_ROWS
   pub short : line + length rest ≤ length text
 
 pub so_far_none : (text : List ℕ) → SoFar text text [] 0
@@ -53,7 +53,7 @@ so_far_passed text rest after first rows line so cut fewer settled passed = reco
   short = omega (arith, so.short);
 }
 
-pub so_far_row : (text rest after first : List ℕ) (rows : List NumberedRow) (line : ℕ) (row : Row) → SoFar text rest rows line → lines_of rest ≡ first ∷ lines_of after → length after < length rest → IsSettled first → IsRowLine first row → length rows + 1 ≤ MOST_ROWS → SoFar text after (rows ++ with_line row (line + 1) ∷ []) (line + 1)
+pub so_far_row : (text rest after first : List ℕ) (rows : List NumberedRow) (line : ℕ) (row : Row) → SoFar text rest rows line → lines_of rest ≡ first ∷ lines_of after → length after < length rest → IsSettled first → IsRowLine first row → length rows + 1 ≤ MAX_ROWS → SoFar text after (rows ++ with_line row (line + 1) ∷ []) (line + 1)
 so_far_row text rest after first rows line row so cut fewer settled is room = record {
   done = so.done ++ first ∷ [];
   lines = next_lines text rest after first so.done so.lines cut;
@@ -64,7 +64,7 @@ so_far_row text rest after first rows line row so cut fewer settled is room = re
   short = omega (arith, so.short);
 }
 
-pub overflows : (text rest after first : List ℕ) (rows : List NumberedRow) (line : ℕ) (row : Row) → SoFar text rest rows line → lines_of rest ≡ first ∷ lines_of after → IsSettled first → IsRowLine first row → MOST_ROWS < length (rows ++ with_line row (line + 1) ∷ []) → Overflows text (rows ++ with_line row (line + 1) ∷ [])
+pub overflows : (text rest after first : List ℕ) (rows : List NumberedRow) (line : ℕ) (row : Row) → SoFar text rest rows line → lines_of rest ≡ first ∷ lines_of after → IsSettled first → IsRowLine first row → MAX_ROWS < length (rows ++ with_line row (line + 1) ∷ []) → Overflows text (rows ++ with_line row (line + 1) ∷ [])
 overflows text rest after first rows line row so cut settled is full = record {
   before = so.done;
   line = first;

@@ -10,3 +10,7 @@ cut bits len = first_bits len bits * 2 ^ (128 - len)
 -- the row is not after one of these bits and this length
 abbrev pub is_up_to : ℕ → ℕ → Row → Bool
 is_up_to bits len row = nat_lt row.bits bits || ((row.bits == bits) && nat_le row.len len)
+
+-- the first row comes before the second one
+abbrev pub precedes : Row → Row → Bool
+precedes a b = nat_lt a.bits b.bits || ((a.bits == b.bits) && nat_lt a.len b.len)

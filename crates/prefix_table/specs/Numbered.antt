@@ -5,7 +5,7 @@ use Rattle.host_io.specs.Lines.{IsPassedOver, lines_of}
 use Rattle.prefix_table.specs.Text.{IsEntry, IsRowLine, HasFault}
 use Rattle.prefix_table.specs.declared.row.Row.{Row}
 use Rattle.prefix_table.specs.declared.entry.Entry.{Entry}
-use Rattle.prefix_table.specs.declared.row.TheConstants.{MOST_ROWS}
+use Rattle.prefix_table.specs.declared.row.TheConstants.{MAX_ROWS}
 use Rattle.prefix_table.specs.declared.numbered.NumberedRow.{NumberedRow}
 use Rattle.prefix_table.specs.declared.rows.Reading.{Reading}
 use Rattle.prefix_table.specs.declared.fault.TableFault.{TableFault}
@@ -33,7 +33,7 @@ AreNumbered n (line ∷ lines) (row ∷ rows) =
 pub record IsWhole (text : List ℕ) (rows : List NumberedRow) : Type 0 where
   pub lines : AreNumbered 1 (lines_of text) rows
   pub settled : All IsSettled (lines_of text)
-  pub few : length rows ≤ MOST_ROWS
+  pub few : length rows ≤ MAX_ROWS
 
 -- the lines before one are those of the rows, and this one has the fault by itself
 pub record StopsAt (text : List ℕ) (rows : List NumberedRow) (fault : TableFault) : Type 0 where
@@ -42,7 +42,7 @@ pub record StopsAt (text : List ℕ) (rows : List NumberedRow) (fault : TableFau
   pub after : List (List ℕ)
   pub lines : lines_of text ≡ before ++ line ∷ after
   pub are_rows : AreNumbered 1 before rows
-  pub few : length rows ≤ MOST_ROWS
+  pub few : length rows ≤ MAX_ROWS
   pub settled : All IsSettled (before ++ line ∷ [])
   pub has : HasFault [] line (length before + 1) fault
 
@@ -56,7 +56,7 @@ pub record Overflows (text : List ℕ) (rows : List NumberedRow) : Type 0 where
   pub last : NumberedRow
   pub split : rows ≡ first ++ last ∷ []
   pub are_rows : AreNumbered 1 before first
-  pub full : length first ≡ MOST_ROWS
+  pub full : length first ≡ MAX_ROWS
   pub settled : All IsSettled (before ++ line ∷ [])
   pub number : last.line ≡ length before + 1
   pub is_row : IsRowLine line (row_in last)

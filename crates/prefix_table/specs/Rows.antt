@@ -2,8 +2,9 @@
 use Rattle.std.specs.Prelude.{◌≡◌, ◌==◌, ◌⊎◌, ℕ, ◌-◌, ◌/◌, ◌%◌, ◌^◌, ◌<◌, ◌≤◌, Bool, true, List, [], ◌∷◌, Option, Some, None, All, AllPairs, Contains, filter, length, nat_lt, if◌then◌else◌}
 use Rattle.std.specs.Option.{option_map_or}
 use Rattle.bit_code.specs.Coder.{digits}
+use Rattle.bit_code.specs.Prefixes.{begins_with}
 use Rattle.prefix_table.specs.declared.row.Row.{Row}
-use Rattle.prefix_table.specs.declared.row.TheConstants.{MOST_ASN, MOST_ROWS}
+use Rattle.prefix_table.specs.declared.row.TheConstants.{MAX_ASN, MAX_ROWS}
 
 -- the first `len` of 128 bits, as a number (RFC 4291, section 2.3, and RFC 4632, section 3.1)
 abbrev pub first_bits : ℕ → ℕ → ℕ
@@ -23,7 +24,7 @@ pub record IsRow (row : Row) : Type 0 where
   pub bits : row.bits < 2 ^ 128
   pub clear : row.bits % 2 ^ (128 - row.len) ≡ 0
   pub some : 1 ≤ row.asn
-  pub most : row.asn ≤ MOST_ASN
+  pub most : row.asn ≤ MAX_ASN
 
 -- the order of the rows: by bits, then by length
 abbrev pub Precedes : Row → Row → Type 0
@@ -37,7 +38,7 @@ SamePrefix a b = (a.bits ≡ b.bits) × (a.len ≡ b.len)
 pub record IsTable (rows : List Row) : Type 0 where
   pub each : All IsRow rows
   pub rising : AllPairs Precedes rows
-  pub few : length rows ≤ MOST_ROWS
+  pub few : length rows ≤ MAX_ROWS
 
 -- the row, or the other one if that is longer
 abbrev pub longer : Row → Option Row → Row
@@ -58,3 +59,7 @@ pub record IsLongest (rows : List Row) (address : ℕ) (row : Row) : Type 0 wher
   pub is_row : Contains rows row
   pub is_prefix : covers row address ≡ true
   pub most : (other : Row) → Contains rows other → covers other address ≡ true → other.len ≤ row.len
+
+-- the number of a path: that of the longest row that is the path or a prefix of it, or 0
+unfoldable pub number_at : List Row → List Bool → ℕ
+number_at rows p = option_map_or (λ row. row.asn) (longest (filter (λ row. begins_with p (path row)) rows)) 0

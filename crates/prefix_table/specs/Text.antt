@@ -4,7 +4,7 @@ use Rattle.host_io.specs.Lines.{IsPassedOver, lines_of}
 use Rattle.net_addr.specs.Text.{IsIpv4Text, IsIpv6Text}
 use Rattle.prefix_table.specs.Rows.{IsTable, SamePrefix}
 use Rattle.prefix_table.specs.declared.row.Row.{Row}
-use Rattle.prefix_table.specs.declared.row.TheConstants.{MOST_ASN, MOST_ROWS}
+use Rattle.prefix_table.specs.declared.row.TheConstants.{MAX_ASN, MAX_ROWS}
 use Rattle.prefix_table.specs.declared.entry.Entry.{Entry}
 use Rattle.prefix_table.specs.declared.entry.Family.{Family}
 use Rattle.prefix_table.specs.declared.entry.Family.TheVariants.{Ipv4, Ipv6}
@@ -45,7 +45,7 @@ pub record IsEntry (line : List ℕ) (entry : Entry) : Type 0 where
 pub record IsInRange (entry : Entry) : Type 0 where
   pub len : entry.len ≤ width entry.family
   pub some : 1 ≤ entry.asn
-  pub most : entry.asn ≤ MOST_ASN
+  pub most : entry.asn ≤ MAX_ASN
 
 -- the row of a line
 abbrev pub row_of : Entry → Row
@@ -75,7 +75,7 @@ AreLines (line ∷ lines) (row ∷ rows) =
 pub record AreRowLines (lines : List (List ℕ)) (rows : List Row) : Type 0 where
   pub said : AreLines lines rows
   pub apart : AllPairs (λ a b. SamePrefix a b → ⊥) rows
-  pub few : length rows ≤ MOST_ROWS
+  pub few : length rows ≤ MAX_ROWS
 
 -- the text is that of the table with these rows, which may be in the text in any order
 pub record IsTableText (text : List ℕ) (rows : List Row) : Type 0 where
@@ -115,7 +115,7 @@ pub record IsOneTooMany (before : List Row) (line : List ℕ) : Type 0 where
   pub row : Row
   pub is_row : IsRowLine line row
   pub new : (earlier : Row) → Contains before earlier → SamePrefix row earlier → ⊥
-  pub full : length before ≡ MOST_ROWS
+  pub full : length before ≡ MAX_ROWS
 
 -- the line, of this number, has the fault, if the lines before it are those of these rows
 abbrev pub HasFault : List Row → List ℕ → ℕ → TableFault → Type 0

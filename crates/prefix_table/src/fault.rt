@@ -31,10 +31,10 @@ pub enum TableFault {
         /// The line.
         line: u32,
     },
-    /// There are more than `MOST_ROWS` rows.
+    /// There are more than `MAX_ROWS` rows.
     #[error("too-many")]
     TooMany,
-    /// The file of the text has more bytes than `MOST_TEXT`.
+    /// The file of the text has more bytes than `MAX_TEXT`.
     #[error("too-large")]
     TooLarge {
         /// The length of the file in bytes.

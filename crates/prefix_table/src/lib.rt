@@ -3,7 +3,10 @@
 
 mod entry;
 mod fault;
+mod in_order;
+mod law;
 mod line;
+mod memory;
 mod numbered;
 mod print;
 mod read;
@@ -14,8 +17,10 @@ mod search;
 mod table;
 
 pub use fault::TableFault;
+pub use law::texts_have_one_meaning;
+pub use memory::Memory;
 pub use print::put_table;
-pub use read::{MOST_TEXT, read_table};
-pub use row::{MOST_ASN, MOST_ROWS, Row};
+pub use read::{MAX_TEXT, read_table};
+pub use row::{MAX_ASN, MAX_ROWS, Row};
 pub use search::common_bits;
 pub use table::Table;

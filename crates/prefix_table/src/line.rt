@@ -7,11 +7,11 @@ ghost use Rattle.prefix_table.specs.declared.entry.Family.{Family};
 
 use crate::entry::{Entry, Family};
 use crate::search::cut;
-use crate::{MOST_ASN, Row, TableFault};
+use crate::{MAX_ASN, Row, TableFault};
 use net_addr::{around_last, parse_ipv4, parse_ipv6, parse_number};
 
 /// The largest number of ten digits.
-const MOST_NUMBER: u64 = 9_999_999_999;
+const MAX_NUMBER: u64 = 9_999_999_999;
 
 /// Returns the row of the line, which has number `line`, or `None` if it is passed over.
 pub(crate) fn read_line(text: &[u8], line: u32) -> Result<Option<Row>, TableFault>
@@ -59,8 +59,8 @@ fn read_entry(line: &[u8]) -> Option<Entry>
     Some(Entry {
         family,
         address,
-        len: parse_number(len, MOST_NUMBER)?,
-        asn: parse_number(digits, MOST_NUMBER)?,
+        len: parse_number(len, MAX_NUMBER)?,
+        asn: parse_number(digits, MAX_NUMBER)?,
     })
 }
 
@@ -85,7 +85,7 @@ fn is_in_range(entry: &Entry) -> bool
         Family::Ipv4 => 32,
         Family::Ipv6 => 128,
     };
-    entry.len <= width && 1 <= entry.asn && entry.asn <= u64::from(MOST_ASN)
+    entry.len <= width && 1 <= entry.asn && entry.asn <= u64::from(MAX_ASN)
 }
 
 /// Returns the row that the entry says.
@@ -106,7 +106,7 @@ fn row_of(entry: &Entry) -> Row
 }
 
 /// Returns whether no bit is set after the prefix.
-fn is_clear(row: &Row) -> bool
+pub(crate) fn is_clear(row: &Row) -> bool
     requires { row.now.len ≤ 128 }
     ensures { IsTrue result ↔ IsClear row.now }
 {

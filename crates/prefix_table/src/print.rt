@@ -1,12 +1,13 @@
 ghost use Rattle.std.specs.Prelude.{◌≡◌, ◌≤◌, ◌++◌, ◌<◌, ◌^◌, List, length, take, flat_map, OnOk, OnErr, All, decimal, codes};
 ghost use Rattle.prefix_table.specs.Rows.{IsRow, IsTable};
 ghost use Rattle.prefix_table.specs.Text.{IsTableText, IsRowLine, IsAddress, width};
+ghost use Rattle.prefix_table.specs.declared.read.TheConstants.{MAX_TEXT};
 ghost use Rattle.prefix_table.specs.Print.{entry_of, address_text, entry_text, row_text, table_text};
 
 use crate::entry::{Entry, Family};
-use crate::{Row, Table};
+use crate::{Memory, Row, Table};
 use itoa::Buffer;
-use net_addr::{Memory, put_ipv4, put_ipv6};
+use net_addr::{put_ipv4, put_ipv6};
 
 /// Appends the rows of the table in their order, one a line. A row of mapped addresses is written
 /// in the IPv4 form. If memory runs out, `out` is unchanged.
@@ -14,6 +15,8 @@ pub fn put_table(table: &Table, out: &mut Vec<u8>) -> Result<(), Memory>
     ensures ok { OnOk result (out.new.items ≡ out.old.items ++ table_text table.now) }
     ensures err { OnErr result (out.new.items ≡ out.old.items) }
     ensures reads_back { OnOk result (IsTableText (table_text table.now) table.now) }
+    // The text of a table is short enough for `read_table`.
+    ensures short { length (table_text table.now) ≤ MAX_TEXT }
 {
     let before = out.len();
     let put = put_rows(table.rows(), out);
@@ -63,8 +66,8 @@ fn put_address(entry: &Entry, out: &mut Vec<u8>) -> Result<(), Memory>
     ensures reads_back { IsAddress entry.now.family (address_text entry.now) entry.now.address }
 {
     match entry.family {
-        Family::Ipv4 => put_ipv4(entry.address as u32, out),
-        Family::Ipv6 => put_ipv6(entry.address, out),
+        Family::Ipv4 => Ok(put_ipv4(entry.address as u32, out)?),
+        Family::Ipv6 => Ok(put_ipv6(entry.address, out)?),
     }
 }
 

@@ -1,6 +1,7 @@
 ghost use Rattle.std.specs.Prelude.{◌≡◌, ◌≤◌, ◌⊎◌, List, length, IfOk, IfErr, IsErrAnd, MatchResult};
 ghost use Rattle.prefix_table.specs.Text.{IsTableText, IsFault};
 ghost use Rattle.prefix_table.specs.declared.row.Row.{Row};
+ghost use Rattle.prefix_table.specs.declared.row.TheConstants.{MAX_ASN, MAX_ROWS};
 ghost use Rattle.prefix_table.specs.declared.fault.TableFault.{TableFault};
 ghost use Rattle.prefix_table.specs.declared.fault.TableFault.TheVariants as faults;
 
@@ -9,13 +10,13 @@ use crate::rows::read_rows;
 use crate::{Table, TableFault};
 use std::alloc::Global;
 
-/// The most bytes of a text that `read_table` takes.
-pub const MOST_TEXT: usize = 134_217_728;
+/// The most bytes of the text of a table. This limit is our own.
+pub const MAX_TEXT: usize = 134_217_728;
 
 /// Reads the text of a table. Its rows may be in any order, among empty lines and comments. The
 /// fault is that of the first malformed line, unless memory runs out.
 pub fn read_table(alloc: Global, text: &[u8]) -> Result<Table, TableFault>
-    requires { length text.now ≤ MOST_TEXT }
+    requires { length text.now ≤ MAX_TEXT }
     ensures found { IfOk result (IsTableText text.now) }
     ensures cause { IfErr result (λ fault. (fault ≡ faults.Memory) ⊎ IsFault text.now fault) }
     // The text of a table is read as that table, unless memory runs out.
@@ -24,6 +25,9 @@ pub fn read_table(alloc: Global, text: &[u8]) -> Result<Table, TableFault>
     // A text that has a fault is answered with that fault, unless memory runs out.
     ensures exact { (first : TableFault) → IsFault text.now first
         → IsErrAnd result (λ fault. (fault ≡ faults.Memory) ⊎ (fault ≡ first)) }
+    ensures max_text { MAX_TEXT ≡ 134217728 }
+    ensures max_rows { MAX_ROWS ≡ 2000000 }
+    ensures max_asn { MAX_ASN ≡ 33521664 }
 {
     let mut reading = read_rows(alloc, text)?;
     reading.rows.sort_unstable();

@@ -1,9 +1,9 @@
 /// The largest AS number that an asmap can spell (`ASN_BIT_SIZES` in util/asmap.cpp of Bitcoin
 /// Core).
-pub const MOST_ASN: u32 = 33_521_664;
+pub const MAX_ASN: u32 = 33_521_664;
 
-/// The most rows of a table.
-pub const MOST_ROWS: usize = 2_000_000;
+/// The most rows of a table. This limit is our own.
+pub const MAX_ROWS: usize = 2_000_000;
 
 /// The addresses that begin with a prefix belong to an AS. An IPv4 prefix is one of mapped
 /// addresses, `::ffff:0:0/96`.
@@ -13,6 +13,6 @@ pub struct Row {
     pub bits: u128,
     /// The length of the prefix in bits, at most 128.
     pub len: u8,
-    /// The number of the AS, from 1 to `MOST_ASN`.
+    /// The number of the AS, from 1 to `MAX_ASN`.
     pub asn: u32,
 }

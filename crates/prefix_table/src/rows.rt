@@ -1,11 +1,11 @@
 ghost use Rattle.std.specs.Prelude.{◌≡◌, ◌<◌, ◌≤◌, true, false, length, IfOk};
 ghost use Rattle.prefix_table.specs.Numbered.{IsReading};
-ghost use Rattle.prefix_table.specs.declared.read.TheConstants.{MOST_TEXT};
-ghost use Rattle.prefix_table.specs.declared.row.TheConstants.{MOST_ROWS};
+ghost use Rattle.prefix_table.specs.declared.read.TheConstants.{MAX_TEXT};
+ghost use Rattle.prefix_table.specs.declared.row.TheConstants.{MAX_ROWS};
 
 use crate::line::read_line;
 use crate::numbered::NumberedRow;
-use crate::{MOST_ROWS, TableFault};
+use crate::{MAX_ROWS, TableFault};
 use host_io::split_line;
 use std::alloc::{AllocError, Global};
 
@@ -21,7 +21,7 @@ pub(crate) struct Reading {
 
 /// Reads the lines one after another.
 pub(crate) fn read_rows(alloc: Global, text: &[u8]) -> Result<Reading, AllocError>
-    requires { length text.now ≤ MOST_TEXT }
+    requires { length text.now ≤ MAX_TEXT }
     ensures { IfOk result (IsReading text.now) }
 {
     let mut rows = Vec::new(alloc);
@@ -51,8 +51,8 @@ pub(crate) fn read_rows(alloc: Global, text: &[u8]) -> Result<Reading, AllocErro
 
 /// Returns whether there are more rows than a table has.
 fn is_too_many(count: usize) -> bool
-    ensures many { result ≡ true → MOST_ROWS < count }
-    ensures few { result ≡ false → count ≤ MOST_ROWS }
+    ensures many { result ≡ true → MAX_ROWS < count }
+    ensures few { result ≡ false → count ≤ MAX_ROWS }
 {
-    count > MOST_ROWS
+    count > MAX_ROWS
 }

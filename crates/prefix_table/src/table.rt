@@ -1,11 +1,12 @@
-ghost use Rattle.std.specs.Prelude.{◌≡◌, map, IfOk, Contains, true};
+ghost use Rattle.std.specs.Prelude.{◌≡◌, map, IfOk, IfSome, IfNone, OnSome, Contains, true};
 ghost use Rattle.prefix_table.specs.Numbered.{row_in};
 ghost use Rattle.prefix_table.specs.Rows.{IsTable, IsLongest, best, covers};
 ghost use Rattle.prefix_table.specs.declared.row.Row.{Row};
 
-use crate::Row;
+use crate::in_order::is_table;
 use crate::numbered::{NumberedRow, rows_in};
 use crate::search::longest_match;
+use crate::{Memory, Row};
 use std::alloc::{AllocError, Global};
 use std::marker::Model;
 
@@ -36,6 +37,22 @@ impl Table {
         Ok(Table {
             rows: rows_in(alloc, rows)?,
         })
+    }
+
+    /// Makes a table of these rows, or returns `None` if they are not those of a table: they must
+    /// rise strictly by bits and then by length, be at most `MAX_ROWS`, and have no bit set after
+    /// their prefix and a number from 1 to `MAX_ASN`.
+    pub fn from_rows(alloc: Global, rows: &[Row]) -> Result<Option<Table>, Memory>
+        ensures found { IfOk result (λ made. IfSome made (λ table. table ≡ rows.now)) }
+        ensures some { IfOk result (λ made. OnSome made (IsTable rows.now)) }
+        ensures none { IfOk result (λ made. IfNone made (IsTable rows.now → ⊥)) }
+    {
+        if !is_table(rows) {
+            return Ok(None);
+        }
+        Ok(Some(Table {
+            rows: Vec::from_slice(alloc, rows)?,
+        }))
     }
 
     /// Returns the rows, rising by bits and then by length.

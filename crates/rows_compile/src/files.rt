@@ -2,7 +2,7 @@
 use crate::hundred::{BITS, FILE, ROWS};
 use asmap_compile::{CompileFault, Compiled, compile};
 use asmap_vm::check;
-use prefix_table::{MOST_TEXT, read_table};
+use prefix_table::{MAX_TEXT, read_table};
 use std::alloc::{AllocError, Global};
 use std::process::Abort;
 use std::test::Fail;
@@ -72,7 +72,7 @@ fffffffffffffefffbffefffbffffffefffbffefffbffffffefffbffefffbffffffefffbffefffbf
 /// What a text of rows compiles to.
 fn compiled(alloc: Global, text: &str) -> Result<Compiled, Fail> {
     let bytes = text.as_bytes();
-    if bytes.len() > MOST_TEXT {
+    if bytes.len() > MAX_TEXT {
         return Err("too long".into());
     }
     let table = read_table(alloc, bytes)?;

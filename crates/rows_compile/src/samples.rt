@@ -1,6 +1,6 @@
 // Random tables.
 use net_addr::put_ipv6;
-use prefix_table::{MOST_TEXT, Row, Table, read_table};
+use prefix_table::{MAX_TEXT, Row, Table, read_table};
 use rand_core::{Rng, SeedableRng};
 use rand_xoshiro::Xoshiro256PlusPlus;
 use std::alloc::Global;
@@ -67,7 +67,7 @@ pub(crate) fn random_table(alloc: Global, seed: u64, count: usize) -> Result<Tab
             rows.push(row)?;
         }
     }
-    if text.len() > MOST_TEXT {
+    if text.len() > MAX_TEXT {
         return Err("too long".into());
     }
     Ok(read_table(alloc, text.as_slice())?)

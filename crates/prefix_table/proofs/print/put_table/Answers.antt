@@ -4,6 +4,7 @@ use Rattle.prefix_table.specs.Text.{IsAddress}
 use Rattle.prefix_table.specs.Print.{entry_of, address_text, row_text, table_text}
 use Rattle.prefix_table.specs.declared.row.Row.{Row}
 use Rattle.prefix_table.proofs.PrintLaws.{printed_is_read}
+use Rattle.prefix_table.proofs.TextSizes.{length-table}
 use Rattle.prefix_table.proofs.print.put_table.Goals as goal
 
 on_ok_then : {X E : Type 0} (r : Result X E) (P Q : Type 0) → (P → Q) → OnOk r P → OnOk r Q
@@ -18,3 +19,9 @@ returns-else-is_err-clause-ok c =
 pub returns-else-is_err-clause-reads_back : goal.returns-else-is_err-clause-reads_back
 returns-else-is_err-clause-reads_back c =
     on_ok_then c.put_rows-put.result _ _ (λ back. printed_is_read c.args.table.now c.rows.ensures.table (subst (All (λ (row : Row). IsAddress (entry_of row).family (address_text (entry_of row)) (entry_of row).address)) c.rows.ensures.value back)) c.put_rows-put.ensures.reads_back
+
+pub returns-else-is_err-clause-short : goal.returns-else-is_err-clause-short
+returns-else-is_err-clause-short c = length-table c.args.table.now c.rows.ensures.table
+
+pub returns-then-is_err-clause-short : goal.returns-then-is_err-clause-short
+returns-then-is_err-clause-short c = length-table c.args.table.now c.rows.ensures.table
