@@ -6,17 +6,17 @@ use Rattle.std.specs.Option.{option_map_or}
 use Rattle.std.proofs.lemmas.List.Elements.{Contains-get_or, All-contains, filter_more}
 use Rattle.std.proofs.lemmas.Nat.{pow_pos}
 use Rattle.bit_code.specs.Coder.{digits}
-use Rattle.asmap_vm.specs.Code.{begins_with}
+use Rattle.bit_code.specs.Prefixes.{begins_with}
 use Rattle.prefix_table.specs.declared.row.Row.{Row}
-use Rattle.prefix_table.specs.Rows.{path, longest, first_bits, covers, IsRow, IsTable, Precedes}
-use Rattle.asmap_compile.specs.Compiled.{number_at, shorter_than, stays}
-use Rattle.asmap_compile.proofs.Addresses.{covers_bits, address_start}
-use Rattle.asmap_compile.proofs.Bits.{begins_from, begins_within, begins_more, false_true, filter_item, item_filter, filter_same, filter_none}
+use Rattle.prefix_table.specs.Rows.{path, longest, first_bits, covers, IsRow, IsTable, Precedes, number_at}
+use Rattle.asmap_compile.specs.Compiled.{shorter_than, stays}
+use Rattle.bit_code.proofs.PrefixLaws.{begins_from, begins_within, begins_more, false_true}
+use Rattle.prefix_table.proofs.Items.{filter_same, filter_item, filter_none, item_filter}
 use Rattle.prefix_table.proofs.BitLaws.{div-le-div}
-use Rattle.asmap_compile.proofs.OrderLaws.{prefix_first}
 use Rattle.asmap_compile.proofs.StopLaws.{one_longer}
 use Rattle.asmap_compile.proofs.TurnLaws.{rows_le}
-use Rattle.asmap_compile.proofs.RowLaws.{path_long, best_row}
+use Rattle.prefix_table.proofs.PathLaws.{path_long, address_start, covers_bits, prefix_first}
+use Rattle.asmap_compile.proofs.RowLaws.{best_row}
 
 -- what the rows before index i say of those that are kept on the stack: it has no others, they grow longer, and any
 -- other is a prefix of no later row

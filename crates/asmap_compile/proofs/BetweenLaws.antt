@@ -6,11 +6,11 @@ use Rattle.std.proofs.Math.Nat.{pow-suc}
 use Rattle.std.proofs.Math.Pow.{pow_mono}
 use Rattle.bit_code.specs.Coder.{digits, number_of, HasValue, values_of, sizes}
 use Rattle.bit_code.specs.declared.coder.Coder.TheVariants as coders
-use Rattle.bit_code.specs.DigitLaws.{length-digits, digits_above, digits_low, number_of-digits, number_of-lt}
+use Rattle.bit_code.proofs.DigitLaws.{length-digits, digits_above, digits_low, number_of-digits, number_of-lt}
 use Rattle.asmap_vm.specs.Code.{Tree, Match}
 use Rattle.asmap_compile.specs.Compiled.{matches}
 use Rattle.asmap_compile.specs.Inside.{bits_between}
-use Rattle.asmap_compile.proofs.Bits.{nil_from}
+use Rattle.bit_code.proofs.PrefixLaws.{nil_from}
 use Rattle.std.proofs.lemmas.Bool.{cases_lt}
 
 pub between_long : (bits from to : ℕ) → length (bits_between bits from to) ≡ to - from

@@ -4,14 +4,17 @@ use Rattle.std.proofs.lemmas.Bool.{and_parts, and_from, lt-ltb, ltb-true, not-tr
 use Rattle.std.specs.List.Sorted.{IsPartitionPoint}
 use Rattle.bit_code.specs.Coder.{HasValue}
 use Rattle.bit_code.specs.declared.coder.Coder.TheVariants as coders
-use Rattle.asmap_vm.specs.Code.{Return, Jump, code, begins_with}
+use Rattle.bit_code.specs.Prefixes.{begins_with}
+use Rattle.asmap_vm.specs.Code.{Return, Jump, code}
 use Rattle.prefix_table.specs.declared.row.Row.{Row}
-use Rattle.prefix_table.specs.Rows.{path}
-use Rattle.asmap_compile.specs.Compiled.{number_at, rows_kept, is_row, goes_on, Forked, onward, matches, under_default, tree_at}
+use Rattle.prefix_table.specs.Rows.{path, number_at}
+use Rattle.asmap_compile.specs.Compiled.{rows_kept, is_row, goes_on, Forked, onward, matches, under_default, tree_at}
 use Rattle.asmap_compile.specs.Inside.{bit_of, is_low, IsPart}
 use Rattle.asmap_compile.proofs.BetweenLaws.{between_long}
-use Rattle.asmap_compile.proofs.Bits.{begins_start, begins_long, same_tests, false_true, contains_head, filter_item, item_filter, filter_same, filter_twice, Passes}
-use Rattle.asmap_compile.proofs.RowLaws.{path_long, table_rows, kept_rows, number_step, number_value}
+use Rattle.bit_code.proofs.PrefixLaws.{begins_start, begins_long, false_true, same_tests}
+use Rattle.prefix_table.proofs.Items.{Passes, contains_head, filter_same, filter_item, filter_twice, item_filter}
+use Rattle.prefix_table.proofs.PathLaws.{path_long, table_rows}
+use Rattle.asmap_compile.proofs.RowLaws.{kept_rows, number_step, number_value}
 use Rattle.asmap_compile.proofs.SaneTrees.{number_stays, last, way_off, end_row, value_of, jump_value}
 use Rattle.asmap_compile.proofs.StopLaws.{Stops, way_of, stop_way, stop_after, way_unique, way_end, all_reach}
 use Rattle.asmap_compile.proofs.Trees.{tree_last, tree_end, way_bits, tree_single, tree_forked, full_end}

@@ -1,10 +1,11 @@
 -- Worked examples of the definitions, computed by the check.
 use Rattle.std.proofs.Common.{◌≡◌, ◌+◌, ◌*◌, ◌^◌, true, false, List, [], ◌∷◌, ◌++◌, length, refl, replicate}
 use Rattle.bit_code.specs.Coder.{digits, low_digits, file_bits, sizes, values_of, spelling, spelling_by, number_of}
-use Rattle.asmap_vm.specs.Code.{Return, Jump, Match, Default, code, begins_with}
+use Rattle.bit_code.specs.Prefixes.{begins_with}
+use Rattle.asmap_vm.specs.Code.{Return, Jump, Match, Default, code}
 use Rattle.prefix_table.specs.declared.row.Row.{Row}
-use Rattle.prefix_table.specs.Rows.{path, longest}
-use Rattle.asmap_compile.specs.Compiled.{number_at, stays, is_row, goes_on, stretch, matches, under_default, tree_at, compiled}
+use Rattle.prefix_table.specs.Rows.{path, longest, number_at}
+use Rattle.asmap_compile.specs.Compiled.{stays, is_row, goes_on, stretch, matches, under_default, tree_at, compiled}
 
 -- `::/0 AS1`
 abbrev everything : List Row

@@ -1,11 +1,9 @@
-pub mod Bits
 pub mod RowLaws
 pub mod Ways
 pub mod Trees
 pub mod Meanings
 pub mod Sizes
 pub mod SaneTrees
-pub mod Addresses
 pub mod Whole
 pub mod Examples
 pub mod OrderLaws

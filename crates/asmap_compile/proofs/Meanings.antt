@@ -2,11 +2,13 @@
 use Rattle.std.proofs.Common.{◌≡◌, ℕ, zero, suc, ◌+◌, ◌*◌, ◌<◌, ◌≤◌, Bool, true, false, ◌&&◌, cond, List, [], ◌∷◌, ◌++◌, length, take, drop, refl, ap, sym, ◌∙◌, arith, append_assoc, length-append, inl, inr}
 use Rattle.std.proofs.lemmas.Bool.{cases_Bool, cases_eq, cond-true, cond-false}
 use Rattle.std.proofs.lemmas.List.{take-append-drop, drop-drop, length-drop, drop_at}
-use Rattle.asmap_vm.specs.Code.{Tree, Return, Jump, begins_with, meaning}
+use Rattle.bit_code.specs.Prefixes.{begins_with}
+use Rattle.asmap_vm.specs.Code.{Tree, Return, Jump, meaning}
 use Rattle.prefix_table.specs.declared.row.Row.{Row}
-use Rattle.asmap_compile.specs.Compiled.{number_at, matches, under_default, tree_at}
-use Rattle.asmap_compile.proofs.Bits.{begins_cut, begins_long}
-use Rattle.asmap_compile.proofs.RowLaws.{AreRows}
+use Rattle.prefix_table.specs.Rows.{number_at}
+use Rattle.asmap_compile.specs.Compiled.{matches, under_default, tree_at}
+use Rattle.bit_code.proofs.PrefixLaws.{begins_cut, begins_long}
+use Rattle.prefix_table.proofs.PathLaws.{AreRows}
 use Rattle.asmap_compile.proofs.Trees.{tree_last, tree_end, way_bits, tree_single, tree_forked, full_end, default_holds, default_set}
 use Rattle.asmap_compile.proofs.Ways.{turn, turn_end, turn_single, turn_forked, begun_side, begun_short, IsWay, way_is, number_end, number_off}
 

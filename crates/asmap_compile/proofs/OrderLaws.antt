@@ -1,55 +1,18 @@
 -- Rows that rise, and the bits that they have in common.
-use Rattle.std.proofs.Common.{◌≡◌, ℕ, zero, suc, ◌+◌, ◌-◌, ◌*◌, ◌/◌, ◌%◌, ◌^◌, ◌<◌, ◌≤◌, Bool, true, false, List, [], ◌∷◌, ◌++◌, length, take, filter, cond, get_or, inl, inr, refl, ap, sym, ◌∙◌, subst, arith, Contains, AllPairs, eqb, eq-eqb}
-use Rattle.std.proofs.Math.Nat.{div-mul-le_self}
+use Rattle.std.proofs.Common.{◌≡◌, ℕ, suc, ◌+◌, ◌-◌, ◌/◌, ◌%◌, ◌^◌, ◌<◌, ◌≤◌, Bool, true, List, [], ◌∷◌, ◌++◌, length, take, inl, inr, refl, ap, sym, ◌∙◌, subst, arith, eqb, eq-eqb}
 use Rattle.std.proofs.lemmas.Bool.{eqb-true}
 use Rattle.std.proofs.lemmas.List.{take_at}
-use Rattle.std.proofs.lemmas.List.Elements.{Contains-get_or}
 use Rattle.std.proofs.lemmas.Nat.{shr-shr, pow_pos}
 use Rattle.bit_code.specs.Coder.{digits, number_of}
-use Rattle.bit_code.specs.DigitLaws.{number_of-digits}
-use Rattle.asmap_vm.specs.Code.{begins_with}
+use Rattle.bit_code.proofs.DigitLaws.{number_of-digits}
+use Rattle.bit_code.specs.Prefixes.{begins_with}
 use Rattle.prefix_table.specs.declared.row.Row.{Row}
-use Rattle.prefix_table.specs.Rows.{path, first_bits, IsRow, Precedes}
+use Rattle.prefix_table.specs.Rows.{path, first_bits, Precedes}
 use Rattle.asmap_compile.specs.Inside.{bits_between, bit_of}
 use Rattle.asmap_compile.proofs.BetweenLaws.{between_long, between_split}
-use Rattle.asmap_compile.proofs.Bits.{begins_cut, begins_from, begins_long, filter_item}
+use Rattle.bit_code.proofs.PrefixLaws.{begins_cut, begins_from, begins_long}
 use Rattle.prefix_table.proofs.BitLaws.{div-le-div}
-use Rattle.asmap_compile.proofs.RowLaws.{path_long, first_below, bits_of}
-
--- each row precedes all after it
-pub Rises : List Row → Type 0
-Rises [] = Unit {0}
-Rises (x ∷ xs) = ((y : Row) → Contains xs y → Precedes x y) × Rises xs
-
-pub rises_from : (xs : List Row) → AllPairs Precedes xs → Rises xs
-unfolding Rises
-rises_from [] h = tt
-rises_from (x ∷ xs) h = (
-  λ y has. subst (Precedes x) has.2 (h 0 (suc has.0) y (omega arith) (omega (arith, has.1))),
-  rises_from xs (λ i j d low high. h (suc i) (suc j) d (omega arith) (omega arith)),
-)
-
-pub pairs_from : (xs : List Row) → Rises xs → AllPairs Precedes xs
-unfolding Rises
-pairs_from [] h i j d low high = absurd (omega arith)
-pairs_from (x ∷ xs) h zero zero d low high = absurd (omega arith)
-pairs_from (x ∷ xs) h zero (suc j) d low high = h.0 (get_or xs j d) (Contains-get_or xs j d (omega arith))
-pairs_from (x ∷ xs) h (suc i) zero d low high = absurd (omega arith)
-pairs_from (x ∷ xs) h (suc i) (suc j) d low high = pairs_from xs h.1 i j d (omega arith) (omega arith)
-
-rises_by : (p : Row → Bool) (x : Row) (xs : List Row) (b : Bool) → ((y : Row) → Contains xs y → Precedes x y) → Rises (filter p xs) → Rises (cond b (x ∷ filter p xs) (filter p xs))
-unfolding Rises
-rises_by p x xs true first rest = (λ y has. first y (filter_item p xs y has).0, rest)
-rises_by p x xs false first rest = rest
-
-rises_filter : (p : Row → Bool) (xs : List Row) → Rises xs → Rises (filter p xs)
-unfolding Rises
-rises_filter p [] h = tt
-rises_filter p (x ∷ xs) h = rises_by p x xs (p x) h.0 (rises_filter p xs h.1)
-
--- what a filter leaves still rises
-pub pairs_filter : (p : Row → Bool) (xs : List Row) → AllPairs Precedes xs → AllPairs Precedes (filter p xs)
-pairs_filter p xs h = pairs_from (filter p xs) (rises_filter p xs (rises_from xs h))
+use Rattle.prefix_table.proofs.PathLaws.{path_long, first_below}
 
 pub bits_rise : (a b : Row) → Precedes a b → a.bits ≤ b.bits
 bits_rise a b (inl less) = omega arith
@@ -122,17 +85,3 @@ next_bit row p top h long =
     subst (λ q. begins_with (path row) q ≡ true)
     (start_next (length p) row.bits (omega arith) ∙ ap (λ q. q ++ bit_of row.bits (length p) ∷ []) (sym (begun_start row p top h)))
     (start_begins row (suc (length p)) top (omega arith))
-
-not_before_by : (a b : Row) → b.bits ≤ a.bits → b.len ≤ a.len → Precedes a b → ⊥
-not_before_by a b le low (inl less) = omega arith
-not_before_by a b le low (inr both) = omega (arith, both.1)
-
--- a row doesn't precede a row that is a prefix of it
-pub prefix_first : (a b : Row) → IsRow a → IsRow b → begins_with (path a) (path b) ≡ true → Precedes a b → ⊥
-prefix_first a b is are h before =
-    let low : b.len ≤ a.len = omega (arith, begins_long (path a) (path b) h, path_long a, path_long b) in
-    let mine : path b ≡ start b.len a.bits = begun_start a (path b) is.len h ∙ ap (λ n. start n a.bits) (path_long b) in
-    let same = first_same b.len a.bits b.bits are.len is.bits are.bits (sym mine ∙ path_start b) in
-    let least = div-mul-le_self a.bits (2 ^ (128 - b.len)) in
-    let its = bits_of b are in
-    not_before_by a b (omega (arith, ap (λ n. n * 2 ^ (128 - b.len)) same, least, its)) low before

@@ -2,14 +2,16 @@
 use Rattle.std.proofs.Common.{◌≡◌, ℕ, suc, ◌-◌, Bool, true, false, ◌&&◌, List, [], ◌∷◌, ◌++◌, length, take, drop, filter, cond, get_or, inl, inr, ap, sym, ◌∙◌, subst, arith, length-append, append-nil, Contains, AllPairs, nat_lt}
 use Rattle.std.proofs.lemmas.Bool.{lt-ltb, le-ltb, false_from_ne_true}
 use Rattle.std.proofs.lemmas.List.{take_all}
-use Rattle.asmap_vm.specs.Code.{begins_with}
+use Rattle.bit_code.specs.Prefixes.{begins_with}
 use Rattle.prefix_table.specs.declared.row.Row.{Row}
-use Rattle.prefix_table.specs.Rows.{path, IsRow, IsTable, Precedes}
-use Rattle.asmap_compile.specs.Compiled.{number_at, rows_kept, stays, is_row}
+use Rattle.prefix_table.specs.Rows.{path, IsRow, IsTable, Precedes, number_at}
+use Rattle.asmap_compile.specs.Compiled.{rows_kept, stays, is_row}
 use Rattle.asmap_compile.specs.Inside.{IsPart, IsLonger}
-use Rattle.asmap_compile.proofs.Bits.{begins_cut, begins_from, begins_long, nil_from, filter_id, contains_cons, cons_cases, contains_head, filter_item, item_filter, filter_twice}
-use Rattle.asmap_compile.proofs.OrderLaws.{pairs_filter, prefix_first}
-use Rattle.asmap_compile.proofs.RowLaws.{path_long, table_rows, kept_rows, number_row, row_at}
+use Rattle.bit_code.proofs.PrefixLaws.{begins_cut, begins_from, begins_long, nil_from}
+use Rattle.prefix_table.proofs.Items.{contains_cons, contains_head, filter_item, filter_twice, cons_cases, filter_id, item_filter}
+use Rattle.prefix_table.proofs.Rising.{pairs_filter}
+use Rattle.prefix_table.proofs.PathLaws.{path_long, table_rows, prefix_first}
+use Rattle.asmap_compile.proofs.RowLaws.{kept_rows, number_row, row_at}
 
 -- the rows of a part are those that stay and begin with its path
 pub part_item : (table : List Row) (p : List Bool) (left : ℕ) (part : List Row) (depth above default : ℕ) → IsPart table p left part depth above default → (row : Row) → Contains part row → Contains (rows_kept table) row × (begins_with (path row) p ≡ true)

@@ -1,71 +1,16 @@
 -- The number of a path, by the rows of a table.
-use Rattle.std.proofs.Common.{◌≡◌, ◌≢◌, ◌==◌, ℕ, suc, ◌+◌, ◌-◌, ◌*◌, ◌^◌, ◌<◌, ◌≤◌, Bool, true, false, not, ◌&&◌, List, [], ◌∷◌, ◌++◌, length, filter, nat_lt, ◌⊎◌, inl, inr, refl, ap, sym, ◌∙◌, subst, arith, get_or, append_assoc, length-append, append-nil, Contains, Some}
+use Rattle.std.proofs.Common.{◌≡◌, ◌≢◌, ◌==◌, ℕ, suc, ◌≤◌, Bool, true, false, not, ◌&&◌, List, [], ◌∷◌, ◌++◌, length, filter, nat_lt, inl, inr, refl, ap, sym, ◌∙◌, subst, arith, append_assoc, length-append, append-nil, Contains}
 use Rattle.std.specs.Option.{option_map_or}
-use Rattle.std.proofs.lemmas.List.{get_or_default}
-use Rattle.std.proofs.lemmas.Nat.{div-add-mod', pow_pos, pow-add}
-use Rattle.std.proofs.Math.Nat.{div-lt_iff_lt-mul}
-use Rattle.std.proofs.lemmas.List.Elements.{All-contains}
-use Rattle.std.proofs.lemmas.Bool.{ltb-true, ltb-false, eqb-true, eqb-false, and_parts, and_from, false_from_ne_true, not-true, not-false, lt-ltb, le-ltb, ne_eqb, not_from_false, cases_Bool, cases_order}
-use Rattle.bit_code.specs.DigitLaws.{length-digits, number_of-digits}
-use Rattle.bit_code.specs.Coder.{number_of, HasValue, values_of, sizes}
+use Rattle.std.proofs.lemmas.Bool.{ltb-true, eqb-true, eqb-false, and_parts, and_from, false_from_ne_true, not-true, not-false, lt-ltb, le-ltb, ne_eqb, not_from_false, cases_Bool}
+use Rattle.bit_code.specs.Coder.{HasValue, values_of, sizes}
 use Rattle.bit_code.specs.declared.coder.Coder.TheVariants as coders
-use Rattle.asmap_vm.specs.Code.{begins_with}
+use Rattle.bit_code.specs.Prefixes.{begins_with}
 use Rattle.prefix_table.specs.declared.row.Row.{Row}
-use Rattle.prefix_table.specs.Rows.{path, longest, first_bits, IsRow, IsTable, Precedes}
-use Rattle.asmap_compile.specs.Compiled.{number_at, shorter_than, stays, rows_kept, is_row}
-use Rattle.asmap_compile.proofs.Bits.{begins_cut, begins_from, begins_long, begins_equal, nil_from, any_from, any_item, contains_cons, contains_head, cons_cases, begins_step, begins_within, begins_more, filter_twice, filter_none, same_tests, filter_same, filter_item, item_filter}
-
--- the longest of some rows
-pub record Longest (xs : List Row) : Type 0 where
-  pub row : Row
-  pub is : longest xs ≡ Some row
-  pub there : Contains xs row
-  pub most : (other : Row) → Contains xs other → other.len ≤ row.len
-
-most_by : (y other : Row) (n : ℕ) {P : Type 0} → y.len ≤ n → (y ≡ other) ⊎ P → (P → other.len ≤ n) → other.len ≤ n
-most_by y other n low (inl same) more = subst (λ (r : Row). r.len ≤ n) same low
-most_by y other n low (inr has) more = more has
-
-most_of : (y : Row) (xs : List Row) (n : ℕ) → y.len ≤ n → ((other : Row) → Contains xs other → other.len ≤ n) → (other : Row) → Contains (y ∷ xs) other → other.len ≤ n
-most_of y xs n low more other has = most_by y other n low (cons_cases y xs other has) (more other)
-
-longest_by : (y : Row) (xs : List Row) (l : Longest xs) (b : Bool) → nat_lt y.len l.row.len ≡ b → Longest (y ∷ xs)
-unfolding longest
-longest_by y xs l true e = record {
-  row = l.row;
-  is = rw (l.is, e) refl;
-  there = contains_cons y l.row xs l.there;
-  most = most_of y xs l.row.len (omega (arith, ltb-true y.len l.row.len e)) l.most;
-}
-longest_by y xs l false e = record {
-  row = y;
-  is = rw (l.is, e) refl;
-  there = contains_head y xs;
-  most = most_of y xs y.len (omega arith) (λ other has. omega (arith, ltb-false y.len l.row.len e, l.most other has));
-}
-
-longest_cons : (y : Row) (xs : List Row) → Longest (y ∷ xs)
-unfolding longest
-longest_cons y [] = record {
-  row = y;
-  is = refl;
-  there = contains_head y [];
-  most = most_of y [] y.len (omega arith) (λ other has. absurd (omega (arith, has.1)));
-}
-longest_cons y (z ∷ zs) = let l = longest_cons z zs in longest_by y (z ∷ zs) l (nat_lt y.len l.row.len) refl
-
-pub longest_some : (xs : List Row) (x : Row) → Contains xs x → Longest xs
-longest_some [] x has = absurd (omega (arith, has.1))
-longest_some (y ∷ xs) x has = longest_cons y xs
-
--- rows whose prefixes are distinct
-pub record AreRows (rows : List Row) : Type 0 where
-  pub each : (row : Row) → Contains rows row → IsRow row
-  pub distinct : (row other : Row) → Contains rows row → Contains rows other → path row ≡ path other → row ≡ other
-
-pub path_long : (row : Row) → length (path row) ≡ row.len
-unfolding path
-path_long row = length-digits row.len (first_bits row.len row.bits)
+use Rattle.prefix_table.specs.Rows.{path, longest, IsRow, number_at}
+use Rattle.asmap_compile.specs.Compiled.{shorter_than, stays, rows_kept, is_row}
+use Rattle.bit_code.proofs.PrefixLaws.{begins_cut, begins_from, begins_long, nil_from, begins_equal, begins_within, begins_more, same_tests, begins_step}
+use Rattle.prefix_table.proofs.PathLaws.{AreRows, path_long, longest_some}
+use Rattle.prefix_table.proofs.Items.{any_from, any_item, filter_same, filter_item, filter_twice, filter_none, item_filter}
 
 -- the longest of the rows that are a prefix of a path
 pub record Best (rows : List Row) (p : List Bool) : Type 0 where
@@ -257,52 +202,3 @@ kept_fresh rows are p side h same =
     let other = eqb-false (number_at rows p) r.row.asn (not-true (number_at rows p == r.row.asn) (sym (stays_at rows p side r.row r.is) ∙ stay)) in
     let number = number_row (rows_kept rows) (p ++ side ∷ []) r.row (kept_rows rows are) r.there r.is in
     other (sym (number_kept rows are p) ∙ sym same ∙ number)
-
--- two rows of the same path have the same bits
-pub bits_of : (row : Row) → IsRow row → row.bits ≡ first_bits row.len row.bits * 2 ^ (128 - row.len)
-bits_of row is = omega (arith, is.clear, div-add-mod' row.bits (2 ^ (128 - row.len)))
-
-pub first_below : (len a : ℕ) → len ≤ 128 → a < 2 ^ 128 → first_bits len a < 2 ^ len
-first_below len a short small =
-    let e : len + (128 - len) ≡ 128 = omega arith in
-    let whole : 2 ^ len * 2 ^ (128 - len) ≡ 2 ^ 128 = sym (pow-add 2 len (128 - len)) ∙ ap (λ n. 2 ^ n) e in
-    (div-lt_iff_lt-mul (pow_pos (128 - len))).1 (omega (arith, whole))
-
-pub first_bits_of : (row : Row) → IsRow row → number_of (path row) ≡ first_bits row.len row.bits
-unfolding path
-first_bits_of row is = number_of-digits row.len (first_bits row.len row.bits) (first_below row.len row.bits is.len is.bits)
-
-record IsSame (row other : Row) : Type 0 where
-  bits : row.bits ≡ other.bits
-  len : row.len ≡ other.len
-
-same_prefix : (row other : Row) → IsRow row → IsRow other → path row ≡ path other → IsSame row other
-same_prefix row other is are e =
-    let len : row.len ≡ other.len = sym (path_long row) ∙ ap length e ∙ path_long other in
-    let first : first_bits row.len row.bits ≡ first_bits other.len other.bits = sym (first_bits_of row is) ∙ ap number_of e ∙ first_bits_of other are in
-    record {
-      bits = bits_of row is ∙ ap (λ n. n * 2 ^ (128 - row.len)) first ∙ ap (λ n. first_bits other.len other.bits * 2 ^ (128 - n)) len ∙ sym (bits_of other are);
-      len = len;
-    }
-
-not_before : (row other : Row) → IsSame row other → Precedes row other → ⊥
-not_before row other same (inl less) = omega (arith, same.bits)
-not_before row other same (inr both) = omega (arith, same.len, both.1)
-
-table_distinct : (rows : List Row) → IsTable rows → (row other : Row) → Contains rows row → Contains rows other → path row ≡ path other → row ≡ other
-table_distinct rows is row other has more e =
-    let each = λ (r : Row) (c : Contains rows r). All-contains IsRow rows r is.each c in
-    let same = same_prefix row other (each row has) (each other more) e in
-    elim (cases_order has.0 more.0) [
-      | inl at ↦ sym has.2 ∙ get_or_default rows has.0 row other has.1 ∙ ap (λ k. get_or rows k other) at ∙ more.2
-      | inr (inl below) ↦
-          let before = is.rising has.0 more.0 row below more.1 in
-          absurd (not_before row other same (subst (λ r. Precedes row r) (get_or_default rows more.0 row other more.1 ∙ more.2) (subst (λ r. Precedes r (get_or rows more.0 row)) has.2 before)))
-      | inr (inr above) ↦
-          let before = is.rising more.0 has.0 row above has.1 in
-          absurd (not_before other row (record { bits = sym same.bits; len = sym same.len }) (subst (λ r. Precedes other r) has.2 (subst (λ r. Precedes r (get_or rows has.0 row)) (get_or_default rows more.0 row other more.1 ∙ more.2) before)))
-    ]
-
--- the rows of a table are distinct
-pub table_rows : (rows : List Row) → IsTable rows → AreRows rows
-table_rows rows is = record { each = λ row has. All-contains IsRow rows row is.each has; distinct = table_distinct rows is }

@@ -6,12 +6,14 @@ use Rattle.std.proofs.lemmas.List.{length-drop, length-take}
 use Rattle.std.proofs.Math.Nat.{mul-le-mul_right}
 use Rattle.bit_code.specs.Coder.{HasValue, values_of, sizes}
 use Rattle.bit_code.specs.declared.coder.Coder.TheVariants as coders
-use Rattle.asmap_vm.specs.Code.{Tree, Return, Jump, Default, code, IsSaneWithin, TakesDefault, IsNoShortMatch, IsMatch, begins_with}
-use Rattle.prefix_table.specs.Rows.{path}
+use Rattle.bit_code.specs.Prefixes.{begins_with}
+use Rattle.asmap_vm.specs.Code.{Tree, Return, Jump, Default, code, IsSaneWithin, TakesDefault, IsNoShortMatch, IsMatch}
+use Rattle.prefix_table.specs.Rows.{path, number_at}
 use Rattle.prefix_table.specs.declared.row.Row.{Row}
-use Rattle.asmap_compile.specs.Compiled.{number_at, is_row, goes_on, matches, under_default, tree_at}
-use Rattle.asmap_compile.proofs.Bits.{nil_from, begins_long}
-use Rattle.asmap_compile.proofs.RowLaws.{AreRows, number_value, number_step, number_none}
+use Rattle.asmap_compile.specs.Compiled.{is_row, goes_on, matches, under_default, tree_at}
+use Rattle.bit_code.proofs.PrefixLaws.{begins_long, nil_from}
+use Rattle.prefix_table.proofs.PathLaws.{AreRows}
+use Rattle.asmap_compile.proofs.RowLaws.{number_value, number_step, number_none}
 use Rattle.asmap_compile.proofs.Sizes.{rows_at, room, tree_long, code_least, single_not_forked, matches_none}
 use Rattle.asmap_compile.proofs.Trees.{tree_last, tree_end, way_bits, tree_single, tree_forked, full_end, default_holds, default_set}
 use Rattle.asmap_compile.proofs.Ways.{Begun, Turn, turn, turn_end, turn_single, turn_forked, begun_side, begun_short, IsWay, way_is, begun_goes, way_row, number_same}

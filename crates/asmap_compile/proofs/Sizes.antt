@@ -6,14 +6,16 @@ use Rattle.std.proofs.lemmas.List.{length-drop}
 use Rattle.std.proofs.Math.Nat.{mul-le-mul_right}
 use Rattle.bit_code.specs.Coder.{digits, number_of, spelling, spelling_by, sizes}
 use Rattle.bit_code.specs.declared.coder.Coder.TheVariants as coders
-use Rattle.bit_code.specs.DigitLaws.{length-digits}
-use Rattle.bit_code.specs.SpellingLaws.{length-spelling_asn}
-use Rattle.asmap_vm.specs.Code.{Tree, Return, Jump, Match, Default, code, begins_with, return_kind, jump_kind, match_kind, default_kind}
+use Rattle.bit_code.proofs.DigitLaws.{length-digits}
+use Rattle.bit_code.proofs.SpellingLaws.{length-spelling_asn}
+use Rattle.bit_code.specs.Prefixes.{begins_with}
+use Rattle.asmap_vm.specs.Code.{Tree, Return, Jump, Match, Default, code, return_kind, jump_kind, match_kind, default_kind}
 use Rattle.prefix_table.specs.declared.row.Row.{Row}
-use Rattle.prefix_table.specs.Rows.{path}
-use Rattle.asmap_compile.specs.Compiled.{number_at, is_row, Single, Forked, onward, matches, under_default, tree_at}
-use Rattle.asmap_compile.proofs.Bits.{false_true, begins_start, begins_long, sides_same, nil_from, item_filter, Passes, any_item}
-use Rattle.asmap_compile.proofs.RowLaws.{AreRows}
+use Rattle.prefix_table.specs.Rows.{path, number_at}
+use Rattle.asmap_compile.specs.Compiled.{is_row, Single, Forked, onward, matches, under_default, tree_at}
+use Rattle.bit_code.proofs.PrefixLaws.{begins_start, begins_long, nil_from, sides_same, false_true}
+use Rattle.prefix_table.proofs.Items.{Passes, any_item, item_filter}
+use Rattle.prefix_table.proofs.PathLaws.{AreRows}
 use Rattle.asmap_compile.proofs.Trees.{tree_last, tree_end, way_bits, tree_single, tree_forked, default_holds, default_set}
 use Rattle.asmap_compile.proofs.Ways.{Begun, Turn, turn, turn_end, turn_single, turn_forked, begun_side, begun_short, IsWay, way_is}
 

@@ -4,16 +4,17 @@ use Rattle.std.proofs.lemmas.Bool.{cases_lt, cases_eq, eqb-true, eqb-false, ne_e
 use Rattle.std.proofs.lemmas.List.{get_or_default}
 use Rattle.std.proofs.lemmas.List.Elements.{Contains-get_or}
 use Rattle.asmap_compile.proofs.PartLaws.{path_of_row}
-use Rattle.asmap_vm.specs.Code.{begins_with}
+use Rattle.bit_code.specs.Prefixes.{begins_with}
 use Rattle.prefix_table.specs.declared.row.Row.{Row}
 use Rattle.prefix_table.specs.Rows.{path, first_bits, Precedes}
 use Rattle.asmap_compile.specs.Compiled.{rows_kept, is_row, goes_on, Forked, onward}
 use Rattle.asmap_compile.specs.Inside.{bits_between, bit_of}
 use Rattle.asmap_compile.proofs.BetweenLaws.{between_long, between_split}
-use Rattle.asmap_compile.proofs.Bits.{begins_cut, begins_from, begins_start, begins_long, begins_within, begins_equal, begins_both, sides_same, false_true}
+use Rattle.bit_code.proofs.PrefixLaws.{begins_cut, begins_from, begins_start, begins_both, begins_long, begins_equal, sides_same, begins_within, false_true}
 use Rattle.prefix_table.proofs.BitLaws.{first_bits_between}
-use Rattle.asmap_compile.proofs.OrderLaws.{start, start_begins, start_same, begun_start, first_same, next_first, bit_first, path_start, prefix_first}
-use Rattle.asmap_compile.proofs.RowLaws.{path_long, row_from, row_at}
+use Rattle.asmap_compile.proofs.OrderLaws.{start, start_begins, start_same, begun_start, first_same, next_first, bit_first, path_start}
+use Rattle.prefix_table.proofs.PathLaws.{path_long, prefix_first}
+use Rattle.asmap_compile.proofs.RowLaws.{row_from, row_at}
 use Rattle.asmap_compile.proofs.TurnLaws.{AreLonger, LongRow, longer_item, item_longer, longer_rises, rows_le, between, longer_at, ends_fork}
 use Rattle.asmap_compile.proofs.Ways.{IsWay, fork_sides, begun_side}
 

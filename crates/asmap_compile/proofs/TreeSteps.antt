@@ -7,8 +7,8 @@ use Rattle.bit_code.specs.Coder.{HasValue}
 use Rattle.bit_code.specs.declared.coder.Coder.TheVariants as coders
 use Rattle.asmap_vm.specs.Code.{Tree, Return}
 use Rattle.prefix_table.specs.declared.row.Row.{Row}
-use Rattle.prefix_table.specs.Rows.{first_bits}
-use Rattle.asmap_compile.specs.Compiled.{number_at, rows_kept, Forked, onward, matches, under_default, tree_at}
+use Rattle.prefix_table.specs.Rows.{first_bits, number_at}
+use Rattle.asmap_compile.specs.Compiled.{rows_kept, Forked, onward, matches, under_default, tree_at}
 use Rattle.asmap_compile.specs.Inside.{bits_between, bit_of, is_low, IsPart, IsLonger}
 use Rattle.asmap_compile.proofs.ChildLaws.{child_part, rows_of_side, way_part, part_end, end_value, part_way, part_value}
 use Rattle.asmap_compile.proofs.StopLaws.{Stops, way_of, stop_after}

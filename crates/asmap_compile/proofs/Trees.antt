@@ -3,8 +3,9 @@ use Rattle.std.proofs.Common.{◌≡◌, ℕ, suc, ◌≤◌, Bool, true, false,
 use Rattle.std.proofs.lemmas.Bool.{false_from_ne_true, eq-eqb, ne_eqb}
 use Rattle.asmap_vm.specs.Code.{Tree, Return, Jump, Default}
 use Rattle.prefix_table.specs.declared.row.Row.{Row}
-use Rattle.asmap_compile.specs.Compiled.{number_at, goes_on, End, Single, Forked, onward, stretch, matches, under_default, tree_at}
-use Rattle.asmap_compile.proofs.RowLaws.{AreRows}
+use Rattle.prefix_table.specs.Rows.{number_at}
+use Rattle.asmap_compile.specs.Compiled.{goes_on, End, Single, Forked, onward, stretch, matches, under_default, tree_at}
+use Rattle.prefix_table.proofs.PathLaws.{AreRows}
 use Rattle.asmap_compile.proofs.Ways.{begun_side, begun_short}
 
 pub tree_last : (rows : List Row) (p : List Bool) (default : ℕ) → tree_at 0 rows p default ≡ Return (number_at rows p)

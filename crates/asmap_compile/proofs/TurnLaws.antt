@@ -4,15 +4,17 @@ use Rattle.std.proofs.lemmas.Bool.{cases_eq, and_parts, and_from, ltb-true, lt-l
 use Rattle.std.proofs.lemmas.List.{get_or_default}
 use Rattle.std.proofs.lemmas.List.Elements.{Contains-get_or}
 use Rattle.std.specs.List.Sorted.{IsPartitionedBy}
-use Rattle.asmap_vm.specs.Code.{begins_with}
+use Rattle.bit_code.specs.Prefixes.{begins_with}
 use Rattle.prefix_table.specs.declared.row.Row.{Row}
 use Rattle.prefix_table.specs.Rows.{path, IsRow, IsTable, Precedes}
 use Rattle.asmap_compile.specs.Compiled.{rows_kept, stays, goes_on, Single, Forked, onward}
 use Rattle.asmap_compile.specs.Inside.{bit_of, is_low, IsLonger}
-use Rattle.asmap_compile.proofs.Bits.{begins_start, begins_long, sides_same, false_true, filter_item, item_filter}
-use Rattle.asmap_compile.proofs.OrderLaws.{pairs_filter, bits_rise, begun_start, next_bit, bit_rises, first_same}
+use Rattle.bit_code.proofs.PrefixLaws.{begins_start, begins_long, sides_same, false_true}
+use Rattle.prefix_table.proofs.Items.{filter_item, item_filter}
+use Rattle.prefix_table.proofs.Rising.{pairs_filter}
+use Rattle.asmap_compile.proofs.OrderLaws.{bits_rise, begun_start, next_bit, bit_rises, first_same}
 use Rattle.asmap_compile.proofs.PartLaws.{kept_is_row}
-use Rattle.asmap_compile.proofs.RowLaws.{path_long}
+use Rattle.prefix_table.proofs.PathLaws.{path_long}
 use Rattle.asmap_compile.proofs.Ways.{side_from, begun_side}
 
 -- rows that are longer than a path, of a table

@@ -1,12 +1,14 @@
 -- How rows extend a path, and the bits from a single path on.
 use Rattle.std.proofs.Common.{◌≡◌, ℕ, zero, suc, ◌+◌, ◌<◌, ◌≤◌, Bool, true, false, not, List, [], ◌∷◌, ◌++◌, length, ◌⊎◌, inl, inr, refl, ap, sym, ◌∙◌, subst, arith, append_assoc, length-append, append-nil, Contains}
 use Rattle.std.proofs.lemmas.Bool.{false_from_ne_true}
-use Rattle.asmap_vm.specs.Code.{begins_with}
+use Rattle.bit_code.specs.Prefixes.{begins_with}
 use Rattle.prefix_table.specs.declared.row.Row.{Row}
-use Rattle.prefix_table.specs.Rows.{path}
-use Rattle.asmap_compile.specs.Compiled.{number_at, is_row, goes_on, End, Single, Forked, onward, stretch}
-use Rattle.asmap_compile.proofs.Bits.{begins_cut, begins_from, begins_long, begins_both, begins_next, begins_more, nil_from, any_from, Passes, any_item, false_true}
-use Rattle.asmap_compile.proofs.RowLaws.{AreRows, path_long, row_at, row_from, number_step}
+use Rattle.prefix_table.specs.Rows.{path, number_at}
+use Rattle.asmap_compile.specs.Compiled.{is_row, goes_on, End, Single, Forked, onward, stretch}
+use Rattle.bit_code.proofs.PrefixLaws.{begins_cut, begins_from, begins_both, begins_long, nil_from, begins_more, false_true, begins_next}
+use Rattle.prefix_table.proofs.Items.{any_from, Passes, any_item}
+use Rattle.prefix_table.proofs.PathLaws.{AreRows, path_long}
+use Rattle.asmap_compile.proofs.RowLaws.{row_at, row_from, number_step}
 
 -- a row that begins with the path
 abbrev pub Begun : List Row → List Bool → Type 0

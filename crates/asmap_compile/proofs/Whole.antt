@@ -2,17 +2,19 @@
 use Rattle.std.proofs.Common.{◌≡◌, ℕ, ◌^◌, ◌<◌, Bool, List, [], ◌∷◌, ◌++◌, length, refl, ap, sym, ◌∙◌, subst, arith, Contains, false, replicate, ◌-◌}
 use Rattle.std.proofs.lemmas.List.Sums.{length-filter, count_by-le-length}
 use Rattle.bit_code.specs.Coder.{digits, number_of, file_bits}
-use Rattle.bit_code.specs.DigitLaws.{length-digits, digits-number_of, number_of-lt}
+use Rattle.bit_code.proofs.DigitLaws.{length-digits, digits-number_of, number_of-lt}
 use Rattle.bit_code.specs.Files as bit_file
-use Rattle.asmap_vm.specs.Code.{Tree, code, begins_with, meaning, asn_of, IsSane, IsFileOf}
+use Rattle.bit_code.specs.Prefixes.{begins_with}
+use Rattle.asmap_vm.specs.Code.{Tree, code, meaning, asn_of, IsSane, IsFileOf}
 use Rattle.prefix_table.specs.declared.row.Row.{Row}
-use Rattle.prefix_table.specs.Rows.{best, path, longest, IsTable}
-use Rattle.asmap_compile.specs.Compiled.{number_at, rows_kept, stays, compiled, tree_at}
+use Rattle.prefix_table.specs.Rows.{best, path, longest, IsTable, number_at}
+use Rattle.asmap_compile.specs.Compiled.{rows_kept, stays, compiled, tree_at}
 use Rattle.asmap_compile.specs.Inside.{IsPart}
-use Rattle.asmap_compile.proofs.Addresses.{number_best}
-use Rattle.asmap_compile.proofs.Bits.{contains_head, begins_from, filter_id}
+use Rattle.bit_code.proofs.PrefixLaws.{begins_from}
+use Rattle.prefix_table.proofs.Items.{contains_head, filter_id}
 use Rattle.asmap_compile.proofs.Meanings.{tree_mean}
-use Rattle.asmap_compile.proofs.RowLaws.{AreRows, table_rows, kept_rows, kept_fresh, number_kept, number_none, number_value, row_from}
+use Rattle.prefix_table.proofs.PathLaws.{AreRows, table_rows, number_best}
+use Rattle.asmap_compile.proofs.RowLaws.{kept_rows, kept_fresh, number_kept, number_none, number_value, row_from}
 use Rattle.asmap_compile.proofs.SaneTrees.{AreKept, tree_sane}
 use Rattle.asmap_compile.proofs.Ways.{Begun}
 

@@ -4,14 +4,10 @@
 use Prim.Native.Nat.{zero, suc}
 use Rattle.std.specs.Prelude.{◌==◌, ℕ, Bool, true, false, not, ◌&&◌, List, [], ◌∷◌, ◌++◌, filter, take, drop, nat_lt}
 use Rattle.std.specs.List.{list_any}
-use Rattle.std.specs.Option.{option_map_or}
-use Rattle.asmap_vm.specs.Code.{Tree, Return, Jump, Match, Default, begins_with}
+use Rattle.bit_code.specs.Prefixes.{begins_with}
+use Rattle.asmap_vm.specs.Code.{Tree, Return, Jump, Match, Default}
 use Rattle.prefix_table.specs.declared.row.Row.{Row}
-use Rattle.prefix_table.specs.Rows.{path, longest}
-
--- the number of a path: that of the longest row that is the path or a prefix of it, or 0
-unfoldable pub number_at : List Row → List Bool → ℕ
-number_at rows p = option_map_or (λ row. row.asn) (longest (filter (λ row. begins_with p (path row)) rows)) 0
+use Rattle.prefix_table.specs.Rows.{path, number_at}
 
 -- the rows that are shorter than this many bits
 abbrev pub shorter_than : ℕ → List Row → List Row

@@ -1,10 +1,10 @@
 -- Words of the contracts inside the crate: rows that stay, and begin with a path.
 use Rattle.std.specs.Prelude.{◌≡◌, ℕ, ◌+◌, ◌-◌, ◌/◌, ◌^◌, ◌<◌, ◌≤◌, Bool, false, not, ◌&&◌, List, length, filter, nat_lt}
 use Rattle.bit_code.specs.Coder.{digits, has_bit}
-use Rattle.asmap_vm.specs.Code.{begins_with}
+use Rattle.bit_code.specs.Prefixes.{begins_with}
 use Rattle.prefix_table.specs.declared.row.Row.{Row}
-use Rattle.prefix_table.specs.Rows.{path, IsTable}
-use Rattle.asmap_compile.specs.Compiled.{number_at, rows_kept, is_row}
+use Rattle.prefix_table.specs.Rows.{path, IsTable, number_at}
+use Rattle.asmap_compile.specs.Compiled.{rows_kept, is_row}
 
 -- the bits of an address from one index up to another
 unfoldable pub bits_between : ℕ → ℕ → ℕ → List Bool

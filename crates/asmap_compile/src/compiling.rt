@@ -1,4 +1,4 @@
-ghost use Rattle.std.specs.Prelude.{◌≡◌, ◌↔◌, ℕ, ◌^◌, ◌<◌, ◌≤◌, Bool, List, length, IfOk, Err};
+ghost use Rattle.std.specs.Prelude.{◌≡◌, ◌↔◌, ℕ, ◌*◌, ◌^◌, ◌<◌, ◌≤◌, Bool, List, length, IfOk, Err};
 ghost use Rattle.bit_code.specs.Coder.{number_of};
 ghost use Rattle.asmap_vm.specs.Code.{IsSaneFile, code, meaning, asn_of};
 ghost use Rattle.prefix_table.specs.Rows.{best};
@@ -9,13 +9,12 @@ use crate::compiled_code::Compiled;
 use crate::fault::CompileFault;
 use crate::kept::kept_of;
 use crate::tree::put_tree;
-use bit_code::BitFront;
+use bit_code::{BitFront, MAX_ASMAP};
 use prefix_table::Table;
 use std::alloc::Global;
 
-/// The most bits that a code may have: those of 8,388,608 bytes, the most that `check` of asmap_vm
-/// accepts.
-pub const MAX_BITS: u64 = 67_108_864;
+/// The most bits that a code may have: those of the largest file that `check` of asmap_vm accepts.
+pub const MAX_BITS: u64 = 8 * MAX_ASMAP as u64;
 
 /// Compiles a table into an asmap file, which gives each address the AS number of its longest
 /// match. Returns the file and the number of bits of its code.
@@ -33,6 +32,7 @@ pub fn compile(alloc: Global, table: &Table) -> Result<Compiled, CompileFault>
     ensures empty { (result ≡ Err CompileFault.Empty) ↔ (length table.now ≡ 0) }
     ensures too_large { (bits : ℕ) → result ≡ Err (CompileFault.TooLarge bits)
         → (MAX_BITS < bits) × (bits ≡ length (code (compiled table.now))) }
+    ensures limit { MAX_BITS ≡ 8 * MAX_ASMAP }
 {
     let rows = table.rows();
     if rows.is_empty() {

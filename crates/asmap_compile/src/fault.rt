@@ -9,7 +9,7 @@ use std::alloc::AllocError;
 pub enum CompileFault {
     /// The table has no rows.
     Empty,
-    /// The code has more bits than a file of 8,388,608 bytes.
+    /// The code has more than `MAX_BITS` bits.
     TooLarge {
         /// How many bits it has.
         bits: u64,

@@ -2,7 +2,8 @@ ghost use Rattle.std.specs.Prelude.{◌≡◌, ℕ, ◌<◌, ◌≤◌, Bool, tr
 ghost use Rattle.std.specs.List.Sorted.{IsPartitionPoint, IsPartitionedBy};
 ghost use Rattle.bit_code.specs.Coder.{has_bit};
 ghost use Rattle.prefix_table.specs.declared.row.Row.{Row};
-ghost use Rattle.asmap_compile.specs.Compiled.{number_at, rows_kept};
+ghost use Rattle.prefix_table.specs.Rows.{number_at};
+ghost use Rattle.asmap_compile.specs.Compiled.{rows_kept};
 ghost use Rattle.asmap_compile.specs.Inside.{IsPart, IsLonger, bit_of, is_low};
 
 use prefix_table::Row;
