@@ -11,11 +11,11 @@ use Rattle.net_addr.specs.declared.net.Net.TheVariants.{Unroutable, Ipv4, Ipv6, 
 use Rattle.wire_num.specs.Readings.{fault_as, bytes_at, compact_at}
 use Rattle.wire_num.proofs.ReadingLaws.{AreBytes, bind_ok, ok_is, apart}
 use Rattle.wire_num.proofs.FieldLaws.{bytes_at-length}
-use Rattle.addr_codecs.specs.declared.fault.MsgFault.{MsgFault}
-use Rattle.addr_codecs.specs.declared.fault.MsgFault.TheVariants.{TooLong, BadLength}
-use Rattle.addr_codecs.specs.Faults.{of_wire}
+use Rattle.addr_codecs.specs.declared.address_fault.AddressFault.{AddressFault}
+use Rattle.addr_codecs.specs.declared.address_fault.AddressFault.TheVariants.{TooLong, BadLength}
+use Rattle.addr_codecs.specs.Faults.{in_address}
 use Rattle.addr_codecs.specs.Network.{is_length, address_of}
-use Rattle.addr_codecs.specs.Inside.{length_at}
+use Rattle.addr_codecs.specs.Readings.{length_at}
 
 -- bytes that were made an array are the same bytes
 pub chunk_read : {X E : Type 0} (now : X → List ℕ) (n : ℕ) (r : Result X E) (x : List ℕ) (y : X) (Q : E → Type 0) → MatchResult r (λ z. IsWholeChunk x (now z) n) Q → Some y ≡ result_ok r → IsWholeChunk x (now y) n
@@ -36,15 +36,15 @@ pub kept : (net : Net) (bytes : List ℕ) (r : Option Address) → net ≢ Unrou
 kept net bytes r own other long fits only =
     only (record { network = own; length = eqb-true (length bytes) (length_of net) long; bytes = All-from_get_or (λ b. b < 256) bytes 0 (λ i lt. fits i); own_form = λ e. absurd (other e) }) ∙ sym (same_network net own other bytes)
 
-two_tests : {A : Type 0} (a b : Bool) (f g : MsgFault) (x y : A) → cond a (cond b (Ok x) (Err f)) (Err g) ≡ Ok y → (b ≡ true) × (x ≡ y)
-two_tests true true f g x y e = (refl, ok_is {F = MsgFault} x y e)
+two_tests : {A : Type 0} (a b : Bool) (f g : AddressFault) (x y : A) → cond a (cond b (Ok x) (Err f)) (Err g) ≡ Ok y → (b ≡ true) × (x ≡ y)
+two_tests true true f g x y e = (refl, ok_is {F = AddressFault} x y e)
 two_tests true false f g x y e = absurd (apart y f (sym e))
 two_tests false b f g x y e = absurd (apart y g (sym e))
 
 right_length : (network : Option Net) (bytes : List ℕ) (n : ℕ) (rest : List ℕ) → length_at network bytes ≡ Ok (n, rest) → is_length network n ≡ true
 unfolding length_at
 right_length network bytes n rest e =
-    let x = bind_ok (fault_as of_wire (compact_at bytes)) (λ len. cond (leb len.0 512) (cond (is_length network len.0) (Ok (len.0, len.1)) (Err BadLength)) (Err TooLong)) (n, rest) e in
+    let x = bind_ok (fault_as in_address (compact_at bytes)) (λ len. cond (leb len.0 512) (cond (is_length network len.0) (Ok (len.0, len.1)) (Err BadLength)) (Err TooLong)) (n, rest) e in
     let tests = two_tests (leb x.0.0 512) (is_length network x.0.0) BadLength TooLong (x.0.0, x.0.1) (n, rest) x.2 in
     ap (λ (p : ℕ × List ℕ). is_length network p.0) (sym tests.1) ∙ tests.0
 

@@ -8,7 +8,8 @@ use Rattle.wire_num.specs.Readings.{all_of, times_at, compact_at}
 use Rattle.wire_num.proofs.ReadingLaws.{AreBytes, AreBytes-all, reads_all}
 use Rattle.addr_codecs.specs.Layout.{entry, message, addrv2_entry, IsAddrv2Message}
 use Rattle.addr_codecs.specs.Texts.{addr_entry_text, message_text}
-use Rattle.addr_codecs.specs.Inside.{addr_entry_at, addrv2_entry_at, address_at, length_at, message_at}
+use Rattle.addr_codecs.specs.Readings.{address_at, length_at}
+use Rattle.addr_codecs.specs.Inside.{addr_entry_at, addrv2_entry_at, message_at}
 use Rattle.addr_codecs.specs.declared.fault.MsgFault.TheVariants.{Truncated, NonCanonical, TooMany, BadLength, TooLong, Trailing}
 use Rattle.addr_codecs.proofs.MessageLaws.{Reads-message, Reads-addrv2_entry}
 

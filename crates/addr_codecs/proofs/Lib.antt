@@ -1,4 +1,5 @@
 pub mod Addresses
+pub mod AddressLaws
 pub mod MessageLaws
 pub mod TextLaws
 pub mod Examples

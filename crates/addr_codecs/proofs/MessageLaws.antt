@@ -4,21 +4,21 @@ use Rattle.std.specs.Prelude.{option_map, IfOk, IfErr}
 use Rattle.std.specs.Int.{w16, w32, w64, to_le_bytes, to_be_bytes, from_le_bytes, from_be_bytes}
 use Rattle.net_addr.specs.OldForm.{from_v1}
 use Rattle.net_addr.specs.declared.entry.Entry.{Entry}
-use Rattle.net_addr.specs.declared.net.Net.{Net}
 use Rattle.wire_num.specs.declared.fault.WireFault.{WireFault}
-use Rattle.wire_num.specs.Format.{Format, sequence, value, check, times, HasFault}
-use Rattle.wire_num.specs.Fields.{some_bytes, byte, le, be, compact}
-use Rattle.wire_num.specs.Readings.{◌>>=◌, bytes_at, byte_at, le_at, be_at, compact_at, times_at, all_of}
-use Rattle.wire_num.proofs.ReadingLaws.{AreBytes, Reads, reads_all, Reads-then, Reads-value, Reads-check, Reads-times, Reads-under, Reads-same, check-then, then_at, value_at, check_at, under_at}
-use Rattle.wire_num.proofs.FieldLaws.{Reads-some_bytes, Reads-byte, Reads-number, le32, le64, be16}
+use Rattle.wire_num.specs.Format.{Format, sequence, value, check, times, under, HasFault}
+use Rattle.wire_num.specs.Fields.{some_bytes, le, be, compact}
+use Rattle.wire_num.specs.Readings.{◌>>=◌, bytes_at, le_at, be_at, compact_at, times_at, then_at, value_at, check_at, under_at, all_of}
+use Rattle.wire_num.proofs.ReadingLaws.{AreBytes, Reads, reads_all, Reads-then, Reads-value, Reads-check, Reads-times, Reads-under, Reads-same, check-then}
+use Rattle.wire_num.proofs.FieldLaws.{Reads-some_bytes, Reads-number, le32, le64, be16}
 use Rattle.wire_num.proofs.CompactLaws.{Reads-compact}
 use Rattle.addr_codecs.specs.declared.fault.MsgFault.{MsgFault}
-use Rattle.addr_codecs.specs.declared.fault.MsgFault.TheVariants.{TooMany, BadLength, TooLong, Trailing, Memory}
+use Rattle.addr_codecs.specs.declared.fault.MsgFault.TheVariants.{TooMany, Trailing, Memory}
 use Rattle.addr_codecs.specs.declared.form.Form.TheVariants.{Addr, Addrv2}
-use Rattle.addr_codecs.specs.Faults.{of_wire}
-use Rattle.addr_codecs.specs.Network.{network_of, is_length, address_of}
-use Rattle.addr_codecs.specs.Layout.{field, entry, addr_entry, address_length, addrv2_address, addrv2_entry, message}
-use Rattle.addr_codecs.specs.Inside.{addr_entry_at, length_at, address_at, addrv2_entry_at, message_at, entry_at, GivesUnlessMemory}
+use Rattle.addr_codecs.specs.Faults.{of_wire, of_address}
+use Rattle.addr_codecs.specs.Readings.{address_at}
+use Rattle.addr_codecs.proofs.AddressLaws.{Reads-address}
+use Rattle.addr_codecs.specs.Layout.{field, entry, addr_entry, addrv2_address, addrv2_entry, message}
+use Rattle.addr_codecs.specs.Inside.{addr_entry_at, addrv2_entry_at, message_at, entry_at, GivesUnlessMemory}
 
 abbrev field_at : {A : Type 0} → (List ℕ → Result (A × List ℕ) WireFault) → List ℕ → Result (A × List ℕ) MsgFault
 field_at r bytes = under_at of_wire r bytes
@@ -38,9 +38,6 @@ bytes_field n = Reads-under of_wire (some_bytes n) (bytes_at n) (Reads-some_byte
 compact_field : Reads (field compact) (field_at compact_at)
 compact_field = Reads-under of_wire compact compact_at Reads-compact
 
-byte_field : Reads (field byte) (field_at byte_at)
-byte_field = Reads-under of_wire byte byte_at Reads-byte
-
 pub Reads-addr_entry : Reads addr_entry addr_entry_at
 unfolding addr_entry addr_entry_at
 Reads-addr_entry =
@@ -55,48 +52,31 @@ Reads-addr_entry =
     (bytes_field 16) (λ old.
     Reads-then (field (be w16)) (λ port. value (Some (entry time services port (from_v1 old)))) (field_at (be_at w16)) (λ port. value_at (Some (entry time services port (from_v1 old)))) port_field (λ port. Reads-value (Some (entry time services port (from_v1 old)))))))
 
-Reads-length : (network : Option Net) → Reads (address_length network) (length_at network)
-unfolding address_length length_at
-Reads-length network =
-    let right = λ (len : ℕ) (bytes : List ℕ). cond (leb len 512) (check_at (is_length network len) BadLength len bytes) (Err TooLong) in
-    Reads-then (field compact) (λ len. sequence (check (leb len 512) TooLong len) (λ short. check (is_length network short) BadLength short)) (field_at compact_at) right compact_field (λ len.
-    Reads-same (sequence (check (leb len 512) TooLong len) (λ short. check (is_length network short) BadLength short)) (then_at (check_at (leb len 512) TooLong len) (λ short. check_at (is_length network short) BadLength short)) (right len)
-    (Reads-then (check (leb len 512) TooLong len) (λ short. check (is_length network short) BadLength short) (check_at (leb len 512) TooLong len) (λ short. check_at (is_length network short) BadLength short) (Reads-check (leb len 512) TooLong len) (λ short. Reads-check (is_length network short) BadLength short))
-    (λ bytes. check-then (leb len 512) TooLong len (λ short. check_at (is_length network short) BadLength short) bytes))
-
-Reads-address : Reads addrv2_address address_at
-unfolding addrv2_address address_at
-Reads-address =
-    Reads-then (field byte) (λ id. sequence (address_length (network_of id)) (λ len. sequence (field (some_bytes len)) (λ bytes. value (address_of (network_of id) bytes))))
-    (field_at byte_at) (λ id bytes. length_at (network_of id) bytes >>= λ len. field_at (bytes_at len.0) len.1 >>= λ part. Ok (address_of (network_of id) part.0, part.1))
-    byte_field (λ id.
-    Reads-then (address_length (network_of id)) (λ len. sequence (field (some_bytes len)) (λ bytes. value (address_of (network_of id) bytes)))
-    (length_at (network_of id)) (λ len bytes. field_at (bytes_at len) bytes >>= λ part. Ok (address_of (network_of id) part.0, part.1))
-    (Reads-length (network_of id)) (λ len.
-    Reads-then (field (some_bytes len)) (λ bytes. value (address_of (network_of id) bytes)) (field_at (bytes_at len)) (λ part. value_at (address_of (network_of id) part)) (bytes_field len) (λ part. Reads-value (address_of (network_of id) part))))
+address_part : Reads (under of_address addrv2_address) (under_at of_address address_at)
+address_part = Reads-under of_address addrv2_address address_at Reads-address
 
 pub Reads-addrv2_entry : Reads addrv2_entry addrv2_entry_at
 unfolding addrv2_entry addrv2_entry_at
 Reads-addrv2_entry =
-    Reads-then (field (le w32)) (λ time. sequence (field compact) (λ services. sequence addrv2_address (λ addr. sequence (field (be w16)) (λ port. value (option_map (entry time services port) addr)))))
-    (field_at (le_at w32)) (λ time bytes. field_at compact_at bytes >>= λ services. address_at services.1 >>= λ addr. field_at (be_at w16) addr.1 >>= λ port. Ok (option_map (entry time services.0 port.0) addr.0, port.1))
+    Reads-then (field (le w32)) (λ time. sequence (field compact) (λ services. sequence (under of_address addrv2_address) (λ addr. sequence (field (be w16)) (λ port. value (option_map (entry time services port) addr)))))
+    (field_at (le_at w32)) (λ time bytes. field_at compact_at bytes >>= λ services. under_at of_address address_at services.1 >>= λ addr. field_at (be_at w16) addr.1 >>= λ port. Ok (option_map (entry time services.0 port.0) addr.0, port.1))
     time_field (λ time.
-    Reads-then (field compact) (λ services. sequence addrv2_address (λ addr. sequence (field (be w16)) (λ port. value (option_map (entry time services port) addr))))
-    (field_at compact_at) (λ services bytes. address_at bytes >>= λ addr. field_at (be_at w16) addr.1 >>= λ port. Ok (option_map (entry time services port.0) addr.0, port.1))
+    Reads-then (field compact) (λ services. sequence (under of_address addrv2_address) (λ addr. sequence (field (be w16)) (λ port. value (option_map (entry time services port) addr))))
+    (field_at compact_at) (λ services bytes. under_at of_address address_at bytes >>= λ addr. field_at (be_at w16) addr.1 >>= λ port. Ok (option_map (entry time services port.0) addr.0, port.1))
     compact_field (λ services.
-    Reads-then addrv2_address (λ addr. sequence (field (be w16)) (λ port. value (option_map (entry time services port) addr)))
-    address_at (λ addr bytes. field_at (be_at w16) bytes >>= λ port. Ok (option_map (entry time services port.0) addr, port.1))
-    Reads-address (λ addr.
+    Reads-then (under of_address addrv2_address) (λ addr. sequence (field (be w16)) (λ port. value (option_map (entry time services port) addr)))
+    (under_at of_address address_at) (λ addr bytes. field_at (be_at w16) bytes >>= λ port. Ok (option_map (entry time services port.0) addr, port.1))
+    address_part (λ addr.
     Reads-then (field (be w16)) (λ port. value (option_map (entry time services port) addr)) (field_at (be_at w16)) (λ port. value_at (option_map (entry time services port) addr)) port_field (λ port. Reads-value (option_map (entry time services port) addr)))))
 
 pub Reads-message : (p : Format MsgFault (Option Entry)) (r : List ℕ → Result (Option Entry × List ℕ) MsgFault) → Reads p r → Reads (message p) (message_at r)
 unfolding message message_at
 Reads-message p r h =
-    let counted = λ (n : ℕ) (bytes : List ℕ). cond (leb n 1000) (times_at n r bytes) (Err TooMany) in
-    Reads-then (field compact) (λ n. sequence (check (leb n 1000) TooMany n) (λ count. times count p)) (field_at compact_at) counted compact_field (λ n.
-    Reads-same (sequence (check (leb n 1000) TooMany n) (λ count. times count p)) (then_at (check_at (leb n 1000) TooMany n) (λ count. times_at count r)) (counted n)
-    (Reads-then (check (leb n 1000) TooMany n) (λ count. times count p) (check_at (leb n 1000) TooMany n) (λ count. times_at count r) (Reads-check (leb n 1000) TooMany n) (λ count. Reads-times count p r h))
-    (λ bytes. check-then (leb n 1000) TooMany n (λ count. times_at count r) bytes))
+    let counted = λ (n : ℕ) (bytes : List ℕ). cond (leb n 1000) (times_at 0 n (λ _. r) bytes) (Err TooMany) in
+    Reads-then (field compact) (λ n. sequence (check (leb n 1000) TooMany n) (λ count. times 0 count (λ _. p))) (field_at compact_at) counted compact_field (λ n.
+    Reads-same (sequence (check (leb n 1000) TooMany n) (λ count. times 0 count (λ _. p))) (then_at (check_at (leb n 1000) TooMany n) (λ count. times_at 0 count (λ _. r))) (counted n)
+    (Reads-then (check (leb n 1000) TooMany n) (λ count. times 0 count (λ _. p)) (check_at (leb n 1000) TooMany n) (λ count. times_at 0 count (λ _. r)) (Reads-check (leb n 1000) TooMany n) (λ count. Reads-times 0 count (λ _. p) (λ _. r) (λ _. h)))
+    (λ bytes. check-then (leb n 1000) TooMany n (λ count. times_at 0 count (λ _. r)) bytes))
 
 -- ---- the answers of a reader
 

@@ -1,91 +1,36 @@
 -- What is written is a message of the entries that were written.
-use Rattle.std.proofs.Common.{◌≡◌, ◌⊎◌, ℕ, ◌+◌, ◌≤◌, ◌<◌, ◌^◌, Bool, true, false, cond, leb, List, [], ◌∷◌, ◌++◌, length, get_or, take, map, Option, Some, None, All, refl, sym, ap, subst, ◌∙◌, append_assoc, inl, inr, arith}
-use Rattle.std.specs.Prelude.{unwrap_or, option_map, ◌||◌, Result, Ok, Err, IfOk, OnOk}
-use Rattle.std.specs.List.{flat_map, AllByRecursion}
+use Rattle.std.proofs.Common.{◌≡◌, ◌⊎◌, ℕ, ◌+◌, ◌≤◌, ◌<◌, leb, List, [], ◌∷◌, ◌++◌, length, get_or, take, map, Option, Some, All, refl, sym, ap, subst, ◌∙◌, append_assoc, inl, inr, arith}
+use Rattle.std.specs.Prelude.{unwrap_or, option_map, Result, Ok, Err, IfOk, OnOk}
+use Rattle.std.specs.List.{flat_map}
 use Rattle.std.specs.Int.{w16, w32, w64, to_le_bytes, to_be_bytes}
-use Rattle.std.proofs.lemmas.Bool.{le-leb, eq-eqb}
-use Rattle.std.proofs.lemmas.List.{append-nil, length-append, take_more, take_all, flat_map_more}
+use Rattle.std.proofs.lemmas.Bool.{le-leb}
+use Rattle.std.proofs.lemmas.List.{take_more, take_all, flat_map_more}
 use Rattle.std.proofs.lemmas.List.Elements.{recursion_from_All, All-more}
-use Rattle.net_addr.specs.Address.{Address, IsAddress, is_old_form, begins_with, mapped_prefix, internal_prefix, torv2_prefix}
+use Rattle.net_addr.specs.Address.{Address, IsAddress}
 use Rattle.net_addr.specs.OldForm.{address, from_v1, v1_bytes}
 use Rattle.net_addr.specs.declared.entry.Entry.{Entry}
 use Rattle.net_addr.specs.declared.net.Net.{Net}
 use Rattle.net_addr.specs.declared.net.Net.TheVariants.{Unroutable, Ipv4, Ipv6, Onion, I2p, Cjdns, Internal}
 use Rattle.wire_num.specs.CompactSize.{compact_size}
 use Rattle.wire_num.specs.Format.{Format, sequence, value, check, times, under}
-use Rattle.wire_num.specs.Fields.{some_bytes, byte, number, le, be, compact}
+use Rattle.wire_num.specs.Fields.{some_bytes, le, be, compact}
 use Rattle.addr_codecs.specs.declared.fault.MsgFault.{MsgFault}
-use Rattle.addr_codecs.specs.declared.fault.MsgFault.TheVariants.{TooMany, BadLength, TooLong}
+use Rattle.addr_codecs.specs.declared.fault.MsgFault.TheVariants.{TooMany}
 use Rattle.addr_codecs.specs.Entries.{IsEntry}
-use Rattle.addr_codecs.specs.Network.{network_of, is_length, address_of}
-use Rattle.addr_codecs.specs.Layout.{field, entry, addr_entry, address_length, addrv2_address, addrv2_entry, message}
-use Rattle.addr_codecs.specs.Texts.{addr_entry_text, addrv2_entry_text, address_text, id_of, prefix_of, message_text}
-
--- ---- spellings are joined
-
-joined : {F A B : Type 0} (p : Format F A) (q : A → Format F B) (x y : List ℕ) (a : A) (b : B) → p.spells x a → (q a).spells y b → (sequence p q).spells (x ++ y) b
-unfolding sequence
-joined p q x y a b one two = (a, y, record { front = x; joined = refl; spelled = one }, two)
-
-of_value : (F : Type 0) {A : Type 0} (a : A) → (value {F = F} a).spells [] a
-unfolding value
-of_value F a = (refl, refl)
-
-of_check : {F A : Type 0} (passes : Bool) (fault : F) (a : A) → passes ≡ true → (check passes fault a).spells [] a
-unfolding check
-of_check passes fault a h = (h, refl, refl)
-
-of_le32 : (n : ℕ) → n < 2 ^ 32 → (field (le w32)).spells (to_le_bytes w32 n) n
-unfolding under number
-of_le32 n h = (h, refl)
-
-of_le64 : (n : ℕ) → n < 2 ^ 64 → (field (le w64)).spells (to_le_bytes w64 n) n
-unfolding under number
-of_le64 n h = (h, refl)
-
-of_be16 : (n : ℕ) → n < 2 ^ 16 → (field (be w16)).spells (to_be_bytes w16 n) n
-unfolding under number
-of_be16 n h = (h, refl)
-
-of_compact : (n : ℕ) → n < 2 ^ 64 → (field compact).spells (compact_size n) n
-unfolding under compact
-of_compact n h = (h, refl)
-
-of_bytes : (n : ℕ) (bytes : List ℕ) → length bytes ≡ n → (field (some_bytes n)).spells bytes bytes
-unfolding under some_bytes
-of_bytes n bytes h = (h, refl)
-
-of_byte : (b : ℕ) → (field byte).spells (b ∷ []) b
-unfolding under byte
-of_byte b = refl
-
-of_times : {F A B : Type 0} (p : Format F A) (text : B → List ℕ) (f : B → A) (P : B → Type 0) → ((b : B) → P b → p.spells (text b) (f b)) → (bs : List B) → AllByRecursion P bs → (times (length bs) p).spells (flat_map text bs) (map f bs)
-unfolding times
-of_times {F = F} p text f P spelled [] all = of_value F []
-of_times {F = F} p text f P spelled (b ∷ bs) all =
-    let rest = of_times p text f P spelled bs all.1 in
-    let ended = joined (times (length bs) p) (λ others. value (f b ∷ others)) (flat_map text bs) [] (map f bs) (f b ∷ map f bs) rest (of_value F (f b ∷ map f bs)) in
-    joined p (λ first. sequence (times (length bs) p) (λ others. value (first ∷ others))) (text b) (flat_map text bs) (f b) (f b ∷ map f bs) (spelled b all.0)
-    (subst (λ (t : List ℕ). (sequence (times (length bs) p) (λ others. value (f b ∷ others))).spells t (f b ∷ map f bs)) (append-nil (flat_map text bs)) ended)
+use Rattle.addr_codecs.specs.Faults.{of_wire, of_address}
+use Rattle.addr_codecs.proofs.AddressLaws.{own_ipv6, spells-address}
+use Rattle.wire_num.proofs.WritingLaws.{spells-then, spells-value, spells-check, spells-under, spells-number, spells-compact, spells-some_bytes, spells-times}
+use Rattle.addr_codecs.specs.Layout.{field, entry, addr_entry, addrv2_address, addrv2_entry, message}
+use Rattle.addr_codecs.specs.Texts.{addr_entry_text, addrv2_entry_text, address_text, message_text}
 
 pub of_message : (p : Format MsgFault (Option Entry)) (text : Entry → List ℕ) (P : Entry → Type 0) → ((e : Entry) → P e → p.spells (text e) (Some e)) → (es : List Entry) → length es ≤ 1000 → All P es → (message p).spells (message_text text es) (map Some es)
 unfolding message
 of_message p text P spelled es few all =
-    let entries = of_times p text Some P spelled es (recursion_from_All P es all) in
-    joined (field compact) (λ n. sequence (check (leb n 1000) TooMany n) (λ count. times count p)) (compact_size (length es)) (flat_map text es) (length es) (map Some es) (of_compact (length es) (omega arith))
-    (joined (check (leb (length es) 1000) TooMany (length es)) (λ count. times count p) [] (flat_map text es) (length es) (map Some es) (of_check (leb (length es) 1000) TooMany (length es) (le-leb _ _ few)) entries)
+    let entries = spells-times 0 (λ _. p) text Some P (λ _. spelled) es (recursion_from_All P es all) in
+    spells-then (field compact) (λ n. sequence (check (leb n 1000) TooMany n) (λ count. times 0 count (λ _. p))) (compact_size (length es)) (flat_map text es) (length es) (map Some es) (spells-compact of_wire (length es) (omega arith))
+    (spells-then (check (leb (length es) 1000) TooMany (length es)) (λ count. times 0 count (λ _. p)) [] (flat_map text es) (length es) (map Some es) (spells-check (leb (length es) 1000) TooMany (length es) (le-leb _ _ few)) entries)
 
 -- ---- addresses
-
--- bytes that begin with no prefix are an IPv6 address
-not_old : (a b c : Bool) (x y z w : Address) → (a || b || c) ≡ false → cond a x (cond b y (cond c z w)) ≡ w
-not_old true b c x y z w e = absurd cc
-not_old false true c x y z w e = absurd cc
-not_old false false true x y z w e = absurd cc
-not_old false false false x y z w e = refl
-
-own_ipv6 : (bytes : List ℕ) → is_old_form bytes ≡ false → from_v1 bytes ≡ address Ipv6 bytes
-own_ipv6 bytes e = not_old (begins_with bytes mapped_prefix) (begins_with bytes internal_prefix) (begins_with bytes torv2_prefix) _ _ _ _ e
 
 -- an address of `addr` in the old form, and back
 record IsOldForm (a : Address) (old : List ℕ) : Type 0 where
@@ -121,71 +66,13 @@ of_addr_entry e h =
     let old = unwrap_or (v1_bytes e.peer.addr) [] in
     let is_old = old_by e.peer.addr.net e.peer.addr.bytes h.network h.fit.addr in
     let made = entry time services port (from_v1 old) in
-    let last = joined (field (be w16)) (λ p. value (Some (entry time services p (from_v1 old)))) (to_be_bytes w16 port) [] port (Some made) (of_be16 port h.fit.port) (of_value MsgFault (Some made)) in
-    let third = joined (field (some_bytes 16)) (λ o. sequence (field (be w16)) (λ p. value (Some (entry time services p (from_v1 o))))) old (to_be_bytes w16 port ++ []) old (Some made) (of_bytes 16 old is_old.long) last in
-    let second = joined (field (le w64)) (λ s. sequence (field (some_bytes 16)) (λ o. sequence (field (be w16)) (λ p. value (Some (entry time s p (from_v1 o)))))) (to_le_bytes w64 services) (old ++ (to_be_bytes w16 port ++ [])) services (Some made) (of_le64 services h.fit.services) third in
-    let first = joined (field (le w32)) (λ t. sequence (field (le w64)) (λ s. sequence (field (some_bytes 16)) (λ o. sequence (field (be w16)) (λ p. value (Some (entry t s p (from_v1 o)))))))
-    (to_le_bytes w32 time) (to_le_bytes w64 services ++ (old ++ (to_be_bytes w16 port ++ []))) time (Some made) (of_le32 time h.fit.time) second in
+    let last = spells-then (field (be w16)) (λ p. value (Some (entry time services p (from_v1 old)))) (to_be_bytes w16 port) [] port (Some made) (spells-number of_wire w16 (to_be_bytes w16) port h.fit.port) (spells-value MsgFault (Some made)) in
+    let third = spells-then (field (some_bytes 16)) (λ o. sequence (field (be w16)) (λ p. value (Some (entry time services p (from_v1 o))))) old (to_be_bytes w16 port ++ []) old (Some made) (spells-some_bytes of_wire 16 old is_old.long) last in
+    let second = spells-then (field (le w64)) (λ s. sequence (field (some_bytes 16)) (λ o. sequence (field (be w16)) (λ p. value (Some (entry time s p (from_v1 o)))))) (to_le_bytes w64 services) (old ++ (to_be_bytes w16 port ++ [])) services (Some made) (spells-number of_wire w64 (to_le_bytes w64) services h.fit.services) third in
+    let first = spells-then (field (le w32)) (λ t. sequence (field (le w64)) (λ s. sequence (field (some_bytes 16)) (λ o. sequence (field (be w16)) (λ p. value (Some (entry t s p (from_v1 o)))))))
+    (to_le_bytes w32 time) (to_le_bytes w64 services ++ (old ++ (to_be_bytes w16 port ++ []))) time (Some made) (spells-number of_wire w32 (to_le_bytes w32) time h.fit.time) second in
     let regrouped : to_le_bytes w32 time ++ (to_le_bytes w64 services ++ (old ++ (to_be_bytes w16 port ++ []))) ≡ to_le_bytes w32 time ++ to_le_bytes w64 services ++ old ++ to_be_bytes w16 port = simp append_assoc in
     subst (λ (t : List ℕ). addr_entry.spells t (Some e)) regrouped (subst (λ (a : Address). addr_entry.spells (to_le_bytes w32 time ++ (to_le_bytes w64 services ++ (old ++ (to_be_bytes w16 port ++ [])))) (Some (entry time services port a))) is_old.back first)
-
--- ---- an address of `addrv2`
-
--- neither of two
-not_embedded : (a b c : Bool) → (a || b || c) ≡ false → (a || c) ≡ false
-not_embedded true b c e = absurd cc
-not_embedded false true c e = absurd cc
-not_embedded false false true e = absurd cc
-not_embedded false false false e = refl
-
--- what is written of an address is read as the address
-record IsWritten (a : Address) (network : Option Net) (bytes : List ℕ) : Type 0 where
-  right : is_length network (length bytes) ≡ true
-  short : length bytes ≤ 512
-  back : address_of network bytes ≡ Some a
-
-unless : (b : Bool) (a : Address) → b ≡ false → cond b None (Some a) ≡ Some a
-unless b a e = rw e refl
-
-written_by : (net : Net) (bytes : List ℕ) → IsAddress (address net bytes) → IsWritten (address net bytes) (network_of (id_of net)) (prefix_of net ++ bytes)
-written_by Unroutable bytes h = absurd (h.network refl)
-written_by Ipv4 bytes h = let long : length bytes ≡ 4 = h.length in record { right = eq-eqb _ _ long; short = omega arith; back = refl }
-written_by Ipv6 bytes h =
-    let long : length bytes ≡ 16 = h.length in
-    let own = h.own_form refl in
-    record {
-      right = eq-eqb _ _ long;
-      short = omega arith;
-      back = unless _ (from_v1 bytes) (not_embedded (begins_with bytes mapped_prefix) (begins_with bytes internal_prefix) (begins_with bytes torv2_prefix) own) ∙ ap (λ (a : Address). Some a) (own_ipv6 bytes own);
-    }
-written_by Onion bytes h = let long : length bytes ≡ 32 = h.length in record { right = eq-eqb _ _ long; short = omega arith; back = refl }
-written_by I2p bytes h = let long : length bytes ≡ 32 = h.length in record { right = eq-eqb _ _ long; short = omega arith; back = refl }
-written_by Cjdns bytes h = let long : length bytes ≡ 16 = h.length in record { right = eq-eqb _ _ long; short = omega arith; back = refl }
-written_by Internal bytes h =
-    let long : length bytes ≡ 10 = h.length in
-    let whole : length (internal_prefix ++ bytes) ≡ 16 = omega (arith, length-append internal_prefix bytes) in
-    record { right = eq-eqb _ _ whole; short = omega arith; back = refl }
-
-of_length : (network : Option Net) (n : ℕ) → is_length network n ≡ true → n ≤ 512 → (address_length network).spells (compact_size n) n
-unfolding address_length
-of_length network n right short =
-    let last = joined (check (leb n 512) TooLong n) (λ len. check (is_length network len) BadLength len) [] [] n n (of_check (leb n 512) TooLong n (le-leb _ _ short)) (of_check (is_length network n) BadLength n right) in
-    let first = joined (field compact) (λ len. sequence (check (leb len 512) TooLong len) (λ s. check (is_length network s) BadLength s)) (compact_size n) [] n n (of_compact n (omega arith)) last in
-    subst (λ (t : List ℕ). (address_length network).spells t n) (append-nil (compact_size n)) first
-
-pub of_address : (a : Address) → IsAddress a → addrv2_address.spells (address_text a) (Some a)
-unfolding addrv2_address address_text
-of_address a h =
-    let id = id_of a.net in
-    let bytes = prefix_of a.net ++ a.bytes in
-    let n = length bytes in
-    let is = written_by a.net a.bytes h in
-    let made = address_of (network_of id) bytes in
-    let last = joined (field (some_bytes n)) (λ part. value (address_of (network_of id) part)) bytes [] bytes made (of_bytes n bytes refl) (of_value MsgFault made) in
-    let second = joined (address_length (network_of id)) (λ len. sequence (field (some_bytes len)) (λ part. value (address_of (network_of id) part))) (compact_size n) (bytes ++ []) n made (of_length (network_of id) n is.right is.short) last in
-    let first = joined (field byte) (λ i. sequence (address_length (network_of i)) (λ len. sequence (field (some_bytes len)) (λ part. value (address_of (network_of i) part)))) (id ∷ []) (compact_size n ++ (bytes ++ [])) id made (of_byte id) second in
-    let regrouped : (id ∷ []) ++ (compact_size n ++ (bytes ++ [])) ≡ (id ∷ []) ++ compact_size n ++ prefix_of a.net ++ a.bytes = ap (λ (t : List ℕ). (id ∷ []) ++ (compact_size n ++ t)) (append-nil bytes) ∙ sym (append_assoc (id ∷ []) (compact_size n) bytes) ∙ sym (append_assoc ((id ∷ []) ++ compact_size n) (prefix_of a.net) a.bytes) in
-    subst (λ (t : List ℕ). addrv2_address.spells t (Some a)) regrouped (subst (λ (o : Option Address). addrv2_address.spells ((id ∷ []) ++ (compact_size n ++ (bytes ++ []))) o) is.back first)
 
 -- ---- an entry of `addrv2`
 
@@ -196,11 +83,11 @@ of_addrv2_entry e h =
     let services = e.services in
     let port = e.peer.port in
     let addr = e.peer.addr in
-    let last = joined (field (be w16)) (λ p. value (option_map (entry time services p) (Some addr))) (to_be_bytes w16 port) [] port (Some e) (of_be16 port h.port) (of_value MsgFault (Some e)) in
-    let third = joined addrv2_address (λ a. sequence (field (be w16)) (λ p. value (option_map (entry time services p) a))) (address_text addr) (to_be_bytes w16 port ++ []) (Some addr) (Some e) (of_address addr h.addr) last in
-    let second = joined (field compact) (λ s. sequence addrv2_address (λ a. sequence (field (be w16)) (λ p. value (option_map (entry time s p) a)))) (compact_size services) (address_text addr ++ (to_be_bytes w16 port ++ [])) services (Some e) (of_compact services h.services) third in
-    let first = joined (field (le w32)) (λ t. sequence (field compact) (λ s. sequence addrv2_address (λ a. sequence (field (be w16)) (λ p. value (option_map (entry t s p) a)))))
-    (to_le_bytes w32 time) (compact_size services ++ (address_text addr ++ (to_be_bytes w16 port ++ []))) time (Some e) (of_le32 time h.time) second in
+    let last = spells-then (field (be w16)) (λ p. value (option_map (entry time services p) (Some addr))) (to_be_bytes w16 port) [] port (Some e) (spells-number of_wire w16 (to_be_bytes w16) port h.port) (spells-value MsgFault (Some e)) in
+    let third = spells-then (under of_address addrv2_address) (λ a. sequence (field (be w16)) (λ p. value (option_map (entry time services p) a))) (address_text addr) (to_be_bytes w16 port ++ []) (Some addr) (Some e) (spells-under of_address addrv2_address (address_text addr) (Some addr) (spells-address addr h.addr)) last in
+    let second = spells-then (field compact) (λ s. sequence (under of_address addrv2_address) (λ a. sequence (field (be w16)) (λ p. value (option_map (entry time s p) a)))) (compact_size services) (address_text addr ++ (to_be_bytes w16 port ++ [])) services (Some e) (spells-compact of_wire services h.services) third in
+    let first = spells-then (field (le w32)) (λ t. sequence (field compact) (λ s. sequence (under of_address addrv2_address) (λ a. sequence (field (be w16)) (λ p. value (option_map (entry t s p) a)))))
+    (to_le_bytes w32 time) (compact_size services ++ (address_text addr ++ (to_be_bytes w16 port ++ []))) time (Some e) (spells-number of_wire w32 (to_le_bytes w32) time h.time) second in
     let regrouped : to_le_bytes w32 time ++ (compact_size services ++ (address_text addr ++ (to_be_bytes w16 port ++ []))) ≡ to_le_bytes w32 time ++ compact_size services ++ address_text addr ++ to_be_bytes w16 port = simp append_assoc in
     subst (λ (t : List ℕ). addrv2_entry.spells t (Some e)) regrouped first
 

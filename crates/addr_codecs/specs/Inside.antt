@@ -1,20 +1,18 @@
 -- What reading a message from the start gives, field by field, and what each form writes.
 use Rattle.std.specs.Prelude.{◌≡◌, ◌≢◌, ◌⊎◌, ℕ, List, Option, Some, Result, Ok, Err, option_map, nat_le, if◌then◌else◌}
 use Rattle.std.specs.Int.{w16, w32, w64}
-use Rattle.net_addr.specs.Address.{Address}
 use Rattle.net_addr.specs.OldForm.{from_v1}
 use Rattle.net_addr.specs.declared.entry.Entry.{Entry}
-use Rattle.net_addr.specs.declared.net.Net.{Net}
 use Rattle.net_addr.specs.declared.net.Net.TheVariants.{Ipv4, Ipv6}
-use Rattle.wire_num.specs.Readings.{◌>>=◌, fault_as, bytes_at, byte_at, le_at, be_at, compact_at, times_at}
-use Rattle.addr_codecs.specs.Faults.{of_wire}
-use Rattle.addr_codecs.specs.Network.{network_of, is_length, address_of}
+use Rattle.wire_num.specs.Readings.{◌>>=◌, fault_as, bytes_at, le_at, be_at, compact_at, times_at}
+use Rattle.addr_codecs.specs.Faults.{of_wire, of_address}
+use Rattle.addr_codecs.specs.Readings.{address_at}
 use Rattle.addr_codecs.specs.Layout.{entry}
 use Rattle.addr_codecs.specs.Texts.{addr_entry_text, addrv2_entry_text}
 use Rattle.addr_codecs.specs.declared.form.Form.{Form}
 use Rattle.addr_codecs.specs.declared.form.Form.TheVariants.{Addr, Addrv2}
 use Rattle.addr_codecs.specs.declared.fault.MsgFault.{MsgFault}
-use Rattle.addr_codecs.specs.declared.fault.MsgFault.TheVariants.{TooMany, BadLength, TooLong, Memory}
+use Rattle.addr_codecs.specs.declared.fault.MsgFault.TheVariants.{TooMany, Memory}
 
 unfoldable pub addr_entry_at : List ℕ → Result (Option Entry × List ℕ) MsgFault
 addr_entry_at bytes = do
@@ -24,30 +22,18 @@ addr_entry_at bytes = do
   port ← fault_as of_wire (be_at w16 old.1)
   Ok (Some (entry time.0 services.0 port.0 (from_v1 old.0)), port.1)
 
-unfoldable pub length_at : Option Net → List ℕ → Result (ℕ × List ℕ) MsgFault
-length_at network bytes = do
-  len ← fault_as of_wire (compact_at bytes)
-  if nat_le len.0 512 then (if is_length network len.0 then Ok (len.0, len.1) else Err BadLength) else Err TooLong
-
-unfoldable pub address_at : List ℕ → Result (Option Address × List ℕ) MsgFault
-address_at bytes = do
-  id ← fault_as of_wire (byte_at bytes)
-  len ← length_at (network_of id.0) id.1
-  part ← fault_as of_wire (bytes_at len.0 len.1)
-  Ok (address_of (network_of id.0) part.0, part.1)
-
 unfoldable pub addrv2_entry_at : List ℕ → Result (Option Entry × List ℕ) MsgFault
 addrv2_entry_at bytes = do
   time ← fault_as of_wire (le_at w32 bytes)
   services ← fault_as of_wire (compact_at time.1)
-  addr ← address_at services.1
+  addr ← fault_as of_address (address_at services.1)
   port ← fault_as of_wire (be_at w16 addr.1)
   Ok (option_map (entry time.0 services.0 port.0) addr.0, port.1)
 
 unfoldable pub message_at : (List ℕ → Result (Option Entry × List ℕ) MsgFault) → List ℕ → Result (List (Option Entry) × List ℕ) MsgFault
 message_at r bytes = do
   n ← fault_as of_wire (compact_at bytes)
-  if nat_le n.0 1000 then times_at n.0 r n.1 else Err TooMany
+  if nat_le n.0 1000 then times_at 0 n.0 (λ _. r) n.1 else Err TooMany
 
 -- The view of an answer is what the reading gives, unless memory ran out.
 abbrev pub GivesUnlessMemory : {X Y : Type 0} → (X → Y) → Result X MsgFault → Result Y MsgFault → Type 0

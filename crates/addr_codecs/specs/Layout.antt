@@ -8,10 +8,12 @@ use Rattle.net_addr.specs.declared.net.Net.{Net}
 use Rattle.wire_num.specs.declared.fault.WireFault.{WireFault}
 use Rattle.wire_num.specs.Format.{Format, ◌>>=◌, value, check, times, under, HasFault}
 use Rattle.wire_num.specs.Fields.{some_bytes, byte, le, be, compact}
-use Rattle.addr_codecs.specs.Faults.{of_wire}
+use Rattle.addr_codecs.specs.Faults.{of_wire, in_address, of_address}
 use Rattle.addr_codecs.specs.Network.{network_of, is_length, address_of}
 use Rattle.addr_codecs.specs.declared.fault.MsgFault.{MsgFault}
-use Rattle.addr_codecs.specs.declared.fault.MsgFault.TheVariants.{TooMany, BadLength, TooLong, Trailing}
+use Rattle.addr_codecs.specs.declared.fault.MsgFault.TheVariants.{TooMany, Trailing}
+use Rattle.addr_codecs.specs.declared.address_fault.AddressFault.{AddressFault}
+use Rattle.addr_codecs.specs.declared.address_fault.AddressFault.TheVariants.{BadLength, TooLong}
 
 abbrev pub field : {A : Type 0} → Format WireFault A → Format MsgFault A
 field p = under of_wire p
@@ -28,19 +30,23 @@ addr_entry = do
   port ← field (be w16)
   value (Some (entry time services port (from_v1 old)))
 
+-- a field of an address
+abbrev pub address_field : {A : Type 0} → Format WireFault A → Format AddressFault A
+address_field p = under in_address p
+
 -- the length of an address, at most 512 and that of its network
-unfoldable pub address_length : Option Net → Format MsgFault ℕ
+unfoldable pub address_length : Option Net → Format AddressFault ℕ
 address_length network = do
-  len ← field compact
+  len ← address_field compact
   short ← check (nat_le len 512) TooLong len
   check (is_length network short) BadLength short
 
--- the network, the length and the bytes of an address; None if its entry is skipped
-unfoldable pub addrv2_address : Format MsgFault (Option Address)
+-- the network, the length and the bytes of an address; None if a node has no such address
+unfoldable pub addrv2_address : Format AddressFault (Option Address)
 addrv2_address = do
-  id ← field byte
+  id ← address_field byte
   len ← address_length (network_of id)
-  bytes ← field (some_bytes len)
+  bytes ← address_field (some_bytes len)
   value (address_of (network_of id) bytes)
 
 -- an entry of `addrv2`, None if it is skipped
@@ -48,7 +54,7 @@ unfoldable pub addrv2_entry : Format MsgFault (Option Entry)
 addrv2_entry = do
   time ← field (le w32)
   services ← field compact
-  addr ← addrv2_address
+  addr ← under of_address addrv2_address
   port ← field (be w16)
   value (option_map (entry time services port) addr)
 
@@ -57,7 +63,7 @@ unfoldable pub message : Format MsgFault (Option Entry) → Format MsgFault (Lis
 message p = do
   n ← field compact
   count ← check (nat_le n 1000) TooMany n
-  times count p
+  times 0 count (λ _. p)
 
 abbrev pub IsAddrMessage : List ℕ → List (Option Entry) → Type 0
 IsAddrMessage bytes es = (message addr_entry).spells bytes es

@@ -3,14 +3,14 @@ ghost use Rattle.wire_num.specs.Readings.{Gives};
 ghost use Rattle.net_addr.specs.Address.{length_of};
 ghost use Rattle.net_addr.specs.declared.net.Net.TheVariants.{Unroutable, Ipv6};
 ghost use Rattle.addr_codecs.specs.Network.{network_of, is_length, address_of};
-ghost use Rattle.addr_codecs.specs.Inside.{length_at, address_at};
+ghost use Rattle.addr_codecs.specs.Readings.{length_at, address_at};
 
-use crate::fault::MsgFault;
+use crate::address_fault::AddressFault;
 use net_addr::{MAPPED_PREFIX, Net, NetAddr, TORV2_PREFIX};
 use wire_num::{take_byte, take_bytes, take_compact};
 
-/// The most bytes that an address may have (`MAX_ADDRV2_SIZE` in netaddress.h of Bitcoin Core).
-const MOST_BYTES: u64 = 512;
+/// The bytes of an address, at most (`MAX_ADDRV2_SIZE` in netaddress.h of Bitcoin Core).
+const MAX_BYTES: u64 = 512;
 
 /// Returns the network that a number of BIP 155 names.
 fn network(id: u8) -> Option<Net>
@@ -28,7 +28,7 @@ fn network(id: u8) -> Option<Net>
 }
 
 /// Returns whether addresses of the network have this length. Those of an unknown network may have
-/// any.
+/// any length.
 fn fits(network: Option<Net>, length: u64) -> bool
     ensures { result ≡ is_length network length }
 {
@@ -43,16 +43,16 @@ fn fits(network: Option<Net>, length: u64) -> bool
 }
 
 /// Takes the length of an address of the network.
-#[tactic(auto, unfolding(crate::specs::Inside::length_at))]
-fn take_length(network: Option<Net>, bytes: &[u8]) -> Result<(usize, &[u8]), MsgFault>
+#[tactic(auto, unfolding(crate::specs::Readings::length_at))]
+fn take_length(network: Option<Net>, bytes: &[u8]) -> Result<(usize, &[u8]), AddressFault>
     ensures { Gives (λ x. (x.0, x.1.now)) result (length_at network bytes.now) }
 {
     let (length, rest) = take_compact(bytes)?;
-    if length > MOST_BYTES {
-        return Err(MsgFault::TooLong);
+    if length > MAX_BYTES {
+        return Err(AddressFault::TooLong);
     }
     if !fits(network, length) {
-        return Err(MsgFault::BadLength);
+        return Err(AddressFault::BadLength);
     }
     Ok((length as usize, rest))
 }
@@ -67,7 +67,7 @@ fn ipv6(bytes: &[u8; 16]) -> Option<NetAddr>
     Some(NetAddr::from_v1(bytes))
 }
 
-/// Returns the address of the network with these bytes, and `None` for an entry that is skipped.
+/// Returns the address of the network with these bytes, or `None` if a node has no such address.
 fn address(network: Option<Net>, bytes: &[u8]) -> Option<NetAddr>
     requires own { IfSome network (λ net. net ≢ Unroutable) }
     requires length { IsTrue (is_length network (length bytes.now)) }
@@ -79,10 +79,11 @@ fn address(network: Option<Net>, bytes: &[u8]) -> Option<NetAddr>
     }
 }
 
-/// Takes the network, the length and the bytes of an address (`CNetAddr::UnserializeV2Stream` in
-/// netaddress.h of Bitcoin Core): `None` if the entry with it is skipped.
-#[tactic(auto, unfolding(crate::specs::Inside::address_at))]
-pub(crate) fn take_address(bytes: &[u8]) -> Result<(Option<NetAddr>, &[u8]), MsgFault>
+/// Takes an address as `addrv2` has it: the number of its network, its length as a CompactSize, and
+/// its bytes (`CNetAddr::UnserializeV2Stream` in netaddress.h of Bitcoin Core). It is `None` if the
+/// network is unknown, and if the bytes are an IPv4 or a Tor v2 address within IPv6.
+#[tactic(auto, unfolding(crate::specs::Readings::address_at))]
+pub fn take_address(bytes: &[u8]) -> Result<(Option<NetAddr>, &[u8]), AddressFault>
     ensures { Gives (λ x. (x.0, x.1.now)) result (address_at bytes.now) }
 {
     let (id, rest) = take_byte(bytes)?;

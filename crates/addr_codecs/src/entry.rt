@@ -38,7 +38,7 @@ pub(crate) fn take_addrv2_entry(bytes: &[u8]) -> Result<(Option<Entry>, &[u8]), 
     let (services, rest) = take_compact(rest)?;
     let (addr, rest) = match take_address(rest) {
         Ok(found) => found,
-        Err(fault) => return Err(fault),
+        Err(fault) => return Err(MsgFault::from(fault)),
     };
     let (port, rest) = take_be16(rest)?;
     let entry = addr.map(|addr| Entry {

@@ -1,7 +1,8 @@
 ghost use Rattle.std.specs.Prelude.{◌≡◌};
-ghost use Rattle.addr_codecs.specs.Faults.{of_wire};
+ghost use Rattle.addr_codecs.specs.Faults.{of_wire, of_address};
 ghost use Rattle.addr_codecs.specs.declared.fault.MsgFault.TheVariants.{Memory};
 
+use crate::address_fault::AddressFault;
 use std::alloc::{AllocError, AllocFailed};
 use thiserror::Error;
 use wire_num::WireFault;
@@ -18,7 +19,7 @@ pub enum MsgFault {
     /// The count is above 1000.
     #[error("too-many")]
     TooMany = 3,
-    /// The network of the entry has addresses of another length.
+    /// The network of an address has addresses of another length.
     #[error("bad-length")]
     BadLength = 4,
     /// An address has more than 512 bytes.
@@ -39,6 +40,19 @@ impl From<WireFault> for MsgFault {
         match fault {
             WireFault::Truncated => MsgFault::Truncated,
             WireFault::NonCanonical => MsgFault::NonCanonical,
+        }
+    }
+}
+
+impl From<AddressFault> for MsgFault {
+    ghost from_gives = { λ fault e. e ≡ of_address fault };
+
+    fn from(fault: AddressFault) -> MsgFault {
+        match fault {
+            AddressFault::Truncated => MsgFault::Truncated,
+            AddressFault::NonCanonical => MsgFault::NonCanonical,
+            AddressFault::TooLong => MsgFault::TooLong,
+            AddressFault::BadLength => MsgFault::BadLength,
         }
     }
 }

@@ -2,6 +2,7 @@
 #![tactic(auto)]
 
 mod address;
+mod address_fault;
 mod entries;
 mod entry;
 mod fault;
@@ -11,6 +12,8 @@ mod memory;
 mod message;
 mod writing;
 
+pub use address::take_address;
+pub use address_fault::AddressFault;
 pub use entries::Entries;
 pub use fault::MsgFault;
 pub use law::messages_have_one_meaning;

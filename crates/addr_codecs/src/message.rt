@@ -14,9 +14,8 @@ use net_addr::Entry;
 use std::alloc::Global;
 use wire_num::take_compact;
 
-/// The most entries that a message may have (`MAX_ADDR_TO_SEND` in net_processing.cpp of Bitcoin
-/// Core).
-const MOST_ENTRIES: u64 = 1000;
+/// The entries of a message, at most (`MAX_ADDR_TO_SEND` in net_processing.cpp of Bitcoin Core).
+const MAX_ENTRIES: u64 = 1000;
 
 /// Takes this many entries.
 fn take_entries(
@@ -26,7 +25,7 @@ fn take_entries(
     bytes: &[u8],
 ) -> Result<(Vec<Option<Entry>>, &[u8]), MsgFault>
     ensures found { GivesUnlessMemory (λ x. (x.0.items, x.1.now)) result
-        (times_at count (entry_at form) bytes.now) }
+        (times_at 0 count (λ _. entry_at form) bytes.now) }
     ensures count { IfOk result (λ x. vec_len x.0 ≡ count) }
 {
     let mut entries = Vec::new(alloc);
@@ -50,7 +49,7 @@ fn read_message(alloc: Global, form: Form, bytes: &[u8]) -> Result<Entries, MsgF
     ensures few { IfOk result (λ entries. length entries ≤ 1000) }
 {
     let (count, rest) = take_compact(bytes)?;
-    if count > MOST_ENTRIES {
+    if count > MAX_ENTRIES {
         return Err(MsgFault::TooMany);
     }
     match take_entries(alloc, form, count, rest) {

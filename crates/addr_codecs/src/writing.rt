@@ -1,4 +1,4 @@
-ghost use Rattle.std.specs.Prelude.{◌≡◌, ◌≢◌, ◌⊎◌, ◌≤◌, ◌++◌, [], length, map, All, IfOk, OnOk, Some, unwrap_or};
+ghost use Rattle.std.specs.Prelude.{◌≡◌, ◌≢◌, ◌⊎◌, ◌≤◌, ◌++◌, [], length, map, All, IfOk, OnOk, OnErr, Some, unwrap_or, take, vec_len};
 ghost use Rattle.net_addr.specs.Address.{IsAddress};
 ghost use Rattle.net_addr.specs.OldForm.{v1_bytes};
 ghost use Rattle.net_addr.specs.declared.net.Net.TheVariants.{Ipv4, Ipv6, Internal};
@@ -67,12 +67,12 @@ fn prefix(net: Net) -> &'static [u8]
     }
 }
 
-/// Appends the network, the length and the bytes of an address (`CNetAddr::SerializeV2Stream` in
-/// netaddress.h of Bitcoin Core).
+/// Appends an address as `put_address` does. After `Memory` a part of it may be in the list.
 #[tactic(auto, unfolding(crate::specs::Texts::address_text))]
-pub fn put_address(addr: &NetAddr, out: &mut Vec<u8>) -> Result<(), Memory>
+fn append_address(addr: &NetAddr, out: &mut Vec<u8>) -> Result<(), Memory>
     ensures found { OnOk result (out.new.items ≡ out.old.items ++ address_text addr.now) }
     ensures address { OnOk result (IsAddress addr.now) }
+    ensures kept { take (vec_len out.old) out.new.items ≡ out.old.items }
 {
     let (prefix, bytes) = (prefix(addr.net()), addr.bytes());
     out.extend_from_slice(&[id(addr.net())])?;
@@ -80,6 +80,23 @@ pub fn put_address(addr: &NetAddr, out: &mut Vec<u8>) -> Result<(), Memory>
     out.extend_from_slice(prefix)?;
     out.extend_from_slice(bytes)?;
     Ok(())
+}
+
+/// Appends an address as `addrv2` has it: the number of its network, its length as a CompactSize,
+/// and its bytes (`CNetAddr::SerializeV2Stream` in netaddress.h of Bitcoin Core).
+pub fn put_address(addr: &NetAddr, out: &mut Vec<u8>) -> Result<(), Memory>
+    ensures found { OnOk result (out.new.items ≡ out.old.items ++ address_text addr.now) }
+    ensures address { OnOk result (IsAddress addr.now) }
+    ensures err { OnErr result (out.new.items ≡ out.old.items) }
+{
+    let length = out.len();
+    match append_address(addr, out) {
+        Ok(()) => Ok(()),
+        Err(fault) => {
+            out.truncate(length);
+            Err(fault)
+        }
+    }
 }
 
 /// Appends an entry of `addrv2`.

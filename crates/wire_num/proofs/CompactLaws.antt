@@ -9,8 +9,8 @@ use Rattle.wire_num.specs.declared.fault.WireFault.TheVariants.{Truncated, NonCa
 use Rattle.wire_num.specs.CompactSize.{compact_size, IsCut, IsLong, spelling_length}
 use Rattle.wire_num.specs.Format.{Format, Begins, sequence, check}
 use Rattle.wire_num.specs.Fields.{number, le, compact, CompactFault}
-use Rattle.wire_num.specs.Readings.{le_at, wide_at, compact_at, GivesLength}
-use Rattle.wire_num.proofs.ReadingLaws.{AreBytes, Reads, Reads-then, Reads-check, check_at, ok_is, err_is, apart}
+use Rattle.wire_num.specs.Readings.{le_at, wide_at, compact_at, GivesLength, check_at}
+use Rattle.wire_num.proofs.ReadingLaws.{AreBytes, Reads, Reads-then, Reads-check, ok_is, err_is, apart}
 use Rattle.wire_num.proofs.FieldLaws.{IsWide, le16, le32, le64, Reads-number}
 
 -- a number of a width that is not below `least`

@@ -3,3 +3,4 @@ pub mod FieldLaws
 pub mod CompactLaws
 pub mod Examples
 pub mod LoopLaws
+pub mod WritingLaws

@@ -3,7 +3,7 @@ use Rattle.std.proofs.Common.{◌≡◌, ◌≢◌, ◌⊎◌, ℕ, zero, suc, �
 use Rattle.std.proofs.lemmas.Bool.{cases_lt}
 use Rattle.std.proofs.lemmas.List.{get_or-append-add, get_or_past, append-nil}
 use Rattle.wire_num.specs.Format.{Format, Begins, value, check, times, under, HasFault, HasOneMeaning, sequence}
-use Rattle.wire_num.specs.Readings.{◌>>=◌, fault_as, times_at, last, all_of}
+use Rattle.wire_num.specs.Readings.{◌>>=◌, value_at, check_at, then_at, times_at, under_at, fault_as, last, all_of}
 
 -- each element is a byte
 abbrev pub AreBytes : List ℕ → Type 0
@@ -56,9 +56,6 @@ bind_err {A = A} {B = B} {F = F} (Err g) s f e = let same : g ≡ f = cc in inl 
 
 -- ---- one format after another
 
-abbrev pub then_at : {F A B : Type 0} → (List ℕ → Result (A × List ℕ) F) → (A → List ℕ → Result (B × List ℕ) F) → List ℕ → Result (B × List ℕ) F
-then_at r s bytes = r bytes >>= λ x. s x.0 x.1
-
 pub Reads-then : {F A B : Type 0} (p : Format F A) (q : A → Format F B) (r : List ℕ → Result (A × List ℕ) F) (s : A → List ℕ → Result (B × List ℕ) F)
     → Reads p r → ((a : A) → Reads (q a) (s a)) → Reads (sequence p q) (then_at r s)
 unfolding sequence
@@ -94,10 +91,11 @@ Reads-then {F = F} {A = A} {B = B} p q r s hp hq = record {
       ];
 }
 
--- ---- what takes no bytes
+-- the same, with what the format and the reading show left out
+pub reads_next : {F A B : Type 0} {p : Format F A} {q : A → Format F B} {r : List ℕ → Result (A × List ℕ) F} {s : A → List ℕ → Result (B × List ℕ) F} → Reads p r → ((a : A) → Reads (q a) (s a)) → Reads (sequence p q) (then_at r s)
+reads_next {p = p} {q = q} {r = r} {s = s} one two = Reads-then p q r s one two
 
-abbrev pub value_at : {F A : Type 0} → A → List ℕ → Result (A × List ℕ) F
-value_at a bytes = Ok (a, bytes)
+-- ---- what takes no bytes
 
 pub Reads-value : {F A : Type 0} (a : A) → Reads {F = F} (value a) (value_at a)
 unfolding value
@@ -112,9 +110,6 @@ Reads-value {F = F} {A = A} a = record {
   cause = λ bytes f fits e. absurd cc;
   first = λ bytes f h. absurd h;
 }
-
-abbrev pub check_at : {F A : Type 0} → Bool → F → A → List ℕ → Result (A × List ℕ) F
-check_at passes fault a bytes = cond passes (Ok (a, bytes)) (Err fault)
 
 pub Reads-check : {F A : Type 0} (passes : Bool) (fault : F) (a : A) → Reads (check passes fault a) (check_at passes fault a)
 unfolding check
@@ -136,19 +131,16 @@ Reads-check {F = F} {A = A} false fault a = record {
   first = λ bytes f h. let is = h.1 in ap (λ (t : F). failed {A = A × List ℕ} t) (sym is);
 }
 
--- ---- this many of one
+-- ---- some values, each by its index
 
-pub Reads-times : {F A : Type 0} (n : ℕ) (p : Format F A) (r : List ℕ → Result (A × List ℕ) F) → Reads p r → Reads (times n p) (times_at n r)
+pub Reads-times : {F A : Type 0} (i n : ℕ) (p : ℕ → Format F A) (r : ℕ → List ℕ → Result (A × List ℕ) F) → ((k : ℕ) → Reads (p k) (r k)) → Reads (times i n p) (times_at i n r)
 unfolding times times_at
-Reads-times zero p r h = Reads-value []
-Reads-times {F = F} {A = A} (suc n) p r h =
-    Reads-then p (λ first. sequence (times n p) (λ others. value (first ∷ others))) r (λ first rest. times_at n r rest >>= λ others. Ok (first ∷ others.0, others.1)) h (λ first.
-    Reads-then (times n p) (λ others. value (first ∷ others)) (times_at n r) (λ others. value_at (first ∷ others)) (Reads-times n p r h) (λ others. Reads-value (first ∷ others)))
+Reads-times i zero p r h = Reads-value []
+Reads-times i (suc n) p r h =
+    Reads-then (p i) (λ first. sequence (times (i + 1) n p) (λ others. value (first ∷ others))) (r i) (λ first. then_at (times_at (i + 1) n r) (λ others. value_at (first ∷ others))) (h i) (λ first.
+    Reads-then (times (i + 1) n p) (λ others. value (first ∷ others)) (times_at (i + 1) n r) (λ others. value_at (first ∷ others)) (Reads-times (i + 1) n p r h) (λ others. Reads-value (first ∷ others)))
 
 -- ---- a fault under another name
-
-abbrev pub under_at : {E F A : Type 0} → (E → F) → (List ℕ → Result (A × List ℕ) E) → List ℕ → Result (A × List ℕ) F
-under_at name r bytes = fault_as name (r bytes)
 
 fault_as-ok : {E F A : Type 0} (name : E → F) (r : Result A E) (x : A) → fault_as name r ≡ Ok x → r ≡ Ok x
 fault_as-ok {E = E} {F = F} name (Ok y) x e = ap (λ t. done {F = E} t) (ok_is {F = F} y x e)

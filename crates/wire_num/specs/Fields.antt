@@ -32,11 +32,11 @@ le w = number w (to_le_bytes w)
 abbrev pub be : Width → Format WireFault ℕ
 be w = number w (to_be_bytes w)
 
--- why bytes do not begin with a CompactSize in its shortest spelling
+-- why the bytes do not begin with a CompactSize in the fewest bytes
 abbrev pub CompactFault : List ℕ → WireFault → Type 0
 CompactFault bytes Truncated = IsCut bytes
 CompactFault bytes NonCanonical = IsLong bytes
 
--- a number below 2 ^ 64 in its shortest spelling
+-- a number below 2 ^ 64 in the fewest bytes that it fits
 unfoldable pub compact : Format WireFault ℕ
 compact = record { spells = λ bytes n. (n < 2 ^ 64) × (bytes ≡ compact_size n); shows = CompactFault }

@@ -1,5 +1,5 @@
 -- The meaning of bytes that are read from the start, field by field: the value that they spell, or their first fault.
-use Rattle.std.specs.Prelude.{◌≡◌, ◌≢◌, ℕ, zero, suc, List, [], ◌∷◌, ◌++◌, Bool, true, false, ◌⊎◌}
+use Rattle.std.specs.Prelude.{◌≡◌, ◌≢◌, ℕ, zero, suc, ◌+◌, List, [], ◌∷◌, ◌++◌, Bool, true, false, ◌⊎◌}
 
 -- which bytes spell a value; and which bytes begin with fields that show no fault, and then a field that shows this one
 pub record Format (F A : Type 0) : Type 1 where
@@ -34,12 +34,12 @@ check passes fault a = record {
   shows = λ bytes f. (passes ≡ false) × (f ≡ fault);
 }
 
--- this many values of one format
-unfoldable pub times : {F A : Type 0} → ℕ → Format F A → Format F (List A)
-times zero p = value []
-times (suc n) p = do
-  first ← p
-  others ← times n p
+-- n values, each of the format of its index: the indexes are i, i + 1, and so on
+unfoldable pub times : {F A : Type 0} → ℕ → ℕ → (ℕ → Format F A) → Format F (List A)
+times i zero p = value []
+times i (suc n) p = do
+  first ← p i
+  others ← times (i + 1) n p
   value (first ∷ others)
 
 -- the same bytes, with a fault under another name

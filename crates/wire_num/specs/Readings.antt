@@ -1,5 +1,5 @@
 -- What reading from the start gives: a value and the bytes after it, or the fault.
-use Rattle.std.specs.Prelude.{◌≡◌, ℕ, zero, suc, ◌≤◌, ◌^◌, List, [], ◌∷◌, length, take, drop, Result, Ok, Err, nat_lt, nat_le, ◌==◌, if◌then◌else◌}
+use Rattle.std.specs.Prelude.{◌≡◌, ℕ, zero, suc, ◌+◌, ◌≤◌, ◌^◌, List, [], ◌∷◌, Bool, length, take, drop, Result, Ok, Err, nat_lt, nat_le, ◌==◌, if◌then◌else◌}
 use Rattle.std.specs.Int.{Width, w16, w32, w64, byte_len, from_le_bytes, from_be_bytes}
 use Rattle.wire_num.specs.declared.fault.WireFault.{WireFault}
 use Rattle.wire_num.specs.declared.fault.WireFault.TheVariants.{Truncated, NonCanonical}
@@ -9,10 +9,22 @@ abbrev pub ◌>>=◌ : {F A B : Type 0} → Result A F → (A → Result B F) �
 (Ok x) >>= f = f x
 (Err e) >>= f = Err e
 
--- this many values of one reading
-unfoldable pub times_at : {F A : Type 0} → ℕ → (List ℕ → Result (A × List ℕ) F) → List ℕ → Result (List A × List ℕ) F
-times_at zero r bytes = Ok ([], bytes)
-times_at (suc n) r bytes = r bytes >>= λ first. times_at n r first.1 >>= λ others. Ok (first.0 ∷ others.0, others.1)
+-- a value that takes no bytes
+abbrev pub value_at : {F A : Type 0} → A → List ℕ → Result (A × List ℕ) F
+value_at a bytes = Ok (a, bytes)
+
+-- a value that takes no bytes, if it passes a test
+abbrev pub check_at : {F A : Type 0} → Bool → F → A → List ℕ → Result (A × List ℕ) F
+check_at passes fault a bytes = if passes then Ok (a, bytes) else Err fault
+
+-- one reading, and after it another that may depend on its value
+abbrev pub then_at : {F A B : Type 0} → (List ℕ → Result (A × List ℕ) F) → (A → List ℕ → Result (B × List ℕ) F) → List ℕ → Result (B × List ℕ) F
+then_at r s bytes = r bytes >>= λ x. s x.0 x.1
+
+-- n values, each of the reading of its index: the indexes are i, i + 1, and so on
+unfoldable pub times_at : {F A : Type 0} → ℕ → ℕ → (ℕ → List ℕ → Result (A × List ℕ) F) → List ℕ → Result (List A × List ℕ) F
+times_at i zero r = value_at []
+times_at i (suc n) r = then_at (r i) (λ first. then_at (times_at (i + 1) n r) (λ others. value_at (first ∷ others)))
 
 -- a value after which nothing may follow
 abbrev pub last : {F A : Type 0} → F → A → List ℕ → Result A F
@@ -27,6 +39,10 @@ all_of r trailing bytes = r bytes >>= λ x. last trailing x.0 x.1
 abbrev pub fault_as : {E F A : Type 0} → (E → F) → Result A E → Result A F
 fault_as name (Ok x) = Ok x
 fault_as name (Err e) = Err (name e)
+
+-- a reading with its faults under other names
+abbrev pub under_at : {E F A : Type 0} → (E → F) → (List ℕ → Result (A × List ℕ) E) → List ℕ → Result (A × List ℕ) F
+under_at name r bytes = fault_as name (r bytes)
 
 abbrev pub bytes_at : ℕ → List ℕ → Result (List ℕ × List ℕ) WireFault
 bytes_at n bytes = if nat_lt (length bytes) n then Err Truncated else Ok (take n bytes, drop n bytes)

@@ -9,8 +9,8 @@ use crate::fault::WireFault;
 use crate::memory::Memory;
 use crate::numbers::{read_le16, read_le32, read_le64};
 
-/// Returns a number that was read in `length` bytes, of which the first gives the width, with this
-/// length. A number below `least` fits fewer bytes, and is refused.
+/// Returns the number with `length`, the bytes that it takes together with the byte before it. A
+/// number below `least` fits in fewer bytes, and is rejected.
 fn in_width(number: Option<u64>, least: u64, length: usize) -> Result<(u64, usize), WireFault>
     ensures cut { IfNone number (result ≡ Err Truncated) }
     ensures found { IfSome number (λ n. result ≡
@@ -37,9 +37,8 @@ fn compact_of(bytes: &[u8]) -> Result<(u64, usize), WireFault>
     }
 }
 
-/// Returns the CompactSize at the start of the bytes, and how many bytes it takes
-/// (`ReadCompactSize` in serialize.h of Bitcoin Core, without its limit on the value). Bytes may
-/// follow it.
+/// Returns the CompactSize at the start of the bytes and its length in bytes (`ReadCompactSize` in
+/// serialize.h of Bitcoin Core, without its limit on the value). Bytes may follow it.
 pub fn read_compact(bytes: &[u8]) -> Result<(u64, usize), WireFault>
     ensures found { IfOk result (λ x. (x.1 ≤ length bytes.now) ×
         (take x.1 bytes.now ≡ compact_size x.0)) }
@@ -51,8 +50,8 @@ pub fn read_compact(bytes: &[u8]) -> Result<(u64, usize), WireFault>
     compact_of(bytes)
 }
 
-/// Appends the CompactSize of a number, in its shortest spelling (`WriteCompactSize` in serialize.h
-/// of Bitcoin Core).
+/// Appends a number as a CompactSize, in the fewest bytes that it fits (`WriteCompactSize` in
+/// serialize.h of Bitcoin Core).
 #[tactic(auto, unfolding(crate::specs::CompactSize::compact_size))]
 pub fn put_compact(value: u64, out: &mut Vec<u8>) -> Result<(), Memory>
     ensures found { OnOk result (out.new.items ≡ out.old.items ++ compact_size value) }

@@ -50,7 +50,7 @@ pub fn take_be16(bytes: &[u8]) -> Result<(u16, &[u8]), WireFault>
     Ok((number, &bytes[2..]))
 }
 
-/// Takes a CompactSize in its shortest spelling.
+/// Takes a CompactSize, in the fewest bytes that its value fits.
 pub fn take_compact(bytes: &[u8]) -> Result<(u64, &[u8]), WireFault>
     ensures { Gives (λ x. (x.0, x.1.now)) result (compact_at bytes.now) }
 {
