@@ -1,6 +1,5 @@
 ghost use Rattle.std.specs.Prelude.{◌≡◌, ◌≢◌, length, IsTrue, IfSome, Some};
 ghost use Rattle.wire_num.specs.Readings.{Gives};
-ghost use Rattle.net_addr.specs.Address.{length_of};
 ghost use Rattle.net_addr.specs.declared.net.Net.TheVariants.{Unroutable, Ipv6};
 ghost use Rattle.addr_codecs.specs.Network.{network_of, is_length, address_of};
 ghost use Rattle.addr_codecs.specs.Readings.{length_at, address_at};

@@ -1,5 +1,5 @@
 -- Lengths of parts of a list.
-use Rattle.std.proofs.Common.{◌≡◌, ℕ, ◌+◌, ◌<◌, ◌≤◌, Bool, true, false, cond, List, [], ◌∷◌, length, filter, nat_lt, refl, sym, arith}
+use Rattle.std.proofs.Common.{◌≡◌, ℕ, ◌+◌, ◌≤◌, Bool, true, false, cond, List, [], ◌∷◌, length, filter, nat_lt, refl, arith}
 
 -- those below a number and those above it are no more than all
 pub length-below_above : (n : ℕ) (xs : List ℕ) → length (filter (λ x. nat_lt x n) xs) + length (filter (λ x. nat_lt n x) xs) ≤ length xs

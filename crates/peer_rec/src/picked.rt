@@ -5,7 +5,7 @@ use net_addr::Peer;
 pub enum Picked {
     /// A peer, and when it was last tried, in seconds since 1970.
     One(Peer, u32),
-    /// No record of the wanted kind is there.
+    /// No record is eligible.
     Nothing,
     /// The random words were used up before a record was taken.
     Exhausted,

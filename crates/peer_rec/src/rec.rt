@@ -24,7 +24,8 @@ const RECENT: u64 = 600;
 /// (`AddrInfo` in addrman_impl.h of Bitcoin Core).
 #[derive(Drop)]
 pub struct Rec {
-    /// Numbers are given in order and never used again.
+    /// What Bitcoin Core calls nId: given in order and never used again. Our `id` of a record is
+    /// its key in the slab, which is used again.
     pub number: u64,
     pub peer: Peer,
     /// The address that first announced the peer.

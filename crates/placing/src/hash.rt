@@ -5,7 +5,7 @@ use sha2::{Digest, Sha256};
 
 /// Returns SHA-256 of SHA-256 of the bytes (FIPS 180-4).
 #[tactic(auto, unfolding(crate::specs::Places::double_sha256))]
-pub(crate) fn double_sha256(bytes: &[u8]) -> [u8; 32]
+pub fn double_sha256(bytes: &[u8]) -> [u8; 32]
     ensures { result ≡ double_sha256 bytes.now }
 {
     Sha256::digest(Sha256::digest(bytes).as_slice())
@@ -21,7 +21,7 @@ pub fn cheap(bytes: &[u8]) -> u64
     finish(hasher)
 }
 
-/// Feeds the length of a byte list, and then the list.
+/// Feeds the hasher the length of the bytes, and then the bytes.
 #[tactic(auto, unfolding(wire_num::specs::CompactSize::compact_size))]
 pub(crate) fn add_sized(hasher: &mut Sha256, bytes: &[u8])
     requires { length bytes.now < 253 }
@@ -32,7 +32,7 @@ pub(crate) fn add_sized(hasher: &mut Sha256, bytes: &[u8])
     hasher.update(bytes);
 }
 
-/// Returns the hash of the bytes that were fed.
+/// Returns the hash of the bytes that the hasher was fed.
 #[tactic(auto, unfolding(crate::specs::Places::cheap_hash, crate::specs::Places::double_sha256))]
 pub(crate) fn finish(hasher: Sha256) -> u64
     ensures { (m : List ℕ) → ⟦<Sha256 as Digest>⟧.holds hasher m → result ≡ cheap_hash m }

@@ -4,5 +4,5 @@
 mod hash;
 mod placer;
 
-pub use hash::cheap;
+pub use hash::{cheap, double_sha256};
 pub use placer::{Placer, number_of};

@@ -35,7 +35,6 @@ impl<'a> Placer<'a> {
     ghost use Rattle.std.specs.Prelude.{◌≤◌, [], ◌∷◌};
     ghost use Rattle.std.specs.Int.{w64, to_le_bytes};
     ghost use Rattle.std.specs.List.{Contains};
-    ghost use Rattle.arrayvec.specs.ArrayVec.{array_vec_len};
     ghost use Rattle.placing.specs.Places.{IsPlaces, hash_of, sized, slot, group_choice, asn, sum_of, group, source_bucket, source_buckets, source_choice, group_bucket, group_buckets, new_bucket, tried_bucket, new_slot, tried_slot};
     ghost use Rattle.placing.specs.Inside.{map_of};
 

@@ -1,4 +1,4 @@
-ghost use Rattle.std.specs.Prelude.{List, length};
+ghost use Rattle.std.specs.Prelude.{length};
 ghost use Rattle.std.specs.Int.{w16, w32, w64};
 ghost use Rattle.wire_num.specs.Readings.{Gives, bytes_at, byte_at, le_at, be_at, compact_at};
 
