@@ -43,10 +43,10 @@ same_fault kinds texts f g (inr h) (inr k) = same_first kinds texts f g h.1 k.1
 
 -- ---- of a line
 
-same_heads : (line word other : List ℕ) (texts others : List (List ℕ)) → fields_of line ≡ word ∷ texts → fields_of line ≡ other ∷ others → word ≡ other
+pub same_heads : (line word other : List ℕ) (texts others : List (List ℕ)) → fields_of line ≡ word ∷ texts → fields_of line ≡ other ∷ others → word ≡ other
 same_heads line word other texts others e f = ap (λ ts. get_or ts 0 []) (sym e ∙ f)
 
-same_tails : (line word other : List ℕ) (texts others : List (List ℕ)) → fields_of line ≡ word ∷ texts → fields_of line ≡ other ∷ others → texts ≡ others
+pub same_tails : (line word other : List ℕ) (texts others : List (List ℕ)) → fields_of line ≡ word ∷ texts → fields_of line ≡ other ∷ others → texts ≡ others
 same_tails line word other texts others e f = ap (λ ts. drop 1 ts) (sym e ∙ f)
 
 -- the fault after a word that is a verb's

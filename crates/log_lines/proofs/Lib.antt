@@ -1,7 +1,8 @@
 mod Examples
 pub mod Numbers
 pub mod WordLemmas
+pub mod NameLemmas
 pub mod FieldLemmas
-pub mod OnlyLemmas
 pub mod VerbLemmas
 pub mod FaultLemmas
+pub mod Readings

@@ -1,7 +1,11 @@
 -- A verb is known by its word.
-use Rattle.std.proofs.Common.{◌≡◌, ℕ, List, get_or, refl, sym, ap, ◌∙◌}
+use Rattle.std.proofs.Common.{◌≡◌, ℕ, ◌<◌, List, [], ◌∷◌, codes, get_or, refl, sym, ap, ◌∙◌, arith}
 use Rattle.std.specs.Prelude.{◌==◌, if◌then◌else◌}
-use Rattle.log_lines.specs.Spelling.{word_of}
+use Rattle.std.specs.List.{join_with_byte}
+use Rattle.std.proofs.lemmas.List.Splits.{join_with_byte-slice_split}
+use Rattle.host_io.specs.Lines.{IsPassedOver}
+use Rattle.log_lines.specs.Spelling.{word_of, Spells}
+use Rattle.log_lines.specs.declared.command.Command.{Command}
 use Rattle.log_lines.specs.declared.verb.Verb.{Verb}
 use Rattle.log_lines.specs.declared.verb.Verb.TheVariants as v
 
@@ -51,3 +55,37 @@ verb_back v.SaveEnd = refl
 -- two verbs with the same word are one
 pub same_verb : (a b : Verb) → word_of a ≡ word_of b → a ≡ b
 same_verb a b e = sym (verb_back a) ∙ ap verb_in e ∙ verb_back b
+
+first_of_join : (c x : ℕ) (xs : List ℕ) (texts : List (List ℕ)) → get_or (join_with_byte c ((x ∷ xs) ∷ texts)) 0 0 ≡ x
+first_of_join c x xs [] = refl
+first_of_join c x xs (text ∷ texts) = refl
+
+-- a line that begins with a verb begins with a letter
+begins_with_letter : (verb : Verb) (texts : List (List ℕ)) → 96 < get_or (join_with_byte 32 (word_of verb ∷ texts)) 0 0
+begins_with_letter v.Now texts = omega (arith, first_of_join 32 110 (codes "ow") texts)
+begins_with_letter v.Addr texts = omega (arith, first_of_join 32 97 (codes "ddr") texts)
+begins_with_letter v.Addr2 texts = omega (arith, first_of_join 32 97 (codes "ddrv2") texts)
+begins_with_letter v.Good texts = omega (arith, first_of_join 32 103 (codes "ood") texts)
+begins_with_letter v.Attempt texts = omega (arith, first_of_join 32 97 (codes "ttempt") texts)
+begins_with_letter v.Connected texts = omega (arith, first_of_join 32 99 (codes "onnected") texts)
+begins_with_letter v.Services texts = omega (arith, first_of_join 32 115 (codes "ervices") texts)
+begins_with_letter v.Find texts = omega (arith, first_of_join 32 102 (codes "ind") texts)
+begins_with_letter v.Size texts = omega (arith, first_of_join 32 115 (codes "ize") texts)
+begins_with_letter v.Select texts = omega (arith, first_of_join 32 115 (codes "elect") texts)
+begins_with_letter v.Sample texts = omega (arith, first_of_join 32 115 (codes "ample") texts)
+begins_with_letter v.Resolve texts = omega (arith, first_of_join 32 114 (codes "esolve") texts)
+begins_with_letter v.Clash texts = omega (arith, first_of_join 32 99 (codes "lash") texts)
+begins_with_letter v.Dump texts = omega (arith, first_of_join 32 100 (codes "ump") texts)
+begins_with_letter v.Save texts = omega (arith, first_of_join 32 115 (codes "ave") texts)
+begins_with_letter v.SaveBegin texts = omega (arith, first_of_join 32 115 (codes "ave-begin") texts)
+begins_with_letter v.SaveStep texts = omega (arith, first_of_join 32 115 (codes "ave-step") texts)
+begins_with_letter v.SaveEnd texts = omega (arith, first_of_join 32 115 (codes "ave-end") texts)
+
+-- a line that is passed over spells nothing
+pub passed_spells_none : (line : List ℕ) (command : Command) → IsPassedOver line → Spells line command → ⊥
+passed_spells_none [] command passed s =
+    let whole = sym (join_with_byte-slice_split 32 []) ∙ ap (join_with_byte 32) s.2 in
+    omega (arith, ap (λ t. get_or t 0 0) whole, begins_with_letter s.0 s.1)
+passed_spells_none (b ∷ line) command passed s =
+    let whole = sym (join_with_byte-slice_split 32 (b ∷ line)) ∙ ap (join_with_byte 32) s.2 in
+    omega (arith, passed, ap (λ t. get_or t 0 0) whole, begins_with_letter s.0 s.1)

@@ -1,8 +1,9 @@
 -- The fields of a line, and the value of the text of a field.
-use Rattle.std.specs.Prelude.{◌≡◌, ◌⊎◌, ◌≢◌, ℕ, ◌<◌, ◌≤◌, ◌^◌, List, [], ◌∷◌, ◌++◌, map, length, All, Bool, true, false, ◌==◌, Option, Some, None, Ok, codes, decimal}
+use Rattle.std.specs.Prelude.{◌≡◌, ◌⊎◌, ◌≢◌, ℕ, ◌<◌, ◌≤◌, ◌^◌, List, [], ◌∷◌, ◌++◌, map, fold, length, All, AllPairs, Bool, true, false, ◌==◌, Ok, codes, decimal}
 use Rattle.std.specs.List.{slice_split, join_with_byte}
 use Rattle.hex.specs.Hex.{decode_of}
 use Rattle.net_addr.specs.Address.{Address}
+use Rattle.net_addr.specs.NetSet.{all, none, with}
 use Rattle.net_addr.specs.Text.{IsAddrText, IsPeerText}
 use Rattle.net_addr.specs.declared.net.Net.{Net}
 use Rattle.net_addr.specs.declared.net.Net.TheVariants.{Unroutable, Ipv4, Ipv6, Onion, I2p, Cjdns, Internal}
@@ -10,13 +11,14 @@ use Rattle.net_addr.specs.declared.peer.Peer.{Peer}
 use Rattle.log_lines.specs.Random.{seeded_words}
 use Rattle.log_lines.specs.declared.fault.LineFault.{LineFault}
 use Rattle.log_lines.specs.declared.fault.LineFault.TheVariants as fault
+use Rattle.log_lines.specs.declared.random.TheConstants.{MAX_SEEDED}
 
 -- the pieces of a line between its spaces; an empty piece is a field
 abbrev pub fields_of : List ℕ → List (List ℕ)
 fields_of line = slice_split (λ b. b == 32) line
 
 -- A kind of field: a decimal number between two bounds; an address; a peer; bytes in hexadecimal digits; random words;
--- one of two words; a network; and a class of addresses.
+-- one of two keywords; a set of networks; and a set of classes of addresses.
 pub data Kind : Type 0 where
   Number : (least most : ℕ) → Kind
   OfAddr : Kind
@@ -24,8 +26,8 @@ pub data Kind : Type 0 where
   Hex : Kind
   Random : Kind
   Either : (first second : List ℕ) → Kind
-  OfNet : Kind
-  Class : Kind
+  Nets : Kind
+  Classes : Kind
 
 -- the value of a field
 pub data Value : Type 0 where
@@ -35,7 +37,7 @@ pub data Value : Type 0 where
   TheBytes : (bytes : List ℕ) → Value
   TheWords : (words : List ℕ) → Value
   TheChoice : (is_first : Bool) → Value
-  TheNet : (net : Option Net) → Value
+  TheNets : (nets : List ℕ) → Value
 
 -- `-` for no bytes, or hexadecimal digits, two a byte and in either case
 abbrev pub IsHex : List ℕ → List ℕ → Type 0
@@ -45,16 +47,16 @@ IsHex text bytes = ((text ≡ codes "-") × (bytes ≡ [])) ⊎ ((text ≢ []) �
 abbrev pub AreNumbers : List ℕ → List ℕ → Type 0
 AreNumbers text words = (words ≢ []) × All (λ w. w < 2 ^ 64) words × (text ≡ join_with_byte 44 (map decimal words))
 
--- `@S:N`, the first N words of the generator that the seed S gives; at most a million
+-- `@S:N`, the first N words of the generator that the seed S gives, at most `MAX_SEEDED`
 abbrev pub AreSeeded : List ℕ → List ℕ → Type 0
 AreSeeded text words =
-    (seed : ℕ) × (count : ℕ) × (seed < 2 ^ 64) × (count ≤ 1000000) × (text ≡ codes "@" ++ decimal seed ++ codes ":" ++ decimal count) × (words ≡ seeded_words seed count)
+    (seed : ℕ) × (count : ℕ) × (seed < 2 ^ 64) × (count ≤ MAX_SEEDED) × (text ≡ codes "@" ++ decimal seed ++ codes ":" ++ decimal count) × (words ≡ seeded_words seed count)
 
 -- `-` for no words, numbers, or a seed
 abbrev pub AreWords : List ℕ → List ℕ → Type 0
 AreWords text words = ((text ≡ codes "-") × (words ≡ [])) ⊎ (AreNumbers text words ⊎ AreSeeded text words)
 
--- the name of a network
+-- the name of a network, or of a class that no network has
 abbrev pub net_name : Net → List ℕ
 net_name Unroutable = codes "unroutable"
 net_name Ipv4 = codes "ipv4"
@@ -64,14 +66,24 @@ net_name I2p = codes "i2p"
 net_name Cjdns = codes "cjdns"
 net_name Internal = codes "internal"
 
--- `all`, or the name of a class of addresses
-abbrev pub IsClass : List ℕ → Option Net → Type 0
-IsClass text None = text ≡ codes "all"
-IsClass text (Some net) = text ≡ net_name net
+-- one name or more with commas between them, none twice, in any order
+pub record AreNames (text : List ℕ) (nets : List Net) : Type 0 where
+  pub some : nets ≢ []
+  pub once : AllPairs (λ a b. a ≢ b) nets
+  pub names : text ≡ join_with_byte 44 (map net_name nets)
 
--- `all`, or the name of a network
-abbrev pub IsNet : List ℕ → Option Net → Type 0
-IsNet text net = IsClass text net × (net ≢ Some Unroutable)
+-- the set of the networks that are named
+abbrev pub set_of : List Net → List ℕ
+set_of nets = fold with none nets
+
+-- `all`, or the names of classes of addresses
+abbrev pub AreClasses : List ℕ → List ℕ → Type 0
+AreClasses text set = ((text ≡ codes "all") × (set ≡ all)) ⊎ ((nets : List Net) × AreNames text nets × (set ≡ set_of nets))
+
+-- `all`, or the names of networks, of which `unroutable` is none
+abbrev pub AreNets : List ℕ → List ℕ → Type 0
+AreNets text set =
+    ((text ≡ codes "all") × (set ≡ all)) ⊎ ((nets : List Net) × AreNames text nets × All (λ net. net ≢ Unroutable) nets × (set ≡ set_of nets))
 
 abbrev pub choice : List ℕ → List ℕ → Bool → List ℕ
 choice first second true = first
@@ -85,12 +97,23 @@ Means OfPeer text v = (p : Peer) × (v ≡ ThePeer p) × IsPeerText text p
 Means Hex text v = (bytes : List ℕ) × (v ≡ TheBytes bytes) × IsHex text bytes
 Means Random text v = (words : List ℕ) × (v ≡ TheWords words) × AreWords text words
 Means (Either first second) text v = (b : Bool) × (v ≡ TheChoice b) × (text ≡ choice first second b)
-Means OfNet text v = (net : Option Net) × (v ≡ TheNet net) × IsNet text net
-Means Class text v = (class : Option Net) × (v ≡ TheNet class) × IsClass text class
+Means Nets text v = (set : List ℕ) × (v ≡ TheNets set) × AreNets text set
+Means Classes text v = (set : List ℕ) × (v ≡ TheNets set) × AreClasses text set
 
 -- the text is of the kind
 abbrev pub IsInForm : Kind → List ℕ → Type 0
 IsInForm kind text = (v : Value) × Means kind text v
+
+-- the kind has texts of at most one value each: its numbers have 64 bits, its two keywords differ
+abbrev pub IsDefinite : Kind → Type 0
+IsDefinite (Number least most) = most < 2 ^ 64
+IsDefinite (Either first second) = first ≢ second
+IsDefinite OfAddr = Unit {0}
+IsDefinite OfPeer = Unit {0}
+IsDefinite Hex = Unit {0}
+IsDefinite Random = Unit {0}
+IsDefinite Nets = Unit {0}
+IsDefinite Classes = Unit {0}
 
 -- the fault of a field that is not of its kind
 abbrev pub fault_of : Kind → LineFault
@@ -100,8 +123,8 @@ fault_of OfPeer = fault.Peer
 fault_of Hex = fault.Hex
 fault_of Random = fault.Words
 fault_of (Either first second) = fault.Word
-fault_of OfNet = fault.Word
-fault_of Class = fault.Word
+fault_of Nets = fault.Word
+fault_of Classes = fault.Word
 
 -- the texts are of the kinds, in order, and have the values
 abbrev pub AllMean : List Kind → List (List ℕ) → List Value → Type 0

@@ -1,8 +1,7 @@
 -- Definitions for private contracts.
-use Rattle.std.specs.Prelude.{◌≡◌, ℕ, ◌+◌, List, [], ◌==◌, length, Option, Some, None}
+use Rattle.std.specs.Prelude.{ℕ, ◌+◌, List, [], ◌==◌, length, Option, Some, None}
 use Rattle.std.specs.Borrow.{Bor}
 use Rattle.std.specs.List.{slice_split}
-use Rattle.log_lines.specs.Fields.{Kind, Value, Means, AllMean}
 
 -- the pieces of the text after a separator; none if there was no separator
 abbrev pub pieces_after : ℕ → Option (Bor (List ℕ)) → List (List ℕ)
@@ -17,11 +16,3 @@ texts_after rest = pieces_after 32 rest
 abbrev pub length_after : Option (Bor (List ℕ)) → ℕ
 length_after None = 0
 length_after (Some rest) = length rest.now + 1
-
--- the text has no other value
-abbrev pub IsOnly : Kind → List ℕ → Value → Type 0
-IsOnly kind text v = (w : Value) → Means kind text w → w ≡ v
-
--- the texts have no other values
-abbrev pub AreOnly : List Kind → List (List ℕ) → List Value → Type 0
-AreOnly kinds texts vs = (ws : List Value) → AllMean kinds texts ws → ws ≡ vs

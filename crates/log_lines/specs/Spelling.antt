@@ -1,6 +1,6 @@
 -- Which line spells which command, and what is wrong in a line that spells none.
 use Rattle.std.specs.Prelude.{◌≡◌, ◌≢◌, ◌⊎◌, ◌^◌, ◌-◌, ℕ, List, [], ◌∷◌, codes}
-use Rattle.log_lines.specs.Fields.{Kind, Number, OfAddr, OfPeer, Hex, Random, Either, OfNet, Class, Value, TheNumber, TheAddr, ThePeer, TheBytes, TheWords, TheChoice, TheNet, fields_of, AllMean, AreAtFault}
+use Rattle.log_lines.specs.Fields.{Kind, Number, OfAddr, OfPeer, Hex, Random, Either, Nets, Classes, Value, TheNumber, TheAddr, ThePeer, TheBytes, TheWords, TheChoice, TheNets, fields_of, AllMean, AreAtFault}
 use Rattle.host_io.specs.Lines.{IsPassedOver}
 use Rattle.log_lines.specs.declared.command.Command.{Command}
 use Rattle.log_lines.specs.declared.command.Command.TheVariants as c
@@ -48,8 +48,8 @@ kinds_of v.Connected = OfPeer ∷ []
 kinds_of v.Services = OfPeer ∷ u64_field ∷ []
 kinds_of v.Find = OfPeer ∷ []
 kinds_of v.Size = []
-kinds_of v.Select = Either (codes "new") (codes "any") ∷ OfNet ∷ Random ∷ []
-kinds_of v.Sample = u32_field ∷ Number 0 100 ∷ Class ∷ Random ∷ []
+kinds_of v.Select = Either (codes "new") (codes "any") ∷ Nets ∷ Random ∷ []
+kinds_of v.Sample = u32_field ∷ Number 0 100 ∷ Classes ∷ Random ∷ []
 kinds_of v.Resolve = []
 kinds_of v.Clash = u64_field ∷ []
 kinds_of v.Dump = []
@@ -69,8 +69,8 @@ verb_of (c.Connected peer) = v.Connected
 verb_of (c.Services peer services) = v.Services
 verb_of (c.Find peer) = v.Find
 verb_of c.Size = v.Size
-verb_of (c.Select new_only net words) = v.Select
-verb_of (c.Sample max pct class words) = v.Sample
+verb_of (c.Select new_only nets words) = v.Select
+verb_of (c.Sample max pct classes words) = v.Sample
 verb_of c.Resolve = v.Resolve
 verb_of (c.Clash word) = v.Clash
 verb_of c.Dump = v.Dump
@@ -90,8 +90,8 @@ values_of (c.Connected peer) = ThePeer peer ∷ []
 values_of (c.Services peer services) = ThePeer peer ∷ TheNumber services ∷ []
 values_of (c.Find peer) = ThePeer peer ∷ []
 values_of c.Size = []
-values_of (c.Select new_only net words) = TheChoice new_only ∷ TheNet net ∷ TheWords words ∷ []
-values_of (c.Sample max pct class words) = TheNumber max ∷ TheNumber pct ∷ TheNet class ∷ TheWords words ∷ []
+values_of (c.Select new_only nets words) = TheChoice new_only ∷ TheNets nets ∷ TheWords words ∷ []
+values_of (c.Sample max pct classes words) = TheNumber max ∷ TheNumber pct ∷ TheNets classes ∷ TheWords words ∷ []
 values_of c.Resolve = []
 values_of (c.Clash word) = TheNumber word ∷ []
 values_of c.Dump = []

@@ -1,6 +1,6 @@
 use crate::Words;
 use host_io::Bytes;
-use net_addr::{Net, NetAddr, Peer};
+use net_addr::{NetAddr, NetSet, Peer};
 
 /// What a line of a log asks for. Times are in seconds since 1970.
 #[derive(Drop)]
@@ -9,7 +9,7 @@ pub enum Command {
     Now {
         time: u32,
     },
-    /// Take an `addr` message from a source; each of its entries takes one of the random words.
+    /// Take an `addr` message from a source; each of its entries uses one random word.
     Addr {
         source: NetAddr,
         payload: Bytes,
@@ -40,28 +40,29 @@ pub enum Command {
         peer: Peer,
         services: u64,
     },
-    /// Find what is known of a peer.
+    /// Find a peer's record.
     Find {
         peer: Peer,
     },
     /// Count the records.
     Size,
-    /// Pick a peer to connect to, of a network or of all.
+    /// Select a peer to connect to, of one of these networks.
     Select {
         new_only: bool,
-        net: Option<Net>,
+        nets: NetSet,
         words: Words,
     },
-    /// Pick peers to announce: at most `max` and `pct` percent, 0 for no limit; of a class or all.
+    /// Select peers to announce, of these classes: at most `max` and at most `pct` percent of the
+    /// records, 0 for no limit.
     Sample {
         max: u32,
         pct: u32,
-        class: Option<Net>,
+        classes: NetSet,
         words: Words,
     },
     /// Decide on all collisions.
     Resolve,
-    /// Pick the occupant that a collision is about.
+    /// Select the occupant of a collision's slot.
     Clash {
         word: u64,
     },

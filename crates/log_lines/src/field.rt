@@ -1,13 +1,12 @@
-ghost use Rattle.std.specs.Prelude.{◌≡◌, ◌≢◌, ◌≤◌, ◌⊎◌, ℕ, List, decimal, length, IfOk, IfSome, IfNone, Some, Ok, Err};
-ghost use Rattle.log_lines.specs.Fields.{Means, Number, OfAddr, OfPeer, Hex, Random, Either, OfNet, Class, TheNumber, TheAddr, ThePeer, TheBytes, TheWords, TheChoice, TheNet, IsFieldFault, IsHex, net_name};
-ghost use Rattle.log_lines.specs.Inside.{IsOnly};
-ghost use Rattle.net_addr.specs.declared.net.Net as net;
+ghost use Rattle.std.specs.Prelude.{◌≡◌, ◌≢◌, ◌≤◌, ◌⊎◌, ℕ, List, decimal, length, IfOk, IfSome, Some, Ok, Err};
+ghost use Rattle.log_lines.specs.Fields.{Means, Number, OfAddr, OfPeer, Hex, Random, Either, TheNumber, TheAddr, ThePeer, TheBytes, TheWords, TheChoice, IsFieldFault, IsHex};
+ghost use Rattle.log_lines.specs.declared.read.TheConstants.{MAX_LINE};
 
 use crate::random::read_words;
-use crate::{LineFault, Words};
+use crate::{LineFault, MAX_LINE, Words};
 use hex::FromHexError;
 use host_io::Bytes;
-use net_addr::{Net, NetAddr, Peer, parse_addr, parse_number, parse_peer};
+use net_addr::{NetAddr, Peer, parse_addr, parse_number, parse_peer};
 use std::alloc::Global;
 
 /// Reads a number in decimal digits, or returns `None` if the text has another form or the number
@@ -23,7 +22,6 @@ pub fn read_decimal(text: &[u8], most: u64) -> Option<u64>
 pub(crate) fn read_number(text: &[u8], least: u64, most: u64) -> Result<u64, LineFault>
     ensures found { IfOk result (λ n. Means (Number least most) text.now (TheNumber n)) }
     ensures within { IfOk result (λ n. n ≤ most) }
-    ensures unique { IfOk result (λ n. IsOnly (Number least most) text.now (TheNumber n)) }
     ensures fault { (f : LineFault) → result ≡ Err f → IsFieldFault (Number least most) text.now f }
 {
     let number = parse_number(text, most).ok_or(LineFault::Number)?;
@@ -34,10 +32,9 @@ pub(crate) fn read_number(text: &[u8], least: u64, most: u64) -> Result<u64, Lin
 }
 
 /// Reads a number of 32 bits from `least` to `most`.
-pub(crate) fn read_u32(text: &[u8], least: u32, most: u32) -> Result<u32, LineFault>
+pub fn read_u32(text: &[u8], least: u32, most: u32) -> Result<u32, LineFault>
     ensures found { IfOk result (λ n. Means (Number least most) text.now (TheNumber n)) }
     ensures within { IfOk result (λ n. n ≤ most) }
-    ensures unique { IfOk result (λ n. IsOnly (Number least most) text.now (TheNumber n)) }
     ensures fault { (f : LineFault) → result ≡ Err f → IsFieldFault (Number least most) text.now f }
 {
     let number = read_number(text, u64::from(least), u64::from(most))?;
@@ -45,9 +42,8 @@ pub(crate) fn read_u32(text: &[u8], least: u32, most: u32) -> Result<u32, LineFa
 }
 
 /// Reads an address.
-pub(crate) fn read_addr(text: &[u8]) -> Result<NetAddr, LineFault>
+pub fn read_addr(text: &[u8]) -> Result<NetAddr, LineFault>
     ensures found { IfOk result (λ a. Means OfAddr text.now (TheAddr a)) }
-    ensures unique { IfOk result (λ a. IsOnly OfAddr text.now (TheAddr a)) }
     ensures fault { (f : LineFault) → result ≡ Err f → IsFieldFault OfAddr text.now f }
 {
     match parse_addr(text) {
@@ -59,7 +55,6 @@ pub(crate) fn read_addr(text: &[u8]) -> Result<NetAddr, LineFault>
 /// Reads a peer.
 pub(crate) fn read_peer(text: &[u8]) -> Result<Peer, LineFault>
     ensures found { IfOk result (λ p. Means OfPeer text.now (ThePeer p)) }
-    ensures unique { IfOk result (λ p. IsOnly OfPeer text.now (ThePeer p)) }
     ensures fault { (f : LineFault) → result ≡ Err f → IsFieldFault OfPeer text.now f }
 {
     match parse_peer(text) {
@@ -69,12 +64,10 @@ pub(crate) fn read_peer(text: &[u8]) -> Result<Peer, LineFault>
 }
 
 /// Returns whether the text is the first of two words; it must be the first or the second.
-pub(crate) fn read_either(text: &[u8], first: &[u8], second: &[u8]) -> Result<bool, LineFault>
+pub fn read_either(text: &[u8], first: &[u8], second: &[u8]) -> Result<bool, LineFault>
     requires { first.now ≢ second.now }
     ensures found { IfOk result (λ b.
         Means (Either first.now second.now) text.now (TheChoice b)) }
-    ensures unique { IfOk result (λ b.
-        IsOnly (Either first.now second.now) text.now (TheChoice b)) }
     ensures fault { (f : LineFault) → result ≡ Err f →
         IsFieldFault (Either first.now second.now) text.now f }
 {
@@ -111,7 +104,6 @@ pub fn read_hex(alloc: Global, text: &[u8]) -> Result<Bytes, LineFault>
 /// Reads the bytes of a payload.
 pub(crate) fn read_payload(alloc: Global, text: &[u8]) -> Result<Bytes, LineFault>
     ensures found { IfOk result (λ bytes. Means Hex text.now (TheBytes bytes)) }
-    ensures unique { IfOk result (λ bytes. IsOnly Hex text.now (TheBytes bytes)) }
     ensures fault { (f : LineFault) → result ≡ Err f → f ≢ LineFault.Memory →
         IsFieldFault Hex text.now f }
 {
@@ -120,63 +112,10 @@ pub(crate) fn read_payload(alloc: Global, text: &[u8]) -> Result<Bytes, LineFaul
 
 /// Reads random words.
 pub(crate) fn read_random(alloc: Global, text: &[u8]) -> Result<Words, LineFault>
-    requires { length text.now ≤ 16777216 }
+    requires { length text.now ≤ MAX_LINE }
     ensures found { IfOk result (λ words. Means Random text.now (TheWords words)) }
-    ensures unique { IfOk result (λ words. IsOnly Random text.now (TheWords words)) }
     ensures fault { (f : LineFault) → result ≡ Err f → f ≢ LineFault.Memory →
         IsFieldFault Random text.now f }
 {
     read_words(alloc, text)
-}
-
-/// Reads a class of addresses, `None` for all.
-pub(crate) fn read_class(text: &[u8]) -> Result<Option<Net>, LineFault>
-    ensures found { IfOk result (λ class. Means Class text.now (TheNet class)) }
-    ensures unique { IfOk result (λ class. IsOnly Class text.now (TheNet class)) }
-    ensures fault { (f : LineFault) → result ≡ Err f → IsFieldFault Class text.now f }
-{
-    if text == b"all".as_slice() {
-        return Ok(None);
-    }
-    match net_of(text) {
-        Some(net) => Ok(Some(net)),
-        None => Err(LineFault::Word),
-    }
-}
-
-/// Reads a network, `None` for all.
-pub(crate) fn read_net(text: &[u8]) -> Result<Option<Net>, LineFault>
-    ensures found { IfOk result (λ net. Means OfNet text.now (TheNet net)) }
-    ensures unique { IfOk result (λ net. IsOnly OfNet text.now (TheNet net)) }
-    ensures fault { (f : LineFault) → result ≡ Err f → IsFieldFault OfNet text.now f }
-{
-    let net = read_class(text)?;
-    if net == Some(Net::Unroutable) {
-        return Err(LineFault::Word);
-    }
-    Ok(net)
-}
-
-/// Returns the network of this name.
-fn net_of(text: &[u8]) -> Option<Net>
-    ensures found { IfSome result (λ net. text.now ≡ net_name net) }
-    ensures none { IfNone result ((net : net.Net) → text.now ≢ net_name net) }
-{
-    if text == b"unroutable".as_slice() {
-        Some(Net::Unroutable)
-    } else if text == b"ipv4".as_slice() {
-        Some(Net::Ipv4)
-    } else if text == b"ipv6".as_slice() {
-        Some(Net::Ipv6)
-    } else if text == b"onion".as_slice() {
-        Some(Net::Onion)
-    } else if text == b"i2p".as_slice() {
-        Some(Net::I2p)
-    } else if text == b"cjdns".as_slice() {
-        Some(Net::Cjdns)
-    } else if text == b"internal".as_slice() {
-        Some(Net::Internal)
-    } else {
-        None
-    }
 }

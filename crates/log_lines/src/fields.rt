@@ -5,7 +5,7 @@ ghost use Rattle.log_lines.specs.Inside.{texts_after};
 use crate::pieces::cut_piece;
 
 /// Returns the first field of the text, and the text after the space that ends it, if there is one.
-pub(crate) fn cut_field(text: &[u8]) -> (&[u8], Option<&[u8]>)
+pub fn cut_field(text: &[u8]) -> (&[u8], Option<&[u8]>)
     ensures cut { fields_of text.now ≡ result.0.now ∷ texts_after result.1 }
     ensures short { length result.0.now ≤ length text.now }
     ensures rest_short { IfSome result.1 (λ rest. length rest.now < length text.now) }

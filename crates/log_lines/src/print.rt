@@ -1,4 +1,4 @@
-ghost use Rattle.std.specs.Prelude.{◌≡◌, ◌≢◌, ◌++◌, codes, decimal, OnOk, OnErr};
+ghost use Rattle.std.specs.Prelude.{◌≡◌, ◌++◌, codes, decimal, IfOk, OnOk, OnErr};
 ghost use Rattle.std.specs.List.{flat_map};
 ghost use Rattle.net_addr.specs.Text.{peer_text};
 ghost use Rattle.log_lines.specs.Replies.{numbers_text, place_text, origin_text, seen_text, tries_text, rec_text, found_text, fault_text, good_text, known_text, timed_text, picked_text, size_text, resolved_text, sample_text, clash_text, dump_text, reply_line, reply_text};
@@ -9,19 +9,24 @@ use host_io::LINE_FEED;
 use itoa::Buffer;
 use net_addr::{Peer, put_addr, put_peer};
 use peer_rec::{Counts, Good, Picked, Place, Rec, Resolved};
+use std::alloc::Global;
+
+/// Returns the text of a reply, which ends with a line feed.
+pub fn reply_text(alloc: Global, reply: &Reply) -> Result<Vec<u8>, Memory>
+    ensures { IfOk result (λ text. text.items ≡ reply_text reply.now) }
+{
+    let mut text = Vec::new(alloc);
+    put_line(reply, &mut text)?;
+    put_text(&[LINE_FEED], &mut text)?;
+    Ok(text)
+}
 
 /// Appends the text of a reply, which ends with a line feed. If memory runs out, nothing changes.
-///
-/// The reply must not be `Refused(MsgFault::Memory)`: that is reported as `Memory`, and not as a
-/// reply.
 pub fn put_reply(reply: &Reply, out: &mut Vec<u8>) -> Result<(), Memory>
-    requires { reply.now ≢ Reply.Refused MsgFault.Memory }
     ensures ok { OnOk result (out.new.items ≡ out.old.items ++ reply_text reply.now) }
     ensures err { OnErr result (out.new.items ≡ out.old.items) }
 {
-    let mut text = Vec::new(*out.allocator());
-    put_line(reply, &mut text)?;
-    put_text(&[LINE_FEED], &mut text)?;
+    let text = reply_text(*out.allocator(), reply)?;
     out.extend_from_slice(text.as_slice())?;
     Ok(())
 }

@@ -1,22 +1,23 @@
 ghost use Rattle.std.specs.Prelude.{◌≡◌, ◌≤◌, ◌<◌, ◌^◌, ◌⊎◌, ◌∷◌, ℕ, List, codes, length, vec_len, IfOk, IsTrue, Ok, Err};
 ghost use Rattle.log_lines.specs.Fields.{AreWords, AreNumbers, AreSeeded};
 ghost use Rattle.log_lines.specs.Random.{seeded_words};
+ghost use Rattle.log_lines.specs.declared.read.TheConstants.{MAX_LINE};
 
 use crate::pieces::{after_byte, cut_piece};
-use crate::{LineFault, Words};
+use crate::{LineFault, MAX_LINE, Words};
 use net_addr::parse_number;
 use rand_core::SeedableRng;
 use rand_core::utils::NextWord;
 use rand_xoshiro::Xoshiro256PlusPlus;
 use std::alloc::{AllocError, Global};
 
-/// The most random words that a seed gives.
-const MOST_SEEDED: u64 = 1_000_000;
+/// The maximum number of random words that a seed gives.
+pub const MAX_SEEDED: u64 = 1_000_000;
 
 /// Reads random words: `-` for none, numbers with commas between them, or `@S:N` for the first N
 /// words of the generator with the seed S.
 pub fn read_words(alloc: Global, text: &[u8]) -> Result<Words, LineFault>
-    requires { length text.now ≤ 16777216 }
+    requires { length text.now ≤ MAX_LINE }
     ensures found { IfOk result (λ words. AreWords text.now words) }
     ensures only { (words : List ℕ) → AreWords text.now words →
         (result ≡ Ok words) ⊎ (result ≡ Err LineFault.Memory) }
@@ -42,7 +43,7 @@ fn is_dash(text: &[u8]) -> bool
 
 /// Reads numbers below 2^64 with commas between them.
 fn read_numbers(alloc: Global, text: &[u8]) -> Result<Words, LineFault>
-    requires { length text.now ≤ 16777216 }
+    requires { length text.now ≤ MAX_LINE }
     ensures found { IfOk result (λ words. AreNumbers text.now words) }
     ensures only { (words : List ℕ) → AreNumbers text.now words →
         (result ≡ Ok words) ⊎ (result ≡ Err LineFault.Memory) }
@@ -79,7 +80,7 @@ fn read_seeded(alloc: Global, text: &[u8]) -> Result<Words, LineFault>
     let Some(seed) = parse_number(seed, u64::MAX) else {
         return Err(LineFault::Words);
     };
-    let Some(count) = parse_number(count, MOST_SEEDED) else {
+    let Some(count) = parse_number(count, MAX_SEEDED) else {
         return Err(LineFault::Words);
     };
     match seeded_words(alloc, seed, count) {
@@ -90,7 +91,7 @@ fn read_seeded(alloc: Global, text: &[u8]) -> Result<Words, LineFault>
 
 /// Returns the first words of the generator with this seed.
 fn seeded_words(alloc: Global, seed: u64, count: u64) -> Result<Words, AllocError>
-    requires { count ≤ MOST_SEEDED }
+    requires { count ≤ MAX_SEEDED }
     ensures { IfOk result (λ words. words ≡ seeded_words seed count) }
 {
     let words = first_outputs(alloc, seed, count as usize)?;

@@ -1,25 +1,28 @@
 ghost use Rattle.std.specs.Prelude.{◌≡◌, ◌≢◌, ◌-◌, ◌^◌, ◌≤◌, ◌↔◌, ◌⊎◌, [], ◌∷◌, length, IfOk, IfSome, IfNone, Some, None, Ok, Err, IsTrue};
 ghost use Rattle.host_io.specs.Lines.{IsPassedOver};
 ghost use Rattle.log_lines.specs.Fields.{Number, OfAddr, OfPeer, Hex, Random, Either, TheNumber, TheAddr, ThePeer, TheBytes, TheWords, TheChoice, AllMean, AreAtFault};
-ghost use Rattle.log_lines.specs.Inside.{texts_after, AreOnly};
+ghost use Rattle.log_lines.specs.Inside.{texts_after};
 ghost use Rattle.log_lines.specs.Spelling.{word_of, kinds_of, values_of, SpellsAfter, Spells, HasFault};
 ghost use Rattle.log_lines.specs.declared.command.Command.{Command};
 ghost use Rattle.log_lines.specs.declared.verb.Verb.{Verb};
 
 use crate::field::{
-    read_addr, read_class, read_either, read_net, read_number, read_payload, read_peer,
-    read_random, read_u32,
+    read_addr, read_either, read_number, read_payload, read_peer, read_random, read_u32,
 };
 use crate::fields::{cut_field, four_fields, no_fields, one_field, three_fields, two_fields};
+use crate::nets::{read_classes, read_nets};
 use crate::{Command, LineFault, Verb, Words};
 use host_io::Bytes;
 use net_addr::{NetAddr, Peer};
 use std::alloc::Global;
 
+/// The maximum length of a line in bytes.
+pub const MAX_LINE: usize = 16_777_216;
+
 /// Reads the command of a line, which has no line feed, or returns `None` for a line that is passed
 /// over: an empty one, or one that begins with `#`.
 pub fn read_line(alloc: Global, line: &[u8]) -> Result<Option<Command>, LineFault>
-    requires { length line.now ≤ 16777216 }
+    requires { length line.now ≤ MAX_LINE }
     ensures passed { result ≡ Ok None ↔ IsPassedOver line.now }
     ensures found { IfOk result (λ read. IfSome read (λ c. Spells line.now c)) }
     ensures only { (c : Command) → Spells line.now c →
@@ -37,10 +40,9 @@ pub fn read_line(alloc: Global, line: &[u8]) -> Result<Option<Command>, LineFaul
 
 /// Reads the command of a line that is not passed over.
 fn read_spelled(alloc: Global, line: &[u8]) -> Result<Command, LineFault>
-    requires short { length line.now ≤ 16777216 }
+    requires short { length line.now ≤ MAX_LINE }
     requires kept { ¬ IsPassedOver line.now }
     ensures found { IfOk result (λ c. Spells line.now c) }
-    ensures unique { IfOk result (λ c. (d : Command) → Spells line.now d → d ≡ c) }
     ensures fault { (f : LineFault) → result ≡ Err f → f ≢ LineFault.Memory → HasFault line.now f }
 {
     let (word, rest) = cut_field(line);
@@ -103,10 +105,8 @@ fn verb_of(word: &[u8]) -> Option<Verb>
 
 /// Reads the fields after a verb.
 fn read_command(alloc: Global, verb: Verb, rest: Option<&[u8]>) -> Result<Command, LineFault>
-    requires { IfSome rest (λ text. length text.now ≤ 16777216) }
+    requires { IfSome rest (λ text. length text.now ≤ MAX_LINE) }
     ensures found { IfOk result (λ c. SpellsAfter verb (texts_after rest.entry) c) }
-    ensures unique { IfOk result (λ c.
-        AreOnly (kinds_of verb) (texts_after rest.entry) (values_of c)) }
     ensures fault { (f : LineFault) → result ≡ Err f → f ≢ LineFault.Memory →
         AreAtFault (kinds_of verb) (texts_after rest.entry) f }
 {
@@ -167,7 +167,6 @@ fn read_command(alloc: Global, verb: Verb, rest: Option<&[u8]>) -> Result<Comman
 /// Returns the command if there are no fields.
 fn with_no_fields(rest: Option<&[u8]>, command: Command) -> Result<Command, LineFault>
     ensures found { IfOk result (λ c. (c ≡ command) × AllMean [] (texts_after rest.entry) []) }
-    ensures unique { IfOk result (λ c. AreOnly [] (texts_after rest.entry) []) }
     ensures fault { (f : LineFault) → result ≡ Err f → AreAtFault [] (texts_after rest.entry) f }
 {
     if no_fields(rest) {
@@ -182,8 +181,6 @@ fn one_u32(rest: Option<&[u8]>, least: u32) -> Result<u32, LineFault>
     ensures found { IfOk result (λ n.
         AllMean (Number least (2 ^ 32 - 1) ∷ []) (texts_after rest.entry)
         (TheNumber n ∷ [])) }
-    ensures unique { IfOk result (λ n.
-        AreOnly (Number least (2 ^ 32 - 1) ∷ []) (texts_after rest.entry) (TheNumber n ∷ [])) }
     ensures fault { (f : LineFault) → result ≡ Err f →
         AreAtFault (Number least (2 ^ 32 - 1) ∷ []) (texts_after rest.entry) f }
 {
@@ -195,8 +192,6 @@ fn one_u32(rest: Option<&[u8]>, least: u32) -> Result<u32, LineFault>
 fn one_peer(rest: Option<&[u8]>) -> Result<Peer, LineFault>
     ensures found { IfOk result (λ p.
         AllMean (OfPeer ∷ []) (texts_after rest.entry) (ThePeer p ∷ [])) }
-    ensures unique { IfOk result (λ p.
-        AreOnly (OfPeer ∷ []) (texts_after rest.entry) (ThePeer p ∷ [])) }
     ensures fault { (f : LineFault) → result ≡ Err f →
         AreAtFault (OfPeer ∷ []) (texts_after rest.entry) f }
 {
@@ -214,9 +209,6 @@ fn peer_and_choice(
     ensures found { IfOk result (λ r.
         AllMean (OfPeer ∷ Either first.now second.now ∷ []) (texts_after rest.entry)
         (ThePeer r.0 ∷ TheChoice r.1 ∷ [])) }
-    ensures unique { IfOk result (λ r.
-        AreOnly (OfPeer ∷ Either first.now second.now ∷ []) (texts_after rest.entry)
-        (ThePeer r.0 ∷ TheChoice r.1 ∷ [])) }
     ensures fault { (f : LineFault) → result ≡ Err f →
         AreAtFault (OfPeer ∷ Either first.now second.now ∷ []) (texts_after rest.entry) f }
 {
@@ -228,12 +220,9 @@ fn peer_and_choice(
 
 /// Reads the fields of `addr` and `addrv2`: a source, a payload and random words.
 fn message_fields(alloc: Global, rest: Option<&[u8]>) -> Result<(NetAddr, Bytes, Words), LineFault>
-    requires { IfSome rest (λ text. length text.now ≤ 16777216) }
+    requires { IfSome rest (λ text. length text.now ≤ MAX_LINE) }
     ensures found { IfOk result (λ r.
         AllMean (OfAddr ∷ Hex ∷ Random ∷ []) (texts_after rest.entry)
-        (TheAddr r.0 ∷ TheBytes r.1 ∷ TheWords r.2 ∷ [])) }
-    ensures unique { IfOk result (λ r.
-        AreOnly (OfAddr ∷ Hex ∷ Random ∷ []) (texts_after rest.entry)
         (TheAddr r.0 ∷ TheBytes r.1 ∷ TheWords r.2 ∷ [])) }
     ensures fault { (f : LineFault) → result ≡ Err f → f ≢ LineFault.Memory →
         AreAtFault (OfAddr ∷ Hex ∷ Random ∷ []) (texts_after rest.entry) f }
@@ -248,8 +237,6 @@ fn message_fields(alloc: Global, rest: Option<&[u8]>) -> Result<(NetAddr, Bytes,
 /// Reads the fields of `services`.
 fn read_services(rest: Option<&[u8]>) -> Result<Command, LineFault>
     ensures found { IfOk result (λ c. SpellsAfter Verb.Services (texts_after rest.entry) c) }
-    ensures unique { IfOk result (λ c.
-        AreOnly (kinds_of Verb.Services) (texts_after rest.entry) (values_of c)) }
     ensures fault { (f : LineFault) → result ≡ Err f →
         AreAtFault (kinds_of Verb.Services) (texts_after rest.entry) f }
 {
@@ -261,42 +248,38 @@ fn read_services(rest: Option<&[u8]>) -> Result<Command, LineFault>
 
 /// Reads the fields of `select`.
 fn read_select(alloc: Global, rest: Option<&[u8]>) -> Result<Command, LineFault>
-    requires { IfSome rest (λ text. length text.now ≤ 16777216) }
+    requires { IfSome rest (λ text. length text.now ≤ MAX_LINE) }
     ensures found { IfOk result (λ c. SpellsAfter Verb.Select (texts_after rest.entry) c) }
-    ensures unique { IfOk result (λ c.
-        AreOnly (kinds_of Verb.Select) (texts_after rest.entry) (values_of c)) }
     ensures fault { (f : LineFault) → result ≡ Err f → f ≢ LineFault.Memory →
         AreAtFault (kinds_of Verb.Select) (texts_after rest.entry) f }
 {
-    let (mode, net, words) = three_fields(rest).ok_or(LineFault::Fields)?;
+    let (mode, nets, words) = three_fields(rest).ok_or(LineFault::Fields)?;
     let new_only = read_either(mode, b"new", b"any")?;
-    let net = read_net(net)?;
+    let nets = read_nets(nets)?;
     let words = read_random(alloc, words)?;
     Ok(Command::Select {
         new_only,
-        net,
+        nets,
         words,
     })
 }
 
 /// Reads the fields of `sample`.
 fn read_sample(alloc: Global, rest: Option<&[u8]>) -> Result<Command, LineFault>
-    requires { IfSome rest (λ text. length text.now ≤ 16777216) }
+    requires { IfSome rest (λ text. length text.now ≤ MAX_LINE) }
     ensures found { IfOk result (λ c. SpellsAfter Verb.Sample (texts_after rest.entry) c) }
-    ensures unique { IfOk result (λ c.
-        AreOnly (kinds_of Verb.Sample) (texts_after rest.entry) (values_of c)) }
     ensures fault { (f : LineFault) → result ≡ Err f → f ≢ LineFault.Memory →
         AreAtFault (kinds_of Verb.Sample) (texts_after rest.entry) f }
 {
-    let (max, pct, class, words) = four_fields(rest).ok_or(LineFault::Fields)?;
+    let (max, pct, classes, words) = four_fields(rest).ok_or(LineFault::Fields)?;
     let max = read_u32(max, 0, u32::MAX)?;
     let pct = read_u32(pct, 0, 100)?;
-    let class = read_class(class)?;
+    let classes = read_classes(classes)?;
     let words = read_random(alloc, words)?;
     Ok(Command::Sample {
         max,
         pct,
-        class,
+        classes,
         words,
     })
 }
@@ -304,8 +287,6 @@ fn read_sample(alloc: Global, rest: Option<&[u8]>) -> Result<Command, LineFault>
 /// Reads the field of `clash`.
 fn read_clash(rest: Option<&[u8]>) -> Result<Command, LineFault>
     ensures found { IfOk result (λ c. SpellsAfter Verb.Clash (texts_after rest.entry) c) }
-    ensures unique { IfOk result (λ c.
-        AreOnly (kinds_of Verb.Clash) (texts_after rest.entry) (values_of c)) }
     ensures fault { (f : LineFault) → result ≡ Err f →
         AreAtFault (kinds_of Verb.Clash) (texts_after rest.entry) f }
 {

@@ -1,6 +1,4 @@
 use Rattle.std.proofs.Common.{inl, inr, ◌∙◌, sym}
-use Rattle.log_lines.specs.Fields.{Random, TheWords}
-use Rattle.log_lines.proofs.OnlyLemmas.{only_if_ok}
 use Rattle.log_lines.proofs.field.read_random.Goals as goal
 
 pub returns-clause-fault : goal.returns-clause-fault
@@ -8,6 +6,3 @@ returns-clause-fault c = λ f is not_memory. (
   λ form. elim (c.read_words.ensures.only form.1.0 form.1.2) [ inl ok ↦ cc (sym ok ∙ is) | inr err ↦ not_memory (cc (sym err ∙ is)) ],
   elim (c.read_words.ensures.fault f is) [ inl words ↦ words | inr memory ↦ absurd (not_memory memory) ],
 )
-
-pub returns-clause-unique : goal.returns-clause-unique
-returns-clause-unique c = only_if_ok c.read_words.result Random c.args.text.now TheWords (λ w h. (h.0, h.1, c.read_words.ensures.only h.0 h.2))

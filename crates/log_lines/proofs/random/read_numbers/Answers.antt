@@ -6,12 +6,8 @@ use Rattle.std.proofs.lemmas.List.{append-nil}
 use Rattle.std.proofs.lemmas.List.Splits.{join_with_byte-slice_split, length-slice_split}
 use Rattle.log_lines.specs.Fields.{AreNumbers}
 use Rattle.log_lines.specs.Inside.{pieces_after}
-use Rattle.log_lines.proofs.WordLemmas.{pieces_of_numbers, same_numbers, next_number}
+use Rattle.log_lines.proofs.WordLemmas.{numbers_cut, same_numbers, next_number}
 use Rattle.log_lines.proofs.random.read_numbers.Goals as goal
-
--- the pieces of a text that writes numbers
-numbers_cut : (text words : List ℕ) → AreNumbers text words → slice_split (λ b. b == 44) text ≡ map decimal words
-numbers_cut text words is = ap (slice_split (λ b. b == 44)) is.2 ∙ pieces_of_numbers words is.0 is.1
 
 -- a text of which all pieces are numbers
 whole_text : (text words : List ℕ) → slice_split (λ b. b == 44) text ≡ map decimal words → All (λ w. w < 2 ^ 64) words → AreNumbers text words

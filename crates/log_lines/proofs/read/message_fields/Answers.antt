@@ -1,9 +1,8 @@
 use Rattle.std.proofs.Common.{Err, ap}
 use Rattle.std.proofs.lemmas.Result.{err_from_is_err_and}
-use Rattle.log_lines.specs.Fields.{OfAddr, Hex, Random, TheAddr, TheBytes, TheWords}
+use Rattle.log_lines.specs.Fields.{OfAddr, Hex, Random, TheAddr, TheBytes}
 use Rattle.log_lines.specs.Inside.{texts_after}
 use Rattle.log_lines.proofs.FieldLemmas.{handed_on, second_of_three, third_of_three}
-use Rattle.log_lines.proofs.OnlyLemmas.{only_of_three}
 use Rattle.log_lines.proofs.read.message_fields.Goals as goal
 
 pub returns-in_err-payload-clause-fault : goal.returns-in_err-payload-clause-fault
@@ -19,10 +18,3 @@ returns-in_err-words-clause-fault c = λ f is not_memory.
     let fields = rw c.in_ok-source.ensures.ok_part at c.three_fields.ensures.found in
     third_of_three OfAddr Hex Random (texts_after c.args.rest) c.in_ok-source.source.now c.in_ok-source.payload.now c.in_ok-source.words.now (TheAddr c.in_ok-source-2.source) (TheBytes c.in_ok-payload.payload) f
     fields c.in_ok-source-2.ensures.found c.in_ok-payload.ensures.found (c.in_err-words.ensures.fault f (ap Err left) not_memory)
-
-pub returns-clause-unique : goal.returns-clause-unique
-returns-clause-unique c =
-    let fields = rw c.in_ok-source.ensures.ok_part at c.three_fields.ensures.found in
-    only_of_three OfAddr Hex Random (texts_after c.args.rest) c.in_ok-source.source.now c.in_ok-source.payload.now c.in_ok-source.words.now
-    (TheAddr c.in_ok-source-2.source) (TheBytes c.in_ok-payload.payload) (TheWords c.in_ok-words.words)
-    fields c.in_ok-source-2.ensures.unique c.in_ok-payload.ensures.unique c.in_ok-words.ensures.unique

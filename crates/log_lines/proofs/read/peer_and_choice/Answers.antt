@@ -1,9 +1,8 @@
 use Rattle.std.proofs.Common.{Err, ap}
 use Rattle.std.proofs.lemmas.Result.{err_from_is_err_and}
-use Rattle.log_lines.specs.Fields.{OfPeer, Either, ThePeer, TheChoice}
+use Rattle.log_lines.specs.Fields.{OfPeer, Either, ThePeer}
 use Rattle.log_lines.specs.Inside.{texts_after}
 use Rattle.log_lines.proofs.FieldLemmas.{handed_on, second_of_two}
-use Rattle.log_lines.proofs.OnlyLemmas.{only_of_two}
 use Rattle.log_lines.proofs.read.peer_and_choice.Goals as goal
 
 pub returns-in_err-choice-clause-fault : goal.returns-in_err-choice-clause-fault
@@ -12,9 +11,3 @@ returns-in_err-choice-clause-fault c = λ f is.
     let fields = rw c.in_ok-peer.ensures.ok_part at c.two_fields.ensures.found in
     second_of_two OfPeer (Either c.args.first.now c.args.second.now) (texts_after c.args.rest) c.in_ok-peer.peer.now c.in_ok-peer.word.now (ThePeer c.in_ok-peer-2.peer) f
     fields c.in_ok-peer-2.ensures.found (c.in_err-choice.ensures.fault f (ap Err left))
-
-pub returns-clause-unique : goal.returns-clause-unique
-returns-clause-unique c =
-    let fields = rw c.in_ok-peer.ensures.ok_part at c.two_fields.ensures.found in
-    only_of_two OfPeer (Either c.args.first.now c.args.second.now) (texts_after c.args.rest) c.in_ok-peer.peer.now c.in_ok-peer.word.now (ThePeer c.in_ok-peer-2.peer) (TheChoice c.in_ok-choice.choice)
-    fields c.in_ok-peer-2.ensures.unique c.in_ok-choice.ensures.unique

@@ -1,8 +1,9 @@
-use Rattle.std.proofs.Common.{Ok, Err, Some, refl, ap, sym, ◌∙◌, inl, inr}
+use Rattle.std.proofs.Common.{Ok, Err, Some, refl, ap, ◌∙◌, inl, inr}
 use Rattle.std.proofs.lemmas.Result.{err_from_is_err_and}
 use Rattle.log_lines.specs.declared.command.Command.{Command}
 use Rattle.log_lines.proofs.FieldLemmas.{handed_on}
 use Rattle.log_lines.proofs.FaultLemmas.{only_memory, only_that_fault, spelled_no_fault}
+use Rattle.log_lines.proofs.Readings.{one_command}
 use Rattle.log_lines.proofs.read.read_line.Goals as goal
 
 pub returns-in_err-command-clause-only : goal.returns-in_err-command-clause-only
@@ -26,7 +27,7 @@ returns-in_err-command-clause-only_fault c = λ f h.
     ]
 
 pub returns-clause-only : goal.returns-clause-only
-returns-clause-only c = λ d s. inl (ap (λ (x : Command). Ok (Some x)) (sym (c.in_ok-command.ensures.unique d s)))
+returns-clause-only c = λ d s. inl (ap (λ (x : Command). Ok (Some x)) (one_command c.args.line.now c.in_ok-command.command d c.in_ok-command.ensures.found s))
 
 pub returns-clause-only_fault : goal.returns-clause-only_fault
 returns-clause-only_fault c = λ f h. absurd (spelled_no_fault c.args.line.now c.in_ok-command.command f c.in_ok-command.ensures.found h)

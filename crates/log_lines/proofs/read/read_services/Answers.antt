@@ -1,9 +1,8 @@
 use Rattle.std.proofs.Common.{◌-◌, ◌^◌, Err, ap}
 use Rattle.std.proofs.lemmas.Result.{err_from_is_err_and}
-use Rattle.log_lines.specs.Fields.{OfPeer, Number, ThePeer, TheNumber}
+use Rattle.log_lines.specs.Fields.{OfPeer, Number, ThePeer}
 use Rattle.log_lines.specs.Inside.{texts_after}
 use Rattle.log_lines.proofs.FieldLemmas.{handed_on, second_of_two}
-use Rattle.log_lines.proofs.OnlyLemmas.{only_of_two}
 use Rattle.log_lines.proofs.read.read_services.Goals as goal
 
 pub returns-in_err-services-clause-fault : goal.returns-in_err-services-clause-fault
@@ -12,9 +11,3 @@ returns-in_err-services-clause-fault c = λ f is.
     let fields = rw c.in_ok-peer.ensures.ok_part at c.two_fields.ensures.found in
     second_of_two OfPeer (Number 0 (2 ^ 64 - 1)) (texts_after c.args.rest) c.in_ok-peer.peer.now c.in_ok-peer.services.now (ThePeer c.in_ok-peer-2.peer) f
     fields c.in_ok-peer-2.ensures.found (c.in_err-services.ensures.fault f (ap Err left))
-
-pub returns-clause-unique : goal.returns-clause-unique
-returns-clause-unique c =
-    let fields = rw c.in_ok-peer.ensures.ok_part at c.two_fields.ensures.found in
-    only_of_two OfPeer (Number 0 (2 ^ 64 - 1)) (texts_after c.args.rest) c.in_ok-peer.peer.now c.in_ok-peer.services.now (ThePeer c.in_ok-peer-2.peer) (TheNumber c.in_ok-services.services)
-    fields c.in_ok-peer-2.ensures.unique c.in_ok-services.ensures.unique
