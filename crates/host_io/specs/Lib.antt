@@ -1,3 +1,4 @@
+pub mod Disk
 pub mod Faults
 pub mod Files
 pub mod Lines
@@ -6,6 +7,7 @@ pub mod MemSink
 pub mod MemSource
 pub mod Name
 pub mod Outside
+pub mod Past
 pub mod PerName
 pub mod Reading
 pub mod Writing

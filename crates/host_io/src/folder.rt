@@ -1,26 +1,32 @@
-ghost use Rattle.std.specs.Prelude.{◌≡◌, ℕ, ◌<◌, ◌≤◌, ◌↔◌, ◌++◌, length, take, drop, Option, IfOk, IfSome, OnErr};
+ghost use Rattle.std.specs.Prelude.{◌≡◌, ◌≢◌, ℕ, ◌<◌, ◌≤◌, ◌↔◌, ◌++◌, length, take, drop, Option, IfOk, IfSome, OnOk, OnErr};
 ghost use Rattle.std.specs.Option.{option_map};
+ghost use Rattle.host_io.specs.Disk.{after_create, after_append, after_sync, after_rename, after_sync_dir, Partly, PartlyAppended};
 ghost use Rattle.host_io.specs.Faults.{Rose};
-ghost use Rattle.host_io.specs.Files.{Files, IsThere, known_bytes};
+ghost use Rattle.host_io.specs.Files.{IsThere, known_bytes};
+ghost use Rattle.host_io.specs.Past.{Past, after, AfterFault, files_of};
 ghost use Rattle.host_io.specs.PerName.{under};
 
 use crate::failed::Failed;
 use crate::name::Name;
 
 /// A folder of files.
+///
+/// After `Failed`, a call that changes the folder was made, was not, or was made in part.
 pub trait Folder {
-    /// The files as they read now; `None` if contracts do not know them.
-    ghost files: { Self → Option Files };
+    /// The disk of the folder now and at each moment until now; `None` if contracts do not know its
+    /// files.
+    ghost past: { Self → Option Past };
 
     /// How often it has failed; the count stops at 2^64 - 1.
     ghost faults: { Self → ℕ };
 
     /// Returns the length of the file in bytes, or `None` if it is absent.
     fn size(&mut self, name: Name) -> Result<Option<u64>, Failed>
-        ensures found { IfOk result (λ size. IfSome (files self.old) (λ all.
+        ensures found { IfOk result (λ size. IfSome (files_of (past self.old)) (λ all.
             size ≡ option_map length (under all name))) }
-        ensures there { IfOk result (λ size. IfSome size (λ _. IsThere (files self.old) name)) }
-        ensures same { files self.new ≡ files self.old }
+        ensures there { IfOk result (λ size.
+            IfSome size (λ _. IsThere (files_of (past self.old)) name)) }
+        ensures same { past self.new ≡ past self.old }
         ensures cause { OnErr result (Rose (faults self.old) (faults self.new)) }
         ensures never_falls { faults self.old ≤ faults self.new };
 
@@ -28,15 +34,64 @@ pub trait Folder {
     /// the file.
     fn read(&mut self, name: Name, at: u64, buf: &mut [u8]) -> Result<usize, Failed>
         requires room { 0 < length buf.old }
-        requires there { IsThere (files self.old) name }
+        requires there { IsThere (files_of (past self.old)) name }
         ensures within { IfOk result (λ n. n ≤ length buf.old) }
-        ensures available { IfOk result (λ n. IfSome (known_bytes (files self.old) name) (λ bytes.
+        ensures available { IfOk result (λ n.
+            IfSome (known_bytes (files_of (past self.old)) name) (λ bytes.
             n ≤ length (drop at bytes))) }
-        ensures copied { IfOk result (λ n. IfSome (known_bytes (files self.old) name) (λ bytes.
+        ensures copied { IfOk result (λ n.
+            IfSome (known_bytes (files_of (past self.old)) name) (λ bytes.
             buf.new ≡ take n (drop at bytes) ++ drop n buf.old)) }
-        ensures end { IfOk result (λ n. IfSome (known_bytes (files self.old) name) (λ bytes.
+        ensures end { IfOk result (λ n.
+            IfSome (known_bytes (files_of (past self.old)) name) (λ bytes.
             (n ≡ 0) ↔ (length bytes ≤ at))) }
-        ensures same { files self.new ≡ files self.old }
+        ensures same { past self.new ≡ past self.old }
+        ensures cause { OnErr result (Rose (faults self.old) (faults self.new)) }
+        ensures never_falls { faults self.old ≤ faults self.new };
+
+    /// Makes the file empty, whether it is there or not.
+    fn create(&mut self, name: Name) -> Result<(), Failed>
+        ensures ok { OnOk result (past self.new ≡ after (after_create name) (past self.old)) }
+        ensures err { OnErr result
+            (AfterFault (Partly (after_create name)) (past self.old) (past self.new)) }
+        ensures cause { OnErr result (Rose (faults self.old) (faults self.new)) }
+        ensures never_falls { faults self.old ≤ faults self.new };
+
+    /// Adds bytes at the end of the file.
+    fn append(&mut self, name: Name, bytes: &[u8]) -> Result<(), Failed>
+        requires there { IsThere (files_of (past self.old)) name }
+        ensures ok { OnOk result
+            (past self.new ≡ after (after_append name bytes.now) (past self.old)) }
+        ensures err { OnErr result
+            (AfterFault (PartlyAppended name bytes.now) (past self.old) (past self.new)) }
+        ensures cause { OnErr result (Rose (faults self.old) (faults self.new)) }
+        ensures never_falls { faults self.old ≤ faults self.new };
+
+    /// Makes the bytes of the file safe from a crash, as `fsync` of the file does.
+    fn sync(&mut self, name: Name) -> Result<(), Failed>
+        requires there { IsThere (files_of (past self.old)) name }
+        ensures ok { OnOk result (past self.new ≡ after (after_sync name) (past self.old)) }
+        ensures err { OnErr result
+            (AfterFault (Partly (after_sync name)) (past self.old) (past self.new)) }
+        ensures cause { OnErr result (Rose (faults self.old) (faults self.new)) }
+        ensures never_falls { faults self.old ≤ faults self.new };
+
+    /// Puts the file `from` in the place of the file `to`, which may be absent. `from` is absent
+    /// afterwards.
+    fn rename(&mut self, from: Name, to: Name) -> Result<(), Failed>
+        requires there { IsThere (files_of (past self.old)) from }
+        requires apart { from ≢ to }
+        ensures ok { OnOk result (past self.new ≡ after (after_rename from to) (past self.old)) }
+        ensures err { OnErr result
+            (AfterFault (Partly (after_rename from to)) (past self.old) (past self.new)) }
+        ensures cause { OnErr result (Rose (faults self.old) (faults self.new)) }
+        ensures never_falls { faults self.old ≤ faults self.new };
+
+    /// Makes the names of the folder safe from a crash, as `fsync` of the folder does.
+    fn sync_dir(&mut self) -> Result<(), Failed>
+        ensures ok { OnOk result (past self.new ≡ after after_sync_dir (past self.old)) }
+        ensures err { OnErr result
+            (AfterFault (Partly after_sync_dir) (past self.old) (past self.new)) }
         ensures cause { OnErr result (Rose (faults self.old) (faults self.new)) }
         ensures never_falls { faults self.old ≤ faults self.new };
 }

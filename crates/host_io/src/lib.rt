@@ -6,12 +6,14 @@
 
 mod bytes;
 mod call;
+mod change;
 mod chosen;
-mod dir_folder;
+mod entry;
 mod failed;
+mod fate;
 mod folder;
 mod lines;
-mod mem_folder;
+mod mem_disk;
 mod mem_sink;
 mod mem_source;
 mod memory;
@@ -31,11 +33,13 @@ mod to_end_fault;
 
 pub use bytes::Bytes;
 pub use call::{Action, Call};
-pub use dir_folder::DirFolder;
+pub use change::Change;
+pub use entry::Entry;
+pub use mem_disk::MemDisk;
+pub use fate::Fate;
 pub use failed::{Failed, still_count_has_not_risen};
 pub use folder::Folder;
 pub use lines::{LINE_FEED, split_line};
-pub use mem_folder::MemFolder;
 pub use mem_sink::MemSink;
 pub use mem_source::MemSource;
 pub use memory::Memory;
@@ -53,5 +57,3 @@ pub use sure_sink::SureSink;
 pub use sure_source::SureSource;
 pub use to_end_fault::ToEndFault;
 
-#[cfg(test)]
-mod tests;

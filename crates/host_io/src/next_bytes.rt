@@ -1,7 +1,8 @@
 ghost use Rattle.std.specs.Prelude.{◌≡◌, ℕ, ◌+◌, ◌<◌, ◌≤◌, ◌↔◌, ◌++◌, List, [], length, take, drop, Option, None, IfOk, IfSome, IfNone, OnErr, ⊤};
 ghost use Rattle.std.specs.Option.{option_map};
 ghost use Rattle.host_io.specs.Faults.{Rose};
-ghost use Rattle.host_io.specs.Files.{Files, IsThere, known_bytes};
+ghost use Rattle.host_io.specs.Files.{IsThere, known_bytes};
+ghost use Rattle.host_io.specs.Past.{Past, files_of};
 
 use crate::failed::Failed;
 use crate::folder::Folder;
@@ -13,9 +14,9 @@ pub trait NextBytes<T> {
     /// The bytes from an offset on; `None` if contracts do not know them.
     ghost rest: { Self → T → ℕ → Option (List ℕ) };
 
-    /// The files, which reading leaves as they are; `None` if there are none or contracts do not
-    /// know them.
-    ghost files: { T → Option Files };
+    /// The past of the folder, which reading leaves as it is; `None` if there is no folder or
+    /// contracts do not know its files.
+    ghost past: { T → Option Past };
 
     /// How often the `T` has failed.
     ghost faults: { T → ℕ };
@@ -41,7 +42,7 @@ pub trait NextBytes<T> {
         ensures unknown { (later : ℕ) → IfNone (rest self.now object.old at)
             (rest self.now object.new later ≡ None) }
         ensures there { can_read self.now object.new }
-        ensures same { files object.new ≡ files object.old }
+        ensures same { past object.new ≡ past object.old }
         ensures cause { OnErr result (Rose (faults object.old) (faults object.new)) }
         ensures never_falls { faults object.old ≤ faults object.new };
 }
@@ -53,7 +54,7 @@ pub struct OfSource;
 impl<L: Source> NextBytes<L> for OfSource {
     ghost rest = { λ _ source _. L.left source };
 
-    ghost files = { λ _. None };
+    ghost past = { λ _. None };
 
     ghost faults = { λ source. L.faults source };
 
@@ -73,13 +74,14 @@ pub struct OfFile {
 }
 
 impl<F: Folder> NextBytes<F> for OfFile {
-    ghost rest = { λ file folder at. option_map (drop at) (known_bytes (F.files folder) file.name) };
+    ghost rest = { λ file folder at.
+        option_map (drop at) (known_bytes (files_of (F.past folder)) file.name) };
 
-    ghost files = { λ folder. F.files folder };
+    ghost past = { λ folder. F.past folder };
 
     ghost faults = { λ folder. F.faults folder };
 
-    ghost can_read = { λ file folder. IsThere (F.files folder) file.name };
+    ghost can_read = { λ file folder. IsThere (files_of (F.past folder)) file.name };
 
     /// Reads once from the file.
     fn next(&self, folder: &mut F, at: u64, buf: &mut [u8]) -> Result<usize, Failed> {

@@ -13,9 +13,8 @@ pub struct PerName<T> {
 }
 
 impl<T> PerName<T> {
-    ghost use Rattle.std.specs.Prelude.{◌≡◌, ◌≢◌};
-    ghost use Rattle.host_io.specs.PerName.{under};
-    ghost use Rattle.host_io.specs.declared.name.Name.{Name};
+    ghost use Rattle.std.specs.Prelude.{◌≡◌};
+    ghost use Rattle.host_io.specs.PerName.{under, with};
 
     /// Returns the value of `name`.
     pub fn get(&self, name: Name) -> &T
@@ -36,9 +35,7 @@ impl<T> PerName<T> {
     pub fn set(&mut self, name: Name, value: T)
     where
         T: Drop,
-        ensures set { under self.new name ≡ value }
-        ensures same { (other : Name) → other ≢ name →
-            under self.new other ≡ under self.old other }
+        ensures { self.new ≡ with self.old name value }
     {
         match name {
             Name::Peers => self.peers = value,

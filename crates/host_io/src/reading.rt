@@ -40,7 +40,7 @@ fn read_piece<T, W: NextBytes<T>>(
     ensures grown { IfOk result (λ n. vec_len text.new ≡ vec_len text.old + n) }
     ensures within { IfOk result (λ n. n ≤ length piece.old) }
     ensures there { W.can_read way.now object.new }
-    ensures same { W.files object.new ≡ W.files object.old }
+    ensures same { W.past object.new ≡ W.past object.old }
     ensures cause { IsErrOf result ReadFault.Failed →
         Rose (W.faults object.old) (W.faults object.new) }
     ensures never_falls { W.faults object.old ≤ W.faults object.new }
@@ -67,7 +67,7 @@ pub fn read_past<T, W: NextBytes<T>>(
         (W.rest way.now object.new n ≡ Some (drop n bytes)))) }
     ensures unknown { IfNone (W.rest way.now object.old 0)
         ((n : ℕ) × (W.rest way.now object.new n ≡ None)) }
-    ensures same { W.files object.new ≡ W.files object.old }
+    ensures same { W.past object.new ≡ W.past object.old }
     ensures cause { IsErrOf result ReadFault.Failed →
         Rose (W.faults object.old) (W.faults object.new) }
     ensures never_falls { W.faults object.old ≤ W.faults object.new }

@@ -4,7 +4,7 @@ use crate::failed::Failed;
 use crate::folder::Folder;
 use crate::name::Name;
 
-/// A folder without files that never fails. Contracts do not know that it is empty.
+/// A folder that never fails and keeps nothing: every file is absent. Contracts do not know that.
 #[derive(Clone, Copy, PartialEq, Eq, Debug)]
 pub struct SureFolder;
 
@@ -16,7 +16,7 @@ impl SureFolder {
 }
 
 impl Folder for SureFolder {
-    ghost files = { λ _. None };
+    ghost past = { λ _. None };
 
     ghost faults = { λ _. 0 };
 
@@ -34,5 +34,40 @@ impl Folder for SureFolder {
         ensures kept { buf.new ≡ buf.old }
     {
         Ok(0)
+    }
+
+    /// Does nothing.
+    fn create(&mut self, _name: Name) -> Result<(), Failed>
+        ensures ok { result ≡ Ok tt }
+    {
+        Ok(())
+    }
+
+    /// Does nothing.
+    fn append(&mut self, _name: Name, _bytes: &[u8]) -> Result<(), Failed>
+        ensures ok { result ≡ Ok tt }
+    {
+        Ok(())
+    }
+
+    /// Does nothing.
+    fn sync(&mut self, _name: Name) -> Result<(), Failed>
+        ensures ok { result ≡ Ok tt }
+    {
+        Ok(())
+    }
+
+    /// Does nothing.
+    fn rename(&mut self, _from: Name, _to: Name) -> Result<(), Failed>
+        ensures ok { result ≡ Ok tt }
+    {
+        Ok(())
+    }
+
+    /// Does nothing.
+    fn sync_dir(&mut self) -> Result<(), Failed>
+        ensures ok { result ≡ Ok tt }
+    {
+        Ok(())
     }
 }

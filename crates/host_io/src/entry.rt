@@ -1,0 +1,203 @@
+ghost use Rattle.std.specs.Prelude.{◌≡◌, [], ◌++◌, IfOk, OnOk};
+ghost use Rattle.std.specs.Option.{option_map};
+ghost use Rattle.host_io.specs.Disk.{appended, created, exactly, fates, file_fates, left, safe, settled, synced, target};
+
+use crate::bytes::Bytes;
+use crate::fate::Fate;
+use std::alloc::{AllocError, Global};
+use std::marker::Model;
+
+/// A name of a folder in memory, with all that a crash may leave at it.
+#[derive(Debug, Drop)]
+pub struct Entry {
+    file: Option<Bytes>,
+    is_torn: bool,
+    is_loose: bool,
+    others: Vec<Fate>,
+}
+
+impl Model for Entry {
+    ghost use Rattle.host_io.specs.Disk.{Entry as DiskEntry};
+
+    ghost Value = { DiskEntry };
+
+    ghost view = { λ e. record {
+      file = e.file;
+      is_torn = e.is_torn;
+      is_loose = e.is_loose;
+      others = e.others.items;
+    } };
+}
+
+impl Entry {
+    /// Makes a name with this file, or with none, whose bytes and name are safe.
+    pub fn safe(alloc: Global, file: Option<Bytes>) -> Entry
+        ensures { result ≡ safe file }
+    {
+        Entry {
+            file,
+            is_torn: false,
+            is_loose: false,
+            others: Vec::new(alloc),
+        }
+    }
+
+    /// Makes the name of a file that was created.
+    pub fn created(alloc: Global) -> Entry
+        ensures { result ≡ created }
+    {
+        Entry {
+            file: Some(Bytes::of(Vec::new(alloc))),
+            is_torn: true,
+            is_loose: true,
+            others: Vec::new(alloc),
+        }
+    }
+
+    /// Returns the bytes of the file as it reads, or `None` if it is absent.
+    pub fn file(&self) -> Option<&[u8]>
+        ensures { option_map (λ bytes. bytes.now) result ≡ self.now.file }
+    {
+        match &self.file {
+            Some(bytes) => Some(bytes.items()),
+            None => None,
+        }
+    }
+
+    /// Returns the name after `bytes` were appended to the file.
+    pub fn appended(&self, alloc: Global, bytes: &[u8]) -> Result<Entry, AllocError>
+        ensures { IfOk result (λ entry. entry ≡ appended bytes.now self.now) }
+    {
+        Ok(Entry {
+            file: joined(alloc, &self.file, bytes)?,
+            is_torn: true,
+            is_loose: self.is_loose,
+            others: copy_fates(alloc, &self.others)?,
+        })
+    }
+
+    /// Returns the name after its file was synced.
+    pub fn synced(&self, alloc: Global) -> Result<Entry, AllocError>
+        ensures { IfOk result (λ entry. entry ≡ synced self.now) }
+    {
+        Ok(Entry {
+            file: copy_file(alloc, &self.file)?,
+            is_torn: false,
+            is_loose: self.is_loose,
+            others: copy_fates(alloc, &self.others)?,
+        })
+    }
+
+    /// Changes the name to what it is after its folder was synced.
+    pub fn settle(&mut self)
+        ensures { self.new ≡ settled self.old }
+    {
+        self.is_loose = false;
+        self.others.clear();
+    }
+
+    /// Returns the name after `source` was renamed to it.
+    pub fn target(&self, alloc: Global, source: &Entry) -> Result<Entry, AllocError>
+        ensures { IfOk result (λ entry. entry ≡ target source.now self.now) }
+    {
+        let mut others = Vec::new(alloc);
+        source.put_file_fates(alloc, &mut others)?;
+        self.put_fates(alloc, &mut others)?;
+        Ok(Entry {
+            file: copy_file(alloc, &source.file)?,
+            is_torn: source.is_torn,
+            is_loose: false,
+            others,
+        })
+    }
+
+    /// Returns the name after the file was renamed to another.
+    pub fn left(&self, alloc: Global) -> Result<Entry, AllocError>
+        ensures { IfOk result (λ entry. entry ≡ left self.now) }
+    {
+        let mut others = Vec::new(alloc);
+        self.put_file_fates(alloc, &mut others)?;
+        append_fates(alloc, &mut others, &self.others)?;
+        Ok(Entry {
+            file: None,
+            is_torn: false,
+            is_loose: false,
+            others,
+        })
+    }
+
+    /// Appends what a crash may leave at the name.
+    pub fn put_fates(&self, alloc: Global, to: &mut Vec<Fate>) -> Result<(), AllocError>
+        ensures { OnOk result (to.new.items ≡ to.old.items ++ fates self.now) }
+    {
+        self.put_file_fates(alloc, to)?;
+        if self.is_loose {
+            to.push(Fate::Absent)?;
+        }
+        append_fates(alloc, to, &self.others)
+    }
+
+    /// Appends what a crash may leave of the file.
+    fn put_file_fates(&self, alloc: Global, to: &mut Vec<Fate>) -> Result<(), AllocError>
+        ensures { OnOk result (to.new.items ≡ to.old.items ++ file_fates self.now []) }
+    {
+        to.push(fate_of(copy_file(alloc, &self.file)?))?;
+        if self.is_torn {
+            to.push(Fate::AnyBytes)?;
+        }
+        Ok(())
+    }
+}
+
+/// Returns the fate of a name that has this file, or none.
+fn fate_of(file: Option<Bytes>) -> Fate
+    ensures { result ≡ exactly file }
+{
+    match file {
+        Some(bytes) => Fate::Exactly(bytes),
+        None => Fate::Absent,
+    }
+}
+
+/// Copies a file, or its absence.
+pub(crate) fn copy_file(alloc: Global, file: &Option<Bytes>) -> Result<Option<Bytes>, AllocError>
+    ensures { IfOk result (λ copy. copy ≡ file.now) }
+{
+    match file {
+        Some(bytes) => Ok(Some(Bytes::of(bytes.items().to_vec(alloc)?))),
+        None => Ok(None),
+    }
+}
+
+/// Copies a file with `bytes` at its end.
+fn joined(alloc: Global, file: &Option<Bytes>, bytes: &[u8]) -> Result<Option<Bytes>, AllocError>
+    ensures { IfOk result (λ copy. copy ≡ option_map (λ old. old ++ bytes.now) file.now) }
+{
+    match file {
+        Some(old) => {
+            let mut all = old.items().to_vec(alloc)?;
+            all.extend_from_slice(bytes)?;
+            Ok(Some(Bytes::of(all)))
+        }
+        None => Ok(None),
+    }
+}
+
+/// Copies fates.
+fn copy_fates(alloc: Global, fates: &[Fate]) -> Result<Vec<Fate>, AllocError>
+    ensures { IfOk result (λ copy. copy.items ≡ fates.now) }
+{
+    let mut copy = Vec::new(alloc);
+    append_fates(alloc, &mut copy, fates)?;
+    Ok(copy)
+}
+
+/// Appends a copy of each of the fates.
+fn append_fates(alloc: Global, to: &mut Vec<Fate>, fates: &[Fate]) -> Result<(), AllocError>
+    ensures { OnOk result (to.new.items ≡ to.old.items ++ fates.now) }
+{
+    for fate in fates {
+        to.push(fate.copy(alloc)?)?;
+    }
+    Ok(())
+}
