@@ -24,4 +24,30 @@ pub enum Action {
         /// The offset in bytes of the first byte.
         at: u64,
     },
+    /// An empty file.
+    Create {
+        /// The name of the file.
+        name: Name,
+    },
+    /// Bytes at the end of a file.
+    Append {
+        /// The name of the file.
+        name: Name,
+        /// How many bytes.
+        count: u64,
+    },
+    /// The bytes of a file safe.
+    Sync {
+        /// The name of the file.
+        name: Name,
+    },
+    /// A file at another name.
+    Rename {
+        /// Its name before.
+        from: Name,
+        /// Its name after.
+        to: Name,
+    },
+    /// The names of the folder safe.
+    SyncDir,
 }

@@ -1,4 +1,4 @@
-ghost use Rattle.std.specs.Prelude.{◌≡◌, [], ◌++◌, IfOk, OnOk};
+ghost use Rattle.std.specs.Prelude.{◌≡◌, ◌<◌, ◌≤◌, [], ◌++◌, IfOk, OnOk, vec_len};
 ghost use Rattle.std.specs.Option.{option_map};
 ghost use Rattle.host_io.specs.Disk.{appended, created, exactly, fates, file_fates, left, safe, settled, synced, target};
 
@@ -126,9 +126,31 @@ impl Entry {
         })
     }
 
+    /// Returns whether the file was created or appended to since it was synced.
+    pub fn is_torn(&self) -> bool {
+        self.is_torn
+    }
+
+    /// Returns whether the file was created since the folder was synced.
+    pub fn is_loose(&self) -> bool {
+        self.is_loose
+    }
+
+    /// Returns what a crash may leave at the name: first the file as it reads, then any bytes if it
+    /// is torn, then no file if it is loose, then what renames may leave, the oldest last.
+    pub fn fates(&self, alloc: Global) -> Result<Vec<Fate>, AllocError>
+        ensures all { IfOk result (λ list. list.items ≡ fates self.now) }
+        ensures some { IfOk result (λ list. 0 < vec_len list) }
+    {
+        let mut list = Vec::new(alloc);
+        self.put_fates(alloc, &mut list)?;
+        Ok(list)
+    }
+
     /// Appends what a crash may leave at the name.
-    pub fn put_fates(&self, alloc: Global, to: &mut Vec<Fate>) -> Result<(), AllocError>
-        ensures { OnOk result (to.new.items ≡ to.old.items ++ fates self.now) }
+    fn put_fates(&self, alloc: Global, to: &mut Vec<Fate>) -> Result<(), AllocError>
+        ensures all { OnOk result (to.new.items ≡ to.old.items ++ fates self.now) }
+        ensures some { OnOk result (0 < vec_len to.new) }
     {
         self.put_file_fates(alloc, to)?;
         if self.is_loose {
@@ -139,7 +161,8 @@ impl Entry {
 
     /// Appends what a crash may leave of the file.
     fn put_file_fates(&self, alloc: Global, to: &mut Vec<Fate>) -> Result<(), AllocError>
-        ensures { OnOk result (to.new.items ≡ to.old.items ++ file_fates self.now []) }
+        ensures all { OnOk result (to.new.items ≡ to.old.items ++ file_fates self.now []) }
+        ensures some { OnOk result (0 < vec_len to.new) }
     {
         to.push(fate_of(copy_file(alloc, &self.file)?))?;
         if self.is_torn {
@@ -194,7 +217,8 @@ fn copy_fates(alloc: Global, fates: &[Fate]) -> Result<Vec<Fate>, AllocError>
 
 /// Appends a copy of each of the fates.
 fn append_fates(alloc: Global, to: &mut Vec<Fate>, fates: &[Fate]) -> Result<(), AllocError>
-    ensures { OnOk result (to.new.items ≡ to.old.items ++ fates.now) }
+    ensures all { OnOk result (to.new.items ≡ to.old.items ++ fates.now) }
+    ensures no_fewer { vec_len to.old ≤ vec_len to.new }
 {
     for fate in fates {
         to.push(fate.copy(alloc)?)?;

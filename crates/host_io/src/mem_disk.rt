@@ -1,15 +1,22 @@
-ghost use Rattle.std.specs.Prelude.{◌≡◌, [], IfOk, OnOk, OnErr};
-ghost use Rattle.host_io.specs.Disk.{after_sync_dir, safe};
+ghost use Rattle.std.specs.Prelude.{◌≡◌, ◌<◌, [], length, IfOk, OnOk, OnErr};
+ghost use Rattle.host_io.specs.Disk.{AllowsOne, IsImage, MayHave, after_sync_dir, safe};
 ghost use Rattle.host_io.specs.MemFolder.{after_change, disk_of, log_with};
 ghost use Rattle.host_io.specs.PerName.{each, under};
 
 use crate::bytes::Bytes;
 use crate::change::Change;
 use crate::entry::{Entry, copy_file};
+use crate::fate::Fate;
 use crate::name::Name;
 use crate::per_name::PerName;
 use std::alloc::{AllocError, Global};
 use std::marker::Model;
+
+/// The bytes of a file that was not synced, after a crash.
+const TORN: &[u8] = b"torn";
+
+/// The same where the crash took all of them.
+const EMPTY: &[u8] = b"";
 
 /// The disk of a folder in memory: what it had at first, its changes, and what they made of it.
 #[derive(Debug, Drop)]
@@ -56,6 +63,59 @@ impl MemDisk {
         make_change(self.alloc, &mut self.entries, &change)?;
         self.changes.push_reserved(change);
         Ok(())
+    }
+
+    /// Returns the files that a crash leaves, as `MemFolder::crash` says.
+    pub fn image(&self, choice: u64) -> Result<PerName<Option<Bytes>>, AllocError>
+        ensures { IfOk result (λ files. IsImage (disk_of self.now) files) }
+    {
+        let mut rest = choice.saturating_sub(3);
+        Ok(PerName {
+            peers: self.found(Name::Peers, choice, &mut rest)?,
+            peers_temp: self.found(Name::PeersTemp, choice, &mut rest)?,
+            asmap: self.found(Name::Asmap, choice, &mut rest)?,
+            asmap_temp: self.found(Name::AsmapTemp, choice, &mut rest)?,
+            prefixes: self.found(Name::Prefixes, choice, &mut rest)?,
+            bans: self.found(Name::Bans, choice, &mut rest)?,
+            bans_temp: self.found(Name::BansTemp, choice, &mut rest)?,
+        })
+    }
+
+    /// Returns the file that a crash leaves at a name, or none. From choice 3 on the fate is picked
+    /// by `rest`, of which the other names get what is left.
+    fn found(&self, name: Name, choice: u64, rest: &mut u64) -> Result<Option<Bytes>, AllocError>
+        ensures { IfOk result (λ found. MayHave (under (disk_of self.now) name) found) }
+    {
+        let entry = self.entry(name);
+        let fates = entry.fates(self.alloc)?;
+        let index = match choice {
+            0 => 0,
+            1 if self.is_target(name) => oldest(&fates),
+            1 if entry.is_loose() => usize::from(entry.is_torn()) + 1,
+            1 => 0,
+            2 => usize::from(entry.is_torn()),
+            _ => take_digit(rest, fates.len()),
+        };
+        let any = if choice == 2 { EMPTY } else { TORN };
+        found_at(self.alloc, &fates, index, any)
+    }
+
+    /// Returns whether the name was the target of a rename since the folder was synced and since it
+    /// was created.
+    fn is_target(&self, name: Name) -> bool {
+        for change in self.changes.iter().rev() {
+            match change {
+                Change::Renamed { from: _, to } if *to == name => return true,
+                Change::Put {
+                    name: put,
+                    bytes: _,
+                } if *put == name => return false,
+                Change::Created { name: created } if *created == name => return false,
+                Change::FolderSynced => return false,
+                _ => {}
+            }
+        }
+        false
     }
 
     /// Returns what the disk has at a name.
@@ -142,4 +202,38 @@ fn settle(entries: &mut PerName<Entry>)
     entries.prefixes.settle();
     entries.bans.settle();
     entries.bans_temp.settle();
+}
+
+/// Returns the file of the fate at `index`, or of the last fate if there are fewer.
+#[tactic(auto, using(crate::proofs::Fates::allows_at))]
+fn found_at(
+    alloc: Global,
+    fates: &[Fate],
+    index: usize,
+    any: &[u8],
+) -> Result<Option<Bytes>, AllocError>
+    requires { 0 < length fates.now }
+    ensures { IfOk result (λ found. AllowsOne fates.now found) }
+{
+    fates[index.min(fates.len() - 1)].found(alloc, any)
+}
+
+/// Returns the index of the last fate that is a certain file or no file.
+fn oldest(fates: &[Fate]) -> usize {
+    let mut last = 0;
+    for (index, fate) in fates.iter().enumerate() {
+        if !matches!(fate, Fate::AnyBytes) {
+            last = index;
+        }
+    }
+    last
+}
+
+/// Takes the last digit of `rest`, with `base` digits, and returns it.
+fn take_digit(rest: &mut u64, base: usize) -> usize
+    requires { 0 < base }
+{
+    let digit = *rest % base as u64;
+    *rest /= base as u64;
+    digit as usize
 }

@@ -1,11 +1,13 @@
-//! Files of a folder: loaded whole, up to a limit.
+//! Files of a folder: loaded whole, up to a limit, and replaced so that a crash leaves the old file
+//! or the new one, at once or in pieces.
 #![tactic(auto)]
 
 mod load_fault;
 mod loading;
+mod save_job;
+mod saving;
 
 pub use load_fault::LoadFault;
 pub use loading::load;
-
-#[cfg(test)]
-mod tests;
+pub use save_job::SaveJob;
+pub use saving::{publish, write_temp};

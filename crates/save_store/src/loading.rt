@@ -2,6 +2,7 @@ ghost use Rattle.std.specs.Prelude.{◌≡◌, ℕ, ◌<◌, ◌≤◌, ◌⊎�
 ghost use Rattle.std.specs.Option.{option_map};
 ghost use Rattle.host_io.specs.Faults.{Rose};
 ghost use Rattle.host_io.specs.Files.{known_bytes};
+ghost use Rattle.host_io.specs.Past.{files_of};
 ghost use Rattle.host_io.specs.PerName.{under};
 
 use crate::load_fault::LoadFault;
@@ -18,18 +19,18 @@ pub fn load<F: Folder>(
     limit: u64,
 ) -> Result<Option<Bytes>, LoadFault>
     ensures found { IfOk result (λ loaded.
-        IfSome (F.files folder.old) (λ files. loaded ≡ under files name)) }
+        IfSome (files_of (F.past folder.old)) (λ files. loaded ≡ under files name)) }
     ensures within { IfOk result (λ loaded. IfSome loaded (λ bytes. length bytes ≤ limit)) }
-    ensures absent { IfSome (F.files folder.old) (λ files. under files name ≡ None →
+    ensures absent { IfSome (files_of (F.past folder.old)) (λ files. under files name ≡ None →
         (result ≡ Ok None) ⊎ (result ≡ Err LoadFault.Disk)) }
-    ensures larger { IfSome (known_bytes (F.files folder.old) name) (λ bytes. limit < length bytes →
+    ensures larger { IfSome (known_bytes (files_of (F.past folder.old)) name) (λ bytes. limit < length bytes →
         (result ≡ Err (LoadFault.TooLarge (length bytes))) ⊎ (result ≡ Err LoadFault.Disk)) }
     ensures too_large { (size : ℕ) → result ≡ Err (LoadFault.TooLarge size) → limit < size }
-    ensures told_size { (size : ℕ) → result ≡ Err (LoadFault.TooLarge size) →
-        IfSome (F.files folder.old) (λ files. option_map length (under files name) ≡ Some size) }
+    ensures size { (size : ℕ) → result ≡ Err (LoadFault.TooLarge size) →
+        IfSome (files_of (F.past folder.old)) (λ files. option_map length (under files name) ≡ Some size) }
     ensures cause { IsErrOf result LoadFault.Disk →
         Rose (F.faults folder.old) (F.faults folder.new) }
-    ensures same { F.files folder.new ≡ F.files folder.old }
+    ensures same { F.past folder.new ≡ F.past folder.old }
     ensures never_falls { F.faults folder.old ≤ F.faults folder.new }
 {
     let Some(size) = folder.size(name)? else {

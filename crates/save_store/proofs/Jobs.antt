@@ -1,0 +1,30 @@
+-- A job after more bytes.
+use Rattle.std.proofs.Common.{◌≡◌, ℕ, ◌+◌, List, [], ◌∷◌, ◌++◌, zero, suc, length, take, drop, refl, sym, ap, ◌∙◌, subst}
+use Rattle.std.proofs.Math.Seq.{take-add}
+use Rattle.std.proofs.lemmas.List.{drop-drop}
+use Rattle.host_io.specs.declared.name.Name.{Name}
+use Rattle.save_store.specs.Job.{Job}
+
+take_length : (c : ℕ) (ys : List ℕ) → take (length (take c ys)) ys ≡ take c ys
+take_length zero ys = refl
+take_length (suc c) [] = refl
+take_length (suc c) (y ∷ ys) = ap (λ zs. y ∷ zs) (take_length c ys)
+
+drop_length : (c : ℕ) (ys : List ℕ) → drop (length (take c ys)) ys ≡ drop c ys
+drop_length zero ys = refl
+drop_length (suc c) [] = refl
+drop_length (suc c) (y ∷ ys) = drop_length c ys
+
+abbrev pub job_with : Name → List ℕ → List ℕ → Job
+job_with temp written left = record { temp = temp; written = written; left = left }
+
+pub stepped : (temp : Name) (bytes : List ℕ) (done count n : ℕ) → n ≡ length (take count (drop done bytes))
+    → job_with temp (take (done + n) bytes) (drop (done + n) bytes)
+    ≡ job_with temp (take done bytes ++ take count (drop done bytes)) (drop count (drop done bytes))
+stepped t xs d c n is =
+    subst (λ m. job_with t (take (d + m) xs) (drop (d + m) xs)
+    ≡ job_with t (take d xs ++ take c (drop d xs)) (drop c (drop d xs))) (sym is)
+    (ap (λ w. job_with t w (drop (d + length (take c (drop d xs))) xs))
+    (take-add d (length (take c (drop d xs))) xs ∙ ap (λ ys. take d xs ++ ys) (take_length c (drop d xs)))
+    ∙ ap (λ l. job_with t (take d xs ++ take c (drop d xs)) l)
+    (sym (drop-drop (length (take c (drop d xs))) d xs) ∙ drop_length c (drop d xs)))

@@ -1,0 +1,4 @@
+pub mod Jobs
+pub mod Published
+pub mod Results
+pub mod Temp

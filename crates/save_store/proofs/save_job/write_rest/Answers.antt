@@ -1,0 +1,34 @@
+use Rattle.std.proofs.Common.{◌++◌}
+use Rattle.host_io.specs.Disk.{appended, synced}
+use Rattle.host_io.specs.Past.{Always}
+use Rattle.host_io.specs.PerName.{under}
+use Rattle.save_store.specs.Saves.{KeepsOthers}
+use Rattle.save_store.proofs.Results.{either, ok_then}
+use Rattle.save_store.proofs.Temp.{appended_reads, changed, failed, failed_append, is_synced, unchanged}
+use Rattle.save_store.proofs.save_job.write_rest.Goals as goal
+
+pub returns-in_err-append-clause-any_moment : goal.returns-in_err-append-clause-any_moment
+returns-in_err-append-clause-any_moment g c =
+    let P = g.F.Folder.past in
+    let old = P c.args.folder.now in
+    failed_append c.args.temp c.args.bytes.now old old (P c.append.new.self)
+    (unchanged c.args.temp old) c.in_err-append.ensures.err
+
+pub returns-clause-any_moment : goal.returns-clause-any_moment
+returns-clause-any_moment g c =
+    let P = g.F.Folder.past in
+    let old = P c.args.folder.now in
+    let one = changed c.args.temp (λ d. appended c.args.bytes.now (under d c.args.temp))
+        old old (P c.append.new.self) (unchanged c.args.temp old) c.in_ok-append.ensures.ok in
+    either c.sync.result _ _ (Always old (P c.sync.new.self) (KeepsOthers c.args.temp))
+    c.sync.ensures.ok c.sync.ensures.err
+    (changed c.args.temp (λ d. synced (under d c.args.temp)) old (P c.append.new.self) (P c.sync.new.self) one)
+    (failed c.args.temp (λ d. synced (under d c.args.temp)) old (P c.append.new.self) (P c.sync.new.self) one)
+
+pub returns-clause-synced : goal.returns-clause-synced
+returns-clause-synced g c written reads =
+    let P = g.F.Folder.past in
+    ok_then c.sync.result _ _ c.sync.ensures.ok
+    (is_synced c.args.temp (written ++ c.args.bytes.now) (P c.append.new.self) (P c.sync.new.self)
+    (appended_reads c.args.temp written c.args.bytes.now (P c.args.folder.now) (P c.append.new.self)
+    reads c.in_ok-append.ensures.ok))

@@ -1,0 +1,19 @@
+-- A save in pieces.
+use Rattle.std.specs.Prelude.{◌≡◌, ℕ, List, ◌++◌, Option, Some, IfSome}
+use Rattle.host_io.specs.Past.{Past}
+use Rattle.host_io.specs.PerName.{under}
+use Rattle.host_io.specs.declared.name.Name.{Name}
+
+-- The temporary name, the bytes written, and those left.
+pub record Job : Type 0 where
+  pub temp : Name
+  pub written : List ℕ
+  pub left : List ℕ
+
+-- The whole file.
+abbrev pub whole : Job → List ℕ
+whole job = job.written ++ job.left
+
+-- The file reads as these bytes, if contracts know the folder's files.
+abbrev pub Reads : Name → List ℕ → Option Past → Type 0
+Reads name bytes past = IfSome past (λ p. (under p.now name).file ≡ Some bytes)

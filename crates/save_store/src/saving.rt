@@ -1,0 +1,59 @@
+ghost use Rattle.std.specs.Prelude.{◌≡◌, ◌≢◌, ◌≤◌, ℕ, List, IfSome, OnOk, OnErr};
+ghost use Rattle.host_io.specs.Faults.{Rose};
+ghost use Rattle.host_io.specs.Past.{Always};
+ghost use Rattle.save_store.specs.Saves.{KeepsOthers, PublishesOrNot, IsSafe, IsSynced, IsStored};
+
+use host_io::{Failed, Folder, Name};
+
+/// Writes a file under its temporary name, and makes its bytes safe. `publish` then puts it in the
+/// place of the file that it is for.
+pub fn write_temp<F: Folder>(folder: &mut F, temp: Name, bytes: &[u8]) -> Result<(), Failed>
+    ensures any_moment { Always (F.past folder.old) (F.past folder.new) (KeepsOthers temp) }
+    ensures safe { OnOk result (IfSome (F.past folder.new) (λ p. IsSafe temp bytes.now p.now)) }
+    ensures cause { OnErr result (Rose (F.faults folder.old) (F.faults folder.new)) }
+    ensures never_falls { F.faults folder.old ≤ F.faults folder.new }
+{
+    folder.create(temp)?;
+    folder.append(temp, bytes)?;
+    folder.sync(temp)
+}
+
+/// Puts the temporary file in the place of another, and makes the names safe.
+pub(crate) fn put_in_place<F: Folder>(
+    folder: &mut F,
+    temp: Name,
+    name: Name,
+) -> Result<(), Failed>
+    requires apart { temp ≢ name }
+    requires synced { IfSome (F.past folder.old) (λ p.
+        (bytes : List ℕ) × IsSynced temp bytes p.now) }
+    ensures any_moment { (bytes : List ℕ) →
+        IfSome (F.past folder.old) (λ p. IsSynced temp bytes p.now) →
+        Always (F.past folder.old) (F.past folder.new) (PublishesOrNot temp name bytes) }
+    ensures stored { (bytes : List ℕ) →
+        IfSome (F.past folder.old) (λ p. IsSynced temp bytes p.now) →
+        OnOk result (IfSome (F.past folder.new) (λ p. IsStored name bytes p.now)) }
+    ensures cause { OnErr result (Rose (F.faults folder.old) (F.faults folder.new)) }
+    ensures never_falls { F.faults folder.old ≤ F.faults folder.new }
+{
+    folder.rename(temp, name)?;
+    folder.sync_dir()
+}
+
+/// Puts a temporary file whose bytes are safe in the place of the file that it is for, and makes
+/// the names safe. Until `Ok`, a crash leaves the file as it was or the new one; afterwards always
+/// the new one.
+pub fn publish<F: Folder>(folder: &mut F, temp: Name, name: Name) -> Result<(), Failed>
+    requires apart { temp ≢ name }
+    requires safe { IfSome (F.past folder.old) (λ p. (bytes : List ℕ) × IsSafe temp bytes p.now) }
+    ensures any_moment { (bytes : List ℕ) →
+        IfSome (F.past folder.old) (λ p. IsSafe temp bytes p.now) →
+        Always (F.past folder.old) (F.past folder.new) (PublishesOrNot temp name bytes) }
+    ensures stored { (bytes : List ℕ) →
+        IfSome (F.past folder.old) (λ p. IsSafe temp bytes p.now) →
+        OnOk result (IfSome (F.past folder.new) (λ p. IsStored name bytes p.now)) }
+    ensures cause { OnErr result (Rose (F.faults folder.old) (F.faults folder.new)) }
+    ensures never_falls { F.faults folder.old ≤ F.faults folder.new }
+{
+    put_in_place(folder, temp, name)
+}
