@@ -1,6 +1,6 @@
 -- The disk and the past of a folder in memory after one change more.
-use Rattle.std.proofs.Common.{◌≡◌, ℕ, List, [], ◌∷◌, ◌++◌, refl, sym, ap, ◌∙◌, subst, inl, inr, Some}
-use Rattle.host_io.specs.Disk.{Disk, IsBetween, MayHave, Partly}
+use Rattle.std.proofs.Common.{◌≡◌, List, [], ◌∷◌, ◌++◌, refl, sym, ap, ◌∙◌, inl, inr, Some}
+use Rattle.host_io.specs.Disk.{Disk, IsBetween, Partly}
 use Rattle.host_io.specs.Files.{Files}
 use Rattle.host_io.specs.MemFolder.{after_change, past_after, past_of, disk_of, log_with, DiskLog}
 use Rattle.host_io.specs.Past.{Past, later, after, AfterFault}

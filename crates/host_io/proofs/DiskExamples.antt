@@ -1,8 +1,7 @@
 -- Worked examples of the rules of the disk: for each, what a crash may leave by it, and what not.
 use Rattle.std.proofs.Common.{◌≡◌, ℕ, ◌+◌, List, [], ◌∷◌, Option, Some, None, refl, ap, inl, inr, length, arith}
-use Rattle.host_io.specs.Disk.{Disk, IsBetween, MayHave, Partly, PartlyAppended, after_append, after_create, after_rename, after_sync, after_sync_dir, created, safe}
+use Rattle.host_io.specs.Disk.{Disk, MayHave, Partly, PartlyAppended, after_append, after_create, after_rename, after_sync, after_sync_dir, created, safe}
 use Rattle.host_io.specs.PerName.{each, under, with}
-
 use Rattle.host_io.specs.declared.name.Name.TheVariants.{Peers, PeersTemp, Asmap}
 
 abbrev old_file : List ℕ
@@ -132,11 +131,14 @@ no_file_at_an_untouched_name (inr none) = none
 
 -- An `append` that failed may have appended a part.
 one_byte_appended : PartlyAppended Peers new_file start (after_append Peers (2 ∷ []) start)
-one_byte_appended = (1, record {
-  reads = inr refl;
-  leaves = λ name found may. inr may;
-  same = λ name is. is;
-})
+one_byte_appended = (
+  1,
+  record {
+    reads = inr refl;
+    leaves = λ name found may. inr may;
+    same = λ name is. is;
+  },
+)
 
 -- A `sync` that failed promises nothing.
 not_synced : Partly (after_sync Peers) (after_append Peers new_file start) (after_append Peers new_file start)

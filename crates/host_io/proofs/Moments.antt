@@ -1,5 +1,5 @@
 -- What holds at each moment, over the calls of a folder.
-use Rattle.std.proofs.Common.{◌≡◌, ℕ, List, [], ◌∷◌, ◌++◌, refl, sym, ap, ◌∙◌, subst, append_assoc, get_or, inl, inr}
+use Rattle.std.proofs.Common.{◌≡◌, List, [], ◌∷◌, ◌++◌, refl, sym, ap, ◌∙◌, subst, append_assoc, get_or, inl, inr}
 use Rattle.std.specs.Prelude.{Option, Some, None, IfSome}
 use Rattle.host_io.specs.Disk.{Disk}
 use Rattle.host_io.specs.Past.{Past, moments, later, after, AfterFault, AllOf, HoldsSince, Always}
@@ -47,7 +47,7 @@ went P call (Some old) mid new so_far goes on =
       later disk so_far.0,
       subst (λ m. new ≡ after call m) so_far.1 goes,
       one_more (P old.now) old so_far.0 disk so_far.2
-      (on old.now so_far.0.now (now_has (P old.now) old so_far.0 so_far.2)),
+          (on old.now so_far.0.now (now_has (P old.now) old so_far.0 so_far.2)),
     )
 
 -- a call that fails
@@ -59,9 +59,12 @@ broke P partly None mid new so_far fault on = subst (λ m. AfterFault partly m n
 broke P partly (Some old) mid new so_far fault on =
     elim (subst (λ m. AfterFault partly m new) so_far.1 fault) [
       | inl same ↦ (so_far.0, same, so_far.2)
-      | inr one ↦ (later one.0 so_far.0, one.2,
-          one_more (P old.now) old so_far.0 one.0 so_far.2
-          (on old.now so_far.0.now one.0 (now_has (P old.now) old so_far.0 so_far.2) one.1))
+      | inr one ↦ (
+        later one.0 so_far.0,
+        one.2,
+        one_more (P old.now) old so_far.0 one.0 so_far.2
+            (on old.now so_far.0.now one.0 (now_has (P old.now) old so_far.0 so_far.2) one.1),
+      )
     ]
 
 -- the first call, of which A is known, if it succeeds
@@ -82,11 +85,15 @@ pub broke_first : (A : Disk → Type 0) (P partly : Disk → Disk → Type 0) (o
 broke_first A P partly None new a fault here on = fault
 broke_first A P partly (Some old) new a fault here on = elim fault [
   | inl same ↦ (old, same, record { since = []; goes_on = refl; each = (here old.now, tt) })
-  | inr one ↦ (later one.0 old, one.2, record {
+  | inr one ↦ (
+    later one.0 old,
+    one.2,
+    record {
       since = one.0 ∷ [];
       goes_on = refl;
       each = (on old.now one.0 a one.1, (here old.now, tt));
-    })
+    },
+  )
 ]
 
 -- two runs, one after the other
@@ -96,14 +103,17 @@ pub joined : (P Q R : Disk → Disk → Type 0) (old mid new : Option Past) → 
 joined P Q R None mid new first second weaker on = subst (λ m. Always m new Q) first second
 joined P Q R (Some old) mid new first second weaker on =
     let last = subst (λ m. Always m new Q) first.1 second in
-    let p = now_has (P old.now) old first.0 first.2 in
-    (last.0, last.1, record {
-      since = last.2.since ++ first.2.since;
-      goes_on = last.2.goes_on ∙ ap (λ ds. last.2.since ++ ds) first.2.goes_on
-          ∙ sym (append_assoc last.2.since first.2.since (moments old));
-      each = subst (AllOf (R old.now)) (sym (append_assoc last.2.since first.2.since (old.now ∷ [])))
-          (AllOf-append (R old.now) last.2.since (first.2.since ++ old.now ∷ [])
-          (AllOf-weaker (Q first.0.now) (R old.now) last.2.since (λ e q. on old.now first.0.now e p q)
-          (AllOf-prefix (Q first.0.now) last.2.since (first.0.now ∷ []) last.2.each))
-          (AllOf-weaker (P old.now) (R old.now) (first.2.since ++ old.now ∷ []) (weaker old.now) first.2.each));
-    })
+    let p = now_has (P old.now) old first.0 first.2 in (
+      last.0,
+      last.1,
+      record {
+        since = last.2.since ++ first.2.since;
+        goes_on = last.2.goes_on ∙ ap (λ ds. last.2.since ++ ds) first.2.goes_on
+            ∙ sym (append_assoc last.2.since first.2.since (moments old));
+        each = subst (AllOf (R old.now)) (sym (append_assoc last.2.since first.2.since (old.now ∷ [])))
+            (AllOf-append (R old.now) last.2.since (first.2.since ++ old.now ∷ [])
+            (AllOf-weaker (Q first.0.now) (R old.now) last.2.since (λ e q. on old.now first.0.now e p q)
+            (AllOf-prefix (Q first.0.now) last.2.since (first.0.now ∷ []) last.2.each))
+            (AllOf-weaker (P old.now) (R old.now) (first.2.since ++ old.now ∷ []) (weaker old.now) first.2.each));
+      },
+    )

@@ -1,7 +1,7 @@
 -- What a crash leaves while a temporary file is put in the place of another.
-use Rattle.std.proofs.Common.{◌≡◌, ℕ, List, [], ◌∷◌, inl, inr, refl, sym, ap, ◌∙◌, subst}
+use Rattle.std.proofs.Common.{◌≡◌, ℕ, List, [], inl, inr, refl, sym, ap, ◌∙◌, subst}
 use Rattle.std.specs.Prelude.{Option, Some, None, IfSome, ◌≢◌, ◌⊎◌, true, false, Bool}
-use Rattle.host_io.specs.Disk.{Disk, Entry, Allows, AllowsOne, IsBetween, MayHave, Partly, after_rename, after_sync_dir, exactly, fates, file_fates, left, onto_if, settled, target}
+use Rattle.host_io.specs.Disk.{Disk, Entry, Allows, AllowsOne, MayHave, Partly, after_rename, after_sync_dir, exactly, fates, file_fates, left, onto_if, settled, target}
 use Rattle.host_io.specs.Past.{Past, AfterFault, Always, after}
 use Rattle.host_io.specs.PerName.{under, with}
 use Rattle.host_io.specs.declared.fate.Fate.{Fate}

@@ -1,9 +1,9 @@
 -- What the calls on the temporary file leave of the folder.
-use Rattle.std.proofs.Common.{◌≡◌, ℕ, List, [], ◌∷◌, ◌++◌, refl, sym, ap, ◌∙◌, subst, inl, inr, length, arith}
-use Rattle.std.specs.Prelude.{Option, Some, None, IfSome, IsSome, ◌≢◌, true, false, Bool}
+use Rattle.std.proofs.Common.{◌≡◌, ℕ, List, [], ◌∷◌, ◌++◌, refl, sym, ap, ◌∙◌, subst, inl, inr, length, take, arith}
+use Rattle.std.specs.Prelude.{Option, Some, None, IfSome, IsSome, true, false, Bool}
 use Rattle.std.specs.Option.{option_map}
 use Rattle.host_io.specs.declared.fate.Fate.TheVariants.{AnyBytes}
-use Rattle.host_io.specs.Disk.{Disk, Entry, AllowsOne, IsBetween, MayHave, Partly, PartlyAppended, after_append, after_create, after_sync, appended, created, exactly, onto_if, synced}
+use Rattle.host_io.specs.Disk.{Disk, Entry, AllowsOne, MayHave, Partly, PartlyAppended, after_append, after_create, after_sync, appended, created, exactly, onto_if, synced}
 use Rattle.host_io.specs.Files.{IsThere}
 use Rattle.host_io.specs.Past.{Past, AfterFault, Always, after, files_of}
 use Rattle.host_io.specs.PerName.{under, with}
@@ -44,7 +44,8 @@ pub failed_append : (temp : Name) (bytes : List ℕ) (old mid new : Option Past)
     → Always old new (KeepsOthers temp)
 failed_append temp bytes old mid new so_far fault =
     broke (KeepsOthers temp) (PartlyAppended temp bytes) old mid new so_far fault
-    (λ start d e only part. between temp _ start d e only part.1)
+    (λ start d e only part.
+    between temp (λ disk. appended (take part.0 bytes) (under disk temp)) start d e only part.1)
 
 -- the file is there
 

@@ -146,12 +146,7 @@ fn write_rest<F: Folder>(folder: &mut F, temp: Name, bytes: &[u8]) -> Result<(),
 }
 
 /// Appends bytes to the temporary file, makes all of it safe, and puts it in the place of another.
-fn finish<F: Folder>(
-    folder: &mut F,
-    temp: Name,
-    name: Name,
-    bytes: &[u8],
-) -> Result<(), Failed>
+fn finish<F: Folder>(folder: &mut F, temp: Name, name: Name, bytes: &[u8]) -> Result<(), Failed>
     requires apart { temp ≢ name }
     requires reads { (written : List ℕ) × Reads temp written (F.past folder.old) }
     ensures any_moment { (written : List ℕ) → Reads temp written (F.past folder.old) →

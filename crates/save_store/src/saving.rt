@@ -19,11 +19,7 @@ pub fn write_temp<F: Folder>(folder: &mut F, temp: Name, bytes: &[u8]) -> Result
 }
 
 /// Puts the temporary file in the place of another, and makes the names safe.
-pub(crate) fn put_in_place<F: Folder>(
-    folder: &mut F,
-    temp: Name,
-    name: Name,
-) -> Result<(), Failed>
+pub(crate) fn put_in_place<F: Folder>(folder: &mut F, temp: Name, name: Name) -> Result<(), Failed>
     requires apart { temp ≢ name }
     requires synced { IfSome (F.past folder.old) (λ p.
         (bytes : List ℕ) × IsSynced temp bytes p.now) }

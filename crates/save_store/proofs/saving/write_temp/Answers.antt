@@ -27,9 +27,9 @@ returns-clause-any_moment g c =
     let P = g.F.Folder.past in
     let old = P c.args.folder.now in
     let one = changed c.args.temp (λ _. created) old old (P c.create.new.self)
-        (unchanged c.args.temp old) c.in_ok-create.ensures.ok in
+    (unchanged c.args.temp old) c.in_ok-create.ensures.ok in
     let two = changed c.args.temp (λ d. appended c.args.bytes.now (under d c.args.temp))
-        old (P c.create.new.self) (P c.append.new.self) one c.in_ok-append.ensures.ok in
+    old (P c.create.new.self) (P c.append.new.self) one c.in_ok-append.ensures.ok in
     either c.sync.result _ _ (Always old (P c.sync.new.self) (KeepsOthers c.args.temp))
     c.sync.ensures.ok c.sync.ensures.err
     (changed c.args.temp (λ d. synced (under d c.args.temp)) old (P c.append.new.self) (P c.sync.new.self) two)
