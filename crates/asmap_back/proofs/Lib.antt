@@ -1,0 +1,5 @@
+pub mod PathRows
+pub mod Ranges
+pub mod LastRow
+pub mod BackLaws
+pub mod Steps

@@ -1,0 +1,33 @@
+ghost use Rattle.std.specs.Prelude.{◌≡◌};
+ghost use Rattle.asmap_back.specs.declared.fault.BackFault.TheVariants as fault;
+
+use prefix_table::Memory as TableMemory;
+use std::alloc::AllocError;
+
+/// Why an asmap is not turned back into a table.
+#[derive(Clone, Copy, Debug, PartialEq, Eq)]
+pub enum BackFault {
+    /// The asmap gives more rows than a table may have.
+    TooMany {
+        /// One more than the most rows of a table: the rows after that are not counted.
+        rows: u32,
+    },
+    /// Out of memory.
+    Memory,
+}
+
+impl From<AllocError> for BackFault {
+    ghost from_gives = { λ _ e. e ≡ fault.Memory };
+
+    fn from(_: AllocError) -> BackFault {
+        BackFault::Memory
+    }
+}
+
+impl From<TableMemory> for BackFault {
+    ghost from_gives = { λ _ e. e ≡ fault.Memory };
+
+    fn from(_: TableMemory) -> BackFault {
+        BackFault::Memory
+    }
+}

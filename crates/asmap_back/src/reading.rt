@@ -1,0 +1,133 @@
+ghost use Rattle.std.specs.Prelude.{◌≡◌, ℕ, ◌<◌, ◌≤◌, [], ◌∷◌, ◌++◌, List, true, false, length, reverse, OnOk, IfOk, IfErr};
+ghost use Rattle.prefix_table.specs.declared.row.Row.{Row};
+ghost use Rattle.prefix_table.specs.declared.row.TheConstants.{MAX_ROWS};
+ghost use Rattle.asmap_back.specs.Back.{unless_same};
+ghost use Rattle.asmap_back.specs.Inside.{IsWhole, IsReading, GoesOn, HasCause, whole_part};
+
+use crate::fault::BackFault;
+use crate::part::{Part, after_match, one_side, row_of, whole, zero_side};
+use asmap_vm::{Instruction, first_instruction};
+use bit_code::Bits;
+use prefix_table::{MAX_ROWS, Row};
+use std::alloc::Global;
+
+/// How far a file was read.
+#[derive(Drop)]
+pub(crate) struct Reading {
+    /// The offset of the next instruction.
+    pub offset: usize,
+    /// The part that begins there.
+    pub part: Part,
+    /// The right parts of the jumps that are open, the last of which is read next. Each begins
+    /// where the part before it ends.
+    pub pending: Vec<Part>,
+    /// The rows so far.
+    pub rows: Vec<Row>,
+}
+
+/// Appends a row, unless the longest row above it has the same number. More rows than a table may
+/// have are refused before they take memory.
+fn put_row(rows: &mut Vec<Row>, row: Row, last: u32) -> Result<(), BackFault>
+    requires { length rows.old.items ≤ MAX_ROWS }
+    ensures put { OnOk result (rows.new.items ≡ rows.old.items ++ unless_same row last) }
+    ensures few { OnOk result (length rows.new.items ≤ MAX_ROWS) }
+    ensures cause { IfErr result (HasCause (rows.old.items ++ unless_same row last)) }
+{
+    if row.asn == last {
+        return Ok(());
+    }
+    if rows.len() >= MAX_ROWS {
+        return Err(BackFault::TooMany {
+            rows: MAX_ROWS as u32 + 1,
+        });
+    }
+    rows.reserve(1)?;
+    rows.push_reserved(row);
+    Ok(())
+}
+
+impl Reading {
+    /// Starts before the first instruction.
+    fn start(alloc: Global) -> Reading
+        ensures offset { result.offset ≡ 0 }
+        ensures part { result.part ≡ whole_part }
+        ensures pending { result.pending.items ≡ [] }
+        ensures rows { result.rows.items ≡ [] }
+    {
+        Reading {
+            offset: 0,
+            part: whole(),
+            pending: Vec::new(alloc),
+            rows: Vec::new(alloc),
+        }
+    }
+
+    /// Goes on with the part that is read next, after the end of another one. Returns `false` if
+    /// none is left.
+    fn next_part(&mut self) -> bool
+        ensures more { result ≡ true → (reverse self.old.pending.items
+            ≡ self.new.part ∷ reverse self.new.pending.items) }
+        ensures none { result ≡ false → reverse self.old.pending.items ≡ [] }
+        ensures same { (self.new.offset ≡ self.old.offset)
+            × (self.new.rows.items ≡ self.old.rows.items) }
+    {
+        let Some(part) = self.pending.pop() else {
+            return false;
+        };
+        self.part = part;
+        true
+    }
+
+    /// Reads one instruction. Returns whether the file goes on.
+    fn step(&mut self, bits: &Bits<'_>) -> Result<bool, BackFault>
+        requires ahead { (whole : List Row) × IsReading bits.now self.old whole }
+        requires offset { self.old.offset ≤ length bits.now }
+        requires few { length self.old.rows.items ≤ MAX_ROWS }
+        ensures further { OnOk result (self.old.offset < self.new.offset) }
+        ensures offset { OnOk result (self.new.offset ≤ length bits.now) }
+        ensures few { OnOk result (length self.new.rows.items ≤ MAX_ROWS) }
+        ensures goes_on { IfOk result (λ more. (whole : List Row)
+            → IsReading bits.now self.old whole → GoesOn bits.now self.new whole more) }
+        ensures cause { IfErr result (λ fault. (whole : List Row)
+            → IsReading bits.now self.old whole → HasCause whole fault) }
+    {
+        let (instruction, next) = first_instruction(bits, self.offset);
+        self.offset = next;
+        match instruction {
+            Instruction::Return(asn) => {
+                put_row(&mut self.rows, row_of(self.part, asn), self.part.last)?;
+                Ok(self.next_part())
+            }
+            Instruction::Jump(_) => {
+                self.pending.reserve(1)?;
+                self.pending.push_reserved(one_side(self.part));
+                self.part = zero_side(self.part);
+                Ok(true)
+            }
+            Instruction::Match(number) => {
+                let row = row_of(self.part, self.part.default);
+                put_row(&mut self.rows, row, self.part.last)?;
+                self.part = after_match(self.part, number);
+                Ok(true)
+            }
+            Instruction::Default(asn) => {
+                self.part.default = asn;
+                Ok(true)
+            }
+        }
+    }
+
+    /// Reads the whole tree of a file, and returns its rows.
+    pub fn rows_of(alloc: Global, bits: &Bits<'_>) -> Result<Vec<Row>, BackFault>
+        requires { (whole : List Row) × IsWhole bits.now whole }
+        ensures found { IfOk result (λ rows. (whole : List Row)
+            → IsWhole bits.now whole → rows.items ≡ whole) }
+        ensures few { IfOk result (λ rows. length rows.items ≤ MAX_ROWS) }
+        ensures cause { IfErr result (λ fault. (whole : List Row)
+            → IsWhole bits.now whole → HasCause whole fault) }
+    {
+        let mut reading = Reading::start(alloc);
+        while reading.step(bits)? {}
+        Ok(reading.rows)
+    }
+}
