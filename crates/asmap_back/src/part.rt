@@ -41,28 +41,18 @@ pub(crate) fn row_of(part: Part, asn: u32) -> Row
     }
 }
 
-/// Returns the left part of a jump, for the addresses with a zero-bit next.
-pub(crate) fn zero_side(part: Part) -> Part
-    requires { part.len < 128 }
-    ensures { result ≡ zero_side part }
-{
-    Part {
-        len: part.len + 1,
-        ..part
-    }
-}
-
-/// Returns the right part of a jump, for the addresses with a one-bit next.
-pub(crate) fn one_side(part: Part) -> Part
+/// Returns the parts of a jump: for the addresses with a zero-bit next, and with a one-bit.
+pub(crate) fn sides(part: Part) -> (Part, Part)
     requires len { part.len < 128 }
     requires room { part.bits + 2 ^ (127 - part.len) < 2 ^ 128 }
-    ensures { result ≡ one_side part }
+    ensures zero { result.0 ≡ zero_side part }
+    ensures one { result.1 ≡ one_side part }
 {
-    Part {
-        bits: part.bits + (1 << (127 - part.len)),
-        len: part.len + 1,
-        ..part
-    }
+    let len = part.len + 1;
+    let zero = Part { len, ..part };
+    let bits = part.bits + (1 << (127 - part.len));
+    let one = Part { bits, len, ..part };
+    (zero, one)
 }
 
 /// Returns the part after a match with this number. The row that the match may add is the longest

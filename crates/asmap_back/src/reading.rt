@@ -2,10 +2,10 @@ ghost use Rattle.std.specs.Prelude.{◌≡◌, ℕ, ◌<◌, ◌≤◌, [], ◌�
 ghost use Rattle.prefix_table.specs.declared.row.Row.{Row};
 ghost use Rattle.prefix_table.specs.declared.row.TheConstants.{MAX_ROWS};
 ghost use Rattle.asmap_back.specs.Back.{unless_same};
-ghost use Rattle.asmap_back.specs.Inside.{IsWhole, IsReading, GoesOn, HasCause, whole_part};
+ghost use Rattle.asmap_back.specs.Inside.{IsWhole, IsReading, GoesOn, HasCause, row_of, whole_part};
 
 use crate::fault::BackFault;
-use crate::part::{Part, after_match, one_side, row_of, whole, zero_side};
+use crate::part::{Part, after_match, row_of, sides, whole};
 use asmap_vm::{Instruction, first_instruction};
 use bit_code::Bits;
 use prefix_table::{MAX_ROWS, Row};
@@ -25,15 +25,17 @@ pub(crate) struct Reading {
     pub rows: Vec<Row>,
 }
 
-/// Appends a row, unless the longest row above it has the same number. More rows than a table may
-/// have are refused before they take memory.
-fn put_row(rows: &mut Vec<Row>, row: Row, last: u32) -> Result<(), BackFault>
+/// Appends the row of the part's path with this number, unless the longest row above has the same
+/// number. More rows than a table may have are refused before they take memory.
+fn put_row(rows: &mut Vec<Row>, part: Part, asn: u32) -> Result<(), BackFault>
     requires { length rows.old.items ≤ MAX_ROWS }
-    ensures put { OnOk result (rows.new.items ≡ rows.old.items ++ unless_same row last) }
+    ensures put { OnOk result (rows.new.items
+        ≡ rows.old.items ++ unless_same (row_of part asn) part.last) }
     ensures few { OnOk result (length rows.new.items ≤ MAX_ROWS) }
-    ensures cause { IfErr result (HasCause (rows.old.items ++ unless_same row last)) }
+    ensures cause { IfErr result
+        (HasCause (rows.old.items ++ unless_same (row_of part asn) part.last)) }
 {
-    if row.asn == last {
+    if asn == part.last {
         return Ok(());
     }
     if rows.len() >= MAX_ROWS {
@@ -42,7 +44,7 @@ fn put_row(rows: &mut Vec<Row>, row: Row, last: u32) -> Result<(), BackFault>
         });
     }
     rows.reserve(1)?;
-    rows.push_reserved(row);
+    rows.push_reserved(row_of(part, asn));
     Ok(())
 }
 
@@ -95,18 +97,18 @@ impl Reading {
         self.offset = next;
         match instruction {
             Instruction::Return(asn) => {
-                put_row(&mut self.rows, row_of(self.part, asn), self.part.last)?;
+                put_row(&mut self.rows, self.part, asn)?;
                 Ok(self.next_part())
             }
             Instruction::Jump(_) => {
+                let (zero, one) = sides(self.part);
                 self.pending.reserve(1)?;
-                self.pending.push_reserved(one_side(self.part));
-                self.part = zero_side(self.part);
+                self.pending.push_reserved(one);
+                self.part = zero;
                 Ok(true)
             }
             Instruction::Match(number) => {
-                let row = row_of(self.part, self.part.default);
-                put_row(&mut self.rows, row, self.part.last)?;
+                put_row(&mut self.rows, self.part, self.part.default)?;
                 self.part = after_match(self.part, number);
                 Ok(true)
             }

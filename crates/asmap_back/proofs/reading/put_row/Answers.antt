@@ -3,6 +3,7 @@ use Rattle.std.proofs.lemmas.Bool.{ne_eqb}
 use Rattle.prefix_table.specs.declared.row.Row.{Row}
 use Rattle.prefix_table.specs.declared.row.TheConstants.{MAX_ROWS}
 use Rattle.asmap_back.specs.Back.{unless_same}
+use Rattle.asmap_back.specs.Inside.{row_of}
 use Rattle.asmap_back.proofs.reading.put_row.Goals as goal
 
 -- a row with another number
@@ -18,14 +19,15 @@ same rows row last e = ap (λ (b : Bool). rows ++ cond b [] (row ∷ [])) (eq-eq
 one_more : (rows : List Row) (row : Row) (last count : ℕ) → MAX_ROWS ≤ count → count ≡ length rows → (row.asn ≡ last → ⊥) → MAX_ROWS < length (rows ++ unless_same row last)
 one_more rows row last count full e other = omega (arith, full, e, ap (λ (xs : List Row). length xs) (put rows row last other), length-append rows (row ∷ []))
 
-pub returns-then-row-last-clause-put : goal.returns-then-row-last-clause-put
-returns-then-row-last-clause-put c = sym (same c.args.rows.now.items c.args.row c.args.last c.if-row-last.true)
+pub returns-then-asn-part-clause-put : goal.returns-then-asn-part-clause-put
+returns-then-asn-part-clause-put c = sym (same c.args.rows.now.items (row_of c.args.part c.args.asn) c.args.part.last c.if-asn-part.true)
 
 pub returns-then-len-ge-MAX_ROWS-clause-cause : goal.returns-then-len-ge-MAX_ROWS-clause-cause
 returns-then-len-ge-MAX_ROWS-clause-cause c =
-    (refl, one_more c.args.rows.now.items c.args.row c.args.last c.len.result c.if-len-ge-MAX_ROWS.true (search rules) c.if-row-last.false)
+    (refl, one_more c.args.rows.now.items (row_of c.args.part c.args.asn) c.args.part.last c.len.result c.if-len-ge-MAX_ROWS.true (search rules) c.if-asn-part.false)
 
 pub returns-clause-put : goal.returns-clause-put
 returns-clause-put c =
-    c.push_reserved.ensures.items ∙ ap (λ (xs : List Row). xs ++ c.args.row ∷ []) c.in_ok-reserve.ensures.items
-    ∙ sym (put c.args.rows.now.items c.args.row c.args.last c.if-row-last.false)
+    c.push_reserved.ensures.items ∙ ap (λ (xs : List Row). xs ++ c.row_of.result ∷ []) c.in_ok-reserve.ensures.items
+    ∙ ap (λ (r : Row). c.args.rows.now.items ++ r ∷ []) c.row_of.ensures
+    ∙ sym (put c.args.rows.now.items (row_of c.args.part c.args.asn) c.args.part.last c.if-asn-part.false)

@@ -2,8 +2,7 @@ use Rattle.std.proofs.Common.{◌≡◌, [], ◌∷◌, ◌++◌, List, Result, 
 use Rattle.std.proofs.lemmas.Result.{err_from_is_err_and}
 use Rattle.asmap_vm.specs.declared.instruction.Instruction.TheVariants as instructions
 use Rattle.prefix_table.specs.declared.row.Row.{Row}
-use Rattle.asmap_back.specs.Back.{unless_same}
-use Rattle.asmap_back.specs.Inside.{IsReading, HasCause}
+use Rattle.asmap_back.specs.Inside.{IsReading}
 use Rattle.asmap_back.specs.declared.fault.BackFault.{BackFault}
 use Rattle.asmap_back.specs.declared.part.Part.{Part}
 use Rattle.asmap_back.proofs.Steps.{Opened, first_ahead, opened, reads_as, after_return, after_default, after_jump, after_match_bits, jump_fits, match_fits, JumpFits, MatchFits, moved, gone_on, cause_ahead, put_last}
@@ -45,7 +44,7 @@ returns-in_err-put_row-in-Return-clause-cause c =
     let place = goal.at.returns-in_err-put_row-in-Return-clause-cause c in
     by_fault c.from_residual.result c.in_err-put_row-in-Return.field-0.0 _ (err_from_is_err_and c.from_residual.result c.from_residual.ensures.1) (λ whole h.
     cause_ahead _ _ _ _ whole c.in_err-put_row-in-Return.field-0.0 (after_return _ _ _ _ _ _ whole (open_return place.In-Return whole h))
-    (subst (λ (r : Row). HasCause (c.args.self.now.rows.items ++ unless_same r c.args.self.now.part.last) c.in_err-put_row-in-Return.field-0.0) c.row_of.ensures c.in_err-put_row-in-Return.ensures.cause))
+    c.in_err-put_row-in-Return.ensures.cause)
 
 pub returns-in_err-put_row-in-Match-clause-cause : goal.returns-in_err-put_row-in-Match-clause-cause
 returns-in_err-put_row-in-Match-clause-cause c =
@@ -53,19 +52,16 @@ returns-in_err-put_row-in-Match-clause-cause c =
     let left = c.from_residual-in_err-put_row-in-Match in
     by_fault left.result c.in_err-put_row-in-Match.field-0.0 _ (err_from_is_err_and left.result left.ensures.1) (λ whole h.
     cause_ahead _ _ _ _ whole c.in_err-put_row-in-Match.field-0.0 (after_match_bits _ _ _ _ _ _ whole (open_match place.In-Match whole h))
-    (subst (λ (r : Row). HasCause (c.args.self.now.rows.items ++ unless_same r c.args.self.now.part.last) c.in_err-put_row-in-Match.field-0.0) c.row_of-row.ensures c.in_err-put_row-in-Match.ensures.cause))
+    c.in_err-put_row-in-Match.ensures.cause)
 
 jump_here : (c : In-Jump) → JumpFits c.args.self.now.part
 jump_here c = jump_fits _ _ _ _ _ _ _ (open_jump c c.requires.ahead.0 c.requires.ahead.1)
 
-pub one_side-requires-clause-len : goal.one_side-requires-clause-len
-one_side-requires-clause-len c = (jump_here (goal.at.one_side-requires-clause-len c).In-Jump).len
+pub sides-requires-clause-len : goal.sides-requires-clause-len
+sides-requires-clause-len c = (jump_here (goal.at.sides-requires-clause-len c).In-Jump).len
 
-pub one_side-requires-clause-room : goal.one_side-requires-clause-room
-one_side-requires-clause-room c = (jump_here (goal.at.one_side-requires-clause-room c).In-Jump).room
-
-pub zero_side-self-requires : goal.zero_side-self-requires
-zero_side-self-requires c = (jump_here (goal.at.zero_side-self-requires c).In-Jump).len
+pub sides-requires-clause-room : goal.sides-requires-clause-room
+sides-requires-clause-room c = (jump_here (goal.at.sides-requires-clause-room c).In-Jump).room
 
 match_here : (c : In-Match) → MatchFits c.args.self.now.part c.in-Match.number
 match_here c = match_fits _ _ _ _ _ _ _ (open_match c c.requires.ahead.0 c.requires.ahead.1)
@@ -82,23 +78,21 @@ after_match-self-requires-clause-room c = (match_here (goal.at.after_match-self-
 pub returns-in_ok-put_row-in-Return-clause-goes_on : goal.returns-in_ok-put_row-in-Return-clause-goes_on
 returns-in_ok-put_row-in-Return-clause-goes_on c = λ whole h.
     let place = goal.at.returns-in_ok-put_row-in-Return-clause-goes_on c in
-    let rows = c.in_ok-put_row-in-Return.ensures.put ∙ ap (λ (r : Row). c.args.self.now.rows.items ++ unless_same r c.args.self.now.part.last) c.row_of.ensures in
     let next = c.next_part in
-    gone_on _ _ _ _ whole next.new.self next.result next.ensures.more next.ensures.none next.ensures.same.0 (next.ensures.same.1 ∙ rows) (after_return _ _ _ _ _ _ whole (open_return place.In-Return whole h))
+    gone_on _ _ _ _ whole next.new.self next.result next.ensures.more next.ensures.none next.ensures.same.0 (next.ensures.same.1 ∙ c.in_ok-put_row-in-Return.ensures.put) (after_return _ _ _ _ _ _ whole (open_return place.In-Return whole h))
 
 pub returns-in_ok-reserve-in-Jump-clause-goes_on : goal.returns-in_ok-reserve-in-Jump-clause-goes_on
 returns-in_ok-reserve-in-Jump-clause-goes_on c = λ whole h.
     let place = goal.at.returns-in_ok-reserve-in-Jump-clause-goes_on c in
-    let part = c.args.self.now.part in
-    let pending = c.push_reserved.ensures.items ∙ ap (λ (ps : List Part). ps ++ c.one_side.result ∷ []) c.in_ok-reserve-in-Jump.ensures.items in
-    let later = ap (λ (p : Part). p ∷ reverse c.args.self.now.pending.items) (sym c.one_side.ensures) ∙ put_last c.args.self.now.pending.items c.one_side.result ∙ ap reverse (sym pending) in
-    moved _ _ _ _ _ _ _ whole refl ((λ i. sym c.zero_side-self.ensures i ∷ later i)) refl (after_jump _ _ _ _ _ _ whole (open_jump place.In-Jump whole h))
+    let one = c.sides.result.1 in
+    let pending = c.push_reserved.ensures.items ∙ ap (λ (ps : List Part). ps ++ one ∷ []) c.in_ok-reserve-in-Jump.ensures.items in
+    let later = ap (λ (p : Part). p ∷ reverse c.args.self.now.pending.items) (sym c.sides.ensures.one) ∙ put_last c.args.self.now.pending.items one ∙ ap reverse (sym pending) in
+    moved _ _ _ _ _ _ _ whole refl (λ i. sym c.sides.ensures.zero i ∷ later i) refl (after_jump _ _ _ _ _ _ whole (open_jump place.In-Jump whole h))
 
 pub returns-in_ok-put_row-in-Match-clause-goes_on : goal.returns-in_ok-put_row-in-Match-clause-goes_on
 returns-in_ok-put_row-in-Match-clause-goes_on c = λ whole h.
     let place = goal.at.returns-in_ok-put_row-in-Match-clause-goes_on c in
-    let rows = c.in_ok-put_row-in-Match.ensures.put ∙ ap (λ (r : Row). c.args.self.now.rows.items ++ unless_same r c.args.self.now.part.last) c.row_of-row.ensures in
-    moved _ _ _ _ _ _ _ whole refl (ap (λ (p : Part). p ∷ reverse c.args.self.now.pending.items) (sym c.after_match-self.ensures)) (sym rows) (after_match_bits _ _ _ _ _ _ whole (open_match place.In-Match whole h))
+    moved _ _ _ _ _ _ _ whole refl (ap (λ (p : Part). p ∷ reverse c.args.self.now.pending.items) (sym c.after_match-self.ensures)) (sym c.in_ok-put_row-in-Match.ensures.put) (after_match_bits _ _ _ _ _ _ whole (open_match place.In-Match whole h))
 
 pub returns-in-Default-clause-goes_on : goal.returns-in-Default-clause-goes_on
 returns-in-Default-clause-goes_on c = λ whole h.
