@@ -1,0 +1,145 @@
+-- A file is read exactly as it is laid out, and has one meaning.
+use Rattle.std.proofs.Common.{◌≡◌, ◌⊎◌, ℕ, ◌+◌, ◌-◌, ◌<◌, ◌==◌, Bool, true, false, cond, ltb, List, length, take, drop, replicate, All, Option, Some, None, refl, sym, inl, inr, ⊎_elim, arith}
+use Rattle.std.proofs.lemmas.Bool.{cases_lt}
+use Rattle.std.proofs.lemmas.List.{take-append-drop, length-take, get_or-take, get_or_past}
+use Rattle.std.specs.Int.{w16, w32, w64, to_le_bytes, to_be_bytes, from_le_bytes, from_be_bytes}
+use Rattle.wire_num.specs.Format as wire
+use Rattle.wire_num.specs.Format.{value, under}
+use Rattle.wire_num.specs.Fields.{some_bytes, byte, le, be, compact}
+use Rattle.wire_num.specs.Readings.{value_at, under_at, bytes_at, byte_at, le_at, be_at, compact_at}
+use Rattle.wire_num.proofs.ReadingLaws.{AreBytes, AreBytes-rest, Reads, reads_next, Reads-value, Reads-check, Reads-times, Reads-under, one_meaning}
+use Rattle.wire_num.proofs.FieldLaws.{Reads-some_bytes, Reads-byte, Reads-number, le32, le64, be16}
+use Rattle.wire_num.proofs.CompactLaws.{Reads-compact}
+use Rattle.addr_codecs.specs.Layout.{addrv2_address}
+use Rattle.addr_codecs.specs.Readings.{address_at}
+use Rattle.addr_codecs.proofs.AddressLaws.{Reads-address}
+use Rattle.peer_rec.specs.Snapshot.{Snapshot}
+use Rattle.peers_file.specs.Faults.{of_field, of_number, of_address}
+use Rattle.peers_file.specs.declared.chain.Chain.{Chain}
+use Rattle.peers_file.specs.declared.fault.Which.{Which}
+use Rattle.peers_file.specs.declared.fault.FileFault.{FileFault}
+use Rattle.peers_file.specs.declared.fault.FileFault.TheVariants.{Trailing}
+use Rattle.peers_file.specs.Layout.{field, layout_field, success_field, attempts_field, record_of, old_record_of, record_in, count_field, buckets_field, bucket_of, either, sum_in, body, between, whole_fault, IsFile, HasFileFault, HasOneMeaning}
+use Rattle.peers_file.specs.Readings.{field_at, layout_at, success_at, attempts_at, record_at, old_record_at, record_in_at, count_at, buckets_at, bucket_at, sum_in_at, body_at}
+
+field32 : Reads (field (le w32)) (field_at (le_at w32))
+field32 = Reads-under of_field (le w32) (le_at w32) (Reads-number w32 (to_le_bytes w32) (from_le_bytes w32) le32)
+
+field64 : Reads (field (le w64)) (field_at (le_at w64))
+field64 = Reads-under of_field (le w64) (le_at w64) (Reads-number w64 (to_le_bytes w64) (from_le_bytes w64) le64)
+
+field16 : Reads (field (be w16)) (field_at (be_at w16))
+field16 = Reads-under of_field (be w16) (be_at w16) (Reads-number w16 (to_be_bytes w16) (from_be_bytes w16) be16)
+
+field_byte : Reads (field byte) (field_at byte_at)
+field_byte = Reads-under of_field byte byte_at Reads-byte
+
+field_bytes : (n : ℕ) → Reads (field (some_bytes n)) (field_at (bytes_at n))
+field_bytes n = Reads-under of_field (some_bytes n) (bytes_at n) (Reads-some_bytes n)
+
+services_field : (i : ℕ) → Reads (under (of_number i) compact) (under_at (of_number i) compact_at)
+services_field i = Reads-under (of_number i) compact compact_at Reads-compact
+
+address_field : (i : ℕ) → Reads (under (of_address i) addrv2_address) (under_at (of_address i) address_at)
+address_field i = Reads-under (of_address i) addrv2_address address_at Reads-address
+
+Reads-layout : (i high : ℕ) → Reads (layout_field i high) (layout_at i high)
+unfolding layout_field layout_at
+Reads-layout i high = reads_next field32 (λ n. Reads-check _ _ n)
+
+Reads-success : (i : ℕ) → Reads (success_field i) (success_at i)
+unfolding success_field success_at
+Reads-success i = reads_next field64 (λ n. Reads-check _ _ n)
+
+Reads-attempts : (i : ℕ) → Reads (attempts_field i) (attempts_at i)
+unfolding attempts_field attempts_at
+Reads-attempts i = reads_next field32 (λ n. Reads-check _ _ n)
+
+Reads-record : (i : ℕ) → Reads (record_of i) (record_at i)
+unfolding record_of record_at
+Reads-record i =
+    reads_next (Reads-layout i _) (λ _. reads_next field32 (λ time. reads_next (services_field i) (λ services. reads_next (address_field i) (λ peer.
+    reads_next field16 (λ port. reads_next (address_field i) (λ source. reads_next (Reads-success i) (λ success. reads_next (Reads-attempts i) (λ attempts. Reads-value _))))))))
+
+Reads-old_record : (i : ℕ) → Reads (old_record_of i) (old_record_at i)
+unfolding old_record_of old_record_at
+Reads-old_record i =
+    reads_next (Reads-layout i _) (λ _. reads_next field32 (λ time. reads_next field64 (λ services. reads_next (field_bytes 16) (λ peer.
+    reads_next field16 (λ port. reads_next (field_bytes 16) (λ source. reads_next (Reads-success i) (λ success. reads_next (Reads-attempts i) (λ attempts. Reads-value _))))))))
+
+by_format : (old : Bool) (i : ℕ) → Reads (either old (old_record_of i) (record_of i)) (λ bytes. cond old (old_record_at i bytes) (record_at i bytes))
+by_format true i = Reads-old_record i
+by_format false i = Reads-record i
+
+Reads-record_in : (format i : ℕ) → Reads (record_in format i) (record_in_at format i)
+Reads-record_in format i = by_format (ltb format 3) i
+
+Reads-count : (kind : Which) (limit : ℕ) → Reads (count_field kind limit) (count_at kind limit)
+unfolding count_field count_at
+Reads-count kind limit = reads_next field32 (λ n. Reads-check _ _ n)
+
+Reads-buckets : Reads buckets_field buckets_at
+unfolding buckets_field buckets_at
+Reads-buckets = reads_next field32 (λ coded. Reads-check _ _ _)
+
+Reads-bucket : (new_count bucket : ℕ) → Reads (bucket_of new_count bucket) (bucket_at new_count bucket)
+unfolding bucket_of bucket_at
+Reads-bucket new_count bucket = reads_next field32 (λ entries. reads_next (Reads-times 0 _ _ _ (λ _. field32)) (λ indexes. Reads-value _))
+
+by_sum : (none : Bool) → Reads (either none (value (replicate 32 0)) (field (some_bytes 32))) (λ bytes. cond none (value_at (replicate 32 0) bytes) (field_at (bytes_at 32) bytes))
+by_sum true = Reads-value _
+by_sum false = field_bytes 32
+
+Reads-sum : (format : ℕ) → Reads (sum_in format) (sum_in_at format)
+Reads-sum format = by_sum (format == 1)
+
+pub Reads-body : Reads body body_at
+unfolding body body_at
+Reads-body =
+    reads_next field_byte (λ format. reads_next field_byte (λ compat. reads_next (Reads-check _ _ compat) (λ _. reads_next (Reads-check _ _ format) (λ _. reads_next (field_bytes 32) (λ key.
+    reads_next (Reads-count _ _) (λ new_count. reads_next (Reads-count _ _) (λ tried_count. reads_next Reads-buckets (λ buckets.
+    reads_next (Reads-times 0 new_count (record_in format) (record_in_at format) (Reads-record_in format)) (λ new_recs.
+    reads_next (Reads-times new_count tried_count (record_in format) (record_in_at format) (Reads-record_in format)) (λ tried_recs.
+    reads_next (Reads-times 0 buckets (bucket_of new_count) (bucket_at new_count) (Reads-bucket new_count)) (λ listed.
+    reads_next (Reads-sum format) (λ sum. Reads-value _))))))))))))
+
+pub one_meaning_of : (chain : Chain) (bytes : List ℕ) → AreBytes (between bytes) → HasOneMeaning chain bytes
+one_meaning_of chain bytes fits = by (whole_fault chain bytes) refl
+  where
+    inside : wire.HasOneMeaning body Trailing (between bytes)
+    inside = one_meaning body Trailing body_at (between bytes) Reads-body fits
+
+    no_and_some : (f : FileFault) → whole_fault chain bytes ≡ None → whole_fault chain bytes ≡ Some f → ⊥
+    no_and_some f none some = absurd (cc)
+
+    same_of : (f g : FileFault) → whole_fault chain bytes ≡ Some f → whole_fault chain bytes ≡ Some g → f ≡ g
+    same_of f g one two = cc
+
+    by : (o : Option FileFault) → whole_fault chain bytes ≡ o → HasOneMeaning chain bytes
+    by None is = record {
+      some = ⊎_elim (λ h. inl (h.0, (is, h.1))) (λ h. inr (h.0, inr (is, h.1))) inside.some;
+      one_snapshot = λ a b one two. inside.one_value a b one.1 two.1;
+      one_fault = λ f g one two.
+          ⊎_elim (λ early. absurd (no_and_some f is early)) (λ h.
+          ⊎_elim (λ early. absurd (no_and_some g is early)) (λ k. inside.one_fault f g h.1 k.1) two) one;
+      never_both = λ a f file fault. ⊎_elim (no_and_some f is) (λ h. inside.never_both a f file.1 h.1) fault;
+    }
+    by (Some e) is = record {
+      some = inr (e, inl is);
+      one_snapshot = λ a b one two. absurd (no_and_some e one.0 is);
+      one_fault = λ f g one two.
+          ⊎_elim (λ early. ⊎_elim (same_of f g early) (λ k. absurd (no_and_some e k.0 is)) two) (λ h. absurd (no_and_some e h.0 is)) one;
+      never_both = λ a f file fault. no_and_some e file.0 is;
+    }
+
+AreBytes-take : (n : ℕ) (bytes : List ℕ) → AreBytes bytes → AreBytes (take n bytes)
+AreBytes-take n bytes h i =
+    elim (cases_lt i n) [
+      | inl lt ↦ rw (get_or-take n bytes i 0 lt) (h i)
+      | inr le ↦ rw (get_or_past (take n bytes) i 0 (omega (arith, length-take n bytes))) (omega arith)
+    ]
+
+pub AreBytes-between : (bytes : List ℕ) → AreBytes bytes → AreBytes (between bytes)
+AreBytes-between bytes fits =
+    let n = length bytes - 32 in
+    AreBytes-rest (take n bytes) (take 4 (take n bytes)) (drop 4 (take n bytes)) (AreBytes-take n bytes fits) (sym (take-append-drop 4 (take n bytes)))

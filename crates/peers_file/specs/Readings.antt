@@ -1,0 +1,95 @@
+-- What reading a file from the start gives, field by field.
+use Rattle.std.specs.Prelude.{ℕ, ◌/◌, ◌^◌, List, replicate, Result, ◌&&◌, ◌==◌, nat_lt, nat_le, if◌then◌else◌}
+use Rattle.std.specs.List.{flat_map}
+use Rattle.std.specs.Int.{w16, w32, w64, cast_signed}
+use Rattle.std.specs.Int.Bits.{bit_xor}
+use Rattle.net_addr.specs.OldForm.{from_v1}
+use Rattle.wire_num.specs.declared.fault.WireFault.{WireFault}
+use Rattle.wire_num.specs.Readings.{then_at, value_at, check_at, times_at, under_at, bytes_at, byte_at, le_at, be_at, compact_at}
+use Rattle.addr_codecs.specs.Readings.{address_at}
+use Rattle.peer_rec.specs.declared.file_rec.FileRec.{FileRec}
+use Rattle.peer_rec.specs.declared.snapshot.TheConstants.{MAX_NEW, MAX_TRIED, MAX_BUCKETS}
+use Rattle.peer_rec.specs.Snapshot.{Snapshot, snapshot}
+use Rattle.peers_file.specs.Faults.{of_field, of_number, of_address}
+use Rattle.peers_file.specs.Layout.{or_zero, file_rec, entries_of, pairs_with}
+use Rattle.peers_file.specs.declared.fault.Which.{Which}
+use Rattle.peers_file.specs.declared.fault.Which.TheVariants as which
+use Rattle.peers_file.specs.declared.fault.RecordCause.TheVariants as cause
+use Rattle.peers_file.specs.declared.fault.FileFault.{FileFault}
+use Rattle.peers_file.specs.declared.fault.FileFault.TheVariants.{Compat, Version, Count, Record, Buckets, Time, Attempts}
+
+-- what reading some bytes gives: a value and the bytes after it, or the fault
+abbrev pub Read : Type 0 → Type 0
+Read A = List ℕ → Result (A × List ℕ) FileFault
+
+abbrev pub field_at : {A : Type 0} → (List ℕ → Result (A × List ℕ) WireFault) → Read A
+field_at r = under_at of_field r
+
+unfoldable pub layout_at : ℕ → ℕ → Read ℕ
+layout_at i high = then_at (field_at (le_at w32)) (λ n. check_at (n / 2 ^ 19 == high) (Record i cause.Version) n)
+
+unfoldable pub success_at : ℕ → Read ℕ
+success_at i = then_at (field_at (le_at w64)) (λ n. check_at (nat_lt n (2 ^ 32)) (Time i) n)
+
+unfoldable pub attempts_at : ℕ → Read ℕ
+attempts_at i = then_at (field_at (le_at w32)) (λ n. check_at (nat_lt n (2 ^ 31)) (Attempts i) n)
+
+unfoldable pub record_at : ℕ → Read FileRec
+record_at i =
+    then_at (layout_at i (2 ^ 10)) (λ _.
+    then_at (field_at (le_at w32)) (λ time.
+    then_at (under_at (of_number i) compact_at) (λ services.
+    then_at (under_at (of_address i) address_at) (λ peer.
+    then_at (field_at (be_at w16)) (λ port.
+    then_at (under_at (of_address i) address_at) (λ source.
+    then_at (success_at i) (λ success.
+    then_at (attempts_at i) (λ attempts.
+    value_at (file_rec (or_zero peer) port (or_zero source) time services success attempts)))))))))
+
+unfoldable pub old_record_at : ℕ → Read FileRec
+old_record_at i =
+    then_at (layout_at i 0) (λ _.
+    then_at (field_at (le_at w32)) (λ time.
+    then_at (field_at (le_at w64)) (λ services.
+    then_at (field_at (bytes_at 16)) (λ peer.
+    then_at (field_at (be_at w16)) (λ port.
+    then_at (field_at (bytes_at 16)) (λ source.
+    then_at (success_at i) (λ success.
+    then_at (attempts_at i) (λ attempts.
+    value_at (file_rec (from_v1 peer) port (from_v1 source) time services success attempts)))))))))
+
+abbrev pub record_in_at : ℕ → ℕ → Read FileRec
+record_in_at format i bytes = if nat_lt format 3 then old_record_at i bytes else record_at i bytes
+
+unfoldable pub count_at : Which → ℕ → Read ℕ
+count_at kind limit = then_at (field_at (le_at w32)) (λ n. check_at (nat_le n limit) (Count kind (cast_signed w32 n)) n)
+
+unfoldable pub buckets_at : Read ℕ
+buckets_at =
+    then_at (field_at (le_at w32)) (λ coded.
+    check_at (nat_le (bit_xor coded (2 ^ 30)) MAX_BUCKETS) (Buckets (cast_signed w32 (bit_xor coded (2 ^ 30)))) (bit_xor coded (2 ^ 30)))
+
+unfoldable pub bucket_at : ℕ → ℕ → Read (List (ℕ × ℕ))
+bucket_at new_count bucket =
+    then_at (field_at (le_at w32)) (λ entries.
+    then_at (times_at 0 (entries_of entries) (λ _. field_at (le_at w32))) (λ indexes.
+    value_at (pairs_with new_count bucket indexes)))
+
+abbrev pub sum_in_at : ℕ → Read (List ℕ)
+sum_in_at format bytes = if format == 1 then value_at (replicate 32 0) bytes else field_at (bytes_at 32) bytes
+
+unfoldable pub body_at : Read Snapshot
+body_at =
+    then_at (field_at byte_at) (λ format.
+    then_at (field_at byte_at) (λ compat.
+    then_at (check_at (nat_le 32 compat && nat_le compat 36) (Compat compat) compat) (λ _.
+    then_at (check_at (nat_le 1 format && nat_le format 4) (Version format) format) (λ _.
+    then_at (field_at (bytes_at 32)) (λ key.
+    then_at (count_at which.New MAX_NEW) (λ new_count.
+    then_at (count_at which.Tried MAX_TRIED) (λ tried_count.
+    then_at buckets_at (λ buckets.
+    then_at (times_at 0 new_count (record_in_at format)) (λ new_recs.
+    then_at (times_at new_count tried_count (record_in_at format)) (λ tried_recs.
+    then_at (times_at 0 buckets (bucket_at new_count)) (λ listed.
+    then_at (sum_in_at format) (λ sum.
+    value_at (snapshot key new_recs tried_recs buckets (flat_map (λ pairs. pairs) listed) sum)))))))))))))
