@@ -46,7 +46,7 @@ All-flat_map {X} P f (x ∷ xs) each =
     All-append P (f x) (flat_map f xs) (All-head (λ (y : X). All P (f y)) x xs each) (All-flat_map P f xs (All-tail (λ (y : X). All P (f y)) x xs each))
 
 -- pairs within one part, and pairs across two parts, are all pairs
-AllPairs-flat_map : {X Y : Type 0} (R : Y → Y → Type 0) (f : X → List Y) (xs : List X) → All (λ x. AllPairs R (f x)) xs
+pub AllPairs-flat_map : {X Y : Type 0} (R : Y → Y → Type 0) (f : X → List Y) (xs : List X) → All (λ x. AllPairs R (f x)) xs
     → AllPairs (λ x y. All (λ m. All (R m) (f y)) (f x)) xs → AllPairs R (flat_map f xs)
 AllPairs-flat_map R f [] each apart = λ i j d below within. absurd (omega arith)
 AllPairs-flat_map {X} {Y} R f (x ∷ xs) each apart =
@@ -83,7 +83,7 @@ tried_slots places r =
     if is_tried r then (bucket * 64 + tried_slot places r.peer bucket) ∷ [] else []
 
 -- no two records of the list have one number
-numbers_apart : (st : State) → IsSound st → AllPairs (λ (r : Rec) (q : Rec). r.number ≢ q.number) st.records
+pub numbers_apart : (st : State) → IsSound st → AllPairs (λ (r : Rec) (q : Rec). r.number ≢ q.number) st.records
 numbers_apart st sound i j d below within same =
     let rise : (get_or st.records i d).number < (get_or st.records j d).number =
     AllPairs-from_map (λ m n. m < n) (λ (r : Rec). r.number) st.records (AllPairs-from_increasing (map (λ r. r.number) st.records) sound.rising) i j d below within in

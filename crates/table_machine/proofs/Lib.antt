@@ -25,3 +25,13 @@ mod SoundExamples
 mod StepExamples
 mod TriedExamples
 mod PickExamples
+pub mod Rising
+pub mod Part
+pub mod Grown
+pub mod Placed
+pub mod Listed
+pub mod RestartLaw
+pub mod Filling
+pub mod RestoredSound
+pub mod SnapshotFits
+mod RestoreExamples

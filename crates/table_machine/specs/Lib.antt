@@ -4,3 +4,6 @@ pub mod Entries
 pub mod Tried
 pub mod Clashes
 pub mod Picks
+pub mod Snapshot
+pub mod Restoring
+pub mod Restart

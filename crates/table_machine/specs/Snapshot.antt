@@ -1,0 +1,96 @@
+-- What a file of peers holds, and what a save writes of a state (`AddrManImpl::Serialize` in
+-- addrman.cpp of Bitcoin Core).
+use Rattle.std.specs.Prelude.{◌≡◌, ℕ, ◌<◌, ◌≤◌, ◌^◌, not, ◌==◌, List, [], ◌∷◌, map, length, filter, flat_map, All, AllPairs, Option, Some, None}
+use Rattle.std.specs.List.{range_with_len, position_or_len}
+use Rattle.net_addr.specs.Address.{Address, IsAddress}
+use Rattle.net_addr.specs.declared.peer.Peer.{Peer}
+use Rattle.placing.specs.Places.{sum_of}
+use Rattle.peer_rec.specs.Rec.{is_tried}
+use Rattle.peer_rec.specs.declared.rec.Rec.{Rec}
+use Rattle.table_machine.specs.State.{State, new_rec_at}
+
+-- what a file keeps of a record
+pub record FileRec : Type 0 where
+  pub peer : Peer
+  pub source : Address
+  pub time : ℕ
+  pub services : ℕ
+  pub last_success : ℕ
+  pub attempts : ℕ
+
+-- The key, the records of the new and of the tried table, the number of buckets of the new table,
+-- what these list (pairs of a bucket and of the index of a new record), and the checksum of the
+-- asmap.
+pub record Snapshot : Type 0 where
+  pub key : List ℕ
+  pub new_recs : List FileRec
+  pub tried_recs : List FileRec
+  pub bucket_count : ℕ
+  pub listed : List (ℕ × ℕ)
+  pub sum : List ℕ
+
+-- the numbers and addresses are in the ranges of the fields
+pub record IsFileRec (r : FileRec) : Type 0 where
+  pub addr : IsAddress r.peer.addr
+  pub port : r.peer.port < 2 ^ 16
+  pub source : IsAddress r.source
+  pub time : r.time < 2 ^ 32
+  pub services : r.services < 2 ^ 64
+  pub last_success : r.last_success < 2 ^ 32
+  pub attempts : r.attempts ≤ 2147483647
+
+-- what every snapshot meets
+pub record IsSnapshot (snap : Snapshot) : Type 0 where
+  pub key_length : length snap.key ≡ 32
+  pub key_bytes : All (λ b. b < 256) snap.key
+  pub few_new : length snap.new_recs ≤ 65536
+  pub few_tried : length snap.tried_recs ≤ 16384
+  pub new_recs : All IsFileRec snap.new_recs
+  pub tried_recs : All IsFileRec snap.tried_recs
+  pub few_buckets : snap.bucket_count ≤ 65536
+  pub listed : All (λ pair. (pair.0 < snap.bucket_count) × (pair.1 < length snap.new_recs)) snap.listed
+  pub rising : AllPairs (λ pair later. pair.0 ≤ later.0) snap.listed
+
+-- what is kept of the record
+abbrev pub file_rec : Rec → FileRec
+file_rec r = record { peer = r.peer; source = r.source; time = r.time; services = r.services; last_success = r.last_success; attempts = r.attempts }
+
+-- the records of the new table, by rising number
+abbrev pub new_records : State → List Rec
+new_records st = filter (λ r. not (is_tried r)) st.records
+
+-- and those of the tried table
+abbrev pub tried_records : State → List Rec
+tried_records st = filter is_tried st.records
+
+-- the index of a record in a list
+abbrev pub index_in : List Rec → Rec → ℕ
+index_in records r = position_or_len (λ q. q.number == r.number) records
+
+-- the bucket and the index of the record in one of its slots, nothing if the slot is empty
+abbrev pub pair_of : State → ℕ → Option Rec → List (ℕ × ℕ)
+pair_of st bucket None = []
+pair_of st bucket (Some r) = (bucket, index_in (new_records st) r) ∷ []
+
+-- at a slot
+abbrev pub pair_at : State → ℕ → ℕ → List (ℕ × ℕ)
+pair_at st bucket slot = pair_of st bucket (new_rec_at st bucket slot)
+
+-- what the bucket lists, by rising slot
+abbrev pub listed_in : State → ℕ → List (ℕ × ℕ)
+listed_in st bucket = flat_map (pair_at st bucket) (range_with_len 0 64)
+
+-- what all buckets list, by rising bucket
+abbrev pub listed_of : State → List (ℕ × ℕ)
+listed_of st = flat_map (listed_in st) (range_with_len 0 1024)
+
+-- What a save writes: new records by rising number, then tried records by rising number.
+abbrev pub snapshot_of : State → Snapshot
+snapshot_of st = record {
+  key = st.places.key;
+  new_recs = map file_rec (new_records st);
+  tried_recs = map file_rec (tried_records st);
+  bucket_count = 1024;
+  listed = listed_of st;
+  sum = sum_of st.places.map;
+}
