@@ -41,7 +41,7 @@ none b n = false
 abbrev pub all_of : State → List Rec
 all_of st = new_records st ++ tried_records st
 
-range-push : (a n m : ℕ) → m ≡ a + n → range_with_len a n ++ m ∷ [] ≡ range_with_len a (suc n)
+pub range-push : (a n m : ℕ) → m ≡ a + n → range_with_len a n ++ m ∷ [] ≡ range_with_len a (suc n)
 range-push a zero m is = ap (λ k. k ∷ []) (omega (arith, is))
 range-push a (suc n) m is = ap (λ l. a ∷ l) (range-push (a + 1) n m (omega (arith, is)))
 

@@ -22,7 +22,8 @@ use Rattle.table_machine.specs.Entries.{delete}
 use Rattle.table_machine.specs.Sound.{IsSound}
 use Rattle.table_machine.proofs.Lists.{All-from_Contains, AllPairs-map, Contains-cases, Contains-head, Contains-tail, none_in_nil, pairs_append_by}
 use Rattle.table_machine.proofs.Records.{number_found, same_by_peer}
-use Rattle.table_machine.specs.Snapshot.{FileRec, file_rec, listed_of, new_records, snapshot_of, tried_records}
+use Rattle.peer_rec.specs.declared.file_rec.FileRec.{FileRec}
+use Rattle.table_machine.specs.Snapshot.{file_rec, listed_of, new_records, snapshot_of, tried_records}
 use Rattle.table_machine.specs.Restoring.{drop_all, drop_record, duplicate, duplicate_from, is_repeated, place_all, restored, uses_buckets}
 use Rattle.table_machine.specs.Restart.{restart}
 use Rattle.table_machine.proofs.Part.{At, at-Contains, at_from, entry-buckets, part-cases, part-whole}
@@ -63,7 +64,7 @@ some_bucket : (place : Place) → IsPlace place → tried_by place ≡ false →
 some_bucket (New buckets) is untried = is.some
 some_bucket Tried is untried = absurd (true≢false untried)
 
-in_range-below : (n k : ℕ) → Contains (range_with_len 0 n) k → k < n
+pub in_range-below : (n k : ℕ) → Contains (range_with_len 0 n) k → k < n
 in_range-below n k c =
     let long = length-range_with_len 0 n in
     let within = c.1 in

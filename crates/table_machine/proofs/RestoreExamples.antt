@@ -12,7 +12,9 @@ use Rattle.peer_rec.specs.declared.place.Place.{Place}
 use Rattle.peer_rec.specs.declared.place.Place.TheVariants.{New, Tried}
 use Rattle.table_machine.specs.State.{State}
 use Rattle.table_machine.proofs.ExampleStates.{other, peer, rec, state, zeros}
-use Rattle.table_machine.specs.Snapshot.{FileRec, Snapshot, listed_of, snapshot_of}
+use Rattle.peer_rec.specs.declared.file_rec.FileRec.{FileRec}
+use Rattle.peer_rec.specs.Snapshot.{Snapshot}
+use Rattle.table_machine.specs.Snapshot.{listed_of, snapshot_of}
 use Rattle.table_machine.specs.Restoring.{duplicate, restored}
 use Rattle.table_machine.specs.Restart.{restart}
 

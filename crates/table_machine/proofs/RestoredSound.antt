@@ -23,11 +23,21 @@ use Rattle.table_machine.proofs.Buckets.{new_bucket-below}
 use Rattle.table_machine.proofs.Lists.{Contains-cases, Contains-head, Contains-tail, find-None, none_in_nil}
 use Rattle.table_machine.proofs.Records.{new_at_parts, number_found, own_slot, same_record, tried_at-is_tried, tried_at_parts, without_number-cases}
 use Rattle.table_machine.proofs.SoundBut.{is_at_own}
-use Rattle.table_machine.specs.Snapshot.{FileRec, IsFileRec, IsSnapshot, Snapshot}
+use Rattle.peer_rec.specs.declared.file_rec.FileRec.{FileRec}
+use Rattle.peer_rec.specs.Snapshot.{IsFileRec, Snapshot}
 use Rattle.table_machine.specs.Restoring.{appended, drop_all, drop_record, duplicate, duplicate_from, give_if_empty, give_or, is_repeated, place_all, place_pair, place_record, record_of, restored, uses_buckets, with_all_new, with_all_tried, with_new, with_tried}
 use Rattle.table_machine.proofs.Filling.{IsFilling, IsPlaced, fill-delete, fill-give, fill-last, sound_from_filling}
 use Rattle.table_machine.proofs.RestartLaw.{pairs_before}
 use Rattle.table_machine.proofs.Listed.{in_range}
+
+-- what a file meets that is restored: the records are few, their numbers and addresses are in the
+-- ranges of the fields, and the listed buckets are below the count
+pub record IsFile (snap : Snapshot) : Type 0 where
+  pub few_new : length snap.new_recs ≤ 65536
+  pub few_tried : length snap.tried_recs ≤ 16384
+  pub new_recs : All IsFileRec snap.new_recs
+  pub tried_recs : All IsFileRec snap.tried_recs
+  pub buckets : All (λ pair. pair.0 < snap.bucket_count) snap.listed
 
 -- the peer of a valid record is that of none before it
 abbrev pub NotBefore : FileRec → FileRec → Type 0
@@ -249,7 +259,7 @@ empty-filling n places is = record {
   late = λ r c. absurd (none_in_nil r c);
 }
 
-pub restored_sound : (snap : Snapshot) (places : Places) → IsSnapshot snap → IsPlaces places → duplicate snap ≡ None → IsSound (restored snap places)
+pub restored_sound : (snap : Snapshot) (places : Places) → IsFile snap → IsPlaces places → duplicate snap ≡ None → IsSound (restored snap places)
 restored_sound snap places is places_are none =
     let n = length snap.new_recs in
     let few_new = is.few_new in
@@ -265,8 +275,7 @@ restored_sound snap places is places_are none =
     let same = uses_buckets snap places in
     let filled = place-fill n same (appended snap places) snap.listed tried.fill (λ uses p c.
     let count : snap.bucket_count ≡ 1024 = (Decides-eqb snap.bucket_count 1024).0 (and_parts (snap.bucket_count == 1024) (bytes_eq snap.sum (sum_of places.map)) uses).0 in
-    let pair = All-contains (λ (pair : ℕ × ℕ). (pair.0 < snap.bucket_count) × (pair.1 < length snap.new_recs)) snap.listed p is.listed c in
-    let low = pair.0 in
+    let low = All-contains (λ (pair : ℕ × ℕ). pair.0 < snap.bucket_count) snap.listed p is.buckets c in
     omega (arith, count)) in
     drop-sound n (place_all same (appended snap places) snap.listed) (range_with_len 0 n) filled (λ r c.
     ⊎_elim (λ below. inl (in_range n r.number below)) (λ above. inr (filled.late r c above)) (split r.number n))

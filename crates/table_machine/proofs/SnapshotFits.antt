@@ -1,25 +1,27 @@
 -- What a save writes of a sound state meets the conditions of a snapshot and of the file, and the state
 -- after a restart is sound.
-use Rattle.std.proofs.Common.{◌≡◌, ℕ, ◌+◌, ◌*◌, ◌<◌, ◌≤◌, not, List, [], ◌∷◌, length, map, get_or, AllPairs, Contains, flat_map, Option, Some, None, refl, subst, arith, length-append}
+use Rattle.std.proofs.Common.{All, Bool, filter, ◌≡◌, ℕ, ◌+◌, ◌*◌, ◌<◌, ◌≤◌, not, List, [], ◌∷◌, length, map, get_or, AllPairs, Contains, flat_map, Option, Some, None, refl, subst, arith, length-append}
 use Rattle.std.specs.List.{range_with_len}
 use Rattle.std.proofs.lemmas.List.{length-map}
 use Rattle.std.proofs.lemmas.List.Elements.{All-contains, All-filter, All-map, All-weaker, Contains-get_or}
 use Rattle.std.proofs.lemmas.List.FromFn.{length-range_with_len, get_or-range_with_len}
 use Rattle.std.proofs.lemmas.List.Sums.{length-filter}
 use Rattle.peer_rec.specs.Rec.{IsRec, buckets_of, is_tried}
+use Rattle.peer_rec.specs.declared.file_rec.FileRec.{FileRec}
 use Rattle.peer_rec.specs.declared.rec.Rec.{Rec}
 use Rattle.table_machine.specs.State.{State, new_rec_at}
 use Rattle.table_machine.specs.Sound.{IsSound}
 use Rattle.table_machine.proofs.Buckets.{AreBuckets-of}
 use Rattle.table_machine.proofs.Counts.{AllPairs-flat_map, few_new, few_tried}
 use Rattle.table_machine.proofs.Lists.{All-from_Contains, none_in_nil}
-use Rattle.table_machine.specs.Snapshot.{IsFileRec, IsSnapshot, file_rec, listed_in, listed_of, new_records, pair_at, pair_of, snapshot_of, tried_records}
+use Rattle.peer_rec.specs.Snapshot.{IsFileRec, Snapshot}
+use Rattle.table_machine.specs.Snapshot.{file_rec, listed_in, listed_of, new_records, pair_at, pair_of, snapshot_of, tried_records}
 use Rattle.table_machine.specs.Restart.{restart}
 use Rattle.table_machine.proofs.Part.{at-Contains, at-one, at_below, Contains-at}
 use Rattle.table_machine.proofs.Grown.{all_of, all_of-apart, all_of-from}
 use Rattle.table_machine.proofs.Listed.{Contains-from_flat_map, at-append, listed-from, new-there, pair-from}
 use Rattle.table_machine.proofs.RestartLaw.{no_duplicate, restart_law}
-use Rattle.table_machine.proofs.RestoredSound.{restored_sound}
+use Rattle.table_machine.proofs.RestoredSound.{IsFile, restored_sound}
 
 file_rec-fits : (r : Rec) → IsRec r → IsFileRec (file_rec r)
 file_rec-fits r fits = record {
@@ -84,24 +86,48 @@ pairs-rising st sound =
     let second : c ≡ 0 + j = get_or-range_with_len 0 1024 j d (omega arith) in
     omega (arith, first, second, bucket-of st sound b (get_or (listed_in st b) k e) (Contains-get_or (listed_in st b) k e one_in), bucket-of st sound c (get_or (listed_in st c) l f) (Contains-get_or (listed_in st c) l f two_in)))
 
-pub snapshot_fits : (st : State) → IsSound st → IsSnapshot (snapshot_of st)
-snapshot_fits st sound =
+-- what a snapshot is made with
+pub record Fits (snap : Snapshot) : Type 0 where
+  pub few_new : length snap.new_recs ≤ 65536
+  pub few_tried : length snap.tried_recs ≤ 16384
+  pub new_attempts : All (λ r. r.attempts ≤ 2147483647) snap.new_recs
+  pub tried_attempts : All (λ r. r.attempts ≤ 2147483647) snap.tried_recs
+  pub few_buckets : snap.bucket_count ≤ 65536
+  pub buckets : All (λ pair. pair.0 < snap.bucket_count) snap.listed
+  pub indexes : All (λ pair. pair.1 < length snap.new_recs) snap.listed
+  pub rising : AllPairs (λ pair later. pair.0 ≤ later.0) snap.listed
+
+file_recs-fit : (st : State) → IsSound st → (keeps : Rec → Bool) → All IsFileRec (map file_rec (filter keeps st.records))
+file_recs-fit st sound keeps =
+    All-map IsFileRec file_rec (filter keeps st.records)
+    (All-weaker IsRec (λ (r : Rec). IsFileRec (file_rec r)) file_rec-fits (filter keeps st.records) (All-filter keeps IsRec st.records sound.records))
+
+pub snapshot_is_file : (st : State) → IsSound st → IsFile (snapshot_of st)
+snapshot_is_file st sound =
     let new = few_new st sound in
     let tried = few_tried st sound in
     record {
-      key_length = sound.places.key_length;
-      key_bytes = sound.places.key_bytes;
       few_new = omega (arith, length-map (new_records st) file_rec, length-filter (λ (r : Rec). not (is_tried r)) st.records);
       few_tried = omega (arith, length-map (tried_records st) file_rec, length-filter is_tried st.records);
-      new_recs = All-map IsFileRec file_rec (new_records st)
-          (All-weaker IsRec (λ (r : Rec). IsFileRec (file_rec r)) file_rec-fits (new_records st) (All-filter (λ (r : Rec). not (is_tried r)) IsRec st.records sound.records));
-      tried_recs = All-map IsFileRec file_rec (tried_records st)
-          (All-weaker IsRec (λ (r : Rec). IsFileRec (file_rec r)) file_rec-fits (tried_records st) (All-filter is_tried IsRec st.records sound.records));
+      new_recs = file_recs-fit st sound (λ r. not (is_tried r));
+      tried_recs = file_recs-fit st sound is_tried;
+      buckets = All-from_Contains (λ (p : ℕ × ℕ). p.0 < 1024) (listed_of st) (λ p c. (pairs-in st sound p c).0);
+    }
+
+pub snapshot_fits : (st : State) → IsSound st → Fits (snapshot_of st)
+snapshot_fits st sound =
+    let is = snapshot_is_file st sound in
+    record {
+      few_new = is.few_new;
+      few_tried = is.few_tried;
+      new_attempts = All-weaker IsFileRec (λ (r : FileRec). r.attempts ≤ 2147483647) (λ r h. h.attempts) (map file_rec (new_records st)) is.new_recs;
+      tried_attempts = All-weaker IsFileRec (λ (r : FileRec). r.attempts ≤ 2147483647) (λ r h. h.attempts) (map file_rec (tried_records st)) is.tried_recs;
       few_buckets = omega arith;
-      listed = All-from_Contains (λ (p : ℕ × ℕ). (p.0 < 1024) × (p.1 < length (map file_rec (new_records st)))) (listed_of st) (pairs-in st sound);
+      buckets = is.buckets;
+      indexes = All-from_Contains (λ (p : ℕ × ℕ). p.1 < length (map file_rec (new_records st))) (listed_of st) (λ p c. (pairs-in st sound p c).1);
       rising = pairs-rising st sound;
     }
 
 pub restart_sound : (st : State) → IsSound st → IsSound (restart st)
 restart_sound st sound =
-    subst IsSound (restart_law st sound) (restored_sound (snapshot_of st) st.places (snapshot_fits st sound) sound.places (no_duplicate st sound))
+    subst IsSound (restart_law st sound) (restored_sound (snapshot_of st) st.places (snapshot_is_file st sound) sound.places (no_duplicate st sound))

@@ -11,7 +11,8 @@ use Rattle.peer_rec.specs.declared.place.Place.{Place}
 use Rattle.peer_rec.specs.declared.place.Place.TheVariants.{New, Tried}
 use Rattle.table_machine.specs.State.{State, empty_state, by_number, new_rec_at, tried_occupant}
 use Rattle.table_machine.specs.Entries.{delete, give_bucket, with_last}
-use Rattle.table_machine.specs.Snapshot.{FileRec, Snapshot}
+use Rattle.peer_rec.specs.declared.file_rec.FileRec.{FileRec}
+use Rattle.peer_rec.specs.Snapshot.{Snapshot}
 
 -- the record made of a file's record, with a number and a place
 abbrev pub record_of : FileRec → ℕ → Place → Rec

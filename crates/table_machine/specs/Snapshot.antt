@@ -6,50 +6,10 @@ use Rattle.net_addr.specs.Address.{Address, IsAddress}
 use Rattle.net_addr.specs.declared.peer.Peer.{Peer}
 use Rattle.placing.specs.Places.{sum_of}
 use Rattle.peer_rec.specs.Rec.{is_tried}
+use Rattle.peer_rec.specs.declared.file_rec.FileRec.{FileRec}
+use Rattle.peer_rec.specs.Snapshot.{Snapshot}
 use Rattle.peer_rec.specs.declared.rec.Rec.{Rec}
 use Rattle.table_machine.specs.State.{State, new_rec_at}
-
--- what a file keeps of a record
-pub record FileRec : Type 0 where
-  pub peer : Peer
-  pub source : Address
-  pub time : ℕ
-  pub services : ℕ
-  pub last_success : ℕ
-  pub attempts : ℕ
-
--- The key, the records of the new and of the tried table, the number of buckets of the new table,
--- what these list (pairs of a bucket and of the index of a new record), and the checksum of the
--- asmap.
-pub record Snapshot : Type 0 where
-  pub key : List ℕ
-  pub new_recs : List FileRec
-  pub tried_recs : List FileRec
-  pub bucket_count : ℕ
-  pub listed : List (ℕ × ℕ)
-  pub sum : List ℕ
-
--- the numbers and addresses are in the ranges of the fields
-pub record IsFileRec (r : FileRec) : Type 0 where
-  pub addr : IsAddress r.peer.addr
-  pub port : r.peer.port < 2 ^ 16
-  pub source : IsAddress r.source
-  pub time : r.time < 2 ^ 32
-  pub services : r.services < 2 ^ 64
-  pub last_success : r.last_success < 2 ^ 32
-  pub attempts : r.attempts ≤ 2147483647
-
--- what every snapshot meets
-pub record IsSnapshot (snap : Snapshot) : Type 0 where
-  pub key_length : length snap.key ≡ 32
-  pub key_bytes : All (λ b. b < 256) snap.key
-  pub few_new : length snap.new_recs ≤ 65536
-  pub few_tried : length snap.tried_recs ≤ 16384
-  pub new_recs : All IsFileRec snap.new_recs
-  pub tried_recs : All IsFileRec snap.tried_recs
-  pub few_buckets : snap.bucket_count ≤ 65536
-  pub listed : All (λ pair. (pair.0 < snap.bucket_count) × (pair.1 < length snap.new_recs)) snap.listed
-  pub rising : AllPairs (λ pair later. pair.0 ≤ later.0) snap.listed
 
 -- what is kept of the record
 abbrev pub file_rec : Rec → FileRec
