@@ -1,8 +1,12 @@
-ghost use Rattle.std.specs.Prelude.{◌≡◌, ◌<◌, ◌+◌, ◌*◌, All, None, IfOk, vec_len};
+ghost use Rattle.std.specs.Prelude.{◌≡◌, ◌≢◌, ℕ, ◌<◌, ◌+◌, ◌*◌, All, None, IfOk, vec_len, set};
+ghost use Rattle.std.specs.Int.{bit_at};
+ghost use Rattle.slot_grid.specs.Masks.{AreMasks, bit_of};
 
 use crate::Memory;
 use std::alloc::{AllocError, Global};
 use std::marker::Model;
+use std::sync::ledger::Ledger;
+use steps::Steps;
 
 /// The buckets of the new table (`ADDRMAN_NEW_BUCKET_COUNT` in addrman_impl.h of Bitcoin Core).
 const NEW_BUCKETS: usize = 1024;
@@ -16,21 +20,24 @@ const SLOTS: usize = 64;
 #[derive(Drop)]
 pub struct Grid {
     ids: Vec<Option<usize>>,
+    /// For each bucket of both tables, which of its slots are occupied: one bit a slot.
+    masks: Vec<u64>,
 }
 
 impl Model for Grid {
-    ghost use Rattle.std.specs.Prelude.{◌≡◌, length};
     ghost use Rattle.slot_grid.specs.Slots.{Slots};
+    ghost use Rattle.slot_grid.specs.Masks.{AreMasks};
 
     ghost Value = { Slots };
 
     ghost view = { λ g. g.ids.items };
 
-    ghost invariant = { λ g. length g.ids.items ≡ 81920 };
+    ghost invariant = { λ g. AreMasks g.ids.items g.masks.items };
 }
 
 impl Grid {
-    ghost use Rattle.std.specs.Prelude.{◌≡◌, ◌<◌, IfOk};
+    ghost use Rattle.std.specs.Prelude.{◌≡◌, ◌<◌, ◌+◌, IfOk};
+    ghost use Rattle.slot_grid.specs.Masks.{IsMask};
     ghost use Rattle.slot_grid.specs.Slots.{new_id, tried_id, AreEmpty, SameNew, SameTried, SameOtherNew, SameOtherTried};
 
     /// Makes a grid whose slots are all empty.
@@ -38,51 +45,104 @@ impl Grid {
         ensures { IfOk result AreEmpty }
     {
         let ids = empty_slots(alloc, BUCKETS * SLOTS)?;
-        Ok(Grid { ids })
+        let masks = empty_masks(alloc, BUCKETS)?;
+        Ok(Grid { ids, masks })
     }
 
     /// Returns the record in a slot of the new table, or `None` if it is empty. The bucket is below
     /// 1024 and the slot below 64.
-    pub fn new_at(&self, bucket: u16, slot: u8) -> Option<usize>
+    pub fn new_at<L: Ledger>(&self, bucket: u16, slot: u8, steps: &mut Steps<L>) -> Option<usize>
         requires bucket { bucket < 1024 }
         requires slot { slot < 64 }
-        ensures { result ≡ new_id self.now bucket slot }
+        ensures id { result ≡ new_id self.now bucket slot }
+        ensures steps { steps.new ≡ steps.old + 1 }
     {
+        steps.tick();
         self.ids[index_of(usize::from(bucket), slot)]
     }
 
     /// Puts a record into a slot of the new table, or with `None` empties it.
-    pub fn set_new(&mut self, bucket: u16, slot: u8, id: Option<usize>)
+    pub fn set_new<L: Ledger>(
+        &mut self,
+        bucket: u16,
+        slot: u8,
+        id: Option<usize>,
+        steps: &mut Steps<L>,
+    )
         requires bucket { bucket < 1024 }
         requires slot { slot < 64 }
         ensures written { new_id self.new bucket slot ≡ id }
         ensures others { SameOtherNew self.old self.new bucket slot }
         ensures tried { SameTried self.old self.new }
+        ensures steps { steps.new ≡ steps.old + 1 }
     {
-        let index = index_of(usize::from(bucket), slot);
-        self.ids[index] = id;
+        steps.tick();
+        put(
+            &mut self.ids,
+            &mut self.masks,
+            usize::from(bucket),
+            slot,
+            id,
+        );
     }
 
     /// Returns the record in a slot of the tried table, or `None` if it is empty. The bucket is
     /// below 256 and the slot below 64.
-    pub fn tried_at(&self, bucket: u16, slot: u8) -> Option<usize>
+    pub fn tried_at<L: Ledger>(&self, bucket: u16, slot: u8, steps: &mut Steps<L>) -> Option<usize>
         requires bucket { bucket < 256 }
         requires slot { slot < 64 }
-        ensures { result ≡ tried_id self.now bucket slot }
+        ensures id { result ≡ tried_id self.now bucket slot }
+        ensures steps { steps.new ≡ steps.old + 1 }
     {
+        steps.tick();
         self.ids[index_of(NEW_BUCKETS + usize::from(bucket), slot)]
     }
 
     /// Puts a record into a slot of the tried table, or with `None` empties it.
-    pub fn set_tried(&mut self, bucket: u16, slot: u8, id: Option<usize>)
+    pub fn set_tried<L: Ledger>(
+        &mut self,
+        bucket: u16,
+        slot: u8,
+        id: Option<usize>,
+        steps: &mut Steps<L>,
+    )
         requires bucket { bucket < 256 }
         requires slot { slot < 64 }
         ensures written { tried_id self.new bucket slot ≡ id }
         ensures others { SameOtherTried self.old self.new bucket slot }
         ensures new { SameNew self.old self.new }
+        ensures steps { steps.new ≡ steps.old + 1 }
     {
-        let index = index_of(NEW_BUCKETS + usize::from(bucket), slot);
-        self.ids[index] = id;
+        steps.tick();
+        put(
+            &mut self.ids,
+            &mut self.masks,
+            NEW_BUCKETS + usize::from(bucket),
+            slot,
+            id,
+        );
+    }
+
+    /// Returns which slots of a bucket of the new table are occupied: bit `s` is set exactly when
+    /// slot `s` is. The bucket is below 1024.
+    pub fn new_mask<L: Ledger>(&self, bucket: u16, steps: &mut Steps<L>) -> u64
+        requires { bucket < 1024 }
+        ensures mask { IsMask (new_id self.now bucket) result }
+        ensures steps { steps.new ≡ steps.old + 1 }
+    {
+        steps.tick();
+        self.masks[usize::from(bucket)]
+    }
+
+    /// Returns which slots of a bucket of the tried table are occupied: bit `s` is set exactly when
+    /// slot `s` is. The bucket is below 256.
+    pub fn tried_mask<L: Ledger>(&self, bucket: u16, steps: &mut Steps<L>) -> u64
+        requires { bucket < 256 }
+        ensures mask { IsMask (tried_id self.now bucket) result }
+        ensures steps { steps.new ≡ steps.old + 1 }
+    {
+        steps.tick();
+        self.masks[NEW_BUCKETS + usize::from(bucket)]
     }
 }
 
@@ -100,4 +160,44 @@ fn empty_slots(alloc: Global, count: usize) -> Result<Vec<Option<usize>>, AllocE
     ensures empty { IfOk result (λ v. All (λ id. id ≡ None) v.items) }
 {
     vec![in alloc; None; count]
+}
+
+/// Makes `count` masks of empty buckets.
+fn empty_masks(alloc: Global, count: usize) -> Result<Vec<u64>, AllocError>
+    ensures length { IfOk result (λ v. vec_len v ≡ count) }
+    ensures empty { IfOk result (λ v. All (λ mask. mask ≡ 0) v.items) }
+{
+    vec![in alloc; 0u64; count]
+}
+
+/// Puts a record into a slot, or with `None` empties it, and sets its bit or clears it.
+fn put(
+    ids: &mut Vec<Option<usize>>,
+    masks: &mut Vec<u64>,
+    bucket: usize,
+    slot: u8,
+    id: Option<usize>,
+)
+    requires masks { AreMasks ids.old.items masks.old.items }
+    requires bucket { bucket < 1280 }
+    requires slot { slot < 64 }
+    ensures ids { ids.new.items ≡ set ids.old.items (64 * bucket + slot) id }
+    ensures masks { AreMasks ids.new.items masks.new.items }
+{
+    let mask = with_bit(masks[bucket], slot, id.is_some());
+    ids[index_of(bucket, slot)] = id;
+    masks[bucket] = mask;
+}
+
+/// Returns the mask with a bit set or cleared.
+fn with_bit(mask: u64, slot: u8, is_set: bool) -> u64
+    requires { slot < 64 }
+    ensures bit { bit_at result slot ≡ bit_of is_set }
+    ensures others { (i : ℕ) → i < 64 → i ≢ slot → bit_at result i ≡ bit_at mask i }
+{
+    if is_set {
+        mask | 1 << slot
+    } else {
+        mask & !(1 << slot)
+    }
 }
