@@ -1,13 +1,16 @@
 ghost use Rattle.std.specs.Prelude.{◌≡◌};
 
 use crate::Memory;
+use crate::counts::{Counts, network_of, sum};
 use indexmap::IndexMap;
-use net_addr::Peer;
+use net_addr::{NetSet, Peer};
 use peer_rec::Rec;
 use slab::Slab;
 use std::alloc::Global;
 use std::hash::BuildHasher;
 use std::marker::Model;
+use std::sync::ledger::Ledger;
+use steps::Steps;
 
 /// The records of the tables in an order, each with an id that it keeps until it is removed. Only
 /// `add` takes memory, and a peer is found by one look-up under the caller's hasher.
@@ -15,12 +18,13 @@ use std::marker::Model;
 pub struct PeerIndex<H: BuildHasher> {
     recs: Slab<Rec>,
     order: IndexMap<Peer, usize, H>,
+    counts: Counts,
 }
 
 impl<H: BuildHasher> Model for PeerIndex<H> {
     ghost use Rattle.std.specs.Coded.{codes};
     ghost use Rattle.peer_index.specs.Order.{Order};
-    ghost use Rattle.peer_index.specs.Inside.{order_of, IsKept};
+    ghost use Rattle.peer_index.specs.Inside.{order_of, IsIndex};
 
     ghost Value = { Order };
 
@@ -28,12 +32,13 @@ impl<H: BuildHasher> Model for PeerIndex<H> {
 
     ghost view = { λ i. order_of i.recs i.order.entries };
 
-    ghost invariant = { λ i. IsKept i.recs i.order.entries };
+    ghost invariant = { λ i. IsIndex i.recs i.order.entries i.counts };
 }
 
 impl<H: BuildHasher> PeerIndex<H> {
     ghost use Rattle.std.specs.Prelude.{◌≡◌, ◌+◌, ◌<◌, ◌^◌, length, [], None, Some, IsSome, IfSome, IsSomeAnd, IfOk, OnOk, OnErr, swap, slice_get};
     ghost use Rattle.std.specs.Option.{ForSome};
+    ghost use Rattle.peer_index.specs.Counts.{count_new, count_tried};
     ghost use Rattle.peer_index.specs.Order.{IsOrder, SameRecs, SameOthers, SameIds, SameOtherIds, id_of, rec_of, ids, records, with_last, with_rec, without};
 
     /// Makes an index with no records.
@@ -43,6 +48,7 @@ impl<H: BuildHasher> PeerIndex<H> {
         PeerIndex {
             recs: Slab::new(alloc),
             order: IndexMap::with_hasher(alloc, hasher),
+            counts: Counts::none(),
         }
     }
 
@@ -55,29 +61,45 @@ impl<H: BuildHasher> PeerIndex<H> {
         self.order.len()
     }
 
+    /// Returns how many records of the new and of the tried table are of networks of a set. A record
+    /// whose address is not routable counts for `Net::Unroutable`. No record is read.
+    pub fn wanted(&self, nets: NetSet) -> (usize, usize)
+        ensures new { result.0 ≡ count_new nets (records self.now) }
+        ensures tried { result.1 ≡ count_tried nets (records self.now) }
+    {
+        (
+            sum(&self.counts.in_new, nets),
+            sum(&self.counts.in_tried, nets),
+        )
+    }
+
     /// Returns the id of the record of `peer`, or `None` if there is none.
     #[tactic(auto, using(crate::proofs::Kept::is_order))]
-    pub fn find(&self, peer: &Peer) -> Option<usize>
+    pub fn find<L: Ledger>(&self, peer: &Peer, steps: &mut Steps<L>) -> Option<usize>
         ensures found { result ≡ id_of self.now peer.now }
         ensures live { IfSome result (λ id. IsSomeAnd (rec_of self.now id) (λ r. r.peer ≡ peer.now)) }
         ensures order { IsOrder self.now }
+        ensures steps { steps.new ≡ steps.old + 1 }
     {
+        steps.tick();
         self.order.get(peer).copied()
     }
 
     /// Returns the record with an id.
     #[tactic(auto, using(crate::proofs::Kept::known_by_peer, crate::proofs::Kept::rec_of_value, crate::proofs::Kept::is_order, crate::proofs::Kept::has_key))]
-    pub fn get(&self, id: usize) -> &Rec
+    pub fn get<L: Ledger>(&self, id: usize, steps: &mut Steps<L>) -> &Rec
         requires { IsSome (rec_of self.now id) }
         ensures found { rec_of self.now id ≡ Some result.now }
         ensures known { id_of self.now result.now.peer ≡ Some id }
         ensures order { IsOrder self.now }
+        ensures steps { steps.new ≡ steps.old + 1 }
     {
+        steps.tick();
         &self.recs[id]
     }
 
     /// Replaces the record under an id by another of the same peer.
-    pub fn set(&mut self, id: usize, rec: Rec)
+    pub fn set<L: Ledger>(&mut self, id: usize, rec: Rec, steps: &mut Steps<L>)
         requires live { IsSome (rec_of self.old id) }
         requires peer { ForSome (rec_of self.old id) (λ r. r.peer ≡ rec.peer) }
         ensures set { self.new ≡ with_rec self.old id rec }
@@ -85,12 +107,18 @@ impl<H: BuildHasher> PeerIndex<H> {
         ensures others { SameOthers self.old self.new id }
         ensures same_ids { SameIds self.old self.new }
         ensures order { IsOrder self.new }
+        ensures steps { steps.new ≡ steps.old + 1 }
     {
+        steps.tick();
+        let net = network_of(&rec);
+        let was_tried = self.recs[id].place.is_tried();
+        self.counts.lower(net, was_tried);
+        self.counts.raise(net, rec.place.is_tried());
         self.recs[id] = rec;
     }
 
     /// Appends the record of a new peer and returns its id. If memory runs out, nothing changes.
-    pub fn add(&mut self, rec: Rec) -> Result<usize, Memory>
+    pub fn add<L: Ledger>(&mut self, rec: Rec, steps: &mut Steps<L>) -> Result<usize, Memory>
         requires few { length self.old < 2 ^ 31 }
         requires absent { id_of self.old rec.peer ≡ None }
         ensures added { IfOk result (λ id. self.new ≡ with_last self.old id rec) }
@@ -101,11 +129,18 @@ impl<H: BuildHasher> PeerIndex<H> {
         ensures other_ids { OnOk result (SameOtherIds self.old self.new rec.peer) }
         ensures order { IsOrder self.new }
         ensures err { OnErr result (self.new ≡ self.old) }
+        ensures steps { steps.new ≡ steps.old + 1 }
     {
+        steps.tick();
         let peer = rec.peer;
+        let net = network_of(&rec);
+        let in_tried = rec.place.is_tried();
         let id = self.recs.insert(rec)?;
         match self.order.insert(peer, id) {
-            Ok(_) => Ok(id),
+            Ok(_) => {
+                self.counts.raise(net, in_tried);
+                Ok(id)
+            }
             Err(_) => {
                 let _ = self.recs.remove(id);
                 Err(Memory)
@@ -114,7 +149,7 @@ impl<H: BuildHasher> PeerIndex<H> {
     }
 
     /// Removes the record of `peer`. The last one of the order moves to its position.
-    pub fn remove(&mut self, peer: &Peer)
+    pub fn remove<L: Ledger>(&mut self, peer: &Peer, steps: &mut Steps<L>)
         requires { IsSome (id_of self.old peer.now) }
         ensures removed { self.new ≡ without self.old peer.now }
         ensures shorter { length self.new + 1 ≡ length self.old }
@@ -123,31 +158,38 @@ impl<H: BuildHasher> PeerIndex<H> {
         ensures absent { id_of self.new peer.now ≡ None }
         ensures other_ids { SameOtherIds self.old self.new peer.now }
         ensures order { IsOrder self.new }
+        ensures steps { steps.new ≡ steps.old + 1 }
     {
+        steps.tick();
         let gone = self.order.swap_remove(peer).unwrap();
-        self.recs.remove(gone);
+        let rec = self.recs.remove(gone);
+        self.counts.lower(network_of(&rec), rec.place.is_tried());
     }
 
     /// Returns the id of the record at a position in the order.
     #[tactic(auto, using(crate::proofs::Kept::is_order))]
-    pub fn at(&self, position: usize) -> usize
+    pub fn at<L: Ledger>(&self, position: usize, steps: &mut Steps<L>) -> usize
         requires { position < length self.now }
         ensures found { slice_get (ids self.now) position ≡ Some result }
         ensures rec { rec_of self.now result ≡ slice_get (records self.now) position }
         ensures order { IsOrder self.now }
+        ensures steps { steps.new ≡ steps.old + 1 }
     {
+        steps.tick();
         self.order[position]
     }
 
     /// Exchanges two positions in the order.
-    pub fn swap(&mut self, i: usize, j: usize)
+    pub fn swap<L: Ledger>(&mut self, i: usize, j: usize, steps: &mut Steps<L>)
         requires i { i < length self.old }
         requires j { j < length self.old }
         ensures swapped { self.new ≡ swap self.old i j }
         ensures same_recs { SameRecs self.old self.new }
         ensures same_ids { SameIds self.old self.new }
         ensures order { IsOrder self.new }
+        ensures steps { steps.new ≡ steps.old + 1 }
     {
+        steps.tick();
         self.order.swap_indices(i, j);
     }
 }
