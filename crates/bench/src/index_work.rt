@@ -7,6 +7,9 @@ use peer_index::PeerIndex;
 use peer_rec::{Buckets, Place, Rec};
 use std::alloc::Global;
 use std::hash::{BuildHasherDefault, FoldHasher};
+use std::marker::Brand;
+use std::sync::ledger::{Blank, Ledger};
+use steps::Steps;
 
 /// An index under std's own hasher.
 pub(crate) type Index = PeerIndex<BuildHasherDefault<FoldHasher>>;
@@ -44,11 +47,12 @@ pub(crate) struct IndexWork {
 impl IndexWork {
     /// Does the work, and gives a sum of what was found.
     pub fn run(self, alloc: Global) -> Result<u64, Refusal> {
+        let mut steps = Steps::<Brand>::none(Blank::new(1));
         match self.kind {
-            Kind::Adds => self.fill_often(alloc),
-            Kind::Finds => self.find_often(alloc),
-            Kind::Removes => self.remove_often(alloc),
-            Kind::Turns => self.turn_often(alloc),
+            Kind::Adds => self.fill_often(alloc, &mut steps),
+            Kind::Finds => self.find_often(alloc, &mut steps),
+            Kind::Removes => self.remove_often(alloc, &mut steps),
+            Kind::Turns => self.turn_often(alloc, &mut steps),
         }
     }
 
@@ -58,19 +62,19 @@ impl IndexWork {
     }
 
     // The sum of the sizes of as many indexes as are made and filled.
-    fn fill_often(self, alloc: Global) -> Result<u64, Refusal> {
+    fn fill_often<L: Ledger>(self, alloc: Global, steps: &mut Steps<L>) -> Result<u64, Refusal> {
         let mut sum: u64 = 0;
         for _ in 0..self.times {
-            sum = sum.wrapping_add(filled(alloc, self.records)?.len() as u64);
+            sum = sum.wrapping_add(filled(alloc, self.records, steps)?.len() as u64);
         }
         Ok(sum)
     }
 
     // The sum of the ids of some records.
-    fn find_some(self, index: &Index) -> u64 {
+    fn find_some<L: Ledger>(self, index: &Index, steps: &mut Steps<L>) -> u64 {
         let mut sum: u64 = 0;
         for turn in 0..self.some {
-            if let Some(id) = index.find(&self.peer(turn)) {
+            if let Some(id) = index.find(&self.peer(turn), steps) {
                 sum = sum.wrapping_add(id as u64);
             }
         }
@@ -78,44 +82,44 @@ impl IndexWork {
     }
 
     // That sum, this many times.
-    fn find_often(self, alloc: Global) -> Result<u64, Refusal> {
-        let index = filled(alloc, self.records)?;
+    fn find_often<L: Ledger>(self, alloc: Global, steps: &mut Steps<L>) -> Result<u64, Refusal> {
+        let index = filled(alloc, self.records, steps)?;
         let mut sum: u64 = 0;
         for _ in 0..self.times {
-            sum = sum.wrapping_add(self.find_some(&index));
+            sum = sum.wrapping_add(self.find_some(&index, steps));
         }
         Ok(sum)
     }
 
     // Removes some records.
-    fn remove_some(self, index: &mut Index) {
+    fn remove_some<L: Ledger>(self, index: &mut Index, steps: &mut Steps<L>) {
         for turn in 0..self.some {
             let peer = self.peer(turn);
-            if index.find(&peer).is_some() {
-                index.remove(&peer);
+            if index.find(&peer, steps).is_some() {
+                index.remove(&peer, steps);
             }
         }
     }
 
     /// Fills an index and removes some of its records, `times` times. Returns the sum of the
     /// records that are left.
-    fn remove_often(self, alloc: Global) -> Result<u64, Refusal> {
+    fn remove_often<L: Ledger>(self, alloc: Global, steps: &mut Steps<L>) -> Result<u64, Refusal> {
         let mut sum: u64 = 0;
         for _ in 0..self.times {
-            let mut index = filled(alloc, self.records)?;
-            self.remove_some(&mut index);
+            let mut index = filled(alloc, self.records, steps)?;
+            self.remove_some(&mut index, steps);
             sum = sum.wrapping_add(index.len() as u64);
         }
         Ok(sum)
     }
 
     /// Removes some records and adds them again, `times` times. Returns the size of the index.
-    fn turn_often(self, alloc: Global) -> Result<u64, Refusal> {
-        let mut index = filled(alloc, self.records)?;
+    fn turn_often<L: Ledger>(self, alloc: Global, steps: &mut Steps<L>) -> Result<u64, Refusal> {
+        let mut index = filled(alloc, self.records, steps)?;
         for _ in 0..self.times {
-            self.remove_some(&mut index);
+            self.remove_some(&mut index, steps);
             for turn in 0..self.some {
-                add(&mut index, number_at(turn, self.records))?;
+                add(&mut index, number_at(turn, self.records), steps)?;
             }
         }
         Ok(index.len() as u64)
@@ -151,22 +155,26 @@ fn record(number: u64, peer: Peer) -> Rec
 }
 
 /// Adds a record to the index, by its number. Its peer has to be new.
-fn add(index: &mut Index, number: u64) -> Result<(), Refusal> {
+fn add<L: Ledger>(index: &mut Index, number: u64, steps: &mut Steps<L>) -> Result<(), Refusal> {
     let peer = peer_of(number);
-    if index.len() >= MOST_RECORDS || index.find(&peer).is_some() {
+    if index.len() >= MOST_RECORDS || index.find(&peer, steps).is_some() {
         return Err(Refusal::NotAdded);
     }
-    match index.add(record(number, peer)) {
+    match index.add(record(number, peer), steps) {
         Ok(_) => Ok(()),
         Err(_) => Err(Refusal::NoMemory),
     }
 }
 
 /// An index of this many records.
-pub(crate) fn filled(alloc: Global, records: u32) -> Result<Index, Refusal> {
+pub(crate) fn filled<L: Ledger>(
+    alloc: Global,
+    records: u32,
+    steps: &mut Steps<L>,
+) -> Result<Index, Refusal> {
     let mut index = PeerIndex::make(alloc, BuildHasherDefault::new());
     for number in 0..records {
-        add(&mut index, u64::from(number))?;
+        add(&mut index, u64::from(number), steps)?;
     }
     Ok(index)
 }

@@ -1,11 +1,16 @@
+ghost use Rattle.std.specs.Prelude.{◌≡◌, slice_get};
+ghost use Rattle.peer_rec.specs.Rec.{buckets_of};
+
 use crate::Store;
 use crate::marks::after_success;
 use net_addr::Peer;
 use peer_rec::{Buckets, Good, Place, Rec};
 use std::hash::BuildHasher;
+use std::sync::ledger::Ledger;
+use steps::Steps;
 
 impl<'a, H: BuildHasher> Store<'a, H> {
-    ghost use Rattle.std.specs.Prelude.{◌≡◌, ◌∷◌, ◌<◌, [], None, Some, IsSome, IsSomeAnd, slice_get};
+    ghost use Rattle.std.specs.Prelude.{◌≡◌, ◌∷◌, ◌<◌, [], None, Some, IsSome, IsSomeAnd, slice_get, ◌+◌, ◌≤◌};
     ghost use Rattle.placing.specs.Places.{new_slot};
     ghost use Rattle.peer_rec.specs.Rec.{buckets_of};
     ghost use Rattle.peer_rec.specs.declared.rec.Rec.{Rec};
@@ -22,7 +27,13 @@ impl<'a, H: BuildHasher> Store<'a, H> {
     /// Records that a peer was reached, at a time in seconds since 1970. With `testing`, an
     /// occupant of its tried slot is to be tested before it has to leave (`AddrManImpl::Good_` in
     /// addrman.cpp of Bitcoin Core).
-    pub(crate) fn good(&mut self, peer: &Peer, testing: bool, now: u32) -> Good
+    pub(crate) fn good<L: Ledger>(
+        &mut self,
+        peer: &Peer,
+        testing: bool,
+        now: u32,
+        steps: &mut Steps<L>,
+    ) -> Good
         requires stored { IsStore self.old }
         requires sound { IsSound (state_of self.old) }
         requires waiters { AreWaiters (state_of self.old) self.old.waiters.items }
@@ -31,16 +42,23 @@ impl<'a, H: BuildHasher> Store<'a, H> {
             ≡ good (state_of self.old) now peer.now testing }
         ensures waiters { AreWaiters (state_of self.new) self.new.waiters.items }
         ensures placer { self.new.placer ≡ self.old.placer }
+        ensures steps { steps.new ≤ steps.old + 37 }
     {
         self.last_good = now;
-        match self.index.find(peer) {
-            Some(id) => self.good_known(id, testing, now),
+        match self.index.find(peer, steps) {
+            Some(id) => self.good_known(id, testing, now, steps),
             None => Good::Unknown,
         }
     }
 
     /// Does the same for a peer that has a record.
-    fn good_known(&mut self, id: usize, testing: bool, now: u32) -> Good
+    fn good_known<L: Ledger>(
+        &mut self,
+        id: usize,
+        testing: bool,
+        now: u32,
+        steps: &mut Steps<L>,
+    ) -> Good
         requires stored { IsStore self.old }
         requires sound { IsSound (state_of self.old) }
         requires waiters { AreWaiters (state_of self.old) self.old.waiters.items }
@@ -50,26 +68,27 @@ impl<'a, H: BuildHasher> Store<'a, H> {
             → good_outcome result (state_of self.new) ≡ good_by (Some r) (state_of self.old) now testing }
         ensures waiters { AreWaiters (state_of self.new) self.new.waiters.items }
         ensures placer { self.new.placer ≡ self.old.placer }
+        ensures steps { steps.new ≤ steps.old + 36 }
     {
-        let rec = after_success(self.index.get(id), now);
+        let rec = after_success(self.index.get(id, steps), now);
         let peer = rec.peer;
         let is_tried = rec.place.is_tried();
-        self.change(id, rec);
+        self.change(id, rec, steps);
         if is_tried {
             return Good::Already;
         }
         let bucket = self.placer.tried_bucket(&peer);
         let slot = self.placer.tried_slot(&peer, bucket);
-        if testing && self.grid.tried_at(bucket, slot).is_some() {
-            self.wait(id);
+        if testing && self.grid.tried_at(bucket, slot, steps).is_some() {
+            self.wait(id, steps);
             return Good::Clash;
         }
-        self.move_to_tried(id, bucket, slot);
+        self.move_to_tried(id, bucket, slot, steps);
         Good::Moved
     }
 
     /// Moves a record of the new table to its slot of the tried table (`AddrManImpl::MakeTried`).
-    fn move_to_tried(&mut self, id: usize, bucket: u16, slot: u8)
+    fn move_to_tried<L: Ledger>(&mut self, id: usize, bucket: u16, slot: u8, steps: &mut Steps<L>)
         requires stored { IsStore self.old }
         requires movable { IsSomeAnd (rec_of self.old.index id) IsMovable }
         requires own { IsSomeAnd (rec_of self.old.index id)
@@ -80,14 +99,15 @@ impl<'a, H: BuildHasher> Store<'a, H> {
         ensures state { (r : Rec) → rec_of self.old.index id ≡ Some r
             → state_of self.new ≡ move_to_tried (state_of self.old) r }
         ensures rest { SameRest self.old self.new }
+        ensures steps { steps.new ≤ steps.old + 33 }
     {
-        self.leave_buckets(id);
-        self.displace(bucket, slot);
-        self.take_tried(id, bucket, slot);
+        self.leave_buckets(id, steps);
+        self.displace(bucket, slot, steps);
+        self.take_tried(id, bucket, slot, steps);
     }
 
     /// Takes a record out of all its buckets of the new table.
-    fn leave_buckets(&mut self, id: usize)
+    fn leave_buckets<L: Ledger>(&mut self, id: usize, steps: &mut Steps<L>)
         requires stored { IsStore self.old }
         requires movable { IsSomeAnd (rec_of self.old.index id) IsMovable }
         ensures stored { IsStore self.new }
@@ -96,28 +116,19 @@ impl<'a, H: BuildHasher> Store<'a, H> {
         ensures left { (r : Rec) → rec_of self.old.index id ≡ Some r
             → rec_of self.new.index id ≡ Some (record r { place = New [] }) }
         ensures rest { SameRest self.old self.new }
+        ensures steps { steps.new ≤ steps.old + 17 }
     {
-        let peer = self.index.get(id).peer;
-        while let Some(bucket) = self.first_bucket(id) {
-            let slot = self.placer.new_slot(&peer, bucket);
-            self.leave_slot(id, bucket, slot);
-        }
-    }
-
-    /// Returns the first bucket of the new table that lists a record, or `None` if none does.
-    fn first_bucket(&self, id: usize) -> Option<u16>
-        requires live { IsSome (rec_of self.now.index id) }
-        ensures { (r : Rec) → rec_of self.now.index id ≡ Some r
-            → result ≡ slice_get (buckets_of r) 0 }
-    {
-        match &self.index.get(id).place {
-            Place::New(buckets) => buckets.items().first().copied(),
-            Place::Tried => None,
+        let mut left = self.index.get(id, steps).copy();
+        let _ = left.place.bucket_count();
+        while let Some(bucket) = first_bucket(&left) {
+            let slot = self.placer.new_slot(&left.peer, bucket);
+            self.leave_as(id, &left, bucket, slot, steps);
+            left = left.without_bucket(bucket);
         }
     }
 
     /// Empties a slot of the tried table. Its occupant goes back to the new table.
-    fn displace(&mut self, bucket: u16, slot: u8)
+    fn displace<L: Ledger>(&mut self, bucket: u16, slot: u8, steps: &mut Steps<L>)
         requires stored { IsStore self.old }
         requires bucket { bucket < 256 }
         requires slot { slot < 64 }
@@ -127,15 +138,22 @@ impl<'a, H: BuildHasher> Store<'a, H> {
         ensures empty { tried_id self.new.grid bucket slot ≡ None }
         ensures bare { SameBare self.old.index self.new.index }
         ensures rest { SameRest self.old self.new }
+        ensures steps { steps.new ≤ steps.old + 13 }
     {
-        if let Some(occupant) = self.grid.tried_at(bucket, slot) {
-            self.back_to_new(occupant, bucket, slot);
+        if let Some(occupant) = self.grid.tried_at(bucket, slot, steps) {
+            self.back_to_new(occupant, bucket, slot, steps);
         }
     }
 
     /// Moves the occupant of a slot of the tried table back to the new table, to the bucket of its
     /// own source.
-    fn back_to_new(&mut self, id: usize, tried_bucket: u16, tried_slot: u8)
+    fn back_to_new<L: Ledger>(
+        &mut self,
+        id: usize,
+        tried_bucket: u16,
+        tried_slot: u8,
+        steps: &mut Steps<L>,
+    )
         requires stored { IsStore self.old }
         requires tried_bucket { tried_bucket < 256 }
         requires tried_slot { tried_slot < 64 }
@@ -146,17 +164,18 @@ impl<'a, H: BuildHasher> Store<'a, H> {
         ensures empty { tried_id self.new.grid tried_bucket tried_slot ≡ None }
         ensures bare { SameBare self.old.index self.new.index }
         ensures rest { SameRest self.old self.new }
+        ensures steps { steps.new ≤ steps.old + 12 }
     {
-        let rec = self.index.get(id);
+        let rec = self.index.get(id, steps);
         let (peer, source) = (rec.peer, rec.source);
         let bucket = self.placer.new_bucket(&peer, &source);
         let slot = self.placer.new_slot(&peer, bucket);
-        self.clear_new(bucket, slot);
-        self.leave_tried(id, tried_bucket, tried_slot, bucket, slot);
+        self.clear_new(bucket, slot, steps);
+        self.leave_tried(id, tried_bucket, tried_slot, bucket, slot, steps);
     }
 
     /// Empties a slot of the new table if it has an occupant (`AddrManImpl::ClearNew`).
-    fn clear_new(&mut self, bucket: u16, slot: u8)
+    fn clear_new<L: Ledger>(&mut self, bucket: u16, slot: u8, steps: &mut Steps<L>)
         requires stored { IsStore self.old }
         requires bucket { bucket < 1024 }
         requires slot { slot < 64 }
@@ -166,15 +185,24 @@ impl<'a, H: BuildHasher> Store<'a, H> {
         ensures empty { new_id self.new.grid bucket slot ≡ None }
         ensures unlisted { SameUnlisted self.old.index self.new.index }
         ensures rest { SameRest self.old self.new }
+        ensures steps { steps.new ≤ steps.old + 7 }
     {
-        if let Some(occupant) = self.grid.new_at(bucket, slot) {
-            self.clear_slot(occupant, bucket, slot);
+        if let Some(occupant) = self.grid.new_at(bucket, slot, steps) {
+            self.clear_slot(occupant, bucket, slot, steps);
         }
     }
 
     /// Moves the record of a slot of the tried table to an empty slot of the new one, which is its
     /// peer's there.
-    fn leave_tried(&mut self, id: usize, tried_bucket: u16, tried_slot: u8, bucket: u16, slot: u8)
+    fn leave_tried<L: Ledger>(
+        &mut self,
+        id: usize,
+        tried_bucket: u16,
+        tried_slot: u8,
+        bucket: u16,
+        slot: u8,
+        steps: &mut Steps<L>,
+    )
         requires stored { IsStore self.old }
         requires tried_bucket { tried_bucket < 256 }
         requires tried_slot { tried_slot < 64 }
@@ -191,19 +219,20 @@ impl<'a, H: BuildHasher> Store<'a, H> {
         ensures others { SameOthers self.old.index self.new.index id }
         ensures empty { tried_id self.new.grid tried_bucket tried_slot ≡ None }
         ensures rest { SameRest self.old self.new }
+        ensures steps { steps.new ≤ steps.old + 4 }
     {
         let rec = Rec {
             place: Place::New(Buckets::one(bucket)),
-            ..self.index.get(id).copy()
+            ..self.index.get(id, steps).copy()
         };
-        self.index.set(id, rec);
-        self.grid.set_tried(tried_bucket, tried_slot, None);
-        self.grid.set_new(bucket, slot, Some(id));
+        self.index.set(id, rec, steps);
+        self.grid.set_tried(tried_bucket, tried_slot, None, steps);
+        self.grid.set_new(bucket, slot, Some(id), steps);
     }
 
     /// Puts a record that is in no bucket into an empty slot of the tried table, which is its
     /// peer's.
-    fn take_tried(&mut self, id: usize, bucket: u16, slot: u8)
+    fn take_tried<L: Ledger>(&mut self, id: usize, bucket: u16, slot: u8, steps: &mut Steps<L>)
         requires stored { IsStore self.old }
         requires bucket { bucket < 256 }
         requires slot { slot < 64 }
@@ -213,12 +242,23 @@ impl<'a, H: BuildHasher> Store<'a, H> {
         ensures state { (r : Rec) → rec_of self.old.index id ≡ Some r
             → state_of self.new ≡ with_record (state_of self.old) (record r { place = Tried }) }
         ensures rest { SameRest self.old self.new }
+        ensures steps { steps.new ≤ steps.old + 3 }
     {
         let rec = Rec {
             place: Place::Tried,
-            ..self.index.get(id).copy()
+            ..self.index.get(id, steps).copy()
         };
-        self.index.set(id, rec);
-        self.grid.set_tried(bucket, slot, Some(id));
+        self.index.set(id, rec, steps);
+        self.grid.set_tried(bucket, slot, Some(id), steps);
+    }
+}
+
+/// Returns the first bucket of the new table that lists a record, or `None` if none does.
+fn first_bucket(rec: &Rec) -> Option<u16>
+    ensures { result ≡ slice_get (buckets_of rec.now) 0 }
+{
+    match &rec.place {
+        Place::New(buckets) => buckets.items().first().copied(),
+        Place::Tried => None,
     }
 }

@@ -3,7 +3,7 @@ use crate::marks::{after_try, still_connected, with_services};
 use crate::reach::Reach;
 use crate::{Memory, Store};
 use arrayvec::ArrayVec;
-use net_addr::{Entry, Net, NetAddr, Peer};
+use net_addr::{Entry, NetAddr, NetSet, Peer};
 use peer_index::PeerIndex;
 use peer_rec::{Counts, Good, Rec, Recs};
 use placing::Placer;
@@ -11,6 +11,8 @@ use slot_grid::Grid;
 use std::alloc::Global;
 use std::hash::BuildHasher;
 use std::marker::Model;
+use std::sync::ledger::Ledger;
+use steps::Steps;
 
 /// The tables of addresses of a node: the records of peers, the slots that they are in, and the
 /// order that samples are drawn from (`AddrManImpl` in addrman_impl.h of Bitcoin Core). It has no
@@ -38,7 +40,7 @@ impl<'a, H: BuildHasher> Model for Tables<'a, H> {
 }
 
 impl<'a, H: BuildHasher + Drop> Tables<'a, H> {
-    ghost use Rattle.std.specs.Prelude.{◌≡◌, IfOk};
+    ghost use Rattle.std.specs.Prelude.{◌≡◌, IfOk, ◌+◌, ◌≤◌};
     ghost use Rattle.table_machine.specs.State.{empty_state};
     ghost use Rattle.table_machine.specs.Sound.{IsSound};
 
@@ -67,9 +69,10 @@ impl<'a, H: BuildHasher + Drop> Tables<'a, H> {
 }
 
 impl<'a, H: BuildHasher> Tables<'a, H> {
-    ghost use Rattle.std.specs.Prelude.{◌≡◌, ◌+◌, ◌<◌, ◌^◌, length, None, Some, IfOk, OnOk, OnErr, option_map, slice_get, ◌≤◌, map, count_by, sum_by, nat_lt, not, Contains, IsPermutation};
+    ghost use Rattle.std.specs.Prelude.{◌≡◌, ◌+◌, ◌<◌, ◌^◌, length, None, Some, IfOk, OnOk, OnErr, option_map, slice_get, ◌≤◌, map, count_by, sum_by, not, Contains, IsPermutation};
     ghost use Rattle.peer_rec.specs.Rec.{buckets_of, is_tried};
     ghost use Rattle.peer_index.specs.Order.{Order, IsOrder, records};
+    ghost use Rattle.slot_grid.specs.Masks.{IsMask};
     ghost use Rattle.tables.specs.Parts.{AreOf};
     ghost use Rattle.table_machine.specs.State.{State, empty_state, find_peer, by_number, new_rec_at, tried_rec_at, tried_occupant};
     ghost use Rattle.table_machine.specs.Sound.{IsSound};
@@ -90,49 +93,69 @@ impl<'a, H: BuildHasher> Tables<'a, H> {
     /// Adds an entry that `source` announced, with a penalty in seconds and a random word, at a
     /// time in seconds since 1970. Returns `true` if the entry's peer gets a slot. If memory runs
     /// out, nothing changes (`AddrManImpl::AddSingle` in addrman.cpp of Bitcoin Core).
-    pub fn add(
+    pub fn add<L: Ledger>(
         &mut self,
         entry: &Entry,
         source: &NetAddr,
         penalty: u32,
         word: u64,
         now: u32,
+        steps: &mut Steps<L>,
     ) -> Result<bool, Memory>
         requires more { self.old.next_number < 2 ^ 63 }
         ensures answer { IfOk result (λ answer. answer ≡ (add self.old now entry.now source.now penalty word).answer) }
         ensures state { OnOk result (self.new ≡ (add self.old now entry.now source.now penalty word).state) }
         ensures sound { IsSound self.new }
         ensures err { OnErr result (self.new ≡ self.old) }
+        ensures steps { steps.new ≤ steps.old + 16 }
     {
         check_fields(entry, source);
         self.store
-            .add(entry, source, penalty, word, now, &mut self.reach)
+            .add(entry, source, penalty, word, now, &mut self.reach, steps)
     }
 
     /// Records that `peer` was reached, at a time in seconds since 1970. A record of the new table
     /// moves to the tried table. With `testing`, it becomes a collision instead if its slot there
     /// is occupied, unless there are ten collisions already; `Clash` is returned either way
     /// (`AddrManImpl::Good_`).
-    pub fn good(&mut self, peer: &Peer, testing: bool, now: u32) -> Good
+    pub fn good<L: Ledger>(
+        &mut self,
+        peer: &Peer,
+        testing: bool,
+        now: u32,
+        steps: &mut Steps<L>,
+    ) -> Good
         ensures answer { result ≡ (good self.old now peer.now testing).answer }
         ensures state { self.new ≡ (good self.old now peer.now testing).state }
         ensures sound { IsSound self.new }
+        ensures steps { steps.new ≤ steps.old + 40 }
     {
-        self.store.good(peer, testing, now)
+        self.store.good(peer, testing, now, steps)
     }
 
     /// Records a try to connect to `peer`, at a time in seconds since 1970. With `counted`, it
     /// counts as a failure unless a try to this peer has counted since the last success of any
     /// peer. Returns `false` if the peer is unknown (`AddrManImpl::Attempt_`).
-    pub fn attempt(&mut self, peer: &Peer, counted: bool, now: u32) -> bool
+    pub fn attempt<L: Ledger>(
+        &mut self,
+        peer: &Peer,
+        counted: bool,
+        now: u32,
+        steps: &mut Steps<L>,
+    ) -> bool
         ensures answer { result ≡ (attempt self.old now peer.now counted).answer }
         ensures state { self.new ≡ (attempt self.old now peer.now counted).state }
         ensures sound { IsSound self.new }
     {
-        match self.store.index.find(peer) {
+        match self.store.index.find(peer, steps) {
             Some(id) => {
-                let rec = after_try(self.store.index.get(id), self.store.last_good, now, counted);
-                self.store.change(id, rec);
+                let rec = after_try(
+                    self.store.index.get(id, steps),
+                    self.store.last_good,
+                    now,
+                    counted,
+                );
+                self.store.change(id, rec, steps);
                 true
             }
             None => false,
@@ -141,15 +164,15 @@ impl<'a, H: BuildHasher> Tables<'a, H> {
 
     /// Sets the time at which `peer` was last seen to `now`, in seconds since 1970, if that is more
     /// than 20 minutes later. Returns `false` if the peer is unknown (`AddrManImpl::Connected_`).
-    pub fn connected(&mut self, peer: &Peer, now: u32) -> bool
+    pub fn connected<L: Ledger>(&mut self, peer: &Peer, now: u32, steps: &mut Steps<L>) -> bool
         ensures answer { result ≡ (connected self.old now peer.now).answer }
         ensures state { self.new ≡ (connected self.old now peer.now).state }
         ensures sound { IsSound self.new }
     {
-        match self.store.index.find(peer) {
+        match self.store.index.find(peer, steps) {
             Some(id) => {
-                let rec = still_connected(self.store.index.get(id), now);
-                self.store.change(id, rec);
+                let rec = still_connected(self.store.index.get(id, steps), now);
+                self.store.change(id, rec, steps);
                 true
             }
             None => false,
@@ -158,15 +181,15 @@ impl<'a, H: BuildHasher> Tables<'a, H> {
 
     /// Sets the services that `peer` offers. Returns `false` if the peer is unknown
     /// (`AddrManImpl::SetServices_`).
-    pub fn services(&mut self, peer: &Peer, services: u64) -> bool
+    pub fn services<L: Ledger>(&mut self, peer: &Peer, services: u64, steps: &mut Steps<L>) -> bool
         ensures answer { result ≡ (set_services self.old peer.now services).answer }
         ensures state { self.new ≡ (set_services self.old peer.now services).state }
         ensures sound { IsSound self.new }
     {
-        match self.store.index.find(peer) {
+        match self.store.index.find(peer, steps) {
             Some(id) => {
-                let rec = with_services(self.store.index.get(id), services);
-                self.store.change(id, rec);
+                let rec = with_services(self.store.index.get(id, steps), services);
+                self.store.change(id, rec, steps);
                 true
             }
             None => false,
@@ -174,11 +197,11 @@ impl<'a, H: BuildHasher> Tables<'a, H> {
     }
 
     /// Returns the record of `peer`, or `None` if there is none.
-    pub fn find(&self, peer: &Peer) -> Option<&Rec>
+    pub fn find<L: Ledger>(&self, peer: &Peer, steps: &mut Steps<L>) -> Option<&Rec>
         ensures { option_map (λ r. r.now) result ≡ find_peer self.now peer.now }
     {
-        match self.store.index.find(peer) {
-            Some(id) => Some(self.store.index.get(id)),
+        match self.store.index.find(peer, steps) {
+            Some(id) => Some(self.store.index.get(id, steps)),
             None => None,
         }
     }
@@ -191,57 +214,85 @@ impl<'a, H: BuildHasher> Tables<'a, H> {
     }
 
     /// Returns the record at a position of the order.
-    pub fn order_at(&self, position: usize) -> &Rec
+    pub fn order_at<L: Ledger>(&self, position: usize, steps: &mut Steps<L>) -> &Rec
         requires { position < length self.now.order }
         ensures number { slice_get self.now.order position ≡ Some result.now.number }
         ensures found { by_number self.now result.now.number ≡ Some result.now }
     {
-        let id = self.store.index.at(position);
-        self.store.index.get(id)
+        let id = self.store.index.at(position, steps);
+        self.store.index.get(id, steps)
     }
 
     /// Returns the record in a slot of the new table, or `None` if the slot is empty. The bucket is
     /// below 1024 and the slot below 64.
-    pub fn new_rec_at(&self, bucket: u16, slot: u8) -> Option<&Rec>
+    pub fn new_rec_at<L: Ledger>(&self, bucket: u16, slot: u8, steps: &mut Steps<L>) -> Option<&Rec>
         requires bucket { bucket < 1024 }
         requires slot { slot < 64 }
-        ensures { option_map (λ r. r.now) result ≡ new_rec_at self.now bucket slot }
+        ensures found { option_map (λ r. r.now) result ≡ new_rec_at self.now bucket slot }
+        ensures steps { steps.new ≤ steps.old + 2 }
     {
-        match self.store.grid.new_at(bucket, slot) {
-            Some(id) => Some(self.store.index.get(id)),
+        match self.store.grid.new_at(bucket, slot, steps) {
+            Some(id) => Some(self.store.index.get(id, steps)),
             None => None,
         }
     }
 
     /// Returns the record in a slot of the tried table, or `None` if the slot is empty. The bucket
     /// is below 256 and the slot below 64.
-    pub fn tried_rec_at(&self, bucket: u16, slot: u8) -> Option<&Rec>
+    pub fn tried_rec_at<L: Ledger>(
+        &self,
+        bucket: u16,
+        slot: u8,
+        steps: &mut Steps<L>,
+    ) -> Option<&Rec>
         requires bucket { bucket < 256 }
         requires slot { slot < 64 }
-        ensures { option_map (λ r. r.now) result ≡ tried_rec_at self.now bucket slot }
+        ensures found { option_map (λ r. r.now) result ≡ tried_rec_at self.now bucket slot }
+        ensures steps { steps.new ≤ steps.old + 2 }
     {
-        match self.store.grid.tried_at(bucket, slot) {
-            Some(id) => Some(self.store.index.get(id)),
+        match self.store.grid.tried_at(bucket, slot, steps) {
+            Some(id) => Some(self.store.index.get(id, steps)),
             None => None,
         }
     }
 
+    /// Returns which slots of a bucket of the new table are occupied: bit `s` is set exactly when
+    /// slot `s` is. The bucket is below 1024.
+    pub fn new_mask<L: Ledger>(&self, bucket: u16, steps: &mut Steps<L>) -> u64
+        requires { bucket < 1024 }
+        ensures mask { IsMask (new_rec_at self.now bucket) result }
+        ensures steps { steps.new ≤ steps.old + 1 }
+    {
+        self.store.grid.new_mask(bucket, steps)
+    }
+
+    /// Returns which slots of a bucket of the tried table are occupied: bit `s` is set exactly when
+    /// slot `s` is. The bucket is below 256.
+    pub fn tried_mask<L: Ledger>(&self, bucket: u16, steps: &mut Steps<L>) -> u64
+        requires { bucket < 256 }
+        ensures mask { IsMask (tried_rec_at self.now bucket) result }
+        ensures steps { steps.new ≤ steps.old + 1 }
+    {
+        self.store.grid.tried_mask(bucket, steps)
+    }
+
     /// Returns the record in the slot of `peer` in the tried table, or `None` if the slot is empty.
-    pub fn tried_occupant(&self, peer: &Peer) -> Option<&Rec>
-        ensures { option_map (λ r. r.now) result ≡ tried_occupant self.now peer.now }
+    pub fn tried_occupant<L: Ledger>(&self, peer: &Peer, steps: &mut Steps<L>) -> Option<&Rec>
+        ensures found { option_map (λ r. r.now) result ≡ tried_occupant self.now peer.now }
+        ensures steps { steps.new ≤ steps.old + 2 }
     {
         let bucket = self.store.placer.tried_bucket(peer);
         let slot = self.store.placer.tried_slot(peer, bucket);
-        self.tried_rec_at(bucket, slot)
+        self.tried_rec_at(bucket, slot, steps)
     }
 
     /// Returns the record of a collision, by its number, or `None` if it was deleted.
-    pub fn by_number(&self, number: u64) -> Option<&Rec>
+    pub fn by_number<L: Ledger>(&self, number: u64, steps: &mut Steps<L>) -> Option<&Rec>
         requires waits { Contains self.now.collisions number }
         ensures { option_map (λ r. r.now) result ≡ by_number self.now number }
     {
         let peer = self.store.waiter(number)?.peer;
-        let rec = self.find(&peer)?;
+        let rec = self.find(&peer, steps)?;
         if has_number(rec, number) {
             Some(rec)
         } else {
@@ -268,38 +319,23 @@ impl<'a, H: BuildHasher> Tables<'a, H> {
     }
 
     /// Exchanges two positions of the order.
-    pub fn order_swap(&mut self, i: usize, j: usize)
+    pub fn order_swap<L: Ledger>(&mut self, i: usize, j: usize, steps: &mut Steps<L>)
         requires first { i < length self.old.order }
         requires second { j < length self.old.order }
         ensures state { self.new ≡ order_swap self.old i j }
         ensures sound { IsSound self.new }
     {
-        self.store.swap(i, j);
+        self.store.swap(i, j, steps);
     }
 
-    /// Returns how many records of the new and of the tried table are of `net`, or how many there
-    /// are in all if `net` is `None`. A record whose address is not routable counts for
-    /// `Net::Unroutable`.
-    pub fn wanted(&self, net: Option<Net>) -> (u32, u32)
-        ensures new { result.0 ≡ wanted_new self.now net }
-        ensures tried { result.1 ≡ wanted_tried self.now net }
+    /// Returns how many records of the new and of the tried table are of networks of a set. A record
+    /// whose address is not routable counts for `Net::Unroutable`.
+    pub fn wanted(&self, nets: NetSet) -> (u32, u32)
+        ensures new { result.0 ≡ wanted_new self.now nets }
+        ensures tried { result.1 ≡ wanted_tried self.now nets }
     {
-        let (new, tried) = self.store.count_wanted(net);
+        let (new, tried) = self.store.index.wanted(nets);
         (new as u32, tried as u32)
-    }
-
-    /// Returns `true` if the new table has a record of `net`, or any if `net` is `None`.
-    pub fn has_new(&self, net: Option<Net>) -> bool
-        ensures { result ≡ nat_lt 0 (wanted_new self.now net) }
-    {
-        self.store.has_wanted(true, net)
-    }
-
-    /// Returns `true` if the tried table has a record of `net`, or any if `net` is `None`.
-    pub fn has_tried(&self, net: Option<Net>) -> bool
-        ensures { result ≡ nat_lt 0 (wanted_tried self.now net) }
-    {
-        self.store.has_wanted(false, net)
     }
 
     /// Returns how many records are in the new and in the tried table, and how many collisions
@@ -314,19 +350,19 @@ impl<'a, H: BuildHasher> Tables<'a, H> {
         ensures few_buckets { sum_by (λ r. length (buckets_of r)) self.now.records ≤ 65536 }
         ensures sound { IsSound self.now }
     {
-        let tried = self.store.count_tried();
+        let (new_count, tried_count) = self.wanted(NetSet::all());
         Counts {
-            new_count: (self.store.index.len() - tried) as u32,
-            tried_count: tried as u32,
+            new_count,
+            tried_count,
             clashes: self.store.clashes.len() as u32,
         }
     }
 
     /// Returns all records in increasing order of their numbers.
-    pub fn recs(&self) -> Result<Recs, Memory>
+    pub fn recs<L: Ledger>(&self, steps: &mut Steps<L>) -> Result<Recs, Memory>
         ensures { IfOk result (λ recs. recs ≡ self.now.records) }
     {
-        Ok(Recs::of(self.store.sorted()?))
+        Ok(Recs::of(self.store.sorted(steps)?))
     }
 
     /// Returns the slots. Each has the id of the record in it; `parts` returns the index with them.

@@ -3,16 +3,16 @@ use Rattle.table_machine.specs.State.{tried_rec_at}
 use Rattle.tables.proofs.Changes.{tried-none, tried-some}
 use Rattle.tables.proofs.tables.Tables.tried_rec_at.Goals as goal
 
-pub returns-in-Some : goal.returns-in-Some
-returns-in-Some g c =
+pub returns-in-Some-clause-found : goal.returns-in-Some-clause-found
+returns-in-Some-clause-found g c =
     let st = c.self.inside.store in
     sym (tried-some st.placer st.index st.grid st.next_number st.clashes.items st.last_good c.self.invariant.stored
-    c.args.bucket c.args.slot c.in-Some.id c.get.result.now c.requires.bucket c.requires.slot (sym c.tried_at.ensures ∙ c.in-Some.is) c.get.ensures.found)
+    c.args.bucket c.args.slot c.in-Some.id c.get.result.now c.requires.bucket c.requires.slot (sym c.tried_at.ensures.id ∙ c.in-Some.is) c.get.ensures.found)
     ∙ ap (λ t. tried_rec_at t c.args.bucket c.args.slot) c.self.view_is
 
-pub returns-in-None : goal.returns-in-None
-returns-in-None g c =
+pub returns-in-None-clause-found : goal.returns-in-None-clause-found
+returns-in-None-clause-found g c =
     let st = c.self.inside.store in
     sym (tried-none st.placer st.index st.grid st.next_number st.clashes.items st.last_good c.self.invariant.stored
-    c.args.bucket c.args.slot c.requires.bucket c.requires.slot (sym c.tried_at.ensures ∙ c.in-None.is))
+    c.args.bucket c.args.slot c.requires.bucket c.requires.slot (sym c.tried_at.ensures.id ∙ c.in-None.is))
     ∙ ap (λ t. tried_rec_at t c.args.bucket c.args.slot) c.self.view_is
