@@ -1,0 +1,14 @@
+//! Tests of the outside: sources, sinks and folders in memory and of the system, and saves that are
+//! stopped or crash.
+#![tactic(auto)]
+
+#[cfg(test)]
+mod crashes;
+#[cfg(test)]
+mod loading;
+#[cfg(test)]
+mod memory;
+#[cfg(test)]
+mod real_folder;
+#[cfg(test)]
+mod saves;
