@@ -1,6 +1,6 @@
 -- A fate at an index is one of the fates, and an image name by name.
-use Rattle.std.proofs.Common.{ℕ, ◌<◌, List, [], ◌∷◌, zero, suc, length, get_or, inl, inr, Option, arith}
-use Rattle.host_io.specs.Disk.{Allows, AllowsOne, Disk, IsImage, MayHave}
+use Rattle.std.proofs.Common.{ℕ, ◌<◌, List, [], ◌∷◌, zero, suc, length, get_or, inl, inr, Option, None, Some, ◌≡◌, ◌∙◌, ap, refl, subst, sym, arith}
+use Rattle.host_io.specs.Disk.{Allows, AllowsOne, Disk, Entry, IsImage, MayHave, exactly, files_on}
 use Rattle.host_io.specs.Files.{Files}
 use Rattle.host_io.specs.PerName.{under}
 use Rattle.host_io.specs.declared.name.Name.TheVariants.{Peers, PeersTemp, Asmap, AsmapTemp, Prefixes, Bans, BansTemp}
@@ -26,3 +26,41 @@ image_of disk files a b c d e f g AsmapTemp = d
 image_of disk files a b c d e f g Prefixes = e
 image_of disk files a b c d e f g Bans = f
 image_of disk files a b c d e f g BansTemp = g
+
+exactly_allows : (file : Option (List ℕ)) → Allows (exactly file) file
+exactly_allows None = refl
+exactly_allows (Some bytes) = refl
+
+-- the file as it reads is one of those that a crash may leave
+pub may_have_file : (entry : Entry) (found : Option (List ℕ)) → found ≡ entry.file → MayHave entry found
+may_have_file entry found is = subst (MayHave entry) (sym is) (inl (exactly_allows entry.file))
+
+-- the files as they read, name by name
+pub reads_as : (disk : Disk) (files : Files)
+    → files.peers ≡ disk.peers.file → files.peers_temp ≡ disk.peers_temp.file
+    → files.asmap ≡ disk.asmap.file → files.asmap_temp ≡ disk.asmap_temp.file
+    → files.prefixes ≡ disk.prefixes.file → files.bans ≡ disk.bans.file
+    → files.bans_temp ≡ disk.bans_temp.file → files ≡ files_on disk
+reads_as disk files a b c d e f g =
+    ap (λ x. record files { peers = x }) a
+    ∙ ap (λ x. record files { peers = disk.peers.file; peers_temp = x }) b
+    ∙ ap (λ x. record (files_on disk) {
+      asmap = x;
+      asmap_temp = files.asmap_temp;
+      prefixes = files.prefixes;
+      bans = files.bans;
+      bans_temp = files.bans_temp;
+    }) c
+    ∙ ap (λ x. record (files_on disk) {
+      asmap_temp = x;
+      prefixes = files.prefixes;
+      bans = files.bans;
+      bans_temp = files.bans_temp;
+    }) d
+    ∙ ap (λ x. record (files_on disk) {
+      prefixes = x;
+      bans = files.bans;
+      bans_temp = files.bans_temp;
+    }) e
+    ∙ ap (λ x. record (files_on disk) { bans = x; bans_temp = files.bans_temp }) f
+    ∙ ap (λ x. record (files_on disk) { bans_temp = x }) g

@@ -107,7 +107,7 @@ left source = record {
   others = file_fates source source.others;
 }
 
--- `sync_dir`, at each name: the file that it reads as, synced or not, and no other.
+-- `sync_dir`, at each name: no other file than the one it reads as. A torn one stays torn.
 abbrev pub settled : Entry → Entry
 settled entry = record entry { is_loose = false; others = [] }
 

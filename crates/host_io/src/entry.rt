@@ -1,6 +1,6 @@
 ghost use Rattle.std.specs.Prelude.{◌≡◌, ◌<◌, ◌≤◌, [], ◌++◌, IfOk, OnOk, vec_len};
 ghost use Rattle.std.specs.Option.{option_map};
-ghost use Rattle.host_io.specs.Disk.{appended, created, exactly, fates, file_fates, left, safe, settled, synced, target};
+ghost use Rattle.host_io.specs.Disk.{MayHave, appended, created, exactly, fates, file_fates, left, safe, settled, synced, target};
 
 use crate::bytes::Bytes;
 use crate::fate::Fate;
@@ -80,9 +80,18 @@ impl Entry {
     pub fn synced(&self, alloc: Global) -> Result<Entry, AllocError>
         ensures { IfOk result (λ entry. entry ≡ synced self.now) }
     {
+        let mut entry = self.copy(alloc)?;
+        entry.is_torn = false;
+        Ok(entry)
+    }
+
+    /// Copies the name.
+    fn copy(&self, alloc: Global) -> Result<Entry, AllocError>
+        ensures { IfOk result (λ copy. copy ≡ self.now) }
+    {
         Ok(Entry {
             file: copy_file(alloc, &self.file)?,
-            is_torn: false,
+            is_torn: self.is_torn,
             is_loose: self.is_loose,
             others: copy_fates(alloc, &self.others)?,
         })
@@ -134,6 +143,15 @@ impl Entry {
     /// Returns whether the file was created since the folder was synced.
     pub fn is_loose(&self) -> bool {
         self.is_loose
+    }
+
+    /// Copies the file as it reads, which a crash may always leave.
+    #[tactic(auto, using(crate::proofs::Fates::may_have_file))]
+    pub fn as_read(&self, alloc: Global) -> Result<Option<Bytes>, AllocError>
+        ensures reads { IfOk result (λ file. file ≡ self.now.file) }
+        ensures allowed { IfOk result (λ file. MayHave self.now file) }
+    {
+        copy_file(alloc, &self.file)
     }
 
     /// Returns what a crash may leave at the name: first the file as it reads, then any bytes if it

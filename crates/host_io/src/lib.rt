@@ -35,11 +35,8 @@ mod to_end_fault;
 
 pub use bytes::Bytes;
 pub use call::{Action, Call};
-pub use change::Change;
 pub use dir_folder::DirFolder;
-pub use entry::Entry;
 pub use failed::{Failed, still_count_has_not_risen};
-pub use fate::Fate;
 pub use folder::Folder;
 pub use lines::{LINE_FEED, split_line};
 pub use mem_folder::MemFolder;

@@ -1,5 +1,5 @@
 ghost use Rattle.std.specs.Prelude.{◌≡◌, ◌<◌, [], length, IfOk, OnOk, OnErr};
-ghost use Rattle.host_io.specs.Disk.{AllowsOne, IsImage, MayHave, after_sync_dir, safe};
+ghost use Rattle.host_io.specs.Disk.{AllowsOne, IsImage, MayHave, after_sync_dir, files_on, safe};
 ghost use Rattle.host_io.specs.MemFolder.{after_change, disk_of, log_with};
 ghost use Rattle.host_io.specs.PerName.{each, under};
 
@@ -67,7 +67,9 @@ impl MemDisk {
 
     /// Returns the files that a crash leaves, as `MemFolder::crash` says.
     pub fn image(&self, choice: u64) -> Result<PerName<Option<Bytes>>, AllocError>
-        ensures { IfOk result (λ files. IsImage (disk_of self.now) files) }
+        ensures image { IfOk result (λ files. IsImage (disk_of self.now) files) }
+        ensures as_read { choice ≡ 0 → IfOk result (λ files.
+            files ≡ files_on (disk_of self.now)) }
     {
         let mut rest = choice.saturating_sub(3);
         Ok(PerName {
@@ -81,15 +83,19 @@ impl MemDisk {
         })
     }
 
-    /// Returns the file that a crash leaves at a name, or none. From choice 3 on the fate is picked
-    /// by `rest`, of which the other names get what is left.
+    /// Returns the file that a crash leaves at a name, or none. From choice 3 on, `rest` picks the
+    /// fate, and what is left of it picks those of the other names.
     fn found(&self, name: Name, choice: u64, rest: &mut u64) -> Result<Option<Bytes>, AllocError>
-        ensures { IfOk result (λ found. MayHave (under (disk_of self.now) name) found) }
+        ensures allowed { IfOk result (λ found. MayHave (under (disk_of self.now) name) found) }
+        ensures as_read { choice ≡ 0 → IfOk result (λ found.
+            found ≡ (under (disk_of self.now) name).file) }
     {
         let entry = self.entry(name);
+        if choice == 0 {
+            return entry.as_read(self.alloc);
+        }
         let fates = entry.fates(self.alloc)?;
         let index = match choice {
-            0 => 0,
             1 if self.is_target(name) => oldest(&fates),
             1 if entry.is_loose() => usize::from(entry.is_torn()) + 1,
             1 => 0,

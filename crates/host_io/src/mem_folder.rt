@@ -123,13 +123,15 @@ impl MemFolder {
 
     /// Returns the folder that a crash leaves, in which every file is safe and no call fails.
     ///
-    /// Choice 0 is the folder as it reads. Choice 1 has at each target of a rename since the folder
-    /// was synced the oldest file that may be there, and no other file that was created since then.
-    /// Choice 2 is the folder as it reads, with each file empty that was not synced. The choices
-    /// from 3 on go through what may be at each name.
+    /// Choice 0 leaves the files as they read. Choice 1 undoes what was not synced with the folder:
+    /// the target of a rename has the oldest file that may be there, and a file that was created is
+    /// absent. Choice 2 empties each file that was not synced. The choices from 3 on count through
+    /// what may be at the names.
     pub fn crash(&self, choice: u64) -> Result<MemFolder, Memory>
         ensures image { IfOk result (λ folder.
             IsImage (disk_of self.now.log) folder.log.first) }
+        ensures as_read { choice ≡ 0 → IfOk result (λ folder.
+            folder.log.first ≡ files_in self.now) }
         ensures unchanged { IfOk result (λ folder. folder.log.changes ≡ []) }
         ensures chosen { IfOk result (λ folder. folder.fails ≡ []) }
         ensures history { IfOk result (λ folder. folder.history ≡ []) }

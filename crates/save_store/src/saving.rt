@@ -19,6 +19,7 @@ pub fn write_temp<F: Folder>(folder: &mut F, temp: Name, bytes: &[u8]) -> Result
 }
 
 /// Puts the temporary file in the place of another, and makes the names safe.
+#[tactic(auto, using(crate::proofs::Published::moved_and_synced, crate::proofs::Published::moved_only, crate::proofs::Published::not_renamed, crate::proofs::Published::stored, crate::proofs::Temp::synced_there))]
 pub(crate) fn put_in_place<F: Folder>(folder: &mut F, temp: Name, name: Name) -> Result<(), Failed>
     requires apart { temp ≢ name }
     requires synced { IfSome (F.past folder.old) (λ p.
@@ -33,7 +34,8 @@ pub(crate) fn put_in_place<F: Folder>(folder: &mut F, temp: Name, name: Name) ->
     ensures never_falls { F.faults folder.old ≤ F.faults folder.new }
 {
     folder.rename(temp, name)?;
-    folder.sync_dir()
+    folder.sync_dir()?;
+    Ok(())
 }
 
 /// Puts a temporary file whose bytes are safe in the place of the file that it is for, and makes
