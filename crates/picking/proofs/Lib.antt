@@ -1,2 +1,3 @@
-pub mod Occupants
-pub mod Draws
+pub mod Candidates
+pub mod FirstBits
+pub mod Samples

@@ -1,73 +1,107 @@
-ghost use Rattle.std.specs.Prelude.{◌≡◌, ◌-◌, ◌<◌, ◌≤◌, option_map};
-ghost use Rattle.table_machine.specs.Picks.{bucket_count, first_wanted, occupant_at};
-ghost use Rattle.picking.specs.Inside.{wanted_in};
+ghost use Rattle.std.specs.Prelude.{◌≡◌, ◌+◌, ◌*◌, ◌-◌, ◌<◌, ◌≤◌, Some, IsSome, option_map};
+ghost use Rattle.table_machine.specs.Picks.{bucket_count, first_candidate, occupant_at};
+ghost use Rattle.picking.specs.Inside.{candidate_in, IsMask};
 
-use net_addr::Net;
+use crate::mask::next_set;
+use net_addr::NetSet;
 use peer_rec::Rec;
 use std::hash::BuildHasher;
+use std::sync::ledger::Ledger;
+use steps::Steps;
 use tables::{Tables, is_wanted};
 
 /// The slots of a bucket (`ADDRMAN_BUCKET_SIZE` in addrman_impl.h of Bitcoin Core).
 pub(crate) const SLOT_COUNT: u8 = 64;
 
-/// Returns the record in a slot of a bucket, of the new table or of the tried table.
-fn occupant_at<'t, H: BuildHasher>(
+/// Returns which slots of a bucket are occupied, of the new table or of the tried table.
+fn mask_of<H: BuildHasher, L: Ledger>(
+    tables: &Tables<'_, H>,
+    in_new: bool,
+    bucket: u16,
+    steps: &mut Steps<L>,
+) -> u64
+    requires { bucket < bucket_count in_new }
+    ensures mask { IsMask (occupant_at tables.now in_new bucket) result }
+    ensures steps { steps.new ≤ steps.old + 1 }
+{
+    if in_new {
+        tables.new_mask(bucket, steps)
+    } else {
+        tables.tried_mask(bucket, steps)
+    }
+}
+
+/// Returns the record in an occupied slot of a bucket, of the new table or of the tried table.
+fn occupant<'t, H: BuildHasher, L: Ledger>(
     tables: &'t Tables<'_, H>,
     in_new: bool,
     bucket: u16,
     slot: u8,
-) -> Option<&'t Rec>
+    steps: &mut Steps<L>,
+) -> &'t Rec
     requires bucket { bucket < bucket_count in_new }
     requires slot { slot < 64 }
-    ensures { option_map (λ r. r.now) result ≡ occupant_at tables.now in_new bucket slot }
+    requires occupied { IsSome (occupant_at tables.now in_new bucket slot) }
+    ensures record { occupant_at tables.now in_new bucket slot ≡ Some result.now }
+    ensures steps { steps.new ≤ steps.old + 2 }
 {
-    if in_new {
-        tables.new_rec_at(bucket, slot)
+    let rec = if in_new {
+        tables.new_rec_at(bucket, slot, steps)
     } else {
-        tables.tried_rec_at(bucket, slot)
-    }
+        tables.tried_rec_at(bucket, slot, steps)
+    };
+    rec.unwrap()
 }
 
-/// Returns the first wanted record of a bucket in the slots `from..to`.
-fn wanted_between<'t, H: BuildHasher>(
+/// Returns the first wanted record of a bucket in the slots `from..to`. Bit s of the mask says
+/// whether slot s of the bucket is occupied; no other slots are read.
+fn candidate_in<'t, H: BuildHasher, L: Ledger>(
     tables: &'t Tables<'_, H>,
     in_new: bool,
-    asked: Option<Net>,
+    nets: NetSet,
     bucket: u16,
+    mask: u64,
     from: u8,
     to: u8,
+    steps: &mut Steps<L>,
 ) -> Option<&'t Rec>
     requires bucket { bucket < bucket_count in_new }
+    requires mask { IsMask (occupant_at tables.now in_new bucket) mask }
     requires order { from ≤ to }
     requires slots { to ≤ 64 }
-    ensures { option_map (λ r. r.now) result
-        ≡ wanted_in tables.now in_new asked bucket from (to - from) }
+    ensures found { option_map (λ r. r.now) result
+        ≡ candidate_in tables.now in_new nets bucket from (to - from) }
+    ensures steps { steps.new ≤ steps.old + 2 * (to - from) }
 {
-    for slot in from..to {
-        if let Some(rec) = occupant_at(tables, in_new, bucket, slot) {
-            if is_wanted(asked, rec) {
-                return Some(rec);
-            }
+    let mut at = from;
+    while let Some(slot) = next_set(mask, at, to) {
+        let rec = occupant(tables, in_new, bucket, slot, steps);
+        if is_wanted(nets, rec) {
+            return Some(rec);
         }
+        at = slot + 1;
     }
     None
 }
 
 /// Returns the first wanted record of a bucket, from the slot `start` on and going round.
-pub(crate) fn first_wanted<'t, H: BuildHasher>(
+pub(crate) fn first_candidate<'t, H: BuildHasher, L: Ledger>(
     tables: &'t Tables<'_, H>,
     in_new: bool,
-    asked: Option<Net>,
+    nets: NetSet,
     bucket: u16,
     start: u8,
+    steps: &mut Steps<L>,
 ) -> Option<&'t Rec>
     requires bucket { bucket < bucket_count in_new }
     requires slot { start < 64 }
-    ensures { option_map (λ r. r.now) result
-        ≡ first_wanted tables.now in_new asked bucket start }
+    ensures found { option_map (λ r. r.now) result
+        ≡ first_candidate tables.now in_new nets bucket start }
+    ensures steps { steps.new ≤ steps.old + 129 }
 {
-    match wanted_between(tables, in_new, asked, bucket, start, SLOT_COUNT) {
+    let mask = mask_of(tables, in_new, bucket, steps);
+    match candidate_in(tables, in_new, nets, bucket, mask, start, SLOT_COUNT, steps) {
         Some(rec) => Some(rec),
-        None => wanted_between(tables, in_new, asked, bucket, 0, start),
+        None => candidate_in(tables, in_new, nets, bucket, mask, 0, start, steps),
     }
 }

@@ -3,13 +3,14 @@
 #![tactic(auto)]
 
 mod bucket;
+mod eligible;
 mod fault;
 mod limit;
+mod mask;
+mod position;
 mod sampling;
 mod search;
 mod selection;
-mod told;
-mod turn;
 
 pub use fault::SampleFault;
 pub use peer_rec::{Peers, Picked};

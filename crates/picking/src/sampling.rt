@@ -3,62 +3,66 @@ ghost use Rattle.table_machine.specs.Picks.{sample, sample_from};
 ghost use Rattle.table_machine.specs.Sound.{IsSound};
 
 use crate::limit::{count_of, sample_limit};
-use crate::turn::draw;
+use crate::position::select_at;
 use crate::{Peers, SampleFault};
-use net_addr::{Net, Peer};
+use net_addr::{NetSet, Peer};
 use std::alloc::Global;
 use std::hash::BuildHasher;
+use std::sync::ledger::Ledger;
+use steps::Steps;
 use tables::Tables;
 
-/// Appends the peers that the random words draw, from the first position of the order on, until
+/// Appends the peers that the random words select, from the first position of the order on, until
 /// there are `limit`. The list has room for them.
-fn fill<H: BuildHasher>(
+fn fill<H: BuildHasher, L: Ledger>(
     tables: &mut Tables<'_, H>,
     peers: &mut Vec<Peer>,
     limit: usize,
-    class: Option<Net>,
+    classes: NetSet,
     words: &[u64],
     now: u32,
+    steps: &mut Steps<L>,
 )
     requires empty { vec_len peers.old ≡ 0 }
     requires room { limit ≤ vec_capacity peers.old }
     requires words { length tables.old.order ≤ length words.now }
     requires sound { IsSound tables.old }
-    ensures peers { peers.new.items ≡ (sample_from tables.old class now 0 limit words.now).peers }
-    ensures state { tables.new ≡ (sample_from tables.old class now 0 limit words.now).state }
+    ensures peers { peers.new.items ≡ (sample_from tables.old classes now 0 limit words.now).peers }
+    ensures state { tables.new ≡ (sample_from tables.old classes now 0 limit words.now).state }
     ensures sound { IsSound tables.new }
 {
     for position in 0..tables.len() {
         if peers.len() == limit {
             return;
         }
-        if let Some(peer) = draw(tables, class, now, position, words[position]) {
+        if let Some(peer) = select_at(tables, classes, now, position, words[position], steps) {
             peers.push_reserved(peer);
         }
     }
 }
 
 /// Returns peers to announce to another node, at a time in seconds since 1970: at most `max`, and
-/// at most `pct` percent of all records, where 0 is no limit; of one class of networks, or of any; and
-/// never a terrible one. They come in the order that the random words draw, one word for each
-/// record. The tables' own order stays as the draws leave it (`AddrManImpl::GetAddr_` in
-/// addrman.cpp of Bitcoin Core). `ShortWords` comes if there are fewer words than records. After an error the
-/// tables are unchanged.
-pub fn sample<H: BuildHasher>(
+/// at most `pct` percent of all records, where 0 is no limit; of the classes of networks in a set;
+/// and never a terrible one. Random words select them, one word for each record, and they come in
+/// that order. The tables' own order stays as the exchanges leave it (`AddrManImpl::GetAddr_` in
+/// addrman.cpp of Bitcoin Core). `ShortWords` comes if there are fewer words than records. After an
+/// error the tables are unchanged.
+pub fn sample<H: BuildHasher, L: Ledger>(
     alloc: Global,
     tables: &mut Tables<'_, H>,
     max: u32,
     pct: u32,
-    class: Option<Net>,
+    classes: NetSet,
     words: &[u64],
     now: u32,
+    steps: &mut Steps<L>,
 ) -> Result<Peers, SampleFault>
     requires percent { pct ≤ 100 }
     requires few_words { length words.now < 2 ^ 32 }
     ensures peers { IfOk result
-        (λ p. p ≡ (sample tables.old max pct class words.now now).peers) }
+        (λ p. p ≡ (sample tables.old max pct classes words.now now).peers) }
     ensures state { OnOk result
-        (tables.new ≡ (sample tables.old max pct class words.now now).state) }
+        (tables.new ≡ (sample tables.old max pct classes words.now now).state) }
     ensures enough { OnOk result (length tables.old.order ≤ length words.now) }
     ensures short { (need have : ℕ) → result ≡ Err (SampleFault.ShortWords need have) →
         (need ≡ length tables.old.order) × ((have ≡ length words.now) × (have < need)) }
@@ -75,6 +79,6 @@ pub fn sample<H: BuildHasher>(
     let limit = sample_limit(count, max, pct) as usize;
     let mut peers = Vec::new(alloc);
     peers.reserve(limit)?;
-    fill(tables, &mut peers, limit, class, words, now);
+    fill(tables, &mut peers, limit, classes, words, now, steps);
     Ok(Peers::of(peers))
 }

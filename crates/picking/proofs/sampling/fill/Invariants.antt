@@ -1,13 +1,13 @@
 use Rattle.std.proofs.Common.{◌≡◌, ◌≤◌, length, vec_len, vec_capacity}
 use Rattle.table_machine.specs.Picks.{sample_from}
 use Rattle.table_machine.specs.Sound.{IsSound}
-use Rattle.picking.proofs.Draws.{sofar}
+use Rattle.picking.proofs.Samples.{sofar}
 use Rattle.picking.proofs.sampling.fill.Given as goal
 
--- the peers that were drawn already, and then those of the words that are left, are the sample
+-- the peers so far, and then those of the words that are left, are the sample
 abbrev pub invariant-loop-position : goal.invariant-loop-position
 invariant-loop-position g l = record {
-  rest : sofar l.class l.now l.limit l.words l.tables l.peers.items l.position ≡ sample_from l.fn.tables l.class l.now 0 l.limit l.words;
+  rest : sofar l.classes l.now l.limit l.words l.tables l.peers.items l.position ≡ sample_from l.fn.tables l.classes l.now 0 l.limit l.words;
   few : vec_len l.peers ≤ l.limit;
   room : l.limit ≤ vec_capacity l.peers;
   order : length l.tables.order ≡ length l.fn.tables.order;
