@@ -7,20 +7,20 @@ use peer_rec::{Rec, Resolved};
 /// Seconds for which a success or a try of the occupant counts (`ADDRMAN_REPLACEMENT` in
 /// addrman.cpp of Bitcoin Core).
 const REPLACEMENT: u64 = 14_400;
-/// Seconds that an occupant has after a try.
+/// Seconds for which an occupant keeps its slot after a try, so that the try can succeed.
 const TEST_TIME: u64 = 60;
-/// Seconds after the newcomer's success when an occupant that nobody tries leaves
+/// Seconds after the newcomer's success until an occupant that was not tried loses its slot
 /// (`ADDRMAN_TEST_WINDOW`).
 const TEST_WINDOW: u64 = 2_400;
 
 /// What becomes of a collision.
 #[derive(Clone, Copy, Debug)]
 pub(crate) enum Fate {
-    /// It waits no more, and gets no slot.
+    /// It is dropped; the record stays where it is.
     Erased,
-    /// It waits on.
+    /// It stays.
     Kept,
-    /// It takes the slot.
+    /// Its record moves to the slot.
     Moved,
 }
 

@@ -1,5 +1,5 @@
-//! Collisions, the records that wait for an occupied slot of the tried table: what becomes of them,
-//! and which occupant is to be tested next.
+//! Collisions: records that were reached while their slot of the tried table was occupied. What
+//! becomes of them, and which occupant is to be tested next.
 #![tactic(auto)]
 
 mod clash;

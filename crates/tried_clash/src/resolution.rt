@@ -1,4 +1,4 @@
-ghost use Rattle.std.specs.Prelude.{◌≡◌, Contains};
+ghost use Rattle.std.specs.Prelude.{◌≡◌, ◌+◌, ◌≤◌, Contains};
 ghost use Rattle.table_machine.specs.State.{by_number};
 ghost use Rattle.table_machine.specs.Sound.{IsSound};
 ghost use Rattle.table_machine.specs.Clashes.{after_fate, fate_of, move_in, resolve};
@@ -8,15 +8,22 @@ use crate::Fate;
 use arrayvec::ArrayVec;
 use peer_rec::Resolved;
 use std::hash::BuildHasher;
+use std::sync::ledger::Ledger;
+use steps::Steps;
 use tables::Tables;
 
 /// Decides on each collision, in increasing order of record numbers, and returns how many were
 /// erased, moved and kept. `now` is in seconds since 1970 (`AddrManImpl::ResolveCollisions_` in
 /// addrman.cpp of Bitcoin Core). Takes no memory.
-pub fn resolve<H: BuildHasher>(tables: &mut Tables<'_, H>, now: u32) -> Resolved
+pub fn resolve<H: BuildHasher, L: Ledger>(
+    tables: &mut Tables<'_, H>,
+    now: u32,
+    steps: &mut Steps<L>,
+) -> Resolved
     ensures answer { result ≡ (resolve tables.old now).answer }
     ensures state { tables.new ≡ (resolve tables.old now).state }
     ensures sound { IsSound tables.new }
+    ensures steps { steps.new ≤ steps.old + 440 }
 {
     let numbers = waiting(tables);
     let mut resolved = Resolved {
@@ -25,7 +32,7 @@ pub fn resolve<H: BuildHasher>(tables: &mut Tables<'_, H>, now: u32) -> Resolved
         kept: 0,
     };
     for number in numbers.as_slice() {
-        let fate = settle(tables, *number, now);
+        let fate = settle(tables, *number, now, steps);
         resolved = fate.one_more(resolved);
     }
     resolved
@@ -43,17 +50,24 @@ fn waiting<H: BuildHasher>(tables: &Tables<'_, H>) -> ArrayVec<u64, 10>
 }
 
 /// Decides on one collision.
-fn settle<H: BuildHasher>(tables: &mut Tables<'_, H>, number: u64, now: u32) -> Fate
+fn settle<H: BuildHasher, L: Ledger>(
+    tables: &mut Tables<'_, H>,
+    number: u64,
+    now: u32,
+    steps: &mut Steps<L>,
+) -> Fate
     requires waits { Contains tables.old.collisions number }
     ensures fate { meant result ≡ fate_of tables.old (by_number tables.old number) now }
-    ensures state { tables.new ≡ after_fate (meant result) tables.old (by_number tables.old number) number now }
+    ensures state { tables.new
+        ≡ after_fate (meant result) tables.old (by_number tables.old number) number now }
+    ensures steps { steps.new ≤ steps.old + 44 }
 {
-    let fate = fate_of(tables, number, now);
+    let fate = fate_of(tables, number, now, steps);
     match fate {
         Fate::Erased => tables.erase_clash(number),
         Fate::Kept => {}
         Fate::Moved => {
-            move_in(tables, number, now);
+            move_in(tables, number, now, steps);
             tables.erase_clash(number);
         }
     }
@@ -61,13 +75,19 @@ fn settle<H: BuildHasher>(tables: &mut Tables<'_, H>, number: u64, now: u32) -> 
 }
 
 /// Returns the fate of a collision, by its number.
-fn fate_of<H: BuildHasher>(tables: &Tables<'_, H>, number: u64, now: u32) -> Fate
+fn fate_of<H: BuildHasher, L: Ledger>(
+    tables: &Tables<'_, H>,
+    number: u64,
+    now: u32,
+    steps: &mut Steps<L>,
+) -> Fate
     requires waits { Contains tables.now.collisions number }
-    ensures { meant result ≡ fate_of tables.now (by_number tables.now number) now }
+    ensures fate { meant result ≡ fate_of tables.now (by_number tables.now number) now }
+    ensures steps { steps.new ≤ steps.old + 3 }
 {
-    match tables.by_number(number) {
+    match tables.by_number(number, steps) {
         None => Fate::Erased,
-        Some(newcomer) => match tables.tried_occupant(&newcomer.peer) {
+        Some(newcomer) => match tables.tried_occupant(&newcomer.peer, steps) {
             None => Fate::Moved,
             Some(occupant) => Fate::against(newcomer, occupant, now),
         },
@@ -75,13 +95,21 @@ fn fate_of<H: BuildHasher>(tables: &Tables<'_, H>, number: u64, now: u32) -> Fat
 }
 
 /// Moves the record of a collision to its slot of the tried table.
-fn move_in<H: BuildHasher>(tables: &mut Tables<'_, H>, number: u64, now: u32)
+fn move_in<H: BuildHasher, L: Ledger>(
+    tables: &mut Tables<'_, H>,
+    number: u64,
+    now: u32,
+    steps: &mut Steps<L>,
+)
     requires waits { Contains tables.old.collisions number }
     ensures state { tables.new ≡ move_in tables.old (by_number tables.old number) now }
     ensures waiting { tables.new.collisions ≡ tables.old.collisions }
+    ensures steps { steps.new ≤ steps.old + 41 }
 {
-    let peer = tables.by_number(number).map(|newcomer| newcomer.peer);
+    let peer = tables
+        .by_number(number, steps)
+        .map(|newcomer| newcomer.peer);
     if let Some(peer) = peer {
-        tables.good(&peer, false, now);
+        tables.good(&peer, false, now, steps);
     }
 }

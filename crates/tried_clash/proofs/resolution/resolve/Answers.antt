@@ -12,6 +12,7 @@ loop-number-init g c = record {
   left = left-start c.args.tables.now c.args.now c.waiting-numbers.ensures.sound;
   counts = omega arith;
   few = c.waiting-numbers.ensures.sound.few_collisions;
+  steps = omega arith;
 }
 
 pub settle-fate-requires : goal.settle-fate-requires
@@ -29,6 +30,7 @@ loop-number-preserved g c =
           c.settle-fate.ensures.fate c.settle-fate.ensures.state c.one_more-resolved.ensures;
       counts = one_more-counts (meant c.settle-fate.result) l.resolved c.one_more-resolved.result l.number-index c.one_more-resolved.ensures l.invariant.counts;
       few = l.invariant.few;
+      steps = omega (arith, l.invariant.steps, c.settle-fate.ensures.steps);
     }
 
 pub returns-clause-sound : goal.returns-clause-sound
