@@ -1,22 +1,34 @@
 //! An example for authors of nodes: opens the tables, adds an address and picks a peer.
 #![tactic(auto)]
 
-use net_addr::{Entry, NetAddr, Peer, put_peer};
+ghost use Rattle.std.specs.Prelude.{◌≡◌};
+
+use net_addr::{Entry, NetAddr, NetSet, Peer, put_peer};
 use picking::{Picked, select};
 use placing::Placer;
 use std::alloc::Global;
 use std::hash::{BuildHasher, RandomState};
+use std::marker::Brand;
 use std::process::ExitCode;
+use std::sync::ledger::{Blank, Ledger};
+use steps::Steps;
 use tables::{Memory, Tables};
 
-/// Learns of 8.8.8.8:8333 from 1.2.3.4, and picks a peer to connect to.
-fn first_pick<H: BuildHasher + Drop>(
+/// Learns of 8.8.8.8:8333 from 1.2.3.4, and picks a peer to connect to. The counter of steps takes
+/// no bytes, and counting does nothing at run time.
+fn first_pick<H: BuildHasher + Drop, L: Ledger>(
     alloc: Global,
     hasher: H,
     key: [u8; 32],
     words: &[u64],
     now: u32,
-) -> Result<Picked, Memory> {
+    blank: Blank,
+) -> Result<Picked, Memory>
+    requires name { blank.name ≡ L.name }
+    requires parts { blank.parts ≡ L.parts }
+    requires one { blank.parts ≡ 1 }
+{
+    let mut steps = Steps::<L>::none(blank);
     let mut tables = Tables::open(alloc, Placer::make(key, None), hasher)?;
     let peer = Peer {
         addr: NetAddr::ipv4([8, 8, 8, 8]),
@@ -27,16 +39,26 @@ fn first_pick<H: BuildHasher + Drop>(
         services: 1,
         peer,
     };
-    tables.add(&entry, &NetAddr::ipv4([1, 2, 3, 4]), 7200, 0, now)?;
-    Ok(select(&tables, false, None, words, now))
+    let source = NetAddr::ipv4([1, 2, 3, 4]);
+    tables.add(&entry, &source, 7200, 0, now, &mut steps)?;
+    Ok(select(&tables, false, NetSet::all(), words, now, &mut steps))
 }
 
-/// Prints the peer. The words meet its record: they draw its bucket and its slot, and accept it.
+/// Prints the peer. The words select the bucket and the slot of its record, and accept it.
 fn main(rt: HostRuntime) -> ExitCode {
     let Ok(hasher) = RandomState::new(&rt) else {
         return ExitCode::FAILURE;
     };
-    let picked = first_pick(rt.alloc(), hasher, [0; 32], &[87, 37, 0], 1_700_000_000);
+    let words = [87, 37, 0];
+    let now = 1_700_000_000;
+    let picked = first_pick::<RandomState, Brand>(
+        rt.alloc(),
+        hasher,
+        [0; 32],
+        &words,
+        now,
+        Blank::new(1),
+    );
     let Ok(Picked::One(peer, _)) = picked else {
         return ExitCode::FAILURE;
     };
