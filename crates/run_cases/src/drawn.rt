@@ -1,15 +1,14 @@
-// A log of drawn lines: messages, successes, tries, picks and collisions. Another program computed
-// the sums of its text and of the replies.
 ghost use Rattle.std.specs.Prelude.{◌<◌};
 
-use crate::runs::{Given, REPLAY, ending};
-use addrman_run::Status;
+use crate::case::Case;
+use crate::cases::Tally;
+use crate::ran::run_case;
+use crate::unread::Unread;
 use rand_core::{Rng, SeedableRng};
 use rand_xoshiro::Xoshiro256PlusPlus;
 use sha2::{Digest, Sha256};
 use std::alloc::{AllocError, Global};
-use std::process::Abort;
-use std::test::Fail;
+use std::io;
 
 /// What the lines are drawn from.
 #[derive(Drop)]
@@ -112,58 +111,59 @@ fn drawn_log(alloc: Global, seed: u64, lines: u32) -> Result<String, AllocError>
     Ok(log)
 }
 
-/// The bytes have this SHA-256 in hexadecimal.
-pub(crate) fn assert_sum(
-    rt: &(impl Abort + AllocGlobal),
-    bytes: &[u8],
-    want: &str,
-) -> Result<(), Fail> {
-    let sum = hex::encode(rt.alloc(), Sha256::digest(bytes).as_slice())?;
-    assert_eq!(rt; sum.as_str(), want);
-    Ok(())
-}
-
-/// The log of so many lines from the seed 7, and the replies to it under the key of 64 zeros, have
-/// these sums.
-fn assert_drawn(
-    rt: &(impl Abort + AllocGlobal),
+/// A log that is drawn from the seed 7, and the replies to it under the key of 64 zeros. Another
+/// program computed the sums.
+#[derive(Clone, Copy)]
+struct Drawn {
     lines: u32,
-    log_sum: &str,
-    replies_sum: &str,
-) -> Result<(), Fail> {
-    let log = drawn_log(rt.alloc(), 7, lines)?;
-    assert_sum(rt, log.as_bytes(), log_sum)?;
-    let given = Given {
-        log: log.as_bytes(),
-        ..REPLAY
-    };
-    let (status, out) = ending(rt, given)?;
-    assert_eq!(rt; status, Status::Done);
-    assert_sum(rt, out.bytes(), replies_sum)
+    /// The SHA-256 of the log in hexadecimal.
+    log_sum: &'static str,
+    /// The SHA-256 of the replies in hexadecimal.
+    replies_sum: &'static str,
 }
 
-/// 175,565 bytes of lines and 27,163 bytes of replies.
-#[test]
-fn two_thousand_drawn_lines_have_the_replies_of_another_program(
-    rt: HostRuntime,
-) -> Result<(), Fail> {
-    assert_drawn(
-        &rt,
-        2_000,
-        "75bd664e63cb20f288b2ca6774b03bdf57698580d2b9091051b4a200d9ee77f0",
-        "3bf8302ba94a59c7bc6dc8ff70522d317b33d51c04525c46d3050e1cd630ce02",
-    )
+/// 175,565 bytes of lines and 27,163 bytes of replies; 1,838,625 and 269,401 bytes.
+const DRAWN: [Drawn; 2] = [
+    Drawn {
+        lines: 2_000,
+        log_sum: "75bd664e63cb20f288b2ca6774b03bdf57698580d2b9091051b4a200d9ee77f0",
+        replies_sum: "3bf8302ba94a59c7bc6dc8ff70522d317b33d51c04525c46d3050e1cd630ce02",
+    },
+    Drawn {
+        lines: 20_000,
+        log_sum: "92f78783b12a8adba236b0c94864a65af4cc41f9a461f463d661e9f42c257151",
+        replies_sum: "393a52326512c9384be6ce1aac25ee860de0bdcb3d9c2caf5c0dcb53a581319e",
+    },
+];
+
+/// Whether the bytes have this SHA-256 in hexadecimal.
+fn has_sum(alloc: Global, bytes: &[u8], sum: &str) -> Result<bool, AllocError> {
+    let digest = hex::encode(alloc, Sha256::digest(bytes).as_slice())?;
+    Ok(digest.as_str() == sum)
 }
 
-/// 1,838,625 bytes of lines and 269,401 bytes of replies.
-#[test]
-fn twenty_thousand_drawn_lines_have_the_replies_of_another_program(
-    rt: HostRuntime,
-) -> Result<(), Fail> {
-    assert_drawn(
-        &rt,
-        20_000,
-        "92f78783b12a8adba236b0c94864a65af4cc41f9a461f463d661e9f42c257151",
-        "393a52326512c9384be6ce1aac25ee860de0bdcb3d9c2caf5c0dcb53a581319e",
-    )
+/// Whether the log and the replies have their sums, and the run is done.
+fn is_as_drawn(alloc: Global, drawn: Drawn) -> Result<bool, Unread> {
+    let mut case = Case::new(alloc)?;
+    case.log = drawn_log(alloc, 7, drawn.lines)?.into_bytes();
+    let ran = run_case(alloc, &case)?;
+    let log_is_right = has_sum(alloc, case.log.as_slice(), drawn.log_sum)?;
+    let replies_are_right = has_sum(alloc, ran.written.as_slice(), drawn.replies_sum)?;
+    Ok(log_is_right && replies_are_right && ran.end == case.end && ran.is_steady)
+}
+
+/// Checks the replies to the drawn logs, and prints which are wrong.
+pub(crate) fn check_drawn(rt: &(impl Eprint + AllocGlobal)) -> io::Result<Tally> {
+    let mut tally = Tally { cases: 0, wrong: 0 };
+    for drawn in DRAWN {
+        let right = match is_as_drawn(rt.alloc(), drawn) {
+            Ok(right) => right,
+            Err(_) => false,
+        };
+        if !right {
+            eprintln!(rt; "the replies to {} drawn lines are wrong", drawn.lines)?;
+        }
+        tally.count(right);
+    }
+    Ok(tally)
 }

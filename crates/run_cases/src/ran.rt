@@ -1,0 +1,89 @@
+ghost use Rattle.std.specs.Prelude.{◌≡◌, true, string_bytes};
+
+use crate::case::Case;
+use crate::unread::Unread;
+use addrman_run::{Status, code, run, status_line};
+use host_io::{MemFolder, MemSink, MemSource};
+use std::alloc::Global;
+use std::hash::{BuildHasherDefault, FoldHasher};
+
+/// How a case went.
+#[derive(Drop)]
+pub(crate) struct Ran {
+    /// The exit code, and after a space the text of the status.
+    pub end: String,
+    pub written: Vec<u8>,
+    /// The files of the folder are as before, and no call ran out of memory.
+    pub is_steady: bool,
+}
+
+/// Whether the run went as the case wants.
+pub(crate) fn is_right(case: &Case, ran: &Ran) -> bool
+    ensures end { result ≡ true → string_bytes ran.now.end ≡ string_bytes case.now.end }
+    ensures written { result ≡ true → ran.now.written.items ≡ case.now.replies.items }
+    ensures steady { result ≡ true → ran.now.is_steady ≡ true }
+{
+    if ran.end != case.end || ran.written.as_slice() != case.replies.as_slice() {
+        return false;
+    }
+    ran.is_steady
+}
+
+/// Returns the exit code and the line on standard error, without the program's name and the line
+/// feed.
+pub(crate) fn end_of(alloc: Global, status: &Status) -> Result<String, Unread> {
+    let mut line = Vec::new(alloc);
+    if status_line(status, &mut line).is_err() {
+        return Err(Unread::Memory);
+    }
+    let code = code(status);
+    if line.is_empty() {
+        return Ok(format!(in alloc; "{code}")?);
+    }
+    let Ok(line) = str::from_utf8(line.as_slice()) else {
+        return Err(Unread::Form);
+    };
+    let Some(text) = line.strip_prefix("addrman: ") else {
+        return Err(Unread::Form);
+    };
+    match text.strip_suffix("\n") {
+        Some(text) => Ok(format!(in alloc; "{code} {text}")?),
+        None => Err(Unread::Form),
+    }
+}
+
+/// Whether each file that the case put into the folder is there as it was.
+fn is_kept(folder: &MemFolder, case: &Case) -> bool {
+    for file in case.files.as_slice() {
+        if folder.get(file.name) != Some(file.bytes.as_slice()) {
+            return false;
+        }
+    }
+    true
+}
+
+/// Returns the folder of the case.
+fn folder_of(alloc: Global, case: &Case) -> Result<MemFolder, Unread> {
+    let mut folder = MemFolder::make(alloc, case.failing_calls.as_slice())?;
+    for file in case.files.as_slice() {
+        folder.put(file.name, file.bytes.as_slice())?;
+    }
+    Ok(folder)
+}
+
+/// Runs the program on what the case gives.
+pub(crate) fn run_case(alloc: Global, case: &Case) -> Result<Ran, Unread> {
+    let log = case.log.as_slice();
+    let mut log = MemSource::make(alloc, log, case.piece.max(1), case.failing_reads.as_slice())?;
+    let mut folder = folder_of(alloc, case)?;
+    let mut out = MemSink::make(alloc, case.failing_writes.as_slice())?;
+    let hasher = BuildHasherDefault::<FoldHasher>::new();
+    let arguments = case.arguments.as_slice();
+    let status = run(alloc, hasher, arguments, &mut log, &mut folder, &mut out);
+    let is_steady = is_kept(&folder, case) && out.starved() == 0 && folder.starved() == 0;
+    Ok(Ran {
+        end: end_of(alloc, &status)?,
+        written: Vec::from_slice(alloc, out.bytes())?,
+        is_steady,
+    })
+}
