@@ -5,10 +5,11 @@ use Rattle.slot_grid.specs.Masks.{IsMask, bit_of}
 use Rattle.slot_grid.specs.Slots.{Slots, new_id, tried_id}
 use Rattle.peer_index.specs.Order.{Order}
 use Rattle.table_machine.specs.State.{new_rec_at, tried_rec_at}
+use Rattle.tables.specs.declared.waiter.Waiter.{Waiter}
 use Rattle.tables.specs.Inside.{AreStored, state_with}
 use Rattle.tables.proofs.Changes.{occupant-none, occupant-some, tried-none, tried-some}
 
-module _ (places : Places) (order : Order) (slots : Slots) (next : ℕ) (clashes : List ℕ) (good : ℕ) (stored : AreStored places order slots next) (bucket mask : ℕ) where
+module _ {ws : List Waiter} (places : Places) (order : Order) (slots : Slots) (next : ℕ) (clashes : List ℕ) (good : ℕ) (stored : AreStored places order slots next ws) (bucket mask : ℕ) where
   pub mask-new : bucket < 1024 → IsMask (new_id slots bucket) mask → IsMask (new_rec_at (state_with places order clashes good next) bucket) mask
   mask-new low is slot small = is slot small ∙ ap bit_of (by (new_id slots bucket slot) refl)
     where

@@ -1,4 +1,4 @@
-use crate::known::{check_fields, has_number};
+use crate::known::check_fields;
 use crate::marks::{after_try, still_connected, with_services};
 use crate::reach::Reach;
 use crate::{Memory, Store};
@@ -289,14 +289,13 @@ impl<'a, H: BuildHasher> Tables<'a, H> {
     /// Returns the record of a collision, by its number, or `None` if it was deleted.
     pub fn by_number<L: Ledger>(&self, number: u64, steps: &mut Steps<L>) -> Option<&Rec>
         requires waits { Contains self.now.collisions number }
-        ensures { option_map (λ r. r.now) result ≡ by_number self.now number }
+        ensures found { option_map (λ r. r.now) result ≡ by_number self.now number }
+        ensures steps { steps.new ≤ steps.old + 1 }
     {
-        let peer = self.store.waiter(number)?.peer;
-        let rec = self.find(&peer, steps)?;
-        if has_number(rec, number) {
-            Some(rec)
-        } else {
-            None
+        let waiter = self.store.waiter(number)?;
+        match waiter.id {
+            Some(id) => Some(self.store.index.get(id, steps)),
+            None => None,
         }
     }
 
