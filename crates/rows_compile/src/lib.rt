@@ -5,6 +5,8 @@
 #[cfg(test)]
 mod files;
 #[cfg(test)]
+mod full_size;
+#[cfg(test)]
 mod hundred;
 #[cfg(test)]
 mod lookups;
