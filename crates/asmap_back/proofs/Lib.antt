@@ -3,3 +3,4 @@ pub mod Ranges
 pub mod LastRow
 pub mod BackLaws
 pub mod Steps
+mod Examples

@@ -16,13 +16,15 @@ row_at p asn = record { bits = first_at p; len = length p; asn = asn }
 unfoldable pub unless_same : Row → ℕ → List Row
 unless_same row last = if row.asn == last then [] else row ∷ []
 
--- The rows of a tree at a path, if this default holds there. `last` is the number of the longest row
--- above the path, or 0. Where a match fails the answer is the default, so a match gives the default
--- a row at its path.
+-- The rows of a tree at a path, if this default holds there. `last` is the number of the longest
+-- row above the path, or 0. Where a match fails the answer is the default, so a match gives the
+-- default a row at its path.
 unfoldable pub rows_of : Tree → List Bool → ℕ → ℕ → List Row
 rows_of (Return asn) p default last = unless_same (row_at p asn) last
-rows_of (Jump l r) p default last = rows_of l (p ++ false ∷ []) default last ++ rows_of r (p ++ true ∷ []) default last
-rows_of (Match wanted t) p default last = unless_same (row_at p default) last ++ rows_of t (p ++ wanted) default default
+rows_of (Jump l r) p default last =
+    rows_of l (p ++ false ∷ []) default last ++ rows_of r (p ++ true ∷ []) default last
+rows_of (Match wanted t) p default last =
+    unless_same (row_at p default) last ++ rows_of t (p ++ wanted) default default
 rows_of (Default asn t) p default last = rows_of t p asn last
 
 -- the rows of a whole tree

@@ -1,5 +1,5 @@
--- What is still to be read of a file: the part at the next offset, and after it the right parts of the
--- jumps that are open.
+-- What is still to be read of a file: the part at the next offset, and after it the right parts of
+-- the jumps that are open.
 use Rattle.std.specs.Prelude.{◌≡◌, ℕ, ◌+◌, ◌-◌, ◌*◌, ◌^◌, ◌<◌, ◌≤◌, Bool, true, false, List, [], ◌∷◌, ◌++◌, length, drop, map, reverse, ⊤}
 use Rattle.asmap_vm.specs.Code.{Tree, code, IsSaneWithin}
 use Rattle.asmap_vm.specs.Matches.{match_size}
@@ -20,7 +20,8 @@ pub record Ahead : Type 0 where
 
 -- the part without its tree
 abbrev pub part_of : Ahead → Part
-part_of a = record { bits = first_at a.path; len = length a.path; default = a.default; last = a.last }
+part_of a =
+    record { bits = first_at a.path; len = length a.path; default = a.default; last = a.last }
 
 -- the tree is sane for the address bits that are left after its path
 pub record IsSaneAhead (a : Ahead) : Type 0 where
@@ -41,8 +42,9 @@ unfoldable pub code_ahead : List Ahead → List Bool
 code_ahead [] = []
 code_ahead (a ∷ more) = code a.tree ++ code_ahead more
 
--- the bits from an offset on are the code of these parts, whose rows and those so far are the whole
-pub record AreAhead (bits : List Bool) (at : ℕ) (parts : List Part) (rows whole : List Row) : Type 0 where
+-- the bits from an offset on are the code of these parts, and their rows after those so far are all
+pub record AreAhead (bits : List Bool) (at : ℕ) (parts : List Part)
+    (rows whole : List Row) : Type 0 where
   pub ahead : List Ahead
   pub are : map part_of ahead ≡ parts
   pub sane : AreSane ahead
@@ -55,7 +57,8 @@ abbrev pub parts_left : Reading → List Part
 parts_left reading = reading.part ∷ reverse reading.pending.items
 
 abbrev pub IsReading : List Bool → Reading → List Row → Type 0
-IsReading bits reading whole = AreAhead bits reading.offset (parts_left reading) reading.rows.items whole
+IsReading bits reading whole =
+    AreAhead bits reading.offset (parts_left reading) reading.rows.items whole
 
 -- the file goes on, or all rows are there
 abbrev pub GoesOn : List Bool → Reading → List Row → Bool → Type 0
@@ -64,7 +67,7 @@ GoesOn bits reading whole false = reading.rows.items ≡ whole
 
 -- there are more rows than a table has, unless memory ran out
 abbrev pub HasCause : List Row → BackFault → Type 0
-HasCause whole (TooMany rows) = (rows ≡ 2000001) × (MAX_ROWS < length whole)
+HasCause whole (TooMany rows) = (rows ≡ MAX_ROWS + 1) × (MAX_ROWS < length whole)
 HasCause whole Memory = ⊤
 
 -- the part of the whole tree, at the empty path

@@ -1,4 +1,4 @@
-ghost use Rattle.std.specs.Prelude.{◌≡◌, ℕ, ◌⊎◌, ◌^◌, ◌<◌, ◌≤◌, Bool, List, length, IfOk, IsErrAnd, Err};
+ghost use Rattle.std.specs.Prelude.{◌≡◌, ℕ, ◌⊎◌, ◌+◌, ◌^◌, ◌<◌, ◌≤◌, Bool, List, length, IfOk, IsErrAnd, Err};
 ghost use Rattle.bit_code.specs.Coder.{number_of};
 ghost use Rattle.asmap_vm.specs.Code.{meaning, asn_of};
 ghost use Rattle.asmap_vm.specs.Held.{tree_held};
@@ -26,9 +26,9 @@ pub fn decompile(alloc: Global, code: &Sane<'_>) -> Result<Table, BackFault>
 
     // More rows than a table may have are refused, unless memory runs out, and nothing else is.
     ensures too_many { MAX_ROWS < length (rows_back (tree_held code.now)) → IsErrAnd result
-        (λ fault. (fault ≡ BackFault.Memory) ⊎ (fault ≡ BackFault.TooMany 2000001)) }
+        (λ fault. (fault ≡ BackFault.Memory) ⊎ (fault ≡ BackFault.TooMany (MAX_ROWS + 1))) }
     ensures cause { (rows : ℕ) → result ≡ Err (BackFault.TooMany rows)
-        → (rows ≡ 2000001) × (MAX_ROWS < length (rows_back (tree_held code.now))) }
+        → (rows ≡ MAX_ROWS + 1) × (MAX_ROWS < length (rows_back (tree_held code.now))) }
 {
     let rows = Reading::rows_of(alloc, &Bits::of(code.code()))?;
     match Table::from_rows(alloc, rows.as_slice())? {

@@ -1,4 +1,4 @@
-use Rattle.std.proofs.Common.{◌≡◌, ℕ, ◌<◌, ◌≤◌, List, length, Result, Err, refl, ap, sym, ◌∙◌, subst, inl, inr, arith}
+use Rattle.std.proofs.Common.{◌≡◌, ℕ, ◌+◌, ◌<◌, ◌≤◌, List, length, Result, Err, refl, ap, sym, ◌∙◌, subst, inl, inr, arith}
 use Rattle.std.specs.Prelude.{◌⊎◌, IsErrAnd}
 use Rattle.std.proofs.lemmas.Result.{err_from_is_err_and}
 use Rattle.bit_code.specs.Coder.{number_of}
@@ -24,18 +24,18 @@ rows_of-requires c = (rows_back (tree_held c.args.code.now), held_ahead c.args.c
 abbrev HandedOn : Result Table BackFault → BackFault → Type 0
 HandedOn r fault = (x : BackFault) × (r ≡ Err x) × (x ≡ fault)
 
-which : (whole : List Row) (fault : BackFault) → HasCause whole fault → (fault ≡ Memory) ⊎ (fault ≡ TooMany 2000001)
+which : (whole : List Row) (fault : BackFault) → HasCause whole fault → (fault ≡ Memory) ⊎ (fault ≡ TooMany (MAX_ROWS + 1))
 which whole (TooMany n) cause = inr (ap TooMany cause.0)
 which whole Memory cause = inl refl
 
-one_of_two : (r : Result Table BackFault) (whole : List Row) (fault : BackFault) → HandedOn r fault → HasCause whole fault → IsErrAnd r (λ fault. (fault ≡ Memory) ⊎ (fault ≡ TooMany 2000001))
+one_of_two : (r : Result Table BackFault) (whole : List Row) (fault : BackFault) → HandedOn r fault → HasCause whole fault → IsErrAnd r (λ fault. (fault ≡ Memory) ⊎ (fault ≡ TooMany (MAX_ROWS + 1)))
 one_of_two r whole fault left cause =
-    subst (λ (x : Result Table BackFault). IsErrAnd x (λ fault. (fault ≡ Memory) ⊎ (fault ≡ TooMany 2000001))) (sym (left.1 ∙ ap Err left.2)) (which whole fault cause)
+    subst (λ (x : Result Table BackFault). IsErrAnd x (λ fault. (fault ≡ Memory) ⊎ (fault ≡ TooMany (MAX_ROWS + 1)))) (sym (left.1 ∙ ap Err left.2)) (which whole fault cause)
 
 same_fault : (r : Result Table BackFault) (x y : BackFault) → r ≡ Err x → r ≡ Err y → x ≡ y
 same_fault r x y e f = cc
 
-cause_of : (r : Result Table BackFault) (whole : List Row) (fault : BackFault) (rows : ℕ) → HandedOn r fault → HasCause whole fault → r ≡ Err (TooMany rows) → (rows ≡ 2000001) × (MAX_ROWS < length whole)
+cause_of : (r : Result Table BackFault) (whole : List Row) (fault : BackFault) (rows : ℕ) → HandedOn r fault → HasCause whole fault → r ≡ Err (TooMany rows) → (rows ≡ MAX_ROWS + 1) × (MAX_ROWS < length whole)
 cause_of r whole fault rows left cause e =
     subst (HasCause whole) (sym left.2 ∙ same_fault r left.0 (TooMany rows) left.1 e) cause
 
