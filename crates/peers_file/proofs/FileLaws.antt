@@ -1,26 +1,27 @@
 -- A file is read exactly as it is laid out, and has one meaning.
-use Rattle.std.proofs.Common.{◌≡◌, ◌⊎◌, ℕ, ◌+◌, ◌-◌, ◌<◌, ◌==◌, Bool, true, false, cond, ltb, List, length, take, drop, replicate, All, Option, Some, None, refl, sym, inl, inr, ⊎_elim, arith}
+use Rattle.std.proofs.Common.{◌≡◌, ◌⊎◌, ℕ, ◌+◌, ◌-◌, ◌<◌, ◌==◌, Bool, true, false, cond, ltb, List, length, take, drop, replicate, All, Option, Some, None, Result, Ok, Err, ◌≢◌, refl, sym, ap, ◌∙◌, inl, inr, ⊎_elim, arith}
 use Rattle.std.proofs.lemmas.Bool.{cases_lt}
 use Rattle.std.proofs.lemmas.List.{take-append-drop, length-take, get_or-take, get_or_past}
+use Rattle.std.specs.Prelude.{IfOk, IfErr}
 use Rattle.std.specs.Int.{w16, w32, w64, to_le_bytes, to_be_bytes, from_le_bytes, from_be_bytes}
 use Rattle.wire_num.specs.Format as wire
 use Rattle.wire_num.specs.Format.{value, under}
 use Rattle.wire_num.specs.Fields.{some_bytes, byte, le, be, compact}
-use Rattle.wire_num.specs.Readings.{value_at, under_at, bytes_at, byte_at, le_at, be_at, compact_at}
-use Rattle.wire_num.proofs.ReadingLaws.{AreBytes, AreBytes-rest, Reads, reads_next, Reads-value, Reads-check, Reads-times, Reads-under, one_meaning}
+use Rattle.wire_num.specs.Readings.{all_of, value_at, under_at, bytes_at, byte_at, le_at, be_at, compact_at}
+use Rattle.wire_num.proofs.ReadingLaws.{AreBytes, AreBytes-rest, Reads, reads_next, Reads-value, Reads-check, Reads-times, Reads-under, reads_all, one_meaning}
 use Rattle.wire_num.proofs.FieldLaws.{Reads-some_bytes, Reads-byte, Reads-number, le32, le64, be16}
 use Rattle.wire_num.proofs.CompactLaws.{Reads-compact}
 use Rattle.addr_codecs.specs.Layout.{addrv2_address}
 use Rattle.addr_codecs.specs.Readings.{address_at}
 use Rattle.addr_codecs.proofs.AddressLaws.{Reads-address}
 use Rattle.peer_rec.specs.Snapshot.{Snapshot}
-use Rattle.peers_file.specs.Faults.{of_field, of_number, of_address}
+use Rattle.peers_file.specs.Faults.{of_field, of_number, of_address, UnlessMemory}
 use Rattle.peers_file.specs.declared.chain.Chain.{Chain}
 use Rattle.peers_file.specs.declared.fault.Which.{Which}
 use Rattle.peers_file.specs.declared.fault.FileFault.{FileFault}
-use Rattle.peers_file.specs.declared.fault.FileFault.TheVariants.{Trailing}
-use Rattle.peers_file.specs.Layout.{field, layout_field, success_field, attempts_field, record_of, old_record_of, record_in, count_field, buckets_field, bucket_of, either, sum_in, body, between, whole_fault, IsFile, HasFileFault, HasOneMeaning}
-use Rattle.peers_file.specs.Readings.{field_at, layout_at, success_at, attempts_at, record_at, old_record_at, record_in_at, count_at, buckets_at, bucket_at, sum_in_at, body_at}
+use Rattle.peers_file.specs.declared.fault.FileFault.TheVariants.{Trailing, Memory}
+use Rattle.peers_file.specs.Layout.{field, layout_field, success_field, attempts_field, record_of, old_record_of, record_in, count_field, buckets_field, bucket_of, either, sum_in, head, buckets_of, body, between, whole_fault, IsFile, HasFileFault, HasOneMeaning}
+use Rattle.peers_file.specs.Readings.{GivesUnlessMemory, field_at, layout_at, success_at, attempts_at, record_at, old_record_at, record_in_at, count_at, buckets_at, bucket_at, sum_in_at, head_at, all_buckets_at, body_at}
 
 field32 : Reads (field (le w32)) (field_at (le_at w32))
 field32 = Reads-under of_field (le w32) (le_at w32) (Reads-number w32 (to_le_bytes w32) (from_le_bytes w32) le32)
@@ -93,15 +94,24 @@ by_sum false = field_bytes 32
 Reads-sum : (format : ℕ) → Reads (sum_in format) (sum_in_at format)
 Reads-sum format = by_sum (format == 1)
 
+Reads-head : Reads head head_at
+unfolding head head_at
+Reads-head =
+    reads_next field_byte (λ format. reads_next field_byte (λ compat. reads_next (Reads-check _ _ compat) (λ _. reads_next (Reads-check _ _ format) (λ _. reads_next (field_bytes 32) (λ key.
+    reads_next (Reads-count _ _) (λ new_count. reads_next (Reads-count _ _) (λ tried_count. reads_next Reads-buckets (λ bucket_count. Reads-value _))))))))
+
+Reads-all_buckets : (new_count bucket_count : ℕ) → Reads (buckets_of new_count bucket_count) (all_buckets_at new_count bucket_count)
+unfolding buckets_of all_buckets_at
+Reads-all_buckets new_count bucket_count = reads_next (Reads-times 0 bucket_count (bucket_of new_count) (bucket_at new_count) (Reads-bucket new_count)) (λ listed. Reads-value _)
+
 pub Reads-body : Reads body body_at
 unfolding body body_at
 Reads-body =
-    reads_next field_byte (λ format. reads_next field_byte (λ compat. reads_next (Reads-check _ _ compat) (λ _. reads_next (Reads-check _ _ format) (λ _. reads_next (field_bytes 32) (λ key.
-    reads_next (Reads-count _ _) (λ new_count. reads_next (Reads-count _ _) (λ tried_count. reads_next Reads-buckets (λ buckets.
-    reads_next (Reads-times 0 new_count (record_in format) (record_in_at format) (Reads-record_in format)) (λ new_recs.
-    reads_next (Reads-times new_count tried_count (record_in format) (record_in_at format) (Reads-record_in format)) (λ tried_recs.
-    reads_next (Reads-times 0 buckets (bucket_of new_count) (bucket_at new_count) (Reads-bucket new_count)) (λ listed.
-    reads_next (Reads-sum format) (λ sum. Reads-value _))))))))))))
+    reads_next Reads-head (λ h.
+    reads_next (Reads-times 0 h.new_count (record_in h.format) (record_in_at h.format) (Reads-record_in h.format)) (λ new_recs.
+    reads_next (Reads-times h.new_count h.tried_count (record_in h.format) (record_in_at h.format) (Reads-record_in h.format)) (λ tried_recs.
+    reads_next (Reads-all_buckets h.new_count h.bucket_count) (λ listed.
+    reads_next (Reads-sum h.format) (λ sum. Reads-value _)))))
 
 pub one_meaning_of : (chain : Chain) (bytes : List ℕ) → AreBytes (between bytes) → HasOneMeaning chain bytes
 one_meaning_of chain bytes fits = by (whole_fault chain bytes) refl
@@ -143,3 +153,56 @@ pub AreBytes-between : (bytes : List ℕ) → AreBytes bytes → AreBytes (betwe
 AreBytes-between bytes fits =
     let n = length bytes - 32 in
     AreBytes-rest (take n bytes) (take 4 (take n bytes)) (drop 4 (take n bytes)) (AreBytes-take n bytes fits) (sym (take-append-drop 4 (take n bytes)))
+
+-- ---- the answers of the reader
+
+-- what the reader answers about the bytes
+pub record IsAnswer (chain : Chain) (bytes : List ℕ) (answer : Result Snapshot FileFault) : Type 0 where
+  pub found : IfOk answer (λ snap. IsFile chain bytes snap)
+  pub only : (snap : Snapshot) → IsFile chain bytes snap → UnlessMemory answer (Ok snap)
+  pub cause : IfErr answer (λ f. f ≢ Memory → HasFileFault chain bytes f)
+  pub first : (f : FileFault) → HasFileFault chain bytes f → UnlessMemory answer (Err f)
+
+abbrev failed : FileFault → Result Snapshot FileFault
+failed f = Err f
+
+-- a file that fails a test as a whole has that fault
+pub refused : (chain : Chain) (bytes : List ℕ) (f : FileFault) → whole_fault chain bytes ≡ Some f → IsAnswer chain bytes (Err f)
+refused chain bytes f is = record {
+  found = tt;
+  only = λ snap file _. absurd (none_or_some file.0 is);
+  cause = λ _. inl is;
+  first = λ g fault _. ⊎_elim (λ other. ap failed (same_fault is other)) (λ h. absurd (none_or_some h.0 is)) fault;
+}
+  where
+    none_or_some : {o : Option FileFault} {e : FileFault} → o ≡ None → o ≡ Some e → ⊥
+    none_or_some {o = o} {e = e} none some = absurd cc
+
+    same_fault : {o : Option FileFault} {e g : FileFault} → o ≡ Some e → o ≡ Some g → e ≡ g
+    same_fault {o = o} {e = e} {g = g} one two = cc
+
+pub answers : (chain : Chain) (bytes : List ℕ) → AreBytes bytes → whole_fault chain bytes ≡ None → (answer : Result Snapshot FileFault)
+    → GivesUnlessMemory (λ snap. snap) answer (all_of body_at Trailing (between bytes)) → IsAnswer chain bytes answer
+answers chain bytes fits whole (Ok snap) given =
+    let all = reads_all body Trailing body_at (between bytes) Reads-body (AreBytes-between bytes fits) in
+    record {
+      found = (whole, all.found snap given);
+      only = λ other file _. sym given ∙ all.only other file.1;
+      cause = tt;
+      first = λ f fault _. ⊎_elim (λ early. absurd (none_or_some whole early)) (λ h. sym given ∙ all.first f h.1) fault;
+    }
+  where
+    none_or_some : {o : Option FileFault} {e : FileFault} → o ≡ None → o ≡ Some e → ⊥
+    none_or_some {o = o} {e = e} none some = absurd cc
+answers chain bytes fits whole (Err e) given =
+    let all = reads_all body Trailing body_at (between bytes) Reads-body (AreBytes-between bytes fits) in
+    let own = λ (answered : failed e ≢ Err Memory) (same : e ≡ Memory). answered (ap failed same) in
+    record {
+      found = tt;
+      only = λ snap file answered. sym (given (own answered)) ∙ all.only snap file.1;
+      cause = λ other. inr (whole, all.cause e (given other));
+      first = λ f fault answered. ⊎_elim (λ early. absurd (none_or_some whole early)) (λ h. sym (given (own answered)) ∙ all.first f h.1) fault;
+    }
+  where
+    none_or_some : {o : Option FileFault} {e : FileFault} → o ≡ None → o ≡ Some e → ⊥
+    none_or_some {o = o} {e = e} none some = absurd cc

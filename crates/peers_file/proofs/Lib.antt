@@ -1,3 +1,5 @@
 pub mod FileLaws
 pub mod TextLaws
+pub mod WholeLaws
+mod BucketLaws
 mod Examples

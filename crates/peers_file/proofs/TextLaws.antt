@@ -23,8 +23,9 @@ use Rattle.peers_file.specs.Faults.{of_field, of_number, of_address}
 use Rattle.peers_file.specs.declared.fault.FileFault.{FileFault}
 use Rattle.peers_file.specs.declared.fault.FileFault.TheVariants.{Buckets}
 use Rattle.peers_file.specs.declared.fault.Which.{Which}
-use Rattle.peers_file.specs.Layout.{field, layout_field, success_field, attempts_field, record_of, record_in, count_field, buckets_field, entries_of, pairs_with, bucket_of, sum_in, body}
-use Rattle.peers_file.specs.Texts.{record_text, indexes_of, bucket_text, body_text}
+use Rattle.peers_file.specs.Layout.{field, layout_field, success_field, attempts_field, record_of, record_in, count_field, buckets_field, entries_of, pairs_with, bucket_of, sum_in, head, head_with, buckets_of, body}
+use Rattle.peers_file.specs.Inside.{IsWritten}
+use Rattle.peers_file.specs.Texts.{record_text, indexes_of, bucket_text, head_text, body_text}
 
 -- the bytes spell the value
 pub record Spells {F A : Type 0} (p : Format F A) (bytes : List ℕ) (a : A) : Type 0 where
@@ -112,7 +113,7 @@ of_range p text f i (suc n) each =
 -- ---- the pairs, bucket by bucket
 
 -- the pairs of a bucket
-abbrev pairs_of : List (ℕ × ℕ) → ℕ → List (ℕ × ℕ)
+abbrev pub pairs_of : List (ℕ × ℕ) → ℕ → List (ℕ × ℕ)
 pairs_of listed bucket = filter (λ p. p.0 == bucket) listed
 
 indexes-kept : (new_count bucket : ℕ) (listed : List (ℕ × ℕ)) → All (λ p. p.1 < new_count) listed
@@ -220,27 +221,29 @@ of_buckets : (count : ℕ) → count ≡ 1024 → Spells buckets_field (to_le_by
 unfolding buckets_field
 of_buckets count is = subst (λ n. Spells buckets_field (to_le_bytes w32 (bit_xor n (2 ^ 30))) n) (sym is) (both _ (of_le32 (2 ^ 30 + 1024) (omega arith)) (of_test _ _ _ refl))
 
--- what a snapshot has whose file is written
-pub record IsWritten (snap : Snapshot) : Type 0 where
-  pub snapshot : IsSnapshot snap
-  pub new_recs : All IsFileRec snap.new_recs
-  pub tried_recs : All IsFileRec snap.tried_recs
-  pub buckets : snap.bucket_count ≡ 1024
-  pub few_listed : length snap.listed ≤ 65536
+of_head : (snap : Snapshot) → IsWritten snap → Spells head (head_text snap) (head_with 4 snap.key (length snap.new_recs) (length snap.tried_recs) snap.bucket_count)
+unfolding head head_text
+of_head snap written =
+    let is = written.snapshot in
+    both _ (of_byte 4) (both _ (of_byte 36) (both _ (of_test _ _ _ refl) (both _ (of_test _ _ _ refl) (both _ (of_bytes 32 snap.key is.key_length)
+    (both _ (of_count _ _ (length snap.new_recs) is.few_new (omega arith)) (both _ (of_count _ _ (length snap.tried_recs) is.few_tried (omega arith))
+    (both _ (of_buckets snap.bucket_count written.buckets) (of_nothing (head_with 4 snap.key (length snap.new_recs) (length snap.tried_recs) snap.bucket_count)))))))))
+
+of_all_buckets : (snap : Snapshot) → IsWritten snap → Spells (buckets_of (length snap.new_recs) snap.bucket_count) (flat_map (bucket_text snap.listed) (range_with_len 0 snap.bucket_count)) snap.listed
+unfolding buckets_of
+of_all_buckets snap written =
+    let is = written.snapshot in
+    let some = is.few_new in
+    let few = written.few_listed in
+    let pairs = regroup 0 snap.bucket_count snap.listed (λ k d within. let h = is.buckets k d within in (omega arith, omega arith)) is.rising in
+    subst (λ t. Spells (buckets_of (length snap.new_recs) snap.bucket_count) t snap.listed) (append-nil (flat_map (bucket_text snap.listed) (range_with_len 0 snap.bucket_count)))
+    (both _ (of_range (bucket_of (length snap.new_recs)) (bucket_text snap.listed) (pairs_of snap.listed) 0 snap.bucket_count (λ k. of_bucket (length snap.new_recs) k snap.listed (omega arith) (omega arith) is.indexes))
+    (subst (λ l. Spells (value {F = FileFault} l) [] snap.listed) (sym pairs) (of_nothing snap.listed)))
 
 -- what is written between magic and sum spells the snapshot
 pub of_body : (snap : Snapshot) → IsWritten snap → Spells body (body_text snap) snap
 unfolding body body_text
 of_body snap written =
     let is = written.snapshot in
-    let some = is.few_new in
-    let few = written.few_listed in
-    let pairs = regroup 0 snap.bucket_count snap.listed (λ k d within. let h = is.buckets k d within in (omega arith, omega arith)) is.rising in
-    let ends = subst (λ t. Spells (sequence (sum_in 4) (λ sum. value {F = FileFault} (record snap { listed = flat_map (λ ps. ps) (map (pairs_of snap.listed) (range_with_len 0 snap.bucket_count)); sum = sum }))) t snap) (append-nil snap.sum)
-    (both _ (of_bytes 32 snap.sum is.sum_length) (subst (λ l. Spells (value {F = FileFault} (record snap { listed = l })) [] snap) (sym pairs) (of_nothing snap))) in
-    both _ (of_byte 4) (both _ (of_byte 36) (both _ (of_test _ _ _ refl) (both _ (of_test _ _ _ refl) (both _ (of_bytes 32 snap.key is.key_length)
-    (both _ (of_count _ _ (length snap.new_recs) is.few_new (omega arith)) (both _ (of_count _ _ (length snap.tried_recs) is.few_tried (omega arith))
-    (both _ (of_buckets snap.bucket_count written.buckets)
-    (both _ (of_records 0 snap.new_recs written.new_recs) (both _ (of_records (length snap.new_recs) snap.tried_recs written.tried_recs)
-    (both _ (of_range (bucket_of (length snap.new_recs)) (bucket_text snap.listed) (pairs_of snap.listed) 0 snap.bucket_count (λ k. of_bucket (length snap.new_recs) k snap.listed (omega arith) (omega arith) is.indexes))
-    ends))))))))))
+    let ends = subst (λ t. Spells (sequence (sum_in 4) (λ sum. value {F = FileFault} (record snap { sum = sum }))) t snap) (append-nil snap.sum) (both _ (of_bytes 32 snap.sum is.sum_length) (of_nothing snap)) in
+    (both _ (of_head snap written) (both _ (of_records 0 snap.new_recs written.new_recs) (both _ (of_records (length snap.new_recs) snap.tried_recs written.tried_recs) (both _ (of_all_buckets snap written) ends))))

@@ -17,6 +17,7 @@ use Rattle.peer_rec.specs.declared.file_rec.FileRec.{FileRec}
 use Rattle.peer_rec.specs.declared.snapshot.TheConstants.{MAX_NEW, MAX_TRIED, MAX_BUCKETS}
 use Rattle.peer_rec.specs.Snapshot.{Snapshot, snapshot}
 use Rattle.peers_file.specs.Faults.{of_field, of_number, of_address}
+use Rattle.peers_file.specs.declared.head.Head.{Head}
 use Rattle.peers_file.specs.declared.chain.Chain.{Chain}
 use Rattle.peers_file.specs.declared.chain.Chain.TheVariants.{Main, Test, Signet, Regtest}
 use Rattle.peers_file.specs.declared.fault.Which.{Which}
@@ -133,9 +134,18 @@ bucket_of new_count bucket = do
 abbrev pub sum_in : ℕ → Format FileFault (List ℕ)
 sum_in format = either (format == 1) (value (replicate 32 0)) (field (some_bytes 32))
 
--- what stands between the magic and the sum of the file
-unfoldable pub body : Format FileFault Snapshot
-body = do
+abbrev pub head_with : ℕ → List ℕ → ℕ → ℕ → ℕ → Head
+head_with format key new_count tried_count bucket_count = record {
+  format = format;
+  key = key;
+  new_count = new_count;
+  tried_count = tried_count;
+  bucket_count = bucket_count;
+}
+
+-- the format, the least format that a program has to know of which reads the file, plus 32, the key, and the counts
+unfoldable pub head : Format FileFault Head
+head = do
   format ← field byte
   compat ← field byte
   _ ← check (nat_le 32 compat && nat_le compat 36) (Compat compat) compat
@@ -143,12 +153,24 @@ body = do
   key ← field (some_bytes 32)
   new_count ← count_field which.New MAX_NEW
   tried_count ← count_field which.Tried MAX_TRIED
-  buckets ← buckets_field
-  new_recs ← times 0 new_count (record_in format)
-  tried_recs ← times new_count tried_count (record_in format)
-  listed ← times 0 buckets (bucket_of new_count)
-  sum ← sum_in format
-  value (snapshot key new_recs tried_recs buckets (flat_map (λ pairs. pairs) listed) sum)
+  bucket_count ← buckets_field
+  value (head_with format key new_count tried_count bucket_count)
+
+-- the buckets from 0 on, as one list of pairs
+unfoldable pub buckets_of : ℕ → ℕ → Format FileFault (List (ℕ × ℕ))
+buckets_of new_count bucket_count = do
+  listed ← times 0 bucket_count (bucket_of new_count)
+  value (flat_map (λ pairs. pairs) listed)
+
+-- what stands between the magic and the sum of the file
+unfoldable pub body : Format FileFault Snapshot
+body = do
+  h ← head
+  new_recs ← times 0 h.new_count (record_in h.format)
+  tried_recs ← times h.new_count h.tried_count (record_in h.format)
+  listed ← buckets_of h.new_count h.bucket_count
+  sum ← sum_in h.format
+  value (snapshot h.key new_recs tried_recs h.bucket_count listed sum)
 
 -- the bytes after the magic and before the sum of the file
 abbrev pub between : List ℕ → List ℕ

@@ -2,3 +2,4 @@ pub mod Faults
 pub mod Layout
 pub mod Readings
 pub mod Texts
+pub mod Inside

@@ -1,5 +1,5 @@
 -- What reading a file from the start gives, field by field.
-use Rattle.std.specs.Prelude.{ℕ, ◌/◌, ◌^◌, List, replicate, Result, ◌&&◌, ◌==◌, nat_lt, nat_le, if◌then◌else◌}
+use Rattle.std.specs.Prelude.{◌≡◌, ◌≢◌, ℕ, ◌/◌, ◌^◌, List, replicate, Result, Ok, Err, ◌&&◌, ◌==◌, nat_lt, nat_le, if◌then◌else◌}
 use Rattle.std.specs.List.{flat_map}
 use Rattle.std.specs.Int.{w16, w32, w64, cast_signed}
 use Rattle.std.specs.Int.Bits.{bit_xor}
@@ -11,12 +11,13 @@ use Rattle.peer_rec.specs.declared.file_rec.FileRec.{FileRec}
 use Rattle.peer_rec.specs.declared.snapshot.TheConstants.{MAX_NEW, MAX_TRIED, MAX_BUCKETS}
 use Rattle.peer_rec.specs.Snapshot.{Snapshot, snapshot}
 use Rattle.peers_file.specs.Faults.{of_field, of_number, of_address}
-use Rattle.peers_file.specs.Layout.{or_zero, file_rec, entries_of, pairs_with}
+use Rattle.peers_file.specs.Layout.{or_zero, file_rec, entries_of, pairs_with, head_with}
+use Rattle.peers_file.specs.declared.head.Head.{Head}
 use Rattle.peers_file.specs.declared.fault.Which.{Which}
 use Rattle.peers_file.specs.declared.fault.Which.TheVariants as which
 use Rattle.peers_file.specs.declared.fault.RecordCause.TheVariants as cause
 use Rattle.peers_file.specs.declared.fault.FileFault.{FileFault}
-use Rattle.peers_file.specs.declared.fault.FileFault.TheVariants.{Compat, Version, Count, Record, Buckets, Time, Attempts}
+use Rattle.peers_file.specs.declared.fault.FileFault.TheVariants.{Compat, Version, Count, Record, Buckets, Time, Attempts, Memory}
 
 -- what reading some bytes gives: a value and the bytes after it, or the fault
 abbrev pub Read : Type 0 → Type 0
@@ -78,8 +79,8 @@ bucket_at new_count bucket =
 abbrev pub sum_in_at : ℕ → Read (List ℕ)
 sum_in_at format bytes = if format == 1 then value_at (replicate 32 0) bytes else field_at (bytes_at 32) bytes
 
-unfoldable pub body_at : Read Snapshot
-body_at =
+unfoldable pub head_at : Read Head
+head_at =
     then_at (field_at byte_at) (λ format.
     then_at (field_at byte_at) (λ compat.
     then_at (check_at (nat_le 32 compat && nat_le compat 36) (Compat compat) compat) (λ _.
@@ -87,9 +88,22 @@ body_at =
     then_at (field_at (bytes_at 32)) (λ key.
     then_at (count_at which.New MAX_NEW) (λ new_count.
     then_at (count_at which.Tried MAX_TRIED) (λ tried_count.
-    then_at buckets_at (λ buckets.
-    then_at (times_at 0 new_count (record_in_at format)) (λ new_recs.
-    then_at (times_at new_count tried_count (record_in_at format)) (λ tried_recs.
-    then_at (times_at 0 buckets (bucket_at new_count)) (λ listed.
-    then_at (sum_in_at format) (λ sum.
-    value_at (snapshot key new_recs tried_recs buckets (flat_map (λ pairs. pairs) listed) sum)))))))))))))
+    then_at buckets_at (λ bucket_count.
+    value_at (head_with format key new_count tried_count bucket_count)))))))))
+
+unfoldable pub all_buckets_at : ℕ → ℕ → Read (List (ℕ × ℕ))
+all_buckets_at new_count bucket_count = then_at (times_at 0 bucket_count (bucket_at new_count)) (λ listed. value_at (flat_map (λ pairs. pairs) listed))
+
+unfoldable pub body_at : Read Snapshot
+body_at =
+    then_at head_at (λ h.
+    then_at (times_at 0 h.new_count (record_in_at h.format)) (λ new_recs.
+    then_at (times_at h.new_count h.tried_count (record_in_at h.format)) (λ tried_recs.
+    then_at (all_buckets_at h.new_count h.bucket_count) (λ listed.
+    then_at (sum_in_at h.format) (λ sum.
+    value_at (snapshot h.key new_recs tried_recs h.bucket_count listed sum))))))
+
+-- The view of an answer is what the reading gives, unless memory ran out.
+abbrev pub GivesUnlessMemory : {X Y : Type 0} → (X → Y) → Result X FileFault → Result Y FileFault → Type 0
+GivesUnlessMemory view (Ok x) read = read ≡ Ok (view x)
+GivesUnlessMemory view (Err e) read = e ≢ Memory → read ≡ Err e

@@ -25,11 +25,16 @@ indexes_of listed bucket = map (λ pair. pair.1) (filter (λ pair. pair.0 == buc
 unfoldable pub bucket_text : List (ℕ × ℕ) → ℕ → List ℕ
 bucket_text listed bucket = to_le_bytes w32 (length (indexes_of listed bucket)) ++ flat_map (to_le_bytes w32) (indexes_of listed bucket)
 
+-- the format and what it asks of its readers, the key, and the counts
+unfoldable pub head_text : Snapshot → List ℕ
+head_text snap =
+    (4 ∷ 36 ∷ []) ++ (snap.key ++ (to_le_bytes w32 (length snap.new_recs) ++ (to_le_bytes w32 (length snap.tried_recs) ++ to_le_bytes w32 (bit_xor snap.bucket_count (2 ^ 30)))))
+
 -- what stands between the magic and the sum of the file
 unfoldable pub body_text : Snapshot → List ℕ
 body_text snap =
-    (4 ∷ 36 ∷ []) ++ (snap.key ++ (to_le_bytes w32 (length snap.new_recs) ++ (to_le_bytes w32 (length snap.tried_recs) ++ (to_le_bytes w32 (bit_xor snap.bucket_count (2 ^ 30))
-    ++ (flat_map record_text snap.new_recs ++ (flat_map record_text snap.tried_recs ++ (flat_map (bucket_text snap.listed) (range_with_len 0 snap.bucket_count) ++ snap.sum)))))))
+    head_text snap ++ (flat_map record_text snap.new_recs ++ (flat_map record_text snap.tried_recs
+    ++ (flat_map (bucket_text snap.listed) (range_with_len 0 snap.bucket_count) ++ snap.sum)))
 
 -- the file: the magic, the body, and the sum of both
 unfoldable pub file_text : Chain → Snapshot → List ℕ

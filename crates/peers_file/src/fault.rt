@@ -1,4 +1,11 @@
+ghost use Rattle.std.specs.Prelude.{◌≡◌};
+ghost use Rattle.peers_file.specs.Faults.{of_field, of_number, of_address};
+ghost use Rattle.peers_file.specs.declared.fault.FileFault.TheVariants.{Memory};
+
+use addr_codecs::AddressFault;
+use std::alloc::{AllocError, AllocFailed};
 use thiserror::Error;
+use wire_num::WireFault;
 
 /// The records of a table.
 #[derive(Clone, Copy, Debug, PartialEq, Eq)]
@@ -34,24 +41,40 @@ pub enum FileFault {
     BadSum,
     /// The format cannot be read by a program that reads formats up to 4.
     #[error("compat")]
-    Compat { byte: u8 },
+    Compat {
+        byte: u8,
+    },
     /// The format is 0 or above 4.
     #[error("version")]
-    Version { byte: u8 },
+    Version {
+        byte: u8,
+    },
     /// The number of records is negative or too large.
     #[error("count")]
-    Count { which: Which, value: i32 },
+    Count {
+        which: Which,
+        value: i32,
+    },
     #[error("record")]
-    Record { index: u32, cause: RecordCause },
+    Record {
+        index: u32,
+        cause: RecordCause,
+    },
     /// The number of buckets is negative or too large.
     #[error("buckets")]
-    Buckets { value: i32 },
+    Buckets {
+        value: i32,
+    },
     /// The last success of a record is before 1970 or later than a time can be.
     #[error("time")]
-    Time { index: u32 },
+    Time {
+        index: u32,
+    },
     /// The attempts of a record are negative.
     #[error("attempts")]
-    Attempts { index: u32 },
+    Attempts {
+        index: u32,
+    },
     /// Bytes are left after the last field.
     #[error("trailing")]
     Trailing,
@@ -63,4 +86,57 @@ pub enum FileFault {
     },
     #[error("out of memory")]
     Memory,
+}
+
+impl FileFault {
+    /// Returns the fault of a file whose CompactSize has this fault, in the record of an index.
+    pub(crate) fn of_number(index: u32, fault: WireFault) -> FileFault
+        ensures { result ≡ of_number index fault }
+    {
+        match fault {
+            WireFault::Truncated => FileFault::Truncated,
+            WireFault::NonCanonical => FileFault::Record {
+                index,
+                cause: RecordCause::NonCanonical,
+            },
+        }
+    }
+
+    /// Returns the fault of a file whose address has this fault, in the record of an index.
+    pub(crate) fn of_address(index: u32, fault: AddressFault) -> FileFault
+        ensures { result ≡ of_address index fault }
+    {
+        let cause = match fault {
+            AddressFault::Truncated => return FileFault::Truncated,
+            AddressFault::NonCanonical => RecordCause::NonCanonical,
+            AddressFault::TooLong => RecordCause::TooLong,
+            AddressFault::BadLength => RecordCause::BadLength,
+        };
+        FileFault::Record { index, cause }
+    }
+}
+
+/// The fault of a field that has no CompactSize.
+impl From<WireFault> for FileFault {
+    ghost from_gives = { λ fault e. e ≡ of_field fault };
+
+    fn from(_fault: WireFault) -> FileFault {
+        FileFault::Truncated
+    }
+}
+
+impl From<AllocError> for FileFault {
+    ghost from_gives = { λ _ e. e ≡ Memory };
+
+    fn from(_error: AllocError) -> FileFault {
+        FileFault::Memory
+    }
+}
+
+impl<T: Drop> From<AllocFailed<T>> for FileFault {
+    ghost from_gives = { λ _ e. e ≡ Memory };
+
+    fn from(_error: AllocFailed<T>) -> FileFault {
+        FileFault::Memory
+    }
 }

@@ -3,8 +3,13 @@
 
 mod chain;
 mod fault;
+mod head;
 mod law;
+mod read;
+mod record;
+mod repeated;
 
 pub use chain::Chain;
 pub use fault::{FileFault, RecordCause, Which};
 pub use law::files_have_one_meaning;
+pub use read::{MAX_FILE, read_file};

@@ -1,0 +1,85 @@
+ghost use Rattle.std.specs.Prelude.{◌≡◌, ◌≤◌, ◌^◌, IfOk};
+ghost use Rattle.std.specs.Int.Bits.{bit_xor};
+ghost use Rattle.wire_num.specs.Readings.{Gives};
+ghost use Rattle.peers_file.specs.Readings.{count_at, buckets_at, head_at};
+ghost use Rattle.peer_rec.specs.declared.snapshot.TheConstants.{MAX_NEW, MAX_TRIED, MAX_BUCKETS};
+
+use crate::fault::{FileFault, Which};
+use peer_rec::{MAX_BUCKETS, MAX_NEW, MAX_TRIED};
+use wire_num::{take_byte, take_le32};
+
+/// What stands before the records.
+#[derive(Drop)]
+pub(crate) struct Head {
+    /// 1 to 4.
+    pub format: u8,
+    pub key: [u8; 32],
+    pub new_count: u32,
+    pub tried_count: u32,
+    pub bucket_count: u32,
+}
+
+/// Takes a number of records, at most `limit`.
+#[tactic(auto, unfolding(crate::specs::Readings::count_at))]
+fn take_count(which: Which, limit: u32, bytes: &[u8]) -> Result<(u32, &[u8]), FileFault>
+    ensures found { Gives (λ x. (x.0, x.1.now)) result (count_at which limit bytes.now) }
+    ensures few { IfOk result (λ x. x.0 ≤ limit) }
+{
+    let (count, rest) = take_le32(bytes)?;
+    if count > limit {
+        return Err(FileFault::Count {
+            which,
+            value: count.cast_signed(),
+        });
+    }
+    Ok((count, rest))
+}
+
+/// Takes the number of buckets, whose bit 30 is turned so that the first format of a file without
+/// such a number is not read.
+#[tactic(auto, unfolding(crate::specs::Readings::buckets_at))]
+fn take_bucket_count(bytes: &[u8]) -> Result<(u32, &[u8]), FileFault>
+    ensures found { Gives (λ x. (x.0, x.1.now)) result (buckets_at bytes.now) }
+    ensures few { IfOk result (λ x. x.0 ≤ MAX_BUCKETS) }
+{
+    let (coded, rest) = take_le32(bytes)?;
+    let count = coded ^ 0x4000_0000;
+    if count > MAX_BUCKETS {
+        return Err(FileFault::Buckets {
+            value: count.cast_signed(),
+        });
+    }
+    Ok((count, rest))
+}
+
+/// Takes what stands before the records.
+#[tactic(auto, unfolding(crate::specs::Readings::head_at))]
+pub(crate) fn take_head(bytes: &[u8]) -> Result<(Head, &[u8]), FileFault>
+    ensures found { Gives (λ x. (x.0, x.1.now)) result (head_at bytes.now) }
+    ensures few_new { IfOk result (λ x. x.0.new_count ≤ MAX_NEW) }
+    ensures few_tried { IfOk result (λ x. x.0.tried_count ≤ MAX_TRIED) }
+    ensures few_buckets { IfOk result (λ x. x.0.bucket_count ≤ MAX_BUCKETS) }
+{
+    let (format, rest) = take_byte(bytes)?;
+    let (compat, rest) = take_byte(rest)?;
+    if !(32 <= compat && compat <= 36) {
+        return Err(FileFault::Compat { byte: compat });
+    }
+    if !(1 <= format && format <= 4) {
+        return Err(FileFault::Version { byte: format });
+    }
+    let Some((key, rest)) = rest.split_first_chunk::<32>() else {
+        return Err(FileFault::Truncated);
+    };
+    let (new_count, rest) = take_count(Which::New, MAX_NEW, rest)?;
+    let (tried_count, rest) = take_count(Which::Tried, MAX_TRIED, rest)?;
+    let (bucket_count, rest) = take_bucket_count(rest)?;
+    let head = Head {
+        format,
+        key: *key,
+        new_count,
+        tried_count,
+        bucket_count,
+    };
+    Ok((head, rest))
+}
