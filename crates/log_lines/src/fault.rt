@@ -1,10 +1,10 @@
 use thiserror::Error;
 
-/// Why a line is refused: an unknown first word, a wrong number of fields, or the first malformed
+/// Why a line is refused: an unknown keyword, a wrong number of fields, or the first malformed
 /// field.
 #[derive(Clone, Copy, Debug, PartialEq, Eq, Error)]
 pub enum LineFault {
-    /// The first word is not that of a command, or a field is not one of its words.
+    /// The keyword of the line is unknown, or a field is none of its keywords or names.
     #[error("word")]
     Word,
     /// The line has too few or too many fields.
@@ -13,13 +13,13 @@ pub enum LineFault {
     /// A number is not decimal or out of range.
     #[error("number")]
     Number,
-    /// An address or a peer has another form.
+    /// An address or a peer is malformed.
     #[error("peer")]
     Peer,
     /// Bytes are not in hexadecimal digits.
     #[error("hex")]
     Hex,
-    /// The random words have another form.
+    /// The random words are malformed.
     #[error("words")]
     Words,
     /// Out of memory.

@@ -9,8 +9,8 @@ use host_io::Bytes;
 use net_addr::{NetAddr, Peer, parse_addr, parse_number, parse_peer};
 use std::alloc::Global;
 
-/// Reads a number in decimal digits, or returns `None` if the text has another form or the number
-/// is above `most`. A sign or a leading zero is refused.
+/// Reads a number in decimal digits, or returns `None` if the text is malformed or the number is
+/// above `most`. A sign or a leading zero is refused.
 pub fn read_decimal(text: &[u8], most: u64) -> Option<u64>
     ensures found { IfSome result (λ n. (n ≤ most) × (text.now ≡ decimal n)) }
     ensures only { (n : ℕ) → n ≤ most → text.now ≡ decimal n → result ≡ Some n }
@@ -63,7 +63,7 @@ pub(crate) fn read_peer(text: &[u8]) -> Result<Peer, LineFault>
     }
 }
 
-/// Returns whether the text is the first of two words; it must be the first or the second.
+/// Returns `true` for the first of two keywords and `false` for the second.
 pub fn read_either(text: &[u8], first: &[u8], second: &[u8]) -> Result<bool, LineFault>
     requires { first.now ≢ second.now }
     ensures found { IfOk result (λ b.

@@ -13,7 +13,7 @@ pub fn cut_field(text: &[u8]) -> (&[u8], Option<&[u8]>)
     cut_piece(text, b' ')
 }
 
-/// Returns whether there are no fields.
+/// Returns `true` if there are no fields.
 pub(crate) fn no_fields(rest: Option<&[u8]>) -> bool
     ensures { IsTrue result ↔ (length (texts_after rest.entry) ≡ 0) }
 {

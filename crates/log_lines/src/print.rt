@@ -67,7 +67,7 @@ fn put_line(reply: &Reply, out: &mut Vec<u8>) -> Result<(), Memory>
     }
 }
 
-/// Returns the word for a fault of a message.
+/// Returns the text of a fault of a message.
 fn fault_word(fault: &MsgFault) -> &'static [u8]
     ensures { result.now ≡ fault_text fault.now }
 {
@@ -82,7 +82,7 @@ fn fault_word(fault: &MsgFault) -> &'static [u8]
     }
 }
 
-/// Returns the word for the result of a connection to a peer.
+/// Returns the text of the result of a connection to a peer.
 fn good_word(good: &Good) -> &'static [u8]
     ensures { result.now ≡ good_text good.now }
 {
@@ -94,7 +94,7 @@ fn good_word(good: &Good) -> &'static [u8]
     }
 }
 
-/// Returns the word for whether a peer is known.
+/// Returns the text that says whether a peer is known.
 fn known_word(known: bool) -> &'static [u8]
     ensures { result.now ≡ known_text known }
 {
@@ -120,7 +120,7 @@ fn put_size(counts: &Counts, out: &mut Vec<u8>) -> Result<(), Memory>
     put_number(b" clashes ", u64::from(counts.clashes), out)
 }
 
-/// Appends what a pick gives.
+/// Appends the result of `select`.
 fn put_picked(picked: &Picked, out: &mut Vec<u8>) -> Result<(), Memory>
     ensures { OnOk result (out.new.items ≡ out.old.items ++ picked_text picked.now) }
 {
@@ -131,7 +131,7 @@ fn put_picked(picked: &Picked, out: &mut Vec<u8>) -> Result<(), Memory>
     }
 }
 
-/// Appends a word, a peer and a time in seconds since 1970.
+/// Appends a text, a peer and a time in seconds since 1970.
 fn put_timed(word: &[u8], peer: &Peer, time: u32, out: &mut Vec<u8>) -> Result<(), Memory>
     ensures { OnOk result (out.new.items ≡ out.old.items ++ timed_text word.now peer.now time) }
 {
@@ -169,7 +169,7 @@ fn put_resolved(resolved: &Resolved, out: &mut Vec<u8>) -> Result<(), Memory>
     put_number(b" kept ", u64::from(resolved.kept), out)
 }
 
-/// Appends the occupant that a collision is about, and when it was last tried.
+/// Appends the occupant of a collision's slot, and when it was last tried.
 fn put_clash(found: &Option<(Peer, u32)>, out: &mut Vec<u8>) -> Result<(), Memory>
     ensures { OnOk result (out.new.items ≡ out.old.items ++ clash_text found.now) }
 {
@@ -262,7 +262,7 @@ fn put_numbers(numbers: &[u16], out: &mut Vec<u8>) -> Result<(), Memory>
     Ok(())
 }
 
-/// Appends a word and a number after it.
+/// Appends a text and a number after it.
 fn put_number(word: &[u8], number: u64, out: &mut Vec<u8>) -> Result<(), Memory>
     ensures { OnOk result (out.new.items ≡ out.old.items ++ word.now ++ decimal number) }
 {

@@ -33,7 +33,7 @@ pub fn read_words(alloc: Global, text: &[u8]) -> Result<Words, LineFault>
     }
 }
 
-/// Returns whether the text is `-`.
+/// Returns `true` if the text is `-`.
 fn is_dash(text: &[u8]) -> bool
     ensures yes { IsTrue result → text.now ≡ codes "-" }
     ensures no { text.now ≡ codes "-" → IsTrue result }

@@ -50,14 +50,14 @@ fn read_spelled(alloc: Global, line: &[u8]) -> Result<Command, LineFault>
     read_command(alloc, verb, rest)
 }
 
-/// Returns whether the line is passed over.
+/// Returns `true` if the line is passed over.
 fn is_passed_over(line: &[u8]) -> bool
     ensures { IsTrue result ↔ IsPassedOver line.now }
 {
     line.is_empty() || line[0] == b'#'
 }
 
-/// Returns the verb of the first word of a line.
+/// Returns the verb of this keyword.
 fn verb_of(word: &[u8]) -> Option<Verb>
     ensures found { IfSome result (λ verb. word.now ≡ word_of verb) }
     ensures none { IfNone result ((verb : Verb) → word.now ≢ word_of verb) }
@@ -199,7 +199,7 @@ fn one_peer(rest: Option<&[u8]>) -> Result<Peer, LineFault>
     read_peer(peer)
 }
 
-/// Reads a peer and one of two words.
+/// Reads a peer and one of two keywords.
 fn peer_and_choice(
     rest: Option<&[u8]>,
     first: &[u8],

@@ -2,7 +2,7 @@ use addr_codecs::MsgFault;
 use net_addr::Peer;
 use peer_rec::{Counts, Good, Peers, Picked, Rec, Recs, Resolved};
 
-/// What a command is answered. Times are in seconds since 1970.
+/// The answer to a command. Times are in seconds since 1970.
 #[derive(Drop)]
 pub enum Reply {
     /// The clock is set.
@@ -11,7 +11,7 @@ pub enum Reply {
     Added { accepted: u32, total: u32 },
     /// A message is refused, for its first fault.
     Refused(MsgFault),
-    /// There are fewer random words than are needed.
+    /// There are too few random words.
     Short { need: u32, have: u32 },
     /// The result of a connection to a peer.
     Good(Good),
@@ -21,13 +21,13 @@ pub enum Reply {
     Found(Option<Rec>),
     /// How many records there are.
     Size(Counts),
-    /// What a pick gives.
+    /// The result of `select`.
     Picked(Picked),
     /// The peers of a sample.
     Sample(Peers),
     /// How many collisions had which result.
     Resolved(Resolved),
-    /// The occupant that a collision is about, and when it was last tried.
+    /// The occupant of a collision's slot, and when it was last tried.
     Clash(Option<(Peer, u32)>),
     /// All records.
     Dump(Recs),

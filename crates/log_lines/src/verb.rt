@@ -1,4 +1,4 @@
-/// The first word of a line, which says what the line asks for.
+/// The keyword of a line, its first field, which says what the line asks for.
 #[derive(Clone, Copy, Debug, PartialEq, Eq)]
 pub enum Verb {
     Now,
