@@ -5,7 +5,6 @@ use Rattle.net_addr.specs.declared.entry.Entry.{Entry}
 use Rattle.addr_codecs.specs.Layout.{IsAddrMessage, IsAddrv2Message, HasAddrFault, HasAddrv2Fault}
 use Rattle.addr_codecs.specs.declared.fault.MsgFault.{MsgFault}
 use Rattle.addr_codecs.specs.declared.fault.MsgFault.TheVariants as msg
-use Rattle.net_addr.specs.declared.net.Net.{Net}
 use Rattle.peer_rec.specs.Rec.{is_tried}
 use Rattle.peer_rec.specs.declared.counts.Counts.{Counts}
 use Rattle.table_machine.specs.State.{State, find_peer}
@@ -49,36 +48,23 @@ counts_of st = record {
 }
 
 -- A sample of the tables. With fewer random words than there are records it changes nothing.
-abbrev pub SampleStep : Machine → ℕ → ℕ → Option Net → List ℕ → Reply → Machine → Type 0
-SampleStep old max pct class words answer new =
+abbrev pub SampleStep : Machine → ℕ → ℕ → List ℕ → List ℕ → Reply → Machine → Type 0
+SampleStep old max pct classes words answer new =
     ((length words < length old.tables.order) × Tells old (reply.Short (length old.tables.order) (length words)) answer new)
     ⊎ ((length old.tables.order ≤ length words)
-    × Gives old (reply.Sample (sample old.tables max pct class words old.clock).peers) (sample old.tables max pct class words old.clock).state answer new)
+    × Gives old (reply.Sample (sample old.tables max pct classes words old.clock).peers) (sample old.tables max pct classes words old.clock).state answer new)
 
--- the commands that are supported
+-- the commands that are supported: all but those that save
 abbrev pub IsBuilt : Command → Type 0
-IsBuilt (command.Now time) = ⊤
-IsBuilt (command.Addr source payload words) = ⊤
-IsBuilt (command.Addr2 source payload words) = ⊤
-IsBuilt (command.Find peer) = ⊤
-IsBuilt (command.Good peer testing) = ⊤
-IsBuilt (command.Attempt peer count) = ⊤
-IsBuilt (command.Connected peer) = ⊤
-IsBuilt (command.Services peer services) = ⊤
-IsBuilt command.Size = ⊤
-IsBuilt (command.Select new_only net words) = ⊤
-IsBuilt (command.Sample max pct class words) = ⊤
-IsBuilt command.Resolve = ⊤
-IsBuilt (command.Clash word) = ⊤
-IsBuilt command.Dump = ⊤
 IsBuilt command.Save = ⊥
 IsBuilt command.SaveBegin = ⊥
 IsBuilt (command.SaveStep count) = ⊥
 IsBuilt command.SaveEnd = ⊥
+IsBuilt other = ⊤
 
 -- a sample is of at most 100 percent
 abbrev pub HasPercent : Command → Type 0
-HasPercent (command.Sample max pct class words) = pct ≤ 100
+HasPercent (command.Sample max pct classes words) = pct ≤ 100
 HasPercent other = ⊤
 
 -- what a command is answered, and the machine after it
@@ -96,15 +82,12 @@ Step old (command.Services peer services) answer new =
     Gives old (reply.Known (set_services old.tables peer services).answer) (set_services old.tables peer services).state answer new
 Step old (command.Find peer) answer new = Tells old (reply.Found (find_peer old.tables peer)) answer new
 Step old command.Size answer new = Tells old (reply.Size (counts_of old.tables)) answer new
-Step old (command.Select new_only net words) answer new = Tells old (reply.Picked (select old.tables new_only net words old.clock)) answer new
-Step old (command.Sample max pct class words) answer new = SampleStep old max pct class words answer new
+Step old (command.Select new_only nets words) answer new = Tells old (reply.Picked (select old.tables new_only nets words old.clock)) answer new
+Step old (command.Sample max pct class words) answer new = SampleStep old max pct classes words answer new
 Step old command.Resolve answer new = Gives old (reply.Resolved (resolve old.tables old.clock).answer) (resolve old.tables old.clock).state answer new
 Step old (command.Clash word) answer new = Gives old (reply.Clash (clash_pick old.tables word).answer) (clash_pick old.tables word).state answer new
 Step old command.Dump answer new = Tells old (reply.Dump old.tables.records) answer new
-Step old command.Save answer new = ⊥
-Step old command.SaveBegin answer new = ⊥
-Step old (command.SaveStep count) answer new = ⊥
-Step old command.SaveEnd answer new = ⊥
+Step old other answer new = ⊥
 
 -- the entries of a message before some entry were taken
 abbrev pub TookFirst : Machine → List (Option Entry) → Address → List ℕ → Machine → Type 0
@@ -127,19 +110,6 @@ LeavesPart old other new = new ≡ old
 abbrev pub NeedsMemory : Command → Type 0
 NeedsMemory (command.Addr source payload words) = ⊤
 NeedsMemory (command.Addr2 source payload words) = ⊤
-NeedsMemory (command.Now time) = ⊥
-NeedsMemory (command.Find peer) = ⊥
-NeedsMemory (command.Good peer testing) = ⊥
-NeedsMemory (command.Attempt peer count) = ⊥
-NeedsMemory (command.Connected peer) = ⊥
-NeedsMemory (command.Services peer services) = ⊥
-NeedsMemory command.Size = ⊥
-NeedsMemory (command.Select new_only net words) = ⊥
-NeedsMemory (command.Sample max pct class words) = ⊤
-NeedsMemory command.Resolve = ⊥
-NeedsMemory (command.Clash word) = ⊥
+NeedsMemory (command.Sample max pct classes words) = ⊤
 NeedsMemory command.Dump = ⊤
-NeedsMemory command.Save = ⊥
-NeedsMemory command.SaveBegin = ⊥
-NeedsMemory (command.SaveStep count) = ⊥
-NeedsMemory command.SaveEnd = ⊥
+NeedsMemory other = ⊥

@@ -10,6 +10,8 @@ use log_lines::{Reply, Words};
 use net_addr::{Entry, NetAddr};
 use std::alloc::Global;
 use std::hash::BuildHasher;
+use std::sync::ledger::Ledger;
+use steps::Steps;
 
 /// The two messages that announce addresses.
 #[derive(Clone, Copy, Debug, PartialEq, Eq)]
@@ -53,11 +55,12 @@ fn read_payload(alloc: Global, form: Form, payload: &[u8]) -> Result<Entries, Ms
 impl<'a, H: BuildHasher> Manager<'a, H> {
     /// Adds an entry of a message, with its random word, and returns whether it got a slot. A
     /// skipped one changes nothing.
-    fn take_entry(
+    fn take_entry<L: Ledger>(
         &mut self,
         entry: &Option<Entry>,
         source: &NetAddr,
         word: u64,
+        steps: &mut Steps<L>,
     ) -> Result<bool, Memory>
         requires more { self.old.tables.next_number < 2 ^ 63 }
         ensures answer { IfOk result (λ answer. answer ≡ (take_entry self.old.tables self.old.clock entry.now source.now word).answer) }
@@ -68,9 +71,9 @@ impl<'a, H: BuildHasher> Manager<'a, H> {
         match entry {
             Some(entry) => {
                 let entry = clamp_time(entry, self.clock);
-                let answer = self
-                    .tables
-                    .add(&entry, source, MESSAGE_PENALTY, word, self.clock)?;
+                let answer =
+                    self.tables
+                        .add(&entry, source, MESSAGE_PENALTY, word, self.clock, steps)?;
                 Ok(answer)
             }
             None => Ok(false),
@@ -79,11 +82,12 @@ impl<'a, H: BuildHasher> Manager<'a, H> {
 
     /// Adds the entries of a message in order, each with the random word at its index, and returns
     /// how many got a slot.
-    fn take_entries(
+    fn take_entries<L: Ledger>(
         &mut self,
         entries: &[Option<Entry>],
         source: &NetAddr,
         words: &[u64],
+        steps: &mut Steps<L>,
     ) -> Result<u32, Memory>
         requires more { self.old.tables.next_number < 2 ^ 62 }
         requires few { length entries.now ≤ 1000 }
@@ -95,25 +99,25 @@ impl<'a, H: BuildHasher> Manager<'a, H> {
     {
         let mut count = 0;
         for (i, entry) in entries.iter().enumerate() {
-            let answer = self.take_entry(entry, source, words[i])?;
+            let answer = self.take_entry(entry, source, words[i], steps)?;
             count += u32::from(answer);
         }
         Ok(count)
     }
 
     /// Adds the entries of a message, unless there are fewer random words.
-    fn take_message(
+    fn take_message<L: Ledger>(
         &mut self,
         entries: &[Option<Entry>],
         source: &NetAddr,
         words: &[u64],
+        steps: &mut Steps<L>,
     ) -> Result<Reply, Memory>
         requires more { self.old.tables.next_number < 2 ^ 62 }
         requires few { length entries.now ≤ 1000 }
         requires few_words { length words.now < 2 ^ 32 }
         ensures step { IfOk result (λ answer. EntriesStep self.old entries.now source.now words.now answer self.new) }
         ensures numbers { self.new.tables.next_number ≤ self.old.tables.next_number + 1000 }
-        ensures spoken { IfOk result (λ answer. answer ≢ Reply.Refused MsgFault.Memory) }
         ensures err { OnErr result (TookFirst self.old entries.now source.now words.now self.new) }
     {
         if entries.len() > words.len() {
@@ -122,7 +126,7 @@ impl<'a, H: BuildHasher> Manager<'a, H> {
                 have: words.len() as u32,
             });
         }
-        let accepted = self.take_entries(entries, source, words)?;
+        let accepted = self.take_entries(entries, source, words, steps)?;
         Ok(Reply::Added {
             accepted,
             total: entries.len() as u32,
@@ -130,22 +134,22 @@ impl<'a, H: BuildHasher> Manager<'a, H> {
     }
 
     /// Reads the message in a payload and adds its entries.
-    pub(crate) fn take_payload(
+    pub(crate) fn take_payload<L: Ledger>(
         &mut self,
         alloc: Global,
         form: Form,
         payload: &Bytes,
         source: &NetAddr,
         words: &Words,
+        steps: &mut Steps<L>,
     ) -> Result<Reply, Memory>
         requires more { self.old.tables.next_number < 2 ^ 62 }
         ensures step { IfOk result (λ answer. MessageStep (IsMessage form payload.now) (HasFault form payload.now) self.old source.now words.now answer self.new) }
         ensures numbers { self.new.tables.next_number ≤ self.old.tables.next_number + 1000 }
-        ensures spoken { IfOk result (λ answer. answer ≢ Reply.Refused MsgFault.Memory) }
         ensures err { OnErr result (LeavesEntries (IsMessage form payload.now) self.old source.now words.now self.new) }
     {
         match read_payload(alloc, form, payload.items()) {
-            Ok(entries) => self.take_message(entries.items(), source, words.items()),
+            Ok(entries) => self.take_message(entries.items(), source, words.items(), steps),
             Err(MsgFault::Memory) => Err(Memory),
             Err(fault) => Ok(Reply::Refused(fault)),
         }

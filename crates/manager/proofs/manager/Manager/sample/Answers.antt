@@ -15,6 +15,6 @@ pub returns-clause-numbers : goal.returns-clause-numbers
 returns-clause-numbers g c =
     let st = c.self.inside.tables in
     let a = c.args in
-    next_by c.sample.result st c.sample.new.tables _ (sample-next st a.max a.pct a.class c.items.result.now c.self.inside.clock)
+    next_by c.sample.result st c.sample.new.tables _ (sample-next st a.max a.pct a.classes c.items.result.now c.self.inside.clock)
     c.sample.ensures.state c.sample.ensures.err
     ∙ ap (λ (m : Machine). m.tables.next_number) c.self.view_is

@@ -7,6 +7,6 @@ pub returns-clause-step : goal.returns-clause-step
 returns-clause-step g c =
     let words = c.items.ensures.items in (
       ap reply.Picked (c.select.ensures.picked
-          ∙ (λ j. select (c.self.view_is j).tables c.args.new_only c.args.net (words j) (c.self.view_is j).clock)),
+          ∙ (λ j. select (c.self.view_is j).tables c.args.new_only c.args.nets (words j) (c.self.view_is j).clock)),
       refl,
     )
