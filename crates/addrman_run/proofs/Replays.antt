@@ -31,11 +31,11 @@ pub record LinesEnd (start now : Machine) (log : List ℕ) (old new : Option (Li
   pub not_built : (n : ℕ) → status ≡ NotBuilt n → Told (λ m text. StopsAt LineStep IsNotBuilt m log n text) start old new
 
 writes : (IsText : Machine → List ℕ → List ℕ → Type 0) (key log : List ℕ) (map : Option Asmap) (start : Machine) (old new : Outside) →
-    IsMapIn old.files map → IsLogIn old.left log → start ≡ opening key map → Told (λ m t. IsText m log t) start old.written new.written → Writes IsText key old new
+    IsMapIn old.past map → IsLogIn old.left log → start ≡ opening key map → Told (λ m t. IsText m log t) start old.written new.written → Writes IsText key old new
 writes IsText key log map start old new has read is told = (map, has, (log, read, (told.0, subst (λ m. IsText m log told.0) is told.1, told.2)))
 
 pub replay_text : (key log : List ℕ) (map : Option Asmap) (start now : Machine) (old new : Outside) (status : Status) →
-    IsMapIn old.files map → IsLogIn old.left log → start ≡ opening key map → LinesEnd start now log old.written new.written status → ReplayText key old new status
+    IsMapIn old.past map → IsLogIn old.left log → start ≡ opening key map → LinesEnd start now log old.written new.written status → ReplayText key old new status
 replay_text key log map start now old new Done has read is ends = writes (λ m l t. AnswersAll LineStep m l t) key log map start old new has read is (ends.done refl)
 replay_text key log map start now old new (LogLine n f) has read is ends = writes (λ m l t. StopsAt LineStep (λ line. HasFault line f) m l n t) key log map start old new has read is (ends.fault n f refl)
 replay_text key log map start now old new (NotBuilt n) has read is ends = writes (λ m l t. StopsAt LineStep IsNotBuilt m l n t) key log map start old new has read is (ends.not_built n refl)

@@ -1,35 +1,31 @@
 -- The folder's asmap.dat.
-use Rattle.std.specs.Prelude.{◌≡◌, ℕ, ◌<◌, ◌≤◌, List, length, Option, Some, None, IfSome, option_map}
-use Rattle.host_io.specs.Files.{Files}
-use Rattle.host_io.specs.PerName.{under}
+use Rattle.std.specs.Prelude.{◌≡◌, ℕ, List, Option, Some, None}
+use Rattle.host_io.specs.Past.{Past}
 use Rattle.host_io.specs.declared.name.Name.TheVariants as name
 use Rattle.asmap_vm.specs.Asmap.{Asmap, IsAsmap}
+use Rattle.bit_code.specs.declared.bits.TheConstants.{MAX_ASMAP}
 use Rattle.asmap_vm.specs.Code.{Tree, IsSaneFile}
 use Rattle.asmap_vm.specs.declared.fault.CodeFault.{CodeFault}
 use Rattle.asmap_vm.specs.declared.fault.CodeFault.TheVariants.{TooLarge, Insane}
+use Rattle.addrman_run.specs.InFolder.{IsFileIn, IsAbsent, IsTooLarge}
+use Rattle.addrman_run.specs.declared.status.Status.{Status}
+use Rattle.addrman_run.specs.declared.status.Status.TheVariants.{AsmapRefused}
 
--- the most bytes of an asmap.dat
-abbrev pub most_asmap : ℕ
-most_asmap = 8388608
+-- the asmap of the folder's asmap.dat, none if there is no such file
+abbrev pub IsMapIn : Option Past → Option Asmap → Type 0
+IsMapIn past None = IsAbsent name.Asmap past
+IsMapIn past (Some m) = IsFileIn name.Asmap MAX_ASMAP past m.file × IsAsmap m
 
--- the file is this asmap's, and is not too large
-pub record HasAsmap (files : Files) (m : Asmap) : Type 0 where
-  pub file : under files name.Asmap ≡ Some m.file
-  pub size : length m.file ≤ most_asmap
-  pub sane : IsAsmap m
+-- why asmap.dat is refused: it is too large, or its bytes are the file of no sane tree
+abbrev pub RefusesAsmap : Option Past → CodeFault → Type 0
+RefusesAsmap past (TooLarge size) = IsTooLarge name.Asmap MAX_ASMAP past size
+RefusesAsmap past Insane = (bytes : List ℕ) × IsFileIn name.Asmap MAX_ASMAP past bytes × ((t : Tree) → ¬ IsSaneFile t bytes)
 
--- the asmap that the folder has, if it has one
-abbrev pub HasMap : Files → Option Asmap → Type 0
-HasMap files None = under files name.Asmap ≡ None
-HasMap files (Some m) = HasAsmap files m
+-- a line about the folder's asmap
+abbrev pub IsAsmapLine : (Asmap → List ℕ) → Option Past → List ℕ → Type 0
+IsAsmapLine line_of past line = (m : Asmap) × IsMapIn past (Some m) × (line ≡ line_of m)
 
--- If contracts know the files, the map is that of the folder's asmap.dat, or none if there is no such file. If they do
--- not, it is none, or that of a sane tree. In both cases its file is within the limit.
-abbrev pub IsMapIn : Option Files → Option Asmap → Type 0
-IsMapIn told map = IfSome told (λ files. HasMap files map) × IfSome map (λ m. IsAsmap m × (length m.file ≤ most_asmap))
-
--- why asmap.dat is refused: its size, or its bytes are the file of no sane tree
-abbrev pub RefusesAsmap : Option Files → CodeFault → Type 0
-RefusesAsmap told (TooLarge size) = (most_asmap < size) × IfSome told (λ files. option_map length (under files name.Asmap) ≡ Some size)
-RefusesAsmap told Insane = IfSome told (λ files.
-    (bytes : List ℕ) × (under files name.Asmap ≡ Some bytes) × (length bytes ≤ most_asmap) × ((t : Tree) → ¬ IsSaneFile t bytes))
+-- a status that says that asmap.dat is refused, with the reason
+abbrev pub ReportsAsmap : Option Past → Status → Type 0
+ReportsAsmap past (AsmapRefused fault) = RefusesAsmap past fault
+ReportsAsmap past other = ⊥

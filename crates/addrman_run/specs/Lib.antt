@@ -1,10 +1,12 @@
 pub mod Request
+pub mod InFolder
 pub mod Asmaps
 pub mod Tables
 pub mod Log
 pub mod Run
 pub mod Lines
 pub mod Replay
+pub mod FileLine
 pub mod Lookup
 pub mod Check
 pub mod Compile

@@ -7,11 +7,12 @@ use Rattle.asmap_vm.specs.Asmap.{Asmap}
 use Rattle.log_lines.specs.Spelling.{HasFault}
 use Rattle.manager.specs.Machine.{Machine, empty_machine}
 use Rattle.addrman_run.specs.Asmaps.{IsMapIn, RefusesAsmap}
-use Rattle.addrman_run.specs.Log.{most_log, IsLogIn, WasRead, SameLog}
+use Rattle.addrman_run.specs.Log.{IsLogIn, WasRead, SameLog}
+use Rattle.addrman_run.specs.declared.replay.TheConstants.{MAX_LOG}
 use Rattle.addrman_run.specs.Lines.{LineStep, IsNotBuilt}
 use Rattle.addrman_run.specs.Run.{AnswersAll, AnswersPrefix, StopsAt, StopsInReply}
 use Rattle.addrman_run.specs.declared.status.Status.{Status}
-use Rattle.addrman_run.specs.declared.status.Status.TheVariants.{Done, Usage, LogLine, AsmapRefused, TableRefused, ReadFault, WriteFault, DiskFault, LogTooLong, Memory, NoFile, NotBuilt}
+use Rattle.addrman_run.specs.declared.status.Status.TheVariants.{Done, LogLine, AsmapRefused, ReadFault, WriteFault, DiskFault, LogTooLong, Memory, NotBuilt}
 
 -- the machine that a replay begins with: no records, under the key and the folder's asmap
 abbrev pub opening : List ℕ → Option Asmap → Machine
@@ -21,12 +22,12 @@ opening key map = empty_machine (record { key = key; map = map })
 -- start and the log.
 abbrev pub Writes : (Machine → List ℕ → List ℕ → Type 0) → List ℕ → Outside → Outside → Type 0
 Writes IsText key old new =
-    (map : Option Asmap) × IsMapIn old.files map × ((log : List ℕ) × IsLogIn old.left log
+    (map : Option Asmap) × IsMapIn old.past map × ((log : List ℕ) × IsLogIn old.left log
     × ((text : List ℕ) × IsText (opening key map) log text × Appended old.written new.written text))
 
 -- the folder's asmap is accepted, and nothing was written
 abbrev pub WritesNothing : Outside → Outside → Type 0
-WritesNothing old new = ((map : Option Asmap) × IsMapIn old.files map) × (new.written ≡ old.written)
+WritesNothing old new = ((map : Option Asmap) × IsMapIn old.past map) × (new.written ≡ old.written)
 
 -- What was written, by status. After a fault of an output that contracts know, the text ends within a reply: before its
 -- last byte, perhaps before its first.
@@ -42,9 +43,7 @@ ReplayText key old new ReadFault = WritesNothing old new
 ReplayText key old new LogTooLong = WritesNothing old new
 ReplayText key old new DiskFault = new.written ≡ old.written
 ReplayText key old new (AsmapRefused fault) = new.written ≡ old.written
-ReplayText key old new Usage = ⊥
-ReplayText key old new (TableRefused fault) = ⊥
-ReplayText key old new (NoFile name) = ⊥
+ReplayText key old new other = ⊥
 
 -- Why each status comes, and what is left of the log. HasCause says why the three faults of the outside come.
 abbrev pub ReplayCause : Outside → Outside → Status → Type 0
@@ -54,15 +53,13 @@ ReplayCause old new (NotBuilt line) = WasRead old.left new.left
 ReplayCause old new WriteFault = WasRead old.left new.left
 ReplayCause old new Memory = ⊤
 ReplayCause old new ReadFault = ⊤
-ReplayCause old new LogTooLong = IfSome old.left (λ log. most_log < length log)
+ReplayCause old new LogTooLong = IfSome old.left (λ log. MAX_LOG < length log)
 ReplayCause old new DiskFault = SameLog old new
-ReplayCause old new (AsmapRefused fault) = RefusesAsmap old.files fault × SameLog old new
-ReplayCause old new Usage = ⊥
-ReplayCause old new (TableRefused fault) = ⊥
-ReplayCause old new (NoFile name) = ⊥
+ReplayCause old new (AsmapRefused fault) = RefusesAsmap old.past fault × SameLog old new
+ReplayCause old new other = ⊥
 
 pub record ReplayEnds (key : List ℕ) (old new : Outside) (status : Status) : Type 0 where
   pub text : ReplayText key old new status
   pub cause : ReplayCause old new status
-  pub taken : TakesAtMost old.left new.left (most_log + 1)
-  pub same : new.files ≡ old.files
+  pub taken : TakesAtMost old.left new.left (MAX_LOG + 1)
+  pub same : new.past ≡ old.past

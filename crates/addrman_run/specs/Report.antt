@@ -64,35 +64,25 @@ abbrev pub tables_fault_text : TablesFault → List ℕ
 tables_fault_text (Rows fault) = table_fault_text fault
 tables_fault_text (Compile fault) = compile_fault_text fault
 
--- the message, between the program's name and the line feed
-abbrev pub told_of : Status → List ℕ
-told_of Done = []
-told_of Usage = codes "bad usage"
-told_of (LogLine n fault) = codes "log line " ++ decimal n ++ codes ": " ++ line_fault_text fault
-told_of (AsmapRefused fault) = codes "asmap.dat refused: " ++ code_fault_text fault
-told_of (TableRefused fault) = codes "prefixes.txt refused: " ++ tables_fault_text fault
-told_of ReadFault = codes "log cannot be read"
-told_of WriteFault = codes "output cannot be written"
-told_of DiskFault = codes "folder failed"
-told_of LogTooLong = codes "log too long"
-told_of Memory = codes "out of memory"
-told_of (NoFile name) = file_name_of name ++ codes " is missing"
-told_of (NotBuilt n) = codes "not built at line " ++ decimal n
+-- the reason, between the program's name and the line feed
+abbrev pub reason_of : Status → List ℕ
+reason_of Done = []
+reason_of Usage = codes "bad usage"
+reason_of (LogLine n fault) = codes "log line " ++ decimal n ++ codes ": " ++ line_fault_text fault
+reason_of (AsmapRefused fault) = codes "asmap.dat refused: " ++ code_fault_text fault
+reason_of (TableRefused fault) = codes "prefixes.txt refused: " ++ tables_fault_text fault
+reason_of ReadFault = codes "log cannot be read"
+reason_of WriteFault = codes "output cannot be written"
+reason_of DiskFault = codes "folder failed"
+reason_of LogTooLong = codes "log too long"
+reason_of Memory = codes "out of memory"
+reason_of (NoFile name) = file_name_of name ++ codes " is missing"
+reason_of (NotBuilt n) = codes "not built at line " ++ decimal n
 
 abbrev pub line_of : List ℕ → List ℕ
-line_of told = codes "addrman: " ++ told ++ codes "\n"
+line_of reason = codes "addrman: " ++ reason ++ codes "\n"
 
 -- the line on standard error, nothing for Done
 abbrev pub status_text : Status → List ℕ
 status_text Done = []
-status_text Usage = line_of (told_of Usage)
-status_text (LogLine n fault) = line_of (told_of (LogLine n fault))
-status_text (AsmapRefused fault) = line_of (told_of (AsmapRefused fault))
-status_text (TableRefused fault) = line_of (told_of (TableRefused fault))
-status_text ReadFault = line_of (told_of ReadFault)
-status_text WriteFault = line_of (told_of WriteFault)
-status_text DiskFault = line_of (told_of DiskFault)
-status_text LogTooLong = line_of (told_of LogTooLong)
-status_text Memory = line_of (told_of Memory)
-status_text (NoFile name) = line_of (told_of (NoFile name))
-status_text (NotBuilt n) = line_of (told_of (NotBuilt n))
+status_text other = line_of (reason_of other)

@@ -1,56 +1,35 @@
 -- The folder's prefixes.txt.
-use Rattle.std.specs.Prelude.{◌≡◌, ℕ, ◌<◌, ◌≤◌, List, [], length, Option, Some, IfSome, option_map}
-use Rattle.host_io.specs.Files.{Files}
-use Rattle.host_io.specs.PerName.{under}
+use Rattle.std.specs.Prelude.{◌≡◌, ℕ, ◌<◌, List, [], length, Option}
+use Rattle.host_io.specs.Past.{Past}
 use Rattle.host_io.specs.declared.name.Name.TheVariants as name
 use Rattle.prefix_table.specs.Text.{IsTableText, IsFault}
+use Rattle.prefix_table.specs.declared.read.TheConstants.{MAX_TEXT}
 use Rattle.prefix_table.specs.declared.row.Row.{Row}
-use Rattle.prefix_table.specs.declared.fault.TableFault.{TableFault}
 use Rattle.prefix_table.specs.declared.fault.TableFault.TheVariants as table
 use Rattle.asmap_vm.specs.Code.{code}
 use Rattle.asmap_compile.specs.Compiled.{compiled}
+use Rattle.asmap_compile.specs.declared.compiling.TheConstants.{MAX_BITS}
 use Rattle.asmap_compile.specs.declared.fault.CompileFault.TheVariants as compile
+use Rattle.addrman_run.specs.InFolder.{IsFileIn, IsTooLarge}
 use Rattle.addrman_run.specs.declared.tables_fault.TablesFault.{TablesFault}
 use Rattle.addrman_run.specs.declared.tables_fault.TablesFault.TheVariants.{Rows, Compile}
+use Rattle.addrman_run.specs.declared.status.Status.{Status}
+use Rattle.addrman_run.specs.declared.status.Status.TheVariants.{TableRefused}
 
--- the most bytes of a prefixes.txt
-abbrev pub most_text : ℕ
-most_text = 134217728
-
--- the most bits of a compiled table
-abbrev pub most_bits : ℕ
-most_bits = 67108864
-
--- the file has these bytes, and is not too large
-pub record HasText (files : Files) (bytes : List ℕ) : Type 0 where
-  pub file : under files name.Prefixes ≡ Some bytes
-  pub size : length bytes ≤ most_text
-
--- the file's text is that of this table
-pub record HasTable (files : Files) (rows : List Row) : Type 0 where
-  pub bytes : List ℕ
-  pub has : HasText files bytes
-  pub text : IsTableText bytes rows
-
--- The rows are those of a text within the limit. If contracts know the files, this text is the folder's prefixes.txt.
-abbrev pub IsTableIn : Option Files → List Row → Type 0
-IsTableIn told rows =
-    (bytes : List ℕ) × IsTableText bytes rows × (length bytes ≤ most_text) × IfSome told (λ files. under files name.Prefixes ≡ Some bytes)
-
--- the first fault of the text
-abbrev pub HasTextFault : Option Files → TableFault → Type 0
-HasTextFault told fault = IfSome told (λ files. (bytes : List ℕ) × HasText files bytes × IsFault bytes fault)
+-- the rows of the folder's prefixes.txt
+abbrev pub IsTableIn : Option Past → List Row → Type 0
+IsTableIn past rows = (bytes : List ℕ) × IsFileIn name.Prefixes MAX_TEXT past bytes × IsTableText bytes rows
 
 -- why prefixes.txt is refused: its size, its text, a table with no rows, or one whose code is too long
-abbrev pub RefusesTable : Option Files → TablesFault → Type 0
-RefusesTable told (Rows (table.TooLarge size)) = (most_text < size) × IfSome told (λ files. option_map length (under files name.Prefixes) ≡ Some size)
-RefusesTable told (Rows (table.Form line)) = HasTextFault told (table.Form line)
-RefusesTable told (Rows (table.Number line)) = HasTextFault told (table.Number line)
-RefusesTable told (Rows (table.HostBits line)) = HasTextFault told (table.HostBits line)
-RefusesTable told (Rows (table.Repeated line)) = HasTextFault told (table.Repeated line)
-RefusesTable told (Rows table.TooMany) = HasTextFault told table.TooMany
-RefusesTable told (Rows table.Memory) = ⊥
-RefusesTable told (Compile compile.Empty) = IfSome told (λ files. HasTable files [])
-RefusesTable told (Compile (compile.TooLarge bits)) = IfSome told (λ files.
-    (rows : List Row) × HasTable files rows × (most_bits < bits) × (bits ≡ length (code (compiled rows))))
-RefusesTable told (Compile compile.Memory) = ⊥
+abbrev pub RefusesTable : Option Past → TablesFault → Type 0
+RefusesTable past (Rows (table.TooLarge size)) = IsTooLarge name.Prefixes MAX_TEXT past size
+RefusesTable past (Rows table.Memory) = ⊥
+RefusesTable past (Rows fault) = (bytes : List ℕ) × IsFileIn name.Prefixes MAX_TEXT past bytes × IsFault bytes fault
+RefusesTable past (Compile compile.Empty) = IsTableIn past []
+RefusesTable past (Compile (compile.TooLarge bits)) = (rows : List Row) × IsTableIn past rows × (MAX_BITS < bits) × (bits ≡ length (code (compiled rows)))
+RefusesTable past (Compile compile.Memory) = ⊥
+
+-- a status that says that prefixes.txt is refused, with the reason
+abbrev pub ReportsTable : Option Past → Status → Type 0
+ReportsTable past (TableRefused fault) = RefusesTable past fault
+ReportsTable past other = ⊥

@@ -1,20 +1,43 @@
+ghost use Rattle.std.specs.Prelude.{IfOk, ◌≡◌};
+ghost use Rattle.placing.specs.Inside.{asmap_of};
+ghost use Rattle.addrman_run.specs.Asmaps.{IsAsmapLine, ReportsAsmap};
 ghost use Rattle.addrman_run.specs.Check.{check_text};
+ghost use Rattle.addrman_run.specs.declared.input.Input.TheVariants as input;
 
-use crate::asmap_line::AsmapLine;
-use asmap_vm::Sane;
+use crate::file_line::{FileLine, Refusal};
+use crate::input::Input;
+use asmap_vm::{Sane, check};
 use std::alloc::{AllocError, Global};
 
 /// The command that says how many bytes asmap.dat has.
 #[derive(Drop)]
 pub(crate) struct Check;
 
-impl AsmapLine for Check {
-    ghost text = { λ _ asmap. check_text asmap };
+impl FileLine for Check {
+    ghost file = { λ _. input.Asmap };
 
-    fn line_of(&self, alloc: Global, asmap: &Sane<'_>) -> Result<Vec<u8>, AllocError> {
-        let mut text = Vec::from_slice(alloc, b"sane ")?;
-        text.extend_from_slice(asmap.code().len().to_string(alloc)?.as_bytes())?;
-        text.extend_from_slice(b" bytes\n")?;
-        Ok(text)
+    ghost is_line = { λ _. IsAsmapLine check_text };
+
+    ghost refuses = { λ _. ReportsAsmap };
+
+    fn input(&self) -> Input {
+        Input::Asmap
     }
+
+    fn line_of(&self, alloc: Global, bytes: &[u8]) -> Result<Vec<u8>, Refusal> {
+        match check(bytes) {
+            Ok(asmap) => line_of(alloc, &asmap).map_err(|_| Refusal::Memory),
+            Err(fault) => Err(Refusal::Asmap(fault)),
+        }
+    }
+}
+
+/// Returns the line with the size of an asmap.
+fn line_of(alloc: Global, asmap: &Sane<'_>) -> Result<Vec<u8>, AllocError>
+    ensures { IfOk result (λ line. line.items ≡ check_text (asmap_of asmap.now)) }
+{
+    let mut text = Vec::from_slice(alloc, b"sane ")?;
+    text.extend_from_slice(asmap.code().len().to_string(alloc)?.as_bytes())?;
+    text.extend_from_slice(b" bytes\n")?;
+    Ok(text)
 }

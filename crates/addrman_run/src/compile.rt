@@ -1,13 +1,12 @@
 ghost use Rattle.std.specs.Prelude.{◌≡◌, ◌++◌, codes, decimal, IfOk};
-ghost use Rattle.addrman_run.specs.Compile.{CompileText};
-ghost use Rattle.addrman_run.specs.Lookup.{TellsAbsence};
-ghost use Rattle.addrman_run.specs.Outcome.{IsCounted};
+ghost use Rattle.addrman_run.specs.Compile.{IsCompileLine};
+ghost use Rattle.addrman_run.specs.Tables.{ReportsTable};
+ghost use Rattle.addrman_run.specs.declared.input.Input.TheVariants as input;
 
-use crate::input::{Input, load_present};
-use crate::output::write_line;
-use crate::{Status, TablesFault};
+use crate::TablesFault;
+use crate::file_line::{FileLine, Refusal};
+use crate::input::Input;
 use asmap_compile::{CompileFault, compile};
-use host_io::{Folder, Name, Sink};
 use prefix_table::{TableFault, read_table};
 use std::alloc::{AllocError, Global};
 
@@ -25,34 +24,33 @@ fn line_of(alloc: Global, rows: usize, bits: u64, bytes: usize) -> Result<Vec<u8
     Ok(text)
 }
 
-/// Loads, reads and compiles prefixes.txt, and writes how large the table and its asmap are.
-pub(crate) fn compile_table<F: Folder, K: Sink>(
-    alloc: Global,
-    folder: &mut F,
-    out: &mut K,
-) -> Status
-    ensures text { CompileText (F.files folder.old) (K.written out.old) (K.written out.new) result }
-    ensures absent { TellsAbsence Name.Prefixes (F.files folder.old) result }
-    ensures disk { IsCounted Status.DiskFault (F.faults folder.old) (F.faults folder.new) result }
-    ensures write { IsCounted Status.WriteFault (K.faults out.old) (K.faults out.new) result }
-    ensures same { F.files folder.new ≡ F.files folder.old }
-{
-    let bytes = match load_present(alloc, Input::Prefixes, folder) {
-        Ok(bytes) => bytes,
-        Err(status) => return status,
-    };
-    let table = match read_table(alloc, bytes.items()) {
-        Ok(table) => table,
-        Err(TableFault::Memory) => return Status::Memory,
-        Err(fault) => return Status::TableRefused(TablesFault::Rows(fault)),
-    };
-    let file = match compile(alloc, &table) {
-        Ok(file) => file,
-        Err(CompileFault::Memory) => return Status::Memory,
-        Err(fault) => return Status::TableRefused(TablesFault::Compile(fault)),
-    };
-    write_line(
-        line_of(alloc, table.rows().len(), file.bits(), file.code().len()),
-        out,
-    )
+/// The command that compiles prefixes.txt and says how large the table and its asmap are.
+#[derive(Drop)]
+pub(crate) struct Compile;
+
+impl FileLine for Compile {
+    ghost file = { λ _. input.Prefixes };
+
+    ghost is_line = { λ _. IsCompileLine };
+
+    ghost refuses = { λ _. ReportsTable };
+
+    fn input(&self) -> Input {
+        Input::Prefixes
+    }
+
+    fn line_of(&self, alloc: Global, bytes: &[u8]) -> Result<Vec<u8>, Refusal> {
+        let table = match read_table(alloc, bytes) {
+            Ok(table) => table,
+            Err(TableFault::Memory) => return Err(Refusal::Memory),
+            Err(fault) => return Err(Refusal::Table(TablesFault::Rows(fault))),
+        };
+        let file = match compile(alloc, &table) {
+            Ok(file) => file,
+            Err(CompileFault::Memory) => return Err(Refusal::Memory),
+            Err(fault) => return Err(Refusal::Table(TablesFault::Compile(fault))),
+        };
+        line_of(alloc, table.rows().len(), file.bits(), file.code().len())
+            .map_err(|_| Refusal::Memory)
+    }
 }

@@ -1,45 +1,85 @@
-ghost use Rattle.std.specs.Prelude.{◌≡◌, List, ℕ, IfOk};
-ghost use Rattle.asmap_vm.specs.Asmap.{Asmap};
-ghost use Rattle.placing.specs.Inside.{asmap_of};
-ghost use Rattle.addrman_run.specs.Lookup.{AsmapLineEnds, TellsAbsence};
+ghost use Rattle.std.specs.Prelude.{◌≡◌, ◌≤◌, ℕ, List, Option, length, IfOk, Err};
+ghost use Rattle.asmap_vm.specs.declared.fault.CodeFault.{CodeFault};
+ghost use Rattle.host_io.specs.Past.{Past};
+ghost use Rattle.addrman_run.specs.FileLine.{FileLineText};
+ghost use Rattle.addrman_run.specs.InFolder.{ReportsAbsence};
+ghost use Rattle.addrman_run.specs.Inside.{name_of, max_of, too_large_of, IsLoaded, IsLarge};
 ghost use Rattle.addrman_run.specs.Outcome.{IsCounted};
+ghost use Rattle.addrman_run.specs.declared.status.Status.{Status};
+ghost use Rattle.addrman_run.specs.declared.tables_fault.TablesFault.{TablesFault};
 
-use crate::Status;
 use crate::input::{Input, load_present};
 use crate::output::write_line;
-use asmap_vm::{Sane, check};
-use host_io::{Folder, Name, Sink};
-use std::alloc::{AllocError, Global};
+use crate::{Status, TablesFault};
+use asmap_vm::CodeFault;
+use host_io::{Folder, Sink};
+use std::alloc::Global;
 
-/// A command that writes one line of the folder's asmap.dat.
-pub(crate) trait AsmapLine {
-    /// The line of an asmap.
-    ghost text: { Self → Asmap → List ℕ };
-
-    /// Makes the line of an asmap.
-    fn line_of(&self, alloc: Global, asmap: &Sane<'_>) -> Result<Vec<u8>, AllocError>
-        ensures { IfOk result (λ line. line.items ≡ text self.now (asmap_of asmap.now)) };
+/// Why there is no line about a file.
+#[derive(Clone, Copy, Debug, PartialEq, Eq)]
+pub(crate) enum Refusal {
+    /// It is no asmap.
+    Asmap(CodeFault),
+    /// It is no table, or one that cannot be compiled.
+    Table(TablesFault),
+    /// Out of memory.
+    Memory,
 }
 
-/// Loads and checks asmap.dat, and writes the command's line.
-pub(crate) fn tell_asmap<F: Folder, K: Sink, C: AsmapLine>(
+/// A command that loads one file and writes one line about it.
+pub(crate) trait FileLine {
+    /// The file.
+    ghost file: { Self → Input };
+
+    /// A text is a line about the file.
+    ghost is_line: { Self → Option Past → List ℕ → Type 0 };
+
+    /// The file is refused with this status.
+    ghost refuses: { Self → Option Past → Status → Type 0 };
+
+    /// Returns the file. One that is too large is refused.
+    fn input(&self) -> Input
+        ensures file { result ≡ file self.now }
+        ensures large { (past : Option Past) (size : ℕ) →
+            IsLarge (file self.now) past size →
+            refuses self.now past (too_large_of (file self.now) size) };
+
+    /// Returns the line about the file with these bytes.
+    fn line_of(&self, alloc: Global, bytes: &[u8]) -> Result<Vec<u8>, Refusal>
+        requires { length bytes.now ≤ max_of (file self.now) }
+        ensures line { IfOk result (λ line. (past : Option Past) →
+            IsLoaded (file self.now) past bytes.now → is_line self.now past line.items) }
+        ensures asmap { (fault : CodeFault) → result ≡ Err (Refusal.Asmap fault) →
+            (past : Option Past) → IsLoaded (file self.now) past bytes.now →
+            refuses self.now past (Status.AsmapRefused fault) }
+        ensures table { (fault : TablesFault) → result ≡ Err (Refusal.Table fault) →
+            (past : Option Past) → IsLoaded (file self.now) past bytes.now →
+            refuses self.now past (Status.TableRefused fault) };
+}
+
+/// Loads the command's file, and writes the line about it.
+pub(crate) fn write_file_line<F: Folder, K: Sink, C: FileLine>(
     alloc: Global,
     command: &C,
     folder: &mut F,
     out: &mut K,
 ) -> Status
-    ensures text { AsmapLineEnds (C.text command.now) (F.files folder.old) (K.written out.old) (K.written out.new) result }
-    ensures absent { TellsAbsence Name.Asmap (F.files folder.old) result }
+    ensures text { FileLineText (name_of (C.file command.now)) (C.is_line command.now)
+        (C.refuses command.now) (F.past folder.old) (K.written out.old) (K.written out.new)
+        result }
+    ensures absent { ReportsAbsence (name_of (C.file command.now)) (F.past folder.old) result }
     ensures disk { IsCounted Status.DiskFault (F.faults folder.old) (F.faults folder.new) result }
     ensures write { IsCounted Status.WriteFault (K.faults out.old) (K.faults out.new) result }
-    ensures same { F.files folder.new ≡ F.files folder.old }
+    ensures same { F.past folder.new ≡ F.past folder.old }
 {
-    let bytes = match load_present(alloc, Input::Asmap, folder) {
+    let bytes = match load_present(alloc, command.input(), folder) {
         Ok(bytes) => bytes,
         Err(status) => return status,
     };
-    match check(bytes.items()) {
-        Ok(asmap) => write_line(command.line_of(alloc, &asmap), out),
-        Err(fault) => Status::AsmapRefused(fault),
+    match command.line_of(alloc, bytes.items()) {
+        Ok(line) => write_line(line.as_slice(), out),
+        Err(Refusal::Asmap(fault)) => Status::AsmapRefused(fault),
+        Err(Refusal::Table(fault)) => Status::TableRefused(fault),
+        Err(Refusal::Memory) => Status::Memory,
     }
 }

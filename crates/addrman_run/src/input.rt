@@ -1,12 +1,15 @@
-ghost use Rattle.std.specs.Prelude.{◌≡◌, ◌⊎◌, ◌≤◌, length, Ok, Err, None, Some, IfOk, IfSome, IfErr};
+ghost use Rattle.std.specs.Prelude.{◌≡◌, ◌⊎◌, ◌≤◌, Ok, Err, None, IfOk, IfSome, IfErr, MatchOption};
 ghost use Rattle.host_io.specs.Faults.{Rose};
+ghost use Rattle.host_io.specs.Past.{files_of};
 ghost use Rattle.host_io.specs.PerName.{under};
-ghost use Rattle.addrman_run.specs.Inside.{name_of, most_of, too_large_of, IsLoadFault, IsNotLoaded};
+ghost use Rattle.addrman_run.specs.Inside.{name_of, max_of, too_large_of, IsLoaded, IsLoadFault, IsNotLoaded};
+ghost use Rattle.addrman_run.specs.InFolder.{IsAbsent};
 
 use crate::{Status, TablesFault};
 use asmap_vm::CodeFault;
+use bit_code::MAX_ASMAP;
 use host_io::{Bytes, Folder, Name};
-use prefix_table::TableFault;
+use prefix_table::{MAX_TEXT, TableFault};
 use save_store::{LoadFault, load};
 use std::alloc::Global;
 
@@ -28,13 +31,13 @@ impl Input {
         }
     }
 
-    /// Returns the most bytes that the file may have.
-    fn most(self) -> u64
-        ensures { result ≡ most_of self }
+    /// Returns the maximum size of the file in bytes.
+    fn max(self) -> u64
+        ensures { result ≡ max_of self }
     {
         match self {
-            Input::Asmap => 8_388_608,
-            Input::Prefixes => 134_217_728,
+            Input::Asmap => MAX_ASMAP as u64,
+            Input::Prefixes => MAX_TEXT as u64,
         }
     }
 
@@ -52,23 +55,24 @@ impl Input {
 }
 
 /// Loads a file, or returns `None` if it is absent.
+#[tactic(auto, using(crate::proofs::Inputs::loaded_in))]
 pub(crate) fn load_input<F: Folder>(
     alloc: Global,
     input: Input,
     folder: &mut F,
 ) -> Result<Option<Bytes>, Status>
     ensures found { IfOk result (λ loaded.
-        IfSome (F.files folder.old) (λ files. under files (name_of input) ≡ loaded)) }
-    ensures within { IfOk result (λ loaded. IfSome loaded (λ bytes. length bytes ≤ most_of input)) }
-    ensures absent { IfSome (F.files folder.old) (λ files. under files (name_of input) ≡ None →
+        MatchOption loaded (IsAbsent (name_of input) (F.past folder.old))
+        (IsLoaded input (F.past folder.old))) }
+    ensures absent { IfSome (files_of (F.past folder.old)) (λ files. under files (name_of input) ≡ None →
         (result ≡ Ok None) ⊎ (result ≡ Err Status.DiskFault)) }
-    ensures cause { IfErr result (λ status. IsLoadFault input (F.files folder.old) status) }
+    ensures cause { IfErr result (λ status. IsLoadFault input (F.past folder.old) status) }
     ensures fault { result ≡ Err Status.DiskFault →
         Rose (F.faults folder.old) (F.faults folder.new) }
     ensures never_falls { F.faults folder.old ≤ F.faults folder.new }
-    ensures same { F.files folder.new ≡ F.files folder.old }
+    ensures same { F.past folder.new ≡ F.past folder.old }
 {
-    match load(alloc, folder, input.name(), input.most()) {
+    match load(alloc, folder, input.name(), input.max()) {
         Ok(loaded) => Ok(loaded),
         Err(LoadFault::Disk) => Err(Status::DiskFault),
         Err(LoadFault::TooLarge { size }) => Err(input.too_large(size)),
@@ -82,16 +86,14 @@ pub(crate) fn load_present<F: Folder>(
     input: Input,
     folder: &mut F,
 ) -> Result<Bytes, Status>
-    ensures found { IfOk result (λ bytes.
-        IfSome (F.files folder.old) (λ files. under files (name_of input) ≡ Some bytes)) }
-    ensures within { IfOk result (λ bytes. length bytes ≤ most_of input) }
-    ensures absent { IfSome (F.files folder.old) (λ files. under files (name_of input) ≡ None →
+    ensures found { IfOk result (IsLoaded input (F.past folder.old)) }
+    ensures absent { IfSome (files_of (F.past folder.old)) (λ files. under files (name_of input) ≡ None →
         (result ≡ Err (Status.NoFile (name_of input))) ⊎ (result ≡ Err Status.DiskFault)) }
-    ensures cause { IfErr result (λ status. IsNotLoaded input (F.files folder.old) status) }
+    ensures cause { IfErr result (λ status. IsNotLoaded input (F.past folder.old) status) }
     ensures fault { result ≡ Err Status.DiskFault →
         Rose (F.faults folder.old) (F.faults folder.new) }
     ensures never_falls { F.faults folder.old ≤ F.faults folder.new }
-    ensures same { F.files folder.new ≡ F.files folder.old }
+    ensures same { F.past folder.new ≡ F.past folder.old }
 {
     match load_input(alloc, input, folder) {
         Ok(Some(bytes)) => Ok(bytes),

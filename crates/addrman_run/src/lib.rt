@@ -1,9 +1,9 @@
 //! The runs of the program: arguments, log, folder and output in, a status out.
 #![tactic(auto)]
 
-mod asmap_line;
 mod check;
 mod compile;
+mod file_line;
 mod input;
 mod line_step;
 mod lookup;
@@ -20,6 +20,7 @@ mod top;
 mod words;
 
 pub use memory::Memory;
+pub use replay::MAX_LOG;
 pub use report::{code, status_line};
 pub use request::Request;
 pub use status::Status;

@@ -1,12 +1,16 @@
 ghost use Rattle.std.specs.Prelude.{◌≡◌, ◌≢◌, ◌+◌, ◌*◌, ◌≤◌, ◌<◌, ◌^◌, ℕ, List, length, Ok, Err, IfOk};
 ghost use Rattle.log_lines.specs.Spelling.{HasFault};
 ghost use Rattle.log_lines.specs.declared.fault.LineFault.{LineFault};
+ghost use Rattle.manager.specs.Step.{Step, IsBuilt, HasPercent};
 ghost use Rattle.addrman_run.specs.Lines.{LineStep, IsNotBuilt};
 
-use log_lines::{LineFault, put_reply, read_line};
+use log_lines::{Command, LineFault, MAX_LINE, Reply, read_line, reply_text};
 use manager::{Manager, is_built};
 use std::alloc::Global;
 use std::hash::BuildHasher;
+use std::marker::Brand;
+use std::sync::ledger::{Blank, Ledger};
+use steps::Steps;
 
 /// Why a line is not carried out.
 #[derive(Clone, Copy, Debug, PartialEq, Eq)]
@@ -37,7 +41,7 @@ pub(crate) trait LineSteps {
     /// passed over.
     fn carry_out(&mut self, alloc: Global, line: &[u8]) -> Result<Vec<u8>, Stop>
         requires room { (n : ℕ) × has_room self.old (n + 1) }
-        requires short { length line.now ≤ 16777216 }
+        requires short { length line.now ≤ MAX_LINE }
         ensures step { IfOk result (λ text. step self.old line.now text.items self.new) }
         ensures fault { (fault : LineFault) → result ≡ Err (Stop.Fault fault) → has_fault line.now fault }
         ensures not_built { result ≡ Err Stop.NotBuilt → not_built line.now }
@@ -60,6 +64,26 @@ fn stop_of(fault: LineFault) -> Stop
     }
 }
 
+/// Carries out a command with a counter of its own, whose steps nobody reads.
+fn apply<L: Ledger, H: BuildHasher>(
+    manager: &mut Manager<'_, H>,
+    alloc: Global,
+    command: &Command,
+    blank: Blank,
+) -> Result<Reply, manager::Memory>
+    requires name { blank.name ≡ L.name }
+    requires parts { blank.parts ≡ L.parts }
+    requires one { blank.parts ≡ 1 }
+    requires built { IsBuilt command.now }
+    requires percent { HasPercent command.now }
+    requires room { manager.old.tables.next_number < 2 ^ 62 }
+    ensures step { IfOk result (λ answer. Step manager.old command.now answer manager.new) }
+    ensures numbers { manager.new.tables.next_number ≤ manager.old.tables.next_number + 1000 }
+{
+    let mut steps = Steps::<L>::none(blank);
+    manager.apply(alloc, command, &mut steps)
+}
+
 impl<'a, H: BuildHasher + Drop> LineSteps for Manager<'a, H> {
     ghost step = { LineStep };
 
@@ -71,20 +95,19 @@ impl<'a, H: BuildHasher + Drop> LineSteps for Manager<'a, H> {
     ghost has_room = { λ m n. m.tables.next_number + 1000 * n < 2 ^ 62 };
 
     fn carry_out(&mut self, alloc: Global, line: &[u8]) -> Result<Vec<u8>, Stop> {
-        let mut text = Vec::new(alloc);
         let command = match read_line(alloc, line) {
-            Ok(None) => return Ok(text),
+            Ok(None) => return Ok(Vec::new(alloc)),
             Ok(Some(command)) => command,
             Err(fault) => return Err(stop_of(fault)),
         };
         if !is_built(&command) {
             return Err(Stop::NotBuilt);
         }
-        let Ok(reply) = self.apply(alloc, &command) else {
+        let Ok(reply) = apply::<Brand, H>(self, alloc, &command, Blank::new(1)) else {
             return Err(Stop::Memory);
         };
-        match put_reply(&reply, &mut text) {
-            Ok(()) => Ok(text),
+        match reply_text(alloc, &reply) {
+            Ok(text) => Ok(text),
             Err(_) => Err(Stop::Memory),
         }
     }

@@ -2,10 +2,13 @@ ghost use Rattle.std.specs.Prelude.{◌≡◌, IfOk};
 ghost use Rattle.net_group.specs.Group.{asmap_bits};
 ghost use Rattle.asmap_vm.specs.Held.{tree_held};
 ghost use Rattle.placing.specs.Places.{number_by};
+ghost use Rattle.addrman_run.specs.Asmaps.{IsAsmapLine, ReportsAsmap};
 ghost use Rattle.addrman_run.specs.Lookup.{number_text, lookup_text};
+ghost use Rattle.addrman_run.specs.declared.input.Input.TheVariants as input;
 
-use crate::asmap_line::AsmapLine;
-use asmap_vm::Sane;
+use crate::file_line::{FileLine, Refusal};
+use crate::input::Input;
+use asmap_vm::{Sane, check};
 use net_addr::{NetAddr, Peer};
 use net_group::group;
 use placing::number_of;
@@ -17,17 +20,31 @@ pub(crate) struct Lookup {
     pub(crate) peer: Peer,
 }
 
-impl AsmapLine for Lookup {
-    ghost text = { λ lookup asmap. lookup_text asmap lookup.peer.addr };
+impl FileLine for Lookup {
+    ghost file = { λ _. input.Asmap };
 
-    fn line_of(&self, alloc: Global, asmap: &Sane<'_>) -> Result<Vec<u8>, AllocError> {
-        line_of(alloc, asmap, &self.peer.addr)
+    ghost is_line = { λ lookup. IsAsmapLine (λ asmap. lookup_text asmap lookup.peer.addr) };
+
+    ghost refuses = { λ _. ReportsAsmap };
+
+    fn input(&self) -> Input {
+        Input::Asmap
+    }
+
+    fn line_of(&self, alloc: Global, bytes: &[u8]) -> Result<Vec<u8>, Refusal> {
+        match check(bytes) {
+            Ok(asmap) => {
+                line_of(alloc, &asmap, &self.peer.addr).map_err(|_| Refusal::Memory)
+            }
+            Err(fault) => Err(Refusal::Asmap(fault)),
+        }
     }
 }
 
 /// Returns the line with the number that an asmap gives an address, and the address's group.
 fn line_of(alloc: Global, asmap: &Sane<'_>, addr: &NetAddr) -> Result<Vec<u8>, AllocError>
-    ensures { IfOk result (λ text. text.items ≡ number_text (number_by (tree_held asmap.now) (asmap_bits addr.now)) addr.now) }
+    ensures { IfOk result (λ text. text.items ≡
+        number_text (number_by (tree_held asmap.now) (asmap_bits addr.now)) addr.now) }
 {
     let number = number_of(asmap, addr);
     let mut text = Vec::from_slice(alloc, b"asn ")?;

@@ -1,4 +1,4 @@
-ghost use Rattle.std.specs.Prelude.{◌≡◌, ℕ, List, ◌≤◌, length, IfOk, IfSome, Some, Err};
+ghost use Rattle.std.specs.Prelude.{◌≡◌, ℕ, List, ◌+◌, ◌≤◌, length, IfOk, IfSome, Some, Err};
 ghost use Rattle.host_io.specs.Outside.{outside};
 ghost use Rattle.host_io.specs.Reading.{TakesAtMost};
 ghost use Rattle.asmap_vm.specs.Code.{Tree, IsSaneFile};
@@ -12,19 +12,21 @@ use crate::Status;
 use crate::input::{Input, load_input};
 use crate::run_lines::run_lines;
 use asmap_vm::{CodeFault, Sane, check};
+use bit_code::MAX_ASMAP;
 use host_io::{Bytes, Folder, Sink, Source, ToEndFault, read_to_end};
+use log_lines::MAX_LINE;
 use manager::Manager;
 use placing::Placer;
 use std::alloc::Global;
 use std::hash::BuildHasher;
 use tables::Tables;
 
-/// The most bytes of a log.
-const MOST_LOG: u64 = 16_777_216;
+/// The maximum size of a log in bytes.
+pub const MAX_LOG: u64 = MAX_LINE as u64;
 
 /// Checks the asmap in these bytes, if there are any.
 fn check_map(bytes: &Option<Bytes>) -> Result<Option<Sane<'_>>, CodeFault>
-    requires { IfSome bytes.now (λ b. length b ≤ 8388608) }
+    requires { IfSome bytes.now (λ b. length b ≤ MAX_ASMAP) }
     ensures found { IfOk result (λ map. IsMapOf bytes.now (map_of map)) }
     ensures cause { (fault : CodeFault) → result ≡ Err fault → (fault ≡ CodeFault.Insane)
         × ((b : List ℕ) × (bytes.now ≡ Some b) × ((t : Tree) → ¬ IsSaneFile t b)) }
@@ -62,11 +64,11 @@ pub(crate) fn replay<L: Source, F: Folder, K: Sink, H: BuildHasher + Drop>(
 ) -> Status
     ensures text { ReplayText key (outside L.Source F.Folder K.Sink log.old folder.old out.old) (outside L.Source F.Folder K.Sink log.new folder.new out.new) result }
     ensures cause { ReplayCause (outside L.Source F.Folder K.Sink log.old folder.old out.old) (outside L.Source F.Folder K.Sink log.new folder.new out.new) result }
-    ensures taken { TakesAtMost (L.left log.old) (L.left log.new) 16777217 }
+    ensures taken { TakesAtMost (L.left log.old) (L.left log.new) (MAX_LOG + 1) }
     ensures read { IsCounted Status.ReadFault (L.faults log.old) (L.faults log.new) result }
     ensures write { IsCounted Status.WriteFault (K.faults out.old) (K.faults out.new) result }
     ensures disk { IsCounted Status.DiskFault (F.faults folder.old) (F.faults folder.new) result }
-    ensures same { F.files folder.new ≡ F.files folder.old }
+    ensures same { F.past folder.new ≡ F.past folder.old }
 {
     let bytes = match load_input(alloc, Input::Asmap, folder) {
         Ok(bytes) => bytes,
@@ -76,7 +78,7 @@ pub(crate) fn replay<L: Source, F: Folder, K: Sink, H: BuildHasher + Drop>(
         Ok(map) => map,
         Err(fault) => return Status::AsmapRefused(fault),
     };
-    let text = match read_to_end(alloc, log, MOST_LOG) {
+    let text = match read_to_end(alloc, log, MAX_LOG) {
         Ok(text) => text,
         Err(ToEndFault::Failed) => return Status::ReadFault,
         Err(ToEndFault::TooLong) => return Status::LogTooLong,

@@ -1,5 +1,5 @@
 ghost use Rattle.std.specs.Prelude.{◌≡◌, ◌++◌, codes, decimal, IfOk, OnOk, OnErr};
-ghost use Rattle.addrman_run.specs.Report.{code_of, told_of, code_fault_text, line_fault_text, at_line, table_fault_text, compile_fault_text, tables_fault_text, line_of, status_text};
+ghost use Rattle.addrman_run.specs.Report.{code_of, reason_of, code_fault_text, line_fault_text, at_line, table_fault_text, compile_fault_text, tables_fault_text, line_of, status_text};
 
 use crate::{Memory, Status, TablesFault};
 use asmap_compile::CompileFault;
@@ -136,9 +136,9 @@ fn table_refused(alloc: Global, fault: &TablesFault) -> Result<Vec<u8>, AllocErr
     joined(alloc, b"prefixes.txt refused: ", fault.as_slice())
 }
 
-/// Returns the message for `status`, which goes between the program's name and the line feed.
-fn told(alloc: Global, status: &Status) -> Result<Vec<u8>, AllocError>
-    ensures { IfOk result (λ text. text.items ≡ told_of status.now) }
+/// Returns the reason for `status`, which stands between the program's name and the line feed.
+fn reason(alloc: Global, status: &Status) -> Result<Vec<u8>, AllocError>
+    ensures { IfOk result (λ text. text.items ≡ reason_of status.now) }
 {
     match status {
         Status::Done => Ok(Vec::new(alloc)),
@@ -159,11 +159,11 @@ fn told(alloc: Global, status: &Status) -> Result<Vec<u8>, AllocError>
 }
 
 /// Returns the whole line for standard error.
-fn line_of(alloc: Global, told: &[u8]) -> Result<Vec<u8>, AllocError>
-    ensures { IfOk result (λ text. text.items ≡ line_of told.now) }
+fn line_of(alloc: Global, reason: &[u8]) -> Result<Vec<u8>, AllocError>
+    ensures { IfOk result (λ text. text.items ≡ line_of reason.now) }
 {
     let mut text = Vec::from_slice(alloc, b"addrman: ")?;
-    text.extend_from_slice(told)?;
+    text.extend_from_slice(reason)?;
     text.extend_from_slice(b"\n")?;
     Ok(text)
 }
@@ -178,8 +178,8 @@ pub fn status_line(status: &Status, out: &mut Vec<u8>) -> Result<(), Memory>
         return Ok(());
     }
     let alloc = *out.allocator();
-    let told = told(alloc, status)?;
-    let text = line_of(alloc, told.as_slice())?;
+    let reason = reason(alloc, status)?;
+    let text = line_of(alloc, reason.as_slice())?;
     out.extend_from_slice(text.as_slice())?;
     Ok(())
 }

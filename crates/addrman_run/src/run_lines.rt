@@ -8,7 +8,7 @@ ghost use Rattle.addrman_run.specs.Inside.{IsLinesEnd};
 use crate::Status;
 use crate::line_step::{LineSteps, Stop};
 use host_io::{Sink, write_all};
-use log_lines::split_line;
+use log_lines::{MAX_LINE, split_line};
 use std::alloc::Global;
 
 /// Carries out the lines of a log in order, and writes the reply to each before the next line.
@@ -19,7 +19,7 @@ pub(crate) fn run_lines<S: LineSteps, K: Sink>(
     out: &mut K,
 ) -> Status
     requires room { S.has_room state.old (length log.now) }
-    requires short { length log.now ≤ 16777216 }
+    requires short { length log.now ≤ MAX_LINE }
     ensures done { result ≡ Status.Done → (text : List ℕ) × AnswersAll S.step state.old log.now text × Appended (K.written out.old) (K.written out.new) text }
     ensures memory { result ≡ Status.Memory → (text : List ℕ) × AnswersPrefix S.step state.old log.now text × Appended (K.written out.old) (K.written out.new) text }
     ensures in_step { result ≡ Status.WriteFault → (text : List ℕ) × (AnswersPrefix S.step state.old log.now text × IfSome (K.written out.old) (λ _. StopsInReply S.step state.old log.now text state.new)) × Appended (K.written out.old) (K.written out.new) text }

@@ -23,7 +23,7 @@ pub enum Status {
     WriteFault,
     /// The folder failed.
     DiskFault,
-    /// The log has more than 16,777,216 bytes.
+    /// The log has more bytes than `MAX_LOG`.
     LogTooLong,
     /// Out of memory.
     Memory,

@@ -4,9 +4,9 @@ ghost use Rattle.addrman_run.specs.Request.{Asks};
 ghost use Rattle.addrman_run.specs.Outcome.{Ends, HasCause};
 ghost use Rattle.addrman_run.specs.declared.request.Request.{Request};
 
-use crate::asmap_line::tell_asmap;
 use crate::check::Check;
-use crate::compile::compile_table;
+use crate::compile::Compile;
+use crate::file_line::write_file_line;
 use crate::lookup::Lookup;
 use crate::replay::replay;
 use crate::words::read_request;
@@ -18,7 +18,7 @@ use std::hash::BuildHasher;
 /// Runs the program with these arguments, without the program's name, and returns how it ended.
 ///
 /// `replay --key HEX64` carries out the lines of the log and writes the reply to each, from empty
-/// tables with that key and the folder's asmap.dat, if there is one. `compile` reads and compiles the folder's
+/// tables with that key and the folder's asmap.dat, if there is one. `compile` compiles the folder's
 /// prefixes.txt, `check` checks its asmap.dat, and `lookup PEER` writes the AS number and the group
 /// that asmap.dat gives the peer's address.
 pub fn run<L: Source, F: Folder, K: Sink, H: BuildHasher + Drop>(
@@ -41,8 +41,8 @@ pub fn run<L: Source, F: Folder, K: Sink, H: BuildHasher + Drop>(
     };
     match request {
         Request::Replay { key } => replay(alloc, hasher, key, log, folder, out),
-        Request::Compile => compile_table(alloc, folder, out),
-        Request::Check => tell_asmap(alloc, &Check, folder, out),
-        Request::Lookup { peer } => tell_asmap(alloc, &Lookup { peer }, folder, out),
+        Request::Compile => write_file_line(alloc, &Compile, folder, out),
+        Request::Check => write_file_line(alloc, &Check, folder, out),
+        Request::Lookup { peer } => write_file_line(alloc, &Lookup { peer }, folder, out),
     }
 }
