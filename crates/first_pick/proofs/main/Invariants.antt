@@ -2,4 +2,4 @@ use Rattle.first_pick.proofs.main.Given as goal
 
 -- the ledger that no other token is of
 abbrev pub ghosts-first_pick : goal.ghosts-first_pick
-ghosts-first_pick g a = record { name = a.blank.name; parts = a.blank.parts }
+ghosts-first_pick a = record { name = a.blank.name; parts = a.blank.parts }
