@@ -102,6 +102,7 @@ pair-from st sound bucket slot pair = by (new_rec_at st bucket slot) refl
         }
 
 pub listed-from : (st : State) → IsSound st → (pair : ℕ × ℕ) → Contains (listed_of st) pair → IsListed st pair
+unfolding listed_in listed_of
 listed-from st sound pair c =
     let one = Contains-from_flat_map (listed_in st) (range_with_len 0 1024) pair c in
     let two = Contains-from_flat_map (pair_at st one.0) (range_with_len 0 64) pair one.2 in
@@ -110,6 +111,7 @@ listed-from st sound pair c =
 
 -- each bucket of each record is listed
 pub listed-all : (st : State) → IsSound st → (m : ℕ) (r : Rec) → At 0 (all_of st) m r → (b : ℕ) → Contains (buckets_of r) b → Contains (listed_of st) (b, m)
+unfolding listed_in listed_of
 listed-all st sound m r at b listed =
     let there = all_of-from st r (at-Contains 0 (all_of st) m r at) in
     let slot = new_slot st.places r.peer b in
@@ -141,6 +143,7 @@ one_pair st bucket None i j d below within = absurd (omega arith)
 one_pair st bucket (Some r) i j d below within = absurd (omega arith)
 
 pub listed-apart : (st : State) → IsSound st → AllPairs (λ m n. m ≢ n) (listed_of st)
+unfolding listed_in listed_of
 listed-apart st sound =
     AllPairs-flat_map (λ m n. m ≢ n) (listed_in st) (range_with_len 0 1024)
     (λ k d within. inside (get_or (range_with_len 0 1024) k d))

@@ -14,7 +14,7 @@ use Rattle.table_machine.specs.State.{State}
 use Rattle.table_machine.proofs.ExampleStates.{other, peer, rec, state, zeros}
 use Rattle.peer_rec.specs.declared.file_rec.FileRec.{FileRec}
 use Rattle.peer_rec.specs.Snapshot.{Snapshot}
-use Rattle.table_machine.specs.Snapshot.{listed_of, snapshot_of}
+use Rattle.table_machine.specs.Snapshot.{listed_in, listed_of, snapshot_of}
 use Rattle.table_machine.specs.Restoring.{duplicate, restored}
 use Rattle.table_machine.specs.Restart.{restart}
 
@@ -95,11 +95,11 @@ abbrev some_records : State
 some_records = state (rec 3 8333 (New (5 ∷ 87 ∷ [])) ∷ rec 4 1 Tried ∷ rec 7 22 (New (9 ∷ [])) ∷ []) (7 ∷ 3 ∷ 4 ∷ []) [] 9
 
 listed_there : listed_of some_records ≡ (5, 0) ∷ (9, 1) ∷ (87, 0) ∷ []
-unfolding new_slot compact_size cheap_hash double_sha256 sha256 digest_bytes hash_after compress rounds schedule first_words
+unfolding listed_in listed_of new_slot compact_size cheap_hash double_sha256 sha256 digest_bytes hash_after compress rounds schedule first_words
 listed_there = refl
 
 there_again : restored (snapshot_of some_records) zeros ≡ restart some_records
-unfolding new_bucket new_slot tried_bucket tried_slot in_range compact_size cheap_hash double_sha256 sha256 digest_bytes hash_after compress rounds schedule first_words
+unfolding listed_in listed_of new_bucket new_slot tried_bucket tried_slot in_range compact_size cheap_hash double_sha256 sha256 digest_bytes hash_after compress rounds schedule first_words
 there_again = refl
 
 after_it : summary (restart some_records) ≡ ((0, Some (5 ∷ 87 ∷ [])) ∷ (1, Some (9 ∷ [])) ∷ (2, None) ∷ [], 0 ∷ 1 ∷ 2 ∷ [], 3)

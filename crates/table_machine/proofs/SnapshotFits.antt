@@ -47,6 +47,7 @@ one st bucket (Some r) = omega arith
 
 -- the pairs are no more than the slots
 pub few_pairs : (st : State) → length (listed_of st) ≤ 65536
+unfolding listed_in listed_of
 few_pairs st =
     let all = length-flat_map-le (listed_in st) 64 (range_with_len 0 1024) (λ bucket.
     let few = length-flat_map-le (pair_at st bucket) 1 (range_with_len 0 64) (λ slot. one st bucket (new_rec_at st bucket slot)) in
@@ -54,6 +55,7 @@ few_pairs st =
     omega (arith, length-range_with_len 0 1024)
 
 bucket-of : (st : State) → IsSound st → (bucket : ℕ) (m : ℕ × ℕ) → Contains (listed_in st bucket) m → m.0 ≡ bucket
+unfolding listed_in
 bucket-of st sound bucket m c =
     let two = Contains-from_flat_map (pair_at st bucket) (range_with_len 0 64) m c in
     (pair-from st sound bucket two.0 m two.2).bucket_is
@@ -73,6 +75,7 @@ pairs-in st sound p c =
     some (x ∷ bs) c = omega arith
 
 pairs-rising : (st : State) → IsSound st → AllPairs (λ (p : ℕ × ℕ) (q : ℕ × ℕ). p.0 ≤ q.0) (listed_of st)
+unfolding listed_in listed_of
 pairs-rising st sound =
     AllPairs-flat_map (λ (p : ℕ × ℕ) (q : ℕ × ℕ). p.0 ≤ q.0) (listed_in st) (range_with_len 0 1024)
     (λ k d within i j e below inside.

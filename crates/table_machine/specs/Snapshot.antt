@@ -37,11 +37,11 @@ abbrev pub pair_at : State → ℕ → ℕ → List (ℕ × ℕ)
 pair_at st bucket slot = pair_of st bucket (new_rec_at st bucket slot)
 
 -- what the bucket lists, by rising slot
-abbrev pub listed_in : State → ℕ → List (ℕ × ℕ)
+unfoldable pub listed_in : State → ℕ → List (ℕ × ℕ)
 listed_in st bucket = flat_map (pair_at st bucket) (range_with_len 0 64)
 
 -- what all buckets list, by rising bucket
-abbrev pub listed_of : State → List (ℕ × ℕ)
+unfoldable pub listed_of : State → List (ℕ × ℕ)
 listed_of st = flat_map (listed_in st) (range_with_len 0 1024)
 
 -- What a save writes: new records by rising number, then tried records by rising number.

@@ -1,11 +1,13 @@
 use crate::known::check_fields;
 use crate::marks::{after_try, still_connected, with_services};
 use crate::reach::Reach;
+use crate::saving::{new_numbers, new_recs, tried_recs};
+use crate::snapshot::NEW_BUCKETS;
 use crate::{Memory, Store};
 use arrayvec::ArrayVec;
 use net_addr::{Entry, NetAddr, NetSet, Peer};
 use peer_index::PeerIndex;
-use peer_rec::{Counts, Good, Rec, Recs};
+use peer_rec::{Counts, FileRecs, Good, Pairs, Rec, Recs, Snapshot};
 use placing::Placer;
 use slot_grid::Grid;
 use std::alloc::Global;
@@ -78,6 +80,9 @@ impl<'a, H: BuildHasher> Tables<'a, H> {
     ghost use Rattle.table_machine.specs.Sound.{IsSound};
     ghost use Rattle.table_machine.specs.Entries.{add};
     ghost use Rattle.table_machine.specs.Tried.{good, attempt, connected, set_services};
+    ghost use Rattle.table_machine.specs.Restart.{restart};
+    ghost use Rattle.table_machine.specs.Restoring.{duplicate, restored};
+    ghost use Rattle.table_machine.specs.Snapshot.{snapshot_of};
     ghost use Rattle.table_machine.specs.Clashes.{erase_clash};
     ghost use Rattle.table_machine.specs.Picks.{order_swap, wanted_new, wanted_tried};
 
@@ -362,6 +367,34 @@ impl<'a, H: BuildHasher> Tables<'a, H> {
         ensures { IfOk result (λ recs. recs ≡ self.now.records) }
     {
         Ok(Recs::of(self.store.sorted(steps)?))
+    }
+
+    /// Returns what a file of peers keeps of the tables (`AddrManImpl::Serialize`). Restored with the
+    /// same key and asmap, it gives the tables as they are after a restart.
+    pub fn snapshot<L: Ledger>(&self, steps: &mut Steps<L>) -> Result<Snapshot, Memory>
+        ensures found { IfOk result (λ snap. snap ≡ snapshot_of self.now) }
+        ensures restart { IfOk result (λ snap. restored snap self.now.places ≡ restart self.now) }
+        ensures no_duplicate { IfOk result (λ snap. duplicate snap ≡ None) }
+    {
+        let recs = self.recs(steps)?;
+        let alloc = self.store.alloc;
+        let numbers = new_numbers(alloc, recs.items())?;
+        let new_recs = new_recs(alloc, recs.items())?;
+        let tried_recs = tried_recs(alloc, recs.items())?;
+        let listed = self.listed(alloc, numbers.as_slice(), steps)?;
+        let key = self.store.placer.key();
+        let sum = self.store.placer.sum();
+        let new_recs = FileRecs::of(new_recs);
+        let tried_recs = FileRecs::of(tried_recs);
+        let listed = Pairs::of(listed);
+        Ok(Snapshot::make(
+            key,
+            new_recs,
+            tried_recs,
+            u32::from(NEW_BUCKETS),
+            listed,
+            sum,
+        ))
     }
 
     /// Returns the slots. Each has the id of the record in it; `parts` returns the index with them.

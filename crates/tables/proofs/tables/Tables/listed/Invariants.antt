@@ -1,0 +1,6 @@
+use Rattle.std.proofs.Common.{◌≡◌}
+use Rattle.tables.specs.Saving.{buckets_by}
+use Rattle.tables.proofs.tables.Tables.listed.Given as goal
+
+abbrev pub invariant-loop-bucket : goal.invariant-loop-bucket
+invariant-loop-bucket g l = l.listed.items ≡ buckets_by l.self l.numbers l.bucket
