@@ -60,8 +60,8 @@ abbrev pub give_if_empty : State → Rec → ℕ → State → State
 give_if_empty st r bucket other = give_or st r bucket (new_rec_at st bucket (new_slot st.places r.peer bucket)) other
 
 -- The turn of a record that a bucket of the file lists. It gets that bucket if the file's buckets
--- are used and the slot there is empty, else the bucket of its own source if the slot there is
--- empty. Nothing changes if its address is not valid, or if eight buckets list it.
+-- are used and its slot there is empty. If not, it gets its source's bucket, if its slot in that one
+-- is empty. Nothing changes if its address is not valid, or if eight buckets list it.
 abbrev pub place_record : Bool → State → ℕ → Option Rec → State
 place_record same st bucket None = st
 place_record same st bucket (Some r) =

@@ -44,7 +44,8 @@ listed_in st bucket = flat_map (pair_at st bucket) (range_with_len 0 64)
 unfoldable pub listed_of : State → List (ℕ × ℕ)
 listed_of st = flat_map (listed_in st) (range_with_len 0 1024)
 
--- What a save writes: new records by rising number, then tried records by rising number.
+-- What a save writes. The records of the new table come first, and those of each table in the order
+-- of their numbers.
 abbrev pub snapshot_of : State → Snapshot
 snapshot_of st = record {
   key = st.places.key;
