@@ -19,7 +19,7 @@ impl<'a, H: BuildHasher> Manager<'a, H> {
         words: &Words,
         steps: &mut Steps<L>,
     ) -> Reply
-        ensures step { Step self.now (Command.Select new_only nets words.now) result self.now }
+        ensures { Step self.now (Command.Select new_only nets words.now) result self.now }
     {
         Reply::Picked(select(
             &self.tables,
