@@ -1,5 +1,5 @@
 -- Worked examples, with the values that an independent program gives: files of each format, and first faults.
-use Rattle.std.specs.Prelude.{◌≡◌, ℕ, List, [], ◌∷◌, ◌++◌, replicate, Option, Some, None, Result, Ok, Err, refl}
+use Rattle.std.specs.Prelude.{◌≡◌, ℕ, List, [], ◌∷◌, ◌++◌, replicate, Some, None, Result, Ok, Err, refl}
 use Rattle.sha2.specs.Sha256.{sha256, digest_bytes, hash_after, compress, rounds, schedule, first_words}
 use Rattle.std.specs.Prelude.ℤ.{pos, negsuc}
 use Rattle.net_addr.specs.Address.{Address}

@@ -1,5 +1,5 @@
 -- A file is read exactly as it is laid out, and has one meaning.
-use Rattle.std.proofs.Common.{◌≡◌, ◌⊎◌, ℕ, ◌+◌, ◌-◌, ◌<◌, ◌==◌, Bool, true, false, cond, ltb, List, length, take, drop, replicate, All, Option, Some, None, Result, Ok, Err, ◌≢◌, refl, sym, ap, ◌∙◌, inl, inr, ⊎_elim, arith}
+use Rattle.std.proofs.Common.{◌≡◌, ℕ, ◌-◌, ◌==◌, Bool, true, false, cond, ltb, List, length, take, drop, replicate, Option, Some, None, Result, Ok, Err, ◌≢◌, refl, sym, ap, ◌∙◌, inl, inr, ⊎_elim, arith}
 use Rattle.std.proofs.lemmas.Bool.{cases_lt}
 use Rattle.std.proofs.lemmas.List.{take-append-drop, length-take, get_or-take, get_or_past}
 use Rattle.std.specs.Prelude.{IfOk, IfErr}

@@ -2,4 +2,5 @@ pub mod FileLaws
 pub mod TextLaws
 pub mod WholeLaws
 mod BucketLaws
+mod WriteLaws
 mod Examples

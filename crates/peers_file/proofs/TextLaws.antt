@@ -1,11 +1,11 @@
 -- What is written of a snapshot is its file.
-use Rattle.std.proofs.Common.{◌≡◌, ◌≢◌, ◌⊎◌, ℕ, zero, suc, ◌+◌, ◌<◌, ◌≤◌, ◌^◌, ◌*◌, Bool, true, false, not, cond, leb, ◌==◌, nat_lt, List, [], ◌∷◌, ◌++◌, length, get_or, map, filter, All, AllPairs, Option, Some, None, refl, sym, ap, subst, ◌∙◌, inl, inr, ⊎_elim, arith, if◌then◌else◌, lt-ltb}
+use Rattle.std.proofs.Common.{◌≡◌, ◌≢◌, ℕ, zero, suc, ◌+◌, ◌<◌, ◌≤◌, ◌^◌, Bool, true, false, not, cond, ◌==◌, nat_lt, List, [], ◌∷◌, ◌++◌, length, get_or, map, filter, All, AllPairs, Some, refl, sym, ap, subst, ◌∙◌, arith, if◌then◌else◌, lt-ltb}
 use Rattle.std.specs.List.{flat_map, range_with_len}
-use Rattle.std.specs.Int.{w16, w32, w64, to_le_bytes, to_be_bytes, cast_signed}
+use Rattle.std.specs.Int.{w16, w32, w64, to_le_bytes, to_be_bytes}
 use Rattle.std.specs.Int.Bits.{bit_xor}
 use Rattle.std.proofs.lemmas.Bool.{le-leb, ne_eqb, eqb-false, both_ways}
 use Rattle.std.proofs.lemmas.Bool.Decides.{Decides-eqb}
-use Rattle.std.proofs.lemmas.List.{append-nil, append_assoc, length-map}
+use Rattle.std.proofs.lemmas.List.{append-nil, length-map}
 use Rattle.std.proofs.lemmas.List.Elements.{All-filter, All-head, All-map, All-tail, filter_passes}
 use Rattle.std.proofs.lemmas.List.FromFn.{get_or-range_with_len, length-range_with_len}
 use Rattle.std.proofs.lemmas.List.Kept.{AllPairs-filter}
@@ -18,10 +18,9 @@ use Rattle.addr_codecs.specs.Texts.{address_text}
 use Rattle.addr_codecs.specs.Layout.{addrv2_address}
 use Rattle.addr_codecs.proofs.AddressLaws.{spells-address}
 use Rattle.peer_rec.specs.declared.file_rec.FileRec.{FileRec}
-use Rattle.peer_rec.specs.Snapshot.{Snapshot, IsSnapshot, IsFileRec}
+use Rattle.peer_rec.specs.Snapshot.{Snapshot, IsFileRec}
 use Rattle.peers_file.specs.Faults.{of_field, of_number, of_address}
 use Rattle.peers_file.specs.declared.fault.FileFault.{FileFault}
-use Rattle.peers_file.specs.declared.fault.FileFault.TheVariants.{Buckets}
 use Rattle.peers_file.specs.declared.fault.Which.{Which}
 use Rattle.peers_file.specs.Layout.{field, layout_field, success_field, attempts_field, record_of, record_in, count_field, buckets_field, entries_of, pairs_with, bucket_of, sum_in, head, head_with, buckets_of, body}
 use Rattle.peers_file.specs.Inside.{IsWritten}

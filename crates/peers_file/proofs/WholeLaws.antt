@@ -1,5 +1,5 @@
 -- The written file as a whole: it stands for its snapshot, has no fault, and is far below the limit.
-use Rattle.std.proofs.Common.{◌≡◌, ◌≢◌, ◌⊎◌, ℕ, zero, suc, ◌+◌, ◌-◌, ◌*◌, ◌≤◌, ◌<◌, ◌^◌, Bool, true, false, not, cond, ltb, ◌==◌, List, [], ◌∷◌, ◌++◌, length, take, drop, map, filter, All, Option, Some, None, Result, Ok, Err, refl, sym, ap, subst, ◌∙◌, inl, inr, ⊎_elim, arith, le-ltb}
+use Rattle.std.proofs.Common.{◌≡◌, ◌≢◌, ℕ, suc, ◌+◌, ◌-◌, ◌*◌, ◌≤◌, ◌<◌, ◌^◌, Bool, true, false, not, cond, ltb, List, [], ◌∷◌, ◌++◌, length, take, drop, map, All, Option, Some, None, Result, Ok, Err, refl, sym, ap, subst, ◌∙◌, ⊎_elim, arith, le-ltb}
 use Rattle.std.proofs.lemmas.Bool.{eq-eqb}
 use Rattle.std.specs.Int.Bits.{bit_xor}
 use Rattle.std.proofs.lemmas.List.FromFn.{length-range_with_len}
@@ -14,8 +14,7 @@ use Rattle.net_addr.specs.Address.{Address, IsAddress, length_of, internal_prefi
 use Rattle.net_addr.specs.declared.net.Net.{Net}
 use Rattle.net_addr.specs.declared.net.Net.TheVariants.{Unroutable, Ipv4, Ipv6, Onion, I2p, Cjdns, Internal}
 use Rattle.wire_num.specs.CompactSize.{compact_size}
-use Rattle.wire_num.specs.Format.{Begins, HasFault}
-use Rattle.wire_num.proofs.ReadingLaws.{Reads}
+use Rattle.wire_num.specs.Format.{Begins}
 use Rattle.addr_codecs.specs.Texts.{address_text, id_of, prefix_of}
 use Rattle.placing.specs.Places.{double_sha256}
 use Rattle.peer_rec.specs.declared.file_rec.FileRec.{FileRec}
@@ -23,7 +22,7 @@ use Rattle.peer_rec.specs.Snapshot.{Snapshot, IsFileRec}
 use Rattle.peers_file.specs.declared.chain.Chain.{Chain}
 use Rattle.peers_file.specs.declared.chain.Chain.TheVariants.{Main, Test, Signet, Regtest}
 use Rattle.peers_file.specs.declared.fault.FileFault.{FileFault}
-use Rattle.peers_file.specs.declared.fault.FileFault.TheVariants.{Trailing, TooLarge, Truncated, BadMagic, BadSum}
+use Rattle.peers_file.specs.declared.fault.FileFault.TheVariants.{Trailing}
 use Rattle.peers_file.specs.Layout.{magic_of, body, between, whole_fault, IsFile, HasFileFault}
 use Rattle.peers_file.specs.Readings.{body_at}
 use Rattle.peers_file.specs.Inside.{IsWritten}

@@ -1,7 +1,9 @@
 -- What a snapshot has whose file is written, and parts of the file.
-use Rattle.std.specs.Prelude.{◌≡◌, ℕ, ◌≤◌, List, ◌++◌, length, All}
+use Rattle.std.specs.Prelude.{◌≡◌, ℕ, ◌≤◌, ◌^◌, List, ◌++◌, length, All}
 use Rattle.std.specs.List.{flat_map}
-use Rattle.std.specs.Int.{w16, w32, to_le_bytes, to_be_bytes}
+use Rattle.std.specs.Int.{w16, w32, w64, to_le_bytes, to_be_bytes}
+use Rattle.std.specs.Int.Bits.{bit_xor}
+use Rattle.wire_num.specs.CompactSize.{compact_size}
 use Rattle.addr_codecs.specs.Texts.{address_text}
 use Rattle.peer_rec.specs.declared.file_rec.FileRec.{FileRec}
 use Rattle.peer_rec.specs.Snapshot.{Snapshot, IsSnapshot, IsFileRec}
@@ -14,9 +16,19 @@ pub record IsWritten (snap : Snapshot) : Type 0 where
   pub buckets : snap.bucket_count ≡ 1024
   pub few_listed : length snap.listed ≤ 65536
 
--- a peer and its source
+-- a record before its peer, its peer and its source, and what stands after these
+unfoldable pub front_text : FileRec → List ℕ
+front_text r = to_le_bytes w32 0x20035b60 ++ to_le_bytes w32 r.time ++ compact_size r.services
+
 unfoldable pub who_text : FileRec → List ℕ
 who_text r = address_text r.peer.addr ++ to_be_bytes w16 r.peer.port ++ address_text r.source
+
+unfoldable pub marks_text : FileRec → List ℕ
+marks_text r = to_le_bytes w64 r.last_success ++ to_le_bytes w32 r.attempts
+
+-- the numbers of new records, of tried ones and of buckets
+unfoldable pub counts_text : Snapshot → List ℕ
+counts_text snap = to_le_bytes w32 (length snap.new_recs) ++ to_le_bytes w32 (length snap.tried_recs) ++ to_le_bytes w32 (bit_xor snap.bucket_count (2 ^ 30))
 
 -- the pairs of a bucket: their number, and the index in each
 unfoldable pub pairs_text : List (ℕ × ℕ) → List ℕ

@@ -8,8 +8,10 @@ mod law;
 mod read;
 mod record;
 mod repeated;
+mod write;
 
 pub use chain::Chain;
 pub use fault::{FileFault, RecordCause, Which};
 pub use law::files_have_one_meaning;
 pub use read::{MAX_FILE, read_file};
+pub use write::write_file;

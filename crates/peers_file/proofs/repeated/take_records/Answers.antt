@@ -1,8 +1,6 @@
-use Rattle.std.proofs.Common.{arith, ◌≡◌, ◌≤◌, ◌+◌, ◌++◌, ◌∷◌, [], All}
-use Rattle.std.proofs.lemmas.List.Elements.{All-append, All-from_recursion}
+use Rattle.std.proofs.Common.{arith, ◌≡◌, ◌+◌, ◌++◌, ◌∷◌, []}
 use Rattle.wire_num.specs.Readings.{times_at}
 use Rattle.wire_num.proofs.LoopLaws.{goes_on, stops, is_done}
-use Rattle.peer_rec.specs.declared.file_rec.TheConstants.{MAX_ATTEMPTS}
 use Rattle.peers_file.specs.Readings.{record_in_at}
 use Rattle.peers_file.proofs.BucketLaws.{few_more}
 use Rattle.peers_file.proofs.repeated.take_records.Goals as goal
