@@ -1,10 +1,9 @@
-//! Tests of the slots and of the order of records, against plain lists that are seen to be right.
+//! Tests of the slots, of the order of records and of the tables by many calls: random ones beside
+//! plain lists, full containers, and calls that run out of memory.
 #![tactic(auto)]
 
 #[cfg(test)]
-mod adding;
-#[cfg(test)]
-mod entry;
+mod entries;
 #[cfg(test)]
 mod four_classes;
 #[cfg(test)]
@@ -20,10 +19,8 @@ mod little_memory;
 #[cfg(test)]
 mod orders;
 #[cfg(test)]
-mod plain_grid;
-#[cfg(test)]
-mod plain_index;
-#[cfg(test)]
-mod refused_entries;
+mod plain;
 #[cfg(test)]
 mod samples;
+#[cfg(test)]
+mod sequences;

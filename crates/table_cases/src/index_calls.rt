@@ -1,0 +1,114 @@
+ghost use Rattle.std.specs.Prelude.{◌≡◌};
+
+use crate::arguments::{owned, peer};
+use crate::state::Hasher;
+use call_rows::{Fields, Unread};
+use net_addr::{NetAddr, Peer};
+use peer_index::PeerIndex;
+use peer_rec::{Buckets, Place, Rec};
+use std::alloc::Global;
+use std::sync::ledger::Ledger;
+use steps::Steps;
+
+/// Returns a record of the peer.
+fn record(peer: Peer) -> Rec
+    ensures { result.peer ≡ peer }
+{
+    Rec {
+        number: 0,
+        peer,
+        source: NetAddr::ipv4([1, 2, 3, 4]),
+        time: 0,
+        services: 0,
+        last_success: 0,
+        last_try: 0,
+        last_count: 0,
+        attempts: 0,
+        place: Place::New(Buckets::one(0)),
+    }
+}
+
+/// `index-add PEER`: the id of the new record.
+fn add<L: Ledger>(
+    alloc: Global,
+    index: &mut PeerIndex<Hasher>,
+    peer: Peer,
+    steps: &mut Steps<L>,
+) -> Result<String, Unread> {
+    if index.len() >= 1_000_000 || index.find(&peer, steps).is_some() {
+        return Err(Unread::Unmet);
+    }
+    match index.add(record(peer), steps) {
+        Ok(id) => Ok(format!(in alloc; "{id}")?),
+        Err(_) => Err(Unread::Memory),
+    }
+}
+
+/// `index-remove PEER`: removes the record, and the last one takes its position.
+fn remove<L: Ledger>(
+    alloc: Global,
+    index: &mut PeerIndex<Hasher>,
+    peer: Peer,
+    steps: &mut Steps<L>,
+) -> Result<String, Unread> {
+    if index.find(&peer, steps).is_none() {
+        return Err(Unread::Unmet);
+    }
+    index.remove(&peer, steps);
+    owned(alloc, "done")
+}
+
+/// `index-swap POSITION POSITION`: exchanges the records at two positions.
+fn swap<L: Ledger>(
+    alloc: Global,
+    index: &mut PeerIndex<Hasher>,
+    fields: &mut Fields<'_>,
+    steps: &mut Steps<L>,
+) -> Result<String, Unread> {
+    let (i, j) = (fields.number()? as usize, fields.number()? as usize);
+    if i >= index.len() || j >= index.len() {
+        return Err(Unread::Unmet);
+    }
+    index.swap(i, j, steps);
+    owned(alloc, "done")
+}
+
+/// `index-order`: the number of records, and the port and the id of each, in their order, if each
+/// is found by its peer.
+fn order<L: Ledger>(
+    alloc: Global,
+    index: &PeerIndex<Hasher>,
+    steps: &mut Steps<L>,
+) -> Result<String, Unread> {
+    let mut text = format!(in alloc; "{}", index.len())?;
+    for position in 0..index.len() {
+        let id = index.at(position, steps);
+        let peer = index.get(id, steps).peer;
+        if index.find(&peer, steps) != Some(id) {
+            return owned(alloc, "another id");
+        }
+        text.push_str(format!(in alloc; " {}:{id}", peer.port)?.as_str())?;
+    }
+    Ok(text)
+}
+
+/// Answers the calls above and `index-find PEER`, the id of the peer's record.
+pub(crate) fn answer<L: Ledger>(
+    alloc: Global,
+    index: &mut PeerIndex<Hasher>,
+    name: &str,
+    fields: &mut Fields<'_>,
+    steps: &mut Steps<L>,
+) -> Result<String, Unread> {
+    match name {
+        "add" => add(alloc, index, peer(fields)?, steps),
+        "remove" => remove(alloc, index, peer(fields)?, steps),
+        "swap" => swap(alloc, index, fields, steps),
+        "order" => order(alloc, index, steps),
+        "find" => match index.find(&peer(fields)?, steps) {
+            Some(id) => Ok(format!(in alloc; "{id}")?),
+            None => owned(alloc, "none"),
+        },
+        _ => Err(Unread::Form),
+    }
+}
