@@ -26,6 +26,7 @@ pub(crate) fn is_saved<F: Folder>(
 }
 
 /// Saves a file at once.
+#[tactic(auto, using(save_store::proofs::Temp::some_safe))]
 fn save<F: Folder>(folder: &mut F, bytes: &[u8]) -> Result<(), Failed> {
     write_temp(folder, Name::PeersTemp, bytes)?;
     publish(folder, Name::PeersTemp, Name::Peers)

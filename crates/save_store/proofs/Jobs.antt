@@ -2,8 +2,10 @@
 use Rattle.std.proofs.Common.{◌≡◌, ℕ, ◌+◌, List, [], ◌∷◌, ◌++◌, zero, suc, length, take, drop, refl, sym, ap, ◌∙◌, subst}
 use Rattle.std.proofs.Math.Seq.{take-add}
 use Rattle.std.proofs.lemmas.List.{drop-drop}
+use Rattle.std.specs.Prelude.{Option}
+use Rattle.host_io.specs.Past.{Past}
 use Rattle.host_io.specs.declared.name.Name.{Name}
-use Rattle.save_store.specs.Job.{Job}
+use Rattle.save_store.specs.Job.{Job, Reads}
 
 take_length : (c : ℕ) (ys : List ℕ) → take (length (take c ys)) ys ≡ take c ys
 take_length zero ys = refl
@@ -28,3 +30,12 @@ stepped t xs d c n is =
     (take-add d (length (take c (drop d xs))) xs ∙ ap (λ ys. take d xs ++ ys) (take_length c (drop d xs)))
     ∙ ap (λ l. job_with t (take d xs ++ take c (drop d xs)) l)
     (sym (drop-drop (length (take c (drop d xs))) d xs) ∙ drop_length c (drop d xs)))
+
+-- what is written of a job, said of a job that is equal
+pub reads_as : (past : Option Past) (j k : Job) → j ≡ k → Reads j.temp j.written past → Reads k.temp k.written past
+reads_as past j k e = subst (λ (x : Job). Reads x.temp x.written past) e
+
+-- the bytes that come next, in a list that is equal
+pub next_same : (past : Option Past) (temp : Name) (written xs ys : List ℕ) (n : ℕ) → xs ≡ ys
+    → Reads temp (written ++ take n xs) past → Reads temp (written ++ take n ys) past
+next_same past temp written xs ys n e = subst (λ zs. Reads temp (written ++ take n zs) past) e

@@ -169,3 +169,10 @@ pub some_synced : (name : Name) (past : Option Past)
     → IfSome past (λ p. (bytes : List ℕ) × IsSynced name bytes p.now)
 some_synced name None safe = tt
 some_synced name (Some p) safe = (safe.0, synced_of name safe.0 p.now safe.1)
+
+-- what a file that was written gives to `publish`
+pub some_safe : (name : Name) (bytes : List ℕ) (past : Option Past)
+    → IfSome past (λ p. IsSafe name bytes p.now)
+    → IfSome past (λ p. (bytes : List ℕ) × IsSafe name bytes p.now)
+some_safe name bytes None safe = tt
+some_safe name bytes (Some p) safe = (bytes, safe)

@@ -38,7 +38,7 @@ impl SaveJob {
         ensures any_moment { Always (F.past folder.old) (F.past folder.new) (KeepsOthers temp) }
         ensures job { IfOk result (λ job.
             job ≡ record { temp = temp; written = []; left = bytes }) }
-        ensures reads { OnOk result (Reads temp [] (F.past folder.new)) }
+        ensures reads { IfOk result (λ job. Reads job.temp job.written (F.past folder.new)) }
         ensures cause { OnErr result (Rose (F.faults folder.old) (F.faults folder.new)) }
         ensures never_falls { F.faults folder.old ≤ F.faults folder.new }
     {
@@ -61,8 +61,7 @@ impl SaveJob {
           written = self.written ++ take count self.left;
           left = drop count self.left;
         }) }
-        ensures reads { OnOk result
-            (Reads self.temp (self.written ++ take count self.left) (F.past folder.new)) }
+        ensures reads { IfOk result (λ job. Reads job.temp job.written (F.past folder.new)) }
         ensures cause { OnErr result (Rose (F.faults folder.old) (F.faults folder.new)) }
         ensures never_falls { F.faults folder.old ≤ F.faults folder.new }
     {
