@@ -1,9 +1,6 @@
-//! Tests of the outside: sources, sinks and folders in memory and of the system, and saves that are
-//! stopped or crash.
+//! Tests of the outside: sources, sinks and folders in memory and of the system, and saves.
 #![tactic(auto)]
 
-#[cfg(test)]
-mod crashes;
 #[cfg(test)]
 mod loading;
 #[cfg(test)]
