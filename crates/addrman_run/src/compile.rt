@@ -1,13 +1,15 @@
-ghost use Rattle.std.specs.Prelude.{◌≡◌, ◌++◌, codes, decimal, IfOk};
-ghost use Rattle.addrman_run.specs.Compile.{IsCompileLine};
+ghost use Rattle.std.specs.Prelude.{◌≡◌, ◌++◌, codes, decimal, length, IfOk};
+ghost use Rattle.asmap_vm.specs.Code.{code};
+ghost use Rattle.asmap_compile.specs.Compiled.{compiled};
+ghost use Rattle.addrman_run.specs.Compile.{IsCompileLine, compile_text};
 ghost use Rattle.addrman_run.specs.Tables.{ReportsTable};
 ghost use Rattle.addrman_run.specs.declared.input.Input.TheVariants as input;
 
 use crate::TablesFault;
 use crate::file_line::{FileLine, Refusal};
 use crate::input::Input;
-use asmap_compile::{CompileFault, compile};
-use prefix_table::{TableFault, read_table};
+use asmap_compile::{CompileFault, Compiled, compile};
+use prefix_table::{Table, TableFault, read_table};
 use std::alloc::{AllocError, Global};
 
 /// Returns the line with the numbers of rows, bits and bytes.
@@ -22,6 +24,14 @@ fn line_of(alloc: Global, rows: usize, bits: u64, bytes: usize) -> Result<Vec<u8
     text.extend_from_slice(bytes.to_string(alloc)?.as_bytes())?;
     text.extend_from_slice(b" bytes\n")?;
     Ok(text)
+}
+
+/// Returns the line about a table and its compiled file.
+fn compile_line(alloc: Global, table: &Table, file: &Compiled) -> Result<Vec<u8>, AllocError>
+    requires { file.now.bits ≡ length (code (compiled table.now)) }
+    ensures { IfOk result (λ text. text.items ≡ compile_text table.now file.now.bytes) }
+{
+    line_of(alloc, table.rows().len(), file.bits(), file.code().len())
 }
 
 /// The command that compiles prefixes.txt and says how large the table and its asmap are.
@@ -50,7 +60,9 @@ impl FileLine for Compile {
             Err(CompileFault::Memory) => return Err(Refusal::Memory),
             Err(fault) => return Err(Refusal::Table(TablesFault::Compile(fault))),
         };
-        line_of(alloc, table.rows().len(), file.bits(), file.code().len())
-            .map_err(|_| Refusal::Memory)
+        match compile_line(alloc, &table, &file) {
+            Ok(line) => Ok(line),
+            Err(_) => Err(Refusal::Memory),
+        }
     }
 }

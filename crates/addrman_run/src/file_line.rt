@@ -5,6 +5,7 @@ ghost use Rattle.addrman_run.specs.FileLine.{FileLineText};
 ghost use Rattle.addrman_run.specs.InFolder.{ReportsAbsence};
 ghost use Rattle.addrman_run.specs.Inside.{name_of, max_of, too_large_of, IsLoaded, IsLarge};
 ghost use Rattle.addrman_run.specs.Outcome.{IsCounted};
+ghost use Rattle.addrman_run.specs.declared.input.Input.{Input};
 ghost use Rattle.addrman_run.specs.declared.status.Status.{Status};
 ghost use Rattle.addrman_run.specs.declared.tables_fault.TablesFault.{TablesFault};
 

@@ -1,6 +1,7 @@
 ghost use Rattle.std.specs.Prelude.{◌≡◌, IfOk};
 ghost use Rattle.net_group.specs.Group.{asmap_bits};
 ghost use Rattle.asmap_vm.specs.Held.{tree_held};
+ghost use Rattle.placing.specs.Inside.{asmap_of};
 ghost use Rattle.placing.specs.Places.{number_by};
 ghost use Rattle.addrman_run.specs.Asmaps.{IsAsmapLine, ReportsAsmap};
 ghost use Rattle.addrman_run.specs.Lookup.{number_text, lookup_text};
@@ -34,11 +35,18 @@ impl FileLine for Lookup {
     fn line_of(&self, alloc: Global, bytes: &[u8]) -> Result<Vec<u8>, Refusal> {
         match check(bytes) {
             Ok(asmap) => {
-                line_of(alloc, &asmap, &self.peer.addr).map_err(|_| Refusal::Memory)
+                lookup_line(alloc, &asmap, &self.peer.addr).map_err(|_| Refusal::Memory)
             }
             Err(fault) => Err(Refusal::Asmap(fault)),
         }
     }
+}
+
+/// Returns the line about an address under an asmap.
+fn lookup_line(alloc: Global, asmap: &Sane<'_>, addr: &NetAddr) -> Result<Vec<u8>, AllocError>
+    ensures { IfOk result (λ text. text.items ≡ lookup_text (asmap_of asmap.now) addr.now) }
+{
+    line_of(alloc, asmap, addr)
 }
 
 /// Returns the line with the number that an asmap gives an address, and the address's group.

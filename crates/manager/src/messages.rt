@@ -71,9 +71,9 @@ impl<'a, H: BuildHasher> Manager<'a, H> {
         match entry {
             Some(entry) => {
                 let entry = clamp_time(entry, self.clock);
-                let answer =
-                    self.tables
-                        .add(&entry, source, MESSAGE_PENALTY, word, self.clock, steps)?;
+                let answer = self
+                    .tables
+                    .add(&entry, source, MESSAGE_PENALTY, word, self.clock, steps)?;
                 Ok(answer)
             }
             None => Ok(false),
