@@ -47,7 +47,16 @@ pub(crate) struct IndexWork {
 impl IndexWork {
     /// Does the work, and gives a sum of what was found.
     pub fn run(self, alloc: Global) -> Result<u64, Refusal> {
-        let mut steps = Steps::<Brand>::none(Blank::new(1));
+        self.run_counted::<Brand>(alloc, Blank::new(1))
+    }
+
+    /// Does the work with a counter of steps.
+    fn run_counted<L: Ledger>(self, alloc: Global, blank: Blank) -> Result<u64, Refusal>
+        requires name { blank.name ≡ L.name }
+        requires parts { blank.parts ≡ L.parts }
+        requires one { blank.parts ≡ 1 }
+    {
+        let mut steps = Steps::<L>::none(blank);
         match self.kind {
             Kind::Adds => self.fill_often(alloc, &mut steps),
             Kind::Finds => self.find_often(alloc, &mut steps),

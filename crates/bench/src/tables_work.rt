@@ -1,3 +1,5 @@
+ghost use Rattle.std.specs.Prelude.{◌≡◌};
+
 use crate::index_work::{Index, filled};
 use crate::refusal::Refusal;
 use slot_grid::Grid;
@@ -29,7 +31,16 @@ fn put_all<L: Ledger>(grid: &mut Grid, index: &Index, steps: &mut Steps<L>) {
 
 /// Makes and fills a grid and an index of this many records. Returns the number of the records.
 pub(crate) fn fill_tables(alloc: Global, records: u32) -> Result<u64, Refusal> {
-    let mut steps = Steps::<Brand>::none(Blank::new(1));
+    fill_counted::<Brand>(alloc, records, Blank::new(1))
+}
+
+/// Makes and fills them with a counter of steps.
+fn fill_counted<L: Ledger>(alloc: Global, records: u32, blank: Blank) -> Result<u64, Refusal>
+    requires name { blank.name ≡ L.name }
+    requires parts { blank.parts ≡ L.parts }
+    requires one { blank.parts ≡ 1 }
+{
+    let mut steps = Steps::<L>::none(blank);
     let mut grid = Grid::make(alloc).map_err(|_| Refusal::NoMemory)?;
     let index = filled(alloc, records, &mut steps)?;
     put_all(&mut grid, &index, &mut steps);

@@ -1,3 +1,5 @@
+ghost use Rattle.std.specs.Prelude.{◌≡◌};
+
 use crate::{index_calls, table_calls};
 use call_rows::{Calls, Fields, Unread};
 use peer_index::PeerIndex;
@@ -5,12 +7,19 @@ use placing::Placer;
 use std::alloc::Global;
 use std::hash::{BuildHasherDefault, FoldHasher};
 use std::marker::Brand;
-use std::sync::ledger::Blank;
+use std::sync::ledger::{Blank, Ledger};
 use steps::Steps;
 use tables::Tables;
 
 /// The hasher of the tables and of the index.
 pub(crate) type Hasher = BuildHasherDefault<FoldHasher>;
+
+/// A call of a row.
+#[derive(Clone, Copy)]
+struct Call<'c> {
+    name: &'c str,
+    arguments: &'c str,
+}
 
 /// What the calls are made of.
 #[derive(Drop)]
@@ -33,13 +42,25 @@ impl Calls for State {
     }
 
     fn call(&mut self, alloc: Global, name: &str, arguments: &str) -> Result<String, Unread> {
-        let mut steps = Steps::<Brand>::none(Blank::new(1));
-        let mut fields = Fields::of(arguments);
-        match name.strip_prefix("index-") {
-            Some(name) => {
-                index_calls::answer(alloc, &mut self.index, name, &mut fields, &mut steps)
-            }
-            None => table_calls::answer(alloc, &mut self.tables, name, &mut fields, &mut steps),
-        }
+        answer::<Brand>(alloc, self, &Call { name, arguments }, Blank::new(1))
+    }
+}
+
+/// Makes a call with a counter of steps, and returns its answer.
+fn answer<L: Ledger>(
+    alloc: Global,
+    state: &mut State,
+    call: &Call<'_>,
+    blank: Blank,
+) -> Result<String, Unread>
+    requires name { blank.name ≡ L.name }
+    requires parts { blank.parts ≡ L.parts }
+    requires one { blank.parts ≡ 1 }
+{
+    let mut steps = Steps::<L>::none(blank);
+    let mut fields = Fields::of(call.arguments);
+    match call.name.strip_prefix("index-") {
+        Some(name) => index_calls::answer(alloc, &mut state.index, name, &mut fields, &mut steps),
+        None => table_calls::answer(alloc, &mut state.tables, call.name, &mut fields, &mut steps),
     }
 }

@@ -1,4 +1,5 @@
 use Rattle.bench.proofs.tables_work.fill_tables.Given as goal
 
-abbrev pub ghosts-none : goal.ghosts-none
-ghosts-none a = record { name = a.blank.name; parts = a.blank.parts }
+-- the ledger that no other token is of
+abbrev pub ghosts-fill_counted : goal.ghosts-fill_counted
+ghosts-fill_counted a = record { name = a.blank.name; parts = a.blank.parts }
