@@ -1,4 +1,5 @@
--- The faults of numbers and bytes as faults of an address and of a message, and what an answer is unless memory ran out.
+-- The faults of numbers and bytes as faults of an address and of a message, and what an answer is
+-- unless memory ran out.
 use Rattle.std.specs.Prelude.{◌≡◌, ◌≢◌, Result, Err}
 use Rattle.wire_num.specs.declared.fault.WireFault.{WireFault}
 use Rattle.wire_num.specs.declared.fault.WireFault.TheVariants as wire

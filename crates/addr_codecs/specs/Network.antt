@@ -24,7 +24,8 @@ is_length (Some net) len = len == length_of net
 abbrev pub is_embedded : List ℕ → Bool
 is_embedded bytes = begins_with bytes mapped_prefix || begins_with bytes torv2_prefix
 
--- the address that the bytes are, and None if the entry is skipped (`CNetAddr::SetNetFromBIP155Network`, `UnserializeV2Stream`)
+-- the address that the bytes are, and None if the entry is skipped
+-- (`CNetAddr::SetNetFromBIP155Network`, `UnserializeV2Stream`)
 abbrev pub address_of : Option Net → List ℕ → Option Address
 address_of None bytes = None
 address_of (Some Ipv6) bytes = if is_embedded bytes then None else Some (from_v1 bytes)

@@ -1,4 +1,5 @@
--- How the messages `addr` and `addrv2` are written: each number and each length in its shortest spelling.
+-- How the messages `addr` and `addrv2` are written: each number and each length in its shortest
+-- spelling.
 use Rattle.std.specs.Prelude.{ℕ, List, [], ◌∷◌, ◌++◌, length, unwrap_or}
 use Rattle.std.specs.List.{flat_map}
 use Rattle.std.specs.Int.{w16, w32, w64, to_le_bytes, to_be_bytes}
@@ -13,7 +14,8 @@ use Rattle.wire_num.specs.CompactSize.{compact_size}
 unfoldable pub addr_entry_text : Entry → List ℕ
 addr_entry_text e = to_le_bytes w32 e.time ++ to_le_bytes w64 e.services ++ unwrap_or (v1_bytes e.peer.addr) [] ++ to_be_bytes w16 e.peer.port
 
--- the number of a network in BIP 155; an internal name has none, and is written as IPv6 (`CNetAddr::SerializeV2Stream`)
+-- the number of a network in BIP 155; an internal name has none, and is written as IPv6
+-- (`CNetAddr::SerializeV2Stream`)
 abbrev pub id_of : Net → ℕ
 id_of Unroutable = 0
 id_of Ipv4 = 1

@@ -113,7 +113,8 @@ FailsWithoutChange old action new =
     (IsSome (next_fault old) × (new ≡ folder_after_fault old action))
     ⊎ (new ≡ folder_after_no_memory old)
 
--- A call fails that would make a change: without it or with it, as its maker chose, or out of memory.
+-- A call fails that would make a change: without it or with it, as its maker chose, or out of
+-- memory.
 abbrev pub FailsToChange : FolderState → Action → Change → FolderState → Type 0
 FailsToChange old action change new =
     ((next_fault old ≡ Some false) × (new ≡ folder_after_fault old action))

@@ -26,7 +26,8 @@ abbrev pub after : (Disk → Disk) → Option Past → Option Past
 after call None = None
 after call (Some past) = Some (later (call past.now) past)
 
--- The past after a call that failed: it was not made, or left a disk that relates to the one before.
+-- The past after a call that failed: it was not made, or left a disk that relates to the one
+-- before.
 abbrev pub AfterFault : (Disk → Disk → Type 0) → Option Past → Option Past → Type 0
 AfterFault partly None new = new ≡ None
 AfterFault partly (Some past) new =

@@ -38,7 +38,7 @@ pub use call::{Action, Call};
 pub use dir_folder::DirFolder;
 pub use failed::{Failed, still_count_has_not_risen};
 pub use folder::Folder;
-pub use lines::{LINE_FEED, split_line};
+pub use lines::{LINE_FEED, is_passed_over, split_line};
 pub use mem_folder::MemFolder;
 pub use mem_sink::MemSink;
 pub use mem_source::MemSource;

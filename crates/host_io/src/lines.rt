@@ -1,5 +1,5 @@
-ghost use Rattle.std.specs.Prelude.{◌≡◌, ◌≢◌, ◌+◌, ◌<◌, ◌≤◌, ◌⊎◌, [], ◌∷◌, ◌++◌, length, take, drop, slice_index, All};
-ghost use Rattle.host_io.specs.Lines.{lines_of};
+ghost use Rattle.std.specs.Prelude.{◌≡◌, ◌≢◌, ◌+◌, ◌<◌, ◌≤◌, ◌↔◌, ◌⊎◌, [], ◌∷◌, ◌++◌, length, take, drop, slice_index, All, IsTrue};
+ghost use Rattle.host_io.specs.Lines.{IsPassedOver, lines_of};
 
 use memchr::memchr;
 
@@ -17,6 +17,16 @@ pub fn split_line(text: &[u8]) -> (&[u8], &[u8])
     ensures no_longer { length result.0.now ≤ length text.now }
 {
     cut_at(text, line_end(text))
+}
+
+/// Returns `true` if the line is empty or a comment, which begins with `#`.
+pub fn is_passed_over(line: &[u8]) -> bool
+    ensures { IsTrue result ↔ IsPassedOver line.now }
+{
+    match line.first() {
+        Some(byte) => *byte == b'#',
+        None => true,
+    }
 }
 
 /// Returns the position of the first line feed, or the length of a text without one.

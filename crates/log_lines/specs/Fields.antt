@@ -17,8 +17,8 @@ use Rattle.log_lines.specs.declared.random.TheConstants.{MAX_SEEDED}
 abbrev pub fields_of : List ℕ → List (List ℕ)
 fields_of line = slice_split (λ b. b == 32) line
 
--- A kind of field: a decimal number between two bounds; an address; a peer; bytes in hexadecimal digits; random words;
--- one of two keywords; a set of networks; and a set of classes of addresses.
+-- A kind of field: a decimal number between two bounds; an address; a peer; bytes in hexadecimal
+-- digits; random words; one of two keywords; a set of networks; and a set of classes of addresses.
 pub data Kind : Type 0 where
   Number : (least most : ℕ) → Kind
   OfAddr : Kind

@@ -109,8 +109,8 @@ abbrev pub Spells : List ℕ → Command → Type 0
 Spells line command =
     (verb : Verb) × (texts : List (List ℕ)) × (fields_of line ≡ word_of verb ∷ texts) × SpellsAfter verb texts command
 
--- what is wrong in a line that is not passed over: its first word is that of no command, or else one of its other
--- fields is malformed, or there are too few or too many
+-- what is wrong in a line that is not passed over: its first word is that of no command, or else
+-- one of its other fields is malformed, or there are too few or too many
 abbrev pub HasFault : List ℕ → LineFault → Type 0
 HasFault line f =
     ¬ IsPassedOver line × ((word : List ℕ) × (texts : List (List ℕ)) × (fields_of line ≡ word ∷ texts) ×

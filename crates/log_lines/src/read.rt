@@ -12,7 +12,7 @@ use crate::field::{
 use crate::fields::{cut_field, four_fields, no_fields, one_field, three_fields, two_fields};
 use crate::nets::{read_classes, read_nets};
 use crate::{Command, LineFault, Verb, Words};
-use host_io::Bytes;
+use host_io::{Bytes, is_passed_over};
 use net_addr::{NetAddr, Peer};
 use std::alloc::Global;
 
@@ -48,13 +48,6 @@ fn read_spelled(alloc: Global, line: &[u8]) -> Result<Command, LineFault>
     let (word, rest) = cut_field(line);
     let verb = verb_of(word).ok_or(LineFault::Word)?;
     read_command(alloc, verb, rest)
-}
-
-/// Returns `true` if the line is passed over.
-fn is_passed_over(line: &[u8]) -> bool
-    ensures { IsTrue result ↔ IsPassedOver line.now }
-{
-    line.is_empty() || line[0] == b'#'
 }
 
 /// Returns the verb of this keyword.

@@ -46,7 +46,8 @@ pub record StopsAt (text : List ℕ) (rows : List NumberedRow) (fault : TableFau
   pub settled : All IsSettled (before ++ line ∷ [])
   pub has : HasFault [] line (length before + 1) fault
 
--- the lines before one are those of as many rows as a table has, and this one is that of the last row
+-- the lines before one are those of as many rows as a table has, and this one is that of the last
+-- row
 pub record Overflows (text : List ℕ) (rows : List NumberedRow) : Type 0 where
   pub before : List (List ℕ)
   pub line : List ℕ

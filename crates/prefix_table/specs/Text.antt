@@ -16,7 +16,8 @@ abbrev pub width : Family → ℕ
 width Ipv4 = 32
 width Ipv6 = 128
 
--- an address of the family as 128 bits: an IPv4 address is the mapped one (RFC 4291, section 2.5.5.2)
+-- an address of the family as 128 bits: an IPv4 address is the mapped one (RFC 4291, section
+-- 2.5.5.2)
 abbrev pub address_bits : Family → ℕ → ℕ
 address_bits Ipv4 address = 65535 * 2 ^ 32 + address
 address_bits Ipv6 address = address
@@ -30,7 +31,8 @@ IsAddress Ipv6 text address = IsIpv6Text text address
 abbrev pub IsNumber : List ℕ → ℕ → Type 0
 IsNumber text n = (n < 10 ^ 10) × (text ≡ decimal n)
 
--- the line is not passed over and has the form of a row: an address, a slash, a length, a space, `AS` and a number
+-- the line is not passed over and has the form of a row: an address, a slash, a length, a space,
+-- `AS` and a number
 pub record IsEntry (line : List ℕ) (entry : Entry) : Type 0 where
   pub not_passed_over : IsPassedOver line → ⊥
   pub address : List ℕ

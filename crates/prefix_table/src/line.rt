@@ -8,6 +8,7 @@ ghost use Rattle.prefix_table.specs.declared.entry.Family.{Family};
 use crate::entry::{Entry, Family};
 use crate::search::cut;
 use crate::{MAX_ASN, Row, TableFault};
+use host_io::is_passed_over;
 use net_addr::{around_last, parse_ipv4, parse_ipv6, parse_number};
 
 /// The largest number of ten digits.
@@ -33,16 +34,6 @@ pub(crate) fn read_line(text: &[u8], line: u32) -> Result<Option<Row>, TableFaul
         return Err(TableFault::HostBits { line });
     }
     Ok(Some(row))
-}
-
-/// Returns whether the line is empty or a comment.
-fn is_passed_over(line: &[u8]) -> bool
-    ensures { IsTrue result ↔ IsPassedOver line.now }
-{
-    match line.first() {
-        Some(byte) => *byte == b'#',
-        None => true,
-    }
 }
 
 /// Returns what the line says, or `None` if it does not have the form of a row.

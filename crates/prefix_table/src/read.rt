@@ -14,7 +14,7 @@ use std::alloc::Global;
 pub const MAX_TEXT: usize = 134_217_728;
 
 /// Reads the text of a table. Its rows may be in any order, among empty lines and comments. The
-/// fault is that of the first malformed line, unless memory runs out.
+/// fault is that of the first line that has one, unless memory runs out.
 pub fn read_table(alloc: Global, text: &[u8]) -> Result<Table, TableFault>
     requires { length text.now ≤ MAX_TEXT }
     ensures found { IfOk result (IsTableText text.now) }

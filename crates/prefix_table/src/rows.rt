@@ -9,7 +9,7 @@ use crate::{MAX_ROWS, TableFault};
 use host_io::split_line;
 use std::alloc::{AllocError, Global};
 
-/// The rows of a text in the order of its lines, up to the first line that is malformed by itself,
+/// The rows of a text in the order of its lines, up to the first line with a fault of its own,
 /// or up to one row more than a table has. Prefixes may repeat.
 #[derive(Drop)]
 pub(crate) struct Reading {
