@@ -2,20 +2,20 @@
 use Rattle.std.proofs.Common.{◌≡◌, ℕ, zero, suc, ◌+◌, ◌<◌, ◌≤◌, List, [], ◌∷◌, length, get_or, take, Option, None, Bool, cond, refl, sym, ap, ◌∙◌, arith}
 use Rattle.net_addr.specs.Address.{Address}
 use Rattle.net_addr.specs.declared.entry.Entry.{Entry}
-use Rattle.table_machine.specs.State.{State}
+use Rattle.table_machine.specs.State.{State, After}
 use Rattle.manager.specs.Machine.{Machine}
-use Rattle.manager.specs.Messages.{Tally, take_entry, take_entries}
+use Rattle.manager.specs.Messages.{take_entry, take_entries}
 
 -- the tally with one more entry
-abbrev pub goes_on : Tally → ℕ → Option Entry → Address → ℕ → Tally
+abbrev pub goes_on : After ℕ → ℕ → Option Entry → Address → ℕ → After ℕ
 goes_on tally now entry source word = record {
-  count = tally.count + cond (take_entry tally.state now entry source word).answer 1 0;
+  answer = tally.answer + cond (take_entry tally.state now entry source word).answer 1 0;
   state = (take_entry tally.state now entry source word).state;
 }
 
 -- the same two facts, apart
-pub record IsMore (all first : Tally) (now : ℕ) (entry : Option Entry) (source : Address) (word : ℕ) : Type 0 where
-  pub count : all.count ≡ first.count + cond (take_entry first.state now entry source word).answer 1 0
+pub record IsMore (all first : After ℕ) (now : ℕ) (entry : Option Entry) (source : Address) (word : ℕ) : Type 0 where
+  pub count : all.answer ≡ first.answer + cond (take_entry first.state now entry source word).answer 1 0
   pub state : all.state ≡ (take_entry first.state now entry source word).state
 
 taken : (entry : Option Entry) (entries : List (Option Entry)) (i : ℕ) → take (suc i + 1) (entry ∷ entries) ≡ entry ∷ take (i + 1) entries
@@ -33,8 +33,8 @@ one_more st now (entry ∷ entries) source (word ∷ words) (suc i) h k =
     let later = one_more (take_entry st now entry source word).state now entries source words i (omega arith) (omega arith) in
     let whole = ap (λ es. take_entries st now es source (word ∷ words)) (taken entry entries i) in
     record {
-      count = ap (λ (t : Tally). t.count) whole ∙ sum _ _ _ _ later.count;
-      state = ap (λ (t : Tally). t.state) whole ∙ later.state;
+      count = ap (λ (t : After ℕ). t.answer) whole ∙ sum _ _ _ _ later.count;
+      state = ap (λ (t : After ℕ). t.state) whole ∙ later.state;
     }
   where
     sum : (first all some more : ℕ) → all ≡ some + more → first + all ≡ first + some + more
@@ -57,10 +57,10 @@ next_machine start self next entries source words i entry word is step at_entry 
 -- the count after one more entry
 pub next_count : (start self : Machine) (entries : List (Option Entry)) (source : Address) (words : List ℕ) (i count next : ℕ) (answer : Bool) (entry : Option Entry) (word : ℕ) →
     self ≡ record start { tables = (take_entries start.tables start.clock (take i entries) source words).state } →
-    count ≡ (take_entries start.tables start.clock (take i entries) source words).count →
+    count ≡ (take_entries start.tables start.clock (take i entries) source words).answer →
     answer ≡ (take_entry self.tables self.clock entry source word).answer → next ≡ count + cond answer 1 0 →
     entry ≡ get_or entries i None → word ≡ get_or words i 0 → i < length entries → length entries ≤ length words →
-    next ≡ (take_entries start.tables start.clock (take (i + 1) entries) source words).count
+    next ≡ (take_entries start.tables start.clock (take (i + 1) entries) source words).answer
 next_count start self entries source words i count next answer entry word is counted answered sum at_entry at_word h k =
     let more = one_more start.tables start.clock entries source words i h k in
     let so_far = (take_entries start.tables start.clock (take i entries) source words).state in

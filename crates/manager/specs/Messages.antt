@@ -1,9 +1,10 @@
--- What a message of entries does to the tables (`ProcessMessage` in net_processing.cpp of Bitcoin Core).
-use Rattle.std.specs.Prelude.{ℕ, ◌+◌, ◌-◌, List, [], ◌∷◌, ◌||◌, nat_lt, nat_le, Option, Some, None, if◌then◌else◌}
+-- What a message of entries does to the tables (`ProcessMessage` in net_processing.cpp of Bitcoin
+-- Core).
+use Rattle.std.specs.Prelude.{ℕ, ◌+◌, ◌-◌, List, [], ◌∷◌, ◌||◌, nat_lt, nat_le, Option, Some, None, if◌then◌else◌, Bool}
 use Rattle.net_addr.specs.Address.{Address}
 use Rattle.net_addr.specs.declared.entry.Entry.{Entry}
-use Rattle.table_machine.specs.State.{State}
-use Rattle.table_machine.specs.Entries.{Outcome, add, no}
+use Rattle.table_machine.specs.State.{State, After, outcome}
+use Rattle.table_machine.specs.Entries.{add, no}
 use Rattle.manager.specs.Machine.{Machine}
 
 -- a time long past or ahead counts as five days ago
@@ -16,26 +17,22 @@ abbrev pub message_penalty : ℕ
 message_penalty = 7200
 
 -- an entry of a message, with its word; a skipped one changes nothing
-abbrev pub take_entry : State → ℕ → Option Entry → Address → ℕ → Outcome
+abbrev pub take_entry : State → ℕ → Option Entry → Address → ℕ → After Bool
 take_entry st now None source word = no st
 take_entry st now (Some entry) source word = add st now (clamp_time entry now) source message_penalty word
 
--- how many of a message's entries got a slot, and the state after them
-pub record Tally : Type 0 where
-  pub count : ℕ
-  pub state : State
+-- the count of entries that got a slot, with one more entry before the rest
+abbrev pub with_entry : After Bool → After ℕ → After ℕ
+with_entry first rest = outcome ((if first.answer then 1 else 0) + rest.answer) rest.state
 
-abbrev pub with_outcome : Outcome → Tally → Tally
-with_outcome outcome rest = record { count = (if outcome.answer then 1 else 0) + rest.count; state = rest.state }
-
--- the entries in order, each with the word at its index
-abbrev pub take_entries : State → ℕ → List (Option Entry) → Address → List ℕ → Tally
-take_entries st now [] source words = record { count = 0; state = st }
-take_entries st now (entry ∷ entries) source [] = record { count = 0; state = st }
+-- how many of the entries got a slot; in order, each with the word at its index
+abbrev pub take_entries : State → ℕ → List (Option Entry) → Address → List ℕ → After ℕ
+take_entries st now [] source words = outcome 0 st
+take_entries st now (entry ∷ entries) source [] = outcome 0 st
 take_entries st now (entry ∷ entries) source (word ∷ words) =
-    let outcome = take_entry st now entry source word in
-    with_outcome outcome (take_entries outcome.state now entries source words)
+    let first = take_entry st now entry source word in
+    with_entry first (take_entries first.state now entries source words)
 
 -- a message at the machine's clock
-abbrev pub take_message : Machine → List (Option Entry) → Address → List ℕ → Tally
+abbrev pub take_message : Machine → List (Option Entry) → Address → List ℕ → After ℕ
 take_message m entries source words = take_entries m.tables m.clock entries source words

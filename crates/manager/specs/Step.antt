@@ -22,7 +22,7 @@ use Rattle.manager.specs.Messages.{take_message, take_entries}
 abbrev pub EntriesStep : Machine → List (Option Entry) → Address → List ℕ → Reply → Machine → Type 0
 EntriesStep old entries source words answer new =
     ((length words < length entries) × (answer ≡ reply.Short (length entries) (length words)) × (new ≡ old))
-    ⊎ ((length entries ≤ length words) × (answer ≡ reply.Added (take_message old entries source words).count (length entries))
+    ⊎ ((length entries ≤ length words) × (answer ≡ reply.Added (take_message old entries source words).answer (length entries))
     × (new ≡ record old { tables = (take_message old entries source words).state }))
 
 -- a message with a fault, which changes nothing, or one of entries
@@ -52,7 +52,7 @@ abbrev pub SampleStep : Machine → ℕ → ℕ → List ℕ → List ℕ → Re
 SampleStep old max pct classes words answer new =
     ((length words < length old.tables.order) × Tells old (reply.Short (length old.tables.order) (length words)) answer new)
     ⊎ ((length old.tables.order ≤ length words)
-    × Gives old (reply.Sample (sample old.tables max pct classes words old.clock).peers) (sample old.tables max pct classes words old.clock).state answer new)
+    × Gives old (reply.Sample (sample old.tables max pct classes words old.clock).answer) (sample old.tables max pct classes words old.clock).state answer new)
 
 -- the commands that are supported: all but those that save
 abbrev pub IsBuilt : Command → Type 0
@@ -95,7 +95,8 @@ TookFirst old entries source words new =
     (k : ℕ) × (k < length entries) × (length entries ≤ length words)
     × (new ≡ record old { tables = (take_entries old.tables old.clock (take k entries) source words).state })
 
--- what a message leaves that ran out of memory: the machine as it was, or some of its first entries taken
+-- what a message leaves that ran out of memory: the machine as it was, or some of its first entries
+-- taken
 abbrev pub LeavesEntries : (List (Option Entry) → Type 0) → Machine → Address → List ℕ → Machine → Type 0
 LeavesEntries IsMessage old source words new =
     (new ≡ old) ⊎ ((entries : List (Option Entry)) × IsMessage entries × TookFirst old entries source words new)

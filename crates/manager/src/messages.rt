@@ -44,7 +44,8 @@ fn clamp_time(entry: &Entry, now: u32) -> Entry
 fn read_payload(alloc: Global, form: Form, payload: &[u8]) -> Result<Entries, MsgFault>
     ensures found { IfOk result (λ entries. IsMessage form payload.now entries) }
     ensures few { IfOk result (λ entries. length entries ≤ 1000) }
-    ensures cause { IfErr result (λ fault. fault ≢ MsgFault.Memory → HasFault form payload.now fault) }
+    ensures cause { IfErr result (λ fault. fault ≢ MsgFault.Memory
+        → HasFault form payload.now fault) }
 {
     match form {
         Form::Addr => read_addr(alloc, payload),
@@ -63,7 +64,8 @@ impl<'a, H: BuildHasher> Manager<'a, H> {
         steps: &mut Steps<L>,
     ) -> Result<bool, Memory>
         requires more { self.old.tables.next_number < 2 ^ 63 }
-        ensures answer { IfOk result (λ answer. answer ≡ (take_entry self.old.tables self.old.clock entry.now source.now word).answer) }
+        ensures answer { IfOk result (λ answer. answer
+            ≡ (take_entry self.old.tables self.old.clock entry.now source.now word).answer) }
         ensures state { OnOk result (self.new ≡ record self.old { tables = (take_entry self.old.tables self.old.clock entry.now source.now word).state }) }
         ensures numbers { self.new.tables.next_number ≤ self.old.tables.next_number + 1 }
         ensures err { OnErr result (self.new ≡ self.old) }
@@ -92,7 +94,7 @@ impl<'a, H: BuildHasher> Manager<'a, H> {
         requires more { self.old.tables.next_number < 2 ^ 62 }
         requires few { length entries.now ≤ 1000 }
         requires words { length entries.now ≤ length words.now }
-        ensures count { IfOk result (λ count. count ≡ (take_entries self.old.tables self.old.clock entries.now source.now words.now).count) }
+        ensures count { IfOk result (λ count. count ≡ (take_entries self.old.tables self.old.clock entries.now source.now words.now).answer) }
         ensures state { OnOk result (self.new ≡ record self.old { tables = (take_entries self.old.tables self.old.clock entries.now source.now words.now).state }) }
         ensures numbers { self.new.tables.next_number ≤ self.old.tables.next_number + 1000 }
         ensures err { OnErr result (TookFirst self.old entries.now source.now words.now self.new) }

@@ -9,8 +9,8 @@ use std::sync::ledger::Ledger;
 use steps::Steps;
 
 impl<'a, H: BuildHasher> Manager<'a, H> {
-    /// Records that a connection to a peer succeeded. With `testing`, the occupant of its tried slot
-    /// stays.
+    /// Records that a connection to a peer succeeded. With `testing`, the occupant of its tried
+    /// slot stays.
     pub(crate) fn good<L: Ledger>(
         &mut self,
         peer: &Peer,

@@ -1,12 +1,12 @@
 -- The counts of the records of an order after each change, and the sum of some of them.
-use Rattle.std.proofs.Common.{◌≡◌, ◌≢◌, ℕ, zero, suc, ◌+◌, ◌-◌, ◌<◌, ◌≤◌, ◌^◌, Bool, true, false, cond, not, ◌&&◌, ◌==◌, List, [], ◌∷◌, ◌++◌, length, get_or, set, Option, Some, None, refl, sym, ap, subst, ◌∙◌, inl, inr, arith, true≢false, if◌then◌else◌}
+use Rattle.std.proofs.Common.{◌≡◌, ◌≢◌, ℕ, suc, ◌+◌, ◌-◌, ◌<◌, ◌≤◌, ◌^◌, Bool, true, false, cond, not, ◌&&◌, ◌==◌, List, [], ◌∷◌, length, get_or, set, Option, Some, None, refl, sym, ap, subst, ◌∙◌, inl, inr, arith, true≢false, if◌then◌else◌}
 use Rattle.std.specs.Prelude.{All, AllPairs, count_by, sum_by, swap, position, swap_remove, find, nat_lt, slice_get}
 use Rattle.std.specs.List.{position_or_len}
 use Rattle.std.specs.Option.{option_map, option_map_or}
 use Rattle.std.proofs.lemmas.Bool.{cases_eq, lt-ltb}
 use Rattle.std.proofs.lemmas.List.Edits.{length-swap}
 use Rattle.std.proofs.lemmas.List.Folds.{find_at}
-use Rattle.std.proofs.lemmas.Option.{slice_get_within, get_or_from_slice_get, slice_get-get_or}
+use Rattle.std.proofs.lemmas.Option.{slice_get_within, get_or_from_slice_get}
 use Rattle.std.proofs.lemmas.Bool.Decides.{Decides-eqb}
 use Rattle.std.proofs.lemmas.List.{get_or-set_same, get_or-set_other, length-map, length-append}
 use Rattle.std.proofs.lemmas.List.Elements.{All-tail}
@@ -19,10 +19,9 @@ use Rattle.net_addr.specs.declared.net.Net.TheVariants.{Unroutable, Ipv4, Ipv6, 
 use Rattle.net_addr.specs.Same.{same_peer}
 use Rattle.net_addr.specs.declared.peer.Peer.{Peer}
 use Rattle.peer_rec.specs.Deletion.{without_position}
-use Rattle.peer_rec.specs.Rec.{is_tried}
+use Rattle.peer_rec.specs.Rec.{is_tried, network}
 use Rattle.peer_rec.specs.declared.rec.Rec.{Rec}
 use Rattle.peer_index.specs.Order.{Item, Order, IsOrder, id_of, rec_of, records, with_own_rec, with_rec, with_last, without}
-use Rattle.peer_index.specs.Counts.{network_of}
 use Rattle.peer_index.specs.Inside.{AreCounts, AreCountsOf, AreOneMore, IsOneMore, is_of, one_if, sum_over, taken}
 use Rattle.peer_index.specs.declared.counts.Counts.{Counts}
 use Rattle.peer_index.proofs.Kept.{rec_of-at}
@@ -200,40 +199,40 @@ module _ (order : Order) (counts : Counts) (are : AreCounts (records order) coun
   few_tried net = few_of is_tried counts.in_tried (number_of net) are.tried (number_below net)
 
   -- with which the record can be counted out
-  pub some : (id : ℕ) (r : Rec) (net : Net) (in_tried : Bool) → rec_of order id ≡ Some r → net ≡ network_of r → in_tried ≡ is_tried r
+  pub some : (id : ℕ) (r : Rec) (net : Net) (in_tried : Bool) → rec_of order id ≡ Some r → net ≡ network r → in_tried ≡ is_tried r
       → 0 < cond in_tried (get_or counts.in_tried (number_of net) 0) (get_or counts.in_new (number_of net) 0)
   some id r net in_tried at is same =
       let P : Net → Type 0 = λ n. 0 < cond in_tried (get_or counts.in_tried (number_of n) 0) (get_or counts.in_new (number_of n) 0) in
-      let own = number_of (network_of r) in
+      let own = number_of (network r) in
       let Q : Bool → Type 0 = λ b. 0 < cond b (get_or counts.in_tried own 0) (get_or counts.in_new own 0) in
       subst P (sym is) (subst Q (sym same) (by (is_tried r) refl))
     where
-      one : (test : Rec → Bool) → test r ≡ true → one_if (is_of test (number_of (network_of r)) r) ≡ 1
-      one test passes = λ i. one_if ((Decides-eqb (number_of (network_of r)) (number_of (network_of r))).1 refl i && passes i)
+      one : (test : Rec → Bool) → test r ≡ true → one_if (is_of test (number_of (network r)) r) ≡ 1
+      one test passes = λ i. one_if ((Decides-eqb (number_of (network r)) (number_of (network r))).1 refl i && passes i)
 
-      by : (b : Bool) → is_tried r ≡ b → 0 < cond b (get_or counts.in_tried (number_of (network_of r)) 0) (get_or counts.in_new (number_of (network_of r)) 0)
+      by : (b : Bool) → is_tried r ≡ b → 0 < cond b (get_or counts.in_tried (number_of (network r)) 0) (get_or counts.in_new (number_of (network r)) 0)
       by true h =
-          omega (arith, are.tried (number_of (network_of r)) (number_below (network_of r)), some-of (is_of is_tried (number_of (network_of r))) order id r at, one is_tried h)
+          omega (arith, are.tried (number_of (network r)) (number_below (network r)), some-of (is_of is_tried (number_of (network r))) order id r at, one is_tried h)
       by false h =
-          omega (arith, are.new (number_of (network_of r)) (number_below (network_of r)), some-of (is_of (λ x. not (is_tried x)) (number_of (network_of r))) order id r at, one (λ x. not (is_tried x)) (ap not h))
+          omega (arith, are.new (number_of (network r)) (number_below (network r)), some-of (is_of (λ x. not (is_tried x)) (number_of (network r))) order id r at, one (λ x. not (is_tried x)) (ap not h))
 
 -- a record's share in the count of a network
 abbrev mine : (Rec → Bool) → ℕ → Rec → ℕ
 mine test number r = one_if (is_of test number r)
 
 module _ (test : Rec → Bool) (order : Order) (xs ys : List ℕ) where
-  last-of : (id : ℕ) (rec : Rec) → AreCountsOf test (records order) xs → IsOneMore xs ys (number_of (network_of rec)) (test rec)
+  last-of : (id : ℕ) (rec : Rec) → AreCountsOf test (records order) xs → IsOneMore xs ys (number_of (network rec)) (test rec)
       → AreCountsOf test (records (with_last order id rec)) ys
   last-of id rec each more n small = more n small ∙ ap (λ m. m + mine test n rec) (each n small) ∙ sym (count-last (is_of test n) order id rec)
 
   set-of : (between : List ℕ) (id : ℕ) (old rec : Rec) → AllPairs (λ k l. k.id ≢ l.id) order → rec_of order id ≡ Some old → AreCountsOf test (records order) xs
-      → IsOneMore between xs (number_of (network_of old)) (test old) → IsOneMore between ys (number_of (network_of rec)) (test rec)
+      → IsOneMore between xs (number_of (network old)) (test old) → IsOneMore between ys (number_of (network rec)) (test rec)
       → AreCountsOf test (records (with_rec order id rec)) ys
   set-of between id old rec apart at each less more n small =
       omega (arith, each n small, less n small, more n small, count-set (is_of test n) order id old rec apart at)
 
   gone-of : (peer : Peer) (m : Item) → find (λ l. same_peer peer l.rec.peer) order ≡ Some m → AreCountsOf test (records order) xs
-      → IsOneMore ys xs (number_of (network_of m.rec)) (test m.rec) → AreCountsOf test (records (without order peer)) ys
+      → IsOneMore ys xs (number_of (network m.rec)) (test m.rec) → AreCountsOf test (records (without order peer)) ys
   gone-of peer m found each less n small =
       omega (arith, each n small, less n small, count-gone (is_of test n) order peer m found)
 
@@ -252,7 +251,7 @@ found-by_id order peer m still found =
 
 module _ (order : Order) (counts : Counts) (are : AreCounts (records order) counts) where
   -- the counts after each change
-  pub counted-last : (after : Counts) (id : ℕ) (rec : Rec) (net : Net) (in_tried : Bool) → length order < 2 ^ 31 → net ≡ network_of rec → in_tried ≡ is_tried rec
+  pub counted-last : (after : Counts) (id : ℕ) (rec : Rec) (net : Net) (in_tried : Bool) → length order < 2 ^ 31 → net ≡ network rec → in_tried ≡ is_tried rec
       → AreOneMore counts after (number_of net) in_tried → AreCounts (records (with_last order id rec)) after
   counted-last after id rec net in_tried room is same more = record {
     few = omega (arith, room, length-map (with_last order id rec) (λ l. l.rec), length-append order (record { id = id; rec = rec } ∷ []));
@@ -265,10 +264,10 @@ module _ (order : Order) (counts : Counts) (are : AreCounts (records order) coun
   }
 
   pub counted-set : (between after : Counts) (id : ℕ) (old rec : Rec) (net : Net) (was_tried in_tried : Bool) → AllPairs (λ k l. k.id ≢ l.id) order
-      → rec_of order id ≡ Some old → old.peer ≡ rec.peer → net ≡ network_of rec → was_tried ≡ is_tried old → in_tried ≡ is_tried rec
+      → rec_of order id ≡ Some old → old.peer ≡ rec.peer → net ≡ network rec → was_tried ≡ is_tried old → in_tried ≡ is_tried rec
       → AreOneMore between counts (number_of net) was_tried → AreOneMore between after (number_of net) in_tried → AreCounts (records (with_rec order id rec)) after
   counted-set between after id old rec net was_tried in_tried apart at peer is was same less more =
-      let of_old : net ≡ network_of old = is ∙ ap (λ p. network_of (record rec { peer = p })) (sym peer) in
+      let of_old : net ≡ network old = is ∙ ap (λ p. network (record rec { peer = p })) (sym peer) in
       record {
         few = omega (arith, are.few, length-map order (λ l. l.rec), length-map (with_rec order id rec) (λ l. l.rec), length-map order (with_own_rec id rec));
         new =
@@ -282,7 +281,7 @@ module _ (order : Order) (counts : Counts) (are : AreCounts (records order) coun
       }
 
   pub counted-gone : (after : Counts) (peer : Peer) (id : ℕ) (old : Rec) (net : Net) (was_tried : Bool) → IsOrder order
-      → id_of order peer ≡ Some id → rec_of order id ≡ Some old → net ≡ network_of old → was_tried ≡ is_tried old
+      → id_of order peer ≡ Some id → rec_of order id ≡ Some old → net ≡ network old → was_tried ≡ is_tried old
       → AreOneMore after counts (number_of net) was_tried → AreCounts (records (without order peer)) after
   counted-gone after peer id old net was_tried still known at is was less =
       by (find (λ l. same_peer peer l.rec.peer) order) refl
@@ -293,7 +292,7 @@ module _ (order : Order) (counts : Counts) (are : AreCounts (records order) coun
           let own : m.id ≡ id = ap (λ o. option_map_or (λ x. x) o id) (sym (ap (λ o. option_map (λ (l : Item). l.id) o) found) ∙ known) in
           let there : rec_of order m.id ≡ Some m.rec = found-by_id order peer m still found in
           let same : m.rec ≡ old = ap (λ o. option_map_or (λ x. x) o old) (sym there ∙ ap (rec_of order) own ∙ at) in
-          let of_item : net ≡ network_of m.rec = is ∙ ap network_of (sym same) in
+          let of_item : net ≡ network m.rec = is ∙ ap network (sym same) in
           let table : was_tried ≡ is_tried m.rec = was ∙ ap is_tried (sym same) in
           record {
             few = omega (arith, are.few, count-gone (λ r. true) order peer m found, all-counted (records order), all-counted (records (without order peer)));
@@ -377,16 +376,16 @@ sum-only nets net passes = by net
     by Cjdns = omega (arith, own 5, none 0, none 1, none 2, none 3, none 4, none 6)
     by Internal = omega (arith, own 6, none 0, none 1, none 2, none 3, none 4, none 5)
 
-sum-counts : (test : Rec → Bool) (nets : List ℕ) (rs : List Rec) → sum_of nets (λ n. count_by (is_of test n) rs) ≡ count_by (λ r. test r && has nets (network_of r)) rs
+sum-counts : (test : Rec → Bool) (nets : List ℕ) (rs : List Rec) → sum_of nets (λ n. count_by (is_of test n) rs) ≡ count_by (λ r. test r && has nets (network r)) rs
 sum-counts test nets [] = omega (arith, cond-zero (has_number nets 0), cond-zero (has_number nets 1), cond-zero (has_number nets 2), cond-zero (has_number nets 3), cond-zero (has_number nets 4), cond-zero (has_number nets 5), cond-zero (has_number nets 6))
 sum-counts test nets (r ∷ rs) =
     (λ i. sum_of nets (λ n. sum_by-cons (mine test n) r rs i))
-    ∙ sum-plus nets (only (number_of (network_of r)) (test r)) (λ n. count_by (is_of test n) rs)
-    ∙ (λ i. sum-only nets (network_of r) (test r) i + sum-counts test nets rs i)
-    ∙ sym (sum_by-cons (λ x. one_if (test x && has nets (network_of x))) r rs)
+    ∙ sum-plus nets (only (number_of (network r)) (test r)) (λ n. count_by (is_of test n) rs)
+    ∙ (λ i. sum-only nets (network r) (test r) i + sum-counts test nets rs i)
+    ∙ sym (sum_by-cons (λ x. one_if (test x && has nets (network x))) r rs)
 
 pub sum-wanted : (test : Rec → Bool) (nets : List ℕ) (rs : List Rec) (counts : List ℕ) → AreCountsOf test rs counts
-    → sum_over nets counts ≡ count_by (λ r. test r && has nets (network_of r)) rs
+    → sum_over nets counts ≡ count_by (λ r. test r && has nets (network r)) rs
 sum-wanted test nets rs counts each =
     (λ i. taken (has_number nets 0) (each 0 (omega arith) i)
     + taken (has_number nets 1) (each 1 (omega arith) i)

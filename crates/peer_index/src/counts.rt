@@ -1,8 +1,8 @@
 ghost use Rattle.std.specs.Prelude.{◌≡◌, ◌<◌, ◌≤◌, ◌^◌, ℕ, true, get_or, cond};
 ghost use Rattle.net_addr.specs.Address.{number_of};
 ghost use Rattle.net_addr.specs.NetSet.{has};
-ghost use Rattle.peer_index.specs.Counts.{network_of};
 ghost use Rattle.peer_index.specs.Inside.{AreOneMore, IsOneMore, sum_over, taken};
+ghost use Rattle.peer_rec.specs.Rec.{network};
 
 use net_addr::{Net, NetSet};
 use peer_rec::Rec;
@@ -90,16 +90,5 @@ fn count_in(counts: &[u32; 7], nets: NetSet, net: Net) -> usize
         counts[usize::from(net.number())] as usize
     } else {
         0
-    }
-}
-
-/// Returns the network of a record's address, or `Unroutable` if the address is not routable.
-pub fn network_of(rec: &Rec) -> Net
-    ensures { result ≡ network_of rec.now }
-{
-    if rec.peer.addr.is_routable() {
-        rec.peer.addr.net()
-    } else {
-        Net::Unroutable
     }
 }

@@ -1,7 +1,7 @@
 ghost use Rattle.std.specs.Prelude.{◌≡◌};
 
 use crate::Memory;
-use crate::counts::{Counts, network_of, sum};
+use crate::counts::{Counts, sum};
 use indexmap::IndexMap;
 use net_addr::{NetSet, Peer};
 use peer_rec::Rec;
@@ -61,8 +61,8 @@ impl<H: BuildHasher> PeerIndex<H> {
         self.order.len()
     }
 
-    /// Returns how many records of the new and of the tried table are of networks of a set. A record
-    /// whose address is not routable counts for `Net::Unroutable`. No record is read.
+    /// Returns how many records of the new and of the tried table are of networks of a set. A
+    /// record whose address is not routable counts for `Net::Unroutable`. No record is read.
     pub fn wanted(&self, nets: NetSet) -> (usize, usize)
         ensures new { result.0 ≡ count_new nets (records self.now) }
         ensures tried { result.1 ≡ count_tried nets (records self.now) }
@@ -77,7 +77,8 @@ impl<H: BuildHasher> PeerIndex<H> {
     #[tactic(auto, using(crate::proofs::Kept::is_order))]
     pub fn find<L: Ledger>(&self, peer: &Peer, steps: &mut Steps<L>) -> Option<usize>
         ensures found { result ≡ id_of self.now peer.now }
-        ensures live { IfSome result (λ id. IsSomeAnd (rec_of self.now id) (λ r. r.peer ≡ peer.now)) }
+        ensures live { IfSome result (λ id. IsSomeAnd (rec_of self.now id) (λ r. r.peer
+            ≡ peer.now)) }
         ensures order { IsOrder self.now }
         ensures steps { steps.new ≡ steps.old + 1 }
     {
@@ -110,7 +111,7 @@ impl<H: BuildHasher> PeerIndex<H> {
         ensures steps { steps.new ≡ steps.old + 1 }
     {
         steps.tick();
-        let net = network_of(&rec);
+        let net = rec.network();
         let was_tried = self.recs[id].place.is_tried();
         self.counts.lower(net, was_tried);
         self.counts.raise(net, rec.place.is_tried());
@@ -133,7 +134,7 @@ impl<H: BuildHasher> PeerIndex<H> {
     {
         steps.tick();
         let peer = rec.peer;
-        let net = network_of(&rec);
+        let net = rec.network();
         let in_tried = rec.place.is_tried();
         let id = self.recs.insert(rec)?;
         match self.order.insert(peer, id) {
@@ -163,7 +164,7 @@ impl<H: BuildHasher> PeerIndex<H> {
         steps.tick();
         let gone = self.order.swap_remove(peer).unwrap();
         let rec = self.recs.remove(gone);
-        self.counts.lower(network_of(&rec), rec.place.is_tried());
+        self.counts.lower(rec.network(), rec.place.is_tried());
     }
 
     /// Returns the id of the record at a position in the order.

@@ -1,5 +1,5 @@
--- A record to make others from: the peer, its own address as the source, in the tried table, and 0 in
--- every other field.
+-- A record to make others from: the peer, its own address as the source, in the tried table, and 0
+-- in every other field.
 use Rattle.net_addr.specs.declared.peer.Peer.{Peer}
 use Rattle.peer_rec.specs.declared.rec.Rec.{Rec}
 use Rattle.peer_rec.specs.declared.place.Place.TheVariants.{Tried}

@@ -1,4 +1,5 @@
--- How one leaves an order that samples are drawn from (`AddrManImpl::Delete` in addrman.cpp of Bitcoin Core).
+-- How one leaves an order that samples are drawn from (`AddrManImpl::Delete` in addrman.cpp of
+-- Bitcoin Core).
 use Rattle.std.specs.Prelude.{ℕ, List, [], ◌∷◌, Bool, position, swap_remove}
 use Rattle.std.specs.Option.{option_map_or}
 

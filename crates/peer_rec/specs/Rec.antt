@@ -2,6 +2,9 @@
 use Rattle.std.specs.Prelude.{ℕ, ◌+◌, ◌<◌, ◌≤◌, ◌*◌, ◌/◌, ◌^◌, min, if◌then◌else◌, List, [], length, Bool, true, false, ◌&&◌, ◌||◌, not, ◌==◌, nat_lt, nat_le, All}
 use Rattle.std.specs.List.Sorted.{IsStrictlyIncreasing}
 use Rattle.net_addr.specs.Address.{IsAddress}
+use Rattle.net_addr.specs.Ranges.{is_routable}
+use Rattle.net_addr.specs.declared.net.Net.{Net}
+use Rattle.net_addr.specs.declared.net.Net.TheVariants.{Unroutable}
 use Rattle.peer_rec.specs.declared.rec.Rec.{Rec}
 use Rattle.peer_rec.specs.declared.place.Place.{Place}
 use Rattle.peer_rec.specs.declared.place.Place.TheVariants.{New, Tried}
@@ -20,6 +23,10 @@ tried_by Tried = true
 
 abbrev pub is_tried : Rec → Bool
 is_tried r = tried_by r.place
+
+-- the network of the record's address; `Unroutable` if that is not routable
+abbrev pub network : Rec → Net
+network r = if is_routable r.peer.addr then r.peer.addr.net else Unroutable
 
 -- one to eight buckets below 1024, which rise
 pub record AreBuckets (buckets : List ℕ) : Type 0 where
@@ -45,9 +52,10 @@ pub record IsRec (r : Rec) : Type 0 where
   pub attempts : r.attempts ≤ 2147483647
   pub place : IsPlace r.place
 
--- A record that is not worth keeping (`AddrInfo::IsTerrible`): never one tried in the last minute or ahead of the clock,
--- but one seen more than ten minutes ahead, one not seen for more than thirty days, one that failed three times or more
--- and never succeeded, and one that failed ten times or more with no success for more than a week.
+-- A record that is not worth keeping (`AddrInfo::IsTerrible`): never one tried in the last minute
+-- or ahead of the clock, but one seen more than ten minutes ahead, one not seen for more than
+-- thirty days, one that failed three times or more and never succeeded, and one that failed ten
+-- times or more with no success for more than a week.
 abbrev pub is_terrible : Rec → ℕ → Bool
 is_terrible r now =
     not (nat_le now (r.last_try + 60)) && (
@@ -56,9 +64,9 @@ is_terrible r now =
     (r.last_success == 0 && nat_le 3 r.attempts) ||
     (nat_lt (r.last_success + 604800) now && nat_le 10 r.attempts))
 
--- How likely a record is to be picked (`AddrInfo::GetChance`), here in parts of 2^30: 66 in 100 to the power of the
--- tries since the last success, of which eight count at most, rounded down once; and of that a hundredth, rounded down
--- again, for one tried less than ten minutes ago.
+-- How likely a record is to be picked (`AddrInfo::GetChance`), here in parts of 2^30: 66 in 100 to
+-- the power of the tries since the last success, of which eight count at most, rounded down once;
+-- and of that a hundredth, rounded down again, for one tried less than ten minutes ago.
 abbrev pub chance : Rec → ℕ → ℕ
 chance r now =
     let tries = min r.attempts 8 in

@@ -5,8 +5,8 @@ use Rattle.peer_rec.specs.declared.file_rec.FileRec.{FileRec}
 use Rattle.peer_rec.specs.declared.file_rec.TheConstants.{MAX_ATTEMPTS}
 use Rattle.peer_rec.specs.declared.snapshot.TheConstants.{MAX_NEW, MAX_TRIED, MAX_BUCKETS}
 
--- the key, the records, the buckets of the new table, pairs of a bucket and the index of a new record that it lists, and
--- the checksum of an asmap
+-- the key, the records, the buckets of the new table, pairs of a bucket and the index of a new
+-- record that it lists, and the checksum of an asmap
 pub record Snapshot : Type 0 where
   pub key : List ℕ
   pub new_recs : List FileRec

@@ -4,6 +4,7 @@
 
 mod buckets;
 mod counts;
+mod fate;
 mod file_rec;
 mod file_recs;
 mod good;
@@ -18,6 +19,7 @@ mod snapshot;
 
 pub use buckets::Buckets;
 pub use counts::Counts;
+pub use fate::Fate;
 pub use file_rec::{FileRec, MAX_ATTEMPTS};
 pub use file_recs::FileRecs;
 pub use good::Good;

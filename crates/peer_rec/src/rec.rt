@@ -1,7 +1,7 @@
 ghost use Rattle.std.specs.Prelude.{◌≡◌, ◌*◌, ◌/◌, ◌^◌, min};
 
 use crate::Place;
-use net_addr::{NetAddr, Peer};
+use net_addr::{Net, NetAddr, Peer};
 
 /// Seconds for which a record stays after it was tried.
 const LAST_MINUTE: u64 = 60;
@@ -45,7 +45,7 @@ pub struct Rec {
 impl Rec {
     ghost use Rattle.std.specs.Prelude.{◌<◌, length};
     ghost use Rattle.peer_rec.specs.declared.place.Place.TheVariants.{New};
-    ghost use Rattle.peer_rec.specs.Rec.{buckets_of, is_terrible, chance};
+    ghost use Rattle.peer_rec.specs.Rec.{buckets_of, is_terrible, chance, network};
     ghost use Rattle.peer_rec.specs.Buckets.{with_bucket, without_bucket};
 
     /// Returns a copy of the record. Takes no memory.
@@ -63,6 +63,17 @@ impl Rec {
             last_count: self.last_count,
             attempts: self.attempts,
             place: self.place.copy(),
+        }
+    }
+
+    /// Returns the network of the record's address, or `Unroutable` if the address is not routable.
+    pub fn network(&self) -> Net
+        ensures { result ≡ network self.now }
+    {
+        if self.peer.addr.is_routable() {
+            self.peer.addr.net()
+        } else {
+            Net::Unroutable
         }
     }
 

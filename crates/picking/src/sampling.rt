@@ -27,7 +27,8 @@ fn fill<H: BuildHasher, L: Ledger>(
     requires room { limit ≤ vec_capacity peers.old }
     requires words { length tables.old.order ≤ length words.now }
     requires sound { IsSound tables.old }
-    ensures peers { peers.new.items ≡ (sample_from tables.old classes now 0 limit words.now).peers }
+    ensures peers { peers.new.items
+        ≡ (sample_from tables.old classes now 0 limit words.now).answer }
     ensures state { tables.new ≡ (sample_from tables.old classes now 0 limit words.now).state }
     ensures sound { IsSound tables.new }
 {
@@ -60,7 +61,7 @@ pub fn sample<H: BuildHasher, L: Ledger>(
     requires percent { pct ≤ 100 }
     requires few_words { length words.now < 2 ^ 32 }
     ensures peers { IfOk result
-        (λ p. p ≡ (sample tables.old max pct classes words.now now).peers) }
+        (λ p. p ≡ (sample tables.old max pct classes words.now now).answer) }
     ensures state { OnOk result
         (tables.new ≡ (sample tables.old max pct classes words.now now).state) }
     ensures enough { OnOk result (length tables.old.order ≤ length words.now) }

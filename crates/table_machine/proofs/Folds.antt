@@ -6,11 +6,12 @@ use Rattle.std.proofs.lemmas.Bool.Decides.{Decides-eqb}
 use Rattle.std.proofs.lemmas.Nat.{mod_below}
 use Rattle.net_addr.specs.declared.peer.Peer.{Peer}
 use Rattle.peer_rec.specs.declared.rec.Rec.{Rec}
-use Rattle.table_machine.specs.State.{State, by_number, tried_occupant}
+use Rattle.table_machine.specs.State.{State, by_number, tried_occupant, After, outcome}
 use Rattle.table_machine.specs.Tried.{good}
-use Rattle.table_machine.specs.Clashes.{Fate, after_fate, clash_pick, erase_clash, fate_of, pick_newcomer, pick_opponent, resolve, resolve_all}
-use Rattle.table_machine.specs.Clashes.Fate.{Erased, Kept, Moved}
-use Rattle.table_machine.specs.Picks.{Sample, order_swap, sample, sample_from, sample_limit, eligible_at, with_peers}
+use Rattle.table_machine.specs.Clashes.{after_fate, clash_pick, erase_clash, fate_of, pick_newcomer, pick_opponent, resolve, resolve_all}
+use Rattle.peer_rec.specs.declared.fate.Fate.{Fate}
+use Rattle.peer_rec.specs.declared.fate.Fate.TheVariants.{Erased, Kept, Moved}
+use Rattle.table_machine.specs.Picks.{order_swap, sample, sample_from, sample_limit, eligible_at, with_peers}
 use Rattle.table_machine.specs.Sound.{IsSound}
 use Rattle.table_machine.proofs.Exchanged.{erase_clash-sound, order_swap-sound}
 use Rattle.table_machine.proofs.Kept.{KeepsPeers, good-keeps_peers}
@@ -133,11 +134,11 @@ module _ (classes : List ℕ) (now : ℕ) (R : State → State → Type 0) (itse
       next : State
       next = order_swap st i (i + word % (length st.order - i))
 
-      rest : Sample
+      rest : After (List Peer)
       rest = sample_from next classes now (i + 1) (left - length (eligible_at next classes now i)) words
 
       by : (goes : Bool) → (nat_lt i (length st.order) && nat_lt 0 left) ≡ goes → R next rest.state
-          → R st (if goes then with_peers (eligible_at next classes now i) rest else record { peers = []; state = st }).state
+          → R st (if goes then with_peers (eligible_at next classes now i) rest else outcome [] st).state
       by true h more =
           let first : i < length st.order = ltb-true i (length st.order) (and_parts (nat_lt i (length st.order)) (nat_lt 0 left) h).0 in
           let draw = mod_below word (length st.order - i) (omega arith) in

@@ -12,9 +12,9 @@ use Rattle.peer_rec.specs.Rec.{buckets_of, is_tried}
 use Rattle.peer_rec.specs.declared.rec.Rec.{Rec}
 use Rattle.peer_rec.specs.declared.good.Good.TheVariants.{Already, Clash, Moved}
 use Rattle.peer_rec.specs.declared.place.Place.TheVariants.{New, Tried}
-use Rattle.table_machine.specs.State.{State, find_peer, is_new_at, is_tried_at, new_rec_at, tried_occupant}
+use Rattle.table_machine.specs.State.{State, find_peer, is_new_at, is_tried_at, new_rec_at, tried_occupant, outcome}
 use Rattle.table_machine.specs.Entries.{add, add_by, clear_slot, delete, enter_bucket, enter_slot, give_bucket, makes_way, new_record, no, penalty_of, refresh, take_bucket, with_last, with_record, yes}
-use Rattle.table_machine.specs.Tried.{after_success, after_try, attempt, back_to_new, clear_new, connected, displace, good, good_by, mark, move_to_tried, good_outcome, set_services, still_connected, wait, with_services}
+use Rattle.table_machine.specs.Tried.{after_success, after_try, attempt, back_to_new, clear_new, connected, displace, good, good_by, mark, move_to_tried, set_services, still_connected, wait, with_services}
 use Rattle.table_machine.proofs.Buckets.{placed}
 use Rattle.table_machine.proofs.Lists.{find-Some}
 use Rattle.table_machine.proofs.Marks.{IsMark, connected-marks, services-marks, try-marks}
@@ -173,7 +173,7 @@ good-keeps_peers st now peer testing = by (find_peer later peer) refl
     waits kept number false all = all
 
     known : (kept : State) (r : Rec) → AllKnown n st.records kept.records → IsKnown n st.records r → (tried blocked : Bool)
-        → AllKnown n st.records (if tried then good_outcome Already kept else if blocked then good_outcome Clash (wait kept r.number) else good_outcome Moved (move_to_tried kept r)).state.records
+        → AllKnown n st.records (if tried then outcome Already kept else if blocked then outcome Clash (wait kept r.number) else outcome Moved (move_to_tried kept r)).state.records
     known kept r all is true blocked = all
     known kept r all is false true = waits kept r.number (nat_lt (length kept.collisions) 10) all
     known kept r all is false false = moved-known n st.records kept r all is

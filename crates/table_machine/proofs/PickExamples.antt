@@ -8,12 +8,12 @@ use Rattle.net_addr.specs.OldForm.{address}
 use Rattle.net_addr.specs.Ranges.{in_range}
 use Rattle.net_addr.specs.declared.net.Net.{Net}
 use Rattle.net_addr.specs.declared.net.Net.TheVariants.{Cjdns, Ipv4, Onion, Unroutable}
-use Rattle.peer_rec.specs.Rec.{chance}
+use Rattle.peer_rec.specs.Rec.{chance, network}
 use Rattle.peer_rec.specs.declared.picked.Picked.TheVariants.{One, Nothing, Exhausted}
 use Rattle.peer_rec.specs.declared.rec.Rec.{Rec}
 use Rattle.peer_rec.specs.declared.place.Place.TheVariants.{New, Tried}
 use Rattle.table_machine.specs.State.{State}
-use Rattle.table_machine.specs.Picks.{first_accepted, first_factor, first_candidate, is_accepted, is_wanted, network_of, next_factor, occupant_at, sample, sample_limit, select, slots_from}
+use Rattle.table_machine.specs.Picks.{first_accepted, first_factor, first_candidate, is_accepted, is_wanted, next_factor, occupant_at, sample, sample_limit, select, slots_from}
 use Rattle.table_machine.proofs.ExampleStates.{failed, now, peer, state}
 
 -- the set of one network
@@ -87,7 +87,7 @@ sets = refl
 abbrev private : Rec
 private = record (failed 0 1 0 Tried) { peer = record { addr = address Ipv4 (10 ∷ 0 ∷ 0 ∷ 1 ∷ []); port = 1 } }
 
-private_network : network_of private ≡ Unroutable
+private_network : network private ≡ Unroutable
 unfolding in_range
 private_network = refl
 
@@ -152,7 +152,7 @@ part_and_number = refl
 abbrev two : State
 two = state (failed 0 1 0 Tried ∷ failed 1 2 0 Tried ∷ []) (0 ∷ 1 ∷ []) [] 20
 
-both_peers : (sample two 0 0 all (1 ∷ 7 ∷ []) now).peers ≡ peer 2 ∷ peer 1 ∷ []
+both_peers : (sample two 0 0 all (1 ∷ 7 ∷ []) now).answer ≡ peer 2 ∷ peer 1 ∷ []
 unfolding in_range
 both_peers = refl
 
@@ -164,12 +164,12 @@ order_stays_swapped = refl
 abbrev terrible_first : State
 terrible_first = state (failed 0 1 3 Tried ∷ failed 1 2 0 Tried ∷ []) (0 ∷ 1 ∷ []) [] 20
 
-terrible_passed_over : (sample terrible_first 1 0 all (2 ∷ 7 ∷ []) now).peers ≡ peer 2 ∷ []
+terrible_passed_over : (sample terrible_first 1 0 all (2 ∷ 7 ∷ []) now).answer ≡ peer 2 ∷ []
 unfolding in_range
 terrible_passed_over = refl
 
 -- no record has a class of the set, and the words still exchange positions
-none_of_the_class : (sample two 0 0 (only Onion) (1 ∷ 7 ∷ []) now).peers ≡ []
+none_of_the_class : (sample two 0 0 (only Onion) (1 ∷ 7 ∷ []) now).answer ≡ []
 unfolding in_range
 none_of_the_class = refl
 

@@ -7,10 +7,10 @@ use Rattle.peer_rec.specs.Rec.{IsRec, is_tried}
 use Rattle.peer_rec.specs.Buckets.{with_bucket}
 use Rattle.peer_rec.specs.declared.rec.Rec.{Rec}
 use Rattle.peer_rec.specs.declared.good.Good.TheVariants.{Already, Clash, Moved}
-use Rattle.table_machine.specs.State.{State, by_number, find_peer, tried_occupant}
+use Rattle.table_machine.specs.State.{State, by_number, find_peer, tried_occupant, outcome}
 use Rattle.table_machine.specs.Entries.{with_record}
 use Rattle.table_machine.specs.Sound.{IsSound}
-use Rattle.table_machine.specs.Tried.{after_success, good, good_by, good_known, move_to_tried, good_outcome, wait}
+use Rattle.table_machine.specs.Tried.{after_success, good, good_by, good_known, move_to_tried, wait}
 use Rattle.table_machine.proofs.Added.{mark-sound}
 use Rattle.table_machine.proofs.Fields.{IsRec-with}
 use Rattle.table_machine.proofs.Moved.{move-sound}
@@ -41,7 +41,7 @@ good_known-sound : (st : State) (r : Rec) (testing : Bool) → IsSound st → Co
 good_known-sound st r testing sound has = by (is_tried r) (testing && is_some (tried_occupant st r.peer)) refl refl
   where
     by : (tried blocked : Bool) → is_tried r ≡ tried → (testing && is_some (tried_occupant st r.peer)) ≡ blocked
-        → IsSound (if tried then good_outcome Already st else if blocked then good_outcome Clash (wait st r.number) else good_outcome Moved (move_to_tried st r)).state
+        → IsSound (if tried then outcome Already st else if blocked then outcome Clash (wait st r.number) else outcome Moved (move_to_tried st r)).state
     by true blocked tried h = sound
     by false true untried h = waits-sound st r sound has (and_parts testing (is_some (tried_occupant st r.peer)) h).1
     by false false untried h = move-sound st r sound has untried

@@ -1,12 +1,12 @@
 -- Worked examples of what an entry does, computed over the definitions. Buckets and slots are
 -- given, and not hashed.
-use Rattle.std.proofs.Common.{◌≡◌, ℕ, true, false, List, [], ◌∷◌, map, None, Some, refl}
+use Rattle.std.proofs.Common.{◌≡◌, ℕ, true, false, List, [], ◌∷◌, map, None, Some, refl, Bool}
 use Rattle.net_addr.specs.declared.entry.Entry.{Entry}
 use Rattle.peer_rec.specs.Rec.{buckets_of}
 use Rattle.peer_rec.specs.declared.rec.Rec.{Rec}
 use Rattle.peer_rec.specs.declared.place.Place.TheVariants.{New}
-use Rattle.table_machine.specs.State.{State}
-use Rattle.table_machine.specs.Entries.{Outcome, add_known, delete, enter_slot, new_record, refresh, with_last}
+use Rattle.table_machine.specs.State.{State, After}
+use Rattle.table_machine.specs.Entries.{add_known, delete, enter_slot, new_record, refresh, with_last}
 use Rattle.table_machine.proofs.ExampleStates.{now, other, peer, rec, state}
 
 abbrev entry : Entry
@@ -20,8 +20,8 @@ seen number port time buckets = record (rec number port (New buckets)) { time = 
 abbrev summary : Rec → ℕ × List ℕ
 summary r = (r.number, buckets_of r)
 
-abbrev summaries : Outcome → List (ℕ × List ℕ)
-summaries outcome = map summary outcome.state.records
+abbrev summaries : After Bool → List (ℕ × List ℕ)
+summaries after = map summary after.state.records
 
 -- an entry that is newer than the record by an hour, the penalty and a second, and by a second less
 refreshed : refresh (seen 0 8333 1699989199 (3 ∷ [])) entry 7200 now ≡ record (seen 0 8333 1699992800 (3 ∷ [])) { services = 9 }
@@ -51,7 +51,7 @@ own_slot = refl
 abbrev newcomer : State → Rec
 newcomer st = new_record st entry other 7200
 
-abbrev takes : State → Rec → Outcome
+abbrev takes : State → Rec → After Bool
 takes st occupant = enter_slot (with_last st (newcomer st)) now (newcomer st) true 9 (Some occupant)
 
 -- An occupant that was not seen for more than thirty days is deleted, and the last number of the

@@ -8,12 +8,11 @@ use Rattle.peer_rec.specs.declared.good.Good.TheVariants.{Already, Clash, Moved,
 use Rattle.peer_rec.specs.declared.rec.Rec.{Rec}
 use Rattle.peer_rec.specs.declared.place.Place.{Place}
 use Rattle.peer_rec.specs.declared.place.Place.TheVariants.{New, Tried}
-use Rattle.table_machine.specs.State.{State, new_rec_at, tried_occupant}
+use Rattle.table_machine.specs.State.{State, new_rec_at, tried_occupant, outcome}
 use Rattle.table_machine.specs.Entries.{with_record}
-use Rattle.table_machine.specs.Tried.{after_try, attempt, back_to_new, clear_new, displace, good, good_known, move_to_tried, good_outcome, still_connected, wait, with_services}
+use Rattle.table_machine.specs.Tried.{after_try, attempt, back_to_new, clear_new, displace, good, good_known, move_to_tried, still_connected, wait, with_services}
 use Rattle.table_machine.specs.Clashes.{clash_pick, fate_against, resolve}
-use Rattle.table_machine.specs.Clashes.Fate.{Erased, Kept}
-use Rattle.table_machine.specs.Clashes.Fate.{Moved as MovesIn}
+use Rattle.peer_rec.specs.declared.fate.Fate.TheVariants.{Erased, Kept, Moved as MovesIn}
 use Rattle.table_machine.proofs.ExampleStates.{now, peer, rec, state}
 
 -- the number and the place of each record
@@ -77,10 +76,10 @@ two_buckets_stays : places (after_displacing (three (New (5 ∷ 7 ∷ []))) (rec
 two_buckets_stays = refl
 
 -- with testing a record becomes a collision if its slot is occupied, and without testing it moves
-waits_for_slot : (st : State) (r old : Rec) → is_tried r ≡ false → tried_occupant st r.peer ≡ Some old → good_known st r true ≡ good_outcome Clash (wait st r.number)
+waits_for_slot : (st : State) (r old : Rec) → is_tried r ≡ false → tried_occupant st r.peer ≡ Some old → good_known st r true ≡ outcome Clash (wait st r.number)
 waits_for_slot st r old untried is = rw (untried, is) refl
 
-moves_without_testing : (st : State) (r : Rec) → is_tried r ≡ false → good_known st r false ≡ good_outcome Moved (move_to_tried st r)
+moves_without_testing : (st : State) (r : Rec) → is_tried r ≡ false → good_known st r false ≡ outcome Moved (move_to_tried st r)
 moves_without_testing st r untried = rw untried refl
 
 -- A collision is added to nine, in the order of numbers, but not to ten, and not if it is there

@@ -10,9 +10,9 @@ use Rattle.peer_rec.specs.Rec.{buckets_of, is_tried}
 use Rattle.peer_rec.specs.declared.rec.Rec.{Rec}
 use Rattle.peer_rec.specs.declared.good.Good.TheVariants.{Already, Clash, Moved}
 use Rattle.peer_rec.specs.declared.place.Place.TheVariants.{New, Tried}
-use Rattle.table_machine.specs.State.{State, find_peer, new_rec_at, tried_occupant}
+use Rattle.table_machine.specs.State.{State, find_peer, new_rec_at, tried_occupant, outcome}
 use Rattle.table_machine.specs.Entries.{add, delete, take_bucket, with_record}
-use Rattle.table_machine.specs.Tried.{after_success, after_try, attempt, back_to_new, clear_new, connected, displace, good, good_by, mark, move_to_tried, good_outcome, set_services, still_connected, wait, with_services}
+use Rattle.table_machine.specs.Tried.{after_success, after_try, attempt, back_to_new, clear_new, connected, displace, good, good_by, mark, move_to_tried, set_services, still_connected, wait, with_services}
 use Rattle.table_machine.proofs.Buckets.{placed}
 use Rattle.table_machine.proofs.Rest.{add-rest}
 
@@ -97,7 +97,7 @@ good-rest st now peer testing = by (find_peer later peer) refl
     reached_at r = with_record later (after_success r now)
 
     known : (r : Rec) → find_peer st peer ≡ Some r → (tried blocked : Bool) → (testing && is_some (tried_occupant (reached_at r) r.peer)) ≡ blocked
-        → IsReached st now peer testing (if tried then good_outcome Already (reached_at r) else if blocked then good_outcome Clash (wait (reached_at r) r.number) else good_outcome Moved (move_to_tried (reached_at r) (after_success r now))).state
+        → IsReached st now peer testing (if tried then outcome Already (reached_at r) else if blocked then outcome Clash (wait (reached_at r) r.number) else outcome Moved (move_to_tried (reached_at r) (after_success r now))).state
     known r found true blocked h = record { places = refl; collisions = inl refl; last_good = refl; next_number = refl }
     known r found false true h =
         let is = wait-is (reached_at r) r.number in

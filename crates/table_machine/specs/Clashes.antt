@@ -1,24 +1,19 @@
 -- How collisions are resolved (`AddrManImpl::ResolveCollisions_` and `SelectTriedCollision_` in
--- addrman.cpp of Bitcoin Core). A collision is the number of a record, the newcomer, that was reached
--- (`good` with testing) while its slot of the tried table was occupied. It stays until `resolve` or
--- `clash_pick` drops it, also if the record is deleted or moved meanwhile.
+-- addrman.cpp of Bitcoin Core). A collision is the number of a record, the newcomer, that was
+-- reached (`good` with testing) while its slot of the tried table was occupied. It stays until
+-- `resolve` or `clash_pick` drops it, also if the record is deleted or moved meanwhile.
 use Rattle.std.specs.Prelude.{ℕ, ◌+◌, ◌%◌, List, [], ◌∷◌, length, filter, get_or, not, ◌==◌, nat_lt, false, Option, Some, None, if◌then◌else◌}
 use Rattle.net_addr.specs.declared.peer.Peer.{Peer}
 use Rattle.peer_rec.specs.declared.rec.Rec.{Rec}
 use Rattle.peer_rec.specs.declared.resolved.Resolved.{Resolved}
-use Rattle.table_machine.specs.State.{State, by_number, tried_occupant}
+use Rattle.peer_rec.specs.declared.fate.Fate.{Fate}
+use Rattle.peer_rec.specs.declared.fate.Fate.TheVariants.{Erased, Kept, Moved}
+use Rattle.table_machine.specs.State.{State, by_number, tried_occupant, After, outcome}
 use Rattle.table_machine.specs.Tried.{good}
 
 -- a collision is dropped
 abbrev pub erase_clash : State → ℕ → State
 erase_clash st number = record st { collisions = filter (λ n. not (n == number)) st.collisions }
-
--- Erased: the collision is dropped. Kept: it stays. Moved: its peer counts as reached, without
--- testing, and the collision is dropped.
-pub data Fate : Type 0 where
-  Erased : Fate
-  Kept : Fate
-  Moved : Fate
 
 -- An occupant that was reached within four hours keeps the slot. If it was tried within four hours,
 -- the newcomer moves in as soon as that try is more than a minute old. If not, the newcomer moves
@@ -45,16 +40,12 @@ abbrev pub move_in : State → Option Rec → ℕ → State
 move_in st None now = st
 move_in st (Some newcomer) now = (good st now newcomer.peer false).state
 
--- the state after the decision on a collision
+-- The state after the decision on a collision. Erased: the collision is dropped. Kept: it stays.
+-- Moved: its peer counts as reached, without testing, and the collision is dropped.
 abbrev pub after_fate : Fate → State → Option Rec → ℕ → ℕ → State
 after_fate Erased st newcomer number now = erase_clash st number
 after_fate Kept st newcomer number now = st
 after_fate Moved st newcomer number now = erase_clash (move_in st newcomer now) number
-
--- how many collisions met each fate, and the state afterwards
-pub record Resolution : Type 0 where
-  pub answer : Resolved
-  pub state : State
 
 -- the counts with another collision of the fate
 abbrev pub one_more : Fate → Resolved → Resolved
@@ -62,37 +53,33 @@ one_more Erased r = record r { erased = 1 + r.erased }
 one_more Kept r = record r { kept = 1 + r.kept }
 one_more Moved r = record r { moved = 1 + r.moved }
 
-abbrev pub with_fate : Fate → Resolution → Resolution
-with_fate fate rest = record { answer = one_more fate rest.answer; state = rest.state }
+abbrev pub with_fate : Fate → After Resolved → After Resolved
+with_fate fate rest = outcome (one_more fate rest.answer) rest.state
 
 -- the decisions on some collisions, one after another
-abbrev pub resolve_all : State → ℕ → List ℕ → Resolution
-resolve_all st now [] = record { answer = record { erased = 0; moved = 0; kept = 0 }; state = st }
+abbrev pub resolve_all : State → ℕ → List ℕ → After Resolved
+resolve_all st now [] = outcome (record { erased = 0; moved = 0; kept = 0 }) st
 resolve_all st now (number ∷ numbers) =
     let newcomer = by_number st number in
     let fate = fate_of st newcomer now in
     with_fate fate (resolve_all (after_fate fate st newcomer number now) now numbers)
 
 -- the decisions on all collisions, by rising numbers (`ResolveCollisions_`)
-abbrev pub resolve : State → ℕ → Resolution
+abbrev pub resolve : State → ℕ → After Resolved
 resolve st now = resolve_all st now st.collisions
 
--- the occupant to be tested and the time of its last try, and the state afterwards
-pub record ClashPick : Type 0 where
-  pub answer : Option (Peer × ℕ)
-  pub state : State
+-- the occupant to be tested and the time of its last try
+abbrev pub pick_opponent : State → Option Rec → After (Option (Peer × ℕ))
+pick_opponent st None = outcome None st
+pick_opponent st (Some occupant) = outcome (Some (occupant.peer, occupant.last_try)) st
 
-abbrev pub pick_opponent : State → Option Rec → ClashPick
-pick_opponent st None = record { answer = None; state = st }
-pick_opponent st (Some occupant) = record { answer = Some (occupant.peer, occupant.last_try); state = st }
-
-abbrev pub pick_newcomer : State → ℕ → Option Rec → ClashPick
-pick_newcomer st number None = record { answer = None; state = erase_clash st number }
+abbrev pub pick_newcomer : State → ℕ → Option Rec → After (Option (Peer × ℕ))
+pick_newcomer st number None = outcome None (erase_clash st number)
 pick_newcomer st number (Some newcomer) = pick_opponent st (tried_occupant st newcomer.peer)
 
--- The random word draws a collision; the answer is the occupant of its slot. A collision whose
+-- The random word selects a collision; the answer is the occupant of its slot. A collision whose
 -- record was deleted is dropped (`SelectTriedCollision_`).
-abbrev pub clash_pick : State → ℕ → ClashPick
+abbrev pub clash_pick : State → ℕ → After (Option (Peer × ℕ))
 clash_pick st word =
-    if length st.collisions == 0 then record { answer = None; state = st }
+    if length st.collisions == 0 then outcome None st
     else (let number = get_or st.collisions (word % length st.collisions) 0 in pick_newcomer st number (by_number st number))

@@ -11,18 +11,14 @@ use Rattle.peer_rec.specs.Buckets.{with_bucket, without_bucket}
 use Rattle.peer_rec.specs.Deletion.{without_first}
 use Rattle.peer_rec.specs.declared.rec.Rec.{Rec}
 use Rattle.peer_rec.specs.declared.place.Place.TheVariants.{New}
-use Rattle.table_machine.specs.State.{State, find_peer, new_rec_at}
+use Rattle.table_machine.specs.State.{State, find_peer, new_rec_at, After, outcome}
 
--- an answer (whether an entry got a slot, or whether a peer is known), and the state afterwards
-pub record Outcome : Type 0 where
-  pub answer : Bool
-  pub state : State
+-- whether an entry got a slot, or whether a peer is known
+abbrev pub no : State → After Bool
+no st = outcome false st
 
-abbrev pub no : State → Outcome
-no st = record { answer = false; state = st }
-
-abbrev pub yes : State → Outcome
-yes st = record { answer = true; state = st }
+abbrev pub yes : State → After Bool
+yes st = outcome true st
 
 -- the list with each record of the number replaced
 abbrev pub change_number : ℕ → Rec → List Rec → List Rec
@@ -63,20 +59,20 @@ makes_way occupant r now =
 
 -- An occupied slot. If it is the record's own, nothing changes. If the occupant makes way, the
 -- record gets it. If the occupant stays, a record that was made for this entry is deleted.
-abbrev pub enter_occupied : State → ℕ → Rec → Bool → ℕ → Rec → Outcome
+abbrev pub enter_occupied : State → ℕ → Rec → Bool → ℕ → Rec → After Bool
 enter_occupied st now r is_new bucket occupant =
     if occupant.number == r.number then no st
     else if makes_way occupant r now then yes (give_bucket (clear_slot st occupant bucket) r bucket)
     else no (if is_new then delete st r else st)
 
 -- a slot that is empty or occupied
-abbrev pub enter_slot : State → ℕ → Rec → Bool → ℕ → Option Rec → Outcome
+abbrev pub enter_slot : State → ℕ → Rec → Bool → ℕ → Option Rec → After Bool
 enter_slot st now r is_new bucket None = yes (give_bucket st r bucket)
 enter_slot st now r is_new bucket (Some occupant) = enter_occupied st now r is_new bucket occupant
 
 -- The bucket of the record's peer and the source; is_new tells whether the record was made for this
 -- entry.
-abbrev pub enter_bucket : State → ℕ → Rec → Bool → Address → Outcome
+abbrev pub enter_bucket : State → ℕ → Rec → Bool → Address → After Bool
 enter_bucket st now r is_new source =
     let bucket = new_bucket st.places r.peer source in
     enter_slot st now r is_new bucket (new_rec_at st bucket (new_slot st.places r.peer bucket))
@@ -95,8 +91,8 @@ refresh r entry penalty now = record r {
 
 -- An entry for a known peer refreshes its record. The record then gets another bucket only if the
 -- entry's time is still later than the record's, the record is in the new table with fewer than
--- eight buckets, and the random word draws it: one word in 2^n does, for n buckets.
-abbrev pub add_known : State → ℕ → Rec → Entry → Address → ℕ → ℕ → Outcome
+-- eight buckets, and the random word selects it: one word in 2^n does, for n buckets.
+abbrev pub add_known : State → ℕ → Rec → Entry → Address → ℕ → ℕ → After Bool
 add_known st now r entry source penalty word =
     let known = refresh r entry penalty now in
     let kept = with_record st known in
@@ -128,13 +124,13 @@ with_last st r = record st {
 }
 
 -- an entry for an unknown peer
-abbrev pub add_unknown : State → ℕ → Entry → Address → ℕ → Outcome
+abbrev pub add_unknown : State → ℕ → Entry → Address → ℕ → After Bool
 add_unknown st now entry source penalty =
     let r = new_record st entry source penalty in
     enter_bucket (with_last st r) now r true source
 
 -- an entry, by the record of its peer
-abbrev pub add_by : Option Rec → State → ℕ → Entry → Address → ℕ → ℕ → Outcome
+abbrev pub add_by : Option Rec → State → ℕ → Entry → Address → ℕ → ℕ → After Bool
 add_by None st now entry source penalty word = add_unknown st now entry source penalty
 add_by (Some r) st now entry source penalty word = add_known st now r entry source penalty word
 
@@ -144,7 +140,7 @@ penalty_of entry source penalty = if same_address entry.peer.addr source then 0 
 
 -- One entry from a source, with a penalty in seconds and a random word. An address that is not
 -- routable is refused.
-abbrev pub add : State → ℕ → Entry → Address → ℕ → ℕ → Outcome
+abbrev pub add : State → ℕ → Entry → Address → ℕ → ℕ → After Bool
 add st now entry source penalty word =
     if is_routable entry.peer.addr
     then add_by (find_peer st entry.peer) st now entry source (penalty_of entry source penalty) word

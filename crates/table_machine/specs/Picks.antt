@@ -3,23 +3,17 @@
 use Rattle.std.specs.Prelude.{ℕ, ◌+◌, ◌-◌, ◌*◌, ◌/◌, ◌%◌, ◌^◌, min, List, [], ◌∷◌, ◌++◌, length, map, filter, filter_map, find, swap, count_by, slice_get, Bool, true, false, ◌&&◌, ◌||◌, not, ◌==◌, nat_lt, Option, Some, None, option_to_list, option_and_then, if◌then◌else◌}
 use Rattle.std.specs.List.{range_with_len}
 use Rattle.net_addr.specs.NetSet.{has}
-use Rattle.net_addr.specs.Ranges.{is_routable, net_class}
-use Rattle.net_addr.specs.declared.net.Net.{Net}
-use Rattle.net_addr.specs.declared.net.Net.TheVariants.{Unroutable}
+use Rattle.net_addr.specs.Ranges.{net_class}
 use Rattle.net_addr.specs.declared.peer.Peer.{Peer}
-use Rattle.peer_rec.specs.Rec.{chance, is_terrible, is_tried}
+use Rattle.peer_rec.specs.Rec.{chance, is_terrible, is_tried, network}
 use Rattle.peer_rec.specs.declared.picked.Picked.{Picked}
 use Rattle.peer_rec.specs.declared.picked.Picked.TheVariants.{One, Nothing, Exhausted}
 use Rattle.peer_rec.specs.declared.rec.Rec.{Rec}
-use Rattle.table_machine.specs.State.{State, by_number, new_rec_at, tried_rec_at}
-
--- the network of a record's address; `Unroutable` if that is not routable
-abbrev pub network_of : Rec → Net
-network_of r = if is_routable r.peer.addr then r.peer.addr.net else Unroutable
+use Rattle.table_machine.specs.State.{State, by_number, new_rec_at, tried_rec_at, After, outcome}
 
 -- whether the network of a record is in the set
 abbrev pub is_wanted : List ℕ → Rec → Bool
-is_wanted nets r = has nets (network_of r)
+is_wanted nets r = has nets (network r)
 
 -- how many records of the new table, and of the tried table, are wanted
 abbrev pub wanted_new : State → List ℕ → ℕ
@@ -113,11 +107,6 @@ sample_limit count most percent =
     let part = if percent == 0 then count else (percent * count) / 100 in
     if most == 0 then part else min most part
 
--- the peers of a sample, and the state afterwards
-pub record Sample : Type 0 where
-  pub peers : List Peer
-  pub state : State
-
 -- two positions of the order are exchanged
 abbrev pub order_swap : State → ℕ → ℕ → State
 order_swap st i j = record st { order = swap st.order i j }
@@ -135,23 +124,23 @@ abbrev pub eligible_at : State → List ℕ → ℕ → ℕ → List Peer
 eligible_at st classes now i = map (λ r. r.peer) (filter (is_eligible classes now) (option_to_list (order_at st i)))
 
 -- the sample with some more peers before the rest
-abbrev pub with_peers : List Peer → Sample → Sample
-with_peers peers rest = record { peers = peers ++ rest.peers; state = rest.state }
+abbrev pub with_peers : List Peer → After (List Peer) → After (List Peer)
+with_peers peers rest = outcome (peers ++ rest.answer) rest.state
 
 -- The part of a sample from position i of the order on, with at most `left` peers. The next random
 -- word selects a position from i on, which is exchanged with i; then the record at i is taken if it
 -- is eligible.
-abbrev pub sample_from : State → List ℕ → ℕ → ℕ → ℕ → List ℕ → Sample
-sample_from st classes now i left [] = record { peers = []; state = st }
+abbrev pub sample_from : State → List ℕ → ℕ → ℕ → ℕ → List ℕ → After (List Peer)
+sample_from st classes now i left [] = outcome [] st
 sample_from st classes now i left (word ∷ words) =
     if nat_lt i (length st.order) && nat_lt 0 left
     then (
     let next = order_swap st i (i + word % (length st.order - i)) in
     let peers = eligible_at next classes now i in
     with_peers peers (sample_from next classes now (i + 1) (left - length peers) words))
-    else record { peers = []; state = st }
+    else outcome [] st
 
--- Some of the peers of a set of classes, selected by random words (`GetAddr_`). It is used only with
--- at least as many words as records. The order stays as the exchanges leave it.
-abbrev pub sample : State → ℕ → ℕ → List ℕ → List ℕ → ℕ → Sample
+-- Some of the peers of a set of classes, selected by random words (`GetAddr_`). It is used only
+-- with at least as many words as records. The order stays as the exchanges leave it.
+abbrev pub sample : State → ℕ → ℕ → List ℕ → List ℕ → ℕ → After (List Peer)
 sample st most percent classes words now = sample_from st classes now 0 (sample_limit (length st.order) most percent) words

@@ -60,8 +60,8 @@ abbrev pub give_if_empty : State → Rec → ℕ → State → State
 give_if_empty st r bucket other = give_or st r bucket (new_rec_at st bucket (new_slot st.places r.peer bucket)) other
 
 -- The turn of a record that a bucket of the file lists. It gets that bucket if the file's buckets
--- are used and its slot there is empty. If not, it gets its source's bucket, if its slot in that one
--- is empty. Nothing changes if its address is not valid, or if eight buckets list it.
+-- are used and its slot there is empty. If not, it gets its source's bucket, if its slot in that
+-- one is empty. Nothing changes if its address is not valid, or if eight buckets list it.
 abbrev pub place_record : Bool → State → ℕ → Option Rec → State
 place_record same st bucket None = st
 place_record same st bucket (Some r) =
@@ -97,8 +97,8 @@ uses_buckets snap places = snap.bucket_count == 1024 && bytes_eq snap.sum (sum_o
 abbrev pub appended : Snapshot → Places → State
 appended snap places = with_all_tried (with_all_new (empty_state places) snap.new_recs) snap.tried_recs
 
--- What is restored of a file: its records are appended, those that its buckets list are placed in the
--- order of the list, and new records that are in no bucket then are deleted by rising number.
+-- What is restored of a file: its records are appended, those that its buckets list are placed in
+-- the order of the list, and new records that are in no bucket then are deleted by rising number.
 abbrev pub restored : Snapshot → Places → State
 restored snap places =
     drop_all (place_all (uses_buckets snap places) (appended snap places) snap.listed) (range_with_len 0 (length snap.new_recs))
@@ -113,7 +113,7 @@ duplicate_from earlier index [] = None
 duplicate_from earlier index (r ∷ rs) =
     if is_repeated earlier r then Some index else duplicate_from (earlier ++ r ∷ []) (index + 1) rs
 
--- The index of the first valid record that has the peer of an earlier valid one. Records are counted
--- from 0, the new ones first.
+-- The index of the first valid record that has the peer of an earlier valid one. Records are
+-- counted from 0, the new ones first.
 abbrev pub duplicate : Snapshot → Option ℕ
 duplicate snap = duplicate_from [] 0 (snap.new_recs ++ snap.tried_recs)

@@ -1,9 +1,7 @@
 -- What a file of peers holds, and what a save writes of a state (`AddrManImpl::Serialize` in
 -- addrman.cpp of Bitcoin Core).
-use Rattle.std.specs.Prelude.{◌≡◌, ℕ, ◌<◌, ◌≤◌, ◌^◌, not, ◌==◌, List, [], ◌∷◌, map, length, filter, flat_map, All, AllPairs, Option, Some, None}
+use Rattle.std.specs.Prelude.{ℕ, not, ◌==◌, List, [], ◌∷◌, map, filter, flat_map, Option, Some, None}
 use Rattle.std.specs.List.{range_with_len, position_or_len}
-use Rattle.net_addr.specs.Address.{Address, IsAddress}
-use Rattle.net_addr.specs.declared.peer.Peer.{Peer}
 use Rattle.placing.specs.Places.{sum_of}
 use Rattle.peer_rec.specs.Rec.{is_tried}
 use Rattle.peer_rec.specs.declared.file_rec.FileRec.{FileRec}

@@ -20,6 +20,14 @@ pub record State : Type 0 where
   pub last_good : ℕ
   pub next_number : ℕ
 
+-- an answer, and the state after it
+pub record After (A : Type 0) : Type 0 where
+  pub answer : A
+  pub state : State
+
+abbrev pub outcome : {A : Type 0} → A → State → After A
+outcome answer st = record { answer = answer; state = st }
+
 -- no records; the time of the last success is 1, the least (`m_last_good{1}`)
 abbrev pub empty_state : Places → State
 empty_state places = record {

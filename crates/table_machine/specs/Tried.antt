@@ -10,8 +10,8 @@ use Rattle.peer_rec.specs.declared.good.Good.{Good}
 use Rattle.peer_rec.specs.declared.good.Good.TheVariants.{Unknown, Already, Clash, Moved}
 use Rattle.peer_rec.specs.declared.rec.Rec.{Rec}
 use Rattle.peer_rec.specs.declared.place.Place.TheVariants.{New, Tried}
-use Rattle.table_machine.specs.State.{State, find_peer, new_rec_at, tried_occupant}
-use Rattle.table_machine.specs.Entries.{Outcome, clear_slot, no, with_record, yes}
+use Rattle.table_machine.specs.State.{State, find_peer, new_rec_at, tried_occupant, After, outcome}
+use Rattle.table_machine.specs.Entries.{clear_slot, no, with_record, yes}
 
 -- a slot of the bucket is emptied: its occupant loses the bucket (`ClearNew`)
 abbrev pub clear_new : State → ℕ → Option Rec → State
@@ -37,14 +37,6 @@ move_to_tried st r =
     let left = with_record st (record r { place = New [] }) in
     with_record (displace left (tried_occupant left r.peer)) (record r { place = Tried })
 
--- the answer to a success, and the state afterwards
-pub record GoodOutcome : Type 0 where
-  pub answer : Good
-  pub state : State
-
-abbrev pub good_outcome : Good → State → GoodOutcome
-good_outcome answer st = record { answer = answer; state = st }
-
 -- the record of a peer that was reached now; the time when it was seen stays
 abbrev pub after_success : Rec → ℕ → Rec
 after_success r now = record r { last_success = now; last_try = now; attempts = 0 }
@@ -55,24 +47,24 @@ wait st number = if nat_lt (length st.collisions) 10 then record st { collisions
 
 -- A known peer was reached. With testing, its record becomes a collision if its tried slot is
 -- occupied: the occupant is to be tested first.
-abbrev pub good_known : State → Rec → Bool → GoodOutcome
+abbrev pub good_known : State → Rec → Bool → After Good
 good_known st r testing =
-    if is_tried r then good_outcome Already st
-    else if testing && is_some (tried_occupant st r.peer) then good_outcome Clash (wait st r.number)
-    else good_outcome Moved (move_to_tried st r)
+    if is_tried r then outcome Already st
+    else if testing && is_some (tried_occupant st r.peer) then outcome Clash (wait st r.number)
+    else outcome Moved (move_to_tried st r)
 
-abbrev pub good_by : Option Rec → State → ℕ → Bool → GoodOutcome
-good_by None st now testing = good_outcome Unknown st
+abbrev pub good_by : Option Rec → State → ℕ → Bool → After Good
+good_by None st now testing = outcome Unknown st
 good_by (Some r) st now testing = good_known (with_record st (after_success r now)) (after_success r now) testing
 
 -- a peer was reached; the time of the last success is set for an unknown peer too (`Good_`)
-abbrev pub good : State → ℕ → Peer → Bool → GoodOutcome
+abbrev pub good : State → ℕ → Peer → Bool → After Good
 good st now peer testing =
     let later = record st { last_good = now } in
     good_by (find_peer later peer) later now testing
 
 -- the record of a known peer is changed, and the answer is yes; it is no for an unknown peer
-abbrev pub mark : (Rec → Rec) → State → Option Rec → Outcome
+abbrev pub mark : (Rec → Rec) → State → Option Rec → After Bool
 mark change st None = no st
 mark change st (Some r) = yes (with_record st (change r))
 
@@ -84,7 +76,7 @@ after_try last_good now count r =
     then record r { last_try = now; last_count = now; attempts = min (r.attempts + 1) 2147483647 }
     else record r { last_try = now }
 
-abbrev pub attempt : State → ℕ → Peer → Bool → Outcome
+abbrev pub attempt : State → ℕ → Peer → Bool → After Bool
 attempt st now peer count = mark (after_try st.last_good now count) st (find_peer st peer)
 
 -- a peer is connected: the time when it was seen is updated if it is more than twenty minutes old
@@ -92,12 +84,12 @@ attempt st now peer count = mark (after_try st.last_good now count) st (find_pee
 abbrev pub still_connected : ℕ → Rec → Rec
 still_connected now r = if nat_lt (r.time + 1200) now then record r { time = now } else r
 
-abbrev pub connected : State → ℕ → Peer → Outcome
+abbrev pub connected : State → ℕ → Peer → After Bool
 connected st now peer = mark (still_connected now) st (find_peer st peer)
 
 -- the services of a peer are replaced (`SetServices_`)
 abbrev pub with_services : ℕ → Rec → Rec
 with_services services r = record r { services = services }
 
-abbrev pub set_services : State → Peer → ℕ → Outcome
+abbrev pub set_services : State → Peer → ℕ → After Bool
 set_services st peer services = mark (with_services services) st (find_peer st peer)

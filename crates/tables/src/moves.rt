@@ -17,10 +17,10 @@ impl<'a, H: BuildHasher> Store<'a, H> {
     ghost use Rattle.peer_rec.specs.declared.place.Place.TheVariants.{New, Tried};
     ghost use Rattle.slot_grid.specs.Slots.{new_id, tried_id};
     ghost use Rattle.peer_index.specs.Order.{SameOthers, rec_of};
-    ghost use Rattle.table_machine.specs.State.{new_rec_at, tried_rec_at};
+    ghost use Rattle.table_machine.specs.State.{new_rec_at, tried_rec_at, outcome};
     ghost use Rattle.table_machine.specs.Sound.{IsSound};
     ghost use Rattle.table_machine.specs.Entries.{with_record};
-    ghost use Rattle.table_machine.specs.Tried.{back_to_new, clear_new, displace, move_to_tried, good, good_by, good_outcome};
+    ghost use Rattle.table_machine.specs.Tried.{back_to_new, clear_new, displace, move_to_tried, good, good_by};
     ghost use Rattle.tables.specs.Inside.{IsStore, SameRest, SameBare, SameUnlisted, state_of};
     ghost use Rattle.tables.specs.Inside.{CanTry, IsMovable, IsOwnTried, AreWaiters};
 
@@ -38,7 +38,7 @@ impl<'a, H: BuildHasher> Store<'a, H> {
         requires sound { IsSound (state_of self.old) }
         requires waiters { AreWaiters (state_of self.old) self.old.waiters.items }
         ensures stored { IsStore self.new }
-        ensures outcome { good_outcome result (state_of self.new)
+        ensures outcome { outcome result (state_of self.new)
             ≡ good (state_of self.old) now peer.now testing }
         ensures waiters { AreWaiters (state_of self.new) self.new.waiters.items }
         ensures placer { self.new.placer ≡ self.old.placer }
@@ -65,7 +65,8 @@ impl<'a, H: BuildHasher> Store<'a, H> {
         requires live { IsSome (rec_of self.old.index id) }
         ensures stored { IsStore self.new }
         ensures outcome { (r : Rec) → rec_of self.old.index id ≡ Some r
-            → good_outcome result (state_of self.new) ≡ good_by (Some r) (state_of self.old) now testing }
+            → outcome result (state_of self.new)
+            ≡ good_by (Some r) (state_of self.old) now testing }
         ensures waiters { AreWaiters (state_of self.new) self.new.waiters.items }
         ensures placer { self.new.placer ≡ self.old.placer }
         ensures steps { steps.new ≤ steps.old + 36 }

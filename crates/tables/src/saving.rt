@@ -45,7 +45,8 @@ pub(crate) fn tried_recs(alloc: Global, recs: &[Rec]) -> Result<Vec<FileRec>, Al
 
 /// Returns the numbers of the records of the new table.
 pub(crate) fn new_numbers(alloc: Global, recs: &[Rec]) -> Result<Vec<u64>, AllocError>
-    ensures { IfOk result (λ v. v.items ≡ map (λ r. r.number) (filter (λ r. not (is_tried r)) recs.now)) }
+    ensures { IfOk result (λ v. v.items
+        ≡ map (λ r. r.number) (filter (λ r. not (is_tried r)) recs.now)) }
 {
     recs.iter()
         .filter(|rec| !rec.place.is_tried())
@@ -76,7 +77,8 @@ pub(crate) fn add_pair(
 ) -> Result<(), Memory>
     requires rising { IsStrictlyIncreasing numbers.now }
     requires few { length numbers.now < 2 ^ 32 }
-    ensures { OnOk result (listed.new.items ≡ listed.old.items ++ pair_by numbers.now bucket (option_map (λ r. r.now) rec.entry)) }
+    ensures { OnOk result (listed.new.items
+        ≡ listed.old.items ++ pair_by numbers.now bucket (option_map (λ r. r.now) rec.entry)) }
 {
     let Some(rec) = rec else {
         return Ok(());

@@ -26,7 +26,8 @@ impl<'a, H: BuildHasher> Tables<'a, H> {
         requires bucket { bucket < 1024 }
         requires rising { IsStrictlyIncreasing numbers.now }
         requires few { length numbers.now < 2 ^ 32 }
-        ensures { OnOk result (listed.new.items ≡ listed.old.items ++ bucket_by self.now numbers.now bucket 64) }
+        ensures { OnOk result (listed.new.items
+            ≡ listed.old.items ++ bucket_by self.now numbers.now bucket 64) }
     {
         for slot in 0..SLOTS {
             let rec = self.new_rec_at(bucket, slot, steps);
@@ -35,8 +36,8 @@ impl<'a, H: BuildHasher> Tables<'a, H> {
         Ok(())
     }
 
-    /// Returns what each bucket of the new table lists, by rising slot: the bucket, and the index of
-    /// the record among those of the new table.
+    /// Returns what each bucket of the new table lists, by rising slot: the bucket, and the index
+    /// of the record among those of the new table.
     pub(crate) fn listed<L: Ledger>(
         &self,
         alloc: Global,

@@ -108,8 +108,10 @@ impl<'a, H: BuildHasher> Tables<'a, H> {
         steps: &mut Steps<L>,
     ) -> Result<bool, Memory>
         requires more { self.old.next_number < 2 ^ 63 }
-        ensures answer { IfOk result (λ answer. answer ≡ (add self.old now entry.now source.now penalty word).answer) }
-        ensures state { OnOk result (self.new ≡ (add self.old now entry.now source.now penalty word).state) }
+        ensures answer { IfOk result (λ answer. answer
+            ≡ (add self.old now entry.now source.now penalty word).answer) }
+        ensures state { OnOk result (self.new
+            ≡ (add self.old now entry.now source.now penalty word).state) }
         ensures sound { IsSound self.new }
         ensures err { OnErr result (self.new ≡ self.old) }
         ensures steps { steps.new ≤ steps.old + 16 }
@@ -304,8 +306,9 @@ impl<'a, H: BuildHasher> Tables<'a, H> {
         }
     }
 
-    /// Returns the collisions, at most ten, in increasing order. A collision is the number of a record
-    /// that was reached (`good` with `testing`) while its slot of the tried table was occupied.
+    /// Returns the collisions, at most ten, in increasing order. A collision is the number of a
+    /// record that was reached (`good` with `testing`) while its slot of the tried table was
+    /// occupied.
     pub fn clashes(&self) -> &[u64]
         ensures clashes { result.now ≡ self.now.collisions }
         ensures sound { IsSound self.now }
@@ -332,8 +335,8 @@ impl<'a, H: BuildHasher> Tables<'a, H> {
         self.store.swap(i, j, steps);
     }
 
-    /// Returns how many records of the new and of the tried table are of networks of a set. A record
-    /// whose address is not routable counts for `Net::Unroutable`.
+    /// Returns how many records of the new and of the tried table are of networks of a set. A
+    /// record whose address is not routable counts for `Net::Unroutable`.
     pub fn wanted(&self, nets: NetSet) -> (u32, u32)
         ensures new { result.0 ≡ wanted_new self.now nets }
         ensures tried { result.1 ≡ wanted_tried self.now nets }
@@ -369,8 +372,8 @@ impl<'a, H: BuildHasher> Tables<'a, H> {
         Ok(Recs::of(self.store.sorted(steps)?))
     }
 
-    /// Returns what a file of peers keeps of the tables (`AddrManImpl::Serialize`). Restored with the
-    /// same key and asmap, it gives the tables as they are after a restart.
+    /// Returns what a file of peers keeps of the tables (`AddrManImpl::Serialize`). Restored with
+    /// the same key and asmap, it gives the tables as they are after a restart.
     pub fn snapshot<L: Ledger>(&self, steps: &mut Steps<L>) -> Result<Snapshot, Memory>
         ensures found { IfOk result (λ snap. snap ≡ snapshot_of self.now) }
         ensures restart { IfOk result (λ snap. restored snap self.now.places ≡ restart self.now) }

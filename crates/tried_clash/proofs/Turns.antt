@@ -1,5 +1,5 @@
 -- What is left to do when some of the numbers that wait have had their turns.
-use Rattle.std.proofs.Common.{◌≡◌, ℕ, ◌+◌, ◌<◌, suc, List, [], ◌∷◌, length, get_or, drop, not, ◌==◌, false, Contains, All, Option, Some, None, refl, sym, ap, subst, ◌∙◌, inl, inr, arith, add-one, drop-cons}
+use Rattle.std.proofs.Common.{◌≡◌, ℕ, ◌+◌, ◌<◌, suc, List, ◌∷◌, length, get_or, drop, not, ◌==◌, false, Contains, All, Option, Some, None, refl, sym, ap, subst, ◌∙◌, inl, inr, arith, add-one, drop-cons}
 use Rattle.std.specs.List.Sorted.{IsStrictlyIncreasing}
 use Rattle.std.proofs.lemmas.List.Elements.{All-contains_itself, All-head, All-tail}
 use Rattle.std.proofs.lemmas.Bool.{true≢false}
@@ -7,17 +7,18 @@ use Rattle.std.proofs.lemmas.Bool.Decides.{nat_tests}
 use Rattle.std.proofs.lemmas.List.Kept.{AllPairs-from_increasing}
 use Rattle.peer_rec.specs.declared.rec.Rec.{Rec}
 use Rattle.peer_rec.specs.declared.resolved.Resolved.{Resolved}
-use Rattle.table_machine.specs.State.{State, by_number}
+use Rattle.table_machine.specs.State.{State, by_number, After}
 use Rattle.net_addr.specs.declared.peer.Peer.{Peer}
 use Rattle.table_machine.specs.Sound.{IsSound}
 use Rattle.table_machine.specs.Tried.{good}
-use Rattle.table_machine.specs.Clashes.{Fate, Resolution, after_fate, fate_of, move_in, one_more, resolve, resolve_all, with_fate}
-use Rattle.table_machine.specs.Clashes.Fate.{Erased, Kept, Moved}
+use Rattle.table_machine.specs.Clashes.{after_fate, fate_of, move_in, one_more, resolve, resolve_all, with_fate}
+use Rattle.peer_rec.specs.declared.fate.Fate.{Fate}
+use Rattle.peer_rec.specs.declared.fate.Fate.TheVariants.{Erased, Kept, Moved}
 use Rattle.table_machine.proofs.Lists.{Contains-filter, increasing_from_pairs}
 use Rattle.table_machine.proofs.Unchanged.{good-rest}
 
 -- the counts of the turns before, with those of the rest
-abbrev pub after_turns : Resolved → Resolution → Resolution
+abbrev pub after_turns : Resolved → After Resolved → After Resolved
 after_turns r rest = record {
   answer = record { erased = r.erased + rest.answer.erased; moved = r.moved + rest.answer.moved; kept = r.kept + rest.answer.kept };
   state = rest.state;
@@ -26,15 +27,15 @@ after_turns r rest = record {
 abbrev pub no_turns : Resolved
 no_turns = record { erased = 0; moved = 0; kept = 0 }
 
-same_resolution : (a b : Resolution) → a.answer.erased ≡ b.answer.erased → a.answer.moved ≡ b.answer.moved → a.answer.kept ≡ b.answer.kept → a.state ≡ b.state → a ≡ b
+same_resolution : (a b : After Resolved) → a.answer.erased ≡ b.answer.erased → a.answer.moved ≡ b.answer.moved → a.answer.kept ≡ b.answer.kept → a.state ≡ b.state → a ≡ b
 same_resolution a b e m k s = λ i. record { answer = record { erased = e i; moved = m i; kept = k i }; state = s i }
 
-one_turn : (fate : Fate) (r : Resolved) (rest : Resolution) → after_turns r (with_fate fate rest) ≡ after_turns (one_more fate r) rest
+one_turn : (fate : Fate) (r : Resolved) (rest : After Resolved) → after_turns r (with_fate fate rest) ≡ after_turns (one_more fate r) rest
 one_turn Erased r rest = same_resolution _ _ (omega arith) refl refl refl
 one_turn Kept r rest = same_resolution _ _ refl refl (omega arith) refl
 one_turn Moved r rest = same_resolution _ _ refl (omega arith) refl refl
 
-no_turn : (rest : Resolution) → after_turns no_turns rest ≡ rest
+no_turn : (rest : After Resolved) → after_turns no_turns rest ≡ rest
 no_turn rest = same_resolution _ _ (omega arith) (omega arith) (omega arith) refl
 
 -- a success without testing changes none of the numbers that wait

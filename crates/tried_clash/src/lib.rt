@@ -7,6 +7,5 @@ mod fate;
 mod resolution;
 
 pub use clash::clash_pick;
-pub(crate) use fate::Fate;
 pub use peer_rec::Resolved;
 pub use resolution::resolve;

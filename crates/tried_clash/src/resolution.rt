@@ -2,11 +2,10 @@ ghost use Rattle.std.specs.Prelude.{◌≡◌, ◌+◌, ◌≤◌, Contains};
 ghost use Rattle.table_machine.specs.State.{by_number};
 ghost use Rattle.table_machine.specs.Sound.{IsSound};
 ghost use Rattle.table_machine.specs.Clashes.{after_fate, fate_of, move_in, resolve};
-ghost use Rattle.tried_clash.specs.Fates.{meant};
 
-use crate::Fate;
+use crate::fate::{fate_against, one_more};
 use arrayvec::ArrayVec;
-use peer_rec::Resolved;
+use peer_rec::{Fate, Resolved};
 use std::hash::BuildHasher;
 use std::sync::ledger::Ledger;
 use steps::Steps;
@@ -33,7 +32,7 @@ pub fn resolve<H: BuildHasher, L: Ledger>(
     };
     for number in numbers.as_slice() {
         let fate = settle(tables, *number, now, steps);
-        resolved = fate.one_more(resolved);
+        resolved = one_more(fate, resolved);
     }
     resolved
 }
@@ -57,9 +56,9 @@ fn settle<H: BuildHasher, L: Ledger>(
     steps: &mut Steps<L>,
 ) -> Fate
     requires waits { Contains tables.old.collisions number }
-    ensures fate { meant result ≡ fate_of tables.old (by_number tables.old number) now }
+    ensures fate { result ≡ fate_of tables.old (by_number tables.old number) now }
     ensures state { tables.new
-        ≡ after_fate (meant result) tables.old (by_number tables.old number) number now }
+        ≡ after_fate result tables.old (by_number tables.old number) number now }
     ensures steps { steps.new ≤ steps.old + 44 }
 {
     let fate = fate_of(tables, number, now, steps);
@@ -82,14 +81,14 @@ fn fate_of<H: BuildHasher, L: Ledger>(
     steps: &mut Steps<L>,
 ) -> Fate
     requires waits { Contains tables.now.collisions number }
-    ensures fate { meant result ≡ fate_of tables.now (by_number tables.now number) now }
+    ensures fate { result ≡ fate_of tables.now (by_number tables.now number) now }
     ensures steps { steps.new ≤ steps.old + 3 }
 {
     match tables.by_number(number, steps) {
         None => Fate::Erased,
         Some(newcomer) => match tables.tried_occupant(&newcomer.peer, steps) {
             None => Fate::Moved,
-            Some(occupant) => Fate::against(newcomer, occupant, now),
+            Some(occupant) => fate_against(newcomer, occupant, now),
         },
     }
 }

@@ -8,7 +8,7 @@ use Rattle.picking.proofs.sampling.fill.Goals.{in-Some, in_default}
 
 pub returns-then-len-limit-clause-peers : goal.returns-then-len-limit-clause-peers
 returns-then-len-limit-clause-peers g c =
-    ap (λ s. s.peers) (
+    ap (λ s. s.answer) (
     sym (sofar-full c.args.classes c.args.now c.args.limit c.args.words.now c.loop-position.tables c.loop-position.peers.items c.loop-position.position (omega arith))
     ∙ c.loop-position.invariant.rest)
 
@@ -55,7 +55,7 @@ loop-position-preserved g c = elim c.match-select_at.branch [
 
 pub returns-clause-peers : goal.returns-clause-peers
 returns-clause-peers g c =
-    ap (λ s. s.peers) (
+    ap (λ s. s.answer) (
     sym (sofar-all c.args.classes c.args.now c.args.limit c.args.words.now c.loop-position.tables c.loop-position.peers.items c.loop-position.position (omega arith))
     ∙ c.loop-position.invariant.rest)
 

@@ -1,7 +1,7 @@
-use Rattle.std.proofs.Common.{ℕ, ◌≡◌, ◌≢◌, ◌<◌, ◌≤◌, Bool, true, false, nat_lt, Ok, Err, get_or, length, refl, arith}
+use Rattle.std.proofs.Common.{ℕ, ◌≡◌, ◌≢◌, ◌<◌, ◌≤◌, Bool, true, false, nat_lt, Ok, Err, get_or, refl, arith}
 use Rattle.std.proofs.lemmas.List.Kept.{AllPairs-from_increasing}
 use Rattle.std.proofs.lemmas.List.Sorted.{searched}
-use Rattle.tables.proofs.Saves.{first-at, first-none, first-within, rising_le}
+use Rattle.tables.proofs.Saves.{first-at, first-none, rising_le}
 use Rattle.tables.proofs.saving.position_of.Goals as goal
 
 pub returns-in-Ok-clause-found : goal.returns-in-Ok-clause-found

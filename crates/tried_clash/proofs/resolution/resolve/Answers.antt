@@ -1,5 +1,4 @@
 use Rattle.std.proofs.Common.{◌≡◌, subst, arith, sym}
-use Rattle.tried_clash.specs.Fates.{meant}
 use Rattle.table_machine.proofs.Folds.{resolve-sound}
 use Rattle.table_machine.specs.Sound.{IsSound}
 use Rattle.table_machine.specs.Clashes.{resolve}
@@ -26,9 +25,9 @@ loop-number-preserved g c =
     let l = c.loop-number in
     let ns = c.args.tables.now.collisions in
     record {
-      left = left-next c.args.tables.now l.tables c.settle-fate.new.tables c.args.now l.number-index l.resolved c.one_more-resolved.result (meant c.settle-fate.result) ns c.as_slice-number-items.result.now (cc) c.loop-number-test.true l.invariant.left
+      left = left-next c.args.tables.now l.tables c.settle-fate.new.tables c.args.now l.number-index l.resolved c.one_more-resolved.result c.settle-fate.result ns c.as_slice-number-items.result.now (cc) c.loop-number-test.true l.invariant.left
           c.settle-fate.ensures.fate c.settle-fate.ensures.state c.one_more-resolved.ensures;
-      counts = one_more-counts (meant c.settle-fate.result) l.resolved c.one_more-resolved.result l.number-index c.one_more-resolved.ensures l.invariant.counts;
+      counts = one_more-counts c.settle-fate.result l.resolved c.one_more-resolved.result l.number-index c.one_more-resolved.ensures l.invariant.counts;
       few = l.invariant.few;
       steps = omega (arith, l.invariant.steps, c.settle-fate.ensures.steps);
     }

@@ -8,7 +8,7 @@ use Rattle.table_machine.specs.State.{State}
 use Rattle.table_machine.specs.Sound.{IsSound}
 use Rattle.table_machine.specs.Restart.{restart}
 use Rattle.table_machine.specs.Restoring.{duplicate, restored}
-use Rattle.table_machine.specs.Snapshot.{file_rec, listed_of, new_records, snapshot_of, tried_records}
+use Rattle.table_machine.specs.Snapshot.{file_rec, listed_of, new_records, tried_records}
 use Rattle.table_machine.proofs.RestartLaw.{no_duplicate, restart_law}
 use Rattle.table_machine.proofs.SnapshotFits.{snapshot_fits}
 use Rattle.tables.specs.Saving.{buckets_by}
