@@ -167,6 +167,15 @@ impl<H: BuildHasher> PeerIndex<H> {
         self.counts.lower(rec.network(), rec.place.is_tried());
     }
 
+    /// Removes all records.
+    pub fn clear(&mut self)
+        ensures { self.new ≡ [] }
+    {
+        self.recs.clear();
+        self.order.clear();
+        self.counts = Counts::none();
+    }
+
     /// Returns the id of the record at a position in the order.
     #[tactic(auto, using(crate::proofs::Kept::is_order))]
     pub fn at<L: Ledger>(&self, position: usize, steps: &mut Steps<L>) -> usize

@@ -1,6 +1,7 @@
-ghost use Rattle.std.specs.Prelude.{◌≡◌, ◌≢◌, ℕ, ◌<◌, ◌+◌, ◌*◌, All, None, IfOk, vec_len, set};
+ghost use Rattle.std.specs.Prelude.{◌≡◌, ◌≢◌, ℕ, ◌<◌, ◌+◌, ◌*◌, All, None, IfOk, vec_len, set, map};
 ghost use Rattle.std.specs.Int.{bit_at};
 ghost use Rattle.slot_grid.specs.Masks.{AreMasks, bit_of};
+ghost use Rattle.slot_grid.specs.Slots.{renumbered};
 
 use crate::Memory;
 use std::alloc::{AllocError, Global};
@@ -36,9 +37,9 @@ impl Model for Grid {
 }
 
 impl Grid {
-    ghost use Rattle.std.specs.Prelude.{◌≡◌, ◌<◌, ◌+◌, IfOk};
+    ghost use Rattle.std.specs.Prelude.{◌≡◌, ℕ, ◌<◌, ◌+◌, IfOk};
     ghost use Rattle.slot_grid.specs.Masks.{IsMask};
-    ghost use Rattle.slot_grid.specs.Slots.{new_id, tried_id, AreEmpty, SameNew, SameTried, SameOtherNew, SameOtherTried};
+    ghost use Rattle.slot_grid.specs.Slots.{new_id, tried_id, renumbered, AreEmpty, SameNew, SameTried, SameOtherNew, SameOtherTried};
 
     /// Makes a grid whose slots are all empty.
     pub fn make(alloc: Global) -> Result<Grid, Memory>
@@ -123,6 +124,17 @@ impl Grid {
         );
     }
 
+    /// Replaces each id by the one that `ids` has at its position. An id past the end of `ids`
+    /// stays.
+    pub fn renumber(&mut self, ids: &[usize])
+        ensures new { (bucket slot : ℕ) → new_id self.new bucket slot
+            ≡ renumbered ids.now (new_id self.old bucket slot) }
+        ensures tried { (bucket slot : ℕ) → tried_id self.new bucket slot
+            ≡ renumbered ids.now (tried_id self.old bucket slot) }
+    {
+        renumber(&mut self.ids, ids);
+    }
+
     /// Returns which slots of a bucket of the new table are occupied: bit `s` is set exactly when
     /// slot `s` is. The bucket is below 1024.
     pub fn new_mask<L: Ledger>(&self, bucket: u16, steps: &mut Steps<L>) -> u64
@@ -187,6 +199,31 @@ fn put(
     let mask = with_bit(masks[bucket], slot, id.is_some());
     ids[index_of(bucket, slot)] = id;
     masks[bucket] = mask;
+}
+
+/// Replaces each id in a list of slots.
+fn renumber(slots: &mut Vec<Option<usize>>, ids: &[usize])
+    ensures { slots.new.items ≡ map (renumbered ids.now) slots.old.items }
+{
+    for index in 0..slots.len() {
+        slots[index] = renumbered(slots[index], ids);
+    }
+}
+
+/// Returns the id that replaces another.
+fn renumbered(slot: Option<usize>, ids: &[usize]) -> Option<usize>
+    ensures { result ≡ renumbered ids.now slot }
+{
+    match slot {
+        Some(id) => {
+            if id < ids.len() {
+                Some(ids[id])
+            } else {
+                Some(id)
+            }
+        }
+        None => None,
+    }
 }
 
 /// Returns the mask with a bit set or cleared.
