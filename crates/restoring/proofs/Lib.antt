@@ -1,0 +1,4 @@
+pub mod Plans
+pub mod Dropping
+pub mod Positions
+pub mod Scans

@@ -1,0 +1,4 @@
+pub mod Planned
+pub mod Positions
+pub mod Duplicates
+pub mod Scanned

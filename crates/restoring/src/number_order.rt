@@ -1,0 +1,72 @@
+ghost use Rattle.std.specs.Prelude.{◌≡◌, IfOk};
+ghost use Rattle.std.specs.List.{range_with_len};
+
+use crate::Memory;
+use std::alloc::Global;
+use std::marker::Model;
+
+/// Record numbers in an order, from which one is deleted by its number in constant time.
+#[derive(Drop)]
+pub struct NumberOrder {
+    numbers: Vec<usize>,
+    /// By number, the position of each that is in the order.
+    positions: Vec<usize>,
+}
+
+impl Model for NumberOrder {
+    ghost use Rattle.std.specs.Prelude.{ℕ, List};
+    ghost use Rattle.restoring.specs.Positions.{ArePositions};
+
+    ghost Value = { List ℕ };
+
+    ghost view = { λ o. o.numbers.items };
+
+    ghost invariant = { λ o. ArePositions o.numbers.items o.positions.items };
+}
+
+impl NumberOrder {
+    ghost use Rattle.std.specs.Prelude.{◌≡◌, ◌≢◌, ◌==◌, ℕ, IfOk, Contains};
+    ghost use Rattle.std.specs.List.{range_with_len, IsDistinct};
+    ghost use Rattle.peer_rec.specs.Deletion.{without_first};
+
+    /// Returns the numbers below `count` in increasing order.
+    pub fn up_to(alloc: Global, count: usize) -> Result<NumberOrder, Memory>
+        ensures { IfOk result (λ order. order ≡ range_with_len 0 count) }
+    {
+        let numbers = counted(alloc, count)?;
+        let positions = counted(alloc, count)?;
+        Ok(NumberOrder { numbers, positions })
+    }
+
+    /// Returns the numbers in their order.
+    pub fn numbers(&self) -> &[usize]
+        ensures { result.now ≡ self.now }
+    {
+        self.numbers.as_slice()
+    }
+
+    /// Deletes a number. The last one of the order moves to its position.
+    pub fn delete(&mut self, number: usize)
+        requires { Contains self.old number }
+        ensures deleted { self.new ≡ without_first (λ n. n == number) self.old }
+        ensures others { (other : ℕ) → other ≢ number → Contains self.old other → Contains self.new other }
+    {
+        let position = self.positions[number];
+        self.numbers.swap_remove(position);
+        if position < self.numbers.len() {
+            let moved = self.numbers[position];
+            self.positions[moved] = position;
+        }
+    }
+}
+
+/// Returns the numbers below `count`.
+fn counted(alloc: Global, count: usize) -> Result<Vec<usize>, Memory>
+    ensures { IfOk result (λ v. v.items ≡ range_with_len 0 count) }
+{
+    let mut numbers = Vec::new(alloc);
+    for number in 0..count {
+        numbers.push(number)?;
+    }
+    Ok(numbers)
+}

@@ -1,0 +1,262 @@
+ghost use Rattle.std.specs.Prelude.{◌≡◌, ◌<◌, ◌==◌, ◌||◌, length, not, true};
+ghost use Rattle.net_addr.specs.Ranges.{is_valid};
+ghost use Rattle.peer_rec.specs.Rec.{buckets_of};
+ghost use Rattle.table_machine.specs.Restoring.{record_of};
+
+use crate::Memory;
+use peer_rec::{Buckets, FileRec, Place, Rec};
+use placing::Placer;
+use slot_grid::Grid;
+use std::sync::ledger::Ledger;
+use steps::Steps;
+
+/// The buckets that list a record, at most (`ADDRMAN_NEW_BUCKETS_PER_ADDRESS` in addrman_impl.h of
+/// Bitcoin Core).
+const MAX_LISTS: usize = 8;
+
+/// Tables that are being restored, from which no record is deleted yet. The number of a record is
+/// its position, and each slot has the number of the record in it.
+#[derive(Drop)]
+pub struct Plan<'a> {
+    pub placer: Placer<'a>,
+    pub recs: Vec<Rec>,
+    /// How many of the records, the first ones, are of the new table.
+    pub news: usize,
+    pub grid: Grid,
+}
+
+impl<'a> Plan<'a> {
+    ghost use Rattle.std.specs.Prelude.{All, ◌≡◌, ◌+◌, ◌<◌, ◌≤◌, ◌^◌, Bool, true, false, length, slice_get, Some, OnOk, IsSomeAnd, vec_len};
+    ghost use Rattle.peer_rec.specs.Rec.{buckets_of};
+    ghost use Rattle.peer_rec.specs.declared.rec.Rec.{Rec};
+    ghost use Rattle.table_machine.specs.State.{State};
+    ghost use Rattle.table_machine.specs.Restoring.{give_if_empty, place_all, place_pair, with_all_new, with_all_tried, with_new, with_tried};
+    ghost use Rattle.restoring.specs.Planned.{HasSpace, IsPlan, give_listed, state_of};
+
+    /// Appends a record of the new table, in no bucket yet.
+    pub fn add_new(&mut self, rec: &FileRec) -> Result<(), Memory>
+        requires only { self.old.news ≡ length self.old.recs.items }
+        requires plan { IsPlan self.old.placer self.old.recs.items self.old.news self.old.grid }
+        ensures plan { OnOk result (IsPlan self.new.placer self.new.recs.items self.new.news self.new.grid) }
+        ensures state { OnOk result (state_of self.new.placer self.new.recs.items
+            ≡ with_new (state_of self.old.placer self.old.recs.items) rec.now) }
+        ensures placer { self.new.placer ≡ self.old.placer }
+        ensures only { OnOk result (self.new.news ≡ length self.new.recs.items) }
+        ensures count { OnOk result (self.new.news ≡ self.old.news + 1) }
+    {
+        let number = self.recs.len() as u64;
+        self.recs
+            .push(record_of(rec, number, Place::New(Buckets::none())))?;
+        self.news += 1;
+        Ok(())
+    }
+
+    /// Appends a record of the tried table, unless its address is not valid or its slot is
+    /// occupied.
+    pub fn add_tried<L: Ledger>(
+        &mut self,
+        rec: &FileRec,
+        steps: &mut Steps<L>,
+    ) -> Result<(), Memory>
+        requires plan { IsPlan self.old.placer self.old.recs.items self.old.news self.old.grid }
+        ensures plan { OnOk result (IsPlan self.new.placer self.new.recs.items self.new.news self.new.grid) }
+        ensures state { OnOk result (state_of self.new.placer self.new.recs.items
+            ≡ with_tried (state_of self.old.placer self.old.recs.items) rec.now) }
+        ensures placer { self.new.placer ≡ self.old.placer }
+        ensures news { self.new.news ≡ self.old.news }
+        ensures longer { length self.old.recs.items ≤ length self.new.recs.items }
+    {
+        if !rec.peer.addr.is_valid() {
+            return Ok(());
+        }
+        let bucket = self.placer.tried_bucket(&rec.peer);
+        let slot = self.placer.tried_slot(&rec.peer, bucket);
+        if self.grid.tried_at(bucket, slot, steps).is_some() {
+            return Ok(());
+        }
+        let number = self.recs.len();
+        self.recs.push(record_of(rec, number as u64, Place::Tried))?;
+        self.grid.set_tried(bucket, slot, Some(number), steps);
+        Ok(())
+    }
+
+    /// Appends records of the new table, one after another.
+    pub fn add_all_new(&mut self, recs: &[FileRec]) -> Result<(), Memory>
+        requires only { self.old.news ≡ length self.old.recs.items }
+        requires plan { IsPlan self.old.placer self.old.recs.items self.old.news self.old.grid }
+        ensures plan { OnOk result (IsPlan self.new.placer self.new.recs.items self.new.news self.new.grid) }
+        ensures state { OnOk result (state_of self.new.placer self.new.recs.items
+            ≡ with_all_new (state_of self.old.placer self.old.recs.items) recs.now) }
+        ensures placer { self.new.placer ≡ self.old.placer }
+        ensures count { OnOk result (self.new.news ≡ self.old.news + length recs.now) }
+    {
+        let mut rest = recs;
+        while let [rec, after @ ..] = rest {
+            self.add_new(rec)?;
+            rest = after;
+        }
+        Ok(())
+    }
+
+    /// Appends records of the tried table, one after another.
+    pub fn add_all_tried<L: Ledger>(
+        &mut self,
+        recs: &[FileRec],
+        steps: &mut Steps<L>,
+    ) -> Result<(), Memory>
+        requires plan { IsPlan self.old.placer self.old.recs.items self.old.news self.old.grid }
+        ensures plan { OnOk result (IsPlan self.new.placer self.new.recs.items self.new.news self.new.grid) }
+        ensures state { OnOk result (state_of self.new.placer self.new.recs.items
+            ≡ with_all_tried (state_of self.old.placer self.old.recs.items) recs.now) }
+        ensures placer { self.new.placer ≡ self.old.placer }
+        ensures news { self.new.news ≡ self.old.news }
+    {
+        let mut rest = recs;
+        while let [rec, after @ ..] = rest {
+            self.add_tried(rec, steps)?;
+            rest = after;
+        }
+        Ok(())
+    }
+
+    /// Places the records that the file's buckets list, pair by pair.
+    pub fn place_all<L: Ledger>(
+        &mut self,
+        are_used: bool,
+        listed: &[(u32, u32)],
+        steps: &mut Steps<L>,
+    )
+        requires plan { IsPlan self.old.placer self.old.recs.items self.old.news self.old.grid }
+        requires buckets { are_used ≡ true → All (λ pair. pair.0 < 1024) listed.now }
+        requires indexes { All (λ pair. pair.1 < self.old.news) listed.now }
+        ensures plan { IsPlan self.new.placer self.new.recs.items self.new.news self.new.grid }
+        ensures state { state_of self.new.placer self.new.recs.items
+            ≡ place_all are_used (state_of self.old.placer self.old.recs.items) listed.now }
+        ensures placer { self.new.placer ≡ self.old.placer }
+        ensures news { self.new.news ≡ self.old.news }
+    {
+        let mut rest = listed;
+        while let [pair, after @ ..] = rest {
+            self.place(are_used, pair.0, pair.1, steps);
+            rest = after;
+        }
+    }
+
+    /// Gives the record at an index a bucket if the slot there is empty, and returns whether it is.
+    fn give_if_empty<L: Ledger>(&mut self, index: usize, bucket: u16, steps: &mut Steps<L>) -> bool
+        requires plan { IsPlan self.old.placer self.old.recs.items self.old.news self.old.grid }
+        requires bucket { bucket < 1024 }
+        requires room { IsSomeAnd (slice_get self.old.recs.items index) HasSpace }
+        ensures plan { IsPlan self.new.placer self.new.recs.items self.new.news self.new.grid }
+        ensures given { (r : Rec) (other : State) → slice_get self.old.recs.items index ≡ Some r → result ≡ true
+            → state_of self.new.placer self.new.recs.items
+            ≡ give_if_empty (state_of self.old.placer self.old.recs.items) r bucket other }
+        ensures taken { (r : Rec) (other : State) → slice_get self.old.recs.items index ≡ Some r → result ≡ false
+            → give_if_empty (state_of self.old.placer self.old.recs.items) r bucket other ≡ other }
+        ensures state { (r : Rec) → slice_get self.old.recs.items index ≡ Some r
+            → state_of self.new.placer self.new.recs.items
+            ≡ give_if_empty (state_of self.old.placer self.old.recs.items) r bucket (state_of self.old.placer self.old.recs.items) }
+        ensures same { result ≡ false → self.new ≡ self.old }
+        ensures placer { self.new.placer ≡ self.old.placer }
+        ensures news { self.new.news ≡ self.old.news }
+        ensures length { length self.new.recs.items ≡ length self.old.recs.items }
+    {
+        let rec = &self.recs[index];
+        let slot = self.placer.new_slot(&rec.peer, bucket);
+        if self.grid.new_at(bucket, slot, steps).is_some() {
+            return false;
+        }
+        let rec = rec.with_bucket(bucket);
+        self.recs[index] = rec;
+        self.grid.set_new(bucket, slot, Some(index), steps);
+        true
+    }
+
+    /// Gives the record at an index the bucket that lists it in the file if the file's buckets are
+    /// used and the slot there is empty, and returns whether that is so.
+    fn give_listed<L: Ledger>(
+        &mut self,
+        are_used: bool,
+        index: usize,
+        bucket: u32,
+        steps: &mut Steps<L>,
+    ) -> bool
+        requires plan { IsPlan self.old.placer self.old.recs.items self.old.news self.old.grid }
+        requires bucket { are_used ≡ true → bucket < 1024 }
+        requires room { IsSomeAnd (slice_get self.old.recs.items index) HasSpace }
+        ensures plan { IsPlan self.new.placer self.new.recs.items self.new.news self.new.grid }
+        ensures given { (r : Rec) (other : State) → slice_get self.old.recs.items index ≡ Some r → result ≡ true
+            → state_of self.new.placer self.new.recs.items
+            ≡ give_listed are_used (state_of self.old.placer self.old.recs.items) r bucket other }
+        ensures taken { (r : Rec) (other : State) → slice_get self.old.recs.items index ≡ Some r → result ≡ false
+            → give_listed are_used (state_of self.old.placer self.old.recs.items) r bucket other ≡ other }
+        ensures same { result ≡ false → self.new ≡ self.old }
+        ensures placer { self.new.placer ≡ self.old.placer }
+        ensures news { self.new.news ≡ self.old.news }
+        ensures length { length self.new.recs.items ≡ length self.old.recs.items }
+    {
+        if !are_used {
+            return false;
+        }
+        self.give_if_empty(index, bucket as u16, steps)
+    }
+
+    /// Places the new record at an index, which a bucket of the file lists: in that bucket if the
+    /// file's buckets are used and its slot there is empty, else in the bucket of its own source if
+    /// the slot there is empty.
+    pub fn place<L: Ledger>(
+        &mut self,
+        are_used: bool,
+        bucket: u32,
+        index: u32,
+        steps: &mut Steps<L>,
+    )
+        requires plan { IsPlan self.old.placer self.old.recs.items self.old.news self.old.grid }
+        requires bucket { are_used ≡ true → bucket < 1024 }
+        requires index { index < self.old.news }
+        ensures plan { IsPlan self.new.placer self.new.recs.items self.new.news self.new.grid }
+        ensures state { state_of self.new.placer self.new.recs.items
+            ≡ place_pair are_used (state_of self.old.placer self.old.recs.items) (bucket, index) }
+        ensures placer { self.new.placer ≡ self.old.placer }
+        ensures news { self.new.news ≡ self.old.news }
+        ensures length { length self.new.recs.items ≡ length self.old.recs.items }
+    {
+        let index = index as usize;
+        let rec = &self.recs[index];
+        if !is_placeable(rec) {
+            return;
+        }
+        let (peer, source) = (rec.peer, rec.source);
+        if self.give_listed(are_used, index, bucket, steps) {
+            return;
+        }
+        let own = self.placer.new_bucket(&peer, &source);
+        let _ = self.give_if_empty(index, own, steps);
+    }
+}
+
+/// Returns `true` if a record's address is valid and fewer than eight buckets list it.
+fn is_placeable(rec: &Rec) -> bool
+    ensures value { result ≡ not (not (is_valid rec.now.peer.addr) || length (buckets_of rec.now) == 8) }
+    ensures room { result ≡ true → length (buckets_of rec.now) < 8 }
+{
+    rec.peer.addr.is_valid() && rec.place.bucket_count() < MAX_LISTS
+}
+
+/// Returns the record that is made of a file's record.
+pub(crate) fn record_of(rec: &FileRec, number: u64, place: Place) -> Rec
+    ensures { result ≡ record_of rec.now number place }
+{
+    Rec {
+        number,
+        peer: rec.peer,
+        source: rec.source,
+        time: rec.time,
+        services: rec.services,
+        last_success: rec.last_success,
+        last_try: 0,
+        last_count: 0,
+        attempts: rec.attempts,
+        place,
+    }
+}
