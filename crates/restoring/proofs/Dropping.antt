@@ -1,6 +1,7 @@
 -- Deletion of the records that are in no bucket, by rising number.
-use Rattle.std.proofs.Common.{◌≡◌, ◌≢◌, ℕ, ◌+◌, Bool, true, false, cond, not, ◌==◌, ◌&&◌, nat_lt, if◌then◌else◌, List, [], ◌∷◌, length, filter, Contains, Some, refl, sym, ap, ◌∙◌, arith, true≢false}
+use Rattle.std.proofs.Common.{◌≡◌, ◌≢◌, ℕ, ◌+◌, Bool, true, false, cond, not, ◌==◌, ◌&&◌, nat_lt, if◌then◌else◌, List, [], ◌∷◌, ◌++◌, length, filter, Contains, Some, refl, sym, ap, ◌∙◌, arith, true≢false}
 use Rattle.std.specs.Prelude.{slice_get}
+use Rattle.std.specs.List.{range_with_len}
 use Rattle.std.proofs.lemmas.Bool.{eq-eqb, ne_eqb}
 use Rattle.std.proofs.lemmas.Bool.Decides.{Decides-eqb}
 use Rattle.std.proofs.lemmas.Option.{slice_get_within, get_or_from_slice_get}
@@ -9,12 +10,12 @@ use Rattle.peer_rec.specs.Deletion.{without_first}
 use Rattle.peer_rec.specs.Rec.{buckets_of}
 use Rattle.peer_rec.specs.declared.rec.Rec.{Rec}
 use Rattle.slot_grid.specs.Slots.{Slots}
-use Rattle.table_machine.specs.State.{by_number}
+use Rattle.table_machine.specs.State.{State, by_number}
 use Rattle.table_machine.specs.Entries.{delete}
-use Rattle.table_machine.specs.Restoring.{drop_record}
+use Rattle.table_machine.specs.Restoring.{drop_all, drop_record}
 use Rattle.table_machine.proofs.Lists.{Contains-filter, Contains-from_filter, find_only}
 use Rattle.table_machine.proofs.Records.{same_record}
-use Rattle.table_machine.proofs.Rising.{filter_same_at}
+use Rattle.table_machine.proofs.Rising.{filter_same_at, filter_whole}
 use Rattle.restoring.specs.Planned.{IsPlan, dropping, state_of, stays}
 use Rattle.restoring.proofs.Plans.{number-is, rising}
 
@@ -102,3 +103,18 @@ module _ (places : Places) (recs : List Rec) (news : ℕ) (slots : Slots) (plan 
           by false h =
               let differs : q.number ≢ turn = λ is. true≢false (sym (eq-eqb q.number turn is) ∙ h) in
               ap (λ b. not (b && length (buckets_of q) == 0)) (sym (less-next q.number turn differs))
+
+-- before the first turn nothing is gone
+pub drop-start : (places : Places) (recs : List Rec) (order : List ℕ) → order ≡ range_with_len 0 (length recs) → dropping places recs 0 order ≡ state_of places recs
+drop-start places recs order is = λ i. record (state_of places recs) {
+  records = filter_whole (stays 0) recs (λ q c. ap (λ b. not (b && length (buckets_of q) == 0)) (late q)) i;
+  order = is i;
+}
+  where
+    late : (q : Rec) → nat_lt q.number 0 ≡ false
+    late q = grind arith
+
+-- the turn of one more number
+pub drop-more : (st : State) (ns : List ℕ) (n : ℕ) → drop_all st (ns ++ n ∷ []) ≡ drop_record (drop_all st ns) (by_number (drop_all st ns) n)
+drop-more st [] n = refl
+drop-more st (m ∷ ns) n = drop-more (drop_record st (by_number st m)) ns n

@@ -2,3 +2,4 @@ pub mod Plans
 pub mod Dropping
 pub mod Positions
 pub mod Scans
+pub mod Filled

@@ -2,3 +2,4 @@ pub mod Planned
 pub mod Positions
 pub mod Duplicates
 pub mod Scanned
+pub mod Filled

@@ -2,6 +2,7 @@
 #![tactic(auto)]
 
 mod duplicates;
+mod fill;
 mod memory;
 mod number_order;
 mod plan;

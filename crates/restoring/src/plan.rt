@@ -1,18 +1,21 @@
 ghost use Rattle.std.specs.Prelude.{◌≡◌, ◌<◌, ◌==◌, ◌||◌, length, not, true};
 ghost use Rattle.net_addr.specs.Ranges.{is_valid};
 ghost use Rattle.peer_rec.specs.Rec.{buckets_of};
-ghost use Rattle.table_machine.specs.Restoring.{record_of};
+ghost use Rattle.table_machine.specs.Restoring.{record_of, uses_buckets};
 
-use crate::Memory;
-use peer_rec::{Buckets, FileRec, Place, Rec};
+use crate::{Memory, NumberOrder};
+use peer_rec::{Buckets, FileRec, Place, Rec, Snapshot};
 use placing::Placer;
 use slot_grid::Grid;
+use std::alloc::Global;
 use std::sync::ledger::Ledger;
 use steps::Steps;
 
 /// The buckets that list a record, at most (`ADDRMAN_NEW_BUCKETS_PER_ADDRESS` in addrman_impl.h of
 /// Bitcoin Core).
 const MAX_LISTS: usize = 8;
+/// The buckets of the new table (`ADDRMAN_NEW_BUCKET_COUNT` in addrman_impl.h of Bitcoin Core).
+const NEW_BUCKETS: u32 = 1024;
 
 /// Tables that are being restored, from which no record is deleted yet. The number of a record is
 /// its position, and each slot has the number of the record in it.
@@ -26,12 +29,52 @@ pub struct Plan<'a> {
 }
 
 impl<'a> Plan<'a> {
-    ghost use Rattle.std.specs.Prelude.{All, ◌≡◌, ◌+◌, ◌<◌, ◌≤◌, ◌^◌, Bool, true, false, length, slice_get, Some, OnOk, IsSomeAnd, vec_len};
+    ghost use Rattle.std.specs.Prelude.{All, ◌≡◌, ◌≢◌, ℕ, ◌+◌, ◌<◌, ◌≤◌, ◌^◌, Bool, true, false, [], length, slice_get, Some, IfOk, OnOk, IsSomeAnd, Contains, vec_len};
+    ghost use Rattle.std.specs.List.{range_with_len};
     ghost use Rattle.peer_rec.specs.Rec.{buckets_of};
     ghost use Rattle.peer_rec.specs.declared.rec.Rec.{Rec};
-    ghost use Rattle.table_machine.specs.State.{State};
-    ghost use Rattle.table_machine.specs.Restoring.{give_if_empty, place_all, place_pair, with_all_new, with_all_tried, with_new, with_tried};
-    ghost use Rattle.restoring.specs.Planned.{HasSpace, IsPlan, give_listed, state_of};
+    ghost use Rattle.table_machine.specs.State.{State, by_number, empty_state};
+    ghost use Rattle.table_machine.specs.Restoring.{appended, drop_all, drop_record, give_if_empty, place_all, place_pair, uses_buckets, with_all_new, with_all_tried, with_new, with_tried};
+    ghost use Rattle.restoring.specs.Planned.{HasSpace, IsPlan, dropping, give_listed, state_of};
+
+    /// Makes a plan with no records.
+    pub fn empty(alloc: Global, placer: Placer<'a>) -> Result<Plan<'a>, Memory>
+        ensures plan { IfOk result (λ p. IsPlan p.placer p.recs.items p.news p.grid) }
+        ensures state { IfOk result (λ p. state_of p.placer p.recs.items ≡ empty_state placer.entry) }
+        ensures placer { IfOk result (λ p. p.placer ≡ placer.entry) }
+        ensures news { IfOk result (λ p. p.news ≡ 0) }
+        ensures recs { IfOk result (λ p. p.recs.items ≡ []) }
+    {
+        let grid = Grid::make(alloc)?;
+        let recs = Vec::new(alloc);
+        Ok(Plan {
+            placer,
+            recs,
+            news: 0,
+            grid,
+        })
+    }
+
+    /// Makes the plan of what is restored of a file, before records are deleted.
+    pub fn of<L: Ledger>(
+        alloc: Global,
+        snap: &Snapshot,
+        placer: Placer<'a>,
+        steps: &mut Steps<L>,
+    ) -> Result<Plan<'a>, Memory>
+        ensures plan { IfOk result (λ p. IsPlan p.placer p.recs.items p.news p.grid) }
+        ensures state { IfOk result (λ p. state_of p.placer p.recs.items
+            ≡ place_all (uses_buckets snap.now placer.entry) (appended snap.now placer.entry) snap.now.listed) }
+        ensures placer { IfOk result (λ p. p.placer ≡ placer.entry) }
+        ensures news { IfOk result (λ p. p.news ≡ length snap.now.new_recs) }
+    {
+        let are_used = uses_buckets(snap, &placer);
+        let mut plan = Plan::empty(alloc, placer)?;
+        plan.add_all_new(snap.new_recs())?;
+        plan.add_all_tried(snap.tried_recs(), steps)?;
+        plan.place_all(are_used, snap.listed(), steps);
+        Ok(plan)
+    }
 
     /// Appends a record of the new table, in no bucket yet.
     pub fn add_new(&mut self, rec: &FileRec) -> Result<(), Memory>
@@ -142,6 +185,35 @@ impl<'a> Plan<'a> {
         }
     }
 
+    /// Returns the numbers of the records that are left, in their order, after new records that no
+    /// bucket lists are deleted by rising number.
+    pub fn order(&self, alloc: Global) -> Result<NumberOrder, Memory>
+        requires plan { IsPlan self.now.placer self.now.recs.items self.now.news self.now.grid }
+        ensures order { IfOk result (λ order. dropping self.now.placer self.now.recs.items self.now.news order
+            ≡ drop_all (state_of self.now.placer self.now.recs.items) (range_with_len 0 self.now.news)) }
+    {
+        let mut order = NumberOrder::up_to(alloc, self.recs.len())?;
+        for number in 0..self.news {
+            self.drop_one(number, &mut order);
+        }
+        Ok(order)
+    }
+
+    /// Deletes a number from the order if no bucket lists its record.
+    fn drop_one(&self, number: usize, order: &mut NumberOrder)
+        requires plan { IsPlan self.now.placer self.now.recs.items self.now.news self.now.grid }
+        requires number { number < length self.now.recs.items }
+        requires there { Contains order.old number }
+        ensures state { dropping self.now.placer self.now.recs.items (number + 1) order.new
+            ≡ drop_record (dropping self.now.placer self.now.recs.items number order.old)
+            (by_number (dropping self.now.placer self.now.recs.items number order.old) number) }
+        ensures others { (other : ℕ) → other ≢ number → Contains order.old other → Contains order.new other }
+    {
+        if self.recs[number].place.bucket_count() == 0 {
+            order.delete(number);
+        }
+    }
+
     /// Gives the record at an index a bucket if the slot there is empty, and returns whether it is.
     fn give_if_empty<L: Ledger>(&mut self, index: usize, bucket: u16, steps: &mut Steps<L>) -> bool
         requires plan { IsPlan self.old.placer self.old.recs.items self.old.news self.old.grid }
@@ -233,6 +305,15 @@ impl<'a> Plan<'a> {
         let own = self.placer.new_bucket(&peer, &source);
         let _ = self.give_if_empty(index, own, steps);
     }
+}
+
+/// Returns `true` if the buckets of a file are used: there are as many as in these tables, and the
+/// asmap is the same.
+fn uses_buckets(snap: &Snapshot, placer: &Placer) -> bool
+    ensures used { result ≡ uses_buckets snap.now placer.now }
+    ensures buckets { result ≡ true → snap.now.bucket_count ≡ 1024 }
+{
+    snap.bucket_count() == NEW_BUCKETS && snap.sum() == placer.sum()
 }
 
 /// Returns `true` if a record's address is valid and fewer than eight buckets list it.
