@@ -1,5 +1,5 @@
 -- Deletion of a number from an order, by its position.
-use Rattle.std.proofs.Common.{◌≡◌, ℕ, suc, ◌+◌, ◌-◌, ◌<◌, Bool, true, false, List, [], ◌∷◌, length, get_or, set, take, Contains, Option, Some, None, position, swap_remove, refl, sym, ap, subst, ◌∙◌, inl, inr, ◌⊎◌, arith, true≢false, ◌==◌, not, if◌then◌else◌, lt-ltb}
+use Rattle.std.proofs.Common.{AllPairs, ◌≡◌, ◌≢◌, ℕ, suc, ◌+◌, ◌-◌, ◌<◌, Bool, true, false, List, [], ◌∷◌, length, get_or, set, take, Contains, Option, Some, None, position, swap_remove, refl, sym, ap, subst, ◌∙◌, inl, inr, ◌⊎◌, arith, true≢false, ◌==◌, not, if◌then◌else◌, lt-ltb}
 use Rattle.std.specs.List.{position_or_len, range_with_len}
 use Rattle.std.specs.Option.{option_map_or}
 use Rattle.std.proofs.lemmas.Bool.Decides.{Decides-eqb}
@@ -85,3 +85,14 @@ are-counted count numbers positions one two = record {
 
     number : (i : ℕ) → i < count → get_or numbers i 0 ≡ i
     number i inside = ap (λ ns. get_or ns i 0) one ∙ get_or-range_with_len 0 count i 0 inside ∙ plain i
+
+-- a number is not in the order twice
+pub distinct : (numbers positions : List ℕ) → ArePositions numbers positions → AllPairs (λ m n. m ≢ n) numbers
+distinct numbers positions are i j d before within same =
+    let left = at i (omega (arith, before)) in
+    let right = at j within in
+    let one : i ≡ j = sym left ∙ ap (λ n. get_or positions n 0) same ∙ right in
+    omega (arith, before, one)
+  where
+    at : (k : ℕ) → k < length numbers → get_or positions (get_or numbers k d) 0 ≡ k
+    at k inside = ap (λ n. get_or positions n 0) (get_or_default numbers k d 0 inside) ∙ are.back k inside

@@ -3,3 +3,4 @@ pub mod Positions
 pub mod Duplicates
 pub mod Scanned
 pub mod Filled
+pub mod Restored

@@ -25,8 +25,8 @@ impl Model for NumberOrder {
 }
 
 impl NumberOrder {
-    ghost use Rattle.std.specs.Prelude.{◌≡◌, ◌≢◌, ◌==◌, ℕ, IfOk, Contains};
-    ghost use Rattle.std.specs.List.{range_with_len, IsDistinct};
+    ghost use Rattle.std.specs.Prelude.{◌≡◌, ◌≢◌, ◌==◌, ℕ, AllPairs, IfOk, Contains};
+    ghost use Rattle.std.specs.List.{range_with_len};
     ghost use Rattle.peer_rec.specs.Deletion.{without_first};
 
     /// Returns the numbers below `count` in increasing order.
@@ -40,7 +40,8 @@ impl NumberOrder {
 
     /// Returns the numbers in their order.
     pub fn numbers(&self) -> &[usize]
-        ensures { result.now ≡ self.now }
+        ensures numbers { result.now ≡ self.now }
+        ensures distinct { AllPairs (λ m n. m ≢ n) result.now }
     {
         self.numbers.as_slice()
     }

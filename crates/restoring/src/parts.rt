@@ -1,0 +1,94 @@
+ghost use Rattle.std.specs.Prelude.{◌≡◌, IfOk, IfErr, None, [], length};
+ghost use Rattle.std.specs.List.{range_with_len};
+ghost use Rattle.table_machine.specs.Restoring.{drop_all, duplicate, restored};
+ghost use Rattle.table_machine.specs.Sound.{IsSound};
+ghost use Rattle.restoring.specs.Planned.{IsPlan, state_of};
+ghost use Rattle.restoring.specs.Restored.{ArePartsOf, IsCause};
+
+use crate::duplicates::duplicate;
+use crate::fill::fill;
+use crate::{Memory, Plan, RestoreFault};
+use peer_index::PeerIndex;
+use peer_rec::Snapshot;
+use placing::Placer;
+use slot_grid::Grid;
+use std::alloc::Global;
+use std::hash::BuildHasher;
+use std::sync::ledger::Ledger;
+use steps::Steps;
+
+/// What tables are made of: the key and the asmap, the slots, the records in their order, and the
+/// number of the next record.
+#[derive(Drop)]
+pub struct Parts<'a, H: BuildHasher> {
+    pub placer: Placer<'a>,
+    pub grid: Grid,
+    pub index: PeerIndex<H>,
+    pub next_number: u64,
+}
+
+/// Restores the tables of a file (`AddrManImpl::Unserialize` in addrman.cpp of Bitcoin Core), unless
+/// two of its valid records have one peer.
+pub fn restore<'a, H: BuildHasher + Drop, L: Ledger>(
+    alloc: Global,
+    snap: &Snapshot,
+    placer: Placer<'a>,
+    hasher: H,
+    steps: &mut Steps<L>,
+) -> Result<Parts<'a, H>, RestoreFault>
+    ensures sound { IfOk result (λ parts. IsSound (restored snap.now placer.entry)) }
+    ensures parts { IfOk result (λ parts. ArePartsOf (restored snap.now placer.entry) parts.grid parts.index) }
+    ensures placer { IfOk result (λ parts. parts.placer ≡ placer.entry) }
+    ensures next { IfOk result (λ parts. parts.next_number ≡ (restored snap.now placer.entry).next_number) }
+    ensures no_duplicate { IfOk result (λ parts. duplicate snap.now ≡ None) }
+    ensures cause { IfErr result (IsCause snap.now) }
+{
+    // Their clauses on the key say what holds of every placer and snapshot.
+    let _ = placer.key();
+    let _ = snap.key();
+    let mut index = PeerIndex::make(alloc, hasher);
+    let found = duplicate(snap, &mut index, steps)?;
+    if let Some(at) = found {
+        return Err(RestoreFault::Duplicate { index: at });
+    }
+    index.clear();
+    let plan = Plan::of(alloc, snap, placer, steps)?;
+    let parts = settle(alloc, plan, index, steps)?;
+    Ok(parts)
+}
+
+/// Deletes the records of a plan that are in no bucket, fills the index with the others, and puts
+/// their ids into the slots.
+fn settle<'a, H: BuildHasher + Drop, L: Ledger>(
+    alloc: Global,
+    plan: Plan<'a>,
+    index: PeerIndex<H>,
+    steps: &mut Steps<L>,
+) -> Result<Parts<'a, H>, Memory>
+    requires plan { IsPlan plan.placer plan.recs.items plan.news plan.grid }
+    requires sound { IsSound (drop_all (state_of plan.placer plan.recs.items) (range_with_len 0 plan.news)) }
+    requires empty { index ≡ [] }
+    ensures parts { IfOk result (λ parts. ArePartsOf
+        (drop_all (state_of plan.entry.placer plan.entry.recs.items) (range_with_len 0 plan.entry.news)) parts.grid parts.index) }
+    ensures placer { IfOk result (λ parts. parts.placer ≡ plan.entry.placer) }
+    ensures next { IfOk result (λ parts. parts.next_number ≡ length plan.entry.recs.items) }
+{
+    let order = plan.order(alloc)?;
+    let mut index = index;
+    let ids = fill(
+        alloc,
+        plan.recs.as_slice(),
+        order.numbers(),
+        &mut index,
+        steps,
+    )?;
+    let next_number = plan.recs.len() as u64;
+    let mut grid = plan.grid;
+    grid.renumber(ids.as_slice());
+    Ok(Parts {
+        placer: plan.placer,
+        grid,
+        index,
+        next_number,
+    })
+}

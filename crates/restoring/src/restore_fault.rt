@@ -1,0 +1,22 @@
+ghost use Rattle.std.specs.Prelude.{◌≡◌};
+ghost use Rattle.restoring.specs.declared.restore_fault.RestoreFault.TheVariants.{Memory};
+
+use crate::Memory;
+
+/// Why tables are not restored.
+#[derive(Clone, Copy, Debug, PartialEq, Eq)]
+pub enum RestoreFault {
+    /// A valid record has the peer of an earlier valid one. Records are counted from 0, the new ones
+    /// first.
+    Duplicate { index: u32 },
+    /// Out of memory.
+    Memory,
+}
+
+impl From<Memory> for RestoreFault {
+    ghost from_gives = { λ _ e. e ≡ Memory };
+
+    fn from(_: Memory) -> RestoreFault {
+        RestoreFault::Memory
+    }
+}
