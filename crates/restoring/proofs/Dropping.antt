@@ -1,5 +1,5 @@
 -- Deletion of the records that are in no bucket, by rising number.
-use Rattle.std.proofs.Common.{◌≡◌, ◌≢◌, ℕ, ◌+◌, Bool, true, false, cond, not, ◌==◌, ◌&&◌, nat_lt, if◌then◌else◌, List, [], ◌∷◌, ◌++◌, length, filter, Contains, Option, Some, None, refl, sym, ap, ◌∙◌, arith, true≢false}
+use Rattle.std.proofs.Common.{◌≡◌, ◌≢◌, ℕ, ◌+◌, Bool, true, false, cond, not, ◌==◌, ◌&&◌, nat_lt, if◌then◌else◌, List, [], ◌∷◌, ◌++◌, length, filter, Contains, Some, refl, sym, ap, ◌∙◌, arith, true≢false}
 use Rattle.std.specs.Prelude.{slice_get}
 use Rattle.std.specs.List.{range_with_len}
 use Rattle.std.proofs.lemmas.Bool.{eq-eqb, ne_eqb}
@@ -118,16 +118,3 @@ drop-start places recs order is = λ i. record (state_of places recs) {
 pub drop-more : (st : State) (ns : List ℕ) (n : ℕ) → drop_all st (ns ++ n ∷ []) ≡ drop_record (drop_all st ns) (by_number (drop_all st ns) n)
 drop-more st [] n = refl
 drop-more st (m ∷ ns) n = drop-more (drop_record st (by_number st m)) ns n
-
-drop-next : (st : State) (o : Option Rec) → (drop_record st o).next_number ≡ st.next_number
-drop-next st None = refl
-drop-next st (Some r) = by (length (buckets_of r) == 0)
-  where
-    by : (b : Bool) → (if b then delete st r else st).next_number ≡ st.next_number
-    by true = refl
-    by false = refl
-
--- the next number stays
-pub drop-all-next : (st : State) (ns : List ℕ) → (drop_all st ns).next_number ≡ st.next_number
-drop-all-next st [] = refl
-drop-all-next st (n ∷ ns) = drop-all-next (drop_record st (by_number st n)) ns ∙ drop-next st (by_number st n)

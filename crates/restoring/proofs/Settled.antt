@@ -1,20 +1,19 @@
 -- The index and the grid of a plan whose records were deleted belong to its state.
-use Rattle.std.proofs.Common.{◌≡◌, ◌≢◌, ℕ, zero, suc, ◌+◌, ◌<◌, ◌≤◌, Bool, true, false, not, ◌&&◌, ◌==◌, nat_lt, List, [], ◌∷◌, length, get_or, map, filter, find, All, Contains, Option, Some, None, refl, sym, ap, subst, ◌∙◌, ⊎_elim, arith, true≢false}
-use Rattle.std.specs.Prelude.{slice_get, AllPairs, IsPermutation}
+use Rattle.std.proofs.Common.{◌≡◌, ◌≢◌, ℕ, ◌<◌, ◌≤◌, Bool, true, false, not, ◌&&◌, ◌==◌, nat_lt, List, [], ◌∷◌, length, get_or, map, filter, find, All, Contains, Option, Some, None, refl, sym, ap, subst, ◌∙◌, arith, true≢false}
+use Rattle.std.specs.Prelude.{AllPairs, IsPermutation}
 use Rattle.std.proofs.lemmas.Bool.{ltb-true, ne_eqb}
 use Rattle.std.specs.Option.{option_map}
-use Rattle.std.specs.List.{list_any}
 use Rattle.std.proofs.lemmas.List.{get_or-map, length-map}
-use Rattle.std.proofs.lemmas.List.Elements.{All-tail, Contains-get_or}
+use Rattle.std.proofs.lemmas.List.Elements.{Contains-get_or}
 use Rattle.std.proofs.lemmas.List.Sorted.{Contains-permutation, IsPermutation-map, IsPermutation-sym}
 use Rattle.std.proofs.lemmas.Option.{get_or_from_slice_get}
-use Rattle.placing.specs.Places.{Places, new_slot}
-use Rattle.peer_rec.specs.Rec.{buckets_of, buckets_by, is_tried, tried_by}
+use Rattle.placing.specs.Places.{Places}
+use Rattle.peer_rec.specs.Rec.{buckets_of, is_tried}
 use Rattle.peer_rec.specs.declared.rec.Rec.{Rec}
 use Rattle.slot_grid.specs.Slots.{Slots, new_id, tried_id, renumbered}
-use Rattle.peer_index.specs.Order.{Item, Order, IsOrder, rec_of, records}
+use Rattle.peer_index.specs.Order.{Item, IsOrder, rec_of, records}
 use Rattle.peer_index.proofs.Kept.{rec_of-at}
-use Rattle.table_machine.specs.State.{State, is_new_at, is_tried_at, new_rec_at, tried_rec_at}
+use Rattle.table_machine.specs.State.{State, is_new_at, is_tried_at}
 use Rattle.table_machine.specs.Sound.{IsSound}
 use Rattle.table_machine.proofs.Counts.{few_in_order}
 use Rattle.table_machine.proofs.Lists.{Contains-filter, Contains-from_filter, Contains-from_map, Contains-head, Contains-map, Contains-tail, find-None, find-Some, find_none_from, find_only}
@@ -149,8 +148,12 @@ module _ (places : Places) (recs : List Rec) (news : ℕ) (slots : Slots) (plan 
 
     pub parts-of : (after : Slots) → ((bucket slot : ℕ) → new_id after bucket slot ≡ renumbered ids (new_id slots bucket slot))
         → ((bucket slot : ℕ) → tried_id after bucket slot ≡ renumbered ids (tried_id slots bucket slot))
-        → ArePartsOf (dropping places recs news order) after (filled ids recs order)
+        → ArePartsOf (dropping places recs news order) places after (filled ids recs order) (length recs)
     parts-of after news_are trieds_are = record {
+      places = refl;
+      next = refl;
+      nothing_waits = refl;
+      last_good = refl;
       index = is-order;
       recs =
           subst (IsPermutation (filter (stays news) recs)) (sym (records-are order))

@@ -1,5 +1,6 @@
 -- An index and a grid that belong to a state.
-use Rattle.std.specs.Prelude.{◌≡◌, ℕ, ◌<◌, map, Option, Some, None, IsPermutation}
+use Rattle.std.specs.Prelude.{◌≡◌, ℕ, ◌<◌, [], map, Option, Some, None, IsPermutation}
+use Rattle.placing.specs.Places.{Places}
 use Rattle.peer_rec.specs.Snapshot.{Snapshot}
 use Rattle.peer_rec.specs.declared.rec.Rec.{Rec}
 use Rattle.slot_grid.specs.Slots.{Slots, new_id, tried_id}
@@ -15,8 +16,13 @@ rec_by order None = None
 rec_by order (Some id) = rec_of order id
 
 -- The index has the records of the state, in the same order. Each slot of the grid has the id of the
--- record that occupies it, and none exactly if it is empty.
-pub record ArePartsOf (st : State) (slots : Slots) (order : Order) : Type 0 where
+-- record that occupies it, and none exactly if it is empty. Key, asmap and the next number are the
+-- state's, there is no collision, and no peer was reached yet.
+pub record ArePartsOf (st : State) (placer : Places) (slots : Slots) (order : Order) (next_free : ℕ) : Type 0 where
+  pub places : st.places ≡ placer
+  pub next : st.next_number ≡ next_free
+  pub nothing_waits : st.collisions ≡ []
+  pub last_good : st.last_good ≡ 1
   pub index : IsOrder order
   pub recs : IsPermutation st.records (records order)
   pub numbers : map (λ r. r.number) (records order) ≡ st.order

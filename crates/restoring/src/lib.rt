@@ -1,4 +1,4 @@
-//! A plan of restored tables.
+//! What tables are made of that are restored from a file of peers.
 #![tactic(auto)]
 
 mod duplicates;
@@ -10,7 +10,7 @@ mod plan;
 mod restore_fault;
 
 pub use memory::Memory;
-pub use number_order::NumberOrder;
+pub(crate) use number_order::NumberOrder;
 pub use parts::{Parts, restore};
-pub use plan::Plan;
+pub(crate) use plan::Plan;
 pub use restore_fault::RestoreFault;

@@ -7,7 +7,7 @@ use std::marker::Model;
 
 /// Record numbers in an order, from which one is deleted by its number in constant time.
 #[derive(Drop)]
-pub struct NumberOrder {
+pub(crate) struct NumberOrder {
     numbers: Vec<usize>,
     /// By number, the position of each that is in the order.
     positions: Vec<usize>,
@@ -30,7 +30,7 @@ impl NumberOrder {
     ghost use Rattle.peer_rec.specs.Deletion.{without_first};
 
     /// Returns the numbers below `count` in increasing order.
-    pub fn up_to(alloc: Global, count: usize) -> Result<NumberOrder, Memory>
+    pub(crate) fn up_to(alloc: Global, count: usize) -> Result<NumberOrder, Memory>
         ensures { IfOk result (λ order. order ≡ range_with_len 0 count) }
     {
         let numbers = counted(alloc, count)?;
@@ -39,7 +39,7 @@ impl NumberOrder {
     }
 
     /// Returns the numbers in their order.
-    pub fn numbers(&self) -> &[usize]
+    pub(crate) fn numbers(&self) -> &[usize]
         ensures numbers { result.now ≡ self.now }
         ensures distinct { AllPairs (λ m n. m ≢ n) result.now }
     {
@@ -47,7 +47,7 @@ impl NumberOrder {
     }
 
     /// Deletes a number. The last one of the order moves to its position.
-    pub fn delete(&mut self, number: usize)
+    pub(crate) fn delete(&mut self, number: usize)
         requires { Contains self.old number }
         ensures deleted { self.new ≡ without_first (λ n. n == number) self.old }
         ensures others { (other : ℕ) → other ≢ number → Contains self.old other → Contains self.new other }

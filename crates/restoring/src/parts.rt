@@ -37,9 +37,8 @@ pub fn restore<'a, H: BuildHasher + Drop, L: Ledger>(
     steps: &mut Steps<L>,
 ) -> Result<Parts<'a, H>, RestoreFault>
     ensures sound { IfOk result (λ parts. IsSound (restored snap.now placer.entry)) }
-    ensures parts { IfOk result (λ parts. ArePartsOf (restored snap.now placer.entry) parts.grid parts.index) }
-    ensures placer { IfOk result (λ parts. parts.placer ≡ placer.entry) }
-    ensures next { IfOk result (λ parts. parts.next_number ≡ (restored snap.now placer.entry).next_number) }
+    ensures parts { IfOk result (λ parts. ArePartsOf (restored snap.now placer.entry)
+        parts.placer parts.grid parts.index parts.next_number) }
     ensures no_duplicate { IfOk result (λ parts. duplicate snap.now ≡ None) }
     ensures cause { IfErr result (IsCause snap.now) }
 {
@@ -68,10 +67,9 @@ fn settle<'a, H: BuildHasher + Drop, L: Ledger>(
     requires plan { IsPlan plan.placer plan.recs.items plan.news plan.grid }
     requires sound { IsSound (drop_all (state_of plan.placer plan.recs.items) (range_with_len 0 plan.news)) }
     requires empty { index ≡ [] }
-    ensures parts { IfOk result (λ parts. ArePartsOf
-        (drop_all (state_of plan.entry.placer plan.entry.recs.items) (range_with_len 0 plan.entry.news)) parts.grid parts.index) }
-    ensures placer { IfOk result (λ parts. parts.placer ≡ plan.entry.placer) }
-    ensures next { IfOk result (λ parts. parts.next_number ≡ length plan.entry.recs.items) }
+    ensures { IfOk result (λ parts. ArePartsOf
+        (drop_all (state_of plan.entry.placer plan.entry.recs.items) (range_with_len 0 plan.entry.news))
+        parts.placer parts.grid parts.index parts.next_number) }
 {
     let order = plan.order(alloc)?;
     let mut index = index;

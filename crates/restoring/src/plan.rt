@@ -20,12 +20,12 @@ const NEW_BUCKETS: u32 = 1024;
 /// Tables that are being restored, from which no record is deleted yet. The number of a record is
 /// its position, and each slot has the number of the record in it.
 #[derive(Drop)]
-pub struct Plan<'a> {
-    pub placer: Placer<'a>,
-    pub recs: Vec<Rec>,
+pub(crate) struct Plan<'a> {
+    pub(crate) placer: Placer<'a>,
+    pub(crate) recs: Vec<Rec>,
     /// How many of the records, the first ones, are of the new table.
-    pub news: usize,
-    pub grid: Grid,
+    pub(crate) news: usize,
+    pub(crate) grid: Grid,
 }
 
 impl<'a> Plan<'a> {
@@ -38,7 +38,7 @@ impl<'a> Plan<'a> {
     ghost use Rattle.restoring.specs.Planned.{HasSpace, IsPlan, dropping, give_listed, state_of};
 
     /// Makes a plan with no records.
-    pub fn empty(alloc: Global, placer: Placer<'a>) -> Result<Plan<'a>, Memory>
+    pub(crate) fn empty(alloc: Global, placer: Placer<'a>) -> Result<Plan<'a>, Memory>
         ensures plan { IfOk result (λ p. IsPlan p.placer p.recs.items p.news p.grid) }
         ensures state { IfOk result (λ p. state_of p.placer p.recs.items ≡ empty_state placer.entry) }
         ensures placer { IfOk result (λ p. p.placer ≡ placer.entry) }
@@ -56,7 +56,7 @@ impl<'a> Plan<'a> {
     }
 
     /// Makes the plan of what is restored of a file, before records are deleted.
-    pub fn of<L: Ledger>(
+    pub(crate) fn of<L: Ledger>(
         alloc: Global,
         snap: &Snapshot,
         placer: Placer<'a>,
@@ -77,7 +77,7 @@ impl<'a> Plan<'a> {
     }
 
     /// Appends a record of the new table, in no bucket yet.
-    pub fn add_new(&mut self, rec: &FileRec) -> Result<(), Memory>
+    pub(crate) fn add_new(&mut self, rec: &FileRec) -> Result<(), Memory>
         requires only { self.old.news ≡ length self.old.recs.items }
         requires plan { IsPlan self.old.placer self.old.recs.items self.old.news self.old.grid }
         ensures plan { OnOk result (IsPlan self.new.placer self.new.recs.items self.new.news self.new.grid) }
@@ -96,7 +96,7 @@ impl<'a> Plan<'a> {
 
     /// Appends a record of the tried table, unless its address is not valid or its slot is
     /// occupied.
-    pub fn add_tried<L: Ledger>(
+    pub(crate) fn add_tried<L: Ledger>(
         &mut self,
         rec: &FileRec,
         steps: &mut Steps<L>,
@@ -124,7 +124,7 @@ impl<'a> Plan<'a> {
     }
 
     /// Appends records of the new table, one after another.
-    pub fn add_all_new(&mut self, recs: &[FileRec]) -> Result<(), Memory>
+    pub(crate) fn add_all_new(&mut self, recs: &[FileRec]) -> Result<(), Memory>
         requires only { self.old.news ≡ length self.old.recs.items }
         requires plan { IsPlan self.old.placer self.old.recs.items self.old.news self.old.grid }
         ensures plan { OnOk result (IsPlan self.new.placer self.new.recs.items self.new.news self.new.grid) }
@@ -142,7 +142,7 @@ impl<'a> Plan<'a> {
     }
 
     /// Appends records of the tried table, one after another.
-    pub fn add_all_tried<L: Ledger>(
+    pub(crate) fn add_all_tried<L: Ledger>(
         &mut self,
         recs: &[FileRec],
         steps: &mut Steps<L>,
@@ -163,7 +163,7 @@ impl<'a> Plan<'a> {
     }
 
     /// Places the records that the file's buckets list, pair by pair.
-    pub fn place_all<L: Ledger>(
+    pub(crate) fn place_all<L: Ledger>(
         &mut self,
         are_used: bool,
         listed: &[(u32, u32)],
@@ -187,7 +187,7 @@ impl<'a> Plan<'a> {
 
     /// Returns the numbers of the records that are left, in their order, after new records that no
     /// bucket lists are deleted by rising number.
-    pub fn order(&self, alloc: Global) -> Result<NumberOrder, Memory>
+    pub(crate) fn order(&self, alloc: Global) -> Result<NumberOrder, Memory>
         requires plan { IsPlan self.now.placer self.now.recs.items self.now.news self.now.grid }
         ensures order { IfOk result (λ order. dropping self.now.placer self.now.recs.items self.now.news order
             ≡ drop_all (state_of self.now.placer self.now.recs.items) (range_with_len 0 self.now.news)) }
@@ -276,7 +276,7 @@ impl<'a> Plan<'a> {
     /// Places the new record at an index, which a bucket of the file lists: in that bucket if the
     /// file's buckets are used and its slot there is empty, else in the bucket of its own source if
     /// the slot there is empty.
-    pub fn place<L: Ledger>(
+    pub(crate) fn place<L: Ledger>(
         &mut self,
         are_used: bool,
         bucket: u32,

@@ -1,12 +1,10 @@
-use Rattle.std.proofs.Common.{rules, ◌≡◌, ◌∙◌, ap, sym, subst, length, None}
+use Rattle.std.proofs.Common.{rules, ◌≡◌, ◌∙◌, sym, subst, None}
 use Rattle.std.specs.List.{range_with_len}
-use Rattle.table_machine.specs.State.{State}
 use Rattle.table_machine.specs.Sound.{IsSound}
-use Rattle.table_machine.specs.Restoring.{drop_all, duplicate, restored}
+use Rattle.table_machine.specs.Restoring.{drop_all, restored}
 use Rattle.table_machine.proofs.RestoredSound.{restored_sound}
 use Rattle.restoring.specs.Planned.{state_of}
 use Rattle.restoring.proofs.Causes.{cause-memory, file-of}
-use Rattle.restoring.proofs.Dropping.{drop-all-next}
 use Rattle.restoring.proofs.parts.restore.Goals as goal
 
 pub returns-in_err-found-clause-cause : goal.returns-in_err-found-clause-cause
@@ -31,11 +29,3 @@ returns-clause-sound g c =
     let snap = c.args.snap.now in
     let none : c.in_ok-found.found ≡ None = search rules in
     restored_sound snap c.args.placer (file-of snap c.key-2.ensures.snapshot (c.in_ok-found.ensures.fit none)) c.key.ensures.places (sym c.in_ok-found.ensures.found ∙ none)
-
-pub returns-clause-next : goal.returns-clause-next
-returns-clause-next g c =
-    let p = c.in_ok-plan.plan in
-    let st = state_of p.placer p.recs.items in
-    c.in_ok-parts.ensures.next
-    ∙ sym (drop-all-next st (range_with_len 0 p.news))
-    ∙ (λ i. (drop_all (c.in_ok-plan.ensures.state i) (range_with_len 0 (c.in_ok-plan.ensures.news i))).next_number)

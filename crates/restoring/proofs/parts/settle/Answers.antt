@@ -1,4 +1,4 @@
-use Rattle.std.proofs.Common.{◌≡◌, ◌≢◌, ◌∙◌, ◌<◌, ◌≤◌, ℕ, All, AllPairs, List, ap, sym, subst, length, arith}
+use Rattle.std.proofs.Common.{rules, ◌≡◌, ◌∙◌, ◌<◌, ℕ, All, List, ap, sym, subst, length, arith}
 use Rattle.std.specs.List.{range_with_len}
 use Rattle.peer_rec.specs.declared.rec.Rec.{Rec}
 use Rattle.slot_grid.specs.Slots.{new_id, renumbered, tried_id}
@@ -32,8 +32,8 @@ fill-requires-clause-few g c =
     let low = few p.placer p.recs.items p.news p.grid c.requires.plan c.numbers.result.now sound in
     omega (arith, low)
 
-pub returns-clause-parts : goal.returns-clause-parts
-returns-clause-parts g c =
+pub returns : goal.returns
+returns g c =
     let p = c.args.plan in
     let ns = c.numbers.result.now in
     let after = drop_all (state_of p.placer p.recs.items) (range_with_len 0 p.news) in
@@ -42,5 +42,8 @@ returns-clause-parts g c =
     let parts = parts-of p.placer p.recs.items p.news p.grid c.requires.plan ns sound c.in_ok-ids.ids.items (subst IsOrder index c.in_ok-ids.ensures.order) c.renumber.new.self
     (subst (λ (xs : List ℕ). (bucket slot : ℕ) → new_id c.renumber.new.self bucket slot ≡ renumbered xs (new_id p.grid bucket slot)) c.as_slice-2.ensures.value c.renumber.ensures.new)
     (subst (λ (xs : List ℕ). (bucket slot : ℕ) → tried_id c.renumber.new.self bucket slot ≡ renumbered xs (tried_id p.grid bucket slot)) c.as_slice-2.ensures.value c.renumber.ensures.tried) in
-    subst (λ (o : Order). ArePartsOf after c.renumber.new.self o) (sym index)
-    (subst (λ (st : State). ArePartsOf st c.renumber.new.self (filled c.in_ok-ids.ids.items p.recs.items ns)) (ap (dropping p.placer p.recs.items p.news) c.numbers.ensures.numbers ∙ c.in_ok-order.ensures.order) parts)
+    let long : length p.recs.items ≡ c.len-next_number.result = search rules in
+    subst (λ (n : ℕ). ArePartsOf after p.placer c.renumber.new.self c.fill.new.index n) long
+    (subst (λ (o : Order). ArePartsOf after p.placer c.renumber.new.self o (length p.recs.items)) (sym index)
+    (subst (λ (st : State). ArePartsOf st p.placer c.renumber.new.self (filled c.in_ok-ids.ids.items p.recs.items ns) (length p.recs.items))
+    (ap (dropping p.placer p.recs.items p.news) c.numbers.ensures.numbers ∙ c.in_ok-order.ensures.order) parts))
