@@ -21,9 +21,9 @@ use steps::Steps;
 /// clock: a call that needs the time takes it.
 #[derive(Drop)]
 pub struct Tables<'a, H: BuildHasher> {
-    store: Store<'a, H>,
+    pub(crate) store: Store<'a, H>,
     /// The buckets of the last source: no part of the state.
-    reach: Reach,
+    pub(crate) reach: Reach,
 }
 
 impl<'a, H: BuildHasher> Model for Tables<'a, H> {

@@ -1,0 +1,50 @@
+use crate::reach::Reach;
+use crate::{Store, Tables};
+use arrayvec::ArrayVec;
+use peer_rec::Snapshot;
+use placing::Placer;
+use restoring::{RestoreFault, restore};
+use std::alloc::Global;
+use std::hash::BuildHasher;
+use std::sync::ledger::Ledger;
+use steps::Steps;
+
+impl<'a, H: BuildHasher + Drop> Tables<'a, H> {
+    ghost use Rattle.std.specs.Prelude.{◌≡◌, IfOk, IfErr, None};
+    ghost use Rattle.table_machine.specs.Restoring.{duplicate, restored};
+    ghost use Rattle.table_machine.specs.Sound.{IsSound};
+    ghost use Rattle.restoring.specs.Restored.{IsCause};
+
+    /// Makes the tables that a file of peers keeps, by a placer with the key of the file. Tables
+    /// with another asmap place the records anew. `Duplicate` is returned if two valid records have
+    /// one peer (`AddrManImpl::Unserialize` in addrman.cpp of Bitcoin Core).
+    pub fn restore<L: Ledger>(
+        alloc: Global,
+        snap: &Snapshot,
+        placer: Placer<'a>,
+        hasher: H,
+        steps: &mut Steps<L>,
+    ) -> Result<Tables<'a, H>, RestoreFault>
+        requires key { placer.key ≡ snap.now.key }
+        ensures state { IfOk result (λ t. t ≡ restored snap.now placer.entry) }
+        ensures sound { IfOk result IsSound }
+        ensures no_duplicate { IfOk result (λ t. duplicate snap.now ≡ None) }
+        ensures cause { IfErr result (IsCause snap.now) }
+    {
+        let parts = restore(alloc, snap, placer, hasher, steps)?;
+        let store = Store {
+            alloc,
+            placer: parts.placer,
+            grid: parts.grid,
+            index: parts.index,
+            clashes: ArrayVec::new(),
+            waiters: ArrayVec::new(),
+            last_good: 1,
+            next_number: parts.next_number,
+        };
+        Ok(Tables {
+            store,
+            reach: Reach::none(),
+        })
+    }
+}
