@@ -1,0 +1,12 @@
+//! A log for trials that looks like a part of a node's life: its lines follow from a number alone.
+#![tactic(auto)]
+
+mod generated;
+mod kind;
+mod line;
+mod memory;
+mod position;
+mod print;
+
+pub use generated::{Gen, MAX_LINES};
+pub use memory::Memory;

@@ -1,0 +1,159 @@
+ghost use Rattle.std.specs.Prelude.{◌≡◌, ◌≤◌, ◌+◌, ◌++◌, codes, decimal, length, All, IfOk, OnOk, vec_len};
+ghost use Rattle.net_addr.specs.declared.net.Net.TheVariants.{Ipv4, Ipv6};
+ghost use Rattle.gen_load.specs.Inside.{payload_text};
+ghost use Rattle.gen_load.specs.Log.{clock_line, addr_line, message_line, peer_line, select_line, clash_line, line_of, drawn_line, draw_entries, past_entries};
+
+use crate::Memory;
+use crate::kind::{Kind, kind_of};
+use crate::position::Position;
+use crate::print::{put_number, put_peer_between, put_text};
+use addr_codecs::write_addr;
+use net_addr::{Entry, NetAddr, put_addr};
+use std::alloc::{AllocError, Global};
+
+/// The number of random words that a `select` line gives.
+const SELECT_WORDS: u64 = 300;
+
+/// The seeds, and the words of `clash` lines, are below this.
+const SEEDS: u64 = 1 << 32;
+
+/// Appends the next line without its line feed.
+pub fn put_line(position: &mut Position, out: &mut Vec<u8>) -> Result<(), Memory>
+    requires past_day { 86400 ≤ position.old.time }
+    requires room { position.old.time + 600 ≤ 4294967295 }
+    ensures text { OnOk result (out.new.items ≡ out.old.items ++ (drawn_line position.old).text) }
+    ensures after { OnOk result (position.new ≡ (drawn_line position.old).after) }
+{
+    let number = position.draw(16);
+    put_by_kind(kind_of(number), position, out)
+}
+
+/// Appends a line of this kind without its line feed.
+fn put_by_kind(kind: Kind, position: &mut Position, out: &mut Vec<u8>) -> Result<(), Memory>
+    requires past_day { 86400 ≤ position.old.time }
+    requires room { position.old.time + 600 ≤ 4294967295 }
+    ensures text { OnOk result (out.new.items ≡
+        out.old.items ++ (line_of kind position.old).text) }
+    ensures after { OnOk result (position.new ≡ (line_of kind position.old).after) }
+{
+    match kind {
+        Kind::Now => put_now(position, out),
+        Kind::Addr => put_message(position, out),
+        Kind::Good => put_peer_line(b"good ", position, b" test", out),
+        Kind::Attempt => put_peer_line(b"attempt ", position, b" count", out),
+        Kind::Connected => put_peer_line(b"connected ", position, b"", out),
+        Kind::Select => put_select(position, out),
+        Kind::Clash => put_clash(position, out),
+        Kind::Resolve => put_text(b"resolve", out),
+    }
+}
+
+/// Lets the clock go on by up to ten minutes, and appends the line that sets it.
+fn put_now(position: &mut Position, out: &mut Vec<u8>) -> Result<(), Memory>
+    requires { position.old.time + 600 ≤ 4294967295 }
+    ensures text { OnOk result (out.new.items ≡ out.old.items ++ (clock_line position.old).text) }
+    ensures after { OnOk result (position.new ≡ (clock_line position.old).after) }
+{
+    let growth = 1 + position.draw(600) as u32;
+    position.time += growth;
+    put_number(b"now ", u64::from(position.time), out)
+}
+
+/// Appends a line with a peer.
+fn put_peer_line(
+    word: &[u8],
+    position: &mut Position,
+    after: &[u8],
+    out: &mut Vec<u8>,
+) -> Result<(), Memory>
+    ensures text { OnOk result (out.new.items ≡
+        out.old.items ++ (peer_line word.now after.now position.old).text) }
+    ensures after { OnOk result (position.new ≡
+        (peer_line word.now after.now position.old).after) }
+{
+    let peer = position.draw_peer();
+    put_peer_between(word, &peer, after, out)
+}
+
+/// Appends a `select` line.
+fn put_select(position: &mut Position, out: &mut Vec<u8>) -> Result<(), Memory>
+    ensures text { OnOk result (out.new.items ≡ out.old.items ++ (select_line position.old).text) }
+    ensures after { OnOk result (position.new ≡ (select_line position.old).after) }
+{
+    let seed = position.draw(SEEDS);
+    put_number(b"select any all @", seed, out)?;
+    put_number(b":", SELECT_WORDS, out)
+}
+
+/// Appends a `clash` line.
+fn put_clash(position: &mut Position, out: &mut Vec<u8>) -> Result<(), Memory>
+    ensures text { OnOk result (out.new.items ≡ out.old.items ++ (clash_line position.old).text) }
+    ensures after { OnOk result (position.new ≡ (clash_line position.old).after) }
+{
+    let word = position.draw(SEEDS);
+    put_number(b"clash ", word, out)
+}
+
+/// Appends an `addr` line: its source, one to four entries, and a seed for a word each.
+fn put_message(position: &mut Position, out: &mut Vec<u8>) -> Result<(), Memory>
+    requires { 86400 ≤ position.old.time }
+    ensures text { OnOk result (out.new.items ≡ out.old.items ++ (addr_line position.old).text) }
+    ensures after { OnOk result (position.new ≡ (addr_line position.old).after) }
+{
+    let source = position.draw_peer();
+    let count = 1 + position.draw(4);
+    let entries = draw_entries(position, count, *out.allocator())?;
+    let seed = position.draw(SEEDS);
+    put_addr_line(&source.addr, entries.as_slice(), seed, out)
+}
+
+/// Returns this many entries of a message.
+fn draw_entries(
+    position: &mut Position,
+    count: u64,
+    alloc: Global,
+) -> Result<Vec<Entry>, AllocError>
+    requires { 86400 ≤ position.old.time }
+    ensures entries { IfOk result (λ es. es.items ≡ draw_entries count position.old) }
+    ensures count { IfOk result (λ es. vec_len es ≡ count) }
+    ensures networks { IfOk result (λ es. All (λ e. e.peer.addr.net ≡ Ipv4) es.items) }
+    ensures after { OnOk result (position.new ≡ past_entries count position.old) }
+{
+    let mut entries = Vec::new(alloc);
+    for _ in 0..count {
+        entries.push(position.draw_entry())?;
+    }
+    Ok(entries)
+}
+
+/// Appends an `addr` line of these entries.
+fn put_addr_line(
+    source: &NetAddr,
+    entries: &[Entry],
+    seed: u64,
+    out: &mut Vec<u8>,
+) -> Result<(), Memory>
+    requires count { length entries.now ≤ 4 }
+    requires networks { All (λ e. e.peer.addr.net ≡ Ipv4) entries.now }
+    ensures { OnOk result (out.new.items ≡
+        out.old.items ++ message_line source.now entries.now seed) }
+{
+    put_text(b"addr ", out)?;
+    put_addr(source, out)?;
+    put_text(b" ", out)?;
+    put_payload(entries, out)?;
+    put_number(b" @", seed, out)?;
+    put_number(b":", entries.len() as u64, out)
+}
+
+/// Appends the `addr` message of the entries, in hexadecimal digits.
+fn put_payload(entries: &[Entry], out: &mut Vec<u8>) -> Result<(), Memory>
+    requires count { length entries.now ≤ 4 }
+    requires networks { All (λ e. e.peer.addr.net ≡ Ipv4) entries.now }
+    ensures { OnOk result (out.new.items ≡ out.old.items ++ payload_text entries.now) }
+{
+    let alloc = *out.allocator();
+    let payload = write_addr(alloc, entries)?;
+    let digits = hex::encode(alloc, payload.items())?;
+    put_text(digits.as_bytes(), out)
+}
