@@ -1,0 +1,10 @@
+pub mod Apart
+mod Conns
+pub mod Tokens
+mod Served
+pub mod LineLaws
+pub mod Fits
+mod Examples
+pub mod Events
+pub mod Entries
+pub mod Messages

@@ -1,0 +1,7 @@
+pub mod Tokens
+pub mod State
+pub mod Steps
+pub mod Apart
+pub mod Lines
+pub mod Calls
+pub mod Inside

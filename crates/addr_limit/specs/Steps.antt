@@ -1,0 +1,115 @@
+-- What a line may say, and what it does. The answer to a request about a number depends on the
+-- clock and on the connection of this number, and on nothing else.
+use Rattle.std.specs.Prelude.{ℕ, List, [], ◌∷◌, ◌++◌, length, map, Bool, false, ◌==◌, nat_lt, Option, Some, None, Result, Ok, Err, codes, decimal, if◌then◌else◌}
+use Rattle.std.specs.List.{filter_map, zip}
+use Rattle.hex.specs.Hex.{encode_lower}
+use Rattle.net_addr.specs.Address.{Address, number_of}
+use Rattle.net_addr.specs.Text.{addr_text}
+use Rattle.net_addr.specs.declared.entry.Entry.{Entry}
+use Rattle.addr_codecs.specs.Texts.{message_text, addrv2_entry_text}
+use Rattle.addr_codecs.specs.declared.fault.MsgFault.{MsgFault}
+use Rattle.log_lines.specs.Replies.{fault_text, numbers_text}
+use Rattle.addr_limit.specs.declared.conn.Conn.{Conn}
+use Rattle.addr_limit.specs.Tokens.{refill, after_entries, intake, after_getaddr}
+use Rattle.addr_limit.specs.State.{State, find_conn, set_conn}
+
+-- A request about a number: its connection opens, closes, or is sent getaddr; a message comes from
+-- it, whose payload reads as entries or has a fault, with random words; its counts are printed.
+pub data Request : Type 0 where
+  Open : (addr : Address) → (unlimited : Bool) → Request
+  Close : Request
+  GetAddr : Request
+  Message : (read : Result (List (Option Entry)) MsgFault) → (words : List ℕ) → Request
+  Stat : Request
+
+-- what a line says: the time, a request about a number, or nothing
+pub data Event : Type 0 where
+  Now : (time : ℕ) → Event
+  Of : (number : ℕ) → (request : Request) → Event
+  Nothing : Event
+
+-- the text of the output line, and the connection of the number afterwards, if there is one
+pub record Outcome : Type 0 where
+  pub text : List ℕ
+  pub conn : Option Conn
+
+abbrev pub outcome : List ℕ → Option Conn → Outcome
+outcome text conn = record { text = text; conn = conn }
+
+-- a comment: a word, a number, and the rest
+abbrev pub comment : List ℕ → ℕ → List ℕ → List ℕ
+comment word number said = codes "# " ++ word ++ codes " " ++ decimal number ++ said
+
+abbrev pub new_conn : ℕ → Address → Bool → ℕ → Conn
+new_conn number addr unlimited now = record {
+  number = number;
+  addr = addr;
+  tenths = 10;
+  moment = now;
+  asked = false;
+  unlimited = unlimited;
+  processed = 0;
+  limited = 0;
+}
+
+-- an entry with its word, unless it is skipped or internal
+abbrev pub for_output : Option Entry × ℕ → Option (Entry × ℕ)
+for_output (None, word) = None
+for_output (Some entry, word) = if number_of entry.peer.addr.net == 6 then None else Some (entry, word)
+
+-- the line for these entries and their words, which says so if there are none
+abbrev pub message_line : Conn → List (Entry × ℕ) → List ℕ
+message_line c [] = comment (codes "from") c.number (codes " none")
+message_line c (p ∷ ps) =
+    codes "addrv2 " ++ addr_text c.addr ++ codes " "
+    ++ encode_lower (message_text addrv2_entry_text (map (λ q. q.0) (p ∷ ps))) ++ codes " " ++ numbers_text (map (λ q. q.1) (p ∷ ps))
+
+-- a message whose entries are paired with their words
+abbrev pub take_entries : Conn → List (Option Entry × ℕ) → Outcome
+take_entries c pairs = outcome (message_line c (filter_map for_output (intake c pairs))) (Some (after_entries c pairs))
+
+abbrev pub take_message : ℕ → Conn → Result (List (Option Entry)) MsgFault → List ℕ → Outcome
+take_message now c (Err fault) words = outcome (comment (codes "from") c.number (codes " refused " ++ fault_text fault)) (Some c)
+take_message now c (Ok entries) words =
+    if nat_lt (length words) (length entries)
+    then outcome (comment (codes "from") c.number (codes " short " ++ decimal (length entries) ++ codes " " ++ decimal (length words))) (Some c)
+    else take_entries (refill now c) (zip entries words)
+
+abbrev pub stat_text : Conn → List ℕ
+stat_text c = codes " processed " ++ decimal c.processed ++ codes " limited " ++ decimal c.limited ++ codes " tenths " ++ decimal c.tenths
+
+-- a request about a number that has a connection
+abbrev pub serve_conn : ℕ → Conn → Request → Outcome
+serve_conn now c (Open addr unlimited) = outcome (comment (codes "open") c.number (codes " already")) (Some c)
+serve_conn now c Close = outcome (comment (codes "close") c.number []) None
+serve_conn now c GetAddr = outcome (comment (codes "getaddr") c.number (if c.asked then codes " already" else [])) (Some (after_getaddr c))
+serve_conn now c (Message read words) = take_message now c read words
+serve_conn now c Stat = outcome (comment (codes "stat") c.number (stat_text c)) (Some c)
+
+-- a request about a number that has none
+abbrev pub serve_none : ℕ → ℕ → Request → Outcome
+serve_none now number (Open addr unlimited) = outcome (comment (codes "open") number []) (Some (new_conn number addr unlimited now))
+serve_none now number Close = outcome (comment (codes "close") number (codes " unknown")) None
+serve_none now number GetAddr = outcome (comment (codes "getaddr") number (codes " unknown")) None
+serve_none now number (Message read words) = outcome (comment (codes "from") number (codes " unknown")) None
+serve_none now number Stat = outcome (comment (codes "stat") number (codes " unknown")) None
+
+-- the answer to a request, by what is found at its number
+abbrev pub serve : ℕ → ℕ → Option Conn → Request → Outcome
+serve now number None request = serve_none now number request
+serve now number (Some c) request = serve_conn now c request
+
+abbrev pub serve_in : State → ℕ → Request → Outcome
+serve_in st number request = serve st.clock number (find_conn number st.conns) request
+
+-- the state after a line
+abbrev pub after : State → Event → State
+after st (Now time) = record st { clock = time }
+after st (Of number request) = record st { conns = set_conn number (serve_in st number request).conn st.conns }
+after st Nothing = st
+
+-- the output line: the line itself, unless it is a request
+abbrev pub output : State → List ℕ → Event → List ℕ
+output st line (Now time) = line
+output st line (Of number request) = (serve_in st number request).text
+output st line Nothing = line
