@@ -6,7 +6,7 @@ use Rattle.gen_load.specs.declared.position.Position.{Position}
 use Rattle.gen_load.specs.Inside.{lines_left, line_with, position_with, IsInTime}
 use Rattle.gen_load.specs.Log.{draw, past, past_entries, line_of, kind_of, drawn_line, drawn_lines, next_line, lines_after}
 
-past-time : (at : Position) → (past at).time ≡ at.time
+pub past-time : (at : Position) → (past at).time ≡ at.time
 unfolding past
 past-time at = refl
 
@@ -38,7 +38,7 @@ line_of-time kind.Select at = stays _ _ (past-time at)
 line_of-time kind.Clash at = stays _ _ (past-time at)
 line_of-time kind.Resolve at = stays _ _ refl
 
-drawn_line-time : (at : Position) → GoesOn at.time (drawn_line at).after.time
+pub drawn_line-time : (at : Position) → GoesOn at.time (drawn_line at).after.time
 unfolding drawn_line
 drawn_line-time at =
     let on = line_of-time (kind_of (draw 16 at)) (past at) in

@@ -3,10 +3,12 @@
 
 mod generated;
 mod kind;
+mod law;
 mod line;
 mod memory;
 mod position;
 mod print;
 
 pub use generated::{Gen, MAX_LINES};
+pub use law::lines_spell_commands;
 pub use memory::Memory;
