@@ -1,0 +1,14 @@
+//! The list of banned subnets that a node keeps in `banlist.json`.
+#![tactic(auto)]
+
+mod law;
+mod mask;
+mod print;
+mod read;
+mod subnet;
+
+pub use law::texts_have_one_meaning;
+pub use net_addr::Memory;
+pub use print::put_subnet;
+pub use read::parse_subnet;
+pub use subnet::Subnet;

@@ -1,0 +1,112 @@
+ghost use Rattle.std.specs.Prelude.{◌≡◌, ◌≢◌, ℕ, List, ◌∷◌, ◌++◌, ◌≤◌, Some, None, All, IfSome, IfNone, length, codes, true, false};
+ghost use Rattle.net_addr.specs.Address.{Address, IsAddress, length_of};
+ghost use Rattle.net_addr.specs.declared.net.Net.{Net};
+ghost use Rattle.net_addr.specs.declared.net.Net.TheVariants.{Ipv6};
+ghost use Rattle.ban_list.specs.Subnet.{IsProper, IsMasked, IsWhole, width};
+ghost use Rattle.ban_list.specs.SubnetText.{IsIpText, IsLength, IsMaskedFrom, IsSubnetText, IsWholeSubnet};
+ghost use Rattle.ban_list.specs.declared.subnet.Subnet.{Subnet};
+
+use crate::Subnet;
+use crate::mask::cleared;
+use net_addr::{Net, NetAddr, around_last, parse_addr, parse_ipv4, parse_ipv6, parse_number};
+
+/// Parses a subnet: an IPv4 address, an IPv6 address without brackets, either of them with a slash
+/// and a length in bits, or a whole address of Tor v3, I2P or CJDNS. Bits after the length are
+/// cleared.
+pub fn parse_subnet(text: &[u8]) -> Option<Subnet>
+    ensures found { IfSome result (IsSubnetText text.now) }
+    ensures proper { IfSome result IsProper }
+    ensures only { (s : Subnet) → IsSubnetText text.now s → result ≡ Some s }
+{
+    if let Some(subnet) = parse_whole(text) {
+        return Some(subnet);
+    }
+    match around_last(text, b'/') {
+        None => {
+            let addr = parse_ip(text)?;
+            masked(&addr, width(addr.net()))
+        }
+        Some((ip, digits)) => {
+            let addr = parse_ip(ip)?;
+            let len = parse_number(digits, width(addr.net()).into())?;
+            masked(&addr, len as u16)
+        }
+    }
+}
+
+/// Parses an address of a network without subnets.
+fn parse_whole(text: &[u8]) -> Option<Subnet>
+    ensures found { IfSome result (IsWholeSubnet text.now) }
+    ensures proper { IfSome result IsProper }
+    ensures only { (s : Subnet) → IsWholeSubnet text.now s → result ≡ Some s }
+{
+    let addr = parse_addr(text)?;
+    if !is_whole(addr.net()) {
+        return None;
+    }
+    Some(Subnet {
+        addr,
+        len: width(addr.net()),
+    })
+}
+
+/// Parses an IPv4 address, or an IPv6 address without brackets.
+fn parse_ip(text: &[u8]) -> Option<NetAddr>
+    ensures found { IfSome result (λ a. IsIpText a.net text.now a) }
+    ensures address { IfSome result IsAddress }
+    ensures only { (net : Net) (a : Address) → IsIpText net text.now a → result ≡ Some a }
+{
+    if let Some(bits) = parse_ipv4(text) {
+        return Some(NetAddr::ipv4(bits.to_be_bytes()));
+    }
+    let bits = parse_ipv6(text)?;
+    let addr = NetAddr::from_v1(&bits.to_be_bytes());
+    if is_ipv6(addr.net()) {
+        Some(addr)
+    } else {
+        None
+    }
+}
+
+/// Returns the subnet of the first `len` bits of an address, or `None` if what is left of an IPv6
+/// address is the old form of another address.
+fn masked(addr: &NetAddr, len: u16) -> Option<Subnet>
+    requires network { IsMasked addr.now.net }
+    requires len { len ≤ width addr.now.net }
+    ensures found { IfSome result (IsMaskedFrom addr.now len) }
+    ensures proper { IfSome result IsProper }
+    ensures only { (s : Subnet) → IsMaskedFrom addr.now len s → result ≡ Some s }
+{
+    let bytes = cleared(addr.bytes(), len);
+    let addr = NetAddr::of(addr.net(), bytes.as_slice())?;
+    Some(Subnet { addr, len })
+}
+
+/// Returns `true` for the network of IPv6 addresses.
+fn is_ipv6(net: Net) -> bool
+    ensures yes { result ≡ true → net ≡ Ipv6 }
+    ensures no { result ≡ false → net ≢ Ipv6 }
+{
+    matches!(net, Net::Ipv6)
+}
+
+/// Returns `true` for the networks whose addresses are banned whole.
+fn is_whole(net: Net) -> bool
+    ensures yes { result ≡ true → IsWhole net }
+    ensures no { result ≡ false → IsWhole net → ⊥ }
+{
+    matches!(net, Net::Onion | Net::I2p | Net::Cjdns)
+}
+
+/// Returns how many bits an address of the network has.
+fn width(net: Net) -> u16
+    ensures { result ≡ width net }
+{
+    match net {
+        Net::Unroutable => 0,
+        Net::Ipv4 => 32,
+        Net::Ipv6 | Net::Cjdns => 128,
+        Net::Onion | Net::I2p => 256,
+        Net::Internal => 80,
+    }
+}
