@@ -1,2 +1,3 @@
 pub mod Subnet
 pub mod SubnetText
+pub mod Bans

@@ -13,16 +13,16 @@ pub struct Subnet {
 
 impl Subnet {
     ghost use Rattle.std.specs.Prelude.{◌≡◌};
-    ghost use Rattle.ban_list.specs.Subnet.{IsProper, covers};
+    ghost use Rattle.ban_list.specs.Subnet.{covers};
 
     /// Returns `true` if the address is of the subnet's network and has its first bits
     /// (`CSubNet::Match` in netaddress.cpp of Bitcoin Core).
     pub fn covers(&self, addr: &NetAddr) -> bool
-        requires { IsProper self.now }
         ensures { result ≡ covers self.now addr.now }
     {
         let base = self.addr.bytes();
         let bytes = addr.bytes();
-        self.addr.net().number() == addr.net().number() && addr.is_in_range(base, self.len.into())
+        let len = usize::from(self.len).min(8 * base.len());
+        self.addr.net().number() == addr.net().number() && addr.is_in_range(base, len)
     }
 }

@@ -1,0 +1,32 @@
+use crate::Subnet;
+use net_addr::NetAddr;
+
+/// A subnet that is banned for a time, in seconds since 1970 (`CBanEntry` in net_types.h of Bitcoin
+/// Core).
+#[derive(Clone, Copy, Debug, PartialEq, Eq)]
+pub struct Ban {
+    pub subnet: Subnet,
+    /// When the ban was made.
+    pub created: u32,
+    /// When it is over.
+    pub until: u32,
+}
+
+impl Ban {
+    ghost use Rattle.std.specs.Prelude.{◌≡◌};
+    ghost use Rattle.ban_list.specs.Bans.{is_of, stops};
+
+    /// Returns `true` if the ban is of the subnet.
+    pub(crate) fn is_of(&self, subnet: &Subnet) -> bool
+        ensures { result ≡ is_of subnet.now self.now }
+    {
+        self.subnet == *subnet
+    }
+
+    /// Returns `true` if the ban covers the address and is not over.
+    pub(crate) fn stops(&self, addr: &NetAddr, now: u32) -> bool
+        ensures { result ≡ stops addr.now now self.now }
+    {
+        self.subnet.covers(addr) && now < self.until
+    }
+}

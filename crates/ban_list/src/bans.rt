@@ -1,0 +1,100 @@
+use crate::edits::{drop_over, drop_subnet, index_of, put_longer};
+use crate::{Ban, Memory, Subnet};
+use net_addr::NetAddr;
+use std::alloc::Global;
+use std::marker::Model;
+
+/// The most bans of a list. This limit is our own.
+pub const MAX_BANS: usize = 100_000;
+
+/// What became of a ban.
+#[derive(Clone, Copy, Debug, PartialEq, Eq)]
+pub enum BanReply {
+    /// The subnet is banned until the new time.
+    Added,
+    /// The subnet was banned for as long already.
+    Kept,
+    /// The list has no room.
+    Full,
+}
+
+/// A list of bans of distinct subnets. A new one goes last.
+#[derive(Debug, Drop)]
+pub struct Bans {
+    bans: Vec<Ban>,
+}
+
+impl Model for Bans {
+    ghost use Rattle.std.specs.Prelude.{List};
+    ghost use Rattle.ban_list.specs.Bans.{AreBans};
+    ghost use Rattle.ban_list.specs.declared.ban.Ban.{Ban};
+
+    ghost Value = { List Ban };
+
+    ghost view = { λ b. b.bans.items };
+
+    ghost invariant = { λ b. AreBans b.bans.items };
+}
+
+impl Bans {
+    ghost use Rattle.std.specs.Prelude.{◌≡◌, [], IfOk, OnOk, OnErr, option_map, find, is_some, filter};
+    ghost use Rattle.ban_list.specs.Subnet.{IsProper};
+    ghost use Rattle.ban_list.specs.Bans.{AreBans, after_ban, ban_of, listed, without, stops};
+    ghost use Rattle.ban_list.specs.declared.bans.TheConstants.{MAX_BANS};
+
+    /// Makes an empty list.
+    pub fn make(alloc: Global) -> Bans
+        ensures { result ≡ [] }
+    {
+        Bans {
+            bans: Vec::new(alloc),
+        }
+    }
+
+    /// Returns the bans in their order.
+    pub fn bans(&self) -> &[Ban]
+        ensures value { result.now ≡ self.now }
+        ensures sound { AreBans self.now }
+    {
+        &self.bans
+    }
+
+    /// Bans a subnet from `now` until a time, and drops the bans that are over. If the subnet is
+    /// listed for less long, its ban gets the new times and keeps its position; otherwise a new ban
+    /// goes last. If memory runs out, the list is unchanged.
+    pub fn ban(&mut self, subnet: Subnet, now: u32, until: u32) -> Result<BanReply, Memory>
+        requires { IsProper subnet }
+        ensures reply { IfOk result (λ reply.
+            reply ≡ (after_ban (ban_of subnet now until) self.old).reply) }
+        ensures bans { OnOk result (self.new ≡ (after_ban (ban_of subnet now until) self.old).bans) }
+        ensures err { OnErr result (self.new ≡ self.old) }
+        ensures max_bans { MAX_BANS ≡ 100000 }
+    {
+        self.bans.reserve(1)?;
+        drop_over(&mut self.bans, now);
+        let ban = Ban {
+            subnet,
+            created: now,
+            until,
+        };
+        Ok(put_longer(&mut self.bans, ban))
+    }
+
+    /// Takes the ban of a subnet out of the list. Returns `false` if the subnet is not listed.
+    pub fn unban(&mut self, subnet: &Subnet) -> bool
+        ensures found { result ≡ is_some (listed subnet.now self.old) }
+        ensures bans { self.new ≡ without subnet.now self.old }
+    {
+        let found = index_of(&self.bans, subnet) < self.bans.len();
+        drop_subnet(&mut self.bans, subnet);
+        found
+    }
+
+    /// Returns the first ban of the list that covers the address and is not over, or `None` if
+    /// there is none (`BanMan::IsBanned` in banman.cpp of Bitcoin Core). It looks at each ban.
+    pub fn covering(&self, addr: &NetAddr, now: u32) -> Option<&Ban>
+        ensures { option_map (λ ban. ban.now) result ≡ find (stops addr.now now) self.now }
+    {
+        self.bans.as_slice().iter().find(|ban| ban.stops(addr, now))
+    }
+}
