@@ -10,4 +10,4 @@ mod saving;
 pub use load_fault::LoadFault;
 pub use loading::load;
 pub use save_job::SaveJob;
-pub use saving::{publish, write_temp};
+pub use saving::{publish, save, write_temp};

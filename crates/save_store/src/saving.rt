@@ -55,3 +55,20 @@ pub fn publish<F: Folder>(folder: &mut F, temp: Name, name: Name) -> Result<(), 
 {
     put_in_place(folder, temp, name)
 }
+
+/// Puts a file with these bytes in the place of another: writes it under its temporary name, makes
+/// it safe, and renames it. Until `Ok`, a crash leaves the file as it was or the new one; afterwards
+/// always the new one.
+#[tactic(auto, using(crate::proofs::Published::not_written, crate::proofs::Published::written_first, crate::proofs::Temp::some_safe))]
+pub fn save<F: Folder>(folder: &mut F, temp: Name, name: Name, bytes: &[u8]) -> Result<(), Failed>
+    requires apart { temp ≢ name }
+    ensures any_moment { Always (F.past folder.old) (F.past folder.new)
+        (PublishesOrNot temp name bytes.now) }
+    ensures stored { OnOk result
+        (IfSome (F.past folder.new) (λ p. IsStored name bytes.now p.now)) }
+    ensures cause { OnErr result (Rose (F.faults folder.old) (F.faults folder.new)) }
+    ensures never_falls { F.faults folder.old ≤ F.faults folder.new }
+{
+    write_temp(folder, temp, bytes)?;
+    publish(folder, temp, name)
+}

@@ -1,4 +1,4 @@
-use Rattle.std.proofs.Common.{◌++◌, ◌≡◌, ◌∙◌, ap, sym, take, drop, length}
+use Rattle.std.proofs.Common.{◌++◌, ◌∙◌, ap, sym, take, drop, length}
 use Rattle.std.proofs.lemmas.List.{take_rest}
 use Rattle.save_store.specs.Job.{Job}
 use Rattle.save_store.proofs.Jobs.{next_same, reads_as, stepped}

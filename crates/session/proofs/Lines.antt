@@ -1,0 +1,60 @@
+-- What a line of a log has done.
+use Rattle.std.proofs.Common.{◌≡◌, ℕ, List, [], ◌++◌, inl, inr, refl, sym, ap, subst, append-nil}
+use Rattle.std.specs.Prelude.{Option, None, Result, Ok, Err}
+use Rattle.host_io.specs.Lines.{IsPassedOver}
+use Rattle.host_io.specs.Past.{Always, Past}
+use Rattle.log_lines.specs.Replies.{reply_text}
+use Rattle.log_lines.specs.Spelling.{Spells}
+use Rattle.log_lines.specs.declared.command.Command.{Command}
+use Rattle.log_lines.specs.declared.fault.LineFault.{LineFault}
+use Rattle.log_lines.specs.declared.reply.Reply.{Reply}
+use Rattle.session.specs.Folders.{AtMost, IsEvent, IsEventLine, MayPublish, Turn, published}
+use Rattle.session.specs.Inside.{Carried}
+use Rattle.session.specs.State.{LeavesPart, State, file_now}
+use Rattle.session.proofs.Effects.{may_publish}
+
+-- a line that is passed over
+pub passed : (old : State) (line items : List ℕ) (after : Option Past) (f : ℕ) → IsPassedOver line
+    → (text : List ℕ) × Turn old line text old after f f × (items ≡ items ++ text)
+passed old line items after f is = ([], record { ended = None; step = inl (is, refl, refl, refl); has = tt }, sym (append-nil items))
+
+-- memory ran out after a command was carried out
+carried_part : (old new : State) (line : List ℕ) (asked : Command) (answer : Reply) (after : Option Past) (f g : ℕ)
+    → Spells line asked → Carried old asked answer new after f g → LeavesPart old line new
+carried_part old new line asked answer after f g spelled done =
+    inr (inl (reply_text answer, done.ended, inr (asked, answer, spelled, done.step, refl)))
+
+-- what a crash may leave after it, where the state before it is known by its parts
+pub moments : (parts old : State) (line : List ℕ) (asked : Command) (before after : Option Past) → parts ≡ old → Spells line asked
+    → Always before after (AtMost (published (file_now parts) parts.job asked))
+    → (file : Option (List ℕ)) × MayPublish old line file × Always before after (AtMost file)
+moments parts old line asked before after same spelled always =
+    subst (λ s. (file : Option (List ℕ)) × MayPublish s line file × Always before after (AtMost file)) same
+    (published (file_now parts) parts.job asked, may_publish parts line asked _ spelled refl, always)
+
+-- a line that is no event leaves the folder as it was
+pub still : (parts old : State) (line : List ℕ) (asked : Command) (before after : Option Past) → parts ≡ old → Spells line asked
+    → (¬ IsEvent parts.job asked → after ≡ before) → ¬ IsEventLine old line → after ≡ before
+still parts old line asked before after same spelled by =
+    subst (λ s. ¬ IsEventLine s line → after ≡ before) same (λ no. by (λ event. no (asked, spelled, event)))
+
+pub part : (parts old new : State) (line : List ℕ) (asked : Command) (answer : Reply) (after : Option Past) (f g : ℕ) → parts ≡ old
+    → Spells line asked → Carried parts asked answer new after f g → LeavesPart old line new
+part parts old new line asked answer after f g same spelled done =
+    subst (λ s. LeavesPart s line new) same (carried_part parts new line asked answer after f g spelled done)
+
+fault_in : {T : Type 0} → LineFault → Result T LineFault → LineFault
+fault_in fault (Ok x) = fault
+fault_in fault (Err e) = e
+
+-- a fault of one result is that of another
+pub same_fault : {A B : Type 0} (e f : LineFault) → ◌≡◌ {A = Result A LineFault} (Err e) (Err f)
+    → ◌≡◌ {A = Result B LineFault} (Err e) (Err f)
+unfolding fault_in
+same_fault {A = A} {B = B} e f is = ap fault_of (ap (fault_in e) is)
+  where
+    fault_of : LineFault → Result B LineFault
+    fault_of x = Err x
+
+pub no_fault : {A : Type 0} (x : A) (f : LineFault) → ◌≡◌ {A = Result A LineFault} (Ok x) (Err f) → ⊥
+no_fault x f e = cc e

@@ -1,0 +1,67 @@
+-- The save events of a log: what each answers, and the open save after it. An event is done, or it
+-- fails.
+use Rattle.std.specs.Prelude.{◌≡◌, ℕ, List, [], ◌++◌, length, take, drop, Bool, true, false, Option, Some, None}
+use Rattle.host_io.specs.declared.name.Name.TheVariants.{PeersTemp}
+use Rattle.log_lines.specs.declared.command.Command.{Command}
+use Rattle.log_lines.specs.declared.command.Command.TheVariants as command
+use Rattle.log_lines.specs.declared.reply.Reply.{Reply}
+use Rattle.log_lines.specs.declared.reply.Reply.TheVariants as reply
+use Rattle.save_store.specs.Job.{Job, whole}
+
+-- a save that ended, with its file
+pub data Ended : Type 0 where
+  Saved : (file : List ℕ) → Ended
+  NotSaved : (file : List ℕ) → Ended
+
+-- the reply to a save event, the open save after it, and the save that ended in it
+pub record Event : Type 0 where
+  pub reply : Reply
+  pub job : Option Job
+  pub ended : Option Ended
+
+abbrev pub event : Reply → Option Job → Option Ended → Event
+event answer job ended = record { reply = answer; job = job; ended = ended }
+
+-- a save of the file of which nothing is written
+abbrev pub begun : List ℕ → Job
+begun file = record { temp = PeersTemp; written = []; left = file }
+
+-- the save after n more bytes
+abbrev pub after_step : Job → ℕ → Job
+after_step job n = record { temp = job.temp; written = job.written ++ take n job.left; left = drop n job.left }
+
+-- `save`: a whole save of the file
+abbrev pub save : List ℕ → Option Job → Bool → Event
+save file None true = event reply.Saved None (Some (Saved file))
+save file None false = event reply.NotSaved None (Some (NotSaved file))
+save file (Some job) done = event reply.Busy (Some job) None
+
+-- `save-begin`: a save of the file in pieces
+abbrev pub save_begin : List ℕ → Option Job → Bool → Event
+save_begin file None true = event (reply.Begun (length file)) (Some (begun file)) None
+save_begin file None false = event reply.NotSaved None (Some (NotSaved file))
+save_begin file (Some job) done = event reply.Busy (Some job) None
+
+-- `save-step N`: the next n bytes of the open save
+abbrev pub save_step : ℕ → Option Job → Bool → Event
+save_step n None done = event reply.NoSave None None
+save_step n (Some job) true = event (reply.Stepped (length (drop n job.left))) (Some (after_step job n)) None
+save_step n (Some job) false = event reply.NotSaved None (Some (NotSaved (whole job)))
+
+-- `save-end`: the rest of the open save
+abbrev pub save_end : Option Job → Bool → Event
+save_end None done = event reply.NoSave None None
+save_end (Some job) true = event reply.Saved None (Some (Saved (whole job)))
+save_end (Some job) false = event reply.NotSaved None (Some (NotSaved (whole job)))
+
+-- the reply, the open save and the save that ended are those of the event
+abbrev pub Gives : Event → Reply → Option Job → Option Ended → Type 0
+Gives e answer job ended = (answer ≡ e.reply) × (job ≡ e.job) × (ended ≡ e.ended)
+
+-- what a save command does to the open save, with the file of the tables
+abbrev pub SaveStep : List ℕ → Option Job → Command → Reply → Option Job → Option Ended → Type 0
+SaveStep file old command.Save answer new ended = (done : Bool) × Gives (save file old done) answer new ended
+SaveStep file old command.SaveBegin answer new ended = (done : Bool) × Gives (save_begin file old done) answer new ended
+SaveStep file old (command.SaveStep n) answer new ended = (done : Bool) × Gives (save_step n old done) answer new ended
+SaveStep file old command.SaveEnd answer new ended = (done : Bool) × Gives (save_end old done) answer new ended
+SaveStep file old other answer new ended = ⊥

@@ -1,0 +1,4 @@
+pub mod Events
+pub mod Folders
+pub mod Inside
+pub mod State

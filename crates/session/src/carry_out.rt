@@ -1,0 +1,95 @@
+ghost use Rattle.std.specs.Prelude.{◌≡◌, ◌+◌, ◌*◌, ◌≤◌, ◌<◌, ◌^◌, List, ℕ, Option, None, IfOk, OnErr};
+ghost use Rattle.host_io.specs.Past.{Always};
+ghost use Rattle.manager.specs.Step.{Step, IsBuilt, HasPercent, LeavesPart};
+ghost use Rattle.peers_file.specs.declared.chain.Chain as chains;
+ghost use Rattle.save_store.specs.Job.{Job};
+ghost use Rattle.session.specs.Folders.{AtMost, IsEvent, IsOpen, published};
+ghost use Rattle.session.specs.Inside.{Carried};
+ghost use Rattle.session.specs.State.{CommandStep, file_of, state};
+
+use crate::events::{end_line, step_line};
+use crate::memory::Memory;
+use crate::saving::{begin, save};
+use host_io::Folder;
+use log_lines::{Command, Reply};
+use manager::Manager;
+use peers_file::Chain;
+use save_store::SaveJob;
+use std::alloc::Global;
+use std::hash::BuildHasher;
+use std::marker::Brand;
+use std::sync::ledger::{Blank, Ledger};
+use steps::Steps;
+
+/// Carries out a command of the machine, with a counter of its own, whose steps nobody reads.
+fn apply<L: Ledger, H: BuildHasher>(
+    alloc: Global,
+    manager: &mut Manager<'_, H>,
+    command: &Command,
+    blank: Blank,
+) -> Result<Reply, Memory>
+    requires name { blank.name ≡ L.name }
+    requires parts { blank.parts ≡ L.parts }
+    requires one { blank.parts ≡ 1 }
+    requires built { IsBuilt command.now }
+    requires percent { HasPercent command.now }
+    requires room { manager.old.tables.next_number < 2 ^ 62 }
+    ensures step { IfOk result (λ answer. (chain : chains.Chain) (job : Option Job) →
+        CommandStep (state chain manager.old job) command.now answer (state chain manager.new job) None) }
+    ensures numbers { manager.new.tables.next_number ≤ manager.old.tables.next_number + 1000 }
+    ensures err { OnErr result (LeavesPart manager.old command.now manager.new) }
+    ensures no_file { (file : List ℕ) (job : Option Job) → published file job command.now ≡ None }
+{
+    let mut steps = Steps::<L>::none(blank);
+    Ok(manager.apply(alloc, command, &mut steps)?)
+}
+
+/// Carries out a command.
+pub(crate) fn carry_out<F: Folder, H: BuildHasher>(
+    alloc: Global,
+    folder: &mut F,
+    manager: &mut Manager<'_, H>,
+    chain: Chain,
+    job: &mut Option<SaveJob>,
+    command: &Command,
+) -> Result<Reply, Memory>
+    requires percent { HasPercent command.now }
+    requires room { manager.old.tables.next_number < 2 ^ 62 }
+    requires is_open { IsOpen job.old (F.past folder.old) }
+    ensures step { IfOk result (λ answer.
+        Carried (state chain manager.old job.old) command.now answer (state chain manager.new job.new)
+        (F.past folder.new) (F.faults folder.old) (F.faults folder.new)) }
+    ensures any_moment { Always (F.past folder.old) (F.past folder.new)
+        (AtMost (published (file_of chain manager.old.tables) job.old command.now)) }
+    ensures is_open { IsOpen job.new (F.past folder.new) }
+    ensures still { ¬ IsEvent job.old command.now → F.past folder.new ≡ F.past folder.old }
+    ensures err { OnErr result ((F.past folder.new ≡ F.past folder.old) × (job.new ≡ job.old)
+        × LeavesPart manager.old command.now manager.new) }
+    ensures numbers { manager.new.tables.next_number ≤ manager.old.tables.next_number + 1000 }
+    ensures never_falls { F.faults folder.old ≤ F.faults folder.new }
+{
+    match command {
+        Command::Save => save(alloc, folder, manager, chain, job),
+        Command::SaveBegin => begin(alloc, folder, manager, chain, job),
+        Command::SaveStep { count } => {
+            let (next, reply) = step_line(folder, job.take(), *count);
+            *job = next;
+            Ok(reply)
+        }
+        Command::SaveEnd => Ok(end_line(folder, job.take())),
+        Command::Now { .. }
+        | Command::Addr { .. }
+        | Command::Addr2 { .. }
+        | Command::Good { .. }
+        | Command::Attempt { .. }
+        | Command::Connected { .. }
+        | Command::Services { .. }
+        | Command::Find { .. }
+        | Command::Size
+        | Command::Select { .. }
+        | Command::Sample { .. }
+        | Command::Resolve
+        | Command::Clash { .. }
+        | Command::Dump => apply::<Brand, H>(alloc, manager, command, Blank::new(1)),
+    }
+}

@@ -1,0 +1,21 @@
+/// Out of memory.
+#[derive(Clone, Copy, Debug, PartialEq, Eq)]
+pub(crate) struct Memory;
+
+impl From<tables::Memory> for Memory {
+    fn from(_: tables::Memory) -> Memory {
+        Memory
+    }
+}
+
+impl From<addr_codecs::Memory> for Memory {
+    fn from(_: addr_codecs::Memory) -> Memory {
+        Memory
+    }
+}
+
+impl From<manager::Memory> for Memory {
+    fn from(_: manager::Memory) -> Memory {
+        Memory
+    }
+}

@@ -1,0 +1,63 @@
+ghost use Rattle.std.specs.Prelude.{◌≡◌, ◌≤◌, IfOk, OnErr};
+ghost use Rattle.host_io.specs.Past.{Always};
+ghost use Rattle.manager.specs.Step.{IsBuilt};
+ghost use Rattle.session.specs.Folders.{AtMost, IsOpen, published};
+ghost use Rattle.session.specs.Inside.{Effect};
+ghost use Rattle.session.specs.State.{file_of};
+
+use crate::encode::encode;
+use crate::events::{begin_line, end_line, save_line, step_line};
+use crate::memory::Memory;
+use host_io::Folder;
+use log_lines::{Command, Reply};
+use manager::Manager;
+use peers_file::Chain;
+use save_store::SaveJob;
+use std::alloc::Global;
+use std::hash::BuildHasher;
+use std::marker::Brand;
+use std::sync::ledger::Blank;
+
+/// Saves the tables whole, unless a save is open.
+pub(crate) fn save<F: Folder, H: BuildHasher>(
+    alloc: Global,
+    folder: &mut F,
+    manager: &Manager<'_, H>,
+    chain: Chain,
+    job: &Option<SaveJob>,
+) -> Result<Reply, Memory>
+    requires is_open { IsOpen job.now (F.past folder.old) }
+    ensures effect { IfOk result (λ answer. Effect (file_of chain manager.now.tables) job.now Command.Save answer job.now
+        (F.past folder.old) (F.past folder.new) (F.faults folder.old) (F.faults folder.new)) }
+    ensures err { OnErr result (F.past folder.new ≡ F.past folder.old) }
+    ensures never_falls { F.faults folder.old ≤ F.faults folder.new }
+{
+    if job.is_some() {
+        return Ok(Reply::Busy);
+    }
+    let file = encode::<Brand, H>(alloc, manager, chain, Blank::new(1))?;
+    Ok(save_line(folder, &file))
+}
+
+/// Begins to save the tables in pieces, unless a save is open.
+pub(crate) fn begin<F: Folder, H: BuildHasher>(
+    alloc: Global,
+    folder: &mut F,
+    manager: &Manager<'_, H>,
+    chain: Chain,
+    job: &mut Option<SaveJob>,
+) -> Result<Reply, Memory>
+    requires is_open { IsOpen job.old (F.past folder.old) }
+    ensures effect { IfOk result (λ answer. Effect (file_of chain manager.now.tables) job.old Command.SaveBegin answer job.new
+        (F.past folder.old) (F.past folder.new) (F.faults folder.old) (F.faults folder.new)) }
+    ensures err { OnErr result ((F.past folder.new ≡ F.past folder.old) × (job.new ≡ job.old)) }
+    ensures never_falls { F.faults folder.old ≤ F.faults folder.new }
+{
+    if job.is_some() {
+        return Ok(Reply::Busy);
+    }
+    let file = encode::<Brand, H>(alloc, manager, chain, Blank::new(1))?;
+    let (next, reply) = begin_line(folder, file);
+    *job = next;
+    Ok(reply)
+}

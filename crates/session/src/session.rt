@@ -1,0 +1,101 @@
+ghost use Rattle.std.specs.Prelude.{◌≡◌};
+
+use crate::carry_out::carry_out;
+use host_io::Folder;
+use log_lines::{LineFault, MAX_LINE, put_reply, read_line};
+use manager::Manager;
+use peers_file::Chain;
+use save_store::SaveJob;
+use std::alloc::Global;
+use std::hash::BuildHasher;
+use std::marker::Model;
+
+/// The address manager, the chain of its files, and the save in pieces that is open, if one is.
+#[derive(Drop)]
+pub struct Session<'a, H: BuildHasher> {
+    chain: Chain,
+    manager: Manager<'a, H>,
+    job: Option<SaveJob>,
+}
+
+impl<'a, H: BuildHasher> Model for Session<'a, H> {
+    ghost use Rattle.std.specs.Coded.{codes};
+    ghost use Rattle.placing.specs.Places.{coded_places};
+    ghost use Rattle.session.specs.State.{State};
+
+    ghost Value = { State };
+
+    ghost coded = { Prim.hlevel (codes, coded_places) };
+
+    ghost view = { λ s. record { chain = s.chain; machine = s.manager; job = s.job } };
+}
+
+impl<'a, H: BuildHasher> Session<'a, H> {
+    ghost use Rattle.std.specs.Prelude.{◌≡◌, ◌≢◌, ◌+◌, ◌≤◌, ◌<◌, ◌^◌, ◌++◌, ◌⊎◌, ℕ, List, length, Option, None, Err, OnOk, OnErr, IsErrOf};
+    ghost use Rattle.host_io.specs.Past.{Always};
+    ghost use Rattle.log_lines.specs.Spelling.{HasFault};
+    ghost use Rattle.session.specs.Folders.{AtMost, IsEventLine, IsOpen, MayPublish, Turn};
+    ghost use Rattle.session.specs.State.{LeavesPart};
+
+    /// Makes a session in which no save is open.
+    pub fn make(manager: Manager<'a, H>, chain: Chain) -> Session<'a, H>
+        ensures { result ≡ record { chain = chain; machine = manager.entry; job = None } }
+    {
+        Session {
+            chain,
+            manager,
+            job: None,
+        }
+    }
+
+    /// Returns the manager.
+    pub fn manager(&self) -> &Manager<'a, H>
+        ensures { result.now ≡ self.now.machine }
+    {
+        &self.manager
+    }
+
+    /// Carries out a line of a log, which has no line feed, and appends the text of its reply: none
+    /// for a line that is passed over. `save` replaces peers.dat; `save-begin`, `save-step` and
+    /// `save-end` do so in pieces. The reply is `not saved` only if the folder failed.
+    pub fn line<F: Folder>(
+        &mut self,
+        alloc: Global,
+        line: &[u8],
+        folder: &mut F,
+        out: &mut Vec<u8>,
+    ) -> Result<(), LineFault>
+        requires short { length line.now ≤ MAX_LINE }
+        requires room { self.old.machine.tables.next_number < 2 ^ 62 }
+        requires is_open { IsOpen self.old.job (F.past folder.old) }
+        ensures step { OnOk result ((text : List ℕ)
+            × Turn self.old line.now text self.new (F.past folder.new) (F.faults folder.old) (F.faults folder.new)
+            × (out.new.items ≡ out.old.items ++ text)) }
+        ensures any_moment { (file : Option (List ℕ)) × MayPublish self.old line.now file
+            × Always (F.past folder.old) (F.past folder.new) (AtMost file) }
+        ensures is_open { IsOpen self.new.job (F.past folder.new) }
+        ensures still { ¬ IsEventLine self.old line.now → F.past folder.new ≡ F.past folder.old }
+        ensures fault { (f : LineFault) → result ≡ Err f → f ≢ LineFault.Memory →
+            HasFault line.now f × (self.new ≡ self.old) × (F.past folder.new ≡ F.past folder.old) }
+        ensures only_fault { (f : LineFault) → HasFault line.now f →
+            (result ≡ Err f) ⊎ (result ≡ Err LineFault.Memory) }
+        ensures memory { IsErrOf result LineFault.Memory → LeavesPart self.old line.now self.new }
+        ensures list { OnErr result (out.new.items ≡ out.old.items) }
+        ensures numbers { self.new.machine.tables.next_number ≤ self.old.machine.tables.next_number + 1000 }
+        ensures never_falls { F.faults folder.old ≤ F.faults folder.new }
+    {
+        let command = match read_line(alloc, line) {
+            Ok(None) => return Ok(()),
+            Ok(Some(command)) => command,
+            Err(fault) => return Err(fault),
+        };
+        let (manager, job) = (&mut self.manager, &mut self.job);
+        let Ok(reply) = carry_out(alloc, folder, manager, self.chain, job, &command) else {
+            return Err(LineFault::Memory);
+        };
+        match put_reply(&reply, out) {
+            Ok(()) => Ok(()),
+            Err(_) => Err(LineFault::Memory),
+        }
+    }
+}
