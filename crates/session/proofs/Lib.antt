@@ -1,2 +1,4 @@
 pub mod Effects
 pub mod Lines
+pub mod Files
+pub mod Promise

@@ -11,12 +11,22 @@ use Rattle.log_lines.specs.declared.reply.Reply.{Reply}
 use Rattle.session.specs.Folders.{AtMost, IsEvent, IsEventLine, MayPublish, Turn, published}
 use Rattle.session.specs.Inside.{Carried}
 use Rattle.session.specs.State.{LeavesPart, State, file_now}
-use Rattle.session.proofs.Effects.{may_publish}
+use Rattle.session.proofs.Effects.{may_publish, still_moments}
 
 -- a line that is passed over
-pub passed : (old : State) (line items : List ℕ) (after : Option Past) (f : ℕ) → IsPassedOver line
-    → (text : List ℕ) × Turn old line text old after f f × (items ≡ items ++ text)
-passed old line items after f is = ([], record { ended = None; step = inl (is, refl, refl, refl); has = tt }, sym (append-nil items))
+pub passed : (old : State) (line items : List ℕ) (past : Option Past) (f : ℕ) → IsPassedOver line
+    → (text : List ℕ) × Turn old line text old past past f f × (items ≡ items ++ text)
+passed old line items past f is =
+    ([], record { ended = None; step = inl (is, refl, refl, refl); has = tt; moments = still_moments past }, sym (append-nil items))
+
+-- a command that was carried out, where the states are known by their parts
+pub turned : (parts old new : State) (line : List ℕ) (asked : Command) (answer : Reply) (before after : Option Past) (f g : ℕ)
+    → parts ≡ old → Spells line asked → Carried parts asked answer new after f g
+    → Always before after (AtMost (published (file_now parts) parts.job asked))
+    → Turn old line (reply_text answer) new before after f g
+turned parts old new line asked answer before after f g same spelled done always =
+    subst (λ s. Turn s line (reply_text answer) new before after f g) same
+    (record { ended = done.ended; step = inr (asked, answer, spelled, done.step, refl); has = done.has; moments = always })
 
 -- memory ran out after a command was carried out
 carried_part : (old new : State) (line : List ℕ) (asked : Command) (answer : Reply) (after : Option Past) (f g : ℕ)

@@ -1,9 +1,10 @@
 -- What a line of a log does to the folder.
 use Rattle.std.specs.Prelude.{◌≡◌, ◌≢◌, ◌⊎◌, ℕ, List, Option, Some, None, IfSome, ⊤}
+use Rattle.std.proofs.Common.{inl, inr}
 use Rattle.std.specs.Option.{option_map}
 use Rattle.host_io.specs.Disk.{Disk, MayHave}
 use Rattle.host_io.specs.Faults.{Rose}
-use Rattle.host_io.specs.Past.{Past}
+use Rattle.host_io.specs.Past.{Always, Past}
 use Rattle.host_io.specs.PerName.{under}
 use Rattle.host_io.specs.declared.name.Name.{Name}
 use Rattle.host_io.specs.declared.name.Name.TheVariants.{Peers, PeersTemp}
@@ -67,9 +68,16 @@ IsEvent job other = ⊥
 abbrev pub IsEventLine : State → List ℕ → Type 0
 IsEventLine old line = (asked : Command) × Spells line asked × IsEvent old.job asked
 
--- A line was carried out, with this reply: what it did to the session, and why a save ended in it.
-pub record Turn (old : State) (line text : List ℕ) (new : State) (after : Option Past)
+-- the file that a line may put in the place of peers.dat, by its step
+abbrev pub published_in : (old : State) (line text : List ℕ) (new : State) (ended : Option Ended) → LineStep old line text new ended → Option (List ℕ)
+published_in old line text new ended (inl passed) = None
+published_in old line text new ended (inr step) = published (file_now old) old.job step.0
+
+-- A line was carried out, with this reply: what it did to the session, why a save ended in it, and
+-- what a crash could leave at each moment since.
+pub record Turn (old : State) (line text : List ℕ) (new : State) (before after : Option Past)
     (faults_before faults_after : ℕ) : Type 0 where
   pub ended : Option Ended
   pub step : LineStep old line text new ended
   pub has : HasEnded ended after faults_before faults_after
+  pub moments : Always before after (AtMost (published_in old line text new ended step))

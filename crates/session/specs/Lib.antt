@@ -1,4 +1,5 @@
 pub mod Events
 pub mod Folders
+pub mod History
 pub mod Inside
 pub mod State

@@ -69,7 +69,8 @@ impl<'a, H: BuildHasher> Session<'a, H> {
         requires room { self.old.machine.tables.next_number < 2 ^ 62 }
         requires is_open { IsOpen self.old.job (F.past folder.old) }
         ensures step { OnOk result ((text : List ℕ)
-            × Turn self.old line.now text self.new (F.past folder.new) (F.faults folder.old) (F.faults folder.new)
+            × Turn self.old line.now text self.new (F.past folder.old) (F.past folder.new)
+            (F.faults folder.old) (F.faults folder.new)
             × (out.new.items ≡ out.old.items ++ text)) }
         ensures any_moment { (file : Option (List ℕ)) × MayPublish self.old line.now file
             × Always (F.past folder.old) (F.past folder.new) (AtMost file) }

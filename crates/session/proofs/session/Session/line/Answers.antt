@@ -1,5 +1,6 @@
 use Rattle.std.proofs.Common.{inl, inr, refl, rules}
-use Rattle.session.proofs.Lines.{moments, no_fault, part, passed, same_fault, still}
+use Rattle.session.proofs.Lines.{moments, no_fault, part, passed, same_fault, still, turned}
+use Rattle.log_lines.specs.Replies.{reply_text}
 use Rattle.session.specs.State.{state}
 use Rattle.session.proofs.session.Session.line.Goals as goal
 
@@ -49,3 +50,14 @@ returns-clause-memory g c = λ _.
     let inside = c.self.inside in
     part (state inside.chain inside.manager inside.job) c.args.self.now (state inside.chain c.carry_out.new.manager c.carry_out.new.job) c.args.line.now
     c.in-Ok-Some.command c.in-Ok.reply _ _ _ c.self.view_is (search rules) c.in-Ok.ensures.step
+
+pub returns-in-Ok-put_reply-clause-step : goal.returns-in-Ok-put_reply-clause-step
+returns-in-Ok-put_reply-clause-step g c =
+    let inside = c.self.inside in
+    let P = g.F.Folder.past in (
+      reply_text c.in-Ok.reply,
+      turned (state inside.chain inside.manager inside.job) c.args.self.now (state inside.chain c.carry_out.new.manager c.carry_out.new.job)
+          c.args.line.now c.in-Ok-Some.command c.in-Ok.reply (P c.args.folder.now) (P c.carry_out.new.folder) _ _ c.self.view_is (search rules)
+          c.in-Ok.ensures.step c.carry_out.ensures.any_moment,
+      c.in-Ok-put_reply.ensures.ok,
+    )
