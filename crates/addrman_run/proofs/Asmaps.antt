@@ -1,5 +1,5 @@
 -- The folder's asmap, and the lines about it.
-use Rattle.std.proofs.Common.{◌≡◌, ◌≤◌, List, ℕ, length, ap, subst, sym}
+use Rattle.std.proofs.Common.{◌≡◌, ◌≤◌, List, ℕ, length, subst, sym}
 use Rattle.std.specs.Prelude.{Option, Some, None, IfSome, MatchOption}
 use Rattle.bit_code.specs.declared.bits.TheConstants.{MAX_ASMAP}
 use Rattle.host_io.specs.Past.{Past}

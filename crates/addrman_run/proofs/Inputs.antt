@@ -3,14 +3,13 @@ use Rattle.std.proofs.Common.{◌≡◌, ◌≤◌, ℕ, List, length, refl, sym
 use Rattle.std.specs.Prelude.{Option, Some, None, IfSome, MatchOption}
 use Rattle.host_io.specs.Past.{Past, files_of}
 use Rattle.host_io.specs.PerName.{under}
-use Rattle.host_io.specs.Writing.{Appended, AppendedPart}
 use Rattle.addrman_run.specs.FileLine.{FileLineText}
 use Rattle.addrman_run.specs.InFolder.{IsAbsent}
 use Rattle.addrman_run.specs.Inside.{name_of, max_of, too_large_of, IsLoaded, IsLarge, IsNotLoaded, LineEnds}
 use Rattle.addrman_run.specs.declared.input.Input.{Input}
 use Rattle.addrman_run.specs.declared.input.Input.TheVariants as input
 use Rattle.addrman_run.specs.declared.status.Status.{Status}
-use Rattle.addrman_run.specs.declared.status.Status.TheVariants.{Done, WriteFault, DiskFault, Memory, NoFile}
+use Rattle.addrman_run.specs.declared.status.Status.TheVariants.{DiskFault, Memory, NoFile}
 
 -- what holds of each status that a file is not loaded for
 not_loaded : (P : Status → Type 0) (file : Input) (past : Option Past) (status : Status) → IsNotLoaded file past status →
@@ -27,11 +26,12 @@ not_loaded P file past status why absent disk memory large = elim why [
   ]
 ]
 
--- a refusal for the size, of either file
+-- a refusal for the size, of any of the files
 too_large : (IsLine : Option Past → List ℕ → Type 0) (Refuses : Option Past → Status → Type 0) (file : Input) (past : Option Past) (written : Option (List ℕ)) (size : ℕ) →
     Refuses past (too_large_of file size) → FileLineText (name_of file) IsLine Refuses past written written (too_large_of file size)
 too_large IsLine Refuses input.Asmap past written size refused = (refused, refl)
 too_large IsLine Refuses input.Prefixes past written size refused = (refused, refl)
+too_large IsLine Refuses input.Peers past written size refused = (refused, refl)
 
 -- the file was not loaded
 pub no_file : (IsLine : Option Past → List ℕ → Type 0) (Refuses : Option Past → Status → Type 0) (file : Input) (past : Option Past) (written : Option (List ℕ)) (status : Status) →

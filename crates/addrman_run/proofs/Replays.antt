@@ -15,6 +15,7 @@ use Rattle.addrman_run.specs.Log.{IsLogIn}
 use Rattle.addrman_run.specs.Replay.{ReplayText, Writes, opening}
 use Rattle.addrman_run.specs.Run.{AnswersAll, AnswersPrefix, StopsAt, StopsInReply}
 use Rattle.addrman_run.specs.declared.status.Status.{Status}
+use Rattle.addrman_run.specs.declared.status.Status.TheVariants.{PeersRefused}
 use Rattle.addrman_run.specs.declared.status.Status.TheVariants.{Done, Usage, LogLine, AsmapRefused, TableRefused, ReadFault, WriteFault, DiskFault, LogTooLong, Memory, NoFile, NotBuilt}
 
 -- a text of this kind was appended
@@ -45,6 +46,7 @@ replay_text key log map start now old new WriteFault has read is ends =
     (told.0, (told.1.0, IfSome_then old.written told.1.1 (λ _ stopped. (now, stopped))), told.2)
 replay_text key log map start now old new Memory has read is ends = inr (writes (λ m l t. AnswersPrefix LineStep m l t) key log map start old new has read is (ends.memory refl))
 replay_text key log map start now old new Usage has read is ends = absurd ends.ends
+replay_text key log map start now old new (PeersRefused f) has read is ends = absurd ends.ends
 replay_text key log map start now old new (AsmapRefused f) has read is ends = absurd ends.ends
 replay_text key log map start now old new (TableRefused f) has read is ends = absurd ends.ends
 replay_text key log map start now old new ReadFault has read is ends = absurd ends.ends

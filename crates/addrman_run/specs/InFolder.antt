@@ -10,6 +10,10 @@ use Rattle.addrman_run.specs.declared.status.Status.TheVariants.{DiskFault, NoFi
 abbrev pub IsFileIn : Name → ℕ → Option Past → List ℕ → Type 0
 IsFileIn name max past bytes = (length bytes ≤ max) × IfSome (files_of past) (λ fs. under fs name ≡ Some bytes)
 
+-- the file has these bytes, however many
+abbrev pub HasBytes : Name → Option Past → List ℕ → Type 0
+HasBytes name past bytes = IfSome (files_of past) (λ fs. under fs name ≡ Some bytes)
+
 -- there is no such file
 abbrev pub IsAbsent : Name → Option Past → Type 0
 IsAbsent name past = IfSome (files_of past) (λ fs. under fs name ≡ None)

@@ -8,28 +8,35 @@ use Rattle.prefix_table.specs.declared.fault.TableFault.TheVariants as table
 use Rattle.asmap_vm.specs.Asmap.{Asmap, IsAsmap}
 use Rattle.asmap_vm.specs.declared.fault.CodeFault.TheVariants as code
 use Rattle.bit_code.specs.declared.bits.TheConstants.{MAX_ASMAP}
+use Rattle.peers_file.specs.declared.fault.FileFault.TheVariants as peers
+use Rattle.peers_file.specs.declared.read.TheConstants.{MAX_FILE}
 use Rattle.addrman_run.specs.InFolder.{IsFileIn, IsAbsent, IsTooLarge}
 use Rattle.prefix_table.specs.declared.read.TheConstants.{MAX_TEXT}
 use Rattle.addrman_run.specs.declared.input.Input.{Input}
 use Rattle.addrman_run.specs.declared.input.Input.TheVariants as input
 use Rattle.addrman_run.specs.declared.tables_fault.TablesFault.TheVariants.{Rows}
+use Rattle.addrman_run.specs.declared.peers_fault.PeersFault.TheVariants.{File}
 use Rattle.addrman_run.specs.declared.status.Status.{Status}
+use Rattle.addrman_run.specs.declared.status.Status.TheVariants.{PeersRefused}
 use Rattle.addrman_run.specs.declared.status.Status.TheVariants.{Done, LogLine, AsmapRefused, TableRefused, WriteFault, DiskFault, Memory, NoFile, NotBuilt}
 
 -- the name of a file that commands load
 abbrev pub name_of : Input → Name
 name_of input.Asmap = name.Asmap
 name_of input.Prefixes = name.Prefixes
+name_of input.Peers = name.Peers
 
 -- the maximum size of it in bytes
 abbrev pub max_of : Input → ℕ
 max_of input.Asmap = MAX_ASMAP
 max_of input.Prefixes = MAX_TEXT
+max_of input.Peers = MAX_FILE
 
 -- the status for a file of more bytes
 abbrev pub too_large_of : Input → ℕ → Status
 too_large_of input.Asmap size = AsmapRefused (code.TooLarge size)
 too_large_of input.Prefixes size = TableRefused (Rows (table.TooLarge size))
+too_large_of input.Peers size = PeersRefused (File (peers.TooLarge size))
 
 -- the file has these bytes, within its limit
 abbrev pub IsLoaded : Input → Option Past → List ℕ → Type 0

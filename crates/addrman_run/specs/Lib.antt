@@ -2,6 +2,7 @@ pub mod Request
 pub mod InFolder
 pub mod Asmaps
 pub mod Tables
+pub mod Peers
 pub mod Log
 pub mod Run
 pub mod Lines
@@ -10,6 +11,7 @@ pub mod FileLine
 pub mod Lookup
 pub mod Check
 pub mod Compile
+pub mod Show
 pub mod Outcome
 pub mod Report
 pub mod Inside

@@ -6,7 +6,9 @@ use Rattle.addrman_run.specs.Replay.{ReplayEnds}
 use Rattle.addrman_run.specs.Lookup.{LookupEnds}
 use Rattle.addrman_run.specs.Check.{CheckEnds}
 use Rattle.addrman_run.specs.Compile.{CompileEnds}
+use Rattle.addrman_run.specs.Show.{ShowEnds}
 use Rattle.addrman_run.specs.declared.request.Request.{Request}
+use Rattle.addrman_run.specs.declared.request.Request.TheVariants.{Show}
 use Rattle.addrman_run.specs.declared.request.Request.TheVariants.{Replay, Compile, Check, Lookup}
 use Rattle.addrman_run.specs.declared.status.Status.{Status}
 use Rattle.addrman_run.specs.declared.status.Status.TheVariants as status
@@ -16,6 +18,7 @@ Ends (Replay key) old new answer = ReplayEnds key old new answer
 Ends Compile old new answer = CompileEnds old new answer
 Ends Check old new answer = CheckEnds old new answer
 Ends (Lookup peer) old new answer = LookupEnds peer old new answer
+Ends (Show chain) old new answer = ShowEnds chain old new answer
 
 -- a count of faults did not fall, and rose if the run ended with this fault
 abbrev pub IsCounted : Status → ℕ → ℕ → Status → Type 0

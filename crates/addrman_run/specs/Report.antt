@@ -9,9 +9,14 @@ use Rattle.asmap_compile.specs.declared.fault.CompileFault.{CompileFault}
 use Rattle.asmap_compile.specs.declared.fault.CompileFault.TheVariants as compile
 use Rattle.log_lines.specs.declared.fault.LineFault.{LineFault}
 use Rattle.log_lines.specs.declared.fault.LineFault.TheVariants as line
+use Rattle.peers_file.specs.declared.fault.FileFault.{FileFault}
+use Rattle.peers_file.specs.declared.fault.FileFault.TheVariants as file
+use Rattle.addrman_run.specs.declared.peers_fault.PeersFault.{PeersFault}
+use Rattle.addrman_run.specs.declared.peers_fault.PeersFault.TheVariants.{File, Duplicate}
 use Rattle.addrman_run.specs.declared.tables_fault.TablesFault.{TablesFault}
 use Rattle.addrman_run.specs.declared.tables_fault.TablesFault.TheVariants.{Rows, Compile}
 use Rattle.addrman_run.specs.declared.status.Status.{Status}
+use Rattle.addrman_run.specs.declared.status.Status.TheVariants.{PeersRefused}
 use Rattle.addrman_run.specs.declared.status.Status.TheVariants.{Done, Usage, LogLine, AsmapRefused, TableRefused, ReadFault, WriteFault, DiskFault, LogTooLong, Memory, NoFile, NotBuilt}
 
 -- the exit code of the process
@@ -19,6 +24,7 @@ abbrev pub code_of : Status → ℕ
 code_of Done = 0
 code_of Usage = 2
 code_of (LogLine line fault) = 3
+code_of (PeersRefused fault) = 4
 code_of (AsmapRefused fault) = 5
 code_of (TableRefused fault) = 6
 code_of ReadFault = 7
@@ -28,6 +34,25 @@ code_of LogTooLong = 10
 code_of Memory = 12
 code_of (NoFile name) = 14
 code_of (NotBuilt line) = 15
+
+abbrev pub file_fault_text : FileFault → List ℕ
+file_fault_text file.Truncated = codes "truncated"
+file_fault_text file.BadMagic = codes "bad-magic"
+file_fault_text file.BadSum = codes "bad-sum"
+file_fault_text (file.Compat byte) = codes "compat"
+file_fault_text (file.Version byte) = codes "version"
+file_fault_text (file.Count which value) = codes "count"
+file_fault_text (file.Record index cause) = codes "record"
+file_fault_text (file.Buckets value) = codes "buckets"
+file_fault_text (file.Time index) = codes "time"
+file_fault_text (file.Attempts index) = codes "attempts"
+file_fault_text file.Trailing = codes "trailing"
+file_fault_text (file.TooLarge size) = codes "too-large"
+file_fault_text file.Memory = codes "out of memory"
+
+abbrev pub peers_fault_text : PeersFault → List ℕ
+peers_fault_text (File fault) = file_fault_text fault
+peers_fault_text (Duplicate index) = codes "duplicate"
 
 abbrev pub code_fault_text : CodeFault → List ℕ
 code_fault_text (code.TooLarge size) = codes "too-large"
@@ -69,6 +94,7 @@ abbrev pub reason_of : Status → List ℕ
 reason_of Done = []
 reason_of Usage = codes "bad usage"
 reason_of (LogLine n fault) = codes "log line " ++ decimal n ++ codes ": " ++ line_fault_text fault
+reason_of (PeersRefused fault) = codes "peers.dat refused: " ++ peers_fault_text fault
 reason_of (AsmapRefused fault) = codes "asmap.dat refused: " ++ code_fault_text fault
 reason_of (TableRefused fault) = codes "prefixes.txt refused: " ++ tables_fault_text fault
 reason_of ReadFault = codes "log cannot be read"

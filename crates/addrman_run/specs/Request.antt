@@ -2,7 +2,10 @@
 use Rattle.std.specs.Prelude.{◌≡◌, ◌⊎◌, ℕ, List, [], ◌∷◌, ◌++◌, length, Ok, codes}
 use Rattle.hex.specs.Hex.{decode_of}
 use Rattle.net_addr.specs.Text.{IsPeerText}
+use Rattle.peers_file.specs.declared.chain.Chain.{Chain}
+use Rattle.peers_file.specs.declared.chain.Chain.TheVariants.{Main, Test, Signet, Regtest}
 use Rattle.addrman_run.specs.declared.request.Request.{Request}
+use Rattle.addrman_run.specs.declared.request.Request.TheVariants.{Show}
 use Rattle.addrman_run.specs.declared.request.Request.TheVariants.{Replay, Compile, Check, Lookup}
 
 -- a key of 32 bytes, as 64 hexadecimal digits in either case
@@ -13,6 +16,17 @@ IsKey digits key = (decode_of digits ≡ Ok key) × (length key ≡ 32)
 abbrev pub IsOption : List ℕ → List ℕ → List (List ℕ) → Type 0
 IsOption name value words = (words ≡ name ∷ value ∷ []) ⊎ (words ≡ (name ++ codes "=" ++ value) ∷ [])
 
+-- the name of a chain
+abbrev pub chain_name : Chain → List ℕ
+chain_name Main = codes "main"
+chain_name Test = codes "test"
+chain_name Signet = codes "signet"
+chain_name Regtest = codes "regtest"
+
+-- the arguments choose a chain: main if there are none
+abbrev pub IsNet : List (List ℕ) → Chain → Type 0
+IsNet options chain = ((options ≡ []) × (chain ≡ Main)) ⊎ IsOption (codes "--net") (chain_name chain) options
+
 -- the arguments ask for this
 abbrev pub Asks : List (List ℕ) → Request → Type 0
 Asks words (Replay key) =
@@ -20,3 +34,4 @@ Asks words (Replay key) =
 Asks words Compile = words ≡ codes "compile" ∷ []
 Asks words Check = words ≡ codes "check" ∷ []
 Asks words (Lookup peer) = (text : List ℕ) × IsPeerText text peer × (words ≡ codes "lookup" ∷ text ∷ [])
+Asks words (Show chain) = (options : List (List ℕ)) × IsNet options chain × (words ≡ codes "show" ∷ options)

@@ -6,12 +6,13 @@ ghost use Rattle.addrman_run.specs.InFolder.{ReportsAbsence};
 ghost use Rattle.addrman_run.specs.Inside.{name_of, max_of, too_large_of, IsLoaded, IsLarge};
 ghost use Rattle.addrman_run.specs.Outcome.{IsCounted};
 ghost use Rattle.addrman_run.specs.declared.input.Input.{Input};
+ghost use Rattle.addrman_run.specs.declared.peers_fault.PeersFault.{PeersFault};
 ghost use Rattle.addrman_run.specs.declared.status.Status.{Status};
 ghost use Rattle.addrman_run.specs.declared.tables_fault.TablesFault.{TablesFault};
 
 use crate::input::{Input, load_present};
 use crate::output::write_line;
-use crate::{Status, TablesFault};
+use crate::{PeersFault, Status, TablesFault};
 use asmap_vm::CodeFault;
 use host_io::{Folder, Sink};
 use std::alloc::Global;
@@ -23,6 +24,8 @@ pub(crate) enum Refusal {
     Asmap(CodeFault),
     /// It is no table, or one that cannot be compiled.
     Table(TablesFault),
+    /// It is no file of peers.
+    Peers(PeersFault),
     /// Out of memory.
     Memory,
 }
@@ -55,7 +58,10 @@ pub(crate) trait FileLine {
             refuses self.now past (Status.AsmapRefused fault) }
         ensures table { (fault : TablesFault) → result ≡ Err (Refusal.Table fault) →
             (past : Option Past) → IsLoaded (file self.now) past bytes.now →
-            refuses self.now past (Status.TableRefused fault) };
+            refuses self.now past (Status.TableRefused fault) }
+        ensures peers { (fault : PeersFault) → result ≡ Err (Refusal.Peers fault) →
+            (past : Option Past) → IsLoaded (file self.now) past bytes.now →
+            refuses self.now past (Status.PeersRefused fault) };
 }
 
 /// Loads the command's file, and writes the line about it.
@@ -81,6 +87,7 @@ pub(crate) fn write_file_line<F: Folder, K: Sink, C: FileLine>(
         Ok(line) => write_line(line.as_slice(), out),
         Err(Refusal::Asmap(fault)) => Status::AsmapRefused(fault),
         Err(Refusal::Table(fault)) => Status::TableRefused(fault),
+        Err(Refusal::Peers(fault)) => Status::PeersRefused(fault),
         Err(Refusal::Memory) => Status::Memory,
     }
 }

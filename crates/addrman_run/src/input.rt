@@ -5,10 +5,11 @@ ghost use Rattle.host_io.specs.PerName.{under};
 ghost use Rattle.addrman_run.specs.Inside.{name_of, max_of, too_large_of, IsLoaded, IsLoadFault, IsNotLoaded};
 ghost use Rattle.addrman_run.specs.InFolder.{IsAbsent};
 
-use crate::{Status, TablesFault};
+use crate::{PeersFault, Status, TablesFault};
 use asmap_vm::CodeFault;
 use bit_code::MAX_ASMAP;
 use host_io::{Bytes, Folder, Name};
+use peers_file::{FileFault, MAX_FILE};
 use prefix_table::{MAX_TEXT, TableFault};
 use save_store::{LoadFault, load};
 use std::alloc::Global;
@@ -18,6 +19,7 @@ use std::alloc::Global;
 pub(crate) enum Input {
     Asmap,
     Prefixes,
+    Peers,
 }
 
 impl Input {
@@ -28,6 +30,7 @@ impl Input {
         match self {
             Input::Asmap => Name::Asmap,
             Input::Prefixes => Name::Prefixes,
+            Input::Peers => Name::Peers,
         }
     }
 
@@ -38,6 +41,7 @@ impl Input {
         match self {
             Input::Asmap => MAX_ASMAP as u64,
             Input::Prefixes => MAX_TEXT as u64,
+            Input::Peers => MAX_FILE as u64,
         }
     }
 
@@ -50,6 +54,7 @@ impl Input {
             Input::Prefixes => {
                 Status::TableRefused(TablesFault::Rows(TableFault::TooLarge { size }))
             }
+            Input::Peers => Status::PeersRefused(PeersFault::File(FileFault::TooLarge { size })),
         }
     }
 }

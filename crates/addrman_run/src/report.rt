@@ -1,10 +1,12 @@
 ghost use Rattle.std.specs.Prelude.{◌≡◌, ◌++◌, codes, decimal, IfOk, OnOk, OnErr};
+ghost use Rattle.addrman_run.specs.Report.{file_fault_text, peers_fault_text};
 ghost use Rattle.addrman_run.specs.Report.{code_of, reason_of, code_fault_text, line_fault_text, at_line, table_fault_text, compile_fault_text, tables_fault_text, line_of, status_text};
 
-use crate::{Memory, Status, TablesFault};
+use crate::{Memory, PeersFault, Status, TablesFault};
 use asmap_compile::CompileFault;
 use asmap_vm::CodeFault;
 use log_lines::LineFault;
+use peers_file::FileFault;
 use prefix_table::TableFault;
 use std::alloc::{AllocError, Global};
 
@@ -16,6 +18,7 @@ pub fn code(status: &Status) -> u8
         Status::Done => 0,
         Status::Usage => 2,
         Status::LogLine { .. } => 3,
+        Status::PeersRefused(_) => 4,
         Status::AsmapRefused(_) => 5,
         Status::TableRefused(_) => 6,
         Status::ReadFault => 7,
@@ -25,6 +28,37 @@ pub fn code(status: &Status) -> u8
         Status::Memory => 12,
         Status::NoFile { .. } => 14,
         Status::NotBuilt { .. } => 15,
+    }
+}
+
+/// Returns the word for a fault of peers.dat.
+fn file_fault_word(fault: &FileFault) -> &'static [u8]
+    ensures { result.now ≡ file_fault_text fault.now }
+{
+    match fault {
+        FileFault::Truncated => b"truncated",
+        FileFault::BadMagic => b"bad-magic",
+        FileFault::BadSum => b"bad-sum",
+        FileFault::Compat { .. } => b"compat",
+        FileFault::Version { .. } => b"version",
+        FileFault::Count { .. } => b"count",
+        FileFault::Record { .. } => b"record",
+        FileFault::Buckets { .. } => b"buckets",
+        FileFault::Time { .. } => b"time",
+        FileFault::Attempts { .. } => b"attempts",
+        FileFault::Trailing => b"trailing",
+        FileFault::TooLarge { .. } => b"too-large",
+        FileFault::Memory => b"out of memory",
+    }
+}
+
+/// Returns the word for why peers.dat is refused.
+fn peers_fault_word(fault: &PeersFault) -> &'static [u8]
+    ensures { result.now ≡ peers_fault_text fault.now }
+{
+    match fault {
+        PeersFault::File(fault) => file_fault_word(fault),
+        PeersFault::Duplicate { .. } => b"duplicate",
     }
 }
 
@@ -144,6 +178,9 @@ fn reason(alloc: Global, status: &Status) -> Result<Vec<u8>, AllocError>
         Status::Done => Ok(Vec::new(alloc)),
         Status::Usage => Vec::from_slice(alloc, b"bad usage"),
         Status::LogLine { line, fault } => log_line(alloc, *line, fault),
+        Status::PeersRefused(fault) => {
+            joined(alloc, b"peers.dat refused: ", peers_fault_word(fault))
+        }
         Status::AsmapRefused(fault) => {
             joined(alloc, b"asmap.dat refused: ", code_fault_word(fault))
         }

@@ -1,4 +1,5 @@
 use net_addr::Peer;
+use peers_file::Chain;
 
 /// What the arguments ask for.
 #[derive(Clone, Copy, Debug)]
@@ -11,4 +12,6 @@ pub enum Request {
     Check,
     /// `lookup PEER`: say which AS number and group the peer's address has.
     Lookup { peer: Peer },
+    /// `show --net CHAIN`: list what peers.dat has, a file of this chain; of main without `--net`.
+    Show { chain: Chain },
 }

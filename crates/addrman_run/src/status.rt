@@ -1,4 +1,4 @@
-use crate::TablesFault;
+use crate::{PeersFault, TablesFault};
 use asmap_vm::CodeFault;
 use host_io::Name;
 use log_lines::LineFault;
@@ -13,6 +13,8 @@ pub enum Status {
     /// A line of the log is malformed; lines are counted from 1. The replies to those before it are
     /// written.
     LogLine { line: u64, fault: LineFault },
+    /// peers.dat is too large, or no file of the chain.
+    PeersRefused(PeersFault),
     /// asmap.dat is too large, or no file of a sane tree.
     AsmapRefused(CodeFault),
     /// prefixes.txt is too large or malformed, or is not compiled.

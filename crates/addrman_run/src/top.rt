@@ -9,6 +9,7 @@ use crate::compile::Compile;
 use crate::file_line::write_file_line;
 use crate::lookup::Lookup;
 use crate::replay::replay;
+use crate::show::Show;
 use crate::words::read_request;
 use crate::{Request, Status};
 use host_io::{Folder, Sink, Source};
@@ -20,7 +21,7 @@ use std::hash::BuildHasher;
 /// `replay --key HEX64` carries out the lines of the log and writes the reply to each, from empty
 /// tables with that key and the folder's asmap.dat, if there is one. `compile` compiles the folder's
 /// prefixes.txt, `check` checks its asmap.dat, and `lookup PEER` writes the AS number and the group
-/// that asmap.dat gives the peer's address.
+/// that asmap.dat gives the peer's address. `show` lists what the folder's peers.dat has.
 pub fn run<L: Source, F: Folder, K: Sink, H: BuildHasher + Drop>(
     alloc: Global,
     hasher: H,
@@ -44,5 +45,6 @@ pub fn run<L: Source, F: Folder, K: Sink, H: BuildHasher + Drop>(
         Request::Compile => write_file_line(alloc, &Compile, folder, out),
         Request::Check => write_file_line(alloc, &Check, folder, out),
         Request::Lookup { peer } => write_file_line(alloc, &Lookup { peer }, folder, out),
+        Request::Show { chain } => write_file_line(alloc, &Show { chain }, folder, out),
     }
 }

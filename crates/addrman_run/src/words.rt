@@ -1,11 +1,14 @@
 ghost use Rattle.std.specs.Prelude.{◌≡◌, ◌≢◌, ℕ, List, [], ◌∷◌, ◌++◌, codes, map, string_bytes, Some, IfSome, IfNone};
 ghost use Rattle.std.specs.Option.{option_map};
 ghost use Rattle.addrman_run.specs.Request.{IsKey, IsOption, Asks};
+ghost use Rattle.addrman_run.specs.Request.{chain_name, IsNet};
+ghost use Rattle.peers_file.specs.declared.chain.Chain.{Chain};
 ghost use Rattle.addrman_run.specs.declared.request.Request.{Request};
 
 use crate::Request;
 use hex::FromHex;
 use net_addr::parse_peer;
+use peers_file::Chain;
 
 /// Returns the request that the arguments ask for, or `None` if they are not those of a command.
 pub fn read_request(words: &[String]) -> Option<Request>
@@ -21,6 +24,8 @@ pub fn read_request(words: &[String]) -> Option<Request>
         if_no_words(rest, Request::Check)
     } else if command == b"lookup".as_slice() {
         read_lookup(rest)
+    } else if command == b"show".as_slice() {
+        read_show(rest)
     } else {
         None
     }
@@ -74,6 +79,44 @@ fn read_lookup(words: &[String]) -> Option<Request>
 {
     let peer = parse_peer(only_word(words)?)?;
     Some(Request::Lookup { peer })
+}
+
+/// Reads the arguments after `show`.
+fn read_show(words: &[String]) -> Option<Request>
+    ensures found { IfSome result (λ request. Asks (codes "show" ∷ map string_bytes words.now) request) }
+    ensures only { (request : Request) → Asks (codes "show" ∷ map string_bytes words.now) request → result ≡ Some request }
+{
+    let chain = read_net(words)?;
+    Some(Request::Show { chain })
+}
+
+/// Reads the arguments that are `--net` with a chain, or none for main.
+fn read_net(words: &[String]) -> Option<Chain>
+    ensures found { IfSome result (λ chain. IsNet (map string_bytes words.now) chain) }
+    ensures only { (chain : Chain) → IsNet (map string_bytes words.now) chain → result ≡ Some chain }
+{
+    if words.is_empty() {
+        return Some(Chain::Main);
+    }
+    read_chain(option_value(words, b"--net")?)
+}
+
+/// Reads the name of a chain.
+fn read_chain(name: &[u8]) -> Option<Chain>
+    ensures found { IfSome result (λ chain. name.now ≡ chain_name chain) }
+    ensures only { (chain : Chain) → name.now ≡ chain_name chain → result ≡ Some chain }
+{
+    if name == b"main".as_slice() {
+        Some(Chain::Main)
+    } else if name == b"test".as_slice() {
+        Some(Chain::Test)
+    } else if name == b"signet".as_slice() {
+        Some(Chain::Signet)
+    } else if name == b"regtest".as_slice() {
+        Some(Chain::Regtest)
+    } else {
+        None
+    }
 }
 
 /// Returns the value of the option `name`, in two arguments or in one with `=` between them.

@@ -5,6 +5,7 @@ use Rattle.net_addr.specs.Text.{IsPeerText}
 use Rattle.net_addr.specs.declared.peer.Peer.{Peer}
 use Rattle.addrman_run.specs.Request.{Asks}
 use Rattle.addrman_run.specs.declared.request.Request.{Request}
+use Rattle.addrman_run.specs.declared.request.Request.TheVariants.{Show}
 use Rattle.addrman_run.specs.declared.request.Request.TheVariants.{Replay, Compile, Check, Lookup}
 use Rattle.addrman_run.proofs.words.read_lookup.Goals as goal
 
@@ -13,6 +14,7 @@ asks_lookup : (words : List (List ℕ)) (word : List ℕ) → words ≡ word ∷
     (peer : Peer) × IsPeerText word peer × (request ≡ Lookup peer)
 asks_lookup words word one (Replay key) asks = absurd (omega (arith, ap (λ ws. get_or (get_or ws 0 []) 0 0) asks.4))
 asks_lookup words word one Compile asks = absurd (omega (arith, ap (λ ws. get_or (get_or ws 0 []) 0 0) asks))
+asks_lookup words word one (Show chain) asks = absurd (omega (arith, ap (λ ws. get_or (get_or ws 0 []) 0 0) asks.2))
 asks_lookup words word one Check asks = absurd (omega (arith, ap (λ ws. get_or (get_or ws 0 []) 0 0) asks))
 asks_lookup words word one (Lookup peer) asks =
     let same = ap (λ ws. get_or (drop 1 ws) 0 []) (sym asks.2) ∙ ap (λ ws. get_or ws 0 []) one in

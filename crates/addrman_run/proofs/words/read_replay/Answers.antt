@@ -3,6 +3,7 @@ use Rattle.std.specs.Option.{option_map}
 use Rattle.std.proofs.lemmas.Option.{none-some}
 use Rattle.addrman_run.specs.Request.{IsOption, Asks}
 use Rattle.addrman_run.specs.declared.request.Request.{Request}
+use Rattle.addrman_run.specs.declared.request.Request.TheVariants.{Show}
 use Rattle.addrman_run.specs.declared.request.Request.TheVariants.{Replay, Compile, Check, Lookup}
 use Rattle.addrman_run.proofs.words.read_replay.Goals as goal
 
@@ -12,6 +13,7 @@ none_asked words h (Replay key) asks = h asks.0 (subst (IsOption (codes "--key")
 none_asked words h Compile asks = omega (arith, ap (λ ws. get_or (get_or ws 0 []) 0 0) asks)
 none_asked words h Check asks = omega (arith, ap (λ ws. get_or (get_or ws 0 []) 0 0) asks)
 none_asked words h (Lookup peer) asks = omega (arith, ap (λ ws. get_or (get_or ws 0 []) 0 0) asks.2)
+none_asked words h (Show chain) asks = omega (arith, ap (λ ws. get_or (get_or ws 0 []) 0 0) asks.2)
 
 none_told : (r : Option (Bor (List ℕ))) (value : List ℕ) → r ≡ None → option_map (λ x. x.now) r ≡ Some value → ⊥
 none_told r value is told = none-some value (sym (ap (option_map (λ x. x.now)) is) ∙ told)
