@@ -1,0 +1,102 @@
+use crate::spelled::{bytes_of, chain_of};
+use call_rows::{Calls, Fields, Unread};
+use peer_rec::Snapshot;
+use peers_file::{Chain, FileFault, read_file, write_file};
+use peers_text::put_snapshot;
+use std::alloc::Global;
+
+/// The calls, which need nothing of one another.
+#[derive(Drop)]
+pub(crate) struct FileCalls;
+
+impl Calls for FileCalls {
+    fn start(_alloc: Global) -> Result<FileCalls, Unread> {
+        Ok(FileCalls)
+    }
+
+    /// `fault CHAIN FILE` answers with the word of the file's first fault and the fault, `rewrite
+    /// CHAIN FILE OTHER` with whether what the file has is written as the other file, and `line N
+    /// CHAIN FILE` with a line of the file's list.
+    fn call(&mut self, alloc: Global, name: &str, arguments: &str) -> Result<String, Unread> {
+        let mut fields = Fields::of(arguments);
+        match name {
+            "fault" => {
+                let read = read_next(alloc, &mut fields)?;
+                fault_of(alloc, &read)
+            }
+            "rewrite" => {
+                let chain = chain_of(fields.word())?;
+                rewritten(alloc, chain, &mut fields)
+            }
+            "line" => {
+                let number = fields.number()?;
+                let read = read_next(alloc, &mut fields)?;
+                line_of(alloc, number, &read)
+            }
+            _ => Err(Unread::Form),
+        }
+    }
+}
+
+/// Reads the file of the next two fields, its chain and its bytes.
+fn read_next(
+    alloc: Global,
+    fields: &mut Fields<'_>,
+) -> Result<Result<Snapshot, FileFault>, Unread> {
+    let chain = chain_of(fields.word())?;
+    let bytes = bytes_of(alloc, fields.word())?;
+    Ok(read_file(alloc, bytes.as_slice(), chain))
+}
+
+/// Returns the word of the fault, and the fault.
+fn fault_of(alloc: Global, read: &Result<Snapshot, FileFault>) -> Result<String, Unread> {
+    match read {
+        Ok(_) => Ok(String::from_str(alloc, "none")?),
+        Err(FileFault::Memory) => Err(Unread::Memory),
+        Err(fault) => Ok(format!(in alloc; "{fault} {fault:?}")?),
+    }
+}
+
+/// Returns whether what the file of the next field has is written as the file of the field after it.
+fn rewritten(alloc: Global, chain: Chain, fields: &mut Fields<'_>) -> Result<String, Unread> {
+    let bytes = bytes_of(alloc, fields.word())?;
+    let wanted = bytes_of(alloc, fields.word())?;
+    let Ok(snap) = read_file(alloc, bytes.as_slice(), chain) else {
+        return Err(Unread::Unmet);
+    };
+    if snap.bucket_count() != 1024 || snap.listed().len() > 65_536 {
+        return Err(Unread::Unmet);
+    }
+    let Ok(written) = write_file(alloc, &snap, chain) else {
+        return Err(Unread::Memory);
+    };
+    let answer = if written.items() == wanted.as_slice() {
+        "same"
+    } else {
+        "other"
+    };
+    Ok(String::from_str(alloc, answer)?)
+}
+
+/// Returns a line, counted from 0, of the list of what the file has.
+fn line_of(
+    alloc: Global,
+    number: u64,
+    read: &Result<Snapshot, FileFault>,
+) -> Result<String, Unread> {
+    let Ok(snap) = read else {
+        return Err(Unread::Unmet);
+    };
+    let mut text = Vec::new(alloc);
+    text.extend_from_slice(b"before ")?;
+    if put_snapshot(snap, &mut text).is_err() {
+        return Err(Unread::Memory);
+    }
+    let Ok(text) = str::from_utf8(text.as_slice()) else {
+        return Err(Unread::Form);
+    };
+    match text.lines().nth(number as usize) {
+        Some(line) => Ok(String::from_str(alloc, line)?),
+        None => Ok(String::from_str(alloc, "no line")?),
+    }
+}
