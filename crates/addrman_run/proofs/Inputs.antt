@@ -12,7 +12,7 @@ use Rattle.addrman_run.specs.declared.status.Status.{Status}
 use Rattle.addrman_run.specs.declared.status.Status.TheVariants.{DiskFault, Memory, NoFile}
 
 -- what holds of each status that a file is not loaded for
-not_loaded : (P : Status → Type 0) (file : Input) (past : Option Past) (status : Status) → IsNotLoaded file past status →
+pub not_loaded : (P : Status → Type 0) (file : Input) (past : Option Past) (status : Status) → IsNotLoaded file past status →
     (IsAbsent (name_of file) past → P (NoFile (name_of file))) → P DiskFault → P Memory →
     ((size : ℕ) → IsLarge file past size → P (too_large_of file size)) → P status
 not_loaded P file past status why absent disk memory large = elim why [

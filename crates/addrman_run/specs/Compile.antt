@@ -1,15 +1,22 @@
--- What compiling prefixes.txt writes, and how it ends.
-use Rattle.std.specs.Prelude.{◌≡◌, ℕ, ◌≤◌, List, ◌++◌, length, Option, codes, decimal}
-use Rattle.host_io.specs.Past.{Past}
+-- What compiling prefixes.txt writes and saves, and how it ends.
+use Rattle.std.specs.Prelude.{◌≡◌, ◌≢◌, ◌⊎◌, ℕ, ◌≤◌, List, ◌++◌, length, Option, Some, IfSome, codes, decimal}
+use Rattle.host_io.specs.Disk.{Disk, MayHave}
 use Rattle.host_io.specs.Outside.{Outside}
+use Rattle.host_io.specs.Past.{Past, Always}
+use Rattle.host_io.specs.PerName.{under}
+use Rattle.host_io.specs.Writing.{Appended, AppendedPart}
+use Rattle.host_io.specs.declared.name.Name.{Name}
 use Rattle.host_io.specs.declared.name.Name.TheVariants as name
 use Rattle.prefix_table.specs.declared.row.Row.{Row}
 use Rattle.asmap_vm.specs.Code.{code, IsSaneFile}
 use Rattle.asmap_compile.specs.Compiled.{compiled}
 use Rattle.asmap_compile.specs.declared.compiling.TheConstants.{MAX_BITS}
-use Rattle.addrman_run.specs.FileLine.{FileLineEnds}
+use Rattle.save_store.specs.Saves.{IsStored, NoMore}
+use Rattle.addrman_run.specs.InFolder.{IsAbsent, ReportsAbsence}
+use Rattle.addrman_run.specs.Log.{SameLog}
 use Rattle.addrman_run.specs.Tables.{IsTableIn, ReportsTable}
 use Rattle.addrman_run.specs.declared.status.Status.{Status}
+use Rattle.addrman_run.specs.declared.status.Status.TheVariants.{Done, WriteFault, DiskFault, Memory, NoFile}
 
 -- how many rows a table has, and how many bits and bytes the file of its compiled tree
 unfoldable pub compile_text : List Row → List ℕ → List ℕ
@@ -17,11 +24,39 @@ compile_text rows file =
     codes "compiled " ++ decimal (length rows) ++ codes " rows " ++ decimal (length (code (compiled rows))) ++ codes " bits "
     ++ decimal (length file) ++ codes " bytes\n"
 
--- the line about the folder's table and the file of its compiled tree, whose code is within the limit
-abbrev pub IsCompileLine : Option Past → List ℕ → Type 0
-IsCompileLine past line =
-    (rows : List Row) × IsTableIn past rows × (length (code (compiled rows)) ≤ MAX_BITS)
-    × ((file : List ℕ) × IsSaneFile (compiled rows) file × (line ≡ compile_text rows file))
+-- the rows of the folder's prefixes.txt, whose code is within the limit, and the file of that code
+pub record IsCompiled (past : Option Past) (rows : List Row) (file : List ℕ) : Type 0 where
+  pub table : IsTableIn past rows
+  pub small : length (code (compiled rows)) ≤ MAX_BITS
+  pub sane : IsSaneFile (compiled rows) file
 
-abbrev pub CompileEnds : Outside → Outside → Status → Type 0
-CompileEnds = FileLineEnds name.Prefixes IsCompileLine ReportsTable
+-- The disk of a moment beside the one at the start: a crash leaves in asmap.dat what it could leave there at the start, or
+-- the whole file of the folder's table; and at each other name but asmap.tmp nothing that it could not leave at the start.
+pub record IsOldOrNew (past : Option Past) (start disk : Disk) : Type 0 where
+  pub asmap : (found : Option (List ℕ)) → MayHave (under disk name.Asmap) found →
+      MayHave (under start name.Asmap) found ⊎ ((rows : List Row) × (file : List ℕ) × IsCompiled past rows file × (found ≡ Some file))
+  pub others : (other : Name) → other ≢ name.AsmapTemp → other ≢ name.Asmap → NoMore start disk other
+
+-- asmap.dat reads as these bytes, and every crash leaves it with them
+abbrev pub IsInPlace : List ℕ → Option Past → Type 0
+IsInPlace file past = IfSome past (λ p. ((under p.now name.Asmap).file ≡ Some file) × IsStored name.Asmap file p.now)
+
+-- The file of the folder's table is in its place, and the line about it was written, or a part of it.
+abbrev pub SavesTable : (Option (List ℕ) → Option (List ℕ) → List ℕ → Type 0) → Option Past → Option Past → Option (List ℕ) → Option (List ℕ) → Type 0
+SavesTable Writes old new before after =
+    (rows : List Row) × (file : List ℕ) × IsCompiled old rows file × IsInPlace file new × Writes before after (compile_text rows file)
+
+-- what is saved and written for each status
+abbrev pub CompileText : Option Past → Option Past → Option (List ℕ) → Option (List ℕ) → Status → Type 0
+CompileText old new before after Done = SavesTable Appended old new before after
+CompileText old new before after WriteFault = SavesTable AppendedPart old new before after
+CompileText old new before after (NoFile n) = (n ≡ name.Prefixes) × IsAbsent name.Prefixes old × (new ≡ old) × (after ≡ before)
+CompileText old new before after DiskFault = after ≡ before
+CompileText old new before after Memory = (new ≡ old) × (after ≡ before)
+CompileText old new before after other = ReportsTable old other × (new ≡ old) × (after ≡ before)
+
+pub record CompileEnds (old new : Outside) (status : Status) : Type 0 where
+  pub text : CompileText old.past new.past old.written new.written status
+  pub any_moment : Always old.past new.past (IsOldOrNew old.past)
+  pub absent : ReportsAbsence name.Prefixes old.past status
+  pub left : SameLog old new

@@ -5,15 +5,19 @@ use Rattle.host_io.specs.Writing.{Appended, AppendedPart}
 use Rattle.host_io.specs.declared.name.Name.{Name}
 use Rattle.host_io.specs.declared.name.Name.TheVariants as name
 use Rattle.prefix_table.specs.declared.fault.TableFault.TheVariants as table
+use Rattle.prefix_table.specs.declared.row.Row.{Row}
 use Rattle.asmap_vm.specs.Asmap.{Asmap, IsAsmap}
 use Rattle.asmap_vm.specs.declared.fault.CodeFault.TheVariants as code
 use Rattle.bit_code.specs.declared.bits.TheConstants.{MAX_ASMAP}
 use Rattle.peers_file.specs.declared.fault.FileFault.TheVariants as peers
 use Rattle.peers_file.specs.declared.read.TheConstants.{MAX_FILE}
+use Rattle.addrman_run.specs.Compile.{IsCompiled, IsInPlace, compile_text}
 use Rattle.addrman_run.specs.InFolder.{IsFileIn, IsAbsent, IsTooLarge}
+use Rattle.addrman_run.specs.Tables.{RefusesTable}
 use Rattle.prefix_table.specs.declared.read.TheConstants.{MAX_TEXT}
 use Rattle.addrman_run.specs.declared.input.Input.{Input}
 use Rattle.addrman_run.specs.declared.input.Input.TheVariants as input
+use Rattle.addrman_run.specs.declared.tables_fault.TablesFault.{TablesFault}
 use Rattle.addrman_run.specs.declared.tables_fault.TablesFault.TheVariants.{Rows}
 use Rattle.addrman_run.specs.declared.peers_fault.PeersFault.TheVariants.{File}
 use Rattle.addrman_run.specs.declared.status.Status.{Status}
@@ -58,6 +62,21 @@ IsNotLoaded input past status = ((status ≡ NoFile (name_of input)) × IsAbsent
 -- how the writing of a line ends: all of it, or a part of it
 abbrev pub LineEnds : List ℕ → Option (List ℕ) → Option (List ℕ) → Status → Type 0
 LineEnds line old new status = ((status ≡ Done) × Appended old new line) ⊎ ((status ≡ WriteFault) × AppendedPart old new line)
+
+-- the file of the folder's table, and the line about both
+abbrev pub IsNewAsmap : Option Past → List ℕ → List ℕ → Type 0
+IsNewAsmap past file line = (rows : List Row) × IsCompiled past rows file × (line ≡ compile_text rows file)
+
+-- why the text of prefixes.txt is not compiled: memory ran out, or its table is refused
+abbrev pub IsNotCompiled : List ℕ → Status → Type 0
+IsNotCompiled text status =
+    (status ≡ Memory) ⊎ ((fault : TablesFault) × (status ≡ TableRefused fault)
+    × ((past : Option Past) → IsLoaded input.Prefixes past text → RefusesTable past fault))
+
+-- how the saving of a file and the line about it end: the folder failed, or the file is in its place and the line ends
+abbrev pub SaveEnds : List ℕ → List ℕ → Option Past → Option (List ℕ) → Option (List ℕ) → Status → Type 0
+SaveEnds file line past old new status =
+    ((status ≡ DiskFault) × (new ≡ old)) ⊎ (IsInPlace file past × LineEnds line old new status)
 
 -- how the run of some lines may end
 abbrev pub IsLinesEnd : Status → Type 0

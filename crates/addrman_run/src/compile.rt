@@ -1,16 +1,31 @@
-ghost use Rattle.std.specs.Prelude.{◌≡◌, ◌++◌, codes, decimal, length, IfOk};
+ghost use Rattle.std.specs.Prelude.{◌≡◌, ◌≤◌, ◌++◌, Option, codes, decimal, length, IfOk, IfErr};
 ghost use Rattle.asmap_vm.specs.Code.{code};
 ghost use Rattle.asmap_compile.specs.Compiled.{compiled};
-ghost use Rattle.addrman_run.specs.Compile.{IsCompileLine, compile_text};
-ghost use Rattle.addrman_run.specs.Tables.{ReportsTable};
+ghost use Rattle.host_io.specs.Past.{Past, Always};
+ghost use Rattle.host_io.specs.declared.name.Name.TheVariants as name;
+ghost use Rattle.prefix_table.specs.declared.read.TheConstants.{MAX_TEXT};
+ghost use Rattle.save_store.specs.Saves.{PublishesOrNot};
+ghost use Rattle.addrman_run.specs.Compile.{CompileText, IsOldOrNew, compile_text};
+ghost use Rattle.addrman_run.specs.InFolder.{ReportsAbsence};
+ghost use Rattle.addrman_run.specs.Inside.{IsLoaded, IsNewAsmap, IsNotCompiled, SaveEnds};
+ghost use Rattle.addrman_run.specs.Outcome.{IsCounted};
 ghost use Rattle.addrman_run.specs.declared.input.Input.TheVariants as input;
 
-use crate::TablesFault;
-use crate::file_line::{FileLine, Refusal};
-use crate::input::Input;
+use crate::input::{Input, load_present};
+use crate::output::write_line;
+use crate::{Status, TablesFault};
 use asmap_compile::{CompileFault, Compiled, compile};
+use host_io::{Folder, Name, Sink};
 use prefix_table::{Table, TableFault, read_table};
+use save_store::save;
 use std::alloc::{AllocError, Global};
+
+/// The asmap of a table, and the line about both.
+#[derive(Drop)]
+struct NewAsmap {
+    file: Compiled,
+    line: Vec<u8>,
+}
 
 /// Returns the line with the numbers of rows, bits and bytes.
 fn line_of(alloc: Global, rows: usize, bits: u64, bytes: usize) -> Result<Vec<u8>, AllocError>
@@ -34,35 +49,66 @@ fn compile_line(alloc: Global, table: &Table, file: &Compiled) -> Result<Vec<u8>
     line_of(alloc, table.rows().len(), file.bits(), file.code().len())
 }
 
-/// The command that compiles prefixes.txt and says how large the table and its asmap are.
-#[derive(Drop)]
-pub(crate) struct Compile;
-
-impl FileLine for Compile {
-    ghost file = { λ _. input.Prefixes };
-
-    ghost is_line = { λ _. IsCompileLine };
-
-    ghost refuses = { λ _. ReportsTable };
-
-    fn input(&self) -> Input {
-        Input::Prefixes
+/// Compiles the table in the text of prefixes.txt.
+fn new_asmap(alloc: Global, text: &[u8]) -> Result<NewAsmap, Status>
+    requires { length text.now ≤ MAX_TEXT }
+    ensures found { IfOk result (λ made. (past : Option Past) →
+        IsLoaded input.Prefixes past text.now →
+        IsNewAsmap past made.file.bytes made.line.items) }
+    ensures cause { IfErr result (IsNotCompiled text.now) }
+{
+    let table = match read_table(alloc, text) {
+        Ok(table) => table,
+        Err(TableFault::Memory) => return Err(Status::Memory),
+        Err(fault) => return Err(Status::TableRefused(TablesFault::Rows(fault))),
+    };
+    let file = match compile(alloc, &table) {
+        Ok(file) => file,
+        Err(CompileFault::Memory) => return Err(Status::Memory),
+        Err(fault) => return Err(Status::TableRefused(TablesFault::Compile(fault))),
+    };
+    match compile_line(alloc, &table, &file) {
+        Ok(line) => Ok(NewAsmap { file, line }),
+        Err(_) => Err(Status::Memory),
     }
+}
 
-    fn line_of(&self, alloc: Global, bytes: &[u8]) -> Result<Vec<u8>, Refusal> {
-        let table = match read_table(alloc, bytes) {
-            Ok(table) => table,
-            Err(TableFault::Memory) => return Err(Refusal::Memory),
-            Err(fault) => return Err(Refusal::Table(TablesFault::Rows(fault))),
-        };
-        let file = match compile(alloc, &table) {
-            Ok(file) => file,
-            Err(CompileFault::Memory) => return Err(Refusal::Memory),
-            Err(fault) => return Err(Refusal::Table(TablesFault::Compile(fault))),
-        };
-        match compile_line(alloc, &table, &file) {
-            Ok(line) => Ok(line),
-            Err(_) => Err(Refusal::Memory),
-        }
+/// Saves a file as asmap.dat, and then writes the line about it.
+#[tactic(auto, using(crate::proofs::Compiling::in_place))]
+fn save_asmap<F: Folder, K: Sink>(file: &[u8], line: &[u8], folder: &mut F, out: &mut K) -> Status
+    ensures ends { SaveEnds file.now line.now (F.past folder.new) (K.written out.old)
+        (K.written out.new) result }
+    ensures any_moment { Always (F.past folder.old) (F.past folder.new)
+        (PublishesOrNot name.AsmapTemp name.Asmap file.now) }
+    ensures disk { IsCounted Status.DiskFault (F.faults folder.old) (F.faults folder.new) result }
+    ensures write { IsCounted Status.WriteFault (K.faults out.old) (K.faults out.new) result }
+{
+    match save(folder, Name::AsmapTemp, Name::Asmap, file) {
+        Ok(()) => write_line(line, out),
+        Err(_) => Status::DiskFault,
+    }
+}
+
+/// Compiles prefixes.txt into asmap.dat, and says how large the table and the file are.
+pub(crate) fn compile_table<F: Folder, K: Sink>(
+    alloc: Global,
+    folder: &mut F,
+    out: &mut K,
+) -> Status
+    ensures text { CompileText (F.past folder.old) (F.past folder.new) (K.written out.old)
+        (K.written out.new) result }
+    ensures any_moment { Always (F.past folder.old) (F.past folder.new)
+        (IsOldOrNew (F.past folder.old)) }
+    ensures absent { ReportsAbsence name.Prefixes (F.past folder.old) result }
+    ensures disk { IsCounted Status.DiskFault (F.faults folder.old) (F.faults folder.new) result }
+    ensures write { IsCounted Status.WriteFault (K.faults out.old) (K.faults out.new) result }
+{
+    let text = match load_present(alloc, Input::Prefixes, folder) {
+        Ok(text) => text,
+        Err(status) => return status,
+    };
+    match new_asmap(alloc, text.items()) {
+        Ok(made) => save_asmap(made.file.code(), made.line.as_slice(), folder, out),
+        Err(status) => status,
     }
 }

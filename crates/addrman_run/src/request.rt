@@ -6,7 +6,7 @@ use peers_file::Chain;
 pub enum Request {
     /// `replay --key HEX64`: carry out the lines of the log, from empty tables with this key.
     Replay { key: [u8; 32] },
-    /// `compile`: compile prefixes.txt, and say how large its asmap is.
+    /// `compile`: compile prefixes.txt into asmap.dat, and say how large it is.
     Compile,
     /// `check`: say whether asmap.dat is sane.
     Check,

@@ -5,7 +5,7 @@ ghost use Rattle.addrman_run.specs.Outcome.{Ends, HasCause};
 ghost use Rattle.addrman_run.specs.declared.request.Request.{Request};
 
 use crate::check::Check;
-use crate::compile::Compile;
+use crate::compile::compile_table;
 use crate::file_line::write_file_line;
 use crate::lookup::Lookup;
 use crate::replay::replay;
@@ -20,8 +20,8 @@ use std::hash::BuildHasher;
 ///
 /// `replay --key HEX64` carries out the lines of the log and writes the reply to each, from empty
 /// tables with that key and the folder's asmap.dat, if there is one. `compile` compiles the folder's
-/// prefixes.txt, `check` checks its asmap.dat, and `lookup PEER` writes the AS number and the group
-/// that asmap.dat gives the peer's address. `show` lists what the folder's peers.dat has.
+/// prefixes.txt into asmap.dat, `check` checks asmap.dat, and `lookup PEER` writes the AS number and
+/// the group that it gives the peer's address. `show` lists what peers.dat has.
 pub fn run<L: Source, F: Folder, K: Sink, H: BuildHasher + Drop>(
     alloc: Global,
     hasher: H,
@@ -42,7 +42,7 @@ pub fn run<L: Source, F: Folder, K: Sink, H: BuildHasher + Drop>(
     };
     match request {
         Request::Replay { key } => replay(alloc, hasher, key, log, folder, out),
-        Request::Compile => write_file_line(alloc, &Compile, folder, out),
+        Request::Compile => compile_table(alloc, folder, out),
         Request::Check => write_file_line(alloc, &Check, folder, out),
         Request::Lookup { peer } => write_file_line(alloc, &Lookup { peer }, folder, out),
         Request::Show { chain } => write_file_line(alloc, &Show { chain }, folder, out),

@@ -9,6 +9,14 @@ pub(crate) struct File {
     pub bytes: Vec<u8>,
 }
 
+/// What is to be at a name of the folder after the run.
+#[derive(Drop)]
+pub(crate) struct Left {
+    pub name: Name,
+    /// The bytes of the file, or none if it is to be absent.
+    pub bytes: Option<Vec<u8>>,
+}
+
 /// What a run is given, and what is wanted of it.
 #[derive(Drop)]
 pub(crate) struct Case {
@@ -31,10 +39,12 @@ pub(crate) struct Case {
     pub replies: Vec<u8>,
     /// How the run is to end: the exit code, and after a space the text of the status.
     pub end: String,
+    /// The names that are not to be as before, and what is to be there.
+    pub left: Vec<Left>,
 }
 
 /// The files that a folder may have.
-const NAMES: [Name; 7] = [
+pub(crate) const NAMES: [Name; 7] = [
     Name::Peers,
     Name::PeersTemp,
     Name::Asmap,
@@ -131,6 +141,7 @@ impl Case {
             failing_calls: Vec::new(alloc),
             replies: Vec::new(alloc),
             end: String::from_str(alloc, "0")?,
+            left: Vec::new(alloc),
         })
     }
 
@@ -185,6 +196,7 @@ impl Case {
             }
             "file" | "file-text" | "file-fill" => self.file(what, rest),
             "file-cut" => self.cut(rest),
+            "left" => self.leave(rest),
             "log" | "text" | "log-fill" | "then" => self.bytes_of_log(what, rest),
             _ => self.count(what, number(rest)?),
         }
@@ -259,6 +271,19 @@ impl Case {
                 file.bytes.truncate(length);
             }
         }
+        Ok(())
+    }
+
+    /// Takes what is to be at a name after the run, `NAME HEX`, or `NAME -` for no file.
+    fn leave(&mut self, rest: &str) -> Result<(), Unread> {
+        let (name, rest) = first_word(rest);
+        let name = name_of(name)?;
+        let bytes = if rest == "-" {
+            None
+        } else {
+            Some(bytes(self.alloc, rest)?)
+        };
+        self.left.push(Left { name, bytes })?;
         Ok(())
     }
 }

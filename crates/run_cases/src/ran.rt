@@ -1,9 +1,9 @@
 ghost use Rattle.std.specs.Prelude.{◌≡◌, true, string_bytes};
 
-use crate::case::Case;
+use crate::case::{Case, Left, NAMES};
 use crate::unread::Unread;
 use addrman_run::{Status, code, run, status_line};
-use host_io::{MemFolder, MemSink, MemSource};
+use host_io::{MemFolder, MemSink, MemSource, Name};
 use std::alloc::Global;
 use std::hash::{BuildHasherDefault, FoldHasher};
 
@@ -13,7 +13,7 @@ pub(crate) struct Ran {
     /// The exit code, and after a space the text of the status.
     pub end: String,
     pub written: Vec<u8>,
-    /// The files of the folder are as before, and no call ran out of memory.
+    /// The folder has the files that the case wants, and no call ran out of memory.
     pub is_steady: bool,
 }
 
@@ -52,10 +52,41 @@ pub(crate) fn end_of(alloc: Global, status: &Status) -> Result<String, Unread> {
     }
 }
 
-/// Whether each file that the case put into the folder is there as it was.
-fn is_kept(folder: &MemFolder, case: &Case) -> bool {
+/// Returns what the case wants at a name that is not to be as before.
+fn left_at(case: &Case, name: Name) -> Option<&Left> {
+    for left in case.left.as_slice() {
+        if left.name == name {
+            return Some(left);
+        }
+    }
+    None
+}
+
+/// Returns the file that the case put under a name.
+fn file_at(case: &Case, name: Name) -> Option<&[u8]> {
     for file in case.files.as_slice() {
-        if folder.get(file.name) != Some(file.bytes.as_slice()) {
+        if file.name == name {
+            return Some(file.bytes.as_slice());
+        }
+    }
+    None
+}
+
+/// Returns the file that the case wants at a name after the run.
+fn wanted_at(case: &Case, name: Name) -> Option<&[u8]> {
+    let Some(left) = left_at(case, name) else {
+        return file_at(case, name);
+    };
+    match &left.bytes {
+        Some(bytes) => Some(bytes.as_slice()),
+        None => None,
+    }
+}
+
+/// Whether each name has what the case wants there.
+fn is_as_wanted(folder: &MemFolder, case: &Case) -> bool {
+    for name in NAMES {
+        if folder.get(name) != wanted_at(case, name) {
             return false;
         }
     }
@@ -80,7 +111,7 @@ pub(crate) fn run_case(alloc: Global, case: &Case) -> Result<Ran, Unread> {
     let hasher = BuildHasherDefault::<FoldHasher>::new();
     let arguments = case.arguments.as_slice();
     let status = run(alloc, hasher, arguments, &mut log, &mut folder, &mut out);
-    let is_steady = is_kept(&folder, case) && out.starved() == 0 && folder.starved() == 0;
+    let is_steady = is_as_wanted(&folder, case) && out.starved() == 0 && folder.starved() == 0;
     Ok(Ran {
         end: end_of(alloc, &status)?,
         written: Vec::from_slice(alloc, out.bytes())?,

@@ -1,0 +1,21 @@
+use Rattle.std.proofs.Common.{subst, sym}
+use Rattle.addrman_run.specs.Inside.{IsLoaded}
+use Rattle.addrman_run.specs.declared.input.Input.TheVariants as input
+use Rattle.addrman_run.proofs.Compiling.{kept, old_or_new}
+use Rattle.addrman_run.proofs.compile.compile_table.Goals as goal
+
+pub returns-in-Err-clause-any_moment : goal.returns-in-Err-clause-any_moment
+returns-in-Err-clause-any_moment g c =
+    kept (g.F.Folder.past c.args.folder.now) (g.F.Folder.past c.load_present.new.folder) c.load_present.ensures.same
+
+pub returns-in-Ok-new_asmap-clause-any_moment : goal.returns-in-Ok-new_asmap-clause-any_moment
+returns-in-Ok-new_asmap-clause-any_moment g c =
+    let P = g.F.Folder.past in
+    let old = P c.args.folder.now in
+    old_or_new old (P c.load_present.new.folder) (P c.save_asmap.new.folder) c.code.result.now c.in-Ok-new_asmap.made.file.bytes
+    c.in-Ok-new_asmap.made.line.items c.load_present.ensures.same c.code.ensures
+    (c.in-Ok-new_asmap.ensures.found old (subst (IsLoaded input.Prefixes old) (sym c.items.ensures) c.in-Ok.ensures.found)) c.save_asmap.ensures.any_moment
+
+pub returns-clause-any_moment : goal.returns-clause-any_moment
+returns-clause-any_moment g c =
+    kept (g.F.Folder.past c.args.folder.now) (g.F.Folder.past c.load_present.new.folder) c.load_present.ensures.same
