@@ -1,5 +1,6 @@
 # make: builds the proved program and puts it at bin/addrman
-# make demo: compiles, checks and looks up a small table of prefixes, and replays small logs
+# make demo: compiles a small table of prefixes, checks the asmap, turns it back, looks up addresses in it, and
+# replays small logs
 # make endings: tries the exit codes of the built program and their texts
 # make test: the gate
 
@@ -15,6 +16,7 @@ all:
 demo: all
 	cd examples && ../bin/addrman compile
 	cd examples && ../bin/addrman check
+	cd examples && ../bin/addrman decompile
 	cd examples && ../bin/addrman lookup 1.2.3.4:8333
 	cd examples && ../bin/addrman lookup '[2606:4700::1111]:8333'
 	bin/addrman replay --key $(ZERO_KEY) < examples/one-address.log

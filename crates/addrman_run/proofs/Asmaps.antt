@@ -6,8 +6,11 @@ use Rattle.host_io.specs.Past.{Past}
 use Rattle.host_io.specs.declared.name.Name.TheVariants as name
 use Rattle.asmap_vm.specs.Asmap.{Asmap}
 use Rattle.asmap_vm.specs.Code.{Tree, IsSaneFile}
+use Rattle.asmap_vm.specs.Held.{bytes_held, tree_held}
+use Rattle.asmap_vm.specs.declared.sane.Sane.{Sane}
 use Rattle.asmap_vm.specs.declared.fault.CodeFault.{CodeFault}
 use Rattle.asmap_vm.specs.declared.fault.CodeFault.TheVariants.{Insane}
+use Rattle.placing.specs.Inside.{asmap_of}
 use Rattle.addrman_run.specs.Asmaps.{IsMapIn, RefusesAsmap}
 use Rattle.addrman_run.specs.InFolder.{IsAbsent, IsFileIn}
 use Rattle.addrman_run.specs.Inside.{IsMapOf, IsLoaded}
@@ -34,3 +37,9 @@ pub within : (past : Option Past) (loaded : Option (List ℕ)) →
     MatchOption loaded (IsAbsent name.Asmap past) (IsLoaded input.Asmap past) → IfSome loaded (λ b. length b ≤ MAX_ASMAP)
 within past None found = tt
 within past (Some bytes) found = found.0
+
+-- the asmap that was checked is the folder's
+pub checked : (past : Option Past) (s : Sane) (bytes : List ℕ) → IsLoaded input.Asmap past bytes →
+    (bytes_held s ≡ bytes) × (length bytes ≤ MAX_ASMAP) × IsSaneFile (tree_held s) bytes → IsMapIn past (Some (asmap_of s))
+checked past s bytes found sane =
+    (subst (IsFileIn name.Asmap MAX_ASMAP past) (sym sane.0) found, subst (IsSaneFile (tree_held s)) (sym sane.0) sane.2)

@@ -17,6 +17,7 @@ use Rattle.addrman_run.specs.Run.{AnswersAll, AnswersPrefix, StopsAt, StopsInRep
 use Rattle.addrman_run.specs.declared.status.Status.{Status}
 use Rattle.addrman_run.specs.declared.status.Status.TheVariants.{PeersRefused}
 use Rattle.addrman_run.specs.declared.status.Status.TheVariants.{Done, Usage, LogLine, AsmapRefused, TableRefused, ReadFault, WriteFault, DiskFault, LogTooLong, Memory, NoFile, NotBuilt}
+use Rattle.addrman_run.specs.declared.status.Status.TheVariants.{TooManyRows}
 
 -- a text of this kind was appended
 abbrev pub Told : (Machine → List ℕ → Type 0) → Machine → Option (List ℕ) → Option (List ℕ) → Type 0
@@ -53,3 +54,4 @@ replay_text key log map start now old new ReadFault has read is ends = absurd en
 replay_text key log map start now old new DiskFault has read is ends = absurd ends.ends
 replay_text key log map start now old new LogTooLong has read is ends = absurd ends.ends
 replay_text key log map start now old new (NoFile n) has read is ends = absurd ends.ends
+replay_text key log map start now old new TooManyRows has read is ends = absurd ends.ends

@@ -10,6 +10,7 @@ pub mod Replay
 pub mod FileLine
 pub mod Lookup
 pub mod Check
+pub mod Decompile
 pub mod Compile
 pub mod Show
 pub mod Outcome

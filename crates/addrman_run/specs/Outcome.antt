@@ -5,11 +5,13 @@ use Rattle.host_io.specs.Outside.{Outside}
 use Rattle.addrman_run.specs.Replay.{ReplayEnds}
 use Rattle.addrman_run.specs.Lookup.{LookupEnds}
 use Rattle.addrman_run.specs.Check.{CheckEnds}
+use Rattle.addrman_run.specs.Decompile.{DecompileEnds}
 use Rattle.addrman_run.specs.Compile.{CompileEnds}
 use Rattle.addrman_run.specs.Show.{ShowEnds}
 use Rattle.addrman_run.specs.declared.request.Request.{Request}
 use Rattle.addrman_run.specs.declared.request.Request.TheVariants.{Show}
 use Rattle.addrman_run.specs.declared.request.Request.TheVariants.{Replay, Compile, Check, Lookup}
+use Rattle.addrman_run.specs.declared.request.Request.TheVariants.{Decompile}
 use Rattle.addrman_run.specs.declared.status.Status.{Status}
 use Rattle.addrman_run.specs.declared.status.Status.TheVariants as status
 
@@ -17,6 +19,7 @@ abbrev pub Ends : Request → Outside → Outside → Status → Type 0
 Ends (Replay key) old new answer = ReplayEnds key old new answer
 Ends Compile old new answer = CompileEnds old new answer
 Ends Check old new answer = CheckEnds old new answer
+Ends Decompile old new answer = DecompileEnds old new answer
 Ends (Lookup peer) old new answer = LookupEnds peer old new answer
 Ends (Show chain) old new answer = ShowEnds chain old new answer
 

@@ -18,6 +18,7 @@ use Rattle.addrman_run.specs.declared.tables_fault.TablesFault.TheVariants.{Rows
 use Rattle.addrman_run.specs.declared.status.Status.{Status}
 use Rattle.addrman_run.specs.declared.status.Status.TheVariants.{PeersRefused}
 use Rattle.addrman_run.specs.declared.status.Status.TheVariants.{Done, Usage, LogLine, AsmapRefused, TableRefused, ReadFault, WriteFault, DiskFault, LogTooLong, Memory, NoFile, NotBuilt}
+use Rattle.addrman_run.specs.declared.status.Status.TheVariants.{TooManyRows}
 
 -- the exit code of the process
 abbrev pub code_of : Status → ℕ
@@ -34,6 +35,7 @@ code_of LogTooLong = 10
 code_of Memory = 12
 code_of (NoFile name) = 14
 code_of (NotBuilt line) = 15
+code_of TooManyRows = 17
 
 abbrev pub file_fault_text : FileFault → List ℕ
 file_fault_text file.Truncated = codes "truncated"
@@ -104,6 +106,7 @@ reason_of LogTooLong = codes "log too long"
 reason_of Memory = codes "out of memory"
 reason_of (NoFile name) = file_name_of name ++ codes " is missing"
 reason_of (NotBuilt n) = codes "not built at line " ++ decimal n
+reason_of TooManyRows = codes "asmap.dat has more than 2000000 rows"
 
 abbrev pub line_of : List ℕ → List ℕ
 line_of reason = codes "addrman: " ++ reason ++ codes "\n"

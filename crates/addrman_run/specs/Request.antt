@@ -7,6 +7,7 @@ use Rattle.peers_file.specs.declared.chain.Chain.TheVariants.{Main, Test, Signet
 use Rattle.addrman_run.specs.declared.request.Request.{Request}
 use Rattle.addrman_run.specs.declared.request.Request.TheVariants.{Show}
 use Rattle.addrman_run.specs.declared.request.Request.TheVariants.{Replay, Compile, Check, Lookup}
+use Rattle.addrman_run.specs.declared.request.Request.TheVariants.{Decompile}
 
 -- a key of 32 bytes, as 64 hexadecimal digits in either case
 abbrev pub IsKey : List ℕ → List ℕ → Type 0
@@ -33,5 +34,6 @@ Asks words (Replay key) =
     (digits : List ℕ) × (options : List (List ℕ)) × IsKey digits key × IsOption (codes "--key") digits options × (words ≡ codes "replay" ∷ options)
 Asks words Compile = words ≡ codes "compile" ∷ []
 Asks words Check = words ≡ codes "check" ∷ []
+Asks words Decompile = words ≡ codes "decompile" ∷ []
 Asks words (Lookup peer) = (text : List ℕ) × IsPeerText text peer × (words ≡ codes "lookup" ∷ text ∷ [])
 Asks words (Show chain) = (options : List (List ℕ)) × IsNet options chain × (words ≡ codes "show" ∷ options)

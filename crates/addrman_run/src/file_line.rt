@@ -22,6 +22,8 @@ use std::alloc::Global;
 pub(crate) enum Refusal {
     /// It is no asmap.
     Asmap(CodeFault),
+    /// It is an asmap of more rows than a table may have.
+    TooManyRows,
     /// It is no table, or one that cannot be compiled.
     Table(TablesFault),
     /// It is no file of peers.
@@ -56,6 +58,9 @@ pub(crate) trait FileLine {
         ensures asmap { (fault : CodeFault) → result ≡ Err (Refusal.Asmap fault) →
             (past : Option Past) → IsLoaded (file self.now) past bytes.now →
             refuses self.now past (Status.AsmapRefused fault) }
+        ensures rows { result ≡ Err Refusal.TooManyRows →
+            (past : Option Past) → IsLoaded (file self.now) past bytes.now →
+            refuses self.now past Status.TooManyRows }
         ensures table { (fault : TablesFault) → result ≡ Err (Refusal.Table fault) →
             (past : Option Past) → IsLoaded (file self.now) past bytes.now →
             refuses self.now past (Status.TableRefused fault) }
@@ -86,6 +91,7 @@ pub(crate) fn write_file_line<F: Folder, K: Sink, C: FileLine>(
     match command.line_of(alloc, bytes.items()) {
         Ok(line) => write_line(line.as_slice(), out),
         Err(Refusal::Asmap(fault)) => Status::AsmapRefused(fault),
+        Err(Refusal::TooManyRows) => Status::TooManyRows,
         Err(Refusal::Table(fault)) => Status::TableRefused(fault),
         Err(Refusal::Peers(fault)) => Status::PeersRefused(fault),
         Err(Refusal::Memory) => Status::Memory,

@@ -3,6 +3,7 @@
 
 mod check;
 mod compile;
+mod decompile;
 mod file_line;
 mod input;
 mod line_step;

@@ -28,6 +28,7 @@ pub fn code(status: &Status) -> u8
         Status::Memory => 12,
         Status::NoFile { .. } => 14,
         Status::NotBuilt { .. } => 15,
+        Status::TooManyRows => 17,
     }
 }
 
@@ -192,6 +193,7 @@ fn reason(alloc: Global, status: &Status) -> Result<Vec<u8>, AllocError>
         Status::Memory => Vec::from_slice(alloc, b"out of memory"),
         Status::NoFile { name } => joined(alloc, name.file_name().as_bytes(), b" is missing"),
         Status::NotBuilt { line } => word_and_line(alloc, b"not built at line ", *line),
+        Status::TooManyRows => Vec::from_slice(alloc, b"asmap.dat has more than 2000000 rows"),
     }
 }
 

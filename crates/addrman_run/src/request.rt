@@ -10,6 +10,8 @@ pub enum Request {
     Compile,
     /// `check`: say whether asmap.dat is sane.
     Check,
+    /// `decompile`: write the table of prefixes that asmap.dat stands for.
+    Decompile,
     /// `lookup PEER`: say which AS number and group the peer's address has.
     Lookup { peer: Peer },
     /// `show --net CHAIN`: list what peers.dat has, a file of this chain; of main without `--net`.

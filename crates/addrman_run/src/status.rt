@@ -33,4 +33,6 @@ pub enum Status {
     NoFile { name: Name },
     /// A line spells a command that is not supported yet; lines are counted from 1.
     NotBuilt { line: u64 },
+    /// asmap.dat gives more rows than a table of prefixes may have.
+    TooManyRows,
 }

@@ -6,6 +6,7 @@ ghost use Rattle.addrman_run.specs.declared.request.Request.{Request};
 
 use crate::check::Check;
 use crate::compile::compile_table;
+use crate::decompile::Decompile;
 use crate::file_line::write_file_line;
 use crate::lookup::Lookup;
 use crate::replay::replay;
@@ -20,8 +21,9 @@ use std::hash::BuildHasher;
 ///
 /// `replay --key HEX64` carries out the lines of the log and writes the reply to each, from empty
 /// tables with that key and the folder's asmap.dat, if there is one. `compile` compiles the folder's
-/// prefixes.txt into asmap.dat, `check` checks asmap.dat, and `lookup PEER` writes the AS number and
-/// the group that it gives the peer's address. `show` lists what peers.dat has.
+/// prefixes.txt into asmap.dat, `check` checks asmap.dat, `decompile` writes the table of prefixes
+/// that it stands for, and `lookup PEER` writes the AS number and the group that it gives the peer's
+/// address. `show` lists what peers.dat has.
 pub fn run<L: Source, F: Folder, K: Sink, H: BuildHasher + Drop>(
     alloc: Global,
     hasher: H,
@@ -44,6 +46,7 @@ pub fn run<L: Source, F: Folder, K: Sink, H: BuildHasher + Drop>(
         Request::Replay { key } => replay(alloc, hasher, key, log, folder, out),
         Request::Compile => compile_table(alloc, folder, out),
         Request::Check => write_file_line(alloc, &Check, folder, out),
+        Request::Decompile => write_file_line(alloc, &Decompile, folder, out),
         Request::Lookup { peer } => write_file_line(alloc, &Lookup { peer }, folder, out),
         Request::Show { chain } => write_file_line(alloc, &Show { chain }, folder, out),
     }

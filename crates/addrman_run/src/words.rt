@@ -22,6 +22,8 @@ pub fn read_request(words: &[String]) -> Option<Request>
         if_no_words(rest, Request::Compile)
     } else if command == b"check".as_slice() {
         if_no_words(rest, Request::Check)
+    } else if command == b"decompile".as_slice() {
+        if_no_words(rest, Request::Decompile)
     } else if command == b"lookup".as_slice() {
         read_lookup(rest)
     } else if command == b"show".as_slice() {

@@ -12,7 +12,7 @@ use std::hash::{BuildHasherDefault, FoldHasher};
 use std::io;
 
 /// Statuses that none of the cases ends with, and the exit code and the text of each.
-const STATUSES: [(Status, &str); 7] = [
+const STATUSES: [(Status, &str); 8] = [
     (
         Status::LogLine {
             line: u64::MAX,
@@ -40,6 +40,10 @@ const STATUSES: [(Status, &str); 7] = [
     (
         Status::NotBuilt { line: u64::MAX },
         "15 not built at line 18446744073709551615",
+    ),
+    (
+        Status::TooManyRows,
+        "17 asmap.dat has more than 2000000 rows",
     ),
 ];
 

@@ -5,6 +5,7 @@ use Rattle.addrman_run.specs.Request.{IsOption, Asks}
 use Rattle.addrman_run.specs.declared.request.Request.{Request}
 use Rattle.addrman_run.specs.declared.request.Request.TheVariants.{Show}
 use Rattle.addrman_run.specs.declared.request.Request.TheVariants.{Replay, Compile, Check, Lookup}
+use Rattle.addrman_run.specs.declared.request.Request.TheVariants.{Decompile}
 use Rattle.addrman_run.proofs.words.read_replay.Goals as goal
 
 -- words that are no option with a value ask for no replay
@@ -12,6 +13,7 @@ none_asked : (words : List (List ℕ)) → ((value : List ℕ) → IsOption (cod
 none_asked words h (Replay key) asks = h asks.0 (subst (IsOption (codes "--key") asks.0) (sym (ap (drop 1) asks.4)) asks.3)
 none_asked words h Compile asks = omega (arith, ap (λ ws. get_or (get_or ws 0 []) 0 0) asks)
 none_asked words h Check asks = omega (arith, ap (λ ws. get_or (get_or ws 0 []) 0 0) asks)
+none_asked words h Decompile asks = omega (arith, ap (λ ws. get_or (get_or ws 0 []) 0 0) asks)
 none_asked words h (Lookup peer) asks = omega (arith, ap (λ ws. get_or (get_or ws 0 []) 0 0) asks.2)
 none_asked words h (Show chain) asks = omega (arith, ap (λ ws. get_or (get_or ws 0 []) 0 0) asks.2)
 

@@ -1,0 +1,25 @@
+-- What turning asmap.dat back into a table writes, and how it ends.
+use Rattle.std.specs.Prelude.{◌≡◌, ℕ, ◌<◌, ◌≤◌, List, length, Option, Some}
+use Rattle.host_io.specs.Outside.{Outside}
+use Rattle.host_io.specs.Past.{Past}
+use Rattle.host_io.specs.declared.name.Name.TheVariants as name
+use Rattle.asmap_back.specs.Back.{rows_back}
+use Rattle.asmap_vm.specs.Asmap.{Asmap}
+use Rattle.prefix_table.specs.Print.{table_text}
+use Rattle.prefix_table.specs.declared.row.TheConstants.{MAX_ROWS}
+use Rattle.addrman_run.specs.Asmaps.{IsMapIn, ReportsAsmap}
+use Rattle.addrman_run.specs.FileLine.{FileLineEnds}
+use Rattle.addrman_run.specs.declared.status.Status.{Status}
+use Rattle.addrman_run.specs.declared.status.Status.TheVariants.{TooManyRows}
+
+-- the text of the rows that the folder's asmap is turned back into, no more than a table may have
+abbrev pub IsDecompiled : Option Past → List ℕ → Type 0
+IsDecompiled past text = (m : Asmap) × IsMapIn past (Some m) × (length (rows_back m.tree) ≤ MAX_ROWS) × (text ≡ table_text (rows_back m.tree))
+
+-- a status that says that there are more rows, or that asmap.dat is refused, with the reason
+abbrev pub ReportsDecompile : Option Past → Status → Type 0
+ReportsDecompile past TooManyRows = (m : Asmap) × IsMapIn past (Some m) × (MAX_ROWS < length (rows_back m.tree))
+ReportsDecompile past other = ReportsAsmap past other
+
+abbrev pub DecompileEnds : Outside → Outside → Status → Type 0
+DecompileEnds = FileLineEnds name.Asmap IsDecompiled ReportsDecompile
