@@ -8,31 +8,28 @@ ghost use Rattle.addrman_run.specs.Outcome.{IsCounted};
 ghost use Rattle.addrman_run.specs.declared.input.Input.{Input};
 ghost use Rattle.addrman_run.specs.declared.peers_fault.PeersFault.{PeersFault};
 ghost use Rattle.addrman_run.specs.declared.status.Status.{Status};
-ghost use Rattle.addrman_run.specs.declared.tables_fault.TablesFault.{TablesFault};
 
 use crate::input::{Input, load_present};
 use crate::output::write_line;
-use crate::{PeersFault, Status, TablesFault};
+use crate::{PeersFault, Status};
 use asmap_vm::CodeFault;
 use host_io::{Folder, Sink};
 use std::alloc::Global;
 
-/// Why there is no line about a file.
+/// Why there is no text about a file.
 #[derive(Clone, Copy, Debug, PartialEq, Eq)]
 pub(crate) enum Refusal {
     /// It is no asmap.
     Asmap(CodeFault),
     /// It is an asmap of more rows than a table may have.
     TooManyRows,
-    /// It is no table, or one that cannot be compiled.
-    Table(TablesFault),
     /// It is no file of peers.
     Peers(PeersFault),
     /// Out of memory.
     Memory,
 }
 
-/// A command that loads one file and writes one line about it.
+/// A command that loads one file and writes a text about it: a line or several.
 pub(crate) trait FileLine {
     /// The file.
     ghost file: { Self → Input };
@@ -61,9 +58,6 @@ pub(crate) trait FileLine {
         ensures rows { result ≡ Err Refusal.TooManyRows →
             (past : Option Past) → IsLoaded (file self.now) past bytes.now →
             refuses self.now past Status.TooManyRows }
-        ensures table { (fault : TablesFault) → result ≡ Err (Refusal.Table fault) →
-            (past : Option Past) → IsLoaded (file self.now) past bytes.now →
-            refuses self.now past (Status.TableRefused fault) }
         ensures peers { (fault : PeersFault) → result ≡ Err (Refusal.Peers fault) →
             (past : Option Past) → IsLoaded (file self.now) past bytes.now →
             refuses self.now past (Status.PeersRefused fault) };
@@ -92,7 +86,6 @@ pub(crate) fn write_file_line<F: Folder, K: Sink, C: FileLine>(
         Ok(line) => write_line(line.as_slice(), out),
         Err(Refusal::Asmap(fault)) => Status::AsmapRefused(fault),
         Err(Refusal::TooManyRows) => Status::TooManyRows,
-        Err(Refusal::Table(fault)) => Status::TableRefused(fault),
         Err(Refusal::Peers(fault)) => Status::PeersRefused(fault),
         Err(Refusal::Memory) => Status::Memory,
     }
