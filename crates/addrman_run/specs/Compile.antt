@@ -24,36 +24,46 @@ compile_text rows file =
     codes "compiled " ++ decimal (length rows) ++ codes " rows " ++ decimal (length (code (compiled rows))) ++ codes " bits "
     ++ decimal (length file) ++ codes " bytes\n"
 
--- the rows of the folder's prefixes.txt, whose code is within the limit, and the file of that code
+-- the rows of the folder's prefixes.txt, whose code is within the limit, and the file of the code
 pub record IsCompiled (past : Option Past) (rows : List Row) (file : List ℕ) : Type 0 where
   pub table : IsTableIn past rows
   pub small : length (code (compiled rows)) ≤ MAX_BITS
   pub sane : IsSaneFile (compiled rows) file
 
--- The disk of a moment beside the one at the start: a crash leaves in asmap.dat what it could leave there at the start, or
--- the whole file of the folder's table; and at each other name but asmap.tmp nothing that it could not leave at the start.
+-- The disk of a moment beside the one at the start: a crash leaves in asmap.dat what it could leave
+-- there at the start, or the whole file of the folder's table; and at each other name but asmap.tmp
+-- nothing that it could not leave at the start.
 pub record IsOldOrNew (past : Option Past) (start disk : Disk) : Type 0 where
   pub asmap : (found : Option (List ℕ)) → MayHave (under disk name.Asmap) found →
-      MayHave (under start name.Asmap) found ⊎ ((rows : List Row) × (file : List ℕ) × IsCompiled past rows file × (found ≡ Some file))
-  pub others : (other : Name) → other ≢ name.AsmapTemp → other ≢ name.Asmap → NoMore start disk other
+      MayHave (under start name.Asmap) found
+      ⊎ ((rows : List Row) × (file : List ℕ) × IsCompiled past rows file × (found ≡ Some file))
+  pub others : (other : Name) → other ≢ name.AsmapTemp → other ≢ name.Asmap →
+      NoMore start disk other
 
 -- asmap.dat reads as these bytes, and every crash leaves it with them
 abbrev pub IsInPlace : List ℕ → Option Past → Type 0
-IsInPlace file past = IfSome past (λ p. ((under p.now name.Asmap).file ≡ Some file) × IsStored name.Asmap file p.now)
+IsInPlace file past = IfSome past (λ p.
+    ((under p.now name.Asmap).file ≡ Some file) × IsStored name.Asmap file p.now)
 
--- The file of the folder's table is in its place, and the line about it was written, or a part of it.
-abbrev pub SavesTable : (Option (List ℕ) → Option (List ℕ) → List ℕ → Type 0) → Option Past → Option Past → Option (List ℕ) → Option (List ℕ) → Type 0
+-- The file of the folder's table is in its place, and the line about it was written, or a part.
+abbrev pub SavesTable : (Option (List ℕ) → Option (List ℕ) → List ℕ → Type 0) →
+    Option Past → Option Past → Option (List ℕ) → Option (List ℕ) → Type 0
 SavesTable Writes old new before after =
-    (rows : List Row) × (file : List ℕ) × IsCompiled old rows file × IsInPlace file new × Writes before after (compile_text rows file)
+    (rows : List Row) × (file : List ℕ) × IsCompiled old rows file × IsInPlace file new
+    × Writes before after (compile_text rows file)
 
--- what is saved and written for each status
-abbrev pub CompileText : Option Past → Option Past → Option (List ℕ) → Option (List ℕ) → Status → Type 0
+-- What is saved and written for each status, from the past of the folder at the start and at the
+-- end, and what the output had before and after.
+abbrev pub CompileText : Option Past → Option Past → Option (List ℕ) → Option (List ℕ) →
+    Status → Type 0
 CompileText old new before after Done = SavesTable Appended old new before after
 CompileText old new before after WriteFault = SavesTable AppendedPart old new before after
-CompileText old new before after (NoFile n) = (n ≡ name.Prefixes) × IsAbsent name.Prefixes old × (new ≡ old) × (after ≡ before)
+CompileText old new before after (NoFile n) =
+    (n ≡ name.Prefixes) × IsAbsent name.Prefixes old × (new ≡ old) × (after ≡ before)
 CompileText old new before after DiskFault = after ≡ before
 CompileText old new before after Memory = (new ≡ old) × (after ≡ before)
-CompileText old new before after other = ReportsTable old other × (new ≡ old) × (after ≡ before)
+CompileText old new before after other =
+    ReportsTable old other × (new ≡ old) × (after ≡ before)
 
 pub record CompileEnds (old new : Outside) (status : Status) : Type 0 where
   pub text : CompileText old.past new.past old.written new.written status

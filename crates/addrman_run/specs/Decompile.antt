@@ -14,11 +14,14 @@ use Rattle.addrman_run.specs.declared.status.Status.TheVariants.{TooManyRows}
 
 -- the text of the rows that the folder's asmap is turned back into, no more than a table may have
 abbrev pub IsDecompiled : Option Past → List ℕ → Type 0
-IsDecompiled past text = (m : Asmap) × IsMapIn past (Some m) × (length (rows_back m.tree) ≤ MAX_ROWS) × (text ≡ table_text (rows_back m.tree))
+IsDecompiled past text =
+    (m : Asmap) × IsMapIn past (Some m) × (length (rows_back m.tree) ≤ MAX_ROWS)
+    × (text ≡ table_text (rows_back m.tree))
 
 -- a status that says that there are more rows, or that asmap.dat is refused, with the reason
 abbrev pub ReportsDecompile : Option Past → Status → Type 0
-ReportsDecompile past TooManyRows = (m : Asmap) × IsMapIn past (Some m) × (MAX_ROWS < length (rows_back m.tree))
+ReportsDecompile past TooManyRows =
+    (m : Asmap) × IsMapIn past (Some m) × (MAX_ROWS < length (rows_back m.tree))
 ReportsDecompile past other = ReportsAsmap past other
 
 abbrev pub DecompileEnds : Outside → Outside → Status → Type 0
