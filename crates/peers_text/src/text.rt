@@ -8,8 +8,8 @@ use net_addr::{put_addr, put_peer};
 use peer_rec::{FileRec, Snapshot};
 use std::alloc::Global;
 
-/// Returns the text that lists a snapshot: a line with its counts, key and checksum, and one for
-/// each new and then each tried record, counted from 0 in each table.
+/// Returns the text that lists a snapshot: a line with its counts, key and checksum, then one for
+/// each record. The new records come first; each table counts its own from 0.
 ///
 /// Key and checksum are in hexadecimal, in the order of the file's bytes. Bitcoin Core prints such
 /// numbers with the last byte first.
