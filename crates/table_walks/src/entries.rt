@@ -1,0 +1,59 @@
+// Tables under the key of zeros, and sums of what they have.
+use net_addr::NetAddr;
+use peer_rec::{Place, Rec};
+use placing::Placer;
+use std::alloc::Global;
+use std::hash::{BuildHasherDefault, FoldHasher};
+use std::process::Abort;
+use std::sync::ledger::Ledger;
+use steps::Steps;
+use tables::{Memory, Tables};
+
+/// The hasher of the tables.
+pub(crate) type Hasher = BuildHasherDefault<FoldHasher>;
+
+/// Opens empty tables.
+pub(crate) fn open(alloc: Global) -> Result<Tables<'static, Hasher>, Memory> {
+    Tables::open(
+        alloc,
+        Placer::make([0; 32], None),
+        BuildHasherDefault::new(),
+    )
+}
+
+/// Returns the source of a number.
+pub(crate) fn source(number: u8) -> NetAddr {
+    NetAddr::ipv4([number, 2, 3, 4])
+}
+
+/// Returns the buckets of a record.
+pub(crate) fn buckets(rec: &Rec) -> &[u16] {
+    match &rec.place {
+        Place::New(buckets) => buckets.items(),
+        Place::Tried => &[],
+    }
+}
+
+/// Adds a number to a sum by its bytes (FNV-1a of 64 bits).
+pub(crate) fn sum(start: u64, number: u64) -> u64 {
+    let mut sum = start;
+    for byte in number.to_le_bytes() {
+        sum = (sum ^ u64::from(byte)).wrapping_mul(0x100_0000_01b3);
+    }
+    sum
+}
+
+/// Adds the numbers of the records in their order to a sum.
+pub(crate) fn sum_of_order<L: Ledger>(
+    rt: &impl Abort,
+    tables: &Tables<'static, Hasher>,
+    start: u64,
+    steps: &mut Steps<L>,
+) -> u64 {
+    let mut digest = start;
+    for position in 0..tables.len() {
+        assert!(rt; position < tables.len());
+        digest = sum(digest, tables.order_at(position, steps).number);
+    }
+    digest
+}

@@ -1,0 +1,158 @@
+// Each write of a grid beside the same write of a plain list, and after it the slots of both.
+ghost use Rattle.std.specs.Prelude.{◌≡◌};
+
+use rand_core::{Rng, SeedableRng};
+use rand_xoshiro::Xoshiro256PlusPlus;
+use slot_grid::Grid;
+use std::marker::Brand;
+use std::process::Abort;
+use std::sync::ledger::{Blank, Ledger};
+use std::test::Fail;
+use steps::Steps;
+
+/// How many writes the walk makes.
+const WRITES: u32 = 2_000;
+
+/// How many slots it writes to.
+const WRITTEN: u32 = 128;
+
+/// The slots of the new table, and those of both tables.
+pub(crate) const NEW_SLOTS: u32 = 65_536;
+
+pub(crate) const SLOTS: u32 = 81_920;
+
+/// The buckets of the new and of the tried table that are written to, and the slots.
+const NEW_BUCKETS: [u32; 8] = [0, 1, 2, 255, 256, 511, 1022, 1023];
+
+const TRIED_BUCKETS: [u32; 8] = [0, 1, 2, 63, 64, 127, 254, 255];
+
+const PLACES: [u32; 8] = [0, 1, 2, 31, 32, 61, 62, 63];
+
+/// Returns the bucket and the slot of a number: those of the new table come first.
+fn place_of(number: u32) -> (u16, u8) {
+    ((number / 64 % 1024) as u16, (number % 64) as u8)
+}
+
+/// Puts an id into the slot of the number.
+pub(crate) fn put<L: Ledger>(
+    grid: &mut Grid,
+    number: u32,
+    id: Option<usize>,
+    steps: &mut Steps<L>,
+) {
+    let (bucket, slot) = place_of(number);
+    if number < NEW_SLOTS {
+        grid.set_new(bucket % 1024, slot % 64, id, steps);
+    } else {
+        grid.set_tried(bucket % 256, slot % 64, id, steps);
+    }
+}
+
+/// Returns the id in the slot of the number.
+pub(crate) fn id_at<L: Ledger>(grid: &Grid, number: u32, steps: &mut Steps<L>) -> Option<usize> {
+    let (bucket, slot) = place_of(number);
+    if number < NEW_SLOTS {
+        grid.new_at(bucket % 1024, slot % 64, steps)
+    } else {
+        grid.tried_at(bucket % 256, slot % 64, steps)
+    }
+}
+
+/// Whether the bit of the number's slot is set in the mask of its bucket.
+fn is_in_mask<L: Ledger>(grid: &Grid, number: u32, steps: &mut Steps<L>) -> bool {
+    let (bucket, _) = place_of(number);
+    let mask = if number < NEW_SLOTS {
+        grid.new_mask(bucket % 1024, steps)
+    } else {
+        grid.tried_mask(bucket % 256, steps)
+    };
+    mask >> (number % 64) & 1 == 1
+}
+
+/// Returns the number of one of the slots that are written to.
+fn written(choice: u32) -> u32 {
+    let row = (choice / 8 % 8) as usize;
+    let slot = PLACES[(choice % 8) as usize];
+    if choice / 64 % 2 == 0 {
+        NEW_BUCKETS[row] % 1024 * 64 + slot % 64
+    } else {
+        NEW_SLOTS + TRIED_BUCKETS[row] % 256 * 64 + slot % 64
+    }
+}
+
+/// Both have the same in the slot of the number, and the mask has its bit.
+fn assert_same_at<L: Ledger>(
+    rt: &impl Abort,
+    grid: &Grid,
+    list: &[Option<usize>],
+    number: u32,
+    steps: &mut Steps<L>,
+) {
+    let want = list.get(number as usize).copied().unwrap_or(None);
+    assert_eq!(rt; id_at(grid, number, steps), want, "{number}");
+    assert_eq!(rt; is_in_mask(grid, number, steps), want.is_some(), "{number}");
+}
+
+/// Both have the same in the slots that are written to.
+fn assert_same_written<L: Ledger>(
+    rt: &impl Abort,
+    grid: &Grid,
+    list: &[Option<usize>],
+    steps: &mut Steps<L>,
+) {
+    for choice in 0..WRITTEN {
+        assert_same_at(rt, grid, list, written(choice), steps);
+    }
+}
+
+/// Writes an id, or none, to a slot of both.
+fn write<L: Ledger>(
+    grid: &mut Grid,
+    list: &mut [Option<usize>],
+    words: &mut Xoshiro256PlusPlus,
+    steps: &mut Steps<L>,
+) {
+    let number = written(words.next_u32() % WRITTEN);
+    let word = words.next_u64();
+    let id = if word % 3 == 0 {
+        None
+    } else {
+        Some(word as usize)
+    };
+    put(grid, number, id, steps);
+    if let Some(slot) = list.get_mut(number as usize) {
+        *slot = id;
+    }
+}
+
+/// A grid is empty when it is made.
+#[test]
+fn after_each_write_the_slots_and_masks_are_those_of_a_plain_list(
+    rt: HostRuntime,
+) -> Result<(), Fail> {
+    compare_each::<HostRuntime, Brand>(&rt, Blank::new(1))
+}
+
+/// That test, with a counter of steps.
+fn compare_each<R: Abort + AllocGlobal, L: Ledger>(rt: &R, blank: Blank) -> Result<(), Fail>
+    requires name { blank.name ≡ L.name }
+    requires parts { blank.parts ≡ L.parts }
+    requires one { blank.parts ≡ 1 }
+{
+    let mut steps = Steps::<L>::none(blank);
+    let mut words = Xoshiro256PlusPlus::seed_from_u64(3);
+    let mut grid = Grid::make(rt.alloc())?;
+    let empty: Option<usize> = None;
+    let mut list = vec![in rt.alloc(); empty; SLOTS as usize]?;
+    for number in 0..SLOTS {
+        assert_same_at(rt, &grid, list.as_slice(), number, &mut steps);
+    }
+    for _ in 0..WRITES {
+        write(&mut grid, list.as_mut_slice(), &mut words, &mut steps);
+        assert_same_written(rt, &grid, list.as_slice(), &mut steps);
+    }
+    for number in 0..SLOTS {
+        assert_same_at(rt, &grid, list.as_slice(), number, &mut steps);
+    }
+    Ok(())
+}
