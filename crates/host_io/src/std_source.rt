@@ -48,36 +48,3 @@ impl<R: Read> Source for StdSource<R> {
         }
     }
 }
-
-#[cfg(test)]
-mod tests {
-    use super::*;
-    use std::io;
-    use std::io::ErrorKind;
-
-    struct BrokenReader;
-
-    impl Read for BrokenReader {
-        fn read(&mut self, _buf: &mut [u8]) -> io::Result<usize> {
-            Err(io::Error::from(ErrorKind::Other))
-        }
-    }
-
-    #[test]
-    fn reads_to_the_end_and_counts_errors(rt: HostRuntime) {
-        let mut buf = [0u8; 4];
-        let mut source = StdSource::make(b"bitcoin".as_slice());
-        assert_eq!(rt; source.read(&mut buf), Ok(4));
-        assert_eq!(rt; buf.as_slice(), b"bitc".as_slice());
-        assert_eq!(rt; source.read(&mut buf), Ok(3));
-        assert_eq!(rt; buf.as_slice(), b"oinc".as_slice());
-        assert_eq!(rt; source.read(&mut buf), Ok(0));
-        assert_eq!(rt; source.faults, 0);
-
-        let mut broken = StdSource::make(BrokenReader);
-        assert_eq!(rt; broken.read(&mut buf), Err(Failed));
-        assert_eq!(rt; broken.faults, 1);
-        let StdSource { reader, faults: _ } = broken;
-        let BrokenReader = reader;
-    }
-}

@@ -1,0 +1,114 @@
+use host_io::{DirFolder, Failed, Folder, Name};
+use std::alloc::{AllocError, Global};
+use std::rt::Files;
+
+/// A call of a folder.
+#[derive(Clone, Copy, Debug)]
+pub(crate) enum FolderCall {
+    Size(Name),
+    /// The first bytes from the offset on, at most eight.
+    Read(Name, u64),
+    Create(Name),
+    Append(Name, &'static str),
+    Sync(Name),
+    Rename(Name, Name),
+    SyncDir,
+}
+
+/// Calls of a folder that has `bitcoin` in asmap.dat, a folder as banlist.json, and as banlist.tmp a
+/// link to asmap.dat.
+pub(crate) const CALLS: [FolderCall; 38] = [
+    // No call but `create` makes a file.
+    FolderCall::Size(Name::Peers),
+    FolderCall::Read(Name::Peers, 0),
+    FolderCall::Append(Name::PeersTemp, "bit"),
+    FolderCall::Sync(Name::PeersTemp),
+    FolderCall::Rename(Name::PeersTemp, Name::Peers),
+    FolderCall::Size(Name::PeersTemp),
+    // A file is renamed over none.
+    FolderCall::Create(Name::PeersTemp),
+    FolderCall::Append(Name::PeersTemp, "bit"),
+    FolderCall::Append(Name::PeersTemp, ""),
+    FolderCall::Append(Name::PeersTemp, "coin"),
+    FolderCall::Sync(Name::PeersTemp),
+    FolderCall::Rename(Name::PeersTemp, Name::Peers),
+    FolderCall::SyncDir,
+    FolderCall::Size(Name::PeersTemp),
+    FolderCall::Size(Name::Peers),
+    FolderCall::Read(Name::Peers, 3),
+    FolderCall::Read(Name::Peers, 7),
+    // A file is renamed over another, which is read to its end.
+    FolderCall::Size(Name::Asmap),
+    FolderCall::Create(Name::AsmapTemp),
+    FolderCall::Append(Name::AsmapTemp, "other"),
+    FolderCall::Sync(Name::AsmapTemp),
+    FolderCall::Rename(Name::AsmapTemp, Name::Asmap),
+    FolderCall::SyncDir,
+    FolderCall::Read(Name::Asmap, 4),
+    FolderCall::Size(Name::AsmapTemp),
+    FolderCall::Read(Name::Asmap, 1),
+    // Bytes go to the end of a file that is there, and `create` empties it.
+    FolderCall::Append(Name::Asmap, "wise"),
+    FolderCall::Size(Name::Asmap),
+    FolderCall::Read(Name::Asmap, 0),
+    FolderCall::Create(Name::Peers),
+    FolderCall::Size(Name::Peers),
+    // Only a regular file is read or written.
+    FolderCall::Size(Name::Bans),
+    FolderCall::Create(Name::Bans),
+    FolderCall::Create(Name::BansTemp),
+    FolderCall::Append(Name::BansTemp, "bit"),
+    FolderCall::Rename(Name::Asmap, Name::Bans),
+    FolderCall::Size(Name::Asmap),
+    FolderCall::Read(Name::Asmap, 5),
+];
+
+/// Returns `ok` or `failed`.
+fn done_text(alloc: Global, answer: Result<(), Failed>) -> Result<String, AllocError> {
+    match answer {
+        Ok(()) => String::from_str(alloc, "ok"),
+        Err(Failed) => String::from_str(alloc, "failed"),
+    }
+}
+
+/// Returns the size in bytes, `absent` or `failed`.
+fn size_text(alloc: Global, answer: Result<Option<u64>, Failed>) -> Result<String, AllocError> {
+    match answer {
+        Ok(Some(size)) => format!(in alloc; "{size} bytes"),
+        Ok(None) => String::from_str(alloc, "absent"),
+        Err(Failed) => String::from_str(alloc, "failed"),
+    }
+}
+
+/// Reads, and returns what was read, or `failed`.
+fn read_text<R: Files + Alloc>(
+    alloc: Global,
+    folder: &mut DirFolder<'_, R>,
+    name: Name,
+    at: u64,
+) -> Result<String, AllocError> {
+    let mut buf = [0u8; 8];
+    let text = match folder.read(name, at, &mut buf) {
+        Ok(count) => str::from_utf8(&buf[..count]).unwrap_or("no text"),
+        Err(Failed) => "failed",
+    };
+    format!(in alloc; "{text:?}")
+}
+
+/// Makes the call, and returns its answer.
+pub(crate) fn answer<R: Files + Alloc>(
+    alloc: Global,
+    folder: &mut DirFolder<'_, R>,
+    call: FolderCall,
+) -> Result<String, AllocError> {
+    match call {
+        FolderCall::Size(name) => size_text(alloc, folder.size(name)),
+        FolderCall::Read(name, at) => read_text(alloc, folder, name, at),
+        FolderCall::Create(name) => done_text(alloc, folder.create(name)),
+        FolderCall::Append(name, text) => done_text(alloc, folder.append(name, text.as_bytes())),
+        FolderCall::Sync(name) => done_text(alloc, folder.sync(name)),
+        FolderCall::Rename(from, to) if from != to => done_text(alloc, folder.rename(from, to)),
+        FolderCall::Rename(..) => String::from_str(alloc, "not called"),
+        FolderCall::SyncDir => done_text(alloc, folder.sync_dir()),
+    }
+}

@@ -1,0 +1,45 @@
+//! Calls of the current folder of the system, and of sources and sinks over readers and writers.
+//! Each call is printed with its answer, and the output is compared with the answers that are right.
+#![tactic(auto)]
+
+mod folder_call;
+mod sources;
+mod writers;
+
+use crate::folder_call::{CALLS, answer};
+use host_io::DirFolder;
+use std::os::unix::fs::symlink;
+use std::process::ExitCode;
+use std::rt::Files;
+use std::{fs, io};
+
+/// Makes a folder and a link under the names of files.
+fn prepare<R: Files + AllocGlobal>(rt: &R) -> io::Result<()> {
+    fs::create_dir(rt, "banlist.json")?;
+    symlink(rt, "asmap.dat", "banlist.tmp")
+}
+
+/// Makes the calls of the folder, and prints their answers.
+fn print_calls<R: Files + Print + AllocGlobal>(rt: &R) -> io::Result<()> {
+    let mut folder = DirFolder::make(rt);
+    for call in CALLS {
+        let answer = answer(rt.alloc(), &mut folder, call)?;
+        println!(rt; "{call:?}: {}", answer.as_str())?;
+    }
+    Ok(())
+}
+
+/// Prints all answers.
+fn print_all<R: Files + Print + AllocGlobal>(rt: &R) -> io::Result<()> {
+    sources::print_pieces(rt)?;
+    writers::print_counts(rt)?;
+    prepare(rt)?;
+    print_calls(rt)
+}
+
+fn main(rt: HostRuntime) -> ExitCode {
+    match print_all(&rt) {
+        Ok(()) => ExitCode::SUCCESS,
+        Err(_) => ExitCode::FAILURE,
+    }
+}
