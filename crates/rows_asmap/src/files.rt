@@ -39,9 +39,16 @@ fn refused_files(rt: HostRuntime) -> Result<(), Fail> {
     for bytes in [[0, 0].as_slice(), &[0, 0, 0x80], &[0, 0, 0, 0]] {
         assert_eq!(rt; check(bytes).err(), Some(CodeFault::Insane), "{bytes:?}");
     }
-    let large = vec![in rt.alloc(); 0u8; 8_388_609]?;
+    Ok(())
+}
+
+#[test]
+fn a_file_of_the_largest_size_is_read(rt: HostRuntime) -> Result<(), Fail> {
+    let mut file = vec![in rt.alloc(); 0u8; 8_388_608]?;
+    assert_eq!(rt; check(&file).err(), Some(CodeFault::Insane));
+    file.push(0)?;
     assert_eq!(rt;
-        check(&large).err(),
+        check(&file).err(),
         Some(CodeFault::TooLarge { size: 8_388_609 })
     );
     Ok(())

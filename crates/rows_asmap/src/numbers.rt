@@ -1,6 +1,6 @@
 ghost use Rattle.bit_code.specs.Coder.{HasValue};
 
-use bit_code::{BitOut, Coder};
+use bit_code::{BitOut, Bits, Coder, read_number};
 use std::test::Fail;
 
 /// Appends the spelling of a value of the coder.
@@ -28,5 +28,37 @@ fn a_file_is_written_number_by_number(rt: HostRuntime) -> Result<(), Fail> {
     assert_eq!(rt; out.len(), 42);
     let file = out.into_bytes();
     assert_eq!(rt; file.as_slice(), [0x01, 0, 0, 0, 0, 0x02].as_slice());
+    Ok(())
+}
+
+/// The kind and the number of that jump, and the kind of the first return.
+#[test]
+fn a_file_is_read_number_by_number(rt: HostRuntime) -> Result<(), Fail> {
+    let file = [0x01, 0, 0, 0, 0, 0x02];
+    let bits = Bits::of(&file);
+    assert_eq!(rt; bits.len(), 48);
+    assert!(rt; bits.get(0));
+    assert_eq!(rt; read_number(&bits, 0, Coder::Kind), Some((1, 2)));
+    assert_eq!(rt; read_number(&bits, 2, Coder::Jump), Some((17, 8)));
+    assert_eq!(rt; read_number(&bits, 8, Coder::Kind), Some((0, 9)));
+    assert_eq!(rt; read_number(&bits, 47, Coder::Jump), None);
+    Ok(())
+}
+
+/// Bits are doubled until they fill more than a megabyte.
+#[test]
+#[tactic(auto, unfolding(bit_code::specs::Coder::sizes, bit_code::specs::Coder::values_of))]
+fn many_bits_are_written(rt: HostRuntime) -> Result<(), Fail> {
+    let mut out = BitOut::make(rt.alloc());
+    put(&mut out, Coder::Asn, 1)?;
+    for _ in 0..20 {
+        let mut twice = BitOut::make(rt.alloc());
+        twice.put_out(&out).ok().ok_or("no memory")?;
+        twice.put_out(&out).ok().ok_or("no memory")?;
+        out = twice;
+    }
+    assert_eq!(rt; out.len(), 16 << 20);
+    let file = out.into_bytes();
+    assert_eq!(rt; file.len(), 2 << 20);
     Ok(())
 }

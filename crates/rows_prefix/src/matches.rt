@@ -1,5 +1,5 @@
 // The longest match in a small table, its rows, and the text that is printed of it.
-use prefix_table::{put_table, read_table};
+use prefix_table::{Row, Table, put_table, read_table};
 use std::test::Fail;
 
 /// Seven rows in no order.
@@ -52,5 +52,42 @@ fn a_table_is_printed_in_order_and_reads_as_itself(rt: HostRuntime) -> Result<()
     assert_eq!(rt; text.as_slice(), PRINTED);
     let again = read_table(rt.alloc(), PRINTED)?;
     assert!(rt; again.rows() == table.rows());
+    Ok(())
+}
+
+#[test]
+fn rows_of_a_table_are_made_a_table(rt: HostRuntime) -> Result<(), Fail> {
+    let half = 1 << 127;
+    let rows = [row(0, 1, 1), row(half, 1, 2)];
+    let Some(table) = Table::from_rows(rt.alloc(), &rows).ok().ok_or("no memory")? else {
+        return Err("no table".into());
+    };
+    let mut text = Vec::new(rt.alloc());
+    put_table(&table, &mut text).ok().ok_or("no memory")?;
+    assert_eq!(rt; text.as_slice(), b"::/1 AS1\n8000::/1 AS2\n".as_slice());
+    Ok(())
+}
+
+/// A row with these bits, this length and this number.
+fn row(bits: u128, len: u8, asn: u32) -> Row {
+    Row { bits, len, asn }
+}
+
+#[test]
+fn other_rows_are_no_table(rt: HostRuntime) -> Result<(), Fail> {
+    let half = 1 << 127;
+    let others = [
+        [row(half, 1, 1), row(0, 1, 2)],
+        [row(0, 1, 1), row(0, 1, 2)],
+        [row(0, 2, 1), row(0, 1, 2)],
+        [row(0, 1, 0), row(half, 1, 2)],
+        [row(0, 1, 1), row(half, 1, 33_521_665)],
+        [row(0, 1, 1), row(half, 0, 2)],
+        [row(0, 1, 1), row(half, 129, 2)],
+    ];
+    for rows in others {
+        let made = Table::from_rows(rt.alloc(), &rows).ok().ok_or("no memory")?;
+        assert!(rt; made.is_none(), "of {rows:?}");
+    }
     Ok(())
 }
