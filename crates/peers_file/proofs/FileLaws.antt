@@ -15,6 +15,7 @@ use Rattle.addr_codecs.specs.Layout.{addrv2_address}
 use Rattle.addr_codecs.specs.Readings.{address_at}
 use Rattle.addr_codecs.proofs.AddressLaws.{Reads-address}
 use Rattle.peer_rec.specs.Snapshot.{Snapshot}
+use Rattle.peers_file.proofs.NoMemory.{never_read, never_whole}
 use Rattle.peers_file.specs.Faults.{of_field, of_number, of_address, UnlessMemory}
 use Rattle.peers_file.specs.declared.chain.Chain.{Chain}
 use Rattle.peers_file.specs.declared.fault.Which.{Which}
@@ -133,6 +134,9 @@ one_meaning_of chain bytes fits = by (whole_fault chain bytes) refl
           ⊎_elim (λ early. absurd (no_and_some f is early)) (λ h.
           ⊎_elim (λ early. absurd (no_and_some g is early)) (λ k. inside.one_fault f g h.1 k.1) two) one;
       never_both = λ a f file fault. ⊎_elim (no_and_some f is) (λ h. inside.never_both a f file.1 h.1) fault;
+      no_memory = λ fault.
+          let all = reads_all body Trailing body_at (between bytes) Reads-body fits in
+          ⊎_elim (never_whole chain bytes) (λ h. never_read (between bytes) (all.first Memory h.1)) fault;
     }
     by (Some e) is = record {
       some = inr (e, inl is);
@@ -140,6 +144,7 @@ one_meaning_of chain bytes fits = by (whole_fault chain bytes) refl
       one_fault = λ f g one two.
           ⊎_elim (λ early. ⊎_elim (same_of f g early) (λ k. absurd (no_and_some e k.0 is)) two) (λ h. absurd (no_and_some e h.0 is)) one;
       never_both = λ a f file fault. no_and_some e file.0 is;
+      no_memory = λ fault. ⊎_elim (never_whole chain bytes) (λ h. no_and_some e h.0 is) fault;
     }
 
 AreBytes-take : (n : ℕ) (bytes : List ℕ) → AreBytes bytes → AreBytes (take n bytes)

@@ -1,3 +1,4 @@
+mod NoMemory
 pub mod FileLaws
 pub mod TextLaws
 pub mod WholeLaws

@@ -24,7 +24,7 @@ use Rattle.peers_file.specs.declared.fault.Which.{Which}
 use Rattle.peers_file.specs.declared.fault.Which.TheVariants as which
 use Rattle.peers_file.specs.declared.fault.RecordCause.TheVariants as cause
 use Rattle.peers_file.specs.declared.fault.FileFault.{FileFault}
-use Rattle.peers_file.specs.declared.fault.FileFault.TheVariants.{Truncated, BadMagic, BadSum, Compat, Version, Count, Record, Buckets, Time, Attempts, Trailing, TooLarge}
+use Rattle.peers_file.specs.declared.fault.FileFault.TheVariants.{Truncated, BadMagic, BadSum, Compat, Version, Count, Record, Buckets, Time, Attempts, Trailing, TooLarge, Memory}
 
 -- the bytes that begin the files of a chain
 abbrev pub magic_of : Chain → List ℕ
@@ -195,9 +195,10 @@ abbrev pub HasFileFault : Chain → List ℕ → FileFault → Type 0
 HasFileFault chain bytes f =
     (whole_fault chain bytes ≡ Some f) ⊎ ((whole_fault chain bytes ≡ None) × HasFault body Trailing (between bytes) f)
 
--- the bytes are the file of one snapshot or have one fault, and never both
+-- the bytes are the file of one snapshot or have one fault, and never both; that memory runs out is no fault of bytes
 pub record HasOneMeaning (chain : Chain) (bytes : List ℕ) : Type 0 where
   pub some : ((snap : Snapshot) × IsFile chain bytes snap) ⊎ ((f : FileFault) × HasFileFault chain bytes f)
   pub one_snapshot : (a b : Snapshot) → IsFile chain bytes a → IsFile chain bytes b → a ≡ b
   pub one_fault : (f g : FileFault) → HasFileFault chain bytes f → HasFileFault chain bytes g → f ≡ g
   pub never_both : (a : Snapshot) (f : FileFault) → IsFile chain bytes a → HasFileFault chain bytes f → ⊥
+  pub no_memory : HasFileFault chain bytes Memory → ⊥
