@@ -13,6 +13,7 @@ pub mod Check
 pub mod Decompile
 pub mod Compile
 pub mod Show
+pub mod Opening
 pub mod Outcome
 pub mod Report
 pub mod Inside

@@ -6,6 +6,7 @@ mod compile;
 mod decompile;
 mod file_line;
 mod input;
+mod law;
 mod line_step;
 mod lookup;
 mod memory;
@@ -22,6 +23,7 @@ mod tables_fault;
 mod top;
 mod words;
 
+pub use law::folders_open_once;
 pub use memory::Memory;
 pub use peers_fault::PeersFault;
 pub use replay::MAX_LOG;

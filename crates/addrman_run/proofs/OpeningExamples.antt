@@ -1,0 +1,79 @@
+-- Worked examples of how a replay opens: the arguments, and the folder.
+use Rattle.std.specs.Prelude.{◌≡◌, ℕ, List, [], ◌∷◌, ◌++◌, replicate, codes, Option, Some, None, refl}
+use Rattle.std.proofs.Common.{inl, inr}
+use Rattle.hex.proofs.OnLiterals.{hex_on_literals}
+use Rattle.host_io.specs.Disk.{safe}
+use Rattle.host_io.specs.Past.{Past}
+use Rattle.table_machine.specs.State.{empty_state}
+use Rattle.table_machine.specs.Restoring.{duplicate}
+use Rattle.peer_rec.specs.Snapshot.{Snapshot}
+use Rattle.peers_file.specs.Layout.{IsFile, whole_fault}
+use Rattle.peers_file.specs.declared.chain.Chain.TheVariants.{Main, Test, Signet}
+use Rattle.peers_file.specs.declared.fault.FileFault.TheVariants.{Truncated, BadMagic, Memory}
+use Rattle.addrman_run.specs.Opening.{IsOpeningOptions, Opens, RefusesTables, LacksKey, places_of, tables_of}
+use Rattle.addrman_run.specs.Opening.Opens.{from_file, from_key}
+use Rattle.addrman_run.specs.declared.peers_fault.PeersFault.TheVariants.{File, Duplicate}
+
+abbrev digits : List ℕ
+digits = codes "00000000000000000000000000000000000000000000000000000000000000ff"
+
+abbrev key : List ℕ
+key = replicate 31 0 ++ 255 ∷ []
+
+no_options : IsOpeningOptions [] None Main
+no_options = ([], [], refl, inl (refl, inl (refl, refl)))
+
+only_a_key : IsOpeningOptions (codes "--key" ∷ digits ∷ []) (Some key) Main
+unfolding hex_on_literals
+only_a_key = (codes "--key" ∷ digits ∷ [], [], refl, inl ((digits, (refl, refl), inl refl), inl (refl, refl)))
+
+key_and_chain : IsOpeningOptions (codes "--key" ∷ digits ∷ codes "--net" ∷ codes "test" ∷ []) (Some key) Test
+unfolding hex_on_literals
+key_and_chain = (codes "--key" ∷ digits ∷ [], codes "--net" ∷ codes "test" ∷ [], refl, inl ((digits, (refl, refl), inl refl), inr (inl refl)))
+
+chain_and_key : IsOpeningOptions (codes "--net=signet" ∷ (codes "--key=" ++ digits) ∷ []) (Some key) Signet
+unfolding hex_on_literals
+chain_and_key = (codes "--net=signet" ∷ [], (codes "--key=" ++ digits) ∷ [], refl, inr (inr (inr refl), (digits, (refl, refl), inr refl)))
+
+-- a folder with these bytes in peers.dat, or without the file, and no other file
+abbrev folder : Option (List ℕ) → Option Past
+folder bytes = Some (record {
+  now = record {
+    peers = safe bytes;
+    peers_temp = safe None;
+    asmap = safe None;
+    asmap_temp = safe None;
+    prefixes = safe None;
+    bans = safe None;
+    bans_temp = safe None;
+  };
+  before = [];
+})
+
+no_file_but_a_key : Opens (Some key) Main (folder None) None (empty_state (places_of key None))
+no_file_but_a_key = from_key key refl refl refl
+
+neither_file_nor_key : LacksKey None (folder None)
+neither_file_nor_key = (refl, refl)
+
+-- the key of the arguments does not count beside a file
+file_and_key : (bytes : List ℕ) (snap : Snapshot) → IsFile Main bytes snap → duplicate snap ≡ None → Opens (Some key) Main (folder (Some bytes)) None (tables_of snap None)
+file_and_key bytes snap is none = from_file snap (bytes, refl, is) none refl
+
+-- a fault of bytes is not a lack of memory
+cut_is_no_want : Truncated ≡ Memory → ⊥
+cut_is_no_want is = cc
+
+other_is_no_want : BadMagic ≡ Memory → ⊥
+other_is_no_want is = cc
+
+file_of_35_bytes : RefusesTables Main (folder (Some (replicate 35 0))) (File Truncated)
+unfolding whole_fault
+file_of_35_bytes = (cut_is_no_want, (replicate 35 0, refl, inl refl))
+
+file_of_another_chain : RefusesTables Test (folder (Some (0xf9 ∷ 0xbe ∷ 0xb4 ∷ 0xd9 ∷ replicate 32 0))) (File BadMagic)
+unfolding whole_fault
+file_of_another_chain = (other_is_no_want, (0xf9 ∷ 0xbe ∷ 0xb4 ∷ 0xd9 ∷ replicate 32 0, refl, inl refl))
+
+two_records_of_a_peer : (bytes : List ℕ) (snap : Snapshot) → IsFile Main bytes snap → duplicate snap ≡ Some 3 → RefusesTables Main (folder (Some bytes)) (Duplicate 3)
+two_records_of_a_peer bytes snap is repeated = (snap, (bytes, refl, is), repeated)

@@ -1,0 +1,59 @@
+-- How a replay opens the tables: from the folder's peers.dat, or empty under the key of its arguments.
+use Rattle.std.specs.Prelude.{◌≡◌, ◌⊎◌, ℕ, List, [], ◌++◌, Option, Some, None, codes}
+use Rattle.host_io.specs.Past.{Past}
+use Rattle.host_io.specs.declared.name.Name.TheVariants as name
+use Rattle.asmap_vm.specs.Asmap.{Asmap}
+use Rattle.placing.specs.Places.{Places}
+use Rattle.peer_rec.specs.Snapshot.{Snapshot}
+use Rattle.table_machine.specs.State.{State, empty_state}
+use Rattle.table_machine.specs.Restoring.{restored, duplicate}
+use Rattle.peers_file.specs.declared.chain.Chain.{Chain}
+use Rattle.addrman_run.specs.InFolder.{IsAbsent}
+use Rattle.addrman_run.specs.Peers.{IsSnapshotIn, RefusesPeers}
+use Rattle.addrman_run.specs.Request.{IsKey, IsOption, IsNet}
+use Rattle.addrman_run.specs.declared.peers_fault.PeersFault.{PeersFault}
+use Rattle.addrman_run.specs.declared.peers_fault.PeersFault.TheVariants.{File, Duplicate}
+
+-- the arguments choose a key, or none
+abbrev pub IsKeyOption : List (List ℕ) → Option (List ℕ) → Type 0
+IsKeyOption options None = options ≡ []
+IsKeyOption options (Some key) = (digits : List ℕ) × IsKey digits key × IsOption (codes "--key") digits options
+
+-- the arguments choose a key, or none, and a chain, in either order
+abbrev pub IsOpeningOptions : List (List ℕ) → Option (List ℕ) → Chain → Type 0
+IsOpeningOptions options key chain =
+    (first : List (List ℕ)) × (second : List (List ℕ)) × (options ≡ first ++ second) ×
+    ((IsKeyOption first key × IsNet second chain) ⊎ (IsNet first chain × IsKeyOption second key))
+
+-- what buckets and slots depend on, under a key and the folder's asmap
+abbrev pub places_of : List ℕ → Option Asmap → Places
+places_of key map = record { key = key; map = map }
+
+-- the tables of a file, under its own key
+abbrev pub tables_of : Snapshot → Option Asmap → State
+tables_of snap map = restored snap (places_of snap.key map)
+
+-- The tables that a replay begins with: those of the folder's peers.dat, whose records are of different peers, and if
+-- there is no such file, empty ones under the key of the arguments.
+pub data Opens (key : Option (List ℕ)) (chain : Chain) (past : Option Past) (map : Option Asmap) (st : State) : Type 0 where
+  from_file : (snap : Snapshot) → IsSnapshotIn chain past snap → duplicate snap ≡ None → st ≡ tables_of snap map → Opens key chain past map st
+  from_key : (given : List ℕ) → IsAbsent name.Peers past → key ≡ Some given → st ≡ empty_state (places_of given map) → Opens key chain past map st
+
+-- why the folder's peers.dat does not open the tables: its first fault as a file, or the first of its valid records that
+-- has the peer of an earlier one
+abbrev pub RefusesTables : Chain → Option Past → PeersFault → Type 0
+RefusesTables chain past (File fault) = RefusesPeers chain past fault
+RefusesTables chain past (Duplicate index) = (snap : Snapshot) × IsSnapshotIn chain past snap × (duplicate snap ≡ Some index)
+
+-- there is neither a file nor a key
+abbrev pub LacksKey : Option (List ℕ) → Option Past → Type 0
+LacksKey key past = (key ≡ None) × IsAbsent name.Peers past
+
+-- A folder opens in one way: with some tables, or not, since its peers.dat is refused or a key is missing.
+pub record OpensOnce (key : Option (List ℕ)) (chain : Chain) (past : Option Past) (map : Option Asmap) : Type 0 where
+  pub some : ((st : State) × Opens key chain past map st) ⊎ (((fault : PeersFault) × RefusesTables chain past fault) ⊎ LacksKey key past)
+  pub one_state : (a b : State) → Opens key chain past map a → Opens key chain past map b → a ≡ b
+  pub one_fault : (f g : PeersFault) → RefusesTables chain past f → RefusesTables chain past g → f ≡ g
+  pub not_refused : (a : State) (f : PeersFault) → Opens key chain past map a → RefusesTables chain past f → ⊥
+  pub no_lack : (a : State) → Opens key chain past map a → LacksKey key past → ⊥
+  pub no_file_lacks : (f : PeersFault) → RefusesTables chain past f → LacksKey key past → ⊥
