@@ -4,10 +4,12 @@ use Rattle.std.specs.List.{range_with_len}
 use Rattle.std.specs.Option.{option_map}
 use Rattle.placing.specs.Places.{Places}
 use Rattle.peer_rec.specs.Rec.{buckets_of, is_tried}
+use Rattle.peer_rec.specs.Snapshot.{Snapshot}
 use Rattle.peer_rec.specs.declared.rec.Rec.{Rec}
 use Rattle.slot_grid.specs.Slots.{Slots, new_id, tried_id}
 use Rattle.table_machine.specs.State.{State, is_new_at, is_tried_at}
-use Rattle.table_machine.specs.Restoring.{give_if_empty}
+use Rattle.table_machine.specs.Restoring.{appended, drop_all, give_if_empty, place_all, uses_buckets}
+use Rattle.restoring.specs.declared.plan.Plan.{Plan}
 
 -- the state of some records in the order of their numbers
 abbrev pub state_of : Places → List Rec → State
@@ -47,3 +49,23 @@ stays turn r = not (nat_lt r.number turn && length (buckets_of r) == 0)
 -- the state when the turn of a number comes, with the order as it is then
 abbrev pub dropping : Places → List Rec → ℕ → List ℕ → State
 dropping places recs turn order = record (state_of places recs) { records = filter (stays turn) recs; order = order }
+
+-- the records of a file, after those that its buckets list are placed
+abbrev pub placed : Snapshot → Places → State
+placed snap places = place_all (uses_buckets snap places) (appended snap places) snap.listed
+
+-- what holds of a plan
+abbrev pub IsPlanned : Plan → Type 0
+IsPlanned p = IsPlan p.placer p.recs.items p.news p.grid
+
+-- the state of a plan
+abbrev pub state_by : Plan → State
+state_by p = state_of p.placer p.recs.items
+
+-- a plan's state when the turn of a number to be deleted comes
+abbrev pub dropping_by : Plan → ℕ → List ℕ → State
+dropping_by p turn order = dropping p.placer p.recs.items turn order
+
+-- a plan's state when all turns are over
+abbrev pub settled : Plan → State
+settled p = drop_all (state_by p) (range_with_len 0 p.news)

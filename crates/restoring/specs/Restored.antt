@@ -15,9 +15,9 @@ abbrev pub rec_by : Order → Option ℕ → Option Rec
 rec_by order None = None
 rec_by order (Some id) = rec_of order id
 
--- The index has the records of the state, in the same order. Each slot of the grid has the id of the
--- record that occupies it, and none exactly if it is empty. Key, asmap and the next number are the
--- state's, there is no collision, and no peer was reached yet.
+-- The index has the records of the state, in the same order. Each slot of the grid has the id of
+-- the record that occupies it, and none exactly if it is empty. Key, asmap and the next number are
+-- the state's, there is no collision, and no peer was reached yet.
 pub record ArePartsOf (st : State) (placer : Places) (slots : Slots) (order : Order) (next_free : ℕ) : Type 0 where
   pub places : st.places ≡ placer
   pub next : st.next_number ≡ next_free
@@ -31,7 +31,8 @@ pub record ArePartsOf (st : State) (placer : Places) (slots : Slots) (order : Or
   pub tried : (bucket slot : ℕ) → bucket < 256 → slot < 64 → rec_by order (tried_id slots bucket slot) ≡ tried_rec_at st bucket slot
   pub tried_none : (bucket slot : ℕ) → bucket < 256 → slot < 64 → tried_rec_at st bucket slot ≡ None → tried_id slots bucket slot ≡ None
 
--- why a snapshot is not restored: the index is that of the first duplicate; memory may always run out
+-- why a snapshot is not restored: the index is that of the first duplicate, and memory may always
+-- run out
 abbrev pub IsCause : Snapshot → RestoreFault → Type 0
 IsCause snap (Duplicate index) = duplicate snap ≡ Some index
 IsCause snap Memory = Unit {0}

@@ -73,7 +73,8 @@ fn is_repeated<H: BuildHasher, L: Ledger>(
     ensures repeated { (earlier : List FileRec) → AreIn earlier index.old
         → IfOk result (λ repeated. repeated ≡ is_repeated earlier rec.now) }
     ensures all { (earlier : List FileRec) → AreIn earlier index.old
-        → IfOk result (λ repeated. repeated ≡ false → AreIn (earlier ++ rec.now ∷ []) index.new) }
+        → IfOk result (λ repeated. repeated ≡ false
+        → AreIn (earlier ++ rec.now ∷ []) index.new) }
     ensures fit { IsFileRec rec.now }
     ensures room { length index.new ≤ length index.old + 1 }
 {

@@ -50,7 +50,8 @@ impl NumberOrder {
     pub(crate) fn delete(&mut self, number: usize)
         requires { Contains self.old number }
         ensures deleted { self.new ≡ without_first (λ n. n == number) self.old }
-        ensures others { (other : ℕ) → other ≢ number → Contains self.old other → Contains self.new other }
+        ensures others { (other : ℕ) → other ≢ number → Contains self.old other
+            → Contains self.new other }
     {
         let position = self.positions[number];
         self.numbers.swap_remove(position);

@@ -1,8 +1,7 @@
-ghost use Rattle.std.specs.Prelude.{◌≡◌, IfOk, IfErr, None, [], length};
-ghost use Rattle.std.specs.List.{range_with_len};
-ghost use Rattle.table_machine.specs.Restoring.{drop_all, duplicate, restored};
+ghost use Rattle.std.specs.Prelude.{◌≡◌, IfOk, IfErr, None, []};
+ghost use Rattle.table_machine.specs.Restoring.{duplicate, restored};
 ghost use Rattle.table_machine.specs.Sound.{IsSound};
-ghost use Rattle.restoring.specs.Planned.{IsPlan, state_of};
+ghost use Rattle.restoring.specs.Planned.{IsPlanned, settled};
 ghost use Rattle.restoring.specs.Restored.{ArePartsOf, IsCause};
 
 use crate::duplicates::duplicate;
@@ -64,11 +63,10 @@ fn settle<'a, H: BuildHasher + Drop, L: Ledger>(
     index: PeerIndex<H>,
     steps: &mut Steps<L>,
 ) -> Result<Parts<'a, H>, Memory>
-    requires plan { IsPlan plan.placer plan.recs.items plan.news plan.grid }
-    requires sound { IsSound (drop_all (state_of plan.placer plan.recs.items) (range_with_len 0 plan.news)) }
+    requires plan { IsPlanned plan }
+    requires sound { IsSound (settled plan) }
     requires empty { index ≡ [] }
-    ensures { IfOk result (λ parts. ArePartsOf
-        (drop_all (state_of plan.entry.placer plan.entry.recs.items) (range_with_len 0 plan.entry.news))
+    ensures { IfOk result (λ parts. ArePartsOf (settled plan.entry)
         parts.placer parts.grid parts.index parts.next_number) }
 {
     let order = plan.order(alloc)?;

@@ -30,17 +30,16 @@ pub(crate) struct Plan<'a> {
 
 impl<'a> Plan<'a> {
     ghost use Rattle.std.specs.Prelude.{All, ◌≡◌, ◌≢◌, ℕ, ◌+◌, ◌<◌, ◌≤◌, ◌^◌, Bool, true, false, [], length, slice_get, Some, IfOk, OnOk, IsSomeAnd, Contains, vec_len};
-    ghost use Rattle.std.specs.List.{range_with_len};
     ghost use Rattle.peer_rec.specs.Rec.{buckets_of};
     ghost use Rattle.peer_rec.specs.declared.rec.Rec.{Rec};
     ghost use Rattle.table_machine.specs.State.{State, by_number, empty_state};
-    ghost use Rattle.table_machine.specs.Restoring.{appended, drop_all, drop_record, give_if_empty, place_all, place_pair, uses_buckets, with_all_new, with_all_tried, with_new, with_tried};
-    ghost use Rattle.restoring.specs.Planned.{HasSpace, IsPlan, dropping, give_listed, state_of};
+    ghost use Rattle.table_machine.specs.Restoring.{drop_record, give_if_empty, place_all, place_pair, with_all_new, with_all_tried, with_new, with_tried};
+    ghost use Rattle.restoring.specs.Planned.{HasSpace, IsPlanned, dropping_by, give_listed, placed, settled, state_by};
 
     /// Makes a plan with no records.
     pub(crate) fn empty(alloc: Global, placer: Placer<'a>) -> Result<Plan<'a>, Memory>
-        ensures plan { IfOk result (λ p. IsPlan p.placer p.recs.items p.news p.grid) }
-        ensures state { IfOk result (λ p. state_of p.placer p.recs.items ≡ empty_state placer.entry) }
+        ensures plan { IfOk result IsPlanned }
+        ensures state { IfOk result (λ p. state_by p ≡ empty_state placer.entry) }
         ensures placer { IfOk result (λ p. p.placer ≡ placer.entry) }
         ensures news { IfOk result (λ p. p.news ≡ 0) }
         ensures recs { IfOk result (λ p. p.recs.items ≡ []) }
@@ -62,9 +61,8 @@ impl<'a> Plan<'a> {
         placer: Placer<'a>,
         steps: &mut Steps<L>,
     ) -> Result<Plan<'a>, Memory>
-        ensures plan { IfOk result (λ p. IsPlan p.placer p.recs.items p.news p.grid) }
-        ensures state { IfOk result (λ p. state_of p.placer p.recs.items
-            ≡ place_all (uses_buckets snap.now placer.entry) (appended snap.now placer.entry) snap.now.listed) }
+        ensures plan { IfOk result IsPlanned }
+        ensures state { IfOk result (λ p. state_by p ≡ placed snap.now placer.entry) }
         ensures placer { IfOk result (λ p. p.placer ≡ placer.entry) }
         ensures news { IfOk result (λ p. p.news ≡ length snap.now.new_recs) }
     {
@@ -79,10 +77,9 @@ impl<'a> Plan<'a> {
     /// Appends a record of the new table, in no bucket yet.
     pub(crate) fn add_new(&mut self, rec: &FileRec) -> Result<(), Memory>
         requires only { self.old.news ≡ length self.old.recs.items }
-        requires plan { IsPlan self.old.placer self.old.recs.items self.old.news self.old.grid }
-        ensures plan { OnOk result (IsPlan self.new.placer self.new.recs.items self.new.news self.new.grid) }
-        ensures state { OnOk result (state_of self.new.placer self.new.recs.items
-            ≡ with_new (state_of self.old.placer self.old.recs.items) rec.now) }
+        requires plan { IsPlanned self.old }
+        ensures plan { OnOk result (IsPlanned self.new) }
+        ensures state { OnOk result (state_by self.new ≡ with_new (state_by self.old) rec.now) }
         ensures placer { self.new.placer ≡ self.old.placer }
         ensures only { OnOk result (self.new.news ≡ length self.new.recs.items) }
         ensures count { OnOk result (self.new.news ≡ self.old.news + 1) }
@@ -101,10 +98,9 @@ impl<'a> Plan<'a> {
         rec: &FileRec,
         steps: &mut Steps<L>,
     ) -> Result<(), Memory>
-        requires plan { IsPlan self.old.placer self.old.recs.items self.old.news self.old.grid }
-        ensures plan { OnOk result (IsPlan self.new.placer self.new.recs.items self.new.news self.new.grid) }
-        ensures state { OnOk result (state_of self.new.placer self.new.recs.items
-            ≡ with_tried (state_of self.old.placer self.old.recs.items) rec.now) }
+        requires plan { IsPlanned self.old }
+        ensures plan { OnOk result (IsPlanned self.new) }
+        ensures state { OnOk result (state_by self.new ≡ with_tried (state_by self.old) rec.now) }
         ensures placer { self.new.placer ≡ self.old.placer }
         ensures news { self.new.news ≡ self.old.news }
         ensures longer { length self.old.recs.items ≤ length self.new.recs.items }
@@ -126,10 +122,9 @@ impl<'a> Plan<'a> {
     /// Appends records of the new table, one after another.
     pub(crate) fn add_all_new(&mut self, recs: &[FileRec]) -> Result<(), Memory>
         requires only { self.old.news ≡ length self.old.recs.items }
-        requires plan { IsPlan self.old.placer self.old.recs.items self.old.news self.old.grid }
-        ensures plan { OnOk result (IsPlan self.new.placer self.new.recs.items self.new.news self.new.grid) }
-        ensures state { OnOk result (state_of self.new.placer self.new.recs.items
-            ≡ with_all_new (state_of self.old.placer self.old.recs.items) recs.now) }
+        requires plan { IsPlanned self.old }
+        ensures plan { OnOk result (IsPlanned self.new) }
+        ensures state { OnOk result (state_by self.new ≡ with_all_new (state_by self.old) recs.now) }
         ensures placer { self.new.placer ≡ self.old.placer }
         ensures count { OnOk result (self.new.news ≡ self.old.news + length recs.now) }
     {
@@ -147,10 +142,10 @@ impl<'a> Plan<'a> {
         recs: &[FileRec],
         steps: &mut Steps<L>,
     ) -> Result<(), Memory>
-        requires plan { IsPlan self.old.placer self.old.recs.items self.old.news self.old.grid }
-        ensures plan { OnOk result (IsPlan self.new.placer self.new.recs.items self.new.news self.new.grid) }
-        ensures state { OnOk result (state_of self.new.placer self.new.recs.items
-            ≡ with_all_tried (state_of self.old.placer self.old.recs.items) recs.now) }
+        requires plan { IsPlanned self.old }
+        ensures plan { OnOk result (IsPlanned self.new) }
+        ensures state { OnOk result (state_by self.new
+            ≡ with_all_tried (state_by self.old) recs.now) }
         ensures placer { self.new.placer ≡ self.old.placer }
         ensures news { self.new.news ≡ self.old.news }
     {
@@ -169,12 +164,11 @@ impl<'a> Plan<'a> {
         listed: &[(u32, u32)],
         steps: &mut Steps<L>,
     )
-        requires plan { IsPlan self.old.placer self.old.recs.items self.old.news self.old.grid }
+        requires plan { IsPlanned self.old }
         requires buckets { are_used ≡ true → All (λ pair. pair.0 < 1024) listed.now }
         requires indexes { All (λ pair. pair.1 < self.old.news) listed.now }
-        ensures plan { IsPlan self.new.placer self.new.recs.items self.new.news self.new.grid }
-        ensures state { state_of self.new.placer self.new.recs.items
-            ≡ place_all are_used (state_of self.old.placer self.old.recs.items) listed.now }
+        ensures plan { IsPlanned self.new }
+        ensures state { state_by self.new ≡ place_all are_used (state_by self.old) listed.now }
         ensures placer { self.new.placer ≡ self.old.placer }
         ensures news { self.new.news ≡ self.old.news }
     {
@@ -188,9 +182,9 @@ impl<'a> Plan<'a> {
     /// Returns the numbers of the records that are left, in their order, after new records that no
     /// bucket lists are deleted by rising number.
     pub(crate) fn order(&self, alloc: Global) -> Result<NumberOrder, Memory>
-        requires plan { IsPlan self.now.placer self.now.recs.items self.now.news self.now.grid }
-        ensures order { IfOk result (λ order. dropping self.now.placer self.now.recs.items self.now.news order
-            ≡ drop_all (state_of self.now.placer self.now.recs.items) (range_with_len 0 self.now.news)) }
+        requires plan { IsPlanned self.now }
+        ensures order { IfOk result (λ order.
+            dropping_by self.now self.now.news order ≡ settled self.now) }
     {
         let mut order = NumberOrder::up_to(alloc, self.recs.len())?;
         for number in 0..self.news {
@@ -201,13 +195,14 @@ impl<'a> Plan<'a> {
 
     /// Deletes a number from the order if no bucket lists its record.
     fn drop_one(&self, number: usize, order: &mut NumberOrder)
-        requires plan { IsPlan self.now.placer self.now.recs.items self.now.news self.now.grid }
+        requires plan { IsPlanned self.now }
         requires number { number < length self.now.recs.items }
         requires there { Contains order.old number }
-        ensures state { dropping self.now.placer self.now.recs.items (number + 1) order.new
-            ≡ drop_record (dropping self.now.placer self.now.recs.items number order.old)
-            (by_number (dropping self.now.placer self.now.recs.items number order.old) number) }
-        ensures others { (other : ℕ) → other ≢ number → Contains order.old other → Contains order.new other }
+        ensures state { dropping_by self.now (number + 1) order.new
+            ≡ drop_record (dropping_by self.now number order.old)
+            (by_number (dropping_by self.now number order.old) number) }
+        ensures others { (other : ℕ) → other ≢ number → Contains order.old other
+            → Contains order.new other }
     {
         if self.recs[number].place.bucket_count() == 0 {
             order.delete(number);
@@ -216,18 +211,18 @@ impl<'a> Plan<'a> {
 
     /// Gives the record at an index a bucket if the slot there is empty, and returns whether it is.
     fn give_if_empty<L: Ledger>(&mut self, index: usize, bucket: u16, steps: &mut Steps<L>) -> bool
-        requires plan { IsPlan self.old.placer self.old.recs.items self.old.news self.old.grid }
+        requires plan { IsPlanned self.old }
         requires bucket { bucket < 1024 }
         requires room { IsSomeAnd (slice_get self.old.recs.items index) HasSpace }
-        ensures plan { IsPlan self.new.placer self.new.recs.items self.new.news self.new.grid }
-        ensures given { (r : Rec) (other : State) → slice_get self.old.recs.items index ≡ Some r → result ≡ true
-            → state_of self.new.placer self.new.recs.items
-            ≡ give_if_empty (state_of self.old.placer self.old.recs.items) r bucket other }
-        ensures taken { (r : Rec) (other : State) → slice_get self.old.recs.items index ≡ Some r → result ≡ false
-            → give_if_empty (state_of self.old.placer self.old.recs.items) r bucket other ≡ other }
+        ensures plan { IsPlanned self.new }
+        ensures given { (r : Rec) (other : State) → slice_get self.old.recs.items index ≡ Some r
+            → result ≡ true
+            → state_by self.new ≡ give_if_empty (state_by self.old) r bucket other }
+        ensures taken { (r : Rec) (other : State) → slice_get self.old.recs.items index ≡ Some r
+            → result ≡ false
+            → give_if_empty (state_by self.old) r bucket other ≡ other }
         ensures state { (r : Rec) → slice_get self.old.recs.items index ≡ Some r
-            → state_of self.new.placer self.new.recs.items
-            ≡ give_if_empty (state_of self.old.placer self.old.recs.items) r bucket (state_of self.old.placer self.old.recs.items) }
+            → state_by self.new ≡ give_if_empty (state_by self.old) r bucket (state_by self.old) }
         ensures same { result ≡ false → self.new ≡ self.old }
         ensures placer { self.new.placer ≡ self.old.placer }
         ensures news { self.new.news ≡ self.old.news }
@@ -253,15 +248,16 @@ impl<'a> Plan<'a> {
         bucket: u32,
         steps: &mut Steps<L>,
     ) -> bool
-        requires plan { IsPlan self.old.placer self.old.recs.items self.old.news self.old.grid }
+        requires plan { IsPlanned self.old }
         requires bucket { are_used ≡ true → bucket < 1024 }
         requires room { IsSomeAnd (slice_get self.old.recs.items index) HasSpace }
-        ensures plan { IsPlan self.new.placer self.new.recs.items self.new.news self.new.grid }
-        ensures given { (r : Rec) (other : State) → slice_get self.old.recs.items index ≡ Some r → result ≡ true
-            → state_of self.new.placer self.new.recs.items
-            ≡ give_listed are_used (state_of self.old.placer self.old.recs.items) r bucket other }
-        ensures taken { (r : Rec) (other : State) → slice_get self.old.recs.items index ≡ Some r → result ≡ false
-            → give_listed are_used (state_of self.old.placer self.old.recs.items) r bucket other ≡ other }
+        ensures plan { IsPlanned self.new }
+        ensures given { (r : Rec) (other : State) → slice_get self.old.recs.items index ≡ Some r
+            → result ≡ true
+            → state_by self.new ≡ give_listed are_used (state_by self.old) r bucket other }
+        ensures taken { (r : Rec) (other : State) → slice_get self.old.recs.items index ≡ Some r
+            → result ≡ false
+            → give_listed are_used (state_by self.old) r bucket other ≡ other }
         ensures same { result ≡ false → self.new ≡ self.old }
         ensures placer { self.new.placer ≡ self.old.placer }
         ensures news { self.new.news ≡ self.old.news }
@@ -283,12 +279,11 @@ impl<'a> Plan<'a> {
         index: u32,
         steps: &mut Steps<L>,
     )
-        requires plan { IsPlan self.old.placer self.old.recs.items self.old.news self.old.grid }
+        requires plan { IsPlanned self.old }
         requires bucket { are_used ≡ true → bucket < 1024 }
         requires index { index < self.old.news }
-        ensures plan { IsPlan self.new.placer self.new.recs.items self.new.news self.new.grid }
-        ensures state { state_of self.new.placer self.new.recs.items
-            ≡ place_pair are_used (state_of self.old.placer self.old.recs.items) (bucket, index) }
+        ensures plan { IsPlanned self.new }
+        ensures state { state_by self.new ≡ place_pair are_used (state_by self.old) (bucket, index) }
         ensures placer { self.new.placer ≡ self.old.placer }
         ensures news { self.new.news ≡ self.old.news }
         ensures length { length self.new.recs.items ≡ length self.old.recs.items }
@@ -318,7 +313,8 @@ fn uses_buckets(snap: &Snapshot, placer: &Placer) -> bool
 
 /// Returns `true` if a record's address is valid and fewer than eight buckets list it.
 fn is_placeable(rec: &Rec) -> bool
-    ensures value { result ≡ not (not (is_valid rec.now.peer.addr) || length (buckets_of rec.now) == 8) }
+    ensures value { result
+        ≡ not (not (is_valid rec.now.peer.addr) || length (buckets_of rec.now) == 8) }
     ensures room { result ≡ true → length (buckets_of rec.now) < 8 }
 {
     rec.peer.addr.is_valid() && rec.place.bucket_count() < MAX_LISTS
