@@ -10,5 +10,5 @@ mod position;
 mod print;
 
 pub use generated::{Gen, MAX_LINES};
-pub use law::lines_spell_commands;
+pub use law::{limits, lines_spell_commands};
 pub use memory::Memory;
