@@ -1,10 +1,10 @@
 -- Lists of bans.
-use Rattle.std.proofs.Common.{◌≡◌, ℕ, suc, ◌+◌, ◌<◌, ◌≤◌, Bool, true, false, cond, not, List, [], ◌∷◌, ◌++◌, All, length, get_or, filter, Option, Some, None, refl, sym, ap, ◌∙◌, subst, arith, length-append}
-use Rattle.std.specs.Prelude.{AllPairs, find, nat_lt, nat_le, is_some, ◌==◌, ◌&&◌}
+use Rattle.std.proofs.Common.{◌≡◌, ℕ, suc, ◌+◌, ◌<◌, ◌≤◌, Bool, true, false, cond, not, List, [], ◌∷◌, ◌++◌, All, length, get_or, filter, Option, Some, None, refl, sym, ap, ◌∙◌, subst, arith}
+use Rattle.std.specs.Prelude.{AllPairs, find, nat_lt, nat_le, is_some, ◌==◌}
 use Rattle.std.specs.Prelude.{slice_set}
 use Rattle.std.specs.List.{position_or_len}
 use Rattle.std.specs.Bool.{Decides}
-use Rattle.std.proofs.lemmas.Bool.{cond_both, cases_lt, false≢true}
+use Rattle.std.proofs.lemmas.Bool.{cond_both}
 use Rattle.std.proofs.lemmas.Bool.Decides.{nat_tests, Decides-and, Decides-eqb}
 use Rattle.std.proofs.lemmas.List.Elements.{All-nil, All-cons, All-head, All-tail, All-filter}
 use Rattle.std.proofs.lemmas.List.Kept.{AllPairs-cons, AllPairs-filter}
@@ -70,10 +70,10 @@ module _ {X : Type 0} (p : X → Bool) where
       let rest = length-filter_le xs in
       cond_both (p x) (x ∷ filter p xs) (filter p xs) (λ ys. length ys ≤ suc (length xs)) (λ _. omega (arith, rest)) (λ _. omega (arith, rest))
 
-pairs_head : (R : Ban → Ban → Type 0) (x : Ban) (xs : List Ban) → AllPairs R (x ∷ xs) → All (R x) xs
+pub pairs_head : (R : Ban → Ban → Type 0) (x : Ban) (xs : List Ban) → AllPairs R (x ∷ xs) → All (R x) xs
 pairs_head R x xs h = λ j d l. h 0 (suc j) d (omega arith) (omega arith)
 
-pairs_tail : (R : Ban → Ban → Type 0) (x : Ban) (xs : List Ban) → AllPairs R (x ∷ xs) → AllPairs R xs
+pub pairs_tail : (R : Ban → Ban → Type 0) (x : Ban) (xs : List Ban) → AllPairs R (x ∷ xs) → AllPairs R xs
 pairs_tail R x xs h = λ i j d l w. h (suc i) (suc j) d (omega arith) (omega arith)
 
 -- a ban in its place

@@ -1,5 +1,5 @@
 -- A list of bans, and what is done with it.
-use Rattle.std.specs.Prelude.{◌≡◌, ℕ, ◌≤◌, ◌==◌, Bool, false, ◌&&◌, not, nat_lt, nat_le, List, [], ◌∷◌, ◌++◌, All, AllPairs, Option, Some, None, filter, find, length, if◌then◌else◌}
+use Rattle.std.specs.Prelude.{◌≡◌, ℕ, ◌≤◌, ◌==◌, Bool, false, ◌&&◌, not, nat_lt, nat_le, List, [], ◌∷◌, All, AllPairs, Option, Some, None, filter, find, length, if◌then◌else◌}
 use Rattle.net_addr.specs.Address.{Address}
 use Rattle.net_addr.specs.Same.{same_address}
 use Rattle.ban_list.specs.Subnet.{IsProper, covers}

@@ -1,3 +1,4 @@
 pub mod Subnet
 pub mod SubnetText
 pub mod Bans
+pub mod BanFile

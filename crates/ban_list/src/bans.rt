@@ -1,7 +1,7 @@
-use crate::edits::{drop_over, drop_subnet, index_of, put_longer};
+use crate::edits::{drop_over, drop_subnet, index_of, put, put_longer};
 use crate::{Ban, Memory, Subnet};
 use net_addr::NetAddr;
-use std::alloc::Global;
+use std::alloc::{AllocError, Global};
 use std::marker::Model;
 
 /// The most bans of a list. This limit is our own.
@@ -37,7 +37,8 @@ impl Model for Bans {
 }
 
 impl Bans {
-    ghost use Rattle.std.specs.Prelude.{◌≡◌, [], IfOk, OnOk, OnErr, option_map, find, is_some, filter};
+    ghost use Rattle.std.specs.Prelude.{◌≡◌, [], IfOk, OnOk, OnErr, option_map, find, is_some, All, length, ◌≤◌};
+    ghost use Rattle.ban_list.specs.BanFile.{merged};
     ghost use Rattle.ban_list.specs.Subnet.{IsProper};
     ghost use Rattle.ban_list.specs.Bans.{AreBans, after_ban, ban_of, listed, without, stops};
     ghost use Rattle.ban_list.specs.declared.bans.TheConstants.{MAX_BANS};
@@ -51,12 +52,31 @@ impl Bans {
         }
     }
 
+    /// Makes the list of some bans, of which a later one takes the place of an earlier one of the
+    /// same subnet.
+    pub(crate) fn of(alloc: Global, bans: &[Ban]) -> Result<Bans, AllocError>
+        requires proper { All (λ ban. IsProper ban.subnet) bans.now }
+        requires few { length bans.now ≤ MAX_BANS }
+        ensures { IfOk result (λ list. list ≡ merged bans.now) }
+    {
+        let mut list = Vec::new(alloc);
+        for ban in bans {
+            put(&mut list, *ban)?;
+        }
+        Ok(Bans { bans: list })
+    }
+
     /// Returns the bans in their order.
     pub fn bans(&self) -> &[Ban]
         ensures value { result.now ≡ self.now }
         ensures sound { AreBans self.now }
     {
         &self.bans
+    }
+
+    /// Returns the allocator of the list.
+    pub(crate) fn allocator(&self) -> Global {
+        *self.bans.allocator()
     }
 
     /// Bans a subnet from `now` until a time, and drops the bans that are over. If the subnet is

@@ -4,16 +4,23 @@
 mod ban;
 mod bans;
 mod edits;
+mod element;
+mod fault;
 mod law;
 mod mask;
 mod print;
 mod read;
+mod read_file;
 mod subnet;
+mod write_file;
 
 pub use ban::Ban;
 pub use bans::{BanReply, Bans, MAX_BANS};
+pub use fault::BanFault;
 pub use law::texts_have_one_meaning;
 pub use net_addr::Memory;
 pub use print::put_subnet;
 pub use read::parse_subnet;
+pub use read_file::read_bans;
 pub use subnet::Subnet;
+pub use write_file::write_bans;

@@ -1,6 +1,6 @@
-use Rattle.std.proofs.Common.{◌≡◌, not, ap, ◌∙◌, subst, sym}
+use Rattle.std.proofs.Common.{subst, sym}
 use Rattle.std.specs.Prelude.{nat_lt}
-use Rattle.ban_list.specs.Bans.{AreBans, current}
+use Rattle.ban_list.specs.Bans.{AreBans}
 use Rattle.ban_list.specs.declared.ban.Ban.{Ban}
 use Rattle.ban_list.proofs.BanLaws.{AreBans-filter, AreBans-outcome}
 use Rattle.ban_list.proofs.bans.Bans.ban.Goals as goal

@@ -1,8 +1,7 @@
-use Rattle.std.proofs.Common.{◌≡◌, ◌*◌, true, length, ap, sym, ◌∙◌, subst, eq-eqb}
+use Rattle.std.proofs.Common.{◌≡◌, ◌*◌, length, ap, sym, ◌∙◌, eq-eqb}
 use Rattle.std.specs.Prelude.{◌&&◌, min}
 use Rattle.net_addr.specs.Address.{number_of}
 use Rattle.net_addr.specs.Ranges.{range, in_range}
-use Rattle.ban_list.specs.Subnet.{covers}
 use Rattle.ban_list.proofs.Covers.{in_range-within}
 use Rattle.ban_list.proofs.subnet.Subnet.covers.Goals as goal
 

@@ -1,0 +1,116 @@
+-- The file of a list of bans (`banlist.json`).
+use Rattle.std.specs.Prelude.{◌≡◌, ◌⊎◌, ℕ, ◌<◌, ◌≤◌, List, [], ◌∷◌, map, length, codes, min, Option, Some, None, option_and_then, IsUtf8}
+use Rattle.std.specs.List.{fold}
+use Rattle.serde_json.specs.Data.{Num, unsigned, negative, float, Data, number, string, array, object, member, no_members}
+use Rattle.serde_json.specs.Find.{get, as_array, as_number, as_str, as_u64}
+use Rattle.serde_json.specs.Read.{read}
+use Rattle.serde_json.specs.View.{items_of}
+use Rattle.serde_json.specs.Written.{compact_text}
+use Rattle.ban_list.specs.Bans.{put}
+use Rattle.ban_list.specs.SubnetText.{IsSubnetText, subnet_text}
+use Rattle.ban_list.specs.declared.ban.Ban.{Ban}
+use Rattle.ban_list.specs.declared.bans.TheConstants.{MAX_BANS}
+use Rattle.ban_list.specs.declared.fault.BanFault.{BanFault}
+use Rattle.ban_list.specs.declared.fault.BanFault.TheVariants.{Json, Form, TooMany, TooLarge, Memory}
+
+-- the greatest time
+abbrev pub max_time : ℕ
+max_time = 4294967295
+
+-- a whole number clamped to the range of times, if the number is one: an integer of 64 bits
+abbrev pub clamped : Num → Option ℕ
+clamped (unsigned n) = Some (min n max_time)
+clamped (negative z) = Some 0
+clamped (float x) = None
+
+-- the number under a name
+abbrev pub number_at : List ℕ → Data → Option Num
+number_at name d = option_and_then as_number (get name d)
+
+-- the time under a name
+abbrev pub time_at : List ℕ → Data → Option ℕ
+time_at name d = option_and_then clamped (number_at name d)
+
+-- an element that counts, and its ban. All other elements are passed over
+pub record IsElement (d : Data) (ban : Ban) : Type 0 where
+  pub version : option_and_then as_u64 (number_at (codes "version") d) ≡ Some 1
+  pub address : List ℕ
+  pub address_text : option_and_then as_str (get (codes "address") d) ≡ Some address
+  pub subnet : IsSubnetText address ban.subnet
+  pub created : time_at (codes "ban_created") d ≡ Some ban.created
+  pub until : time_at (codes "banned_until") d ≡ Some ban.until
+
+-- the bans of the elements that count, in their order
+unfoldable pub AreElements : List Data → List Ban → Type 0
+AreElements [] bans = bans ≡ []
+AreElements (d ∷ ds) [] = ((ban : Ban) → IsElement d ban → ⊥) × AreElements ds []
+AreElements (d ∷ ds) (ban ∷ bans) =
+    (((other : Ban) → IsElement d other → ⊥) × AreElements ds (ban ∷ bans)) ⊎ (IsElement d ban × AreElements ds bans)
+
+-- one ban for each subnet: a later one takes the place of an earlier one
+abbrev pub merged : List Ban → List Ban
+merged bans = fold (λ done ban. put ban done) [] bans
+
+-- the bytes are JSON text of this value, nested at most 127 deep
+abbrev pub IsJson : List ℕ → Data → Type 0
+IsJson bytes d = IsUtf8 bytes × (read bytes ≡ Some d)
+
+-- the value is an object with an array under `banned_nets`, and these are its elements
+abbrev pub HasElements : Data → List Data → Type 0
+HasElements d ds = option_and_then as_array (get (codes "banned_nets") d) ≡ Some (items_of ds)
+
+-- the file is that of the list
+pub record IsBanFile (bytes : List ℕ) (bans : List Ban) : Type 0 where
+  pub value : Data
+  pub json : IsJson bytes value
+  pub elements : List Data
+  pub form : HasElements value elements
+  pub counted : List Ban
+  pub are_counted : AreElements elements counted
+  pub few : length counted ≤ MAX_BANS
+  pub made : bans ≡ merged counted
+
+-- an object without such an array, or no object
+pub record HasNoForm (bytes : List ℕ) : Type 0 where
+  pub value : Data
+  pub json : IsJson bytes value
+  pub none : option_and_then as_array (get (codes "banned_nets") value) ≡ None
+
+-- more elements count than a list has
+pub record HasTooMany (bytes : List ℕ) : Type 0 where
+  pub value : Data
+  pub json : IsJson bytes value
+  pub elements : List Data
+  pub form : HasElements value elements
+  pub counted : List Ban
+  pub are_counted : AreElements elements counted
+  pub many : MAX_BANS < length counted
+
+-- the fault of a file
+abbrev pub HasBanFault : List ℕ → BanFault → Type 0
+HasBanFault bytes Json = (d : Data) → IsJson bytes d → ⊥
+HasBanFault bytes Form = HasNoForm bytes
+HasBanFault bytes TooMany = HasTooMany bytes
+HasBanFault bytes (TooLarge size) = ⊥
+HasBanFault bytes Memory = ⊥
+
+-- the element that is written for a ban
+abbrev pub ban_data : Ban → Data
+ban_data ban =
+    object (member (codes "address") (string (subnet_text ban.subnet))
+    (member (codes "ban_created") (number (unsigned ban.created))
+    (member (codes "banned_until") (number (unsigned ban.until))
+    (member (codes "version") (number (unsigned 1)) no_members))))
+
+abbrev pub file_data : List Ban → Data
+file_data bans = object (member (codes "banned_nets") (array (items_of (map ban_data bans))) no_members)
+
+-- the file that is written for a list: without spaces and line feeds
+unfoldable pub file_text : List Ban → List ℕ
+file_text bans = compact_text (file_data bans)
+
+-- what is written of a ban is read as the ban; for private clauses
+pub record IsReadBack (ban : Ban) : Type 0 where
+  pub subnet : IsSubnetText (subnet_text ban.subnet) ban.subnet
+  pub created : ban.created ≤ max_time
+  pub until : ban.until ≤ max_time

@@ -1,0 +1,90 @@
+ghost use Rattle.std.specs.Prelude.{◌≡◌, ◌⊎◌, List, ◌≤◌, ◌<◌, true, false, codes, map, length, All, IfOk, IfErr, IsErrAnd, MatchResult, option_and_then, option_map};
+ghost use Rattle.serde_json.specs.Data.{Data};
+ghost use Rattle.serde_json.specs.Find.{get, as_array};
+ghost use Rattle.serde_json.specs.View.{view, items_view};
+ghost use Rattle.ban_list.specs.Subnet.{IsProper};
+ghost use Rattle.ban_list.specs.BanFile.{AreElements, HasBanFault, IsBanFile, IsJson};
+ghost use Rattle.ban_list.specs.declared.ban.Ban.{Ban};
+ghost use Rattle.ban_list.specs.declared.fault.BanFault.{BanFault};
+ghost use Rattle.ban_list.specs.declared.fault.BanFault.TheVariants as faults;
+ghost use Rattle.ban_list.specs.declared.bans.TheConstants.{MAX_BANS};
+
+use crate::element::element_of;
+use crate::{Ban, BanFault, Bans, MAX_BANS};
+use serde_json::Value;
+use std::alloc::{AllocError, Global};
+
+/// Reads a file of bans. Elements that do not count are passed over, and of two elements of one
+/// subnet the later one's times take the place of the earlier one's.
+pub fn read_bans(alloc: Global, bytes: &[u8]) -> Result<Bans, BanFault>
+    ensures found { IfOk result (IsBanFile bytes.now) }
+    ensures cause { IfErr result (λ fault. (fault ≡ faults.Memory) ⊎ HasBanFault bytes.now fault) }
+    // A file of a list is read as that list, unless memory runs out.
+    ensures only { (bans : List Ban) → IsBanFile bytes.now bans
+        → MatchResult result (λ read. read ≡ bans) (λ fault. fault ≡ faults.Memory) }
+    // A file that has a fault is answered with that fault, unless memory runs out.
+    ensures exact { (first : BanFault) → HasBanFault bytes.now first
+        → IsErrAnd result (λ fault. (fault ≡ faults.Memory) ⊎ (fault ≡ first)) }
+{
+    let value = match parse(alloc, bytes) {
+        Ok(value) => value,
+        Err(fault) => return Err(fault),
+    };
+    let Some(elements) = elements_of(&value) else {
+        return Err(BanFault::Form);
+    };
+    let counted = counted_of(alloc, elements)?;
+    if is_too_many(counted.len()) {
+        return Err(BanFault::TooMany);
+    }
+    Ok(Bans::of(alloc, counted.as_slice())?)
+}
+
+/// Parses a JSON text.
+fn parse(alloc: Global, bytes: &[u8]) -> Result<Value, BanFault>
+    ensures ok { IfOk result (λ value. IsJson bytes.now (view value)) }
+    ensures err { IfErr result (λ fault. (fault ≡ faults.Memory)
+        ⊎ ((fault ≡ faults.Json) × ((d : Data) → IsJson bytes.now d → ⊥))) }
+{
+    match Value::from_slice(alloc, bytes) {
+        Ok(value) => Ok(value),
+        Err(error) => {
+            if error.is_memory() {
+                Err(BanFault::Memory)
+            } else {
+                Err(BanFault::Json)
+            }
+        }
+    }
+}
+
+/// Returns the elements of the array under `banned_nets`, if there is one.
+fn elements_of(value: &Value) -> Option<&[Value]>
+    ensures { option_map (λ items. items_view items.now) result
+        ≡ option_and_then as_array (get (codes "banned_nets") (view value.now)) }
+{
+    let items = value.get("banned_nets")?.as_array()?;
+    Some(items.as_slice())
+}
+
+/// Returns the bans of the elements that count, in their order.
+fn counted_of(alloc: Global, elements: &[Value]) -> Result<Vec<Ban>, AllocError>
+    ensures counted { IfOk result (λ bans. AreElements (map view elements.now) bans.items) }
+    ensures proper { IfOk result (λ bans. All (λ ban. IsProper ban.subnet) bans.items) }
+{
+    let mut counted = Vec::new(alloc);
+    for element in elements {
+        if let Some(ban) = element_of(element) {
+            counted.push(ban)?;
+        }
+    }
+    Ok(counted)
+}
+
+/// Returns `true` if more elements count than a list has.
+fn is_too_many(count: usize) -> bool
+    ensures many { result ≡ true → MAX_BANS < count }
+    ensures few { result ≡ false → count ≤ MAX_BANS }
+{
+    count > MAX_BANS
+}
