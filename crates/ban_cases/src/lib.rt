@@ -1,0 +1,8 @@
+//! Tests of bans: subnets, files and lists of bans as rows of texts. The expected values are those
+//! of an independent program.
+#![tactic(auto)]
+
+#[cfg(test)]
+mod lists;
+#[cfg(test)]
+mod tables;
