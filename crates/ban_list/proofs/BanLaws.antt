@@ -169,10 +169,8 @@ pub AreBans-outcome : (new : Ban) (bans : List Ban) → IsProper new.subnet → 
 AreBans-outcome new bans p h = outcome_sound (listed new.subnet bans) new bans refl p h
 
 -- a ban that is listed for less long, and one that is not listed
-pub outcome-longer : (new old : Ban) (bans : List Ban) → listed new.subnet bans ≡ Some old → old.until < new.until → (outcome new bans).bans ≡ put new bans
-outcome-longer new old bans e lt =
-    let f : nat_le new.until old.until ≡ false = grind (arith, nat_tests) in
-    rw (e, f) refl
+pub outcome-longer : (new old : Ban) (bans : List Ban) → listed new.subnet bans ≡ Some old → nat_le new.until old.until ≡ false → (outcome new bans).bans ≡ put new bans
+outcome-longer new old bans e f = rw (e, f) refl
 
 pub outcome-new : (new : Ban) (bans : List Ban) → listed new.subnet bans ≡ None → length bans < MAX_BANS → (outcome new bans).bans ≡ put new bans
 outcome-new new bans e lt =

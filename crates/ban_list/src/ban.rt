@@ -13,7 +13,7 @@ pub struct Ban {
 }
 
 impl Ban {
-    ghost use Rattle.std.specs.Prelude.{◌≡◌};
+    ghost use Rattle.std.specs.Prelude.{◌≡◌, nat_le};
     ghost use Rattle.ban_list.specs.Bans.{is_of, stops};
 
     /// Returns `true` if the ban is of the subnet.
@@ -21,6 +21,13 @@ impl Ban {
         ensures { result ≡ is_of subnet.now self.now }
     {
         self.subnet == *subnet
+    }
+
+    /// Returns `true` if the ban lasts until the time or longer.
+    pub(crate) fn lasts_until(&self, until: u32) -> bool
+        ensures { result ≡ nat_le until self.now.until }
+    {
+        until <= self.until
     }
 
     /// Returns `true` if the ban covers the address and is not over.

@@ -32,7 +32,7 @@ pub(crate) fn put_longer(bans: &mut Vec<Ban>, ban: Ban) -> BanReply
 {
     let index = index_of(bans, &ban.subnet);
     if index < bans.len() {
-        if ban.until <= bans[index].until {
+        if bans[index].lasts_until(ban.until) {
             return BanReply::Kept;
         }
         bans[index] = ban;

@@ -16,7 +16,7 @@ returns-then-index-len-clause-bans c =
     let is = ap (listed new.subnet) (sym same) ∙ c.index_of-index.ensures.found within old ∙ ap (λ bs. Some (get_or bs c.index_of-index.result old)) same ∙ ap Some (sym c.index.ensures) in
     ap (λ n. slice_set bans n new) first
     ∙ sym (put-found new bans (subst (λ n. n < length bans) first (subst (λ bs. c.index_of-index.result < length bs) same within)))
-    ∙ sym (outcome-longer new old bans is c.if-ban-index.false)
+    ∙ sym (outcome-longer new old bans is (sym c.lasts_until.ensures ∙ c.if-lasts_until.false))
 
 pub returns-clause-bans : goal.returns-clause-bans
 returns-clause-bans c =
