@@ -1,0 +1,88 @@
+use crate::text::{bytes_of, hex_text, owned, text_of};
+use call_rows::Unread;
+use log_lines::{Command, read_line, read_words, split_line};
+use net_addr::put_peer;
+use std::alloc::Global;
+
+/// Returns the command's number or peer, or that the line is parsed.
+fn command_text(alloc: Global, command: &Command) -> Result<String, Unread> {
+    match command {
+        Command::Now { time } => Ok(format!(in alloc; "now {time}")?),
+        Command::Find { peer } => {
+            let mut text = Vec::new(alloc);
+            text.extend_from_slice(b"find ")?;
+            if put_peer(peer, &mut text).is_err() {
+                return Err(Unread::Memory);
+            }
+            text_of(text)
+        }
+        Command::Addr {
+            source,
+            payload,
+            words,
+        } => {
+            let bytes = hex_text(alloc, payload.items())?;
+            let source = hex_text(alloc, source.bytes())?;
+            Ok(format!(in alloc; "addr {source} {bytes} {:?}", words.items())?)
+        }
+        _ => Ok(owned(alloc, "parsed")?),
+    }
+}
+
+/// Returns the command of the line, its fault, or that it is passed over.
+fn line_text(alloc: Global, line: &[u8]) -> Result<String, Unread> {
+    if line.len() > 16_000_000 {
+        return Err(Unread::Unmet);
+    }
+    match read_line(alloc, line) {
+        Ok(Some(command)) => command_text(alloc, &command),
+        Ok(None) => Ok(owned(alloc, "passed over")?),
+        Err(fault) => Ok(format!(in alloc; "{fault}")?),
+    }
+}
+
+/// `long-number`: a clock of a million digits.
+fn long_number(alloc: Global) -> Result<String, Unread> {
+    let mut line = Vec::new(alloc);
+    line.extend_from_slice(b"now ")?;
+    line.extend_from_slice(vec![in alloc; b'9'; 1_000_000]?.as_slice())?;
+    line_text(alloc, line.as_slice())
+}
+
+/// `words TEXT`: the random words. `ends-of-words TEXT`: their number, the first and the last.
+fn words(alloc: Global, name: &str, text: &str) -> Result<String, Unread> {
+    if text.len() > 100 {
+        return Err(Unread::Unmet);
+    }
+    let Ok(words) = read_words(alloc, text.as_bytes()) else {
+        return Ok(owned(alloc, "none")?);
+    };
+    let items = words.items();
+    if name == "words" {
+        return Ok(format!(in alloc; "{items:?}")?);
+    }
+    Ok(format!(in alloc; "{} {:?} {:?}", items.len(), items.first(), items.last())?)
+}
+
+/// `split HEX`: the first line of a log, and the rest, in hexadecimal.
+fn split(alloc: Global, hex: &str) -> Result<String, Unread> {
+    let bytes = bytes_of(alloc, hex)?;
+    if bytes.is_empty() {
+        return Err(Unread::Unmet);
+    }
+    let (line, rest) = split_line(bytes.as_slice());
+    let line = hex_text(alloc, line)?;
+    let rest = hex_text(alloc, rest)?;
+    Ok(format!(in alloc; "{line} {rest}")?)
+}
+
+/// `line TEXT`, `line-hex HEX` and the calls above.
+pub(crate) fn answer(alloc: Global, name: &str, arguments: &str) -> Result<String, Unread> {
+    match name {
+        "line" => line_text(alloc, arguments.as_bytes()),
+        "line-hex" => line_text(alloc, bytes_of(alloc, arguments)?.as_slice()),
+        "long-number" => long_number(alloc),
+        "split" => split(alloc, arguments),
+        _ => words(alloc, name, arguments),
+    }
+}

@@ -1,0 +1,52 @@
+//! Tests of values as data: numbers, addresses, messages, buckets and slots, records, lines and
+//! replies. Each row of the files that the arguments name is a call and its answer.
+#![tactic(auto)]
+
+mod addresses;
+mod lines;
+mod messages;
+mod numbers;
+mod places;
+mod records;
+mod replies;
+mod text;
+mod written;
+
+use call_rows::{Calls, Unread, check_files};
+use std::alloc::Global;
+use std::process::ExitCode;
+use std::rt::{Env, Files};
+
+/// The calls of values, which leave nothing behind.
+#[derive(Drop)]
+struct Values;
+
+impl Calls for Values {
+    fn start(_: Global) -> Result<Values, Unread> {
+        Ok(Values)
+    }
+
+    fn call(&mut self, alloc: Global, name: &str, arguments: &str) -> Result<String, Unread> {
+        match name {
+            "address" | "peer" | "class" | "bytes" | "v1" | "ipv4" | "ipv6" => {
+                addresses::answer(alloc, name, arguments)
+            }
+            "addr" | "addrv2" | "prefixes" | "equal-entries" | "unknown-network" => {
+                messages::answer(alloc, name, arguments)
+            }
+            "number" | "le32" | "le64" | "be16" => numbers::answer(alloc, name, arguments),
+            "line" | "line-hex" | "long-number" | "words" | "ends-of-words" | "split" => {
+                lines::answer(alloc, name, arguments)
+            }
+            "chance" | "terrible" => records::answer(alloc, name, arguments),
+            "written" => written::answer(alloc, arguments),
+            "replies" => replies::replies(alloc),
+            "reply" => replies::reply(alloc, arguments),
+            _ => places::answer(alloc, name, arguments),
+        }
+    }
+}
+
+fn main(rt: HostRuntime) -> ExitCode {
+    check_files::<Values, HostRuntime>(&rt)
+}

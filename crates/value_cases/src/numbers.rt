@@ -1,0 +1,28 @@
+use crate::text::{bytes_of, number_text};
+use call_rows::{Fields, Unread, first_word};
+use net_addr::parse_number;
+use std::alloc::Global;
+use wire_num::{read_be16, read_le32, read_le64};
+
+/// Returns the number of the call's kind that the bytes have at the offset.
+fn read(kind: &str, bytes: &[u8], at: usize) -> Option<u64> {
+    match kind {
+        "le32" => read_le32(bytes, at).map(|number| u64::from(number)),
+        "le64" => read_le64(bytes, at),
+        _ => read_be16(bytes, at).map(|number| u64::from(number)),
+    }
+}
+
+/// `number MOST TEXT`: the number that the text has, if it is at most `MOST`. `le32 HEX OFFSET`,
+/// `le64 HEX OFFSET` and `be16 HEX OFFSET`: a number in bytes.
+pub(crate) fn answer(alloc: Global, name: &str, arguments: &str) -> Result<String, Unread> {
+    if name == "number" {
+        let (most, text) = first_word(arguments);
+        let most = Fields::of(most).number()?;
+        return Ok(number_text(alloc, parse_number(text.as_bytes(), most))?);
+    }
+    let (hex, at) = first_word(arguments);
+    let bytes = bytes_of(alloc, hex)?;
+    let at = Fields::of(at).number()? as usize;
+    Ok(number_text(alloc, read(name, bytes.as_slice(), at))?)
+}
