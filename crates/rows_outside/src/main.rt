@@ -3,6 +3,7 @@
 #![tactic(auto)]
 
 mod folder_call;
+mod saves;
 mod sources;
 mod writers;
 
@@ -34,7 +35,8 @@ fn print_all<R: Files + Print + AllocGlobal>(rt: &R) -> io::Result<()> {
     sources::print_pieces(rt)?;
     writers::print_counts(rt)?;
     prepare(rt)?;
-    print_calls(rt)
+    print_calls(rt)?;
+    saves::print_saves(rt)
 }
 
 fn main(rt: HostRuntime) -> ExitCode {

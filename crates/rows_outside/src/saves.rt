@@ -1,0 +1,53 @@
+// Saves of peers.dat in the current folder, at once and in pieces, and what is loaded after each.
+use host_io::{Bytes, DirFolder, Failed, Name};
+use save_store::{SaveJob, load, publish, write_temp};
+use std::io;
+use std::rt::Files;
+
+/// Saves the bytes at once.
+fn save_whole<R: Files + Alloc>(folder: &mut DirFolder<'_, R>, bytes: &[u8]) -> Result<(), Failed> {
+    write_temp(folder, Name::PeersTemp, bytes)?;
+    publish(folder, Name::PeersTemp, Name::Peers)
+}
+
+/// Saves the bytes by a job: the first byte, no byte, and the rest.
+fn save_in_pieces<R: Files + Alloc>(
+    folder: &mut DirFolder<'_, R>,
+    bytes: Bytes,
+) -> Result<(), Failed> {
+    let job = SaveJob::begin(folder, Name::PeersTemp, bytes)?;
+    let job = job.step(folder, 1)?;
+    let job = job.step(folder, 0)?;
+    job.end(folder, Name::Peers)
+}
+
+/// Prints the outcome of a save, and what is loaded after it, up to six bytes.
+fn print_saved<R: Files + Print + AllocGlobal>(
+    rt: &R,
+    folder: &mut DirFolder<'_, R>,
+    saved: Result<(), Failed>,
+) -> io::Result<()> {
+    println!(rt; "saved: {saved:?}")?;
+    match load(rt.alloc(), folder, Name::Peers, 6) {
+        Ok(Some(bytes)) => {
+            println!(rt;
+                "loaded: {:?}",
+                str::from_utf8(bytes.items()).unwrap_or("no text")
+            )
+        }
+        Ok(None) => println!(rt; "loaded: absent"),
+        Err(fault) => println!(rt; "loaded: {fault:?}"),
+    }
+}
+
+/// Saves a file at once, in pieces, and at once again with more bytes than are loaded.
+pub(crate) fn print_saves<R: Files + Print + AllocGlobal>(rt: &R) -> io::Result<()> {
+    let mut folder = DirFolder::make(rt);
+    let saved = save_whole(&mut folder, b"first");
+    print_saved(rt, &mut folder, saved)?;
+    let second = Bytes::of(b"second".to_vec(rt.alloc())?);
+    let saved = save_in_pieces(&mut folder, second);
+    print_saved(rt, &mut folder, saved)?;
+    let saved = save_whole(&mut folder, b"too long");
+    print_saved(rt, &mut folder, saved)
+}
