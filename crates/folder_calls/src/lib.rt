@@ -13,11 +13,13 @@ mod tests {
 
     /// The words of each command, the file that it reads, if it reads one, and whether it may
     /// write asmap.dat.
-    const COMMANDS: [(&[&str], Option<Name>, bool); 5] = [
+    const COMMANDS: [(&[&str], Option<Name>, bool); 7] = [
         (&["replay", KEY], Some(Name::Asmap), false),
         (&["lookup", "8.8.8.8:8333"], Some(Name::Asmap), false),
         (&["check"], Some(Name::Asmap), false),
         (&["compile"], Some(Name::Prefixes), true),
+        (&["decompile"], Some(Name::Asmap), false),
+        (&["show"], Some(Name::Peers), false),
         (&["check", "check"], None, false),
     ];
 
@@ -46,11 +48,13 @@ mod tests {
         }
     }
 
-    /// Runs a command on a folder that has both files, and returns the folder.
+    /// Runs a command on a folder that has peers.dat, asmap.dat and prefixes.txt, and returns the
+    /// folder.
     fn after_run(alloc: Global, words: &[&str]) -> Result<MemFolder, Fail> {
         let words = owned(alloc, words)?;
         let mut log = MemSource::make(alloc, b"", 1, &[])?;
         let mut folder = MemFolder::make(alloc, &[])?;
+        folder.put(Name::Peers, b"peers")?;
         folder.put(Name::Asmap, b"asmap")?;
         folder.put(Name::Prefixes, b"8.0.0.0/8 AS1\n")?;
         let mut out = MemSink::make(alloc, &[])?;
