@@ -1,36 +1,68 @@
-//! What a crash leaves of a compile that was stopped. Each line is one compile over an old
-//! asmap.dat, in which one call of the folder fails: the number of the call, whether it was made
-//! all the same, the exit code, the file as it reads, and what crashes with the choices 0 to 15
-//! leave of it.
+//! What a crash leaves of saves that were stopped. Each line is one compile over an old asmap.dat,
+//! or two or three saves of peers.dat one after another, in a folder in memory of which calls fail:
+//! the number of the call, whether it was made all the same, how the compile or each save ended,
+//! the file as it reads, and what crashes leave of it.
 #![tactic(auto)]
 
+mod mark;
+mod repeated;
 mod stopped;
 
+use host_io::Memory;
+use repeated::{Way, saves_after_a_fault, stopped_saves};
 use std::io;
 use std::process::ExitCode;
 use stopped::stopped_compile;
 
-/// Prints the lines of the compiles in which the call fails: it is not made, and it is made.
-fn print_lines(rt: &(impl Print + AllocGlobal), call: u64) -> io::Result<()> {
-    for is_made in [false, true] {
-        match stopped_compile(rt.alloc(), call, is_made) {
-            Ok(line) => println!(rt; "{line}")?,
-            Err(_) => println!(rt; "call {call}: out of memory")?,
-        }
+/// Prints a line.
+fn print_line(rt: &impl Print, line: Result<String, Memory>) -> io::Result<()> {
+    match line {
+        Ok(line) => println!(rt; "{line}"),
+        Err(_) => println!(rt; "out of memory"),
+    }
+}
+
+/// Prints the lines of the compiles in which this call fails, from call 0 to 8.
+fn print_compiles(rt: &(impl Print + AllocGlobal), is_made: bool) -> io::Result<()> {
+    for call in 0..9 {
+        print_line(rt, stopped_compile(rt.alloc(), call, is_made))?;
     }
     Ok(())
 }
 
-/// Prints the lines of all compiles. The last one has more calls than one that is not stopped.
-fn print_all(rt: &(impl Print + AllocGlobal)) -> io::Result<()> {
-    for call in 0..9 {
-        print_lines(rt, call)?;
+/// Prints the lines of saves that are stopped, from call 0 to 12.
+fn print_stopped(rt: &(impl Print + AllocGlobal), way: Way, is_made: bool) -> io::Result<()> {
+    for call in 0..13 {
+        print_line(rt, stopped_saves(rt.alloc(), way, call, is_made))?;
     }
     Ok(())
+}
+
+/// Prints the lines of saves of which one call fails, from call 0 to 12.
+fn print_faults(rt: &(impl Print + AllocGlobal), way: Way, is_made: bool) -> io::Result<()> {
+    for call in 0..13 {
+        print_line(rt, saves_after_a_fault(rt.alloc(), way, call, is_made))?;
+    }
+    Ok(())
+}
+
+/// Prints all lines of calls that fail and are made all the same, or not.
+fn print_all(rt: &(impl Print + AllocGlobal), is_made: bool) -> io::Result<()> {
+    print_compiles(rt, is_made)?;
+    print_stopped(rt, Way::Whole, is_made)?;
+    print_stopped(rt, Way::Pieces, is_made)?;
+    print_faults(rt, Way::Whole, is_made)?;
+    print_faults(rt, Way::Pieces, is_made)
+}
+
+/// Prints all lines.
+fn print_both(rt: &(impl Print + AllocGlobal)) -> io::Result<()> {
+    print_all(rt, false)?;
+    print_all(rt, true)
 }
 
 fn main(rt: HostRuntime) -> ExitCode {
-    match print_all(&rt) {
+    match print_both(&rt) {
         Ok(()) => ExitCode::SUCCESS,
         Err(_) => ExitCode::FAILURE,
     }

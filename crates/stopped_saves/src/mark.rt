@@ -1,0 +1,55 @@
+use host_io::{MemFolder, Memory, Name};
+use std::alloc::Global;
+
+/// The file that asmap.dat has before a compile.
+pub(crate) const OLD: &[u8] = &[1, 0, 0, 0, 0, 2];
+
+/// The file that the compile makes.
+const NEW: &[u8] = &[0, 0, 0];
+
+/// The files that are saved as peers.dat, one after another.
+pub(crate) const SAVES: [&[u8]; 3] = [b"1st", b"2nd", b"3rd"];
+
+/// The files, and the letter or digit of each.
+const MARKS: [(&[u8], &str); 5] = [
+    (OLD, "o"),
+    (NEW, "n"),
+    (b"1st", "1"),
+    (b"2nd", "2"),
+    (b"3rd", "3"),
+];
+
+/// Returns the words for a call that failed: whether it was made all the same.
+pub(crate) fn made_word(is_made: bool) -> &'static str {
+    if is_made { "made" } else { "not made" }
+}
+
+/// Returns the letter or digit for the bytes of a file, `?` for others.
+fn mark_of(bytes: &[u8]) -> &'static str {
+    for (file, mark) in MARKS {
+        if bytes == file {
+            return mark;
+        }
+    }
+    "?"
+}
+
+/// Returns the letter or digit of a file, `-` for none.
+pub(crate) fn mark(file: Option<&[u8]>) -> &'static str {
+    match file {
+        None => "-",
+        Some(bytes) => mark_of(bytes),
+    }
+}
+
+/// Returns the file as it reads, and what crashes with the choices 0 to 15 leave of it.
+pub(crate) fn marks(alloc: Global, folder: &MemFolder, name: Name) -> Result<String, Memory> {
+    let mut text = String::from_str(alloc, "reads ")?;
+    text.push_str(mark(folder.get(name)))?;
+    text.push_str(", crashes ")?;
+    for choice in 0..16 {
+        let image = folder.crash(choice)?;
+        text.push_str(mark(image.get(name)))?;
+    }
+    Ok(text)
+}
