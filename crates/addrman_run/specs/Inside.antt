@@ -1,5 +1,5 @@
 -- Words of private contracts.
-use Rattle.std.specs.Prelude.{◌≡◌, ◌⊎◌, ℕ, List, Option, Some, None, ⊤}
+use Rattle.std.specs.Prelude.{◌≡◌, ◌≢◌, ◌⊎◌, ℕ, List, Option, Some, None, ⊤}
 use Rattle.host_io.specs.Past.{Past}
 use Rattle.host_io.specs.Writing.{Appended, AppendedPart}
 use Rattle.host_io.specs.declared.name.Name.{Name}
@@ -19,10 +19,16 @@ use Rattle.addrman_run.specs.declared.input.Input.{Input}
 use Rattle.addrman_run.specs.declared.input.Input.TheVariants as input
 use Rattle.addrman_run.specs.declared.tables_fault.TablesFault.{TablesFault}
 use Rattle.addrman_run.specs.declared.tables_fault.TablesFault.TheVariants.{Rows}
-use Rattle.addrman_run.specs.declared.peers_fault.PeersFault.TheVariants.{File}
+use Rattle.addrman_run.specs.declared.peers_fault.PeersFault.TheVariants.{Duplicate, File}
+use Rattle.addrman_run.specs.Opening.{places_of, tables_of}
+use Rattle.peer_rec.specs.Snapshot.{Snapshot}
+use Rattle.peers_file.specs.Layout.{IsFile, HasFileFault}
+use Rattle.peers_file.specs.declared.chain.Chain.{Chain}
+use Rattle.table_machine.specs.State.{State, empty_state}
+use Rattle.table_machine.specs.Restoring.{duplicate}
 use Rattle.addrman_run.specs.declared.status.Status.{Status}
 use Rattle.addrman_run.specs.declared.status.Status.TheVariants.{PeersRefused}
-use Rattle.addrman_run.specs.declared.status.Status.TheVariants.{Done, LogLine, AsmapRefused, TableRefused, WriteFault, DiskFault, Memory, NoFile, NotBuilt}
+use Rattle.addrman_run.specs.declared.status.Status.TheVariants.{Done, LogLine, AsmapRefused, TableRefused, WriteFault, DiskFault, Memory, NoFile, NoKey, NotBuilt}
 
 -- the name of a file that commands load
 abbrev pub name_of : Input → Name
@@ -58,6 +64,35 @@ IsLoadFault input past status =
 -- why a file that has to be there is not loaded
 abbrev pub IsNotLoaded : Input → Option Past → Status → Type 0
 IsNotLoaded input past status = ((status ≡ NoFile (name_of input)) × IsAbsent (name_of input) past) ⊎ IsLoadFault input past status
+
+-- the tables that the bytes of a file open, or the key if there is no file
+abbrev pub OpensWith : Option (List ℕ) → Chain → Option (List ℕ) → Option Asmap → State → Type 0
+OpensWith key chain None map st = (given : List ℕ) × (key ≡ Some given) × (st ≡ empty_state (places_of given map))
+OpensWith key chain (Some bytes) map st = (snap : Snapshot) × IsFile chain bytes snap × (duplicate snap ≡ None) × (st ≡ tables_of snap map)
+
+-- why the bytes of a file are no snapshot
+abbrev pub IsNoSnapshot : Chain → List ℕ → Status → Type 0
+IsNoSnapshot chain bytes (PeersRefused (File fault)) = (fault ≢ peers.Memory) × HasFileFault chain bytes fault
+IsNoSnapshot chain bytes Memory = ⊤
+IsNoSnapshot chain bytes other = ⊥
+
+-- why a snapshot is not restored
+abbrev pub IsNotRestored : Snapshot → Status → Type 0
+IsNotRestored snap (PeersRefused (Duplicate index)) = duplicate snap ≡ Some index
+IsNotRestored snap Memory = ⊤
+IsNotRestored snap other = ⊥
+
+-- why no tables are opened without a file
+abbrev pub IsKeyless : Option (List ℕ) → Status → Type 0
+IsKeyless key NoKey = key ≡ None
+IsKeyless key Memory = ⊤
+IsKeyless key other = ⊥
+
+-- why no tables are opened, by the bytes of the file
+abbrev pub IsNotOpened : Option (List ℕ) → Chain → Option (List ℕ) → Status → Type 0
+IsNotOpened key chain None status = IsKeyless key status
+IsNotOpened key chain (Some bytes) status =
+    IsNoSnapshot chain bytes status ⊎ ((snap : Snapshot) × IsFile chain bytes snap × IsNotRestored snap status)
 
 -- how the writing of a line ends: all of it, or a part of it
 abbrev pub LineEnds : List ℕ → Option (List ℕ) → Option (List ℕ) → Status → Type 0

@@ -1,5 +1,5 @@
 -- How a replay opens the tables: from the folder's peers.dat, or empty under the key of its arguments.
-use Rattle.std.specs.Prelude.{◌≡◌, ◌⊎◌, ℕ, List, [], ◌++◌, Option, Some, None, codes}
+use Rattle.std.specs.Prelude.{◌≡◌, ◌⊎◌, ℕ, List, Option, Some, None}
 use Rattle.host_io.specs.Past.{Past}
 use Rattle.host_io.specs.declared.name.Name.TheVariants as name
 use Rattle.asmap_vm.specs.Asmap.{Asmap}
@@ -10,20 +10,8 @@ use Rattle.table_machine.specs.Restoring.{restored, duplicate}
 use Rattle.peers_file.specs.declared.chain.Chain.{Chain}
 use Rattle.addrman_run.specs.InFolder.{IsAbsent}
 use Rattle.addrman_run.specs.Peers.{IsSnapshotIn, RefusesPeers}
-use Rattle.addrman_run.specs.Request.{IsKey, IsOption, IsNet}
 use Rattle.addrman_run.specs.declared.peers_fault.PeersFault.{PeersFault}
 use Rattle.addrman_run.specs.declared.peers_fault.PeersFault.TheVariants.{File, Duplicate}
-
--- the arguments choose a key, or none
-abbrev pub IsKeyOption : List (List ℕ) → Option (List ℕ) → Type 0
-IsKeyOption options None = options ≡ []
-IsKeyOption options (Some key) = (digits : List ℕ) × IsKey digits key × IsOption (codes "--key") digits options
-
--- the arguments choose a key, or none, and a chain, in either order
-abbrev pub IsOpeningOptions : List (List ℕ) → Option (List ℕ) → Chain → Type 0
-IsOpeningOptions options key chain =
-    (first : List (List ℕ)) × (second : List (List ℕ)) × (options ≡ first ++ second) ×
-    ((IsKeyOption first key × IsNet second chain) ⊎ (IsNet first chain × IsKeyOption second key))
 
 -- what buckets and slots depend on, under a key and the folder's asmap
 abbrev pub places_of : List ℕ → Option Asmap → Places

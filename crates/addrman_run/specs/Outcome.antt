@@ -16,7 +16,7 @@ use Rattle.addrman_run.specs.declared.status.Status.{Status}
 use Rattle.addrman_run.specs.declared.status.Status.TheVariants as status
 
 abbrev pub Ends : Request → Outside → Outside → Status → Type 0
-Ends (Replay key) old new answer = ReplayEnds key old new answer
+Ends (Replay key chain) old new answer = ReplayEnds key chain old new answer
 Ends Compile old new answer = CompileEnds old new answer
 Ends Check old new answer = CheckEnds old new answer
 Ends Decompile old new answer = DecompileEnds old new answer

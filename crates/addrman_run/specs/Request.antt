@@ -1,5 +1,5 @@
 -- What the arguments ask for.
-use Rattle.std.specs.Prelude.{◌≡◌, ◌⊎◌, ℕ, List, [], ◌∷◌, ◌++◌, length, Ok, codes}
+use Rattle.std.specs.Prelude.{◌≡◌, ◌⊎◌, ℕ, List, [], ◌∷◌, ◌++◌, length, Option, Some, None, Ok, codes}
 use Rattle.hex.specs.Hex.{decode_of}
 use Rattle.net_addr.specs.Text.{IsPeerText}
 use Rattle.peers_file.specs.declared.chain.Chain.{Chain}
@@ -28,10 +28,21 @@ chain_name Regtest = codes "regtest"
 abbrev pub IsNet : List (List ℕ) → Chain → Type 0
 IsNet options chain = ((options ≡ []) × (chain ≡ Main)) ⊎ IsOption (codes "--net") (chain_name chain) options
 
+-- the arguments choose a key, or none
+abbrev pub IsKeyOption : List (List ℕ) → Option (List ℕ) → Type 0
+IsKeyOption options None = options ≡ []
+IsKeyOption options (Some key) = (digits : List ℕ) × IsKey digits key × IsOption (codes "--key") digits options
+
+-- the arguments choose a key, or none, and a chain, in either order
+abbrev pub IsOpeningOptions : List (List ℕ) → Option (List ℕ) → Chain → Type 0
+IsOpeningOptions options key chain =
+    (first : List (List ℕ)) × (second : List (List ℕ)) × (options ≡ first ++ second) ×
+    ((IsKeyOption first key × IsNet second chain) ⊎ (IsNet first chain × IsKeyOption second key))
+
 -- the arguments ask for this
 abbrev pub Asks : List (List ℕ) → Request → Type 0
-Asks words (Replay key) =
-    (digits : List ℕ) × (options : List (List ℕ)) × IsKey digits key × IsOption (codes "--key") digits options × (words ≡ codes "replay" ∷ options)
+Asks words (Replay key chain) =
+    (options : List (List ℕ)) × IsOpeningOptions options key chain × (words ≡ codes "replay" ∷ options)
 Asks words Compile = words ≡ codes "compile" ∷ []
 Asks words Check = words ≡ codes "check" ∷ []
 Asks words Decompile = words ≡ codes "decompile" ∷ []

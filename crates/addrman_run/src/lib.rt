@@ -10,6 +10,7 @@ mod law;
 mod line_step;
 mod lookup;
 mod memory;
+mod opening;
 mod output;
 mod peers_fault;
 mod replay;

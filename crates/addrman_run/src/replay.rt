@@ -6,20 +6,20 @@ ghost use Rattle.asmap_vm.specs.declared.fault.CodeFault.{CodeFault};
 ghost use Rattle.placing.specs.Inside.{map_of};
 ghost use Rattle.addrman_run.specs.Inside.{IsMapOf};
 ghost use Rattle.addrman_run.specs.Outcome.{IsCounted};
-ghost use Rattle.addrman_run.specs.Replay.{opening, ReplayText, ReplayCause};
+ghost use Rattle.addrman_run.specs.Replay.{ReplayText, ReplayCause};
 
 use crate::Status;
 use crate::input::{Input, load_input};
+use crate::opening::open_tables;
 use crate::run_lines::run_lines;
 use asmap_vm::{CodeFault, Sane, check};
 use bit_code::MAX_ASMAP;
 use host_io::{Bytes, Folder, Sink, Source, ToEndFault, read_to_end};
 use log_lines::MAX_LINE;
 use manager::Manager;
-use placing::Placer;
+use peers_file::Chain;
 use std::alloc::Global;
 use std::hash::BuildHasher;
-use tables::Tables;
 
 /// The maximum size of a log in bytes.
 pub const MAX_LOG: u64 = MAX_LINE as u64;
@@ -40,30 +40,18 @@ fn check_map(bytes: &Option<Bytes>) -> Result<Option<Sane<'_>>, CodeFault>
     }
 }
 
-/// Returns the manager that a replay begins with.
-fn open_manager<'a, H: BuildHasher + Drop>(
-    alloc: Global,
-    hasher: H,
-    key: [u8; 32],
-    map: Option<Sane<'a>>,
-) -> Result<Manager<'a, H>, tables::Memory>
-    ensures { IfOk result (λ manager. manager ≡ opening key (map_of map.entry)) }
-{
-    let tables = Tables::open(alloc, Placer::make(key, map), hasher)?;
-    Ok(Manager::open(tables))
-}
-
 /// Carries out the lines of the log, from empty tables with the key and the folder's asmap.
 pub(crate) fn replay<L: Source, F: Folder, K: Sink, H: BuildHasher + Drop>(
     alloc: Global,
     hasher: H,
-    key: [u8; 32],
+    key: Option<[u8; 32]>,
+    chain: Chain,
     log: &mut L,
     folder: &mut F,
     out: &mut K,
 ) -> Status
-    ensures text { ReplayText key (outside L.Source F.Folder K.Sink log.old folder.old out.old) (outside L.Source F.Folder K.Sink log.new folder.new out.new) result }
-    ensures cause { ReplayCause (outside L.Source F.Folder K.Sink log.old folder.old out.old) (outside L.Source F.Folder K.Sink log.new folder.new out.new) result }
+    ensures text { ReplayText key chain (outside L.Source F.Folder K.Sink log.old folder.old out.old) (outside L.Source F.Folder K.Sink log.new folder.new out.new) result }
+    ensures cause { ReplayCause key chain (outside L.Source F.Folder K.Sink log.old folder.old out.old) (outside L.Source F.Folder K.Sink log.new folder.new out.new) result }
     ensures taken { TakesAtMost (L.left log.old) (L.left log.new) (MAX_LOG + 1) }
     ensures read { IsCounted Status.ReadFault (L.faults log.old) (L.faults log.new) result }
     ensures write { IsCounted Status.WriteFault (K.faults out.old) (K.faults out.new) result }
@@ -78,14 +66,20 @@ pub(crate) fn replay<L: Source, F: Folder, K: Sink, H: BuildHasher + Drop>(
         Ok(map) => map,
         Err(fault) => return Status::AsmapRefused(fault),
     };
+    let file = match load_input(alloc, Input::Peers, folder) {
+        Ok(file) => file,
+        Err(status) => return status,
+    };
+    let tables = match open_tables(alloc, hasher, key, chain, map, &file) {
+        Ok(tables) => tables,
+        Err(status) => return status,
+    };
     let text = match read_to_end(alloc, log, MAX_LOG) {
         Ok(text) => text,
         Err(ToEndFault::Failed) => return Status::ReadFault,
         Err(ToEndFault::TooLong) => return Status::LogTooLong,
         Err(ToEndFault::Memory) => return Status::Memory,
     };
-    let Ok(mut manager) = open_manager(alloc, hasher, key, map) else {
-        return Status::Memory;
-    };
+    let mut manager = Manager::open(tables);
     run_lines(alloc, text.items(), &mut manager, out)
 }

@@ -4,8 +4,10 @@ use peers_file::Chain;
 /// What the arguments ask for.
 #[derive(Clone, Copy, Debug)]
 pub enum Request {
-    /// `replay --key HEX64`: carry out the lines of the log, from empty tables with this key.
-    Replay { key: [u8; 32] },
+    /// `replay --key HEX64 --net CHAIN`: carry out the lines of the log, from the tables of peers.dat,
+    /// a file of this chain (of main without `--net`), or if it is absent, from empty tables with
+    /// this key.
+    Replay { key: Option<[u8; 32]>, chain: Chain },
     /// `compile`: compile prefixes.txt into asmap.dat, and say how large it is.
     Compile,
     /// `check`: say whether asmap.dat is sane.

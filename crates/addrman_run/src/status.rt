@@ -27,6 +27,8 @@ pub enum Status {
     DiskFault,
     /// The log has more bytes than `MAX_LOG`.
     LogTooLong,
+    /// There is neither a peers.dat nor a key.
+    NoKey,
     /// Out of memory.
     Memory,
     /// A file that the command needs is absent.

@@ -19,8 +19,9 @@ use std::hash::BuildHasher;
 
 /// Runs the program with these arguments, without the program's name, and returns how it ended.
 ///
-/// `replay --key HEX64` carries out the lines of the log and writes the reply to each, from empty
-/// tables with that key and the folder's asmap.dat, if there is one. `compile` compiles the folder's
+/// `replay --key HEX64 --net CHAIN` carries out the lines of the log and writes the reply to each,
+/// from the tables of the folder's peers.dat, or if it is absent, from empty ones with that key, and
+/// with the folder's asmap.dat, if there is one. `compile` compiles the folder's
 /// prefixes.txt into asmap.dat, `check` checks asmap.dat, `decompile` writes the table of prefixes
 /// that it stands for, and `lookup PEER` writes the AS number and the group that it gives the peer's
 /// address. `show` lists what peers.dat has.
@@ -43,7 +44,7 @@ pub fn run<L: Source, F: Folder, K: Sink, H: BuildHasher + Drop>(
         return Status::Usage;
     };
     match request {
-        Request::Replay { key } => replay(alloc, hasher, key, log, folder, out),
+        Request::Replay { key, chain } => replay(alloc, hasher, key, chain, log, folder, out),
         Request::Compile => compile_table(alloc, folder, out),
         Request::Check => write_file_line(alloc, &Check, folder, out),
         Request::Decompile => write_file_line(alloc, &Decompile, folder, out),

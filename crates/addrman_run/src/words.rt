@@ -1,6 +1,6 @@
-ghost use Rattle.std.specs.Prelude.{◌≡◌, ◌≢◌, ℕ, List, [], ◌∷◌, ◌++◌, codes, map, string_bytes, Some, IfSome, IfNone};
+ghost use Rattle.std.specs.Prelude.{◌≡◌, ◌≢◌, ◌⊎◌, ℕ, List, [], ◌∷◌, ◌++◌, codes, map, string_bytes, Option, Some, IfSome, IfNone};
 ghost use Rattle.std.specs.Option.{option_map};
-ghost use Rattle.addrman_run.specs.Request.{IsKey, IsOption, Asks};
+ghost use Rattle.addrman_run.specs.Request.{IsKey, IsKeyOption, IsOption, Asks};
 ghost use Rattle.addrman_run.specs.Request.{chain_name, IsNet};
 ghost use Rattle.peers_file.specs.declared.chain.Chain.{Chain};
 ghost use Rattle.addrman_run.specs.declared.request.Request.{Request};
@@ -65,13 +65,57 @@ fn only_word(words: &[String]) -> Option<&[u8]>
     }
 }
 
-/// Reads the arguments after `replay`.
+/// Reads the arguments after `replay`: `--key` with a key and `--net` with a chain, each at most once.
 fn read_replay(words: &[String]) -> Option<Request>
     ensures found { IfSome result (λ request. Asks (codes "replay" ∷ map string_bytes words.now) request) }
     ensures only { (request : Request) → Asks (codes "replay" ∷ map string_bytes words.now) request → result ≡ Some request }
 {
+    if words.is_empty() {
+        return Some(Request::Replay {
+            key: None,
+            chain: Chain::Main,
+        });
+    }
+    if let Some((digits, rest)) = cut_option(words, b"--key") {
+        return read_key_then_net(digits, rest);
+    }
+    let (name, rest) = cut_option(words, b"--net")?;
+    read_net_then_key(name, rest)
+}
+
+/// Reads the digits of a key, and then the arguments that choose a chain.
+fn read_key_then_net(digits: &[u8], words: &[String]) -> Option<Request>
+    ensures found { IfSome result (λ request. (key : List ℕ) × (chain : Chain) × (request ≡ Request.Replay (Some key) chain) × IsKey digits.now key × IsNet (map string_bytes words.now) chain) }
+    ensures only { (key : List ℕ) (chain : Chain) → IsKey digits.now key → IsNet (map string_bytes words.now) chain → result ≡ Some (Request.Replay (Some key) chain) }
+{
+    let key = read_key(digits)?;
+    let chain = read_net(words)?;
+    Some(Request::Replay {
+        key: Some(key),
+        chain,
+    })
+}
+
+/// Reads the name of a chain, and then the arguments that choose a key.
+fn read_net_then_key(name: &[u8], words: &[String]) -> Option<Request>
+    ensures found { IfSome result (λ request. (key : Option (List ℕ)) × (chain : Chain) × (request ≡ Request.Replay key chain) × (name.now ≡ chain_name chain) × IsKeyOption (map string_bytes words.now) key) }
+    ensures only { (key : Option (List ℕ)) (chain : Chain) → name.now ≡ chain_name chain → IsKeyOption (map string_bytes words.now) key → result ≡ Some (Request.Replay key chain) }
+{
+    let chain = read_chain(name)?;
+    let key = read_key_option(words)?;
+    Some(Request::Replay { key, chain })
+}
+
+/// Reads the arguments that are `--key` with a key, or none for no key.
+fn read_key_option(words: &[String]) -> Option<Option<[u8; 32]>>
+    ensures found { IfSome result (λ key. IsKeyOption (map string_bytes words.now) key) }
+    ensures only { (key : Option (List ℕ)) → IsKeyOption (map string_bytes words.now) key → result ≡ Some key }
+{
+    if words.is_empty() {
+        return Some(None);
+    }
     let key = read_key(option_value(words, b"--key")?)?;
-    Some(Request::Replay { key })
+    Some(Some(key))
 }
 
 /// Reads the arguments after `lookup`.
@@ -119,6 +163,21 @@ fn read_chain(name: &[u8]) -> Option<Chain>
     } else {
         None
     }
+}
+
+/// Cuts the option `name` off the arguments that begin with it, and returns its value and the rest.
+fn cut_option<'a>(words: &'a [String], name: &[u8]) -> Option<(&'a [u8], &'a [String])>
+    ensures found { IfSome result (λ parts. (map string_bytes words.now ≡ name.now ∷ parts.0.now ∷ map string_bytes parts.1.now)
+        ⊎ (map string_bytes words.now ≡ (name.now ++ codes "=" ++ parts.0.now) ∷ map string_bytes parts.1.now)) }
+    ensures none { IfNone result ((value : List ℕ) (rest : List (List ℕ)) →
+        (map string_bytes words.now ≡ name.now ∷ value ∷ rest) ⊎ (map string_bytes words.now ≡ (name.now ++ codes "=" ++ value) ∷ rest) → ⊥) }
+{
+    let (first, rest) = first_word(words)?;
+    if first == name {
+        return first_word(rest);
+    }
+    let value = value_after_equals(first, name)?;
+    Some((value, rest))
 }
 
 /// Returns the value of the option `name`, in two arguments or in one with `=` between them.

@@ -13,7 +13,7 @@ use Rattle.addrman_run.proofs.words.read_lookup.Goals as goal
 -- a word after the command asks for the lookup of the peer that it is
 asks_lookup : (words : List (List ℕ)) (word : List ℕ) → words ≡ word ∷ [] → (request : Request) → Asks (codes "lookup" ∷ words) request →
     (peer : Peer) × IsPeerText word peer × (request ≡ Lookup peer)
-asks_lookup words word one (Replay key) asks = absurd (omega (arith, ap (λ ws. get_or (get_or ws 0 []) 0 0) asks.4))
+asks_lookup words word one (Replay key chain) asks = absurd (omega (arith, ap (λ ws. get_or (get_or ws 0 []) 0 0) asks.2))
 asks_lookup words word one Compile asks = absurd (omega (arith, ap (λ ws. get_or (get_or ws 0 []) 0 0) asks))
 asks_lookup words word one (Show chain) asks = absurd (omega (arith, ap (λ ws. get_or (get_or ws 0 []) 0 0) asks.2))
 asks_lookup words word one Check asks = absurd (omega (arith, ap (λ ws. get_or (get_or ws 0 []) 0 0) asks))

@@ -1,25 +1,23 @@
-use Rattle.std.proofs.Common.{◌≡◌, ℕ, List, [], ◌∷◌, drop, get_or, codes, Option, Some, None, Bor, ap, subst, sym, arith, ◌∙◌}
-use Rattle.std.specs.Option.{option_map}
-use Rattle.std.proofs.lemmas.Option.{none-some}
-use Rattle.addrman_run.specs.Request.{IsOption, Asks}
-use Rattle.addrman_run.specs.declared.request.Request.{Request}
-use Rattle.addrman_run.specs.declared.request.Request.TheVariants.{Show}
-use Rattle.addrman_run.specs.declared.request.Request.TheVariants.{Replay, Compile, Check, Lookup}
-use Rattle.addrman_run.specs.declared.request.Request.TheVariants.{Decompile}
+use Rattle.std.proofs.Common.{length, string_bytes, ap, sym, ◌∙◌, arith}
+use Rattle.std.proofs.lemmas.Bool.{eqb-false}
+use Rattle.std.proofs.lemmas.List.{length-map}
+use Rattle.addrman_run.proofs.Options.{found_by_key, found_by_net, only_by_key, only_by_net, none_asked}
 use Rattle.addrman_run.proofs.words.read_replay.Goals as goal
 
--- words that are no option with a value ask for no replay
-none_asked : (words : List (List ℕ)) → ((value : List ℕ) → IsOption (codes "--key") value words → ⊥) → (request : Request) → Asks (codes "replay" ∷ words) request → ⊥
-none_asked words h (Replay key) asks = h asks.0 (subst (IsOption (codes "--key") asks.0) (sym (ap (drop 1) asks.4)) asks.3)
-none_asked words h Compile asks = omega (arith, ap (λ ws. get_or (get_or ws 0 []) 0 0) asks)
-none_asked words h Check asks = omega (arith, ap (λ ws. get_or (get_or ws 0 []) 0 0) asks)
-none_asked words h Decompile asks = omega (arith, ap (λ ws. get_or (get_or ws 0 []) 0 0) asks)
-none_asked words h (Lookup peer) asks = omega (arith, ap (λ ws. get_or (get_or ws 0 []) 0 0) asks.2)
-none_asked words h (Show chain) asks = omega (arith, ap (λ ws. get_or (get_or ws 0 []) 0 0) asks.2)
+pub returns-in-Some-clause-found : goal.returns-in-Some-clause-found
+returns-in-Some-clause-found c = found_by_key _ _ _ _ c.in-Some.ensures.found c.read_key_then_net.ensures.found
 
-none_told : (r : Option (Bor (List ℕ))) (value : List ℕ) → r ≡ None → option_map (λ x. x.now) r ≡ Some value → ⊥
-none_told r value is told = none-some value (sym (ap (option_map (λ x. x.now)) is) ∙ told)
+pub returns-in-Some-clause-only : goal.returns-in-Some-clause-only
+returns-in-Some-clause-only c = only_by_key _ _ _ _ c.in-Some.ensures.found c.read_key_then_net.ensures.only
 
-pub returns-in_err-option_value-clause-only : goal.returns-in_err-option_value-clause-only
-returns-in_err-option_value-clause-only c = λ request asks.
-    absurd (none_asked _ (λ value is. none_told c.option_value.result value (cc) (c.option_value.ensures.only value is)) request asks)
+pub returns-in_err-name-clause-only : goal.returns-in_err-name-clause-only
+returns-in_err-name-clause-only c = λ request asks.
+    absurd (none_asked _ request
+    (λ none. omega (arith, eqb-false (length c.args.words.now) 0 (sym c.is_empty.ensures ∙ c.if-is_empty.false), ap length none, length-map c.args.words.now string_bytes))
+    c.in_default.ensures.none c.in_err-name.ensures.none asks)
+
+pub returns-clause-found : goal.returns-clause-found
+returns-clause-found c = found_by_net _ _ _ _ c.in_ok-name.ensures.found c.read_net_then_key.ensures.found
+
+pub returns-clause-only : goal.returns-clause-only
+returns-clause-only c = only_by_net _ _ _ _ c.in_ok-name.ensures.found c.read_net_then_key.ensures.only
