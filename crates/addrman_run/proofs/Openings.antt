@@ -1,5 +1,5 @@
 -- How a replay opens its tables.
-use Rattle.std.proofs.Common.{◌≡◌, ℕ, ◌+◌, ◌≤◌, List, [], ◌∷◌, length, Bool, true, false, refl, sym, ap, ◌∙◌, subst, arith, inl, inr}
+use Rattle.std.proofs.Common.{◌≡◌, ℕ, ◌+◌, ◌≤◌, List, [], ◌∷◌, length, Bool, true, false, refl, sym, ◌∙◌, subst, arith, inl, inr}
 use Rattle.std.specs.Prelude.{Option, Some, None, MatchOption, if◌then◌else◌, not, ◌||◌, is_some}
 use Rattle.std.specs.List.{range_with_len}
 use Rattle.host_io.specs.Past.{Past}
@@ -15,8 +15,8 @@ use Rattle.peers_file.specs.Layout.{IsFile}
 use Rattle.peers_file.specs.declared.chain.Chain.{Chain}
 use Rattle.peers_file.specs.declared.fault.FileFault.TheVariants.{TooLarge}
 use Rattle.table_machine.specs.State.{State, by_number, empty_state, new_rec_at, tried_occupant}
-use Rattle.table_machine.specs.Entries.{delete, with_last}
-use Rattle.table_machine.specs.Restoring.{appended, drop_all, drop_record, give_if_empty, give_or, place_all, place_pair, place_record, record_of, restored, uses_buckets, with_all_new, with_all_tried, with_new, with_tried}
+use Rattle.table_machine.specs.Entries.{with_last}
+use Rattle.table_machine.specs.Restoring.{drop_all, drop_record, give_if_empty, give_or, place_all, place_pair, place_record, record_of, restored, uses_buckets, with_all_new, with_all_tried, with_new, with_tried}
 use Rattle.addrman_run.specs.InFolder.{IsAbsent}
 use Rattle.addrman_run.specs.Inside.{IsKeyless, IsLoaded, IsLoadFault, IsNoSnapshot, IsNotOpened, IsNotRestored, OpensWith}
 use Rattle.addrman_run.specs.Opening.{LacksKey, Opens, RefusesTables}

@@ -1,4 +1,4 @@
-use Rattle.std.proofs.Common.{inl, refl, sym, subst, rules}
+use Rattle.std.proofs.Common.{inl, refl, sym, subst}
 use Rattle.host_io.specs.Outside.{outside}
 use Rattle.placing.specs.Inside.{map_of}
 use Rattle.addrman_run.specs.Inside.{IsLoadFault}
@@ -79,15 +79,31 @@ returns-clause-cause g c =
 pub returns-in-Err-Failed-clause-text : goal.returns-in-Err-Failed-clause-text
 returns-in-Err-Failed-clause-text g c =
     let past = g.F.Folder.past c.args.folder.now in
-    let map = map_of c.in-Ok-check_map.map in
-    ((map, map_in past c.in-Ok.bytes map c.in-Ok.ensures.found c.in-Ok-check_map.ensures.found,
-    (c.in-Ok-open_tables.tables, opens c.args.key c.args.chain past c.in-Ok-load_input.file map c.in-Ok-open_tables.tables
-    (found_before _ past c.in-Ok-load_input.file c.load_input.ensures.same c.in-Ok-load_input.ensures.found) c.in-Ok-open_tables.ensures.found)), refl)
+    let map = map_of c.in-Ok-check_map.map in (
+      (
+        map,
+        map_in past c.in-Ok.bytes map c.in-Ok.ensures.found c.in-Ok-check_map.ensures.found,
+        (
+          c.in-Ok-open_tables.tables,
+          opens c.args.key c.args.chain past c.in-Ok-load_input.file map c.in-Ok-open_tables.tables
+              (found_before _ past c.in-Ok-load_input.file c.load_input.ensures.same c.in-Ok-load_input.ensures.found) c.in-Ok-open_tables.ensures.found,
+        ),
+      ),
+      refl,
+    )
 
 pub returns-in-Err-TooLong-clause-text : goal.returns-in-Err-TooLong-clause-text
 returns-in-Err-TooLong-clause-text g c =
     let past = g.F.Folder.past c.args.folder.now in
-    let map = map_of c.in-Ok-check_map.map in
-    ((map, map_in past c.in-Ok.bytes map c.in-Ok.ensures.found c.in-Ok-check_map.ensures.found,
-    (c.in-Ok-open_tables.tables, opens c.args.key c.args.chain past c.in-Ok-load_input.file map c.in-Ok-open_tables.tables
-    (found_before _ past c.in-Ok-load_input.file c.load_input.ensures.same c.in-Ok-load_input.ensures.found) c.in-Ok-open_tables.ensures.found)), refl)
+    let map = map_of c.in-Ok-check_map.map in (
+      (
+        map,
+        map_in past c.in-Ok.bytes map c.in-Ok.ensures.found c.in-Ok-check_map.ensures.found,
+        (
+          c.in-Ok-open_tables.tables,
+          opens c.args.key c.args.chain past c.in-Ok-load_input.file map c.in-Ok-open_tables.tables
+              (found_before _ past c.in-Ok-load_input.file c.load_input.ensures.same c.in-Ok-load_input.ensures.found) c.in-Ok-open_tables.ensures.found,
+        ),
+      ),
+      refl,
+    )
