@@ -30,7 +30,7 @@ pub peers_apart : Peers ≢ PeersTemp
 unfolding IsPeers
 peers_apart e = subst IsPeers e tt
 
-some_none : (j : Job) → Some j ≢ None
+pub some_none : (j : Job) → Some j ≢ None
 some_none j e = cc e
 
 no_file : (start d : Disk) → KeepsOthers PeersTemp start d → AtMost None start d
@@ -69,7 +69,6 @@ save_begun file n b old new f g is size always reads =
       has = tt;
       moments = kept_moments old new always;
       is_open = (refl, reads);
-      still = λ no. absurd (no refl);
     }))
 
 pub begin_failed : (file : List ℕ) (old new : Option Past) (f g : ℕ) → Always old new (KeepsOthers PeersTemp) → Rose f g
@@ -80,7 +79,6 @@ begin_failed file old new f g always rose = record {
   has = rose;
   moments = kept_moments old new always;
   is_open = tt;
-  still = λ no. absurd (no refl);
 }
 
 pub save_stepped : (file : List ℕ) (n left : ℕ) (job : Option Job) (j b : Job) (old new : Option Past) (f g : ℕ)
@@ -96,7 +94,6 @@ save_stepped file n left job j b old new f g some temp is size always reads =
       has = tt;
       moments = kept_moments old new (subst (λ t. Always old new (KeepsOthers t)) temp always);
       is_open = (temp, subst (λ t. Reads t (j.written ++ take n j.left) new) temp reads);
-      still = λ no. absurd (no (some_none j));
     })))
 
 pub step_failed : (file : List ℕ) (n : ℕ) (job : Option Job) (j : Job) (old new : Option Past) (f g : ℕ) → job ≡ Some j
@@ -109,7 +106,6 @@ step_failed file n job j old new f g some temp always rose =
       has = rose;
       moments = kept_moments old new (subst (λ t. Always old new (KeepsOthers t)) temp always);
       is_open = tt;
-      still = λ no. absurd (no (some_none j));
     })
 
 pub whole_saved : (file : List ℕ) (old new : Option Past) (f g : ℕ) → Always old new (PublishesOrNot PeersTemp Peers file)
@@ -120,7 +116,6 @@ whole_saved file old new f g always stored = record {
   has = stored;
   moments = published_moments file old new always;
   is_open = tt;
-  still = λ no. absurd (no refl);
 }
 
 pub whole_failed : (file : List ℕ) (old new : Option Past) (f g : ℕ) → Always old new (PublishesOrNot PeersTemp Peers file)
@@ -131,7 +126,6 @@ whole_failed file old new f g always rose = record {
   has = rose;
   moments = published_moments file old new always;
   is_open = tt;
-  still = λ no. absurd (no refl);
 }
 
 pub job_saved : (file : List ℕ) (job : Option Job) (j : Job) (old new : Option Past) (f g : ℕ) → job ≡ Some j
@@ -144,7 +138,6 @@ job_saved file job j old new f g some temp always stored =
       has = stored;
       moments = published_moments (whole j) old new (subst (λ t. Always old new (PublishesOrNot t Peers (whole j))) temp always);
       is_open = tt;
-      still = λ no. absurd (no (some_none j));
     })
 
 pub job_failed : (file : List ℕ) (job : Option Job) (j : Job) (old new : Option Past) (f g : ℕ) → job ≡ Some j
@@ -157,7 +150,6 @@ job_failed file job j old new f g some temp always rose =
       has = rose;
       moments = published_moments (whole j) old new (subst (λ t. Always old new (PublishesOrNot t Peers (whole j))) temp always);
       is_open = tt;
-      still = λ no. absurd (no (some_none j));
     })
 
 -- what a save command has done, where the open save was taken out first

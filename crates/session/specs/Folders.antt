@@ -11,6 +11,8 @@ use Rattle.host_io.specs.declared.name.Name.TheVariants.{Peers, PeersTemp}
 use Rattle.log_lines.specs.Spelling.{Spells}
 use Rattle.log_lines.specs.declared.command.Command.{Command}
 use Rattle.log_lines.specs.declared.command.Command.TheVariants as command
+use Rattle.manager.specs.Machine.{Machine}
+use Rattle.manager.specs.Step as manager
 use Rattle.save_store.specs.Job.{Job, Reads, whole}
 use Rattle.save_store.specs.Saves.{IsStored, NoMore}
 use Rattle.session.specs.Events.{Ended}
@@ -81,3 +83,13 @@ pub record Turn (old : State) (line text : List ℕ) (new : State) (before after
   pub step : LineStep old line text new ended
   pub has : HasEnded ended after faults_before faults_after
   pub moments : Always before after (AtMost (published_in old line text new ended step))
+
+-- What a line leaves that ran out of memory: the state before it; that after it, with the reason why
+-- a save ended in it; or a message of which some of the first entries were taken.
+abbrev pub LeavesPart : State → List ℕ → State → Option Past → ℕ → ℕ → Type 0
+LeavesPart old line new after faults_before faults_after =
+    (new ≡ old)
+    ⊎ (((text : List ℕ) × (ended : Option Ended) × LineStep old line text new ended
+    × HasEnded ended after faults_before faults_after)
+    ⊎ ((asked : Command) × (machine : Machine) × Spells line asked
+    × manager.LeavesPart old.machine asked machine × (new ≡ record old { machine = machine })))

@@ -5,7 +5,7 @@ use Rattle.log_lines.specs.declared.command.Command.{Command}
 use Rattle.log_lines.specs.declared.reply.Reply.{Reply}
 use Rattle.save_store.specs.Job.{Job}
 use Rattle.session.specs.Events.{Ended, SaveStep}
-use Rattle.session.specs.Folders.{AtMost, HasEnded, IsEvent, IsOpen, published}
+use Rattle.session.specs.Folders.{AtMost, HasEnded, IsOpen, published}
 use Rattle.session.specs.State.{CommandStep, State}
 
 -- what a save command has done, to the open save and to the folder
@@ -16,7 +16,6 @@ pub record Effect (file : List ℕ) (old : Option Job) (asked : Command) (answer
   pub has : HasEnded ended after faults_before faults_after
   pub moments : Always before after (AtMost (published file old asked))
   pub is_open : IsOpen new after
-  pub still : ¬ IsEvent old asked → after ≡ before
 
 -- what a command has done, to the session and to the folder
 pub record Carried (old : State) (asked : Command) (answer : Reply) (new : State) (after : Option Past)

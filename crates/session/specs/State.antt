@@ -58,12 +58,3 @@ LineStep old line text new ended =
     (IsPassedOver line × (text ≡ []) × (new ≡ old) × (ended ≡ None))
     ⊎ ((asked : Command) × (answer : Reply) × Spells line asked × CommandStep old asked answer new ended
     × (text ≡ reply_text answer))
-
--- what a line leaves that ran out of memory: the state before it or after it, or a message of which
--- some of the first entries were taken
-abbrev pub LeavesPart : State → List ℕ → State → Type 0
-LeavesPart old line new =
-    (new ≡ old)
-    ⊎ (((text : List ℕ) × (ended : Option Ended) × LineStep old line text new ended)
-    ⊎ ((asked : Command) × (machine : Machine) × Spells line asked × manager.LeavesPart old.machine asked machine
-    × (new ≡ record old { machine = machine })))

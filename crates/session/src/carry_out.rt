@@ -62,8 +62,8 @@ pub(crate) fn carry_out<F: Folder, H: BuildHasher>(
     ensures any_moment { Always (F.past folder.old) (F.past folder.new)
         (AtMost (published (file_of chain manager.old.tables) job.old command.now)) }
     ensures is_open { IsOpen job.new (F.past folder.new) }
-    ensures still { ¬ IsEvent job.old command.now → F.past folder.new ≡ F.past folder.old }
-    ensures err { OnErr result ((F.past folder.new ≡ F.past folder.old) × (job.new ≡ job.old)
+    ensures still { ¬ IsEvent job.old command.now → folder.new ≡ folder.old }
+    ensures err { OnErr result ((folder.new ≡ folder.old) × (job.new ≡ job.old)
         × LeavesPart manager.old command.now manager.new) }
     ensures numbers { manager.new.tables.next_number ≤ manager.old.tables.next_number + 1000 }
     ensures never_falls { F.faults folder.old ≤ F.faults folder.new }

@@ -1,5 +1,5 @@
 ghost use Rattle.std.specs.Prelude.{◌≡◌, ◌≤◌, ℕ, List, IfOk, OnErr};
-ghost use Rattle.session.specs.Folders.{IsOpen};
+ghost use Rattle.session.specs.Folders.{IsEvent, IsOpen};
 ghost use Rattle.session.specs.Inside.{Effect};
 
 use host_io::{Bytes, Folder, Name};
@@ -40,6 +40,7 @@ pub(crate) fn step_line<F: Folder>(
     requires is_open { IsOpen job (F.past folder.old) }
     ensures effect { (file : List ℕ) → Effect file job (Command.SaveStep count) result.1 result.0
         (F.past folder.old) (F.past folder.new) (F.faults folder.old) (F.faults folder.new) }
+    ensures still { ¬ IsEvent job (Command.SaveStep count) → folder.new ≡ folder.old }
     ensures never_falls { F.faults folder.old ≤ F.faults folder.new }
 {
     match job {
@@ -59,6 +60,7 @@ pub(crate) fn end_line<F: Folder>(folder: &mut F, job: Option<SaveJob>) -> Reply
     requires is_open { IsOpen job (F.past folder.old) }
     ensures effect { (file : List ℕ) → Effect file job Command.SaveEnd result None
         (F.past folder.old) (F.past folder.new) (F.faults folder.old) (F.faults folder.new) }
+    ensures still { ¬ IsEvent job Command.SaveEnd → folder.new ≡ folder.old }
     ensures never_falls { F.faults folder.old ≤ F.faults folder.new }
 {
     match job {

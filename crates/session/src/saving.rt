@@ -1,7 +1,5 @@
 ghost use Rattle.std.specs.Prelude.{◌≡◌, ◌≤◌, IfOk, OnErr};
-ghost use Rattle.host_io.specs.Past.{Always};
-ghost use Rattle.manager.specs.Step.{IsBuilt};
-ghost use Rattle.session.specs.Folders.{AtMost, IsOpen, published};
+ghost use Rattle.session.specs.Folders.{IsEvent, IsOpen};
 ghost use Rattle.session.specs.Inside.{Effect};
 ghost use Rattle.session.specs.State.{file_of};
 
@@ -29,7 +27,8 @@ pub(crate) fn save<F: Folder, H: BuildHasher>(
     requires is_open { IsOpen job.now (F.past folder.old) }
     ensures effect { IfOk result (λ answer. Effect (file_of chain manager.now.tables) job.now Command.Save answer job.now
         (F.past folder.old) (F.past folder.new) (F.faults folder.old) (F.faults folder.new)) }
-    ensures err { OnErr result (F.past folder.new ≡ F.past folder.old) }
+    ensures err { OnErr result (folder.new ≡ folder.old) }
+    ensures still { ¬ IsEvent job.now Command.Save → folder.new ≡ folder.old }
     ensures never_falls { F.faults folder.old ≤ F.faults folder.new }
 {
     if job.is_some() {
@@ -50,7 +49,8 @@ pub(crate) fn begin<F: Folder, H: BuildHasher>(
     requires is_open { IsOpen job.old (F.past folder.old) }
     ensures effect { IfOk result (λ answer. Effect (file_of chain manager.now.tables) job.old Command.SaveBegin answer job.new
         (F.past folder.old) (F.past folder.new) (F.faults folder.old) (F.faults folder.new)) }
-    ensures err { OnErr result ((F.past folder.new ≡ F.past folder.old) × (job.new ≡ job.old)) }
+    ensures err { OnErr result ((folder.new ≡ folder.old) × (job.new ≡ job.old)) }
+    ensures still { ¬ IsEvent job.old Command.SaveBegin → folder.new ≡ folder.old }
     ensures never_falls { F.faults folder.old ≤ F.faults folder.new }
 {
     if job.is_some() {

@@ -34,8 +34,7 @@ impl<'a, H: BuildHasher> Session<'a, H> {
     ghost use Rattle.std.specs.Prelude.{◌≡◌, ◌≢◌, ◌+◌, ◌≤◌, ◌<◌, ◌^◌, ◌++◌, ◌⊎◌, ℕ, List, length, Option, None, Err, OnOk, OnErr, IsErrOf};
     ghost use Rattle.host_io.specs.Past.{Always};
     ghost use Rattle.log_lines.specs.Spelling.{HasFault};
-    ghost use Rattle.session.specs.Folders.{AtMost, IsEventLine, IsOpen, MayPublish, Turn};
-    ghost use Rattle.session.specs.State.{LeavesPart};
+    ghost use Rattle.session.specs.Folders.{AtMost, IsEventLine, IsOpen, LeavesPart, MayPublish, Turn};
 
     /// Makes a session in which no save is open.
     pub fn make(manager: Manager<'a, H>, chain: Chain) -> Session<'a, H>
@@ -75,12 +74,13 @@ impl<'a, H: BuildHasher> Session<'a, H> {
         ensures any_moment { (file : Option (List ℕ)) × MayPublish self.old line.now file
             × Always (F.past folder.old) (F.past folder.new) (AtMost file) }
         ensures is_open { IsOpen self.new.job (F.past folder.new) }
-        ensures still { ¬ IsEventLine self.old line.now → F.past folder.new ≡ F.past folder.old }
+        ensures still { ¬ IsEventLine self.old line.now → folder.new ≡ folder.old }
         ensures fault { (f : LineFault) → result ≡ Err f → f ≢ LineFault.Memory →
-            HasFault line.now f × (self.new ≡ self.old) × (F.past folder.new ≡ F.past folder.old) }
+            HasFault line.now f × (self.new ≡ self.old) × (folder.new ≡ folder.old) }
         ensures only_fault { (f : LineFault) → HasFault line.now f →
             (result ≡ Err f) ⊎ (result ≡ Err LineFault.Memory) }
-        ensures memory { IsErrOf result LineFault.Memory → LeavesPart self.old line.now self.new }
+        ensures memory { IsErrOf result LineFault.Memory → LeavesPart self.old line.now self.new
+            (F.past folder.new) (F.faults folder.old) (F.faults folder.new) }
         ensures list { OnErr result (out.new.items ≡ out.old.items) }
         ensures numbers { self.new.machine.tables.next_number ≤ self.old.machine.tables.next_number + 1000 }
         ensures never_falls { F.faults folder.old ≤ F.faults folder.new }

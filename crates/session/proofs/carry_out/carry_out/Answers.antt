@@ -25,11 +25,9 @@ returns-in-SaveStep-clause-is_open g c = (c.step_line-next.ensures.effect (file_
 
 pub returns-in-SaveStep-clause-still : goal.returns-in-SaveStep-clause-still
 returns-in-SaveStep-clause-still g c =
-    let P = g.F.Folder.past in
-    let file = file_of c.args.chain c.args.manager.now.tables in
-    subst (λ k. ¬ IsEvent c.args.job.now k → P c.step_line-next.new.folder ≡ P c.args.folder.now) (sym c.in-SaveStep.is)
-    (subst (λ j. ¬ IsEvent j (SaveStep c.in-SaveStep.count) → P c.step_line-next.new.folder ≡ P c.args.folder.now) c.take.ensures.value
-    (c.step_line-next.ensures.effect file).still)
+    subst (λ k. ¬ IsEvent c.args.job.now k → c.step_line-next.new.folder ≡ c.args.folder.now) (sym c.in-SaveStep.is)
+    (subst (λ j. ¬ IsEvent j (SaveStep c.in-SaveStep.count) → c.step_line-next.new.folder ≡ c.args.folder.now) c.take.ensures.value
+    c.step_line-next.ensures.still)
 
 pub returns-in-SaveEnd-clause-step : goal.returns-in-SaveEnd-clause-step
 returns-in-SaveEnd-clause-step g c =
@@ -48,11 +46,9 @@ returns-in-SaveEnd-clause-any_moment g c =
 
 pub returns-in-SaveEnd-clause-still : goal.returns-in-SaveEnd-clause-still
 returns-in-SaveEnd-clause-still g c =
-    let P = g.F.Folder.past in
-    let file = file_of c.args.chain c.args.manager.now.tables in
-    subst (λ k. ¬ IsEvent c.args.job.now k → P c.end_line.new.folder ≡ P c.args.folder.now) (sym c.in-SaveEnd.is)
-    (subst (λ j. ¬ IsEvent j SaveEnd → P c.end_line.new.folder ≡ P c.args.folder.now) c.take-in-SaveEnd.ensures.value
-    (c.end_line.ensures.effect file).still)
+    subst (λ k. ¬ IsEvent c.args.job.now k → c.end_line.new.folder ≡ c.args.folder.now) (sym c.in-SaveEnd.is)
+    (subst (λ j. ¬ IsEvent j SaveEnd → c.end_line.new.folder ≡ c.args.folder.now) c.take-in-SaveEnd.ensures.value
+    c.end_line.ensures.still)
 
 pub returns-in-Now-clause-any_moment : goal.returns-in-Now-clause-any_moment
 returns-in-Now-clause-any_moment g c =
