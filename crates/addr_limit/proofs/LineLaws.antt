@@ -81,6 +81,6 @@ limits_apart number low start = depends_on LineStep (part_of number) (is_about n
     (after u step.0, (step.0, step.1, step.2 ∙ sym both.0, refl), both.1 ∙ ap (part_of number) (sym step.3)))
     start
 
--- output line i is the last output line for the first i lines that are times or name the number
+-- what a line of a connection gives is what the times and the lines of this connection alone give
 pub limits_apart_by_line : (number : ℕ) → number < 2 ^ 64 → (start : State) → IsLastOutput LineStep start (is_about number)
 limits_apart_by_line number low start = last_output LineStep start (is_about number) (limits_apart number low start)

@@ -8,7 +8,8 @@ pub struct Conn {
     pub addr: NetAddr,
     /// Tenths of a token.
     pub tenths: u32,
-    /// When tokens were last added, in seconds since 1970.
+    /// The clock at the last message that was neither refused nor short, or when the connection was
+    /// opened, in seconds since 1970.
     pub moment: u32,
     /// Whether getaddr was sent.
     pub asked: bool,

@@ -12,7 +12,7 @@ pub fn connections_are_apart()
 {}
 
 /// A law of the state: whatever a line says, no connection has more than 2,000 tokens afterwards,
-/// or 1,000 if it was not sent getaddr.
+/// or 1,000 if it was not sent getaddr, if that held before.
 pub fn tokens_are_bounded()
     ensures { (st : State) → (event : Event) → AreBounded st.conns →
         AreBounded (after st event).conns }

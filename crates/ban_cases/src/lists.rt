@@ -24,7 +24,7 @@ fn a_ban_covers_its_subnet_until_its_end(rt: HostRuntime) -> Result<(), Fail> {
     assert_eq!(rt; end_for(&bans, "1.2.3.99", 2000)?, None);
     assert_eq!(rt; end_for(&bans, "1.2.4.1", 1000)?, None);
     assert_eq!(rt; ban(&mut bans, "1.2.3.0/24", 1500, 1900)?, BanReply::Kept);
-    let bytes = write_bans(&bans)?;
+    let bytes = write_bans(rt.alloc(), &bans)?;
     assert_eq!(rt; bytes.items(), ONE_BAN.as_bytes());
     Ok(())
 }

@@ -119,7 +119,7 @@ fn subnet(rt: &impl AllocGlobal, text: &str) -> Result<String, Fail> {
 fn file(rt: &impl AllocGlobal, text: &str) -> Result<String, Fail> {
     match read_bans(rt.alloc(), text.as_bytes()) {
         Ok(bans) => {
-            let bytes = write_bans(&bans)?;
+            let bytes = write_bans(rt.alloc(), &bans)?;
             Ok(String::from_utf8(Vec::from_slice(rt.alloc(), bytes.items())?)?)
         }
         Err(fault) => Ok(format!(in rt.alloc(); "{fault}")?),

@@ -74,14 +74,10 @@ impl Bans {
         &self.bans
     }
 
-    /// Returns the allocator of the list.
-    pub(crate) fn allocator(&self) -> Global {
-        *self.bans.allocator()
-    }
-
-    /// Bans a subnet from `now` until a time, and drops the bans that are over. If the subnet is
-    /// listed for less long, its ban gets the new times and keeps its position; otherwise a new ban
-    /// goes last. If memory runs out, the list is unchanged.
+    /// Drops the bans that are over, and bans a subnet from `now` until a time. If it has a ban that
+    /// ends as late or later, that one is kept; one that ends earlier gets the new times in its
+    /// position; a new one goes last, unless there are `MAX_BANS` already. If memory runs out, the
+    /// list is unchanged.
     pub fn ban(&mut self, subnet: Subnet, now: u32, until: u32) -> Result<BanReply, Memory>
         requires { IsProper subnet }
         ensures reply { IfOk result (λ reply.

@@ -16,7 +16,7 @@ pub enum BanFault {
     /// More than `MAX_BANS` elements count.
     #[error("too-many")]
     TooMany,
-    /// The file has more bytes than one is read with.
+    /// The file is above the limit of the command; `read_bans` never returns this.
     #[error("too-large")]
     TooLarge {
         /// The length of the file in bytes.

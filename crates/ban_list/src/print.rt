@@ -50,8 +50,8 @@ fn put_ip(addr: &NetAddr, out: &mut Vec<u8>) -> Result<(), Memory>
 {
     let bytes = addr.bytes();
     match addr.net() {
-        Net::Ipv6 => put_ipv6(bits_of(&array_of(bytes)), out),
-        _ => put_addr(addr, out),
+        Net::Ipv6 => Ok(put_ipv6(bits_of(&array_of(bytes)), out)?),
+        _ => Ok(put_addr(addr, out)?),
     }
 }
 

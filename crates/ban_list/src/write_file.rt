@@ -11,11 +11,10 @@ use serde_json::{Map, Value, json};
 use std::alloc::Global;
 
 /// Writes a list of bans as the text of its file, which has no spaces and no line feed.
-pub fn write_bans(bans: &Bans) -> Result<Bytes, Memory>
+pub fn write_bans(alloc: Global, bans: &Bans) -> Result<Bytes, Memory>
     ensures text { IfOk result (λ bytes. bytes ≡ file_text bans.now) }
     ensures reads_back { IfOk result (λ bytes. IsBanFile bytes bans.now) }
 {
-    let alloc = bans.allocator();
     let elements = elements_of(bans.bans(), alloc)?;
     let file = file_of(elements, alloc)?;
     let text = file.to_string(alloc)?;
