@@ -40,7 +40,8 @@ fn check_map(bytes: &Option<Bytes>) -> Result<Option<Sane<'_>>, CodeFault>
     }
 }
 
-/// Carries out the lines of the log, from empty tables with the key and the folder's asmap.
+/// Carries out the lines of the log, from the tables of the folder's peers.dat, or if it is absent,
+/// from empty ones with the key. Either way they have the folder's asmap.
 pub(crate) fn replay<L: Source, F: Folder, K: Sink, H: BuildHasher + Drop>(
     alloc: Global,
     hasher: H,

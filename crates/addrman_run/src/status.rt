@@ -13,7 +13,7 @@ pub enum Status {
     /// A line of the log is malformed; lines are counted from 1. The replies to those before it are
     /// written.
     LogLine { line: u64, fault: LineFault },
-    /// peers.dat is too large, or no file of the chain.
+    /// peers.dat is too large, or no file of the chain, or two of its valid records have one peer.
     PeersRefused(PeersFault),
     /// asmap.dat is too large, or no file of a sane tree.
     AsmapRefused(CodeFault),

@@ -3,6 +3,6 @@
 #![tactic(auto)]
 
 #[cfg(test)]
-mod lists;
+mod covering;
 #[cfg(test)]
 mod tables;
