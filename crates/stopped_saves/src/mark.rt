@@ -42,7 +42,18 @@ pub(crate) fn mark(file: Option<&[u8]>) -> &'static str {
     }
 }
 
-/// Returns the file as it reads, and what crashes with the choices 0 to 15 leave of it.
+/// Returns what a second crash leaves of what crashes with the choices 0 to 15 leave.
+fn marks_again(alloc: Global, folder: &MemFolder, name: Name) -> Result<String, Memory> {
+    let mut text = String::new(alloc);
+    for choice in 0..16 {
+        let image = folder.crash(choice)?.crash(3)?;
+        text.push_str(mark(image.get(name)))?;
+    }
+    Ok(text)
+}
+
+/// Returns the file as it reads, what crashes with the choices 0 to 15 leave of it, and what a
+/// second crash leaves of that.
 pub(crate) fn marks(alloc: Global, folder: &MemFolder, name: Name) -> Result<String, Memory> {
     let mut text = String::from_str(alloc, "reads ")?;
     text.push_str(mark(folder.get(name)))?;
@@ -51,5 +62,8 @@ pub(crate) fn marks(alloc: Global, folder: &MemFolder, name: Name) -> Result<Str
         let image = folder.crash(choice)?;
         text.push_str(mark(image.get(name)))?;
     }
+    let again = marks_again(alloc, folder, name)?;
+    text.push_str(", again ")?;
+    text.push_str(again.as_str())?;
     Ok(text)
 }
