@@ -1,0 +1,4 @@
+pub mod Loops
+pub mod Parts
+pub mod Readers
+pub mod Runs

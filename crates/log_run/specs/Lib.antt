@@ -1,0 +1,6 @@
+pub mod Inside
+pub mod Log
+pub mod Parts
+pub mod Reading
+pub mod Run
+pub mod Worlds

@@ -1,0 +1,12 @@
+/// Why there is no next line.
+#[derive(Clone, Copy, Debug, PartialEq, Eq)]
+pub enum LogFault {
+    /// A read failed.
+    Failed,
+    /// The next line has more bytes than `MAX_LINE`.
+    LineTooLong,
+    /// The log has more bytes than `MAX_LOG`, and no line is left in the first of them.
+    LogTooLong,
+    /// Out of memory.
+    Memory,
+}

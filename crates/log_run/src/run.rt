@@ -1,0 +1,71 @@
+ghost use Rattle.std.specs.Prelude.{◌≡◌, ◌≢◌, ◌+◌, ◌≤◌, ℕ};
+ghost use Rattle.host_io.specs.Faults.{Rose};
+ghost use Rattle.host_io.specs.Reading.{TakesAtMost};
+ghost use Rattle.log_lines.specs.declared.fault.LineFault.{LineFault};
+ghost use Rattle.log_run.specs.Worlds.{RanIn};
+
+use crate::end::LogEnd;
+use crate::fault::LogFault;
+use crate::limits::MAX_LOG;
+use crate::reader::LogReader;
+use crate::steps::{LineSteps, Stop};
+use host_io::{Sink, Source, write_all};
+use std::alloc::Global;
+
+/// Returns how a run ends at the line with this number, which is not carried out.
+fn end_at(stop: Stop, line: u64) -> LogEnd
+    ensures fault { (fault : LineFault) → stop ≡ Stop.Fault fault → result ≡ LogEnd.Fault line fault }
+    ensures memory { stop ≡ Stop.Memory → result ≡ LogEnd.Memory }
+    ensures other { (result ≢ LogEnd.ReadFault) × (result ≢ LogEnd.WriteFault) }
+{
+    match stop {
+        Stop::Fault(fault) => LogEnd::Fault { line, fault },
+        Stop::Memory => LogEnd::Memory,
+    }
+}
+
+/// Carries out the lines of a log in order, each as soon as it was read, and writes the reply to
+/// each before the next line is read.
+pub fn run_log<W, S: LineSteps<W>, L: Source, K: Sink>(
+    alloc: Global,
+    log: &mut L,
+    state: &mut S,
+    world: &mut W,
+    out: &mut K,
+) -> LogEnd
+    requires room { S.has_room state.old MAX_LOG }
+    requires ready { S.ready state.old world.old }
+    ensures ran { RanIn S.step S.stopped S.has_fault (state.old, world.old)
+        (record { left = L.left log.old; written = K.written out.old })
+        (record { left = L.left log.new; written = K.written out.new }) world.new result }
+    ensures taken { TakesAtMost (L.left log.old) (L.left log.new) (MAX_LOG + 1) }
+    ensures read { result ≡ LogEnd.ReadFault → Rose (L.faults log.old) (L.faults log.new) }
+    ensures write { result ≡ LogEnd.WriteFault → Rose (K.faults out.old) (K.faults out.new) }
+    ensures log_never_falls { L.faults log.old ≤ L.faults log.new }
+    ensures out_never_falls { K.faults out.old ≤ K.faults out.new }
+{
+    let mut reader = LogReader::make(alloc);
+    let mut text = Vec::new(alloc);
+    let mut line: u64 = 0;
+    loop {
+        let count = match reader.next_line(log) {
+            Ok(Some(count)) => count,
+            Ok(None) => return LogEnd::Done,
+            Err(LogFault::Failed) => return LogEnd::ReadFault,
+            Err(LogFault::LineTooLong) => return LogEnd::LineTooLong { line: line + 1 },
+            Err(LogFault::LogTooLong) => return LogEnd::LogTooLong,
+            Err(LogFault::Memory) => return LogEnd::Memory,
+        };
+        line += 1;
+        text.clear();
+        match state.carry_out(alloc, reader.line(count), world, &mut text) {
+            Ok(()) => {}
+            Err(stop) => return end_at(stop, line),
+        }
+        match write_all(out, text.as_slice()) {
+            Ok(()) => {}
+            Err(_) => return LogEnd::WriteFault,
+        }
+        reader.advance(count);
+    }
+}

@@ -1,0 +1,53 @@
+ghost use Rattle.std.specs.Prelude.{◌≡◌, ◌+◌, ◌≤◌, ◌++◌, ℕ, List, length, Err, OnOk, IsErrOf};
+ghost use Rattle.log_lines.specs.declared.fault.LineFault.{LineFault};
+ghost use Rattle.log_run.specs.declared.limits.TheConstants.{MAX_LINE};
+
+use log_lines::LineFault;
+use std::alloc::Global;
+
+/// Why a line is not carried out.
+#[derive(Clone, Copy, Debug, PartialEq, Eq)]
+pub enum Stop {
+    /// The line has this fault.
+    Fault(LineFault),
+    /// Out of memory.
+    Memory,
+}
+
+/// What carries out the lines of a log, one step a line, and may change a world besides itself.
+pub trait LineSteps<W> {
+    /// A state and a world, a line, the text of its reply, and the next state and world.
+    ghost step: { Self → W → List ℕ → List ℕ → Self → W → Type 0 };
+
+    /// A line that runs out of memory may leave this world.
+    ghost stopped: { Self → W → List ℕ → W → Type 0 };
+
+    /// The line has this fault.
+    ghost has_fault: { List ℕ → LineFault → Type 0 };
+
+    /// What a line needs of the state and the world.
+    ghost ready: { Self → W → Type 0 };
+
+    /// There is room for this many more lines.
+    ghost has_room: { Self → ℕ → Type 0 };
+
+    /// Carries out a line, and appends the text of its reply.
+    fn carry_out(
+        &mut self,
+        alloc: Global,
+        line: &[u8],
+        world: &mut W,
+        out: &mut Vec<u8>,
+    ) -> Result<(), Stop>
+        requires short { length line.now ≤ MAX_LINE }
+        requires room { (n : ℕ) × has_room self.old (n + 1) }
+        requires ready { ready self.old world.old }
+        ensures step { OnOk result ((text : List ℕ) × (out.new.items ≡ out.old.items ++ text)
+            × step self.old world.old line.now text self.new world.new) }
+        ensures ready { OnOk result (ready self.new world.new) }
+        ensures room { (n : ℕ) → has_room self.old (n + 1) → OnOk result (has_room self.new n) }
+        ensures fault { (fault : LineFault) → result ≡ Err (Stop.Fault fault) →
+            has_fault line.now fault × (world.new ≡ world.old) }
+        ensures memory { IsErrOf result Stop.Memory →
+            stopped self.old world.old line.now world.new };
+}
