@@ -1,86 +1,240 @@
--- What a replay writes, from what its calls say.
-use Rattle.std.proofs.Common.{◌≡◌, ◌≤◌, ℕ, List, [], length, refl, subst, inr, arith}
-use Rattle.std.specs.Prelude.{Option, Some, None, IfSome}
-use Rattle.std.proofs.lemmas.Option.{IfSome_then}
+-- What a replay has done, from what its run over the log says.
+use Rattle.std.proofs.Common.{◌≡◌, ◌≢◌, ◌≤◌, ◌+◌, ℕ, List, [], ◌∷◌, ◌++◌, refl, sym, ap, ◌∙◌, subst, inl, inr, arith}
+use Rattle.std.specs.Prelude.{◌⊎◌, Option, Some, None, IfSome}
+use Rattle.host_io.specs.Disk.{Disk}
+use Rattle.host_io.specs.Lines.{lines_of}
 use Rattle.host_io.specs.Outside.{Outside}
+use Rattle.host_io.proofs.Moments.{begun, joined}
+use Rattle.host_io.specs.Past.{Always, Past}
 use Rattle.host_io.specs.Reading.{TakesAtMost}
-use Rattle.host_io.specs.Writing.{Appended}
-use Rattle.addrman_run.specs.declared.replay.TheConstants.{MAX_LOG}
 use Rattle.asmap_vm.specs.Asmap.{Asmap}
 use Rattle.log_lines.specs.Spelling.{HasFault}
-use Rattle.log_lines.specs.declared.fault.LineFault.{LineFault}
-use Rattle.manager.specs.Machine.{Machine}
-use Rattle.addrman_run.specs.Asmaps.{IsMapIn}
-use Rattle.addrman_run.specs.Inside.{IsLinesEnd}
-use Rattle.addrman_run.specs.Lines.{LineStep, IsNotBuilt}
-use Rattle.addrman_run.specs.Log.{IsLogIn, WasRead}
+use Rattle.log_run.specs.Run.{EndsBy, Ran, Run, Streams}
+use Rattle.log_run.specs.Worlds.{RanIn, WorldEnds, both}
+use Rattle.log_run.specs.declared.end.LogEnd.{LogEnd}
+use Rattle.log_run.specs.declared.end.LogEnd.TheVariants as end
 use Rattle.peers_file.specs.declared.chain.Chain.{Chain}
+use Rattle.session.specs.Events.{Ended}
+use Rattle.session.specs.Folders.{IsOpen, Turn}
+use Rattle.session.specs.History.{AtExit, History, Now, RoseBy, SinceEntry, Step, failed, fresh, onto}
+use Rattle.session.specs.State as session
+use Rattle.session.proofs.Promise.{IsCut, IsKept, cut_line, cut_memory, history, kept_line, kept_start}
 use Rattle.table_machine.specs.State.{State}
+use Rattle.addrman_run.specs.Asmaps.{IsMapIn, RefusesAsmap}
+use Rattle.addrman_run.specs.Inside.{IsLoadFault, SessionStep, StoppedStep, status_of}
 use Rattle.addrman_run.specs.Opening.{Opens}
-use Rattle.addrman_run.specs.Replay.{ReplayCause, ReplayText, Writes, WritesNoTables, at_start}
-use Rattle.addrman_run.specs.Run.{AnswersAll, AnswersPrefix, StopsAt, StopsInReply}
+use Rattle.addrman_run.specs.declared.input.Input.TheVariants as input
 use Rattle.addrman_run.specs.declared.status.Status.{Status}
-use Rattle.addrman_run.specs.declared.status.Status.TheVariants.{PeersRefused}
-use Rattle.addrman_run.specs.declared.status.Status.TheVariants.{Done, Usage, LogLine, AsmapRefused, TableRefused, ReadFault, WriteFault, DiskFault, LogTooLong, Memory, NoFile, NoKey, NotBuilt}
-use Rattle.addrman_run.specs.declared.status.Status.TheVariants.{TooManyRows}
+use Rattle.addrman_run.specs.declared.status.Status.TheVariants as status
+use Rattle.asmap_vm.specs.declared.fault.CodeFault.{CodeFault}
+use Rattle.asmap_vm.specs.declared.fault.CodeFault.TheVariants.{TooLarge}
+use Rattle.manager.specs.Machine.{Machine}
+use Rattle.addrman_run.specs.Replay.{HasMap, IsBetweenLines, IsUntouched, ReplayOutcome, Replayed, at_start, streams_of}
 
--- a text of this kind was appended
-abbrev pub Told : (Machine → List ℕ → Type 0) → Machine → Option (List ℕ) → Option (List ℕ) → Type 0
-Told IsText start old new = (text : List ℕ) × IsText start text × Appended old new text
+-- the history of a run, and what it keeps
+pub record Followed (start : History) (lines : List (List ℕ)) (text : List ℕ) (last : session.State) (old now : Option Past) (f g : ℕ) : Type 0 where
+  pub ended : List Ended
+  pub runs : Run Step start lines text (history last ended)
+  pub kept : IsKept last ended old now f g
 
--- what the run of the lines says of each way to end
-pub record LinesEnd (start now : Machine) (log : List ℕ) (old new : Option (List ℕ)) (status : Status) : Type 0 where
-  pub ends : IsLinesEnd status
-  pub done : status ≡ Done → Told (λ m text. AnswersAll LineStep m log text) start old new
-  pub memory : status ≡ Memory → Told (λ m text. AnswersPrefix LineStep m log text) start old new
-  pub in_step : status ≡ WriteFault → Told (λ m text. AnswersPrefix LineStep m log text × IfSome old (λ _. StopsInReply LineStep m log text now)) start old new
-  pub fault : (n : ℕ) (f : LineFault) → status ≡ LogLine n f → Told (λ m text. StopsAt LineStep (λ line. HasFault line f) m log n text) start old new
-  pub not_built : (n : ℕ) → status ≡ NotBuilt n → Told (λ m text. StopsAt LineStep IsNotBuilt m log n text) start old new
+pub follow : {F : Type 0} (past : F → Option Past) (faults : F → ℕ) (lines : List (List ℕ)) (text : List ℕ) (s t : session.State) (w v : F) (ended : List Ended) (old : Option Past) (f : ℕ)
+    → Run (both (SessionStep past faults)) (s, w) lines text (t, v) → IsKept s ended old (past w) f (faults w)
+    → Followed (history s ended) lines text t old (past v) f (faults v)
+follow {F = F} past faults [] text s t w v ended old f run kept =
+    let same_state : t ≡ s = ap (λ p. p.0) run.1 in
+    let same_world : v ≡ w = ap (λ p. p.1) run.1 in
+    record {
+      ended = ended;
+      runs = (run.0, ap (λ x. history x ended) same_state);
+      kept = subst (λ p. IsKept p.0 ended old (past p.1) f (faults p.1)) (sym run.1) kept;
+    }
+follow past faults (line ∷ lines) text s t w v ended old f run kept =
+    let mid = run.2 in
+    let one = run.4 in
+    let next = follow past faults lines run.1 mid.0 t mid.1 v (onto one.0.ended ended) old f run.5
+        (kept_line s mid.0 ended line run.0 old (past w) (past mid.1) f (faults w) (faults mid.1) kept one.0 one.1 one.2) in
+    record {
+      ended = next.ended;
+      runs = (run.0, run.1, history mid.0 (onto one.0.ended ended), run.3, (one.0.ended, one.0.step, refl), next.runs);
+      kept = next.kept;
+    }
 
-writes : (IsText : Machine → List ℕ → List ℕ → Type 0) (key : Option (List ℕ)) (chain : Chain) (log : List ℕ) (map : Option Asmap) (tables : State) (start : Machine) (old new : Outside) →
-    IsMapIn old.past map → Opens key chain old.past map tables → IsLogIn old.left log → start ≡ at_start tables → Told (λ m t. IsText m log t) start old.written new.written → Writes IsText key chain old new
-writes IsText key chain log map tables start old new has opens read is told =
-    (map, has, (tables, opens, (log, read, (told.0, subst (λ m. IsText m log told.0) is told.1, told.2))))
+now_weaker : (P Q : Disk → Disk → Type 0) (old new : Option Past) → ((a b : Disk) → P a b → Q a b) → Now P old new → Now Q old new
+now_weaker P Q None new weaker is = tt
+now_weaker P Q (Some o) None weaker is = tt
+now_weaker P Q (Some o) (Some n) weaker is = weaker o.now n.now is
 
-pub replay_text : (key : Option (List ℕ)) (chain : Chain) (log : List ℕ) (map : Option Asmap) (tables : State) (start now : Machine) (old new : Outside) (status : Status) →
-    IsMapIn old.past map → Opens key chain old.past map tables → IsLogIn old.left log → start ≡ at_start tables → LinesEnd start now log old.written new.written status → ReplayText key chain old new status
-replay_text key chain log map tables start now old new Done has opens read is ends = writes (λ m l t. AnswersAll LineStep m l t) key chain log map tables start old new has opens read is (ends.done refl)
-replay_text key chain log map tables start now old new (LogLine n f) has opens read is ends = writes (λ m l t. StopsAt LineStep (λ line. HasFault line f) m l n t) key chain log map tables start old new has opens read is (ends.fault n f refl)
-replay_text key chain log map tables start now old new (NotBuilt n) has opens read is ends = writes (λ m l t. StopsAt LineStep IsNotBuilt m l n t) key chain log map tables start old new has opens read is (ends.not_built n refl)
-replay_text key chain log map tables start now old new WriteFault has opens read is ends =
-    let told = ends.in_step refl in
-    writes (λ m l t. AnswersPrefix LineStep m l t × IfSome old.written (λ _. (end : Machine) × StopsInReply LineStep m l t end)) key chain log map tables start old new has opens read is
-    (told.0, (told.1.0, IfSome_then old.written told.1.1 (λ _ stopped. (now, stopped))), told.2)
-replay_text key chain log map tables start now old new Memory has opens read is ends = inr (writes (λ m l t. AnswersPrefix LineStep m l t) key chain log map tables start old new has opens read is (ends.memory refl))
-replay_text key chain log map tables start now old new Usage has opens read is ends = absurd ends.ends
-replay_text key chain log map tables start now old new (PeersRefused f) has opens read is ends = absurd ends.ends
-replay_text key chain log map tables start now old new (AsmapRefused f) has opens read is ends = absurd ends.ends
-replay_text key chain log map tables start now old new (TableRefused f) has opens read is ends = absurd ends.ends
-replay_text key chain log map tables start now old new ReadFault has opens read is ends = absurd ends.ends
-replay_text key chain log map tables start now old new DiskFault has opens read is ends = absurd ends.ends
-replay_text key chain log map tables start now old new LogTooLong has opens read is ends = absurd ends.ends
-replay_text key chain log map tables start now old new (NoFile n) has opens read is ends = absurd ends.ends
-replay_text key chain log map tables start now old new TooManyRows has opens read is ends = absurd ends.ends
-replay_text key chain log map tables start now old new NoKey has opens read is ends = absurd ends.ends
+-- what holds before the next lines, told with them
+exit_before : (h : History) (rest : List (List ℕ)) (start disk : Disk) → AtExit h [] start disk → AtExit h rest start disk
+exit_before h rest start disk exit found may = elim (exit found may) [ inl none ↦ absurd none | inr more ↦ inr more ]
 
--- why it ends so once the log was read
-pub replay_cause : (key : Option (List ℕ)) (chain : Chain) (old new : Outside) (status : Status) → IsLinesEnd status → WasRead old.left new.left → ReplayCause key chain old new status
-replay_cause key chain old new Done ends read = read
-replay_cause key chain old new (LogLine n f) ends read = read
-replay_cause key chain old new (NotBuilt n) ends read = read
-replay_cause key chain old new WriteFault ends read = read
-replay_cause key chain old new Memory ends read = tt
-replay_cause key chain old new other ends read = absurd ends
+since_before : (h : History) (rest : List (List ℕ)) (start disk : Disk) → SinceEntry h [] start disk → SinceEntry h rest start disk
+since_before h rest start disk since = record {
+  at = λ found may. elim (since.at found may) [ inl none ↦ absurd none | inr more ↦ inr more ];
+  others = since.others;
+}
 
--- the asmap is accepted, and nothing was written
-pub no_tables : (map : Option Asmap) (old new : Outside) → IsMapIn old.past map → new.written ≡ old.written → WritesNoTables old new
-no_tables map old new is same = ((map, is), same)
+always_before : (h : History) (rest : List (List ℕ)) (old now : Option Past) → Always old now (SinceEntry h []) → Always old now (SinceEntry h rest)
+always_before h rest old now always =
+    joined (SinceEntry h []) (λ d e. e ≡ d) (SinceEntry h rest) old now now always (begun (λ d e. e ≡ d) now (λ d. refl))
+    (λ start d since. since_before h rest start d since)
+    (λ start d e since same. subst (SinceEntry h rest start) (sym same) (since_before h rest start d since))
+
+-- what stands of the folder at the end of the run
+pub record Finished (h : History) (rest : List (List ℕ)) (old now : Option Past) (f g : ℕ) (how : LogEnd) : Type 0 where
+  pub exit : Now (AtExit h rest) old now
+  pub since : Always old now (SinceEntry h rest)
+  pub failures : RoseBy (failed h.ended) f g
+  pub pieces : IsBetweenLines how → IsOpen h.now.job now
+
+between : (s : session.State) (ended : List Ended) (rest : List (List ℕ)) (old now : Option Past) (f g : ℕ) (how : LogEnd) → IsKept s ended old now f g
+    → Finished (history s ended) rest old now f g how
+between s ended rest old now f g how k = record {
+  exit = now_weaker (AtExit (history s ended) []) (AtExit (history s ended) rest) old now (exit_before (history s ended) rest) k.exit;
+  since = always_before (history s ended) rest old now k.since;
+  failures = k.failures;
+  pieces = λ _. k.is_open;
+}
+
+within : (s : session.State) (ended : List Ended) (line : List ℕ) (after rest : List (List ℕ)) (old now : Option Past) (f g : ℕ) (how : LogEnd)
+    → rest ≡ line ∷ after → (IsBetweenLines how → ⊥) → IsCut s ended (line ∷ after) old now f g → Finished (history s ended) rest old now f g how
+within s ended line after rest old now f g how is not_between c = record {
+  exit = subst (λ r. Now (AtExit (history s ended) r) old now) (sym is) c.exit;
+  since = subst (λ r. Always old now (SinceEntry (history s ended) r)) (sym is) c.since;
+  failures = c.failures;
+  pieces = λ is_between. absurd (not_between is_between);
+}
+
+module _ {F : Type 0} (past : F → Option Past) (faults : F → ℕ) where
+  same_world : (s : session.State) (ended : List Ended) (next : List ℕ) (old : Option Past) (f : ℕ) (how : LogEnd) (w v : F) → v ≡ w
+      → IsKept s ended old (past w) f (faults w) → Finished (history s ended) (lines_of next) old (past v) f (faults v) how
+  same_world s ended next old f how w v same k =
+      subst (λ x. Finished (history s ended) (lines_of next) old (past x) f (faults x) how) (sym same) (between s ended (lines_of next) old (past w) f (faults w) how k)
+
+  finish : (s : session.State) (ended : List Ended) (next : List ℕ) (old : Option Past) (f : ℕ) (how : LogEnd) (w v : F) → IsKept s ended old (past w) f (faults w)
+      → WorldEnds (SessionStep past faults) (StoppedStep past faults) (s, w) next v how → Finished (history s ended) (lines_of next) old (past v) f (faults v) how
+  finish s ended next old f end.Done w v k same = same_world s ended next old f end.Done w v same k
+  finish s ended next old f (end.Fault n fault) w v k same = same_world s ended next old f (end.Fault n fault) w v same k
+  finish s ended next old f (end.LineTooLong n) w v k same = same_world s ended next old f (end.LineTooLong n) w v same k
+  finish s ended next old f end.LogTooLong w v k same = same_world s ended next old f end.LogTooLong w v same k
+  finish s ended next old f end.ReadFault w v k same = same_world s ended next old f end.ReadFault w v same k
+  finish s ended next old f end.WriteFault w v k (line, after, text, later, is, (turn, opened, le)) =
+      within s ended line (lines_of after) (lines_of next) old (past v) f (faults v) end.WriteFault is (λ b. b)
+      (cut_line s later ended line text (lines_of after) old (past w) (past v) f (faults w) (faults v) k turn le)
+  finish s ended next old f end.Memory w v k (inl same) = same_world s ended next old f end.Memory w v same k
+  finish s ended next old f end.Memory w v k (inr (line, after, is, (may, le))) =
+      within s ended line (lines_of after) (lines_of next) old (past v) f (faults v) end.Memory is (λ b. b)
+      (cut_memory s ended line (lines_of after) old (past w) (past v) f (faults w) (faults v) k may le)
+
+  -- how the run ends, told of its history
+  ends_by : (log : List ℕ) (answered : List (List ℕ)) (next : List ℕ) (s : session.State) (w : F) (ended : List Ended) (part : List ℕ) (old new : Streams) (how : LogEnd)
+      → EndsBy (both (SessionStep past faults)) HasFault log answered next (s, w) part old new how → EndsBy Step HasFault log answered next (history s ended) part old new how
+  ends_by log answered next s w ended part old new end.Done is = is
+  ends_by log answered next s w ended part old new (end.Fault n fault) is = is
+  ends_by log answered next s w ended part old new (end.LineTooLong n) is = is
+  ends_by log answered next s w ended part old new end.LogTooLong is = is
+  ends_by log answered next s w ended part old new end.ReadFault is = is
+  ends_by log answered next s w ended part old new end.WriteFault (line, after, rest, later, next_line, (turn, opened, le), some, near) =
+      (line, after, rest, history later.0 (onto turn.ended ended), next_line, (turn.ended, turn.step, refl), some, near)
+  ends_by log answered next s w ended part old new end.Memory is = is
+
+  later_rose : (n f g h : ℕ) → f ≤ g → RoseBy n g h → RoseBy n f h
+  later_rose n f g h le (inl r) = inl (omega (arith, le, r))
+  later_rose n f g h le (inr r) = inr r
+
+  pub replayed : (key : Option (List ℕ)) (chain : Chain) (map : Option Asmap) (tables : State) (start : session.State) (old new : Outside) (w v : F) (how : LogEnd)
+      → IsMapIn old.past map → Opens key chain old.past map tables → start ≡ at_start chain tables → past w ≡ old.past → old.folder_faults ≤ faults w
+      → new.past ≡ past v → new.folder_faults ≡ faults v
+      → RanIn (SessionStep past faults) (StoppedStep past faults) HasFault (start, w) (streams_of old) (streams_of new) v how
+      → Replayed key chain old new how
+  replayed key chain map tables start old new w v how has_map open_tables begins same_past earlier ends_past ends_faults r =
+      let h = follow past faults r.ran.answered r.ran.replies start r.ran.now.0 w r.ran.now.1 [] (past w) (faults w) r.ran.runs
+          (kept_start start (past w) (faults w) (ap (λ s. s.job) begins)) in
+      let f = finish r.ran.now.0 h.ended r.ran.next (past w) (faults w) how r.ran.now.1 v h.kept r.world_ends in
+      record {
+        map = map;
+        has_map = has_map;
+        tables = tables;
+        opens = open_tables;
+        ran = record {
+          log = r.ran.log;
+          known = r.ran.known;
+          answered = r.ran.answered;
+          next = r.ran.next;
+          begins = r.ran.begins;
+          replies = r.ran.replies;
+          now = history r.ran.now.0 h.ended;
+          runs = subst (λ s. Run Step (fresh s) r.ran.answered r.ran.replies (history r.ran.now.0 h.ended)) begins h.runs;
+          part = r.ran.part;
+          written = r.ran.written;
+          ends = ends_by r.ran.log r.ran.answered r.ran.next r.ran.now.0 r.ran.now.1 h.ended r.ran.part (streams_of old) (streams_of new) how r.ran.ends;
+        };
+        at_exit = subst (λ p. Now (AtExit (history r.ran.now.0 h.ended) (lines_of r.ran.next)) p new.past) same_past
+            (subst (Now (AtExit (history r.ran.now.0 h.ended) (lines_of r.ran.next)) (past w)) (sym ends_past) f.exit);
+        since_entry = subst (λ p. Always p new.past (SinceEntry (history r.ran.now.0 h.ended) (lines_of r.ran.next))) same_past
+            (subst (λ p. Always (past w) p (SinceEntry (history r.ran.now.0 h.ended) (lines_of r.ran.next))) (sym ends_past) f.since);
+        failed_saves = subst (RoseBy (failed h.ended) old.folder_faults) (sym ends_faults) (later_rose (failed h.ended) old.folder_faults (faults w) (faults v) earlier f.failures);
+        pieces = λ b. subst (IsOpen r.ran.now.0.job) (sym ends_past) (f.pieces b);
+      }
+
+  rises_by : (lines : List (List ℕ)) (text : List ℕ) (s t : session.State) (w v : F) → Run (both (SessionStep past faults)) (s, w) lines text (t, v) → faults w ≤ faults v
+  rises_by [] text s t w v run = omega (arith, ap (λ p. faults p.1) run.1)
+  rises_by (line ∷ lines) text s t w v run = omega (arith, run.4.2, rises_by lines run.1 run.2.0 t run.2.1 v run.5)
+
+  rises_last : (s : session.State) (next : List ℕ) (how : LogEnd) (w v : F) → WorldEnds (SessionStep past faults) (StoppedStep past faults) (s, w) next v how → faults w ≤ faults v
+  rises_last s next end.Done w v same = omega (arith, ap faults same)
+  rises_last s next (end.Fault n fault) w v same = omega (arith, ap faults same)
+  rises_last s next (end.LineTooLong n) w v same = omega (arith, ap faults same)
+  rises_last s next end.LogTooLong w v same = omega (arith, ap faults same)
+  rises_last s next end.ReadFault w v same = omega (arith, ap faults same)
+  rises_last s next end.WriteFault w v (line, after, text, later, is, (turn, opened, le)) = le
+  rises_last s next end.Memory w v (inl same) = omega (arith, ap faults same)
+  rises_last s next end.Memory w v (inr (line, after, is, (may, le))) = le
+
+  -- the folder's count of faults does not fall
+  pub rises : (start : session.State) (old new : Streams) (w v : F) (how : LogEnd)
+      → RanIn (SessionStep past faults) (StoppedStep past faults) HasFault (start, w) old new v how → faults w ≤ faults v
+  rises start old new w v how r =
+      omega (arith, rises_by r.ran.answered r.ran.replies start r.ran.now.0 w r.ran.now.1 r.ran.runs, rises_last r.ran.now.0 r.ran.next how r.ran.now.1 v r.world_ends)
+
+-- the outcome by its status
+pub outcome_of : (key : Option (List ℕ)) (chain : Chain) (old new : Outside) (how : LogEnd) → Replayed key chain old new how → ReplayOutcome key chain old new (status_of how)
+outcome_of key chain old new end.Done r = r
+outcome_of key chain old new (end.Fault n fault) r = r
+outcome_of key chain old new (end.LineTooLong n) r = r
+outcome_of key chain old new end.LogTooLong r = r
+outcome_of key chain old new end.ReadFault r = r
+outcome_of key chain old new end.WriteFault r = r
+outcome_of key chain old new end.Memory r = inr r
+
+pub untouched : (old new : Outside) → new.written ≡ old.written → new.left ≡ old.left → new.log_faults ≡ old.log_faults → new.past ≡ old.past → IsUntouched old new
+untouched old new written left log past = record { written = written; log = (left, log); past = past }
 
 pub takes_none : (left : Option (List ℕ)) (most : ℕ) → TakesAtMost left left most
 takes_none None most = tt
 takes_none (Some bytes) most = (0, omega arith, refl)
 
--- the whole log was read
-pub was_read : (old new : Option (List ℕ)) (log : List ℕ) → length log ≤ MAX_LOG → IfSome old (λ bytes. log ≡ bytes) → IfSome old (λ bytes. new ≡ Some []) → WasRead old new
-was_read None new log small found end = tt
-was_read (Some bytes) new log small found end = (subst (λ b. length b ≤ MAX_LOG) found small, end)
+-- the run over the log never ends by a fault of the folder
+pub no_disk : (how : LogEnd) → status_of how ≡ status.DiskFault → ⊥
+no_disk end.Done is = cc is
+no_disk (end.Fault n fault) is = cc is
+no_disk (end.LineTooLong n) is = cc is
+no_disk end.LogTooLong is = cc is
+no_disk end.ReadFault is = cc is
+no_disk end.WriteFault is = cc is
+no_disk end.Memory is = cc is
+
+pub has_map : (old : Outside) (map : Option Asmap) → IsMapIn old.past map → HasMap old
+has_map old map is = (map, is)
+
+-- what holds of each status that the asmap is not loaded for
+pub asmap_not_loaded : (P : Status → Type 0) (past : Option Past) (answer : Status) → IsLoadFault input.Asmap past answer → P status.DiskFault → P status.Memory
+    → ((fault : CodeFault) → RefusesAsmap past fault → P (status.AsmapRefused fault)) → P answer
+asmap_not_loaded P past answer (inl is) disk memory refused = subst P (sym is) disk
+asmap_not_loaded P past answer (inr (inl is)) disk memory refused = subst P (sym is) memory
+asmap_not_loaded P past answer (inr (inr is)) disk memory refused = subst P (sym is.1) (refused (TooLarge is.0) is.2)
+
+-- the session at the start
+pub starts : (chain : Chain) (tables : State) (lines made : session.State) (machine : Machine) → lines ≡ made → made ≡ session.state chain machine None
+    → machine ≡ record { tables = tables; clock = 0 } → lines ≡ at_start chain tables
+starts chain tables lines made machine is_made is_state is_machine = is_made ∙ is_state ∙ ap (λ m. session.state chain m None) is_machine

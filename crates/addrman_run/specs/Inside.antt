@@ -1,6 +1,6 @@
 -- Words of private contracts.
-use Rattle.std.specs.Prelude.{◌≡◌, ◌≢◌, ◌⊎◌, ℕ, List, Option, Some, None, ⊤}
-use Rattle.host_io.specs.Past.{Past}
+use Rattle.std.specs.Prelude.{◌≡◌, ◌≢◌, ◌⊎◌, ◌≤◌, ℕ, List, Option, Some, None, ⊤}
+use Rattle.host_io.specs.Past.{Always, Past}
 use Rattle.host_io.specs.Writing.{Appended, AppendedPart}
 use Rattle.host_io.specs.declared.name.Name.{Name}
 use Rattle.host_io.specs.declared.name.Name.TheVariants as name
@@ -21,6 +21,11 @@ use Rattle.addrman_run.specs.declared.tables_fault.TablesFault.{TablesFault}
 use Rattle.addrman_run.specs.declared.tables_fault.TablesFault.TheVariants.{Rows}
 use Rattle.addrman_run.specs.declared.peers_fault.PeersFault.TheVariants.{Duplicate, File}
 use Rattle.addrman_run.specs.Opening.{places_of, tables_of}
+use Rattle.log_run.specs.Worlds.{StepsIn}
+use Rattle.log_run.specs.declared.end.LogEnd.{LogEnd}
+use Rattle.log_run.specs.declared.end.LogEnd.TheVariants as end
+use Rattle.session.specs.Folders.{AtMost, IsOpen, MayPublish, Turn}
+use Rattle.session.specs.State as session
 use Rattle.peer_rec.specs.Snapshot.{Snapshot}
 use Rattle.peers_file.specs.Layout.{IsFile, HasFileFault}
 use Rattle.peers_file.specs.declared.chain.Chain.{Chain}
@@ -28,7 +33,7 @@ use Rattle.table_machine.specs.State.{State, empty_state}
 use Rattle.table_machine.specs.Restoring.{duplicate}
 use Rattle.addrman_run.specs.declared.status.Status.{Status}
 use Rattle.addrman_run.specs.declared.status.Status.TheVariants.{PeersRefused}
-use Rattle.addrman_run.specs.declared.status.Status.TheVariants.{Done, LogLine, AsmapRefused, TableRefused, WriteFault, DiskFault, Memory, NoFile, NoKey, NotBuilt}
+use Rattle.addrman_run.specs.declared.status.Status.TheVariants.{Done, LogLine, LineTooLong, LogTooLong, AsmapRefused, TableRefused, ReadFault, WriteFault, DiskFault, Memory, NoFile, NoKey}
 
 -- the name of a file that commands load
 abbrev pub name_of : Input → Name
@@ -113,14 +118,27 @@ abbrev pub SaveEnds : List ℕ → List ℕ → Option Past → Option (List ℕ
 SaveEnds file line past old new status =
     ((status ≡ DiskFault) × (new ≡ old)) ⊎ (IsInPlace file past × LineEnds line old new status)
 
--- how the run of some lines may end
-abbrev pub IsLinesEnd : Status → Type 0
-IsLinesEnd Done = ⊤
-IsLinesEnd (LogLine n fault) = ⊤
-IsLinesEnd (NotBuilt n) = ⊤
-IsLinesEnd WriteFault = ⊤
-IsLinesEnd Memory = ⊤
-IsLinesEnd other = ⊥
+-- the status of a replay, by the end of its run over the log
+abbrev pub status_of : LogEnd → Status
+status_of end.Done = Done
+status_of (end.Fault n fault) = LogLine n fault
+status_of (end.LineTooLong n) = LineTooLong n
+status_of end.LogTooLong = LogTooLong
+status_of end.ReadFault = ReadFault
+status_of end.WriteFault = WriteFault
+status_of end.Memory = Memory
+
+-- What a line does to a session and a folder, told by the folder's past and its count of faults.
+abbrev pub SessionStep : {F : Type 0} → (F → Option Past) → (F → ℕ) → StepsIn session.State F
+SessionStep past faults old before line text new after =
+    Turn old line text new (past before) (past after) (faults before) (faults after)
+    × IsOpen new.job (past after) × (faults before ≤ faults after)
+
+-- What a line that runs out of memory does to a folder.
+abbrev pub StoppedStep : {F : Type 0} → (F → Option Past) → (F → ℕ) → session.State → F → List ℕ → F → Type 0
+StoppedStep past faults old before line after =
+    ((file : Option (List ℕ)) × MayPublish old line file × Always (past before) (past after) (AtMost file))
+    × (faults before ≤ faults after)
 
 -- the asmap in some bytes, if there are any
 abbrev pub IsMapOf : Option (List ℕ) → Option Asmap → Type 0

@@ -4,8 +4,6 @@ pub mod Asmaps
 pub mod Tables
 pub mod Peers
 pub mod Log
-pub mod Run
-pub mod Lines
 pub mod Replay
 pub mod FileLine
 pub mod Lookup

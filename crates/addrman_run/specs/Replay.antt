@@ -1,79 +1,84 @@
--- What a replay writes, and how it ends.
-use Rattle.std.specs.Prelude.{◌≡◌, ◌⊎◌, ℕ, ◌+◌, ◌<◌, List, length, Option, IfSome, ⊤}
+-- What a replay writes and saves, and how it ends.
+use Rattle.std.specs.Prelude.{◌≡◌, ◌⊎◌, ℕ, ◌+◌, List, Option, None, ⊤}
+use Rattle.host_io.specs.Lines.{lines_of}
 use Rattle.host_io.specs.Outside.{Outside}
+use Rattle.host_io.specs.Past.{Always}
 use Rattle.host_io.specs.Reading.{TakesAtMost}
-use Rattle.host_io.specs.Writing.{Appended}
 use Rattle.asmap_vm.specs.Asmap.{Asmap}
 use Rattle.log_lines.specs.Spelling.{HasFault}
-use Rattle.manager.specs.Machine.{Machine}
+use Rattle.log_run.specs.Run.{Ran, Streams}
+use Rattle.log_run.specs.declared.end.LogEnd.{LogEnd}
+use Rattle.log_run.specs.declared.end.LogEnd.TheVariants as end
+use Rattle.log_run.specs.declared.limits.TheConstants.{MAX_LOG}
 use Rattle.peers_file.specs.declared.chain.Chain.{Chain}
+use Rattle.session.specs.Folders.{IsOpen}
+use Rattle.session.specs.History.{AtExit, Now, RoseBy, SinceEntry, Step, failed, fresh}
+use Rattle.session.specs.State as session
 use Rattle.table_machine.specs.State.{State}
-use Rattle.addrman_run.specs.Opening.{LacksKey, Opens, RefusesTables}
 use Rattle.addrman_run.specs.Asmaps.{IsMapIn, RefusesAsmap}
-use Rattle.addrman_run.specs.Log.{IsLogIn, WasRead, SameLog}
-use Rattle.addrman_run.specs.declared.replay.TheConstants.{MAX_LOG}
-use Rattle.addrman_run.specs.Lines.{LineStep, IsNotBuilt}
-use Rattle.addrman_run.specs.Run.{AnswersAll, AnswersPrefix, StopsAt, StopsInReply}
+use Rattle.addrman_run.specs.Log.{SameLog}
+use Rattle.addrman_run.specs.Opening.{LacksKey, Opens, RefusesTables}
 use Rattle.addrman_run.specs.declared.status.Status.{Status}
-use Rattle.addrman_run.specs.declared.status.Status.TheVariants.{Done, LogLine, AsmapRefused, ReadFault, WriteFault, DiskFault, LogTooLong, Memory, NoKey, NotBuilt, PeersRefused}
+use Rattle.addrman_run.specs.declared.status.Status.TheVariants as status
 
--- the machine that a replay begins with: the tables, at the time 0
-abbrev pub at_start : State → Machine
-at_start tables = record { tables = tables; clock = 0 }
+-- the session that a replay begins with: the tables, at the time 0, and no open save
+abbrev pub at_start : Chain → State → session.State
+at_start chain tables = session.state chain (record { tables = tables; clock = 0 }) None
 
--- The asmap is accepted, the tables are open, and a text was appended to the output. IsText says how the text follows
--- from the machine at the start and the log.
-abbrev pub Writes : (Machine → List ℕ → List ℕ → Type 0) → Option (List ℕ) → Chain → Outside → Outside → Type 0
-Writes IsText key chain old new =
-    (map : Option Asmap) × IsMapIn old.past map × ((tables : State) × Opens key chain old.past map tables
-    × ((log : List ℕ) × IsLogIn old.left log
-    × ((text : List ℕ) × IsText (at_start tables) log text × Appended old.written new.written text)))
+-- what is known of the log and of the output
+abbrev pub streams_of : Outside → Streams
+streams_of at = record { left = at.left; written = at.written }
 
--- the folder's asmap is accepted, the tables are open, and nothing was written
-abbrev pub WritesNothing : Option (List ℕ) → Chain → Outside → Outside → Type 0
-WritesNothing key chain old new =
-    ((map : Option Asmap) × IsMapIn old.past map × ((tables : State) × Opens key chain old.past map tables))
-    × (new.written ≡ old.written)
+-- no line was carried out in part
+abbrev pub IsBetweenLines : LogEnd → Type 0
+IsBetweenLines end.WriteFault = ⊥
+IsBetweenLines end.Memory = ⊥
+IsBetweenLines other = ⊤
 
--- the folder's asmap is accepted, and nothing was written
-abbrev pub WritesNoTables : Outside → Outside → Type 0
-WritesNoTables old new = ((map : Option Asmap) × IsMapIn old.past map) × (new.written ≡ old.written)
+-- A replay that got past its opening, by the end of its run over the log. The folder's asmap is
+-- accepted, and the tables are open. The replies to the first lines of the log were written, and of
+-- the next one perhaps a part. A crash now, or at any moment since the start, leaves at peers.dat the
+-- file of a save of this run or what it could leave at the start; now not one from before the last
+-- save whose reply is `saved`. No more saves have failed than the folder.
+pub record Replayed (key : Option (List ℕ)) (chain : Chain) (old new : Outside) (how : LogEnd) : Type 0 where
+  pub map : Option Asmap
+  pub has_map : IsMapIn old.past map
+  pub tables : State
+  pub opens : Opens key chain old.past map tables
+  pub ran : Ran Step HasFault (fresh (at_start chain tables)) (streams_of old) (streams_of new) how
+  pub at_exit : Now (AtExit ran.now (lines_of ran.next)) old.past new.past
+  pub since_entry : Always old.past new.past (SinceEntry ran.now (lines_of ran.next))
+  pub failed_saves : RoseBy (failed ran.now.ended) old.folder_faults new.folder_faults
+  pub pieces : IsBetweenLines how → IsOpen ran.now.now.job new.past
 
--- What was written, by status. After a fault of an output that contracts know, the text ends within a reply: before its
--- last byte, perhaps before its first.
-abbrev pub ReplayText : Option (List ℕ) → Chain → Outside → Outside → Status → Type 0
-ReplayText key chain old new Done = Writes (λ start log text. AnswersAll LineStep start log text) key chain old new
-ReplayText key chain old new (LogLine line fault) = Writes (λ start log text. StopsAt LineStep (λ l. HasFault l fault) start log line text) key chain old new
-ReplayText key chain old new (NotBuilt line) = Writes (λ start log text. StopsAt LineStep IsNotBuilt start log line text) key chain old new
-ReplayText key chain old new WriteFault =
-    Writes (λ start log text. AnswersPrefix LineStep start log text
-    × IfSome old.written (λ _. (now : Machine) × StopsInReply LineStep start log text now)) key chain old new
-ReplayText key chain old new Memory = (new.written ≡ old.written) ⊎ Writes (λ start log text. AnswersPrefix LineStep start log text) key chain old new
-ReplayText key chain old new ReadFault = WritesNothing key chain old new
-ReplayText key chain old new LogTooLong = WritesNothing key chain old new
-ReplayText key chain old new DiskFault = new.written ≡ old.written
-ReplayText key chain old new (AsmapRefused fault) = new.written ≡ old.written
-ReplayText key chain old new (PeersRefused fault) = WritesNoTables old new
-ReplayText key chain old new NoKey = WritesNoTables old new
-ReplayText key chain old new other = ⊥
+-- nothing was written, and log and folder are as they were
+pub record IsUntouched (old new : Outside) : Type 0 where
+  pub written : new.written ≡ old.written
+  pub log : SameLog old new
+  pub past : new.past ≡ old.past
 
--- Why each status comes, and what is left of the log. HasCause says why the three faults of the outside come.
-abbrev pub ReplayCause : Option (List ℕ) → Chain → Outside → Outside → Status → Type 0
-ReplayCause key chain old new Done = WasRead old.left new.left
-ReplayCause key chain old new (LogLine line fault) = WasRead old.left new.left
-ReplayCause key chain old new (NotBuilt line) = WasRead old.left new.left
-ReplayCause key chain old new WriteFault = WasRead old.left new.left
-ReplayCause key chain old new Memory = ⊤
-ReplayCause key chain old new ReadFault = ⊤
-ReplayCause key chain old new LogTooLong = IfSome old.left (λ log. MAX_LOG < length log)
-ReplayCause key chain old new DiskFault = SameLog old new
-ReplayCause key chain old new (AsmapRefused fault) = RefusesAsmap old.past fault × SameLog old new
-ReplayCause key chain old new (PeersRefused fault) = RefusesTables chain old.past fault × SameLog old new
-ReplayCause key chain old new NoKey = LacksKey key old.past × SameLog old new
-ReplayCause key chain old new other = ⊥
+-- the folder's asmap is accepted
+abbrev pub HasMap : Outside → Type 0
+HasMap old = (map : Option Asmap) × IsMapIn old.past map
 
-pub record ReplayEnds (key : Option (List ℕ)) (chain : Chain) (old new : Outside) (status : Status) : Type 0 where
-  pub text : ReplayText key chain old new status
-  pub cause : ReplayCause key chain old new status
+-- How a replay ends, by its status. HasCause says why the three faults of the outside come.
+abbrev pub ReplayOutcome : Option (List ℕ) → Chain → Outside → Outside → Status → Type 0
+ReplayOutcome key chain old new status.Done = Replayed key chain old new end.Done
+ReplayOutcome key chain old new (status.LogLine n fault) = Replayed key chain old new (end.Fault n fault)
+ReplayOutcome key chain old new (status.LineTooLong n) = Replayed key chain old new (end.LineTooLong n)
+ReplayOutcome key chain old new status.LogTooLong = Replayed key chain old new end.LogTooLong
+ReplayOutcome key chain old new status.ReadFault = Replayed key chain old new end.ReadFault
+ReplayOutcome key chain old new status.WriteFault = Replayed key chain old new end.WriteFault
+ReplayOutcome key chain old new status.Memory =
+    IsUntouched old new ⊎ Replayed key chain old new end.Memory
+ReplayOutcome key chain old new status.DiskFault = IsUntouched old new
+ReplayOutcome key chain old new (status.AsmapRefused fault) =
+    RefusesAsmap old.past fault × IsUntouched old new
+ReplayOutcome key chain old new (status.PeersRefused fault) =
+    HasMap old × RefusesTables chain old.past fault × IsUntouched old new
+ReplayOutcome key chain old new status.NoKey = HasMap old × LacksKey key old.past × IsUntouched old new
+ReplayOutcome key chain old new other = ⊥
+
+pub record ReplayEnds (key : Option (List ℕ)) (chain : Chain) (old new : Outside) (answer : Status) : Type 0 where
+  pub outcome : ReplayOutcome key chain old new answer
   pub taken : TakesAtMost old.left new.left (MAX_LOG + 1)
-  pub same : new.past ≡ old.past

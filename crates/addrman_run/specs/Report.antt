@@ -17,7 +17,7 @@ use Rattle.addrman_run.specs.declared.tables_fault.TablesFault.{TablesFault}
 use Rattle.addrman_run.specs.declared.tables_fault.TablesFault.TheVariants.{Rows, Compile}
 use Rattle.addrman_run.specs.declared.status.Status.{Status}
 use Rattle.addrman_run.specs.declared.status.Status.TheVariants.{PeersRefused}
-use Rattle.addrman_run.specs.declared.status.Status.TheVariants.{Done, Usage, LogLine, AsmapRefused, TableRefused, ReadFault, WriteFault, DiskFault, LogTooLong, NoKey, Memory, NoFile, NotBuilt}
+use Rattle.addrman_run.specs.declared.status.Status.TheVariants.{Done, Usage, LogLine, AsmapRefused, TableRefused, ReadFault, WriteFault, DiskFault, LogTooLong, NoKey, Memory, LineTooLong, NoFile}
 use Rattle.addrman_run.specs.declared.status.Status.TheVariants.{TooManyRows}
 
 -- the exit code of the process
@@ -34,8 +34,8 @@ code_of DiskFault = 9
 code_of LogTooLong = 10
 code_of NoKey = 11
 code_of Memory = 12
+code_of (LineTooLong line) = 13
 code_of (NoFile name) = 14
-code_of (NotBuilt line) = 15
 code_of TooManyRows = 17
 
 abbrev pub file_fault_text : FileFault → List ℕ
@@ -106,8 +106,8 @@ reason_of DiskFault = codes "folder failed"
 reason_of LogTooLong = codes "log too long"
 reason_of NoKey = codes "no peers.dat and no key"
 reason_of Memory = codes "out of memory"
+reason_of (LineTooLong n) = codes "log line " ++ decimal n ++ codes ": too long"
 reason_of (NoFile name) = file_name_of name ++ codes " is missing"
-reason_of (NotBuilt n) = codes "not built at line " ++ decimal n
 reason_of TooManyRows = codes "asmap.dat has more than 2000000 rows"
 
 abbrev pub line_of : List ℕ → List ℕ

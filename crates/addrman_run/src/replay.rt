@@ -3,26 +3,25 @@ ghost use Rattle.host_io.specs.Outside.{outside};
 ghost use Rattle.host_io.specs.Reading.{TakesAtMost};
 ghost use Rattle.asmap_vm.specs.Code.{Tree, IsSaneFile};
 ghost use Rattle.asmap_vm.specs.declared.fault.CodeFault.{CodeFault};
+ghost use Rattle.log_run.specs.declared.limits.TheConstants.{MAX_LOG};
 ghost use Rattle.placing.specs.Inside.{map_of};
-ghost use Rattle.addrman_run.specs.Inside.{IsMapOf};
+ghost use Rattle.addrman_run.specs.Inside.{IsMapOf, status_of};
 ghost use Rattle.addrman_run.specs.Outcome.{IsCounted};
-ghost use Rattle.addrman_run.specs.Replay.{ReplayText, ReplayCause};
+ghost use Rattle.addrman_run.specs.Replay.{ReplayOutcome};
 
 use crate::Status;
 use crate::input::{Input, load_input};
 use crate::opening::open_tables;
-use crate::run_lines::run_lines;
+use crate::session_lines::SessionLines;
 use asmap_vm::{CodeFault, Sane, check};
 use bit_code::MAX_ASMAP;
-use host_io::{Bytes, Folder, Sink, Source, ToEndFault, read_to_end};
-use log_lines::MAX_LINE;
+use host_io::{Bytes, Folder, Sink, Source};
+use log_run::{LogEnd, run_log};
 use manager::Manager;
 use peers_file::Chain;
+use session::Session;
 use std::alloc::Global;
 use std::hash::BuildHasher;
-
-/// The maximum size of a log in bytes.
-pub const MAX_LOG: u64 = MAX_LINE as u64;
 
 /// Checks the asmap in these bytes, if there are any.
 fn check_map(bytes: &Option<Bytes>) -> Result<Option<Sane<'_>>, CodeFault>
@@ -40,8 +39,23 @@ fn check_map(bytes: &Option<Bytes>) -> Result<Option<Sane<'_>>, CodeFault>
     }
 }
 
+/// Returns the status of a replay, by the end of its run over the log.
+fn status_of(end: LogEnd) -> Status
+    ensures { result ≡ status_of end }
+{
+    match end {
+        LogEnd::Done => Status::Done,
+        LogEnd::Fault { line, fault } => Status::LogLine { line, fault },
+        LogEnd::LineTooLong { line } => Status::LineTooLong { line },
+        LogEnd::LogTooLong => Status::LogTooLong,
+        LogEnd::ReadFault => Status::ReadFault,
+        LogEnd::WriteFault => Status::WriteFault,
+        LogEnd::Memory => Status::Memory,
+    }
+}
+
 /// Carries out the lines of the log, from the tables of the folder's peers.dat, or if it is absent,
-/// from empty ones with the key. Either way they have the folder's asmap.
+/// from empty ones with the key. Either way they have the folder's asmap. Saves replace peers.dat.
 pub(crate) fn replay<L: Source, F: Folder, K: Sink, H: BuildHasher + Drop>(
     alloc: Global,
     hasher: H,
@@ -51,13 +65,13 @@ pub(crate) fn replay<L: Source, F: Folder, K: Sink, H: BuildHasher + Drop>(
     folder: &mut F,
     out: &mut K,
 ) -> Status
-    ensures text { ReplayText key chain (outside L.Source F.Folder K.Sink log.old folder.old out.old) (outside L.Source F.Folder K.Sink log.new folder.new out.new) result }
-    ensures cause { ReplayCause key chain (outside L.Source F.Folder K.Sink log.old folder.old out.old) (outside L.Source F.Folder K.Sink log.new folder.new out.new) result }
+    ensures outcome { ReplayOutcome key chain
+        (outside L.Source F.Folder K.Sink log.old folder.old out.old)
+        (outside L.Source F.Folder K.Sink log.new folder.new out.new) result }
     ensures taken { TakesAtMost (L.left log.old) (L.left log.new) (MAX_LOG + 1) }
     ensures read { IsCounted Status.ReadFault (L.faults log.old) (L.faults log.new) result }
     ensures write { IsCounted Status.WriteFault (K.faults out.old) (K.faults out.new) result }
     ensures disk { IsCounted Status.DiskFault (F.faults folder.old) (F.faults folder.new) result }
-    ensures same { F.past folder.new ≡ F.past folder.old }
 {
     let bytes = match load_input(alloc, Input::Asmap, folder) {
         Ok(bytes) => bytes,
@@ -75,12 +89,7 @@ pub(crate) fn replay<L: Source, F: Folder, K: Sink, H: BuildHasher + Drop>(
         Ok(tables) => tables,
         Err(status) => return status,
     };
-    let text = match read_to_end(alloc, log, MAX_LOG) {
-        Ok(text) => text,
-        Err(ToEndFault::Failed) => return Status::ReadFault,
-        Err(ToEndFault::TooLong) => return Status::LogTooLong,
-        Err(ToEndFault::Memory) => return Status::Memory,
-    };
-    let mut manager = Manager::open(tables);
-    run_lines(alloc, text.items(), &mut manager, out)
+    let session = Session::make(Manager::open(tables), chain);
+    let mut lines = SessionLines::make(session);
+    status_of(run_log(alloc, log, &mut lines, folder, out))
 }

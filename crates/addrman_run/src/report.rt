@@ -27,8 +27,8 @@ pub fn code(status: &Status) -> u8
         Status::LogTooLong => 10,
         Status::NoKey => 11,
         Status::Memory => 12,
+        Status::LineTooLong { .. } => 13,
         Status::NoFile { .. } => 14,
-        Status::NotBuilt { .. } => 15,
         Status::TooManyRows => 17,
     }
 }
@@ -155,12 +155,13 @@ fn log_line(alloc: Global, line: u64, fault: &LineFault) -> Result<Vec<u8>, Allo
     Ok(text)
 }
 
-/// Returns a text with the number of a line of the log after it.
-fn word_and_line(alloc: Global, word: &[u8], line: u64) -> Result<Vec<u8>, AllocError>
-    ensures { IfOk result (λ text. text.items ≡ word.now ++ decimal line) }
+/// Returns the message for a line of the log that is too long.
+fn line_too_long(alloc: Global, line: u64) -> Result<Vec<u8>, AllocError>
+    ensures { IfOk result (λ text. text.items ≡ codes "log line " ++ decimal line ++ codes ": too long") }
 {
-    let mut text = Vec::from_slice(alloc, word)?;
+    let mut text = Vec::from_slice(alloc, b"log line ")?;
     text.extend_from_slice(line.to_string(alloc)?.as_bytes())?;
+    text.extend_from_slice(b": too long")?;
     Ok(text)
 }
 
@@ -193,8 +194,8 @@ fn reason(alloc: Global, status: &Status) -> Result<Vec<u8>, AllocError>
         Status::LogTooLong => Vec::from_slice(alloc, b"log too long"),
         Status::NoKey => Vec::from_slice(alloc, b"no peers.dat and no key"),
         Status::Memory => Vec::from_slice(alloc, b"out of memory"),
+        Status::LineTooLong { line } => line_too_long(alloc, *line),
         Status::NoFile { name } => joined(alloc, name.file_name().as_bytes(), b" is missing"),
-        Status::NotBuilt { line } => word_and_line(alloc, b"not built at line ", *line),
         Status::TooManyRows => Vec::from_slice(alloc, b"asmap.dat has more than 2000000 rows"),
     }
 }

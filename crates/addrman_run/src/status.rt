@@ -19,22 +19,24 @@ pub enum Status {
     AsmapRefused(CodeFault),
     /// prefixes.txt is too large or malformed, or is not compiled.
     TableRefused(TablesFault),
-    /// The log cannot be read.
+    /// The log cannot be read. The replies to the lines that end in the bytes read are written.
     ReadFault,
     /// The output cannot be written.
     WriteFault,
     /// The folder failed.
     DiskFault,
-    /// The log has more bytes than `MAX_LOG`.
+    /// The log has more than 2^30 bytes. The replies to the lines that end in the first of them
+    /// are written.
     LogTooLong,
     /// There is neither a peers.dat nor a key.
     NoKey,
     /// Out of memory.
     Memory,
+    /// A line of the log has more than 2,000,000 bytes; lines are counted from 1. The replies to
+    /// those before it are written.
+    LineTooLong { line: u64 },
     /// A file that the command needs is absent.
     NoFile { name: Name },
-    /// A line spells a command that is not supported yet; lines are counted from 1.
-    NotBuilt { line: u64 },
     /// asmap.dat gives more rows than a table of prefixes may have.
     TooManyRows,
 }

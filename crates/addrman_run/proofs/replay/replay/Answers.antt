@@ -1,109 +1,73 @@
-use Rattle.std.proofs.Common.{inl, refl, sym, subst}
+use Rattle.std.proofs.Common.{◌∙◌, arith, inl, refl, sym, subst}
 use Rattle.host_io.specs.Outside.{outside}
 use Rattle.placing.specs.Inside.{map_of}
 use Rattle.addrman_run.specs.Inside.{IsLoadFault}
-use Rattle.addrman_run.specs.Log.{IsLogIn}
-use Rattle.addrman_run.specs.Replay.{ReplayCause, ReplayText}
+use Rattle.addrman_run.specs.Replay.{ReplayOutcome}
 use Rattle.addrman_run.specs.declared.input.Input.TheVariants as input
 use Rattle.addrman_run.proofs.Asmaps.{map_in, refuses, within}
 use Rattle.addrman_run.proofs.Openings.{found_before, not_loaded, not_opened, opens}
-use Rattle.addrman_run.proofs.Replays.{no_tables, replay_cause, replay_text, takes_none, was_read}
+use Rattle.addrman_run.proofs.Replays.{asmap_not_loaded, has_map, no_disk, outcome_of, replayed, rises, starts, takes_none, untouched}
 use Rattle.addrman_run.proofs.replay.replay.Goals as goal
 
 pub check_map-requires : goal.check_map-requires
 check_map-requires g c = within (g.F.Folder.past c.args.folder.now) c.in-Ok.bytes c.in-Ok.ensures.found
 
-pub returns-in-Err-check_map-clause-cause : goal.returns-in-Err-check_map-clause-cause
-returns-in-Err-check_map-clause-cause g c =
-    (refuses (g.F.Folder.past c.args.folder.now) c.in-Ok.bytes c.in-Err-check_map.fault c.in-Ok.ensures.found (c.in-Err-check_map.ensures.cause c.in-Err-check_map.fault refl), (refl, refl))
+pub returns-in-Err-clause-outcome : goal.returns-in-Err-clause-outcome
+returns-in-Err-clause-outcome g c =
+    let past = g.F.Folder.past c.args.folder.now in
+    let old = outside g.L.Source g.F.Folder g.K.Sink c.args.log.now c.args.folder.now c.args.out.now in
+    let new = outside g.L.Source g.F.Folder g.K.Sink c.args.log.now c.load_input.new.folder c.args.out.now in
+    let is = untouched old new refl refl refl c.load_input.ensures.same in
+    asmap_not_loaded (ReplayOutcome c.args.key c.args.chain old new) past c.in-Err.status c.in-Err.ensures.cause is (inl is) (λ fault why. (why, is))
 
-pub returns-in-Err-load_input-clause-text : goal.returns-in-Err-load_input-clause-text
-returns-in-Err-load_input-clause-text g c =
+pub returns-in-Err-check_map-clause-outcome : goal.returns-in-Err-check_map-clause-outcome
+returns-in-Err-check_map-clause-outcome g c =
+    let old = outside g.L.Source g.F.Folder g.K.Sink c.args.log.now c.args.folder.now c.args.out.now in
+    let new = outside g.L.Source g.F.Folder g.K.Sink c.args.log.now c.load_input.new.folder c.args.out.now in
+    (refuses (g.F.Folder.past c.args.folder.now) c.in-Ok.bytes c.in-Err-check_map.fault c.in-Ok.ensures.found (c.in-Err-check_map.ensures.cause c.in-Err-check_map.fault refl),
+     untouched old new refl refl refl c.load_input.ensures.same)
+
+pub returns-in-Err-load_input-clause-outcome : goal.returns-in-Err-load_input-clause-outcome
+returns-in-Err-load_input-clause-outcome g c =
     let past = g.F.Folder.past c.args.folder.now in
     let old = outside g.L.Source g.F.Folder g.K.Sink c.args.log.now c.args.folder.now c.args.out.now in
     let new = outside g.L.Source g.F.Folder g.K.Sink c.args.log.now c.load_input-2.new.folder c.args.out.now in
-    let is = no_tables (map_of c.in-Ok-check_map.map) old new (map_in past c.in-Ok.bytes (map_of c.in-Ok-check_map.map) c.in-Ok.ensures.found c.in-Ok-check_map.ensures.found) refl in
-    not_loaded (ReplayText c.args.key c.args.chain old new) c.args.key c.args.chain past (λ lacks. is) (λ fault why. is) (inl refl)
-    c.in-Err-load_input.status refl (subst (λ p. IsLoadFault input.Peers p c.in-Err-load_input.status) c.load_input.ensures.same c.in-Err-load_input.ensures.cause)
+    let is = untouched old new refl refl refl (c.load_input-2.ensures.same ∙ c.load_input.ensures.same) in
+    let map = has_map old (map_of c.in-Ok-check_map.map) (map_in past c.in-Ok.bytes (map_of c.in-Ok-check_map.map) c.in-Ok.ensures.found c.in-Ok-check_map.ensures.found) in
+    not_loaded (ReplayOutcome c.args.key c.args.chain old new) c.args.key c.args.chain past (λ lacks. (map, lacks, is)) (λ fault why. (map, why, is)) (inl is)
+    c.in-Err-load_input.status is (subst (λ p. IsLoadFault input.Peers p c.in-Err-load_input.status) c.load_input.ensures.same c.in-Err-load_input.ensures.cause)
 
-pub returns-in-Err-load_input-clause-cause : goal.returns-in-Err-load_input-clause-cause
-returns-in-Err-load_input-clause-cause g c =
+pub returns-in-Err-open_tables-clause-outcome : goal.returns-in-Err-open_tables-clause-outcome
+returns-in-Err-open_tables-clause-outcome g c =
     let past = g.F.Folder.past c.args.folder.now in
     let old = outside g.L.Source g.F.Folder g.K.Sink c.args.log.now c.args.folder.now c.args.out.now in
     let new = outside g.L.Source g.F.Folder g.K.Sink c.args.log.now c.load_input-2.new.folder c.args.out.now in
-    not_loaded (ReplayCause c.args.key c.args.chain old new) c.args.key c.args.chain past (λ lacks. (lacks, (refl, refl))) (λ fault why. (why, (refl, refl))) tt
-    c.in-Err-load_input.status (refl, refl) (subst (λ p. IsLoadFault input.Peers p c.in-Err-load_input.status) c.load_input.ensures.same c.in-Err-load_input.ensures.cause)
-
-pub returns-in-Err-open_tables-clause-text : goal.returns-in-Err-open_tables-clause-text
-returns-in-Err-open_tables-clause-text g c =
-    let past = g.F.Folder.past c.args.folder.now in
-    let old = outside g.L.Source g.F.Folder g.K.Sink c.args.log.now c.args.folder.now c.args.out.now in
-    let new = outside g.L.Source g.F.Folder g.K.Sink c.args.log.now c.load_input-2.new.folder c.args.out.now in
-    let is = no_tables (map_of c.in-Ok-check_map.map) old new (map_in past c.in-Ok.bytes (map_of c.in-Ok-check_map.map) c.in-Ok.ensures.found c.in-Ok-check_map.ensures.found) refl in
-    not_opened (ReplayText c.args.key c.args.chain old new) c.args.key c.args.chain past (λ lacks. is) (λ fault why. is) (inl refl)
-    c.in-Ok-load_input.file c.in-Err-open_tables.status
-    (found_before _ past c.in-Ok-load_input.file c.load_input.ensures.same c.in-Ok-load_input.ensures.found) c.in-Err-open_tables.ensures.cause
-
-pub returns-in-Err-open_tables-clause-cause : goal.returns-in-Err-open_tables-clause-cause
-returns-in-Err-open_tables-clause-cause g c =
-    let past = g.F.Folder.past c.args.folder.now in
-    let old = outside g.L.Source g.F.Folder g.K.Sink c.args.log.now c.args.folder.now c.args.out.now in
-    let new = outside g.L.Source g.F.Folder g.K.Sink c.args.log.now c.load_input-2.new.folder c.args.out.now in
-    not_opened (ReplayCause c.args.key c.args.chain old new) c.args.key c.args.chain past (λ lacks. (lacks, (refl, refl))) (λ fault why. (why, (refl, refl))) tt
+    let is = untouched old new refl refl refl (c.load_input-2.ensures.same ∙ c.load_input.ensures.same) in
+    let map = has_map old (map_of c.in-Ok-check_map.map) (map_in past c.in-Ok.bytes (map_of c.in-Ok-check_map.map) c.in-Ok.ensures.found c.in-Ok-check_map.ensures.found) in
+    not_opened (ReplayOutcome c.args.key c.args.chain old new) c.args.key c.args.chain past (λ lacks. (map, lacks, is)) (λ fault why. (map, why, is)) (inl is)
     c.in-Ok-load_input.file c.in-Err-open_tables.status
     (found_before _ past c.in-Ok-load_input.file c.load_input.ensures.same c.in-Ok-load_input.ensures.found) c.in-Err-open_tables.ensures.cause
 
 pub returns-in-Err-open_tables-clause-taken : goal.returns-in-Err-open_tables-clause-taken
 returns-in-Err-open_tables-clause-taken g c = takes_none (g.L.Source.left c.args.log.now) _
 
-pub returns-clause-text : goal.returns-clause-text
-returns-clause-text g c =
+pub returns-clause-outcome : goal.returns-clause-outcome
+returns-clause-outcome g c =
     let past = g.F.Folder.past c.args.folder.now in
     let map = map_of c.in-Ok-check_map.map in
-    replay_text c.args.key c.args.chain c.items.result.now map c.in-Ok-open_tables.tables c.open-manager.result c.run_lines.new.state
-    (outside g.L.Source g.F.Folder g.K.Sink c.args.log.now c.args.folder.now c.args.out.now) (outside g.L.Source g.F.Folder g.K.Sink c.read_to_end.new.source c.load_input-2.new.folder c.run_lines.new.out) c.run_lines.result
+    let old = outside g.L.Source g.F.Folder g.K.Sink c.args.log.now c.args.folder.now c.args.out.now in
+    let new = outside g.L.Source g.F.Folder g.K.Sink c.run_log.new.log c.run_log.new.world c.run_log.new.out in
+    subst (ReplayOutcome c.args.key c.args.chain old new) (sym c.status_of.ensures)
+    (outcome_of c.args.key c.args.chain old new c.run_log.result
+    (replayed g.F.Folder.past g.F.Folder.faults c.args.key c.args.chain map c.in-Ok-open_tables.tables c.make-lines.result old new c.load_input-2.new.folder c.run_log.new.world c.run_log.result
     (map_in past c.in-Ok.bytes map c.in-Ok.ensures.found c.in-Ok-check_map.ensures.found)
     (opens c.args.key c.args.chain past c.in-Ok-load_input.file map c.in-Ok-open_tables.tables
     (found_before _ past c.in-Ok-load_input.file c.load_input.ensures.same c.in-Ok-load_input.ensures.found) c.in-Ok-open_tables.ensures.found)
-    (subst (IsLogIn (g.L.Source.left c.args.log.now)) (sym c.items.ensures) (c.in-Ok-read_to_end.ensures.within, c.in-Ok-read_to_end.ensures.found))
-    c.open-manager.ensures
-    (record { ends = c.run_lines.ensures.ends; done = c.run_lines.ensures.done; memory = c.run_lines.ensures.memory; in_step = c.run_lines.ensures.in_step; fault = c.run_lines.ensures.fault; not_built = c.run_lines.ensures.not_built })
+    (starts c.args.chain c.in-Ok-open_tables.tables c.make-lines.result c.make-session.result c.open.result c.make-lines.ensures c.make-session.ensures c.open.ensures)
+    (c.load_input-2.ensures.same ∙ c.load_input.ensures.same) (omega (arith, c.load_input.ensures.never_falls, c.load_input-2.ensures.never_falls)) refl refl c.run_log.ensures.ran))
 
-pub returns-clause-cause : goal.returns-clause-cause
-returns-clause-cause g c =
-    replay_cause c.args.key c.args.chain
-    (outside g.L.Source g.F.Folder g.K.Sink c.args.log.now c.args.folder.now c.args.out.now) (outside g.L.Source g.F.Folder g.K.Sink c.read_to_end.new.source c.load_input-2.new.folder c.run_lines.new.out) c.run_lines.result
-    c.run_lines.ensures.ends
-    (was_read (g.L.Source.left c.args.log.now) (g.L.Source.left c.read_to_end.new.source) _ c.in-Ok-read_to_end.ensures.within c.in-Ok-read_to_end.ensures.found c.in-Ok-read_to_end.ensures.end)
-
-pub returns-in-Err-Failed-clause-text : goal.returns-in-Err-Failed-clause-text
-returns-in-Err-Failed-clause-text g c =
-    let past = g.F.Folder.past c.args.folder.now in
-    let map = map_of c.in-Ok-check_map.map in (
-      (
-        map,
-        map_in past c.in-Ok.bytes map c.in-Ok.ensures.found c.in-Ok-check_map.ensures.found,
-        (
-          c.in-Ok-open_tables.tables,
-          opens c.args.key c.args.chain past c.in-Ok-load_input.file map c.in-Ok-open_tables.tables
-              (found_before _ past c.in-Ok-load_input.file c.load_input.ensures.same c.in-Ok-load_input.ensures.found) c.in-Ok-open_tables.ensures.found,
-        ),
-      ),
-      refl,
-    )
-
-pub returns-in-Err-TooLong-clause-text : goal.returns-in-Err-TooLong-clause-text
-returns-in-Err-TooLong-clause-text g c =
-    let past = g.F.Folder.past c.args.folder.now in
-    let map = map_of c.in-Ok-check_map.map in (
-      (
-        map,
-        map_in past c.in-Ok.bytes map c.in-Ok.ensures.found c.in-Ok-check_map.ensures.found,
-        (
-          c.in-Ok-open_tables.tables,
-          opens c.args.key c.args.chain past c.in-Ok-load_input.file map c.in-Ok-open_tables.tables
-              (found_before _ past c.in-Ok-load_input.file c.load_input.ensures.same c.in-Ok-load_input.ensures.found) c.in-Ok-open_tables.ensures.found,
-        ),
-      ),
-      refl,
-    )
+pub returns-clause-disk : goal.returns-clause-disk
+returns-clause-disk g c =
+    (omega (arith, c.load_input.ensures.never_falls, c.load_input-2.ensures.never_falls,
+      rises g.F.Folder.past g.F.Folder.faults c.make-lines.result _ _ c.load_input-2.new.folder c.run_log.new.world c.run_log.result c.run_log.ensures.ran),
+     λ is. absurd (no_disk c.run_log.result (sym c.status_of.ensures ∙ is)))
