@@ -11,3 +11,5 @@ pub mod Runs
 pub mod Sound
 pub mod Stays
 pub mod Steps
+pub mod Examples
+pub mod Leaving
