@@ -1,6 +1,6 @@
--- What is kept over the decisions on all collisions, a pick among them, and a sample. The same three
--- lemmas are private in table_machine.
-use Rattle.std.proofs.Common.{◌≡◌, ℕ, ◌+◌, ◌-◌, ◌%◌, ◌==◌, nat_lt, Bool, true, false, ◌&&◌, List, [], ◌∷◌, length, get_or, Option, Some, None, if◌then◌else◌}
+-- What is kept over the decisions on all collisions, a pick among them, and a sample. The same
+-- three lemmas are private in table_machine.
+use Rattle.std.proofs.Common.{ℕ, ◌+◌, ◌-◌, ◌%◌, ◌==◌, nat_lt, Bool, true, false, ◌&&◌, List, [], ◌∷◌, length, get_or, Option, Some, None, if◌then◌else◌}
 use Rattle.net_addr.specs.declared.peer.Peer.{Peer}
 use Rattle.peer_rec.specs.declared.rec.Rec.{Rec}
 use Rattle.peer_rec.specs.declared.fate.Fate.{Fate}
@@ -10,8 +10,8 @@ use Rattle.table_machine.specs.Tried.{good}
 use Rattle.table_machine.specs.Clashes.{after_fate, clash_pick, erase_clash, fate_of, pick_newcomer, pick_opponent, resolve, resolve_all}
 use Rattle.table_machine.specs.Picks.{eligible_at, order_swap, sample, sample_from, sample_limit, with_peers}
 
--- what holds of a state holds after all decisions, if it is kept when a collision is dropped and over
--- a success
+-- what holds of a state holds after all decisions, if it is kept when a collision is dropped and
+-- over a success
 module _ (now : ℕ) (P : State → Type 0) (erases : (st : State) (number : ℕ) → P st → P (erase_clash st number))
     (succeeds : (st : State) (peer : Peer) → P st → P (good st now peer false).state) where
   after_fate-keeps : (fate : Fate) (st : State) (o : Option Rec) (number : ℕ) → P st → P (after_fate fate st o number now)
@@ -30,7 +30,8 @@ module _ (now : ℕ) (P : State → Type 0) (erases : (st : State) (number : ℕ
   pub resolve-keeps : (st : State) → P st → P (resolve st now).state
   resolve-keeps st = resolve_all-keeps st st.collisions
 
--- what holds of a state, and of it without any one collision, holds after a pick among the collisions
+-- what holds of a state, and of it without any one collision, holds after a pick among the
+-- collisions
 module _ (st : State) (P : State → Type 0) (same : P st) (erased : (number : ℕ) → P (erase_clash st number)) where
   pub clash_pick-keeps : (word : ℕ) → P (clash_pick st word).state
   clash_pick-keeps word = by (length st.collisions == 0) (by_number st number)

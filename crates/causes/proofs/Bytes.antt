@@ -1,16 +1,15 @@
 -- What a message spells fits its fields: numbers have their widths, and addresses are addresses.
-use Rattle.std.proofs.Common.{◌≡◌, ◌≢◌, ℕ, zero, suc, ◌+◌, ◌<◌, ◌≤◌, ◌^◌, ◌==◌, Bool, true, false, List, [], ◌∷◌, ◌++◌, length, get_or, All, Contains, Option, Some, None, refl, sym, ap, subst, ◌∙◌, arith, lit<, ⊎_elim, if◌then◌else◌}
-use Rattle.std.specs.Prelude.{IfSome, option_map, nat_le}
-use Rattle.std.specs.Int.{w16, w32, w64, to_le_bytes, to_be_bytes}
+use Rattle.std.proofs.Common.{◌≡◌, ◌≢◌, ℕ, zero, suc, ◌+◌, ◌<◌, ◌≤◌, ◌^◌, ◌==◌, Bool, true, false, List, ◌++◌, length, get_or, Contains, Option, Some, None, refl, sym, ap, subst, ◌∙◌, arith, lit<, ⊎_elim, if◌then◌else◌}
+use Rattle.std.specs.Prelude.{IfSome, option_map}
 use Rattle.std.proofs.lemmas.Bool.{cases_lt, eqb-true, leb-true}
 use Rattle.std.proofs.lemmas.List.{get_or_append_left, get_or_past}
-use Rattle.net_addr.specs.Address.{Address, IsAddress, length_of}
-use Rattle.net_addr.specs.OldForm.{address, from_v1}
+use Rattle.net_addr.specs.Address.{Address, IsAddress}
+use Rattle.net_addr.specs.OldForm.{from_v1}
 use Rattle.net_addr.specs.declared.entry.Entry.{Entry}
 use Rattle.net_addr.specs.declared.net.Net.{Net}
 use Rattle.net_addr.specs.declared.net.Net.TheVariants.{Unroutable, Ipv4, Ipv6, Onion, I2p, Cjdns, Internal}
 use Rattle.net_addr.proofs.Bytes.{All_bytes, IsAddress-from_v1, IsAddress-plain}
-use Rattle.wire_num.specs.Format.{Format, Begins, check, sequence, times, under, value}
+use Rattle.wire_num.specs.Format.{Format, check, sequence, times, under, value}
 use Rattle.wire_num.specs.Fields.{byte, compact, number, some_bytes}
 use Rattle.wire_num.proofs.ReadingLaws.{AreBytes, AreBytes-rest}
 use Rattle.addr_codecs.specs.Entries.{IsEntry}

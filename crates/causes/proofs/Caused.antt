@@ -1,18 +1,18 @@
 -- What holds of each bucket that a record lists, by the record's peer and source, still holds
 -- after a step.
-use Rattle.std.proofs.Common.{◌≡◌, ◌≢◌, ℕ, ◌+◌, ◌-◌, ◌%◌, ◌<◌, ◌^◌, ◌==◌, ◌||◌, nat_lt, nat_le, Bool, true, false, ◌&&◌, List, [], ◌∷◌, ◌++◌, length, Contains, is_some, Option, Some, None, refl, sym, subst, inl, inr, ⊎_elim, ◌⊎◌, arith, if◌then◌else◌}
-use Rattle.std.proofs.lemmas.List.Elements.{Contains-push_cases, Contains-append_left, Contains-append_right}
+use Rattle.std.proofs.Common.{◌≡◌, ℕ, ◌%◌, ◌^◌, ◌==◌, ◌||◌, nat_lt, nat_le, Bool, true, false, ◌&&◌, List, [], ◌∷◌, length, Contains, is_some, Option, Some, None, refl, sym, subst, ⊎_elim, if◌then◌else◌}
+use Rattle.std.proofs.lemmas.List.Elements.{Contains-push_cases}
 use Rattle.net_addr.specs.Address.{Address}
 use Rattle.net_addr.specs.Ranges.{is_routable}
 use Rattle.net_addr.specs.declared.entry.Entry.{Entry}
 use Rattle.net_addr.specs.declared.peer.Peer.{Peer}
-use Rattle.placing.specs.Places.{Places, new_bucket, new_slot, tried_bucket, tried_slot}
+use Rattle.placing.specs.Places.{Places, new_bucket, new_slot}
 use Rattle.peer_rec.specs.Buckets.{with_bucket, without_bucket}
 use Rattle.peer_rec.specs.Rec.{buckets_of, is_tried}
 use Rattle.peer_rec.specs.declared.rec.Rec.{Rec}
 use Rattle.peer_rec.specs.declared.good.Good.TheVariants.{Already, Clash, Moved}
 use Rattle.peer_rec.specs.declared.place.Place.TheVariants.{New, Tried}
-use Rattle.table_machine.specs.State.{State, outcome, find_peer, is_new_at, is_tried_at, new_rec_at, tried_occupant}
+use Rattle.table_machine.specs.State.{State, outcome, find_peer, is_new_at, new_rec_at, tried_occupant}
 use Rattle.table_machine.specs.Entries.{add, add_by, clear_slot, delete, enter_bucket, enter_slot, give_bucket, makes_way, new_record, no, penalty_of, refresh, take_bucket, with_last, with_record, yes}
 use Rattle.table_machine.specs.Tried.{after_success, back_to_new, clear_new, displace, good, good_by, mark, move_to_tried, wait}
 use Rattle.table_machine.proofs.Buckets.{placed, with_bucket-cases, without_bucket-cases}

@@ -1,23 +1,18 @@
 -- Which steps take a record out of tried, and what takes its slot.
-use Rattle.std.proofs.Common.{◌≡◌, ◌≢◌, ℕ, ◌+◌, ◌<◌, ◌≤◌, ◌==◌, nat_lt, Bool, true, false, ◌&&◌, List, [], ◌∷◌, length, Contains, is_some, Option, Some, None, refl, sym, ap, subst, ◌∙◌, inl, inr, ⊎_elim, ◌⊎◌, arith, true≢false, if◌then◌else◌}
-use Rattle.std.proofs.lemmas.Bool.{and_parts, both_ways, ltb-true}
-use Rattle.std.proofs.lemmas.Bool.Decides.{Decides-eqb}
+use Rattle.std.proofs.Common.{◌≡◌, ◌≢◌, ℕ, nat_lt, Bool, true, false, ◌&&◌, length, Contains, is_some, Option, Some, None, refl, sym, ap, ◌∙◌, inl, inr, ⊎_elim, ◌⊎◌, true≢false, if◌then◌else◌}
 use Rattle.net_addr.specs.declared.peer.Peer.{Peer}
-use Rattle.placing.specs.Places.{Places, tried_bucket, tried_slot}
 use Rattle.peer_rec.specs.Buckets.{with_bucket}
 use Rattle.peer_rec.specs.Rec.{is_tried}
 use Rattle.peer_rec.specs.declared.rec.Rec.{Rec}
 use Rattle.peer_rec.specs.declared.good.Good.TheVariants.{Already, Clash, Moved}
-use Rattle.peer_rec.specs.declared.place.Place.TheVariants.{New, Tried}
-use Rattle.table_machine.specs.State.{State, outcome, by_number, find_peer, tried_occupant}
+use Rattle.peer_rec.specs.declared.place.Place.TheVariants.{Tried}
+use Rattle.table_machine.specs.State.{State, outcome, find_peer, tried_occupant}
 use Rattle.table_machine.specs.Entries.{with_record}
-use Rattle.table_machine.specs.Sound.{IsSound}
 use Rattle.table_machine.specs.Tried.{after_success, good, good_by, move_to_tried, wait}
-use Rattle.table_machine.proofs.Buckets.{placed}
-use Rattle.table_machine.proofs.Lists.{find-IsSome, find_only}
-use Rattle.table_machine.proofs.Records.{changed_cases, changed_own, own_slot, peer_found, same_record}
+use Rattle.table_machine.proofs.Lists.{find-IsSome}
+use Rattle.table_machine.proofs.Records.{changed_cases, changed_own, peer_found}
 use Rattle.table_machine.proofs.SoundBut.{is_at_own}
-use Rattle.causes.proofs.Stays.{Fits, IsDisplaced, Stays, changed-stays, moved-stays}
+use Rattle.causes.proofs.Stays.{IsDisplaced, Stays, changed-stays, moved-stays}
 
 not_testing : (t o : Bool) → (t && o) ≡ false → o ≡ true → t ≡ false
 not_testing true o none some = absurd (true≢false (sym some ∙ none))
@@ -71,9 +66,13 @@ module _ (n : ℕ) (peer : Peer) (Success : ℕ → Type 0) where
           cases false true is none = inl (waits kept r.number (nat_lt (length kept.collisions) 10) marked)
           cases false false is none =
               ⊎_elim (λ h. inl h)
-              (λ d. inr (r, d.0, found,
-              not_testing testing (is_some (tried_occupant kept r.peer)) none (find-IsSome (is_at_own st.places r.peer) kept.records d.0 d.1.was d.1.at),
-              record { was = was_before d.0 d.1.other d.1.number d.1.was; number = d.1.number; at = d.1.at; there = d.1.there; other = d.1.other }))
+              (λ d. inr (
+                r,
+                d.0,
+                found,
+                not_testing testing (is_some (tried_occupant kept r.peer)) none (find-IsSome (is_at_own st.places r.peer) kept.records d.0 d.1.was d.1.at),
+                record { was = was_before d.0 d.1.other d.1.number d.1.was; number = d.1.number; at = d.1.at; there = d.1.there; other = d.1.other },
+              ))
               (moved-stays n peer Success kept s marked (changed_own s.number s later.records r has refl) is)
 
       by : (o : Option Rec) → find_peer later p ≡ o

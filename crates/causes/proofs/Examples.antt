@@ -1,6 +1,6 @@
--- Worked examples, computed over the definitions: a bucket with each cause and one without, and when a
--- record leaves the tried table.
-use Rattle.std.proofs.Common.{◌≡◌, ◌≢◌, ℕ, ◌+◌, ◌<◌, ◌^◌, true, false, Bool, List, [], ◌∷◌, ◌++◌, map, replicate, Contains, codes, Ok, Some, None, refl, sym, ◌∙◌, ap, inl, inr, arith}
+-- Worked examples, computed over the definitions: a bucket with each cause and one without, and
+-- when a record leaves the tried table.
+use Rattle.std.proofs.Common.{◌≡◌, ℕ, ◌<◌, ◌^◌, List, [], ◌∷◌, ◌++◌, replicate, codes, Some, None, refl, sym, inl, inr, arith}
 use Rattle.std.specs.Fmt.{digits}
 use Rattle.std.proofs.lemmas.List.Elements.{All-cons, All-nil}
 use Rattle.hex.specs.Hex.{decode_pairs}
@@ -17,30 +17,22 @@ use Rattle.net_addr.specs.declared.net.Net.TheVariants.{Ipv4}
 use Rattle.net_addr.specs.declared.peer.Peer.{Peer}
 use Rattle.net_addr.proofs.Bytes.{IsAddress-plain}
 use Rattle.addr_codecs.specs.Layout.{IsAddrMessage, addr_entry}
-use Rattle.addr_codecs.specs.Texts.{addr_entry_text, message_text}
+use Rattle.addr_codecs.specs.Texts.{addr_entry_text}
 use Rattle.addr_codecs.proofs.TextLaws.{FitsAddr, of_addr_entry, of_message}
-use Rattle.placing.specs.Places.{Places, cheap_hash, double_sha256, new_bucket, new_slot, tried_bucket, tried_slot}
-use Rattle.peer_rec.specs.Rec.{buckets_of, is_tried}
+use Rattle.placing.specs.Places.{Places, cheap_hash, double_sha256, new_bucket}
 use Rattle.peer_rec.specs.Snapshot.{Snapshot, snapshot}
 use Rattle.peer_rec.specs.declared.file_rec.FileRec.{FileRec}
-use Rattle.peer_rec.specs.declared.rec.Rec.{Rec}
-use Rattle.peer_rec.specs.declared.place.Place.{Place}
-use Rattle.peer_rec.specs.declared.place.Place.TheVariants.{New, Tried}
 use Rattle.peers_file.specs.declared.chain.Chain.TheVariants.{Main}
 use Rattle.log_lines.specs.Spelling.{Spells}
-use Rattle.log_lines.specs.declared.command.Command.{Command}
 use Rattle.log_lines.specs.declared.command.Command.TheVariants as command
 use Rattle.log_lines.specs.declared.verb.Verb.TheVariants as verb
-use Rattle.manager.specs.Machine.{Machine}
 use Rattle.session.specs.History.{fresh}
 use Rattle.session.specs.State.{State, state}
 use Rattle.table_machine.specs.State as tables
-use Rattle.table_machine.specs.Tried.{good}
-use Rattle.table_machine.proofs.Lists.{Contains-head, none_in_nil}
+use Rattle.table_machine.proofs.Lists.{Contains-head}
 use Rattle.causes.specs.Accepted.{IsAccepted}
 use Rattle.causes.specs.Buckets.{IsCaused, IsListed}
 use Rattle.causes.specs.Buckets.IsCaused.{Told, Own, InFile}
-use Rattle.causes.specs.Tried.{IsDisplaced, MayDisplace, TakesSlot}
 
 -- a key of zeros, and no asmap
 abbrev pub zeros : Places

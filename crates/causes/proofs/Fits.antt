@@ -1,6 +1,6 @@
 -- What a line spells fits its fields: times have 32 bits, services 64, and a message is of at most
 -- 1000 entries that fit theirs.
-use Rattle.std.proofs.Common.{◌≡◌, ◌≢◌, ℕ, ◌<◌, ◌≤◌, ◌^◌, List, [], ◌∷◌, length, Contains, Option, Some, refl, sym, ap, subst, ◌∙◌, arith, lit<, ⊎_elim}
+use Rattle.std.proofs.Common.{◌≡◌, ℕ, ◌<◌, ◌≤◌, ◌^◌, List, [], ◌∷◌, length, Contains, Option, Some, refl, sym, ap, subst, arith, lit<, ⊎_elim}
 use Rattle.std.specs.Bool.{⊤}
 use Rattle.std.specs.Int.{w32, w128, to_be_bytes}
 use Rattle.hex.proofs.HexLemmas.{decode_of-ok}

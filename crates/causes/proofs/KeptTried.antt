@@ -1,5 +1,5 @@
 -- A record leaves tried only by `good PEER force` or `resolve`, for a record of the same slot.
-use Rattle.std.proofs.Common.{◌≡◌, ◌≢◌, ℕ, ◌+◌, ◌-◌, ◌<◌, ◌≤◌, ◌^◌, ◌==◌, ◌||◌, ◌&&◌, nat_lt, nat_le, Bool, true, false, List, [], ◌∷◌, length, Contains, Option, Some, None, refl, sym, ap, subst, ◌∙◌, inl, inr, ⊎_elim, ◌⊎◌, arith, true≢false, if◌then◌else◌}
+use Rattle.std.proofs.Common.{◌≡◌, ◌≢◌, ℕ, ◌+◌, ◌<◌, ◌≤◌, ◌^◌, ◌&&◌, nat_lt, Bool, true, false, List, [], ◌∷◌, Contains, Option, Some, None, refl, sym, ap, subst, ◌∙◌, inl, inr, ⊎_elim, ◌⊎◌, arith, true≢false, if◌then◌else◌}
 use Rattle.std.specs.Bool.{⊤}
 use Rattle.std.proofs.lemmas.Bool.{ltb-false}
 use Rattle.std.proofs.lemmas.List.Elements.{All-contains}
@@ -22,7 +22,6 @@ use Rattle.table_machine.specs.Tried.{after_success, after_try, good, mark, stil
 use Rattle.peer_rec.specs.declared.fate.Fate.{Fate}
 use Rattle.table_machine.specs.Clashes.{after_fate, erase_clash, fate_against, fate_by, fate_of, resolve, resolve_all}
 use Rattle.peer_rec.specs.declared.fate.Fate.TheVariants.{Erased, Kept, Moved}
-use Rattle.table_machine.specs.Picks.{sample_limit}
 use Rattle.table_machine.proofs.Buckets.{placed}
 use Rattle.table_machine.proofs.Exchanged.{erase_clash-sound}
 use Rattle.table_machine.proofs.Lists.{find_only}
@@ -257,20 +256,23 @@ step-keeps_tried old cmd answer new sound low step p has tried = by cmd step
             → TakesSlot (good old.tables old.clock peer testing).state p (placed (after_success d.0 old.clock) Tried) × MayDisplace old (command.Good peer testing) p (placed (after_success d.0 old.clock) Tried)
         displaced d =
             let fits = s.each d.1 d.4.was d.4.number in
-            let at = (good-rest old.tables old.clock peer testing).places in
-            (takes-slot p (placed (after_success d.0 old.clock) Tried) (good old.tables old.clock peer testing).state d.4.there refl
-            (subst (λ (w : Places). SharesTried w p.peer d.0.peer) (sym at) (subst (λ (x : Peer). SharesTried old.tables.places x d.0.peer) fits.0 (shares p.number old.tables (after_success d.0 old.clock) d.1 (good old.tables old.clock peer testing).state d.4))) d.4.other,
-            ((peer_found old.tables.records peer d.0 d.2).1, d.3))
+            let at = (good-rest old.tables old.clock peer testing).places in (
+              takes-slot p (placed (after_success d.0 old.clock) Tried) (good old.tables old.clock peer testing).state d.4.there refl
+                  (subst (λ (w : Places). SharesTried w p.peer d.0.peer) (sym at) (subst (λ (x : Peer). SharesTried old.tables.places x d.0.peer) fits.0 (shares p.number old.tables (after_success d.0 old.clock) d.1 (good old.tables old.clock peer testing).state d.4))) d.4.other,
+              ((peer_found old.tables.records peer d.0 d.2).1, d.3),
+            )
 
     resolved : Result command.Resolve (resolve old.tables old.clock).state
     resolved =
         ⊎_elim (λ h. inl (stays-tried p (λ t. (t ≡ p.last_success) ⊎ (t ≡ old.clock)) (resolve old.tables old.clock).state h))
         (λ t. let fits = t.1.stays.each t.1.stays.there.0 t.1.stays.there.1 t.1.stays.there.2 in
-        inr (t.1.stays.there.0,
-        takes-slot p t.1.stays.there.0 (resolve old.tables old.clock).state t.1.stays.there.1 (ap tried_by fits.1)
-        (subst (λ (w : Places). SharesTried w p.peer t.1.stays.there.0.peer) (sym m.at) (subst (λ (x : Peer). SharesTried old.tables.places p.peer x) (sym fits.0) t.1.shares))
-        (λ is. t.1.other (sym t.1.stays.there.2 ∙ is)),
-        t.1.late)) m.over
+        inr (
+          t.1.stays.there.0,
+          takes-slot p t.1.stays.there.0 (resolve old.tables old.clock).state t.1.stays.there.1 (ap tried_by fits.1)
+              (subst (λ (w : Places). SharesTried w p.peer t.1.stays.there.0.peer) (sym m.at) (subst (λ (x : Peer). SharesTried old.tables.places p.peer x) (sym fits.0) t.1.shares))
+              (λ is. t.1.other (sym t.1.stays.there.2 ∙ is)),
+          t.1.late,
+        )) m.over
       where
         m : Meanwhile p old.clock low old.tables.places (resolve old.tables old.clock).state
         m = resolved-over p old.clock low old.tables.places old.tables old.tables.collisions record {

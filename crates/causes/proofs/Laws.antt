@@ -4,7 +4,7 @@ use Rattle.std.proofs.lemmas.List.{append-nil}
 use Rattle.net_addr.specs.Address.{Address}
 use Rattle.net_addr.specs.declared.peer.Peer.{Peer}
 use Rattle.placing.specs.Places.{Places}
-use Rattle.peer_rec.specs.Rec.{buckets_of, is_tried}
+use Rattle.peer_rec.specs.Rec.{buckets_of}
 use Rattle.peer_rec.specs.Snapshot.{Snapshot}
 use Rattle.peer_rec.specs.declared.rec.Rec.{Rec}
 use Rattle.log_lines.specs.Spelling.{Spells}
@@ -20,7 +20,7 @@ use Rattle.table_machine.specs.State as tables
 use Rattle.causes.specs.Accepted.{Accepts, IsAccepted}
 use Rattle.causes.specs.Buckets.{AreCaused, IsCaused, IsListed}
 use Rattle.causes.specs.Buckets.IsCaused.{Told, Own, InFile}
-use Rattle.causes.specs.Kept.{IsAfter, IsOpening, KeepsCauses, opened}
+use Rattle.causes.specs.Kept.{IsAfter, IsOpening, KeepsCauses}
 use Rattle.causes.specs.Tried.{IsDisplaced, KeepsTried, StaysTried}
 use Rattle.causes.proofs.Fits.{spelled-fits}
 use Rattle.causes.proofs.KeptTried.{step-keeps_tried}

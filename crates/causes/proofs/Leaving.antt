@@ -1,5 +1,5 @@
 -- Worked examples, computed over the definitions: when a record leaves the tried table, and why.
-use Rattle.std.proofs.Common.{◌≡◌, ◌≢◌, ℕ, Bool, true, false, List, [], ◌∷◌, map, codes, lit<, refl, arith}
+use Rattle.std.proofs.Common.{◌≡◌, ℕ, Bool, true, false, List, [], ◌∷◌, map, codes, lit<, refl, arith}
 use Rattle.std.specs.Fmt.{digits}
 use Rattle.sha2.specs.Sha256.{sha256, digest_bytes, hash_after, compress, rounds, schedule, first_words}
 use Rattle.wire_num.specs.CompactSize.{compact_size}
@@ -20,7 +20,7 @@ use Rattle.manager.specs.Machine.{Machine}
 use Rattle.table_machine.specs.State.{State, empty_state}
 use Rattle.table_machine.specs.Clashes.{resolve}
 use Rattle.table_machine.specs.Tried.{good}
-use Rattle.causes.specs.Tried.{IsDisplaced, MayDisplace, TakesSlot}
+use Rattle.causes.specs.Tried.{IsDisplaced, MayDisplace}
 use Rattle.causes.proofs.Examples.{peer, teller, zeros}
 
 -- a record of a port of 8.8.8.8, with a number

@@ -1,8 +1,8 @@
 -- How many buckets the sources of some groups reach.
-use Rattle.std.proofs.Common.{◌≡◌, ℕ, suc, ◌+◌, ◌*◌, ◌%◌, ◌<◌, List, [], ◌∷◌, ◌++◌, map, length, flat_map, Contains, refl, sym, ap, ◌∙◌, subst, ⊎_elim, arith, length-append}
-use Rattle.std.specs.List.{range_with_len}
+use Rattle.std.proofs.Common.{◌≡◌, ℕ, ◌*◌, List, [], ◌∷◌, length, flat_map, Contains, refl, sym, ◌∙◌, subst, ⊎_elim, arith, length-append}
 use Rattle.std.proofs.lemmas.Nat.{mod_below}
 use Rattle.std.proofs.lemmas.List.Elements.{Contains-append_left, Contains-append_right}
+use Rattle.std.proofs.lemmas.List.{append-nil}
 use Rattle.std.proofs.lemmas.List.FromFn.{length-map-range_with_len}
 use Rattle.net_addr.specs.Address.{Address}
 use Rattle.net_addr.specs.declared.peer.Peer.{Peer}
@@ -49,8 +49,11 @@ long-reach places (g ∷ groups) =
 -- whatever was accepted
 pub bounded : (Accepted : Peer → Address → Type 0) (st : State) → IsBounded Accepted st
 bounded Accepted st = record {
-  new = λ groups r has bucket listed by. by_reach Accepted st.places groups r bucket by;
+  new_source = λ r has bucket listed source by.
+      let whole = append-nil (source_buckets st.places (group st.places source)) in
+      subst (λ (bs : List ℕ). Contains bs bucket) whole (by_reach Accepted st.places (group st.places source ∷ []) r bucket by);
+  new_groups = λ groups r has bucket listed by. by_reach Accepted st.places groups r bucket by;
   new_count = long-reach st.places;
-  tried = λ r has tried. tried_reach st.places r.peer;
+  tried_group = λ r has tried. tried_reach st.places r.peer;
   tried_count = λ g. length-map-range_with_len (group_bucket st.places g) 0 8;
 }

@@ -1,5 +1,5 @@
 -- Each bucket of a restored record is that of its own source, or the file listed it for its peer.
-use Rattle.std.proofs.Common.{◌≡◌, ℕ, ◌==◌, ◌&&◌, ◌||◌, not, Bool, true, false, List, [], ◌∷◌, ◌++◌, length, Contains, is_some, bytes_eq, Option, Some, None, refl, sym, ap, subst, ◌∙◌, ⊎_elim, if◌then◌else◌}
+use Rattle.std.proofs.Common.{◌≡◌, ℕ, ◌==◌, ◌||◌, not, Bool, true, false, List, [], ◌∷◌, length, Contains, is_some, bytes_eq, Option, Some, None, refl, sym, ap, subst, ◌∙◌, ⊎_elim, if◌then◌else◌}
 use Rattle.std.specs.List.{range_with_len}
 use Rattle.std.proofs.lemmas.Bool.{and_parts}
 use Rattle.std.proofs.lemmas.Bool.Decides.{Decides-eqb}
@@ -16,15 +16,15 @@ use Rattle.peer_rec.specs.declared.file_rec.FileRec.{FileRec}
 use Rattle.peer_rec.specs.declared.rec.Rec.{Rec}
 use Rattle.peer_rec.specs.declared.place.Place.TheVariants.{New, Tried}
 use Rattle.table_machine.specs.State.{State, empty_state, by_number, new_rec_at, tried_occupant}
-use Rattle.table_machine.specs.Entries.{delete, give_bucket, with_last, with_record}
+use Rattle.table_machine.specs.Entries.{delete, with_last, with_record}
 use Rattle.table_machine.specs.Restoring.{appended, drop_all, drop_record, give_or, give_if_empty, place_all, place_pair, place_record, record_of, restored, uses_buckets, with_all_new, with_all_tried, with_new, with_tried}
 use Rattle.table_machine.proofs.Buckets.{placed}
 use Rattle.table_machine.proofs.Lists.{Contains-head, Contains-tail, none_in_nil}
 use Rattle.table_machine.proofs.Records.{changed_cases, number_found, without_number-cases}
 use Rattle.causes.specs.Buckets.{IsCaused, IsListed}
-use Rattle.causes.specs.Buckets.IsCaused.{Told, Own, InFile}
+use Rattle.causes.specs.Buckets.IsCaused.{Own, InFile}
 use Rattle.causes.specs.Kept.{opened}
-use Rattle.causes.proofs.Caused.{EachBucket, EachRecord, one-more}
+use Rattle.causes.proofs.Caused.{EachBucket, one-more}
 use Rattle.causes.proofs.Steps.{Holds}
 
 -- what holds of each record

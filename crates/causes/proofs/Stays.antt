@@ -1,5 +1,5 @@
 -- A record stays in the tried table, or another takes its slot.
-use Rattle.std.proofs.Common.{◌≡◌, ◌≢◌, ℕ, ◌+◌, ◌-◌, ◌%◌, ◌<◌, ◌^◌, ◌==◌, ◌||◌, nat_lt, nat_le, Bool, true, false, ◌&&◌, List, [], ◌∷◌, ◌++◌, length, Contains, is_some, Option, Some, None, refl, sym, ap, subst, ◌∙◌, inl, inr, ⊎_elim, ◌⊎◌, arith, true≢false, if◌then◌else◌}
+use Rattle.std.proofs.Common.{◌≡◌, ◌≢◌, ℕ, ◌%◌, ◌^◌, ◌==◌, ◌||◌, nat_le, Bool, true, false, List, [], ◌∷◌, length, Contains, Option, Some, None, refl, sym, ap, subst, ◌∙◌, inl, inr, ⊎_elim, ◌⊎◌, true≢false, if◌then◌else◌}
 use Rattle.std.specs.Bool.{⊤}
 use Rattle.std.proofs.lemmas.Bool.{both_ways, cases_eq}
 use Rattle.std.proofs.lemmas.List.Elements.{Contains-push_cases, Contains-append_left}
@@ -7,20 +7,18 @@ use Rattle.net_addr.specs.Address.{Address}
 use Rattle.net_addr.specs.Ranges.{is_routable}
 use Rattle.net_addr.specs.declared.entry.Entry.{Entry}
 use Rattle.net_addr.specs.declared.peer.Peer.{Peer}
-use Rattle.placing.specs.Places.{Places, new_bucket, new_slot, tried_bucket, tried_slot}
+use Rattle.placing.specs.Places.{new_bucket, new_slot, tried_bucket}
 use Rattle.peer_rec.specs.Buckets.{with_bucket, without_bucket}
 use Rattle.peer_rec.specs.Rec.{buckets_by, buckets_of, is_tried, tried_by}
 use Rattle.peer_rec.specs.declared.place.Place.{Place}
 use Rattle.peer_rec.specs.declared.rec.Rec.{Rec}
-use Rattle.peer_rec.specs.declared.good.Good.TheVariants.{Already, Clash, Moved}
 use Rattle.peer_rec.specs.declared.place.Place.TheVariants.{New, Tried}
-use Rattle.table_machine.specs.State.{State, outcome, find_peer, is_new_at, is_tried_at, new_rec_at, tried_occupant}
+use Rattle.table_machine.specs.State.{State, find_peer, is_new_at, new_rec_at, tried_occupant}
 use Rattle.table_machine.specs.Entries.{add, add_by, clear_slot, delete, enter_bucket, enter_slot, give_bucket, makes_way, new_record, no, penalty_of, refresh, take_bucket, with_last, with_record, yes}
-use Rattle.table_machine.specs.Tried.{after_success, back_to_new, clear_new, displace, good, good_by, mark, move_to_tried, wait}
+use Rattle.table_machine.specs.Tried.{back_to_new, clear_new, displace, mark, move_to_tried}
 use Rattle.table_machine.proofs.Buckets.{placed}
-use Rattle.table_machine.proofs.Lists.{find-Some, find-IsSome, none_in_nil}
+use Rattle.table_machine.proofs.Lists.{find-Some, none_in_nil}
 use Rattle.table_machine.proofs.Records.{changed_cases, changed_other, changed_own, new_at_parts, own_slot, peer_found, tried_at-is_tried, without_number-cases, without_number-keeps}
-use Rattle.table_machine.proofs.Slots.{untried-listed}
 use Rattle.table_machine.proofs.SoundBut.{is_at_own}
 
 -- a record of this peer in this place, with such a last success

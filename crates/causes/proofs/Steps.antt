@@ -1,11 +1,10 @@
 -- What holds of each bucket by the record's peer and source holds after each command.
-use Rattle.std.proofs.Common.{◌≡◌, ℕ, ◌+◌, ◌-◌, ◌<◌, ◌≤◌, ◌||◌, nat_lt, nat_le, ◌&&◌, Bool, true, false, List, [], ◌∷◌, ◌++◌, length, Contains, Option, Some, None, refl, sym, ap, subst, ◌∙◌, inl, inr, ⊎_elim, ◌⊎◌, arith, if◌then◌else◌}
+use Rattle.std.proofs.Common.{◌≡◌, ℕ, ◌+◌, ◌-◌, ◌||◌, nat_lt, nat_le, ◌&&◌, Bool, true, false, List, [], ◌∷◌, Contains, Option, Some, None, refl, sym, subst, ◌∙◌, ⊎_elim, if◌then◌else◌}
 use Rattle.std.proofs.lemmas.List.Elements.{Contains-append_left, Contains-append_right}
 use Rattle.net_addr.specs.Address.{Address}
 use Rattle.net_addr.specs.declared.entry.Entry.{Entry}
 use Rattle.net_addr.specs.declared.peer.Peer.{Peer}
 use Rattle.placing.specs.Places.{Places, new_bucket}
-use Rattle.peer_rec.specs.Rec.{buckets_of}
 use Rattle.peer_rec.specs.declared.rec.Rec.{Rec}
 use Rattle.addr_codecs.specs.Layout.{IsAddrMessage, IsAddrv2Message, HasAddrFault, HasAddrv2Fault}
 use Rattle.addr_codecs.specs.declared.fault.MsgFault.{MsgFault}
@@ -13,16 +12,14 @@ use Rattle.log_lines.specs.declared.command.Command.{Command}
 use Rattle.log_lines.specs.declared.command.Command.TheVariants as command
 use Rattle.log_lines.specs.declared.reply.Reply.{Reply}
 use Rattle.table_machine.specs.State.{State, find_peer}
-use Rattle.table_machine.specs.Entries.{add}
 use Rattle.table_machine.specs.Tried.{after_try, good, mark, still_connected, with_services}
-use Rattle.table_machine.specs.Clashes.{clash_pick, erase_clash, resolve}
-use Rattle.table_machine.specs.Picks.{sample, sample_limit}
-use Rattle.table_machine.proofs.Lists.{Contains-cases, Contains-head, Contains-tail}
+use Rattle.table_machine.specs.Clashes.{resolve}
+use Rattle.table_machine.proofs.Lists.{Contains-head}
 use Rattle.table_machine.proofs.Rest.{add-rest}
 use Rattle.table_machine.proofs.Unchanged.{good-rest}
 use Rattle.manager.specs.Machine.{Machine}
 use Rattle.manager.specs.Messages.{clamp_time, message_penalty, take_entries, take_entry}
-use Rattle.manager.specs.Step.{EntriesStep, MessageStep, Step}
+use Rattle.manager.specs.Step.{MessageStep, Step}
 use Rattle.causes.specs.Accepted.{Accepts, TakesFor, peer_if, peers_taken}
 use Rattle.causes.proofs.Along.{clash_pick-keeps, resolve-keeps, sample-keeps}
 use Rattle.causes.proofs.Caused.{EachBucket, EachRecord, added, marked, reached}
@@ -46,13 +43,14 @@ module _ (C : Peer → Address → ℕ → Type 0) (places : Places) where
       → Holds C places (take_entry st now entry source word).state
   entry-holds st now None source word holds gave = holds
   entry-holds st now (Some entry) source word holds gave =
-      let e = clamp_time entry now in
-      ((add-rest st now e source message_penalty word).places ∙ holds.0,
-      added C st now e source message_penalty word holds.1
-      (λ yes own.
-      let has = subst (λ a. Contains (peer_if a (Some entry)) entry.peer) (sym yes) (Contains-head entry.peer []) in
-      subst (λ (p : Places). C e.peer own (new_bucket p e.peer source)) (sym holds.0)
-      (subst (λ (p : Peer). C p own (new_bucket places p source)) (sym (clamped entry now)) (gave entry.peer has own))))
+      let e = clamp_time entry now in (
+        (add-rest st now e source message_penalty word).places ∙ holds.0,
+        added C st now e source message_penalty word holds.1
+            (λ yes own.
+            let has = subst (λ a. Contains (peer_if a (Some entry)) entry.peer) (sym yes) (Contains-head entry.peer []) in
+            subst (λ (p : Places). C e.peer own (new_bucket p e.peer source)) (sym holds.0)
+            (subst (λ (p : Peer). C p own (new_bucket places p source)) (sym (clamped entry now)) (gave entry.peer has own))),
+      )
 
   entries-hold : (st : State) (now : ℕ) (entries : List (Option Entry)) (source : Address) (words : List ℕ) → Holds C places st
       → ((peer : Peer) → Contains (peers_taken st now entries source words) peer → Gave source peer)

@@ -1,5 +1,5 @@
 -- Why a record is in a bucket of the new table, and which buckets the sources of some groups reach.
-use Rattle.std.specs.Prelude.{◌≡◌, ◌⊎◌, ℕ, ◌*◌, List, length, flat_map, Bool, true, Contains, Option, Some, None}
+use Rattle.std.specs.Prelude.{◌≡◌, ◌⊎◌, ℕ, ◌*◌, List, [], ◌∷◌, length, flat_map, true, Contains, Option, Some, None}
 use Rattle.net_addr.specs.Address.{Address}
 use Rattle.net_addr.specs.declared.peer.Peer.{Peer}
 use Rattle.placing.specs.Places.{Places, group, group_buckets, new_bucket, source_buckets, sum_of, tried_bucket}
@@ -10,16 +10,17 @@ use Rattle.table_machine.specs.Restoring.{appended}
 use Rattle.table_machine.specs.State.{State}
 
 -- The file lists the bucket for a record of this peer: its buckets are as many as in these tables,
--- the asmap is the same, and a listed pair has the bucket and the index of this record.
+-- its asmap is the same by the checksum, and a listed pair has the bucket and the index of this
+-- record.
 abbrev pub IsListed : Option Snapshot → Places → Peer → ℕ → Type 0
 IsListed None places peer bucket = ⊥
 IsListed (Some snap) places peer bucket =
     (snap.bucket_count ≡ 1024) × (snap.sum ≡ sum_of places.map)
     × ((r : Rec) × Contains (appended snap places).records r × (r.peer ≡ peer) × Contains snap.listed (bucket, r.number))
 
--- Why a record of a peer, which its own source announced first, is in a bucket: an entry for the peer
--- was accepted, and the bucket is that of the peer and of the entry's source; it is that of the peer
--- and of the record's own source; or the file listed it.
+-- Why a record of a peer, which its own source announced first, is in a bucket: an entry for the
+-- peer was accepted, and the bucket is that of the peer and of the entry's source; it is that of
+-- the peer and of the record's own source; or the file listed it.
 pub data IsCaused (Accepted : Peer → Address → Type 0) (Listed : Peer → ℕ → Type 0) (places : Places) (peer : Peer) (own : Address) (bucket : ℕ) : Type 0 where
   Told : (source : Address) → Accepted peer source → bucket ≡ new_bucket places peer source → IsCaused Accepted Listed places peer own bucket
   Own : bucket ≡ new_bucket places peer own → IsCaused Accepted Listed places peer own bucket
@@ -31,8 +32,8 @@ AreCaused Accepted Listed st =
     (r : Rec) → Contains st.records r → (bucket : ℕ) → Contains (buckets_of r) bucket
     → IsCaused Accepted Listed st.places r.peer r.source bucket
 
--- the bucket is that of the record's peer and of a source of one of these groups, which announced the
--- peer or is the record's own
+-- the bucket is that of the record's peer and of a source of one of these groups, which announced
+-- the peer or is the record's own
 abbrev pub IsBy : (Peer → Address → Type 0) → Places → List (List ℕ) → Rec → ℕ → Type 0
 IsBy Accepted places groups r bucket =
     (source : Address) × Contains groups (group places source) × (Accepted r.peer source ⊎ (source ≡ r.source))
@@ -42,12 +43,15 @@ IsBy Accepted places groups r bucket =
 abbrev pub reach : Places → List (List ℕ) → List ℕ
 reach places groups = flat_map (source_buckets places) groups
 
--- Sources of some groups, however many they are and whatever else the node is told between, have put
--- records into 64 buckets a group at most; and the tried records of one group are in 8 at most.
+-- A bucket by a source is among the 64 of the source's group. So sources of some groups, however
+-- many they are and whatever else the node is told between, have put records into 64 buckets a
+-- group at most. The tried records of one group are in 8 buckets at most.
 pub record IsBounded (Accepted : Peer → Address → Type 0) (st : State) : Type 0 where
-  pub new : (groups : List (List ℕ)) (r : Rec) → Contains st.records r → (bucket : ℕ) → Contains (buckets_of r) bucket
+  pub new_source : (r : Rec) → Contains st.records r → (bucket : ℕ) → Contains (buckets_of r) bucket → (source : Address)
+      → IsBy Accepted st.places (group st.places source ∷ []) r bucket → Contains (source_buckets st.places (group st.places source)) bucket
+  pub new_groups : (groups : List (List ℕ)) (r : Rec) → Contains st.records r → (bucket : ℕ) → Contains (buckets_of r) bucket
       → IsBy Accepted st.places groups r bucket → Contains (reach st.places groups) bucket
   pub new_count : (groups : List (List ℕ)) → length (reach st.places groups) ≡ 64 * length groups
-  pub tried : (r : Rec) → Contains st.records r → is_tried r ≡ true
+  pub tried_group : (r : Rec) → Contains st.records r → is_tried r ≡ true
       → Contains (group_buckets st.places (group st.places r.peer.addr)) (tried_bucket st.places r.peer)
   pub tried_count : (peer_group : List ℕ) → length (group_buckets st.places peer_group) ≡ 8

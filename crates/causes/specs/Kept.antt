@@ -24,18 +24,21 @@ pub record IsOpening (file : Option Snapshot) (places : Places) (st : State) : T
   pub clock : st.machine.clock < 2 ^ 32
   pub numbers : st.machine.tables.next_number < 2 ^ 61
 
--- The run has come to h after these first lines of a log. A log of 2^30 bytes has no more than 2^30
--- lines.
+-- a log has 2^30 bytes at most, and no more lines than bytes
+abbrev pub most_lines : ℕ
+most_lines = 2 ^ 30
+
+-- the run has come to h after these first lines of a log
 pub record IsAfter (st : State) (lines before : List (List ℕ)) (h : History) : Type 0 where
   pub after : List (List ℕ)
   pub cut : lines ≡ before ++ after
-  pub few : length before ≤ 2 ^ 30
+  pub few : length before ≤ most_lines
   pub text : List ℕ
   pub run : Run Step (fresh st) before text h
 
--- What holds after each line of a run that began with the tables of a file, or with empty ones. Each
--- state is sound. Each bucket has a cause, and sources reach few of them. And over the next line each
--- tried record stays, unless another one displaces it.
+-- What holds after each line of a run that began with the tables of a file, or with empty ones.
+-- Each state is sound. Each bucket has a cause, and sources reach few of them. And over the next
+-- line each tried record stays, unless another one displaces it.
 pub record KeepsCauses (file : Option Snapshot) (places : Places) (st : State) (lines : List (List ℕ)) : Type 0 where
   pub sound : (before : List (List ℕ)) (h : History) → IsAfter st lines before h → IsSound h.now.machine.tables
   pub same_places : (before : List (List ℕ)) (h : History) → IsAfter st lines before h → h.now.machine.tables.places ≡ places

@@ -22,8 +22,8 @@ pub record TakesSlot (st : State) (r q : Rec) : Type 0 where
   pub other : q.number ≢ r.number
 
 -- The commands by which q may take the slot of r: a connection to the peer of q succeeded and the
--- occupant is not to be tested; or all collisions are decided, and the last connection to the peer of
--- r is at least four hours old.
+-- occupant is not to be tested; or all collisions are decided, and the last connection to the peer
+-- of r is at least four hours old.
 abbrev pub MayDisplace : Machine → Command → Rec → Rec → Type 0
 MayDisplace old (command.Good peer testing) r q = (peer ≡ q.peer) × (testing ≡ false)
 MayDisplace old command.Resolve r q = r.last_success + 14400 ≤ old.clock

@@ -1,5 +1,5 @@
 -- Each line of a log is short, and spells exactly one command.
-use Rattle.std.proofs.Common.{◌≡◌, ◌≢◌, ◌≤◌, ◌<◌, ◌^◌, ℕ, zero, suc, ◌+◌, ◌-◌, ◌*◌, ◌/◌, ◌%◌, List, [], ◌∷◌, ◌++◌, length, true, false, Bool, codes, decimal, refl, sym, ap, ◌∙◌, subst, arith}
+use Rattle.std.proofs.Common.{◌≡◌, ◌≢◌, ◌≤◌, ◌<◌, ◌^◌, ℕ, zero, suc, ◌+◌, ◌*◌, ◌/◌, ◌%◌, List, [], ◌∷◌, ◌++◌, length, true, false, Bool, codes, decimal, refl, ap, arith}
 use Rattle.std.specs.List.{concat, flat_map}
 use Rattle.std.proofs.lemmas.Fmt.{length-decimal-le}
 use Rattle.std.proofs.lemmas.List.{length-append}
@@ -7,16 +7,15 @@ use Rattle.hex.specs.Hex.{encode_lower, lower_digits}
 use Rattle.hex.proofs.HexLemmas.{length-encode_with}
 use Rattle.wire_num.specs.CompactSize.{compact_size}
 use Rattle.net_addr.specs.Text.{addr_text, peer_text}
-use Rattle.net_addr.specs.declared.entry.Entry.{Entry}
 use Rattle.addr_codecs.specs.Texts.{message_text, addr_entry_text}
 use Rattle.log_lines.proofs.Readings.{one_command}
 use Rattle.gen_load.specs.declared.position.Position.{Position}
 use Rattle.gen_load.specs.declared.kind.Kind.{Kind}
 use Rattle.gen_load.specs.declared.kind.Kind.TheVariants as kind
-use Rattle.gen_load.specs.Inside.{IsInTime, line_with, lines_left, position_with}
+use Rattle.gen_load.specs.Inside.{IsInTime, lines_left}
 use Rattle.gen_load.specs.Spelling.{AreLines, IsLine}
 use Rattle.gen_load.specs.Log.{draw, past, past_entries, peer_of, draw_entry, draw_entries, message_line, line_of, kind_of, drawn_line, drawn_lines, next_line, whole_log}
-use Rattle.gen_load.proofs.Lines.{past-time, GoesOn, drawn_line-time}
+use Rattle.gen_load.proofs.Lines.{past-time, drawn_line-time}
 use Rattle.gen_load.proofs.Spelled.{HasCommand, draw-small, drawn_line_spells, entries_length, few_size, now_spells, peer_drawn}
 
 -- how long a text may be
@@ -144,9 +143,10 @@ drawn-is_line at left in_time =
 drawn_lines-are : (n : ℕ) (at : Position) → IsInTime at.time n → AreLines (drawn_lines n at)
 drawn_lines-are zero at in_time = tt
 drawn_lines-are (suc n) at in_time =
-    let on = drawn_line-time at in
-    (drawn-is_line at (suc n) in_time,
-    drawn_lines-are n (drawn_line at).after (record { late = omega (arith, in_time.late, on.least); early = omega (arith, in_time.early, on.most) }))
+    let on = drawn_line-time at in (
+      drawn-is_line at (suc n) in_time,
+      drawn_lines-are n (drawn_line at).after (record { late = omega (arith, in_time.late, on.least); early = omega (arith, in_time.early, on.most) }),
+    )
 
 pub log-is_lines : (n : ℕ) (at : Position) → IsInTime at.time n → AreLines (whole_log n at)
 log-is_lines zero at in_time = tt

@@ -234,9 +234,10 @@ entries_fit zero at early = (All-nil FitsAddr, All-nil IsRoutableEntry)
 entries_fit (suc n) at early =
     let j = draw 16384 (past at) in
     let same : (past (past at)).time ≡ at.time = past-time (past at) ∙ past-time at in
-    let rest = entries_fit n (past (past at)) (omega (arith, same, early)) in
-    (All-cons FitsAddr (draw_entry at) (draw_entries n (past (past at))) (entry_fits (at.time - draw 86400 at) j (omega (arith, early)) (peer_drawn (past at))) rest.0,
-    All-cons IsRoutableEntry (Some (draw_entry at)) (map Some (draw_entries n (past (past at)))) (routable j (peer_drawn (past at))) rest.1)
+    let rest = entries_fit n (past (past at)) (omega (arith, same, early)) in (
+      All-cons FitsAddr (draw_entry at) (draw_entries n (past (past at))) (entry_fits (at.time - draw 86400 at) j (omega (arith, early)) (peer_drawn (past at))) rest.0,
+      All-cons IsRoutableEntry (Some (draw_entry at)) (map Some (draw_entries n (past (past at)))) (routable j (peer_drawn (past at))) rest.1,
+    )
 
 entries_bytes : (n : ℕ) (at : Position) → AreBytes (flat_map addr_entry_text (draw_entries n at))
 entries_bytes zero at = All-nil (λ b. b < 256)

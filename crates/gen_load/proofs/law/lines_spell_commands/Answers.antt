@@ -1,4 +1,4 @@
-use Rattle.std.proofs.Common.{◌≡◌, ◌≤◌, ◌*◌, ℕ, length, ap, arith, subst}
+use Rattle.std.proofs.Common.{◌≤◌, ◌*◌, length, arith, subst}
 use Rattle.std.specs.List.{concat}
 use Rattle.gen_load.specs.Log.{beginning, log}
 use Rattle.gen_load.proofs.LineLaws.{all-short, log-count, log-is_lines}
