@@ -239,7 +239,7 @@ entries_fit (suc n) at early =
       All-cons IsRoutableEntry (Some (draw_entry at)) (map Some (draw_entries n (past (past at)))) (routable j (peer_drawn (past at))) rest.1,
     )
 
-entries_bytes : (n : ℕ) (at : Position) → AreBytes (flat_map addr_entry_text (draw_entries n at))
+pub entries_bytes : (n : ℕ) (at : Position) → AreBytes (flat_map addr_entry_text (draw_entries n at))
 entries_bytes zero at = All-nil (λ b. b < 256)
 entries_bytes (suc n) at =
     bytes-append (addr_entry_text (draw_entry at)) _ (entry_bytes (at.time - draw 86400 at) (draw 16384 (past at)) (peer_drawn (past at))) (entries_bytes n (past (past at)))

@@ -1,5 +1,5 @@
 -- What it means that a log can be replayed: what each of its lines spells.
-use Rattle.std.specs.Prelude.{◌≡◌, ℕ, ◌≤◌, List, [], ◌∷◌, ◌++◌, length, true, Contains, Option, Some, ⊤}
+use Rattle.std.specs.Prelude.{◌≡◌, ◌≢◌, ℕ, ◌-◌, ◌≤◌, List, [], ◌∷◌, ◌++◌, length, take, All, true, Contains, Option, Some, ⊤}
 use Rattle.net_addr.specs.Ranges.{is_routable}
 use Rattle.net_addr.specs.declared.entry.Entry.{Entry}
 use Rattle.addr_codecs.specs.Layout.{IsAddrMessage}
@@ -26,15 +26,20 @@ IsDrawn (command.Clash word) = ⊤
 IsDrawn command.Resolve = ⊤
 IsDrawn other = ⊥
 
--- a line, which ends with a line feed, is short, and spells exactly one command
+-- a line, which ends with its only line feed, is short, and spells exactly one command
 pub record IsLine (line : List ℕ) : Type 0 where
   pub text : List ℕ
   pub whole : line ≡ text ++ 10 ∷ []
+  pub one_line : All (λ b. b ≢ 10) text
   pub short : length line ≤ MAX_LENGTH
   pub command : Command
   pub spells : Spells text command
   pub only : (other : Command) → Spells text other → other ≡ command
   pub drawn : IsDrawn command
+
+-- a line without its line feed
+abbrev pub without_feed : List ℕ → List ℕ
+without_feed line = take (length line - 1) line
 
 abbrev pub AreLines : List (List ℕ) → Type 0
 AreLines [] = ⊤
