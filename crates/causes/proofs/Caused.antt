@@ -1,5 +1,5 @@
--- What holds of each bucket that a record lists, by the record's peer and source, still holds
--- after a step.
+-- What holds of each bucket that a record lists, by the record's number, peer and source, still
+-- holds after a step.
 use Rattle.std.proofs.Common.{◌≡◌, ℕ, ◌%◌, ◌^◌, ◌==◌, ◌||◌, nat_lt, nat_le, Bool, true, false, ◌&&◌, List, [], ◌∷◌, length, Contains, is_some, Option, Some, None, refl, sym, subst, ⊎_elim, if◌then◌else◌}
 use Rattle.std.proofs.lemmas.List.Elements.{Contains-push_cases}
 use Rattle.net_addr.specs.Address.{Address}
@@ -20,23 +20,23 @@ use Rattle.table_machine.proofs.Lists.{Contains-cases, find-Some, none_in_nil}
 use Rattle.table_machine.proofs.Records.{changed_cases, peer_found, without_number-cases}
 
 -- each bucket of a record
-abbrev pub EachBucket : (Peer → Address → ℕ → Type 0) → Rec → Type 0
-EachBucket C r = (b : ℕ) → Contains (buckets_of r) b → C r.peer r.source b
+abbrev pub EachBucket : (ℕ → Peer → Address → ℕ → Type 0) → Rec → Type 0
+EachBucket C r = (b : ℕ) → Contains (buckets_of r) b → C r.number r.peer r.source b
 
-abbrev pub EachRecord : (Peer → Address → ℕ → Type 0) → List Rec → Type 0
+abbrev pub EachRecord : (ℕ → Peer → Address → ℕ → Type 0) → List Rec → Type 0
 EachRecord C records = (r : Rec) → Contains records r → EachBucket C r
 
-module _ (C : Peer → Address → ℕ → Type 0) where
-  pub one-more : (r : Rec) (bucket : ℕ) → EachBucket C r → C r.peer r.source bucket → EachBucket C (placed r (New (with_bucket bucket (buckets_of r))))
+module _ (C : ℕ → Peer → Address → ℕ → Type 0) where
+  pub one-more : (r : Rec) (bucket : ℕ) → EachBucket C r → C r.number r.peer r.source bucket → EachBucket C (placed r (New (with_bucket bucket (buckets_of r))))
   one-more r bucket each one b c =
-      ⊎_elim (λ is. subst (C r.peer r.source) (sym is) one) (λ old. each b old) (with_bucket-cases bucket (buckets_of r) b c)
+      ⊎_elim (λ is. subst (C r.number r.peer r.source) (sym is) one) (λ old. each b old) (with_bucket-cases bucket (buckets_of r) b c)
 
   pub one-less : (r : Rec) (bucket : ℕ) → EachBucket C r → EachBucket C (placed r (New (without_bucket bucket (buckets_of r))))
   one-less r bucket each b c = each b (without_bucket-cases bucket (buckets_of r) b c).0
 
-  pub only-one : (r : Rec) (bucket : ℕ) → C r.peer r.source bucket → EachBucket C (placed r (New (bucket ∷ [])))
+  pub only-one : (r : Rec) (bucket : ℕ) → C r.number r.peer r.source bucket → EachBucket C (placed r (New (bucket ∷ [])))
   only-one r bucket one b c =
-      ⊎_elim (λ (is : bucket ≡ b). subst (C r.peer r.source) is one) (λ none. absurd (none_in_nil b none)) (Contains-cases bucket [] b c)
+      ⊎_elim (λ (is : bucket ≡ b). subst (C r.number r.peer r.source) is one) (λ none. absurd (none_in_nil b none)) (Contains-cases bucket [] b c)
 
   pub changed : (st : State) (r : Rec) → EachRecord C st.records → EachBucket C r → EachRecord C (with_record st r).records
   changed st r all own q c = ⊎_elim (λ is. subst (EachBucket C) is own) (λ h. all q h.0) (changed_cases r.number r st.records q c)
@@ -55,7 +55,7 @@ module _ (C : Peer → Address → ℕ → Type 0) where
       by false = changed st (placed occupant (New (without_bucket bucket (buckets_of occupant)))) all (one-less occupant bucket own)
 
   entered : (st : State) (now : ℕ) (r : Rec) (is_new : Bool) (source : Address) → EachRecord C st.records → EachBucket C r
-      → ((enter_bucket st now r is_new source).answer ≡ true → C r.peer r.source (new_bucket st.places r.peer source))
+      → ((enter_bucket st now r is_new source).answer ≡ true → C r.number r.peer r.source (new_bucket st.places r.peer source))
       → EachRecord C (enter_bucket st now r is_new source).state.records
   entered st now r is_new source all own cause = by (new_rec_at st bucket slot) refl cause
     where
@@ -69,14 +69,14 @@ module _ (C : Peer → Address → ℕ → Type 0) where
       given = placed r (New (with_bucket bucket (buckets_of r)))
 
       occupied : (occupant : Rec) → EachBucket C occupant → (same way new : Bool)
-          → ((if same then no st else if way then yes (give_bucket (clear_slot st occupant bucket) r bucket) else no (if new then delete st r else st)).answer ≡ true → C r.peer r.source bucket)
+          → ((if same then no st else if way then yes (give_bucket (clear_slot st occupant bucket) r bucket) else no (if new then delete st r else st)).answer ≡ true → C r.number r.peer r.source bucket)
           → EachRecord C (if same then no st else if way then yes (give_bucket (clear_slot st occupant bucket) r bucket) else no (if new then delete st r else st)).state.records
       occupied occupant is true way new one = all
       occupied occupant is false true new one = changed (clear_slot st occupant bucket) given (cleared st occupant bucket all is) (one-more r bucket own (one refl))
       occupied occupant is false false true one = deleted st r all
       occupied occupant is false false false one = all
 
-      by : (o : Option Rec) → new_rec_at st bucket slot ≡ o → ((enter_slot st now r is_new bucket o).answer ≡ true → C r.peer r.source bucket)
+      by : (o : Option Rec) → new_rec_at st bucket slot ≡ o → ((enter_slot st now r is_new bucket o).answer ≡ true → C r.number r.peer r.source bucket)
           → EachRecord C (enter_slot st now r is_new bucket o).state.records
       by None none one = changed st given all (one-more r bucket own (one refl))
       by (Some occupant) is one =
@@ -84,18 +84,18 @@ module _ (C : Peer → Address → ℕ → Type 0) where
 
   -- an entry, whose bucket holds if it is accepted
   pub added : (st : State) (now : ℕ) (entry : Entry) (source : Address) (penalty word : ℕ) → EachRecord C st.records
-      → ((add st now entry source penalty word).answer ≡ true → (own : Address) → C entry.peer own (new_bucket st.places entry.peer source))
+      → ((add st now entry source penalty word).answer ≡ true → (number : ℕ) (own : Address) → C number entry.peer own (new_bucket st.places entry.peer source))
       → EachRecord C (add st now entry source penalty word).state.records
   added st now entry source penalty word all cause = by (is_routable entry.peer.addr) (find_peer st entry.peer) refl cause
     where
       Told : Peer → Type 0
-      Told peer = (own : Address) → C peer own (new_bucket st.places peer source)
+      Told peer = (number : ℕ) (own : Address) → C number peer own (new_bucket st.places peer source)
 
       known : (r : Rec) → EachBucket C r → (stays draw : Bool)
           → ((if stays then no (with_record st r) else if draw then enter_bucket (with_record st r) now r false source else no (with_record st r)).answer ≡ true → Told r.peer)
           → EachRecord C (if stays then no (with_record st r) else if draw then enter_bucket (with_record st r) now r false source else no (with_record st r)).state.records
       known r is true draw one = changed st r all is
-      known r is false true one = entered (with_record st r) now r false source (changed st r all is) is (λ yes. one yes r.source)
+      known r is false true one = entered (with_record st r) now r false source (changed st r all is) is (λ yes. one yes r.number r.source)
       known r is false false one = changed st r all is
 
       by : (routable : Bool) (o : Option Rec) → find_peer st entry.peer ≡ o
@@ -104,7 +104,7 @@ module _ (C : Peer → Address → ℕ → Type 0) where
       by true None missing one =
           let r = new_record st entry source (penalty_of entry source penalty) in
           let none : EachBucket C r = λ b c. absurd (none_in_nil b c) in
-          entered (with_last st r) now r true source (last st r all none) none (λ yes. one yes r.source)
+          entered (with_last st r) now r true source (last st r all none) none (λ yes. one yes r.number r.source)
       by true (Some r) found one =
           let fresh = refresh r entry (penalty_of entry source penalty) now in
           let h = peer_found st.records entry.peer r found in
@@ -123,7 +123,7 @@ module _ (C : Peer → Address → ℕ → Type 0) where
       by (Some r) found = changed st (change r) all (keeps r (all r (peer_found st.records peer r found).0))
 
 -- a record goes back to the bucket of its own source
-module _ (C : Peer → Address → ℕ → Type 0) (places : Places) (own : (peer : Peer) (source : Address) → C peer source (new_bucket places peer source)) where
+module _ (C : ℕ → Peer → Address → ℕ → Type 0) (places : Places) (own : (number : ℕ) (peer : Peer) (source : Address) → C number peer source (new_bucket places peer source)) where
   back : (st : State) (r : Rec) → st.places ≡ places → EachRecord C st.records → EachRecord C (back_to_new st r).records
   back st r at all = by (new_rec_at st bucket slot) refl
     where
@@ -134,7 +134,7 @@ module _ (C : Peer → Address → ℕ → Type 0) (places : Places) (own : (pee
       slot = new_slot st.places r.peer bucket
 
       one : EachBucket C (placed r (New (bucket ∷ [])))
-      one = only-one C r bucket (subst (λ (p : Places). C r.peer r.source (new_bucket p r.peer r.source)) (sym at) (own r.peer r.source))
+      one = only-one C r bucket (subst (λ (p : Places). C r.number r.peer r.source (new_bucket p r.peer r.source)) (sym at) (own r.number r.peer r.source))
 
       by : (o : Option Rec) → new_rec_at st bucket slot ≡ o → EachRecord C (with_record (clear_new st bucket o) (placed r (New (bucket ∷ [])))).records
       by None none = changed C st (placed r (New (bucket ∷ []))) all one

@@ -113,15 +113,15 @@ accepted = record {
 }
 
 -- the bucket of a record of this peer, whatever its own source is
-told : (own : Address) → IsCaused (IsAccepted start (line ∷ [])) (IsListed None zeros) zeros (peer 8333) own 87
+told : (own : Address) → IsCaused (IsAccepted start (line ∷ [])) (IsListed None zeros) zeros 0 (peer 8333) own 87
 told own = Told teller accepted (sym bucket_is)
 
 -- the bucket of the record's own source, in a run without a line
-own : IsCaused (IsAccepted start []) (IsListed None zeros) zeros (peer 8333) teller 87
+own : IsCaused (IsAccepted start []) (IsListed None zeros) zeros 0 (peer 8333) teller 87
 own = Own (sym bucket_is)
 
 -- another bucket has no cause there
-no_cause : IsCaused (IsAccepted start []) (IsListed None zeros) zeros (peer 8333) teller 88 → ⊥
+no_cause : IsCaused (IsAccepted start []) (IsListed None zeros) zeros 0 (peer 8333) teller 88 → ⊥
 no_cause (Told source a is) = nothing a.before a.line a.after a.cut
   where
     nothing : (before : List (List ℕ)) (line : List ℕ) (after : List (List ℕ)) → [] ≡ before ++ line ∷ after → ⊥
@@ -137,9 +137,9 @@ file_rec = record { peer = peer 8333; time = 1700000000; services = 1; source = 
 abbrev file : ℕ → Snapshot
 file count = snapshot (replicate 32 0) (file_rec ∷ []) [] count ((88, 0) ∷ []) (replicate 32 0)
 
-listed : IsCaused (IsAccepted start []) (IsListed (Some (file 1024)) zeros) zeros (peer 8333) teller 88
-listed = InFile (refl, refl, (_, Contains-head _ [], refl, Contains-head (88, 0) []))
+listed : IsCaused (IsAccepted start []) (IsListed (Some (file 1024)) zeros) zeros 0 (peer 8333) teller 88
+listed = InFile (refl, refl, (_, Contains-head _ [], refl, refl), Contains-head (88, 0) [])
 
 -- and none if the file has another number of buckets
-not_listed : IsListed (Some (file 512)) zeros (peer 8333) 88 → ⊥
+not_listed : IsListed (Some (file 512)) zeros 0 (peer 8333) 88 → ⊥
 not_listed h = let count = h.0 in omega (arith, count)

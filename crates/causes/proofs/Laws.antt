@@ -31,11 +31,11 @@ use Rattle.causes.proofs.Sound.{step-sound}
 use Rattle.causes.proofs.Steps.{Holds, step-holds}
 
 -- a cause by fewer accepted entries is one by more
-more-causes : (One Two : Peer → Address → Type 0) (Listed : Peer → ℕ → Type 0) (places : Places) (peer : Peer) (own : Address) (b : ℕ)
-    → ((p : Peer) (s : Address) → One p s → Two p s) → IsCaused One Listed places peer own b → IsCaused Two Listed places peer own b
-more-causes One Two Listed places peer own b more (Told source told is) = Told source (more peer source told) is
-more-causes One Two Listed places peer own b more (Own is) = Own is
-more-causes One Two Listed places peer own b more (InFile listed) = InFile listed
+more-causes : (One Two : Peer → Address → Type 0) (Listed : ℕ → Peer → ℕ → Type 0) (places : Places) (number : ℕ) (peer : Peer) (own : Address) (b : ℕ)
+    → ((p : Peer) (s : Address) → One p s → Two p s) → IsCaused One Listed places number peer own b → IsCaused Two Listed places number peer own b
+more-causes One Two Listed places number peer own b more (Told source told is) = Told source (more peer source told) is
+more-causes One Two Listed places number peer own b more (Own is) = Own is
+more-causes One Two Listed places number peer own b more (InFile listed) = InFile listed
 
 -- over a line tried records stay, or are displaced
 line-keeps_tried : (old : History) (line text : List ℕ) (new : History) → IsSound old.now.machine.tables → old.now.machine.clock < 2 ^ 32
@@ -50,7 +50,7 @@ line-keeps_tried old line text new sound low step r has tried = ⊎_elim same mo
     moved h = ⊎_elim inl (λ taken. inr (h.0, h.2, taken)) (step-keeps_tried old.now.machine h.0 h.1 new.now.machine sound low h.3 r has tried)
 
 module _ (file : Option Snapshot) (places : Places) (st : State) (opening : IsOpening file places st) where
-  abbrev C : List (List ℕ) → Peer → Address → ℕ → Type 0
+  abbrev C : List (List ℕ) → ℕ → Peer → Address → ℕ → Type 0
   C lines = IsCaused (IsAccepted st lines) (IsListed file places) places
 
   -- what each line keeps
@@ -105,7 +105,7 @@ module _ (file : Option Snapshot) (places : Places) (st : State) (opening : IsOp
     }
 
     before : Holds (C longer) places mid.now.machine.tables
-    before = (kept.caused.0, λ r c b l. more-causes (IsAccepted st done) (IsAccepted st longer) (IsListed file places) places r.peer r.source b earlier (kept.caused.1 r c b l))
+    before = (kept.caused.0, λ r c b l. more-causes (IsAccepted st done) (IsAccepted st longer) (IsListed file places) places r.number r.peer r.source b earlier (kept.caused.1 r c b l))
 
     kept-more : IsKept longer next
     kept-more = ⊎_elim same moved (line_moves mid line reply next step)
@@ -135,8 +135,8 @@ module _ (file : Option Snapshot) (places : Places) (st : State) (opening : IsOp
               clock = sound.1;
               numbers = omega (arith, numbers, one_more, most);
               caused =
-                  step-holds (C longer) places (λ peer source. Own refl) mid.now.machine h.0 h.1 next.now.machine
-                  (λ peer source accepts own. Told source (now h.0 h.2 peer source accepts) refl) before h.3;
+                  step-holds (C longer) places (λ number peer source. Own refl) mid.now.machine h.0 h.1 next.now.machine
+                  (λ peer source accepts number own. Told source (now h.0 h.2 peer source accepts) refl) before h.3;
             }
 
   kept-after : (done lines : List (List ℕ)) (text more : List ℕ) (mid h : History) → Run Step (fresh st) done text mid → IsKept done mid → length done + length lines ≤ 2 ^ 30
@@ -155,7 +155,7 @@ module _ (file : Option Snapshot) (places : Places) (st : State) (opening : IsOp
 
   caused-at : (before : List (List ℕ)) (h : History) → IsKept before h → AreCaused (IsAccepted st before) (IsListed file places) h.now.machine.tables
   caused-at before h kept =
-      subst (λ (w : Places). (r : Rec) → Contains h.now.machine.tables.records r → (b : ℕ) → Contains (buckets_of r) b → IsCaused (IsAccepted st before) (IsListed file places) w r.peer r.source b)
+      subst (λ (w : Places). (r : Rec) → Contains h.now.machine.tables.records r → (b : ℕ) → Contains (buckets_of r) b → IsCaused (IsAccepted st before) (IsListed file places) w r.number r.peer r.source b)
       (sym kept.caused.0) kept.caused.1
 
   -- a run from sound tables keeps causes

@@ -1,5 +1,5 @@
 -- Each bucket of a restored record is that of its own source, or the file listed it for its peer.
-use Rattle.std.proofs.Common.{◌≡◌, ℕ, ◌==◌, ◌||◌, not, Bool, true, false, List, [], ◌∷◌, length, Contains, is_some, bytes_eq, Option, Some, None, refl, sym, ap, subst, ◌∙◌, ⊎_elim, if◌then◌else◌}
+use Rattle.std.proofs.Common.{◌≡◌, ℕ, ◌==◌, ◌||◌, not, Bool, true, false, List, [], ◌∷◌, length, Contains, is_some, bytes_eq, Option, Some, None, refl, sym, ap, subst, ⊎_elim, if◌then◌else◌}
 use Rattle.std.specs.List.{range_with_len}
 use Rattle.std.proofs.lemmas.Bool.{and_parts}
 use Rattle.std.proofs.lemmas.Bool.Decides.{Decides-eqb}
@@ -69,7 +69,7 @@ used-are snap places is =
     ((Decides-eqb snap.bucket_count 1024).0 parts.0, (bytes_eq-Decides snap.sum (sum_of places.map)).0 parts.1)
 
 module _ (Accepted : Peer → Address → Type 0) (snap : Snapshot) (places : Places) where
-  abbrev C : Peer → Address → ℕ → Type 0
+  abbrev C : ℕ → Peer → Address → ℕ → Type 0
   C = IsCaused Accepted (IsListed (Some snap) places) places
 
   -- a record of the file has the number and the peer
@@ -82,7 +82,7 @@ module _ (Accepted : Peer → Address → Type 0) (snap : Snapshot) (places : Pl
   abbrev H : State → Type 0
   H st = (st.places ≡ places) × Each P st
 
-  give-holds : (st : State) (r : Rec) (bucket : ℕ) (o : Option Rec) (other : State) → H st → H other → P r → C r.peer r.source bucket → H (give_or st r bucket o other)
+  give-holds : (st : State) (r : Rec) (bucket : ℕ) (o : Option Rec) (other : State) → H st → H other → P r → C r.number r.peer r.source bucket → H (give_or st r bucket o other)
   give-holds st r bucket None other h also is one = (h.0, changed-each P st (placed r (New (with_bucket bucket (buckets_of r)))) h.1 (one-more C r bucket is.0 one, is.1))
   give-holds st r bucket (Some occupant) other h also is one = also
 
@@ -90,7 +90,7 @@ module _ (Accepted : Peer → Address → Type 0) (snap : Snapshot) (places : Pl
       → H (place_record same st bucket (by_number st number))
   place-holds same st bucket number h listed = by (by_number st number) refl
     where
-      placing : (r : Rec) → P r → (stays used : Bool) → (used ≡ true → C r.peer r.source bucket)
+      placing : (r : Rec) → P r → (stays used : Bool) → (used ≡ true → C r.number r.peer r.source bucket)
           → H (if stays then st else (if used then give_if_empty st r bucket (give_if_empty st r (new_bucket st.places r.peer r.source) st) else give_if_empty st r (new_bucket st.places r.peer r.source) st))
       placing r is stays used one = go stays used one
         where
@@ -102,7 +102,7 @@ module _ (Accepted : Peer → Address → Type 0) (snap : Snapshot) (places : Pl
               give-holds st r (new_bucket st.places r.peer r.source) (new_rec_at st (new_bucket st.places r.peer r.source) (new_slot st.places r.peer (new_bucket st.places r.peer r.source))) st h h is
               (Own (ap (λ (w : Places). new_bucket w r.peer r.source) h.0))
 
-          go : (stays used : Bool) → (used ≡ true → C r.peer r.source bucket)
+          go : (stays used : Bool) → (used ≡ true → C r.number r.peer r.source bucket)
               → H (if stays then st else (if used then give_if_empty st r bucket (give_if_empty st r (new_bucket st.places r.peer r.source) st) else give_if_empty st r (new_bucket st.places r.peer r.source) st))
           go true used one = h
           go false true one = give-holds st r bucket (new_rec_at st bucket (new_slot st.places r.peer bucket)) (give_if_empty st r (new_bucket st.places r.peer r.source) st) h own is (one refl)
@@ -117,7 +117,7 @@ module _ (Accepted : Peer → Address → Type 0) (snap : Snapshot) (places : Pl
           (λ yes.
           let l = listed yes in
           let used = used-are snap places l.0 in
-          InFile (used.0, used.1, (is.1.0, is.1.1, is.1.2, subst (λ n. Contains snap.listed (bucket, n)) (sym at.1 ∙ sym is.1.3) l.1)))
+          InFile (used.0, used.1, (is.1.0, is.1.1, is.1.3, is.1.2), subst (λ n. Contains snap.listed (bucket, n)) (sym at.1) l.1))
 
   pairs-hold : (st : State) (pairs : List (ℕ × ℕ)) → ((pair : ℕ × ℕ) → Contains pairs pair → Contains snap.listed pair) → H st → H (place_all (uses_buckets snap places) st pairs)
   pairs-hold st [] within h = h

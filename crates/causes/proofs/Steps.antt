@@ -1,4 +1,4 @@
--- What holds of each bucket by the record's peer and source holds after each command.
+-- What holds of each bucket by the record's number, peer and source holds after each command.
 use Rattle.std.proofs.Common.{◌≡◌, ℕ, ◌+◌, ◌-◌, ◌||◌, nat_lt, nat_le, ◌&&◌, Bool, true, false, List, [], ◌∷◌, Contains, Option, Some, None, refl, sym, subst, ◌∙◌, ⊎_elim, if◌then◌else◌}
 use Rattle.std.proofs.lemmas.List.Elements.{Contains-append_left, Contains-append_right}
 use Rattle.net_addr.specs.Address.{Address}
@@ -30,13 +30,13 @@ clamped entry now =
     [ true ↦ refl | false ↦ refl ]
 
 -- The key and map stay, and what holds of each bucket does.
-abbrev pub Holds : (Peer → Address → ℕ → Type 0) → Places → State → Type 0
+abbrev pub Holds : (ℕ → Peer → Address → ℕ → Type 0) → Places → State → Type 0
 Holds C places st = (st.places ≡ places) × EachRecord C st.records
 
-module _ (C : Peer → Address → ℕ → Type 0) (places : Places) where
+module _ (C : ℕ → Peer → Address → ℕ → Type 0) (places : Places) where
   -- each bucket that a source gave the peer of one of these entries
   abbrev Gave : Address → Peer → Type 0
-  Gave source peer = (own : Address) → C peer own (new_bucket places peer source)
+  Gave source peer = (number : ℕ) (own : Address) → C number peer own (new_bucket places peer source)
 
   entry-holds : (st : State) (now : ℕ) (entry : Option Entry) (source : Address) (word : ℕ) → Holds C places st
       → ((peer : Peer) → Contains (peer_if (take_entry st now entry source word).answer entry) peer → Gave source peer)
@@ -46,10 +46,10 @@ module _ (C : Peer → Address → ℕ → Type 0) (places : Places) where
       let e = clamp_time entry now in (
         (add-rest st now e source message_penalty word).places ∙ holds.0,
         added C st now e source message_penalty word holds.1
-            (λ yes own.
+            (λ yes number own.
             let has = subst (λ a. Contains (peer_if a (Some entry)) entry.peer) (sym yes) (Contains-head entry.peer []) in
-            subst (λ (p : Places). C e.peer own (new_bucket p e.peer source)) (sym holds.0)
-            (subst (λ (p : Peer). C p own (new_bucket places p source)) (sym (clamped entry now)) (gave entry.peer has own))),
+            subst (λ (p : Places). C number e.peer own (new_bucket p e.peer source)) (sym holds.0)
+            (subst (λ (p : Peer). C number p own (new_bucket places p source)) (sym (clamped entry now)) (gave entry.peer has number own))),
       )
 
   entries-hold : (st : State) (now : ℕ) (entries : List (Option Entry)) (source : Address) (words : List ℕ) → Holds C places st
@@ -81,7 +81,7 @@ module _ (C : Peer → Address → ℕ → Type 0) (places : Places) where
   connected-keeps now r each =
       elim (nat_lt (r.time + 1200) now) as (λ b. EachBucket C (if b then record r { time = now } else r)) [ true ↦ each | false ↦ each ]
 
-  module _ (own : (peer : Peer) (source : Address) → C peer source (new_bucket places peer source)) where
+  module _ (own : (number : ℕ) (peer : Peer) (source : Address) → C number peer source (new_bucket places peer source)) where
     good-holds : (st : State) (now : ℕ) (peer : Peer) (testing : Bool) → Holds C places st → Holds C places (good st now peer testing).state
     good-holds st now peer testing holds =
         ((good-rest st now peer testing).places ∙ holds.0, reached C places own st now peer testing holds.0 holds.1)

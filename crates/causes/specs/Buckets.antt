@@ -9,28 +9,31 @@ use Rattle.peer_rec.specs.declared.rec.Rec.{Rec}
 use Rattle.table_machine.specs.Restoring.{appended}
 use Rattle.table_machine.specs.State.{State}
 
--- The file lists the bucket for a record of this peer: its buckets are as many as in these tables,
--- its asmap is the same by the checksum, and a listed pair has the bucket and the index of this
--- record.
-abbrev pub IsListed : Option Snapshot → Places → Peer → ℕ → Type 0
-IsListed None places peer bucket = ⊥
-IsListed (Some snap) places peer bucket =
+-- The file lists the bucket for the record of this number and peer: its buckets are as many as in
+-- these tables, its asmap is the same by the checksum, it has such a record (the records of a file
+-- are numbered in its order), and a listed pair has the bucket and this number.
+abbrev pub IsListed : Option Snapshot → Places → ℕ → Peer → ℕ → Type 0
+IsListed None places number peer bucket = ⊥
+IsListed (Some snap) places number peer bucket =
     (snap.bucket_count ≡ 1024) × (snap.sum ≡ sum_of places.map)
-    × ((r : Rec) × Contains (appended snap places).records r × (r.peer ≡ peer) × Contains snap.listed (bucket, r.number))
+    × ((r : Rec) × Contains (appended snap places).records r × (r.number ≡ number) × (r.peer ≡ peer))
+    × Contains snap.listed (bucket, number)
 
--- Why a record of a peer, which its own source announced first, is in a bucket: an entry for the
--- peer was accepted, and the bucket is that of the peer and of the entry's source; it is that of
--- the peer and of the record's own source; or the file listed it.
-pub data IsCaused (Accepted : Peer → Address → Type 0) (Listed : Peer → ℕ → Type 0) (places : Places) (peer : Peer) (own : Address) (bucket : ℕ) : Type 0 where
-  Told : (source : Address) → Accepted peer source → bucket ≡ new_bucket places peer source → IsCaused Accepted Listed places peer own bucket
-  Own : bucket ≡ new_bucket places peer own → IsCaused Accepted Listed places peer own bucket
-  InFile : Listed peer bucket → IsCaused Accepted Listed places peer own bucket
+-- Why the record of a number, a peer and a source of its own is in a bucket: an entry for the peer
+-- was accepted, and the bucket is that of the peer and of the entry's source; it is that of the
+-- peer and of the record's own source; or the file listed it.
+pub data IsCaused (Accepted : Peer → Address → Type 0) (Listed : ℕ → Peer → ℕ → Type 0) (places : Places)
+    (number : ℕ) (peer : Peer) (own : Address) (bucket : ℕ) : Type 0 where
+  Told : (source : Address) → Accepted peer source → bucket ≡ new_bucket places peer source
+      → IsCaused Accepted Listed places number peer own bucket
+  Own : bucket ≡ new_bucket places peer own → IsCaused Accepted Listed places number peer own bucket
+  InFile : Listed number peer bucket → IsCaused Accepted Listed places number peer own bucket
 
 -- each bucket that a record is in has a cause
-abbrev pub AreCaused : (Peer → Address → Type 0) → (Peer → ℕ → Type 0) → State → Type 0
+abbrev pub AreCaused : (Peer → Address → Type 0) → (ℕ → Peer → ℕ → Type 0) → State → Type 0
 AreCaused Accepted Listed st =
     (r : Rec) → Contains st.records r → (bucket : ℕ) → Contains (buckets_of r) bucket
-    → IsCaused Accepted Listed st.places r.peer r.source bucket
+    → IsCaused Accepted Listed st.places r.number r.peer r.source bucket
 
 -- the bucket is that of the record's peer and of a source of one of these groups, which announced
 -- the peer or is the record's own
