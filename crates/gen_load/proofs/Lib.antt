@@ -1,3 +1,4 @@
 mod Examples
 mod Lines
 mod Spelled
+mod LineLaws

@@ -1,24 +1,32 @@
--- Each line spells a command.
+-- Each line spells a command that logs have.
 use Rattle.std.proofs.Common.{◌≡◌, ◌≢◌, ◌≤◌, ◌<◌, ◌^◌, ℕ, zero, suc, ◌+◌, ◌-◌, ◌/◌, ◌%◌, List, [], ◌∷◌, ◌++◌, length, All, true, false, codes, decimal, slice_index, refl, sym, ap, ◌∙◌, subst, arith, inl, inr, rules, Some}
-use Rattle.std.specs.Prelude.{◌==◌}
+use Rattle.std.specs.Prelude.{◌==◌, Contains, IfSome, Option, map}
 use Rattle.std.specs.Int.{w16, w32, w64, to_le_bytes, to_be_bytes, from_be_bytes}
 use Rattle.std.specs.List.{slice_split, flat_map}
-use Rattle.std.proofs.lemmas.List.Elements.{All-nil, All-cons, All-append, All-head, All-tail, All-from_recursion}
+use Rattle.std.proofs.lemmas.List.Elements.{All-nil, All-cons, All-contains, All-append, All-head, All-tail, All-from_recursion}
 use Rattle.std.proofs.lemmas.Bool.{ne_eqb, lt-ltb}
 use Rattle.std.proofs.lemmas.List.{append-nil}
 use Rattle.std.proofs.lemmas.List.Splits.{slice_split_at, slice_split_none}
 use Rattle.hex.specs.Hex.{encode_lower, encode_with, lower_digits, hex_digit_value}
 use Rattle.hex.proofs.HexLemmas.{decode_of-encode_lower, IsDigits-lower_digits}
 use Rattle.wire_num.specs.CompactSize.{compact_size}
-use Rattle.net_addr.proofs.Bytes.{AllBytes-All}
+use Rattle.net_addr.proofs.Bytes.{AllBytes-All, IsAddress-plain}
+use Rattle.net_addr.specs.NetBits.{each_below}
 use Rattle.net_addr.specs.NetSet.{all}
+use Rattle.net_addr.specs.Ranges.{in_range, is_routable}
 use Rattle.net_addr.specs.Address.{mapped_prefix}
 use Rattle.net_addr.specs.OldForm.{address}
 use Rattle.net_addr.specs.Text.{addr_text, peer_text, ipv4_text, IsAddrText, IsPeerText, dotted}
 use Rattle.net_addr.specs.declared.entry.Entry.{Entry}
 use Rattle.net_addr.specs.declared.net.Net.TheVariants.{Ipv4}
 use Rattle.net_addr.proofs.Texts.{bits_of_bytes}
+use Rattle.addr_codecs.specs.Inside.{addr_entry_at, message_at}
+use Rattle.addr_codecs.specs.Layout.{addr_entry, message}
 use Rattle.addr_codecs.specs.Texts.{message_text, addr_entry_text}
+use Rattle.addr_codecs.specs.declared.fault.MsgFault.TheVariants.{Trailing}
+use Rattle.addr_codecs.proofs.MessageLaws.{Reads-addr_entry, Reads-message}
+use Rattle.addr_codecs.proofs.TextLaws.{FitsAddr, of_addr_entry, of_message}
+use Rattle.wire_num.proofs.ReadingLaws.{AreBytes-all, one_meaning}
 use Rattle.log_lines.specs.Fields.{AreWords}
 use Rattle.log_lines.specs.Random.{seeded_words}
 use Rattle.log_lines.specs.Spelling.{Spells}
@@ -29,10 +37,9 @@ use Rattle.log_lines.proofs.WordLemmas.{decimal-lacks}
 use Rattle.gen_load.specs.declared.position.Position.{Position}
 use Rattle.gen_load.specs.declared.kind.Kind.{Kind}
 use Rattle.gen_load.specs.declared.kind.Kind.TheVariants as kind
-use Rattle.gen_load.specs.Inside.{IsInTime}
-use Rattle.gen_load.specs.Spelling.{SpellsWhole, EachSpells}
-use Rattle.gen_load.specs.Log.{draw, past, past_entries, peer_of, draw_entry, draw_entries, message_line, line_of, kind_of, drawn_line, drawn_lines, whole_log}
-use Rattle.gen_load.proofs.Lines.{past-time, GoesOn, drawn_line-time}
+use Rattle.gen_load.specs.Spelling.{HasRoutablePeers, IsDrawn}
+use Rattle.gen_load.specs.Log.{draw, past, past_entries, peer_of, draw_entry, draw_entries, message_line, line_of, kind_of, drawn_line}
+use Rattle.gen_load.proofs.Lines.{past-time}
 
 -- a text with no space
 abbrev pub IsField : List ℕ → Type 0
@@ -50,16 +57,21 @@ field-append a b h k = All-append (λ c. (c == 32) ≡ false) a b h k
 decimal-field : (n : ℕ) → n < 2 ^ 64 → IsField (decimal n)
 decimal-field n small = decimal-lacks 32 n small (λ d low high e. omega (arith, low, e))
 
-draw-small : (n : ℕ) (at : Position) → 0 < n → draw n at < n
+pub draw-small : (n : ℕ) (at : Position) → 0 < n → draw n at < n
 unfolding draw
 draw-small n at some = search (rules, some)
 
 -- the four bytes of a peer's address
-abbrev bytes_of : ℕ → List ℕ
+abbrev pub bytes_of : ℕ → List ℕ
 bytes_of j = (20 + j % 64) ∷ j / 64 ∷ 1 ∷ 1 ∷ []
 
-are_bytes : (j : ℕ) → j < 16384 → All (λ b. b < 256) (bytes_of j)
+pub are_bytes : (j : ℕ) → j < 16384 → All (λ b. b < 256) (bytes_of j)
 are_bytes j small = All-from_recursion (λ b. b < 256) (bytes_of j) (omega arith, (omega (arith, small), (omega arith, (omega arith, tt))))
+
+-- no first byte from 20 to 83 begins a range that is not routed
+routable : (j : ℕ) → j < 16384 → is_routable (peer_of j).addr ≡ true
+unfolding in_range
+routable j small = each_below (λ n. is_routable (address Ipv4 ((20 + n) ∷ j / 64 ∷ 1 ∷ 1 ∷ []))) 64 refl (j % 64) (omega arith)
 
 is_addr_text : (j : ℕ) → j < 16384 → IsAddrText (addr_text (peer_of j).addr) (peer_of j).addr
 is_addr_text j small =
@@ -80,15 +92,17 @@ peer-field : (j : ℕ) → j < 16384 → IsField (peer_text (peer_of j))
 peer-field j small =
     field-append (addr_text (peer_of j).addr ++ codes ":") (decimal 8333) (field-append (addr_text (peer_of j).addr) (codes ":") (addr-field j small) (field-cons 58 [] refl field-nil)) (decimal-field 8333 (omega arith))
 
-peer_drawn : (at : Position) → draw 16384 at < 16384
+pub peer_drawn : (at : Position) → draw 16384 at < 16384
 peer_drawn at = draw-small 16384 at (omega arith)
 
-abbrev HasCommand : List ℕ → Type 0
-HasCommand text = (c : Command) × Spells text c
+-- the text spells a command that logs have
+abbrev pub HasCommand : List ℕ → Type 0
+HasCommand text = (c : Command) × IsDrawn c × Spells text c
 
-now_spells : (time : ℕ) → time < 2 ^ 32 → HasCommand (codes "now " ++ decimal time)
+pub now_spells : (time : ℕ) → time < 2 ^ 32 → HasCommand (codes "now " ++ decimal time)
 now_spells time small = (
   command.Now time,
+  tt,
   (
     verb.Now,
     decimal time ∷ [],
@@ -100,6 +114,7 @@ now_spells time small = (
 good_spells : (j : ℕ) → j < 16384 → HasCommand (codes "good " ++ peer_text (peer_of j) ++ codes " test")
 good_spells j small = (
   command.Good (peer_of j) true,
+  routable j small,
   (
     verb.Good,
     peer_text (peer_of j) ∷ codes "test" ∷ [],
@@ -111,6 +126,7 @@ good_spells j small = (
 attempt_spells : (j : ℕ) → j < 16384 → HasCommand (codes "attempt " ++ peer_text (peer_of j) ++ codes " count")
 attempt_spells j small = (
   command.Attempt (peer_of j) true,
+  routable j small,
   (
     verb.Attempt,
     peer_text (peer_of j) ∷ codes "count" ∷ [],
@@ -122,6 +138,7 @@ attempt_spells j small = (
 connected_spells : (j : ℕ) → j < 16384 → HasCommand (codes "connected " ++ peer_text (peer_of j) ++ [])
 connected_spells j small = (
   command.Connected (peer_of j),
+  routable j small,
   (
     verb.Connected,
     peer_text (peer_of j) ∷ [],
@@ -146,6 +163,7 @@ seed_words seed count small few = inr (inr (seed, count, omega (arith, small), o
 select_spells : (seed : ℕ) → seed < 2 ^ 32 → HasCommand (codes "select any all @" ++ decimal seed ++ codes ":" ++ decimal 300)
 select_spells seed small = (
   command.Select false all (seeded_words seed 300),
+  tt,
   (
     verb.Select,
     codes "any" ∷ codes "all" ∷ seed_text seed 300 ∷ [],
@@ -157,6 +175,7 @@ select_spells seed small = (
 clash_spells : (word : ℕ) → word < 2 ^ 32 → HasCommand (codes "clash " ++ decimal word)
 clash_spells word small = (
   command.Clash word,
+  tt,
   (
     verb.Clash,
     decimal word ∷ [],
@@ -166,7 +185,7 @@ clash_spells word small = (
 )
 
 resolve_spells : HasCommand (codes "resolve")
-resolve_spells = (command.Resolve, (verb.Resolve, [], refl, (refl, tt)))
+resolve_spells = (command.Resolve, tt, (verb.Resolve, [], refl, (refl, tt)))
 
 -- the bytes of a message
 abbrev AreBytes : List ℕ → Type 0
@@ -195,16 +214,41 @@ entry_bytes time j small =
     (bytes-append mapped_prefix (bytes_of j) fixed_bytes.1.0 (are_bytes j small)))
     fixed_bytes.1.1
 
-entries_bytes : (n : ℕ) (at : Position) → AreBytes (flat_map addr_entry_text (draw_entries n at))
+-- an entry of a message fits its fields, and its peer is routable
+entry_fits : (time j : ℕ) → time < 2 ^ 31 → j < 16384 → FitsAddr (record { time = time; services = 1; peer = peer_of j })
+entry_fits time j early small = record {
+  fit = record {
+    time = omega (arith, early);
+    services = omega arith;
+    addr = IsAddress-plain Ipv4 (bytes_of j) (λ e. cc) (λ e. cc) refl (are_bytes j small);
+    port = omega arith;
+  };
+  network = inl refl;
+}
+
+abbrev IsRoutableEntry : Option Entry → Type 0
+IsRoutableEntry o = IfSome o (λ e. is_routable e.peer.addr ≡ true)
+
+entries_fit : (n : ℕ) (at : Position) → at.time < 2 ^ 31 → All FitsAddr (draw_entries n at) × All IsRoutableEntry (map Some (draw_entries n at))
+entries_fit zero at early = (All-nil FitsAddr, All-nil IsRoutableEntry)
+entries_fit (suc n) at early =
+    let j = draw 16384 (past at) in
+    let same : (past (past at)).time ≡ at.time = past-time (past at) ∙ past-time at in
+    let rest = entries_fit n (past (past at)) (omega (arith, same, early)) in (
+      All-cons FitsAddr (draw_entry at) (draw_entries n (past (past at))) (entry_fits (at.time - draw 86400 at) j (omega (arith, early)) (peer_drawn (past at))) rest.0,
+      All-cons IsRoutableEntry (Some (draw_entry at)) (map Some (draw_entries n (past (past at)))) (routable j (peer_drawn (past at))) rest.1,
+    )
+
+pub entries_bytes : (n : ℕ) (at : Position) → AreBytes (flat_map addr_entry_text (draw_entries n at))
 entries_bytes zero at = All-nil (λ b. b < 256)
 entries_bytes (suc n) at =
     bytes-append (addr_entry_text (draw_entry at)) _ (entry_bytes (at.time - draw 86400 at) (draw 16384 (past at)) (peer_drawn (past at))) (entries_bytes n (past (past at)))
 
-entries_length : (n : ℕ) (at : Position) → length (draw_entries n at) ≡ n
+pub entries_length : (n : ℕ) (at : Position) → length (draw_entries n at) ≡ n
 entries_length zero at = refl
 entries_length (suc n) at = ap suc (entries_length n (past (past at)))
 
-few_size : (n : ℕ) → n < 253 → compact_size n ≡ n ∷ []
+pub few_size : (n : ℕ) → n < 253 → compact_size n ≡ n ∷ []
 unfolding compact_size
 few_size n small = rw (lt-ltb n 253 small) refl
 
@@ -234,10 +278,12 @@ parts [] (x ∷ h) s c = ap (λ t. 32 ∷ x ∷ t) (after_space h s c)
     after_space (x ∷ h) s c = ap (λ t. x ∷ t) (after_space h s c)
 parts (x ∷ a) h s c = ap (λ t. x ∷ t) (parts a h s c)
 
-addr_spells : (j seed : ℕ) (entries : List Entry) → j < 16384 → seed < 2 ^ 32 → length entries ≤ 4 → AreBytes (flat_map addr_entry_text entries) →
+addr_spells : (j seed : ℕ) (entries : List Entry) → j < 16384 → seed < 2 ^ 32 → length entries ≤ 4 → AreBytes (flat_map addr_entry_text entries)
+    → All FitsAddr entries → All IsRoutableEntry (map Some entries) →
     HasCommand (message_line (peer_of j).addr entries seed)
-addr_spells j seed entries small low few bytes = (
+addr_spells j seed entries small low few bytes fits routes = (
   command.Addr (peer_of j).addr payload (seeded_words seed (length entries)),
+  (routable j small, peers),
   (
     verb.Addr,
     addr_text (peer_of j).addr ∷ encode_lower payload ∷ seed_text seed (length entries) ∷ [],
@@ -268,6 +314,13 @@ addr_spells j seed entries small low few bytes = (
     all_bytes : AreBytes (message_text addr_entry_text entries)
     all_bytes = subst (λ s. AreBytes (s ++ flat_map addr_entry_text entries)) (sym size) (All-cons (λ b. b < 256) (length entries) _ (omega (arith, few)) bytes)
 
+    -- the message is of these entries only
+    peers : HasRoutablePeers (message_text addr_entry_text entries)
+    peers others is e has =
+        let spelled = of_message addr_entry addr_entry_text FitsAddr of_addr_entry entries (omega (arith, few)) fits in
+        let one = one_meaning (message addr_entry) Trailing (message_at addr_entry_at) (message_text addr_entry_text entries) (Reads-message addr_entry addr_entry_at Reads-addr_entry) (AreBytes-all (message_text addr_entry_text entries) all_bytes) in
+        All-contains IsRoutableEntry (map Some entries) (Some e) routes (subst (λ (es : List (Option Entry)). Contains es (Some e)) (one.one_value others (map Some entries) is spelled) has)
+
     some : encode_lower (message_text addr_entry_text entries) ≢ []
     some = subst (λ s. encode_lower (s ++ flat_map addr_entry_text entries) ≢ []) (sym size) (some_hex (length entries) (flat_map addr_entry_text entries))
 
@@ -277,8 +330,10 @@ line_spells kind.Addr at early =
     let count = 1 + draw 4 (past at) in
     let first = past (past at) in
     let many = entries_length count first in
+    let same : first.time ≡ at.time = past-time (past at) ∙ past-time at in
+    let fit = entries_fit count first (omega (arith, same, early)) in
     addr_spells (draw 16384 at) (draw (2 ^ 32) (past_entries count first)) (draw_entries count first) (peer_drawn at) (draw-small (2 ^ 32) (past_entries count first) (omega arith))
-    (omega (arith, many, draw-small 4 (past at) (omega arith))) (entries_bytes count first)
+    (omega (arith, many, draw-small 4 (past at) (omega arith))) (entries_bytes count first) fit.0 fit.1
 line_spells kind.Good at early = good_spells (draw 16384 at) (peer_drawn at)
 line_spells kind.Attempt at early = attempt_spells (draw 16384 at) (peer_drawn at)
 line_spells kind.Connected at early = connected_spells (draw 16384 at) (peer_drawn at)
@@ -286,29 +341,6 @@ line_spells kind.Select at early = select_spells (draw (2 ^ 32) at) (draw-small 
 line_spells kind.Clash at early = clash_spells (draw (2 ^ 32) at) (draw-small (2 ^ 32) at (omega arith))
 line_spells kind.Resolve at early = resolve_spells
 
-drawn_line_spells : (at : Position) → at.time < 2 ^ 31 → HasCommand (drawn_line at).text
+pub drawn_line_spells : (at : Position) → at.time < 2 ^ 31 → HasCommand (drawn_line at).text
 unfolding drawn_line
 drawn_line_spells at early = line_spells (kind_of (draw 16 at)) (past at) (omega (arith, early, past-time at))
-
-whole : (text : List ℕ) → HasCommand text → (c : Command) × SpellsWhole (text ++ 10 ∷ []) c
-whole text h = (h.0, record { text = text; whole = refl; spells = h.1 })
-
-drawn_lines_spell : (n : ℕ) (at : Position) → IsInTime at.time n → EachSpells (drawn_lines n at)
-drawn_lines_spell zero at in_time = tt
-drawn_lines_spell (suc n) at in_time = (
-  whole (drawn_line at).text (drawn_line_spells at (omega (arith, in_time.early))),
-  drawn_lines_spell n (drawn_line at).after (record { late = omega (arith, in_time.late, on.least); early = omega (arith, in_time.early, on.most) }),
-)
-  where
-    on : GoesOn at.time (drawn_line at).after.time
-    on = drawn_line-time at
-
-pub each_spells : (n : ℕ) (at : Position) → IsInTime at.time n → EachSpells (whole_log n at)
-each_spells zero at in_time = tt
-each_spells (suc n) at in_time = (
-  (first.0, record { text = codes "now " ++ decimal at.time; whole = refl; spells = first.1 }),
-  drawn_lines_spell n at (record { late = in_time.late; early = omega (arith, in_time.early) }),
-)
-  where
-    first : HasCommand (codes "now " ++ decimal at.time)
-    first = now_spells at.time (omega (arith, in_time.early))

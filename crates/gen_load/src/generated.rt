@@ -12,6 +12,8 @@ use std::marker::Model;
 
 /// The maximum number of lines of a log.
 pub const MAX_LINES: u32 = 100_000;
+/// The maximum length of a line of a log in bytes, with its line feed.
+pub const MAX_LENGTH: usize = 300;
 
 /// When a log begins, in seconds since 1970.
 const BEGIN: u32 = 1_700_000_000;
@@ -40,6 +42,7 @@ impl Model for Gen {
 impl Gen {
     ghost use Rattle.std.specs.Prelude.{◌≡◌, ◌≢◌, ◌↔◌, ◌≤◌, ◌++◌, [], IsTrue, IfOk, OnOk, OnErr};
     ghost use Rattle.gen_load.specs.Log.{log, next_line, lines_after};
+    ghost use Rattle.gen_load.specs.Spelling.{IsLine};
     ghost use Rattle.gen_load.specs.declared.generated.TheConstants.{MAX_LINES};
 
     /// Makes the log of a number, with this many lines.
@@ -63,6 +66,7 @@ impl Gen {
         ensures more { IfOk result (λ more. IsTrue more ↔ (self.old ≢ [])) }
         ensures text { OnOk result (out.new.items ≡ out.old.items ++ next_line self.old) }
         ensures lines { OnOk result (self.new ≡ lines_after self.old) }
+        ensures line { OnOk result (self.old ≢ [] → IsLine (next_line self.old)) }
         ensures err_lines { OnErr result (self.new ≡ self.old) }
         ensures err_out { OnErr result (out.new.items ≡ out.old.items) }
     {

@@ -9,6 +9,6 @@ mod memory;
 mod position;
 mod print;
 
-pub use generated::{Gen, MAX_LINES};
+pub use generated::{Gen, MAX_LENGTH, MAX_LINES};
 pub use law::{limits, lines_spell_commands};
 pub use memory::Memory;

@@ -1,6 +1,8 @@
-use Rattle.std.proofs.Common.{rules, ◌≡◌, ◌≢◌, ◌++◌, sym, ap, ◌∙◌, arith, ◌-◌}
+use Rattle.std.proofs.Common.{rules, ◌≡◌, ◌≢◌, ◌++◌, ℕ, List, [], sym, ap, subst, ◌∙◌, arith, ◌-◌}
 use Rattle.gen_load.specs.Inside.{line_with, position_with}
 use Rattle.gen_load.specs.Log.{drawn_lines, next_line, lines_after}
+use Rattle.gen_load.specs.Spelling.{IsLine}
+use Rattle.gen_load.proofs.LineLaws.{next-is_line}
 use Rattle.gen_load.proofs.Lines.{still_in_time, next_text, later_lines, is_some}
 use Rattle.gen_load.proofs.generated.Gen.next.Goals as goal
 
@@ -27,3 +29,8 @@ pub returns-clause-lines : goal.returns-clause-lines
 returns-clause-lines c =
     ap (drawn_lines (c.self.inside.left - 1)) (c.in_ok-line.ensures.after ∙ ap (position_with c.self.inside.begun) (same_position c))
     ∙ sym (later_lines c.self.inside.begun c.self.inside.left c.self.inside.position (some_left c)) ∙ ap lines_after c.self.view_is
+
+pub returns-clause-line : goal.returns-clause-line
+returns-clause-line c =
+    subst (λ (ls : List (List ℕ)). ls ≢ [] → IsLine (next_line ls)) c.self.view_is
+    (next-is_line c.self.inside.begun c.self.inside.left c.self.inside.position c.self.invariant)

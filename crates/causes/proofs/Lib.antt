@@ -1,0 +1,15 @@
+pub mod Along
+pub mod Bytes
+pub mod Caused
+pub mod Displaced
+pub mod Fits
+pub mod KeptTried
+pub mod Laws
+pub mod Reach
+pub mod Restored
+pub mod Runs
+pub mod Sound
+pub mod Stays
+pub mod Steps
+pub mod Examples
+pub mod Leaving

@@ -1,0 +1,62 @@
+-- Runs over lines, one after another, and what a line does to the machine.
+use Rattle.std.proofs.Common.{◌≡◌, ℕ, List, [], ◌∷◌, ◌++◌, Option, refl, sym, ap, subst, ◌∙◌, append_assoc, inl, inr, ⊎_elim, ◌⊎◌}
+use Rattle.std.proofs.lemmas.List.{append-nil}
+use Rattle.log_lines.specs.Spelling.{Spells}
+use Rattle.log_lines.specs.declared.command.Command.{Command}
+use Rattle.log_lines.specs.declared.command.Command.TheVariants as command
+use Rattle.log_lines.specs.declared.reply.Reply.{Reply}
+use Rattle.log_lines.specs.Replies.{reply_text}
+use Rattle.manager.specs.Machine.{Machine}
+use Rattle.manager.specs.Step as manager
+use Rattle.session.specs.Events.{Ended}
+use Rattle.session.specs.History.{History, Step}
+use Rattle.session.specs.Run.{Run}
+use Rattle.session.specs.State.{CommandStep, JobStep, MachineStep, State}
+
+-- a run goes on by one line
+pub Run-more : {S : Type 0} (step : S → List ℕ → List ℕ → S → Type 0) (done : List (List ℕ)) (a b c : S) (line text reply : List ℕ)
+    → Run step a done text b → step b line reply c → Run step a (done ++ line ∷ []) (text ++ reply) c
+Run-more step [] a b c line text reply run one =
+    (reply, [], c, ap (λ t. t ++ reply) run.0 ∙ sym (append-nil reply), subst (λ s. step s line reply c) run.1 one, (refl, refl))
+Run-more step (first ∷ done) a b c line text reply run one =
+    (run.0, run.1 ++ reply, run.2, ap (λ t. t ++ reply) run.3 ∙ append_assoc run.0 run.1 reply, run.4, Run-more step done run.2 b c line run.1 reply run.5 one)
+
+-- the machine stays, or makes a step of the command
+abbrev Moves : Machine → Command → Reply → Machine → Type 0
+Moves old asked answer new = (new ≡ old) ⊎ manager.Step old asked answer new
+
+by_job : (old : State) (asked : Command) (answer : Reply) (new : State) (ended : Option Ended) → JobStep old asked answer new ended → Moves old.machine asked answer new.machine
+by_job old asked answer new ended h = inl (ap (λ (s : State). s.machine) h.2)
+
+by_machine : (old : State) (asked : Command) (answer : Reply) (new : State) (ended : Option Ended) → MachineStep old asked answer new ended → Moves old.machine asked answer new.machine
+by_machine old asked answer new ended h = inr (subst (λ (s : State). manager.Step old.machine asked answer s.machine) (sym h.2) h.1)
+
+command_moves : (old : State) (asked : Command) (answer : Reply) (new : State) (ended : Option Ended) → CommandStep old asked answer new ended → Moves old.machine asked answer new.machine
+command_moves old command.Save answer new ended h = by_job old command.Save answer new ended h
+command_moves old command.SaveBegin answer new ended h = by_job old command.SaveBegin answer new ended h
+command_moves old (command.SaveStep n) answer new ended h = by_job old (command.SaveStep n) answer new ended h
+command_moves old command.SaveEnd answer new ended h = by_job old command.SaveEnd answer new ended h
+command_moves old (command.Now time) answer new ended h = by_machine old (command.Now time) answer new ended h
+command_moves old (command.Addr source payload words) answer new ended h = by_machine old (command.Addr source payload words) answer new ended h
+command_moves old (command.Addr2 source payload words) answer new ended h = by_machine old (command.Addr2 source payload words) answer new ended h
+command_moves old (command.Good peer testing) answer new ended h = by_machine old (command.Good peer testing) answer new ended h
+command_moves old (command.Attempt peer count) answer new ended h = by_machine old (command.Attempt peer count) answer new ended h
+command_moves old (command.Connected peer) answer new ended h = by_machine old (command.Connected peer) answer new ended h
+command_moves old (command.Services peer services) answer new ended h = by_machine old (command.Services peer services) answer new ended h
+command_moves old (command.Find peer) answer new ended h = by_machine old (command.Find peer) answer new ended h
+command_moves old command.Size answer new ended h = by_machine old command.Size answer new ended h
+command_moves old (command.Select new_only nets words) answer new ended h = by_machine old (command.Select new_only nets words) answer new ended h
+command_moves old (command.Sample max pct classes words) answer new ended h = by_machine old (command.Sample max pct classes words) answer new ended h
+command_moves old command.Resolve answer new ended h = by_machine old command.Resolve answer new ended h
+command_moves old (command.Clash word) answer new ended h = by_machine old (command.Clash word) answer new ended h
+command_moves old command.Dump answer new ended h = by_machine old command.Dump answer new ended h
+
+-- a line leaves the machine as it is, or spells a command by which it moves
+pub line_moves : (old : History) (line text : List ℕ) (new : History) → Step old line text new
+    → (new.now.machine ≡ old.now.machine)
+    ⊎ ((asked : Command) × (answer : Reply) × Spells line asked × manager.Step old.now.machine asked answer new.now.machine)
+line_moves old line text new step = ⊎_elim (λ passed. inl (ap (λ (s : State). s.machine) passed.2)) carried step.1
+  where
+    carried : ((asked : Command) × (answer : Reply) × Spells line asked × CommandStep old.now asked answer new.now step.0 × (text ≡ reply_text answer))
+        → (new.now.machine ≡ old.now.machine) ⊎ ((asked : Command) × (answer : Reply) × Spells line asked × manager.Step old.now.machine asked answer new.now.machine)
+    carried h = ⊎_elim inl (λ moves. inr (h.0, h.1, h.2, moves)) (command_moves old.now h.0 h.1 new.now step.0 h.3)

@@ -1,0 +1,4 @@
+pub mod Accepted
+pub mod Buckets
+pub mod Tried
+pub mod Kept
