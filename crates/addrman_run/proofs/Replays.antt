@@ -22,14 +22,20 @@ use Rattle.session.proofs.Promise.{IsCut, IsKept, cut_line, cut_memory, history,
 use Rattle.table_machine.specs.State.{State}
 use Rattle.addrman_run.specs.Asmaps.{IsMapIn, RefusesAsmap}
 use Rattle.addrman_run.specs.Inside.{IsLoadFault, SessionStep, StoppedStep, status_of}
-use Rattle.addrman_run.specs.Opening.{Opens}
+use Rattle.addrman_run.specs.Opening.{Opens, places_of}
+use Rattle.addrman_run.specs.Opening.Opens.{from_file, from_key}
+use Rattle.causes.specs.Kept.{IsOpening, KeepsCauses}
+use Rattle.causes.proofs.Laws.{keeps_causes}
+use Rattle.peer_rec.specs.Snapshot.{Snapshot}
+use Rattle.placing.specs.Places.{Places}
+use Rattle.table_machine.specs.Sound.{IsSound}
 use Rattle.addrman_run.specs.declared.input.Input.TheVariants as input
 use Rattle.addrman_run.specs.declared.status.Status.{Status}
 use Rattle.addrman_run.specs.declared.status.Status.TheVariants as status
 use Rattle.asmap_vm.specs.declared.fault.CodeFault.{CodeFault}
 use Rattle.asmap_vm.specs.declared.fault.CodeFault.TheVariants.{TooLarge}
 use Rattle.manager.specs.Machine.{Machine}
-use Rattle.addrman_run.specs.Replay.{HasMap, IsBetweenLines, IsUntouched, ReplayOutcome, Replayed, at_start, streams_of}
+use Rattle.addrman_run.specs.Replay.{HasMap, IsBetweenLines, IsOpenedFrom, IsUntouched, ReplayOutcome, Replayed, at_start, streams_of}
 
 -- the history of a run, and what it keeps
 pub record Followed (start : History) (lines : List (List ℕ)) (text : List ℕ) (last : session.State) (old now : Option Past) (f g : ℕ) : Type 0 where
@@ -52,7 +58,7 @@ follow past faults (line ∷ lines) text s t w v ended old f run kept =
     let mid = run.2 in
     let one = run.4 in
     let next = follow past faults lines run.1 mid.0 t mid.1 v (onto one.0.ended ended) old f run.5
-        (kept_line s mid.0 ended line run.0 old (past w) (past mid.1) f (faults w) (faults mid.1) kept one.0 one.1 one.2) in
+    (kept_line s mid.0 ended line run.0 old (past w) (past mid.1) f (faults w) (faults mid.1) kept one.0 one.1 one.2) in
     record {
       ended = next.ended;
       runs = (run.0, run.1, history mid.0 (onto one.0.ended ended), run.3, (one.0.ended, one.0.step, refl), next.runs);
@@ -63,6 +69,35 @@ now_weaker : (P Q : Disk → Disk → Type 0) (old new : Option Past) → ((a b 
 now_weaker P Q None new weaker is = tt
 now_weaker P Q (Some o) None weaker is = tt
 now_weaker P Q (Some o) (Some n) weaker is = weaker o.now n.now is
+
+-- the opening, as the law on causes wants it
+pub record Opened (chain : Chain) (past : Option Past) (st : State) : Type 0 where
+  pub file : Option Snapshot
+  pub opened_from : IsOpenedFrom chain past file
+  pub places : Places
+  pub opening : IsOpening file places (at_start chain st)
+
+opened_with : (key : Option (List ℕ)) (chain : Chain) (past : Option Past) (map : Option Asmap) (st : State) → Opens key chain past map st → IsSound st
+    → st.next_number ≤ 81920 → Opened chain past st
+opened_with key chain past map st (from_file snap is_in no_duplicate is) sound few = record {
+  file = Some snap;
+  opened_from = is_in;
+  places = places_of snap.key map;
+  opening = record { tables = is; sound = sound; clock = omega arith; numbers = omega (arith, few) };
+}
+opened_with key chain past map st (from_key given absent is_key is) sound few = record {
+  file = None;
+  opened_from = absent;
+  places = places_of given map;
+  opening = record { tables = is; sound = sound; clock = omega arith; numbers = omega (arith, few) };
+}
+
+-- what a run from it keeps
+keeps : (chain : Chain) (past : Option Past) (st : State) (lines : List (List ℕ)) (o : Opened chain past st) → KeepsCauses o.file st.places (at_start chain st) lines
+keeps chain past st lines o =
+    let k = keeps_causes o.file o.places (at_start chain st) o.opening lines in
+    let same = k.same_places [] (fresh (at_start chain st)) (record { after = lines; cut = refl; few = omega arith; text = []; run = (refl, refl) }) in
+    subst (λ p. KeepsCauses o.file p (at_start chain st) lines) (sym same) k
 
 -- what holds before the next lines, told with them
 exit_before : (h : History) (rest : List (List ℕ)) (start disk : Disk) → AtExit h [] start disk → AtExit h rest start disk
@@ -143,13 +178,15 @@ module _ {F : Type 0} (past : F → Option Past) (faults : F → ℕ) where
   later_rose n f g h le (inr r) = inr r
 
   pub replayed : (key : Option (List ℕ)) (chain : Chain) (map : Option Asmap) (tables : State) (start : session.State) (old new : Outside) (w v : F) (how : LogEnd)
-      → IsMapIn old.past map → Opens key chain old.past map tables → start ≡ at_start chain tables → past w ≡ old.past → old.folder_faults ≤ faults w
+      → IsMapIn old.past map → Opens key chain old.past map tables → start ≡ at_start chain tables → IsSound tables
+      → tables.next_number ≤ 81920 → past w ≡ old.past → old.folder_faults ≤ faults w
       → new.past ≡ past v → new.folder_faults ≡ faults v
       → RanIn (SessionStep past faults) (StoppedStep past faults) HasFault (start, w) (streams_of old) (streams_of new) v how
       → Replayed key chain old new how
-  replayed key chain map tables start old new w v how has_map open_tables begins same_past earlier ends_past ends_faults r =
+  replayed key chain map tables start old new w v how has_map open_tables begins sound few same_past earlier ends_past ends_faults r =
+      let o = opened_with key chain old.past map tables open_tables sound few in
       let h = follow past faults r.ran.answered r.ran.replies start r.ran.now.0 w r.ran.now.1 [] (past w) (faults w) r.ran.runs
-          (kept_start start (past w) (faults w) (ap (λ s. s.job) begins)) in
+      (kept_start start (past w) (faults w) (ap (λ s. s.job) begins)) in
       let f = finish r.ran.now.0 h.ended r.ran.next (past w) (faults w) how r.ran.now.1 v h.kept r.world_ends in
       record {
         map = map;
@@ -175,6 +212,9 @@ module _ {F : Type 0} (past : F → Option Past) (faults : F → ℕ) where
             (subst (λ p. Always (past w) p (SinceEntry (history r.ran.now.0 h.ended) (lines_of r.ran.next))) (sym ends_past) f.since);
         failed_saves = subst (RoseBy (failed h.ended) old.folder_faults) (sym ends_faults) (later_rose (failed h.ended) old.folder_faults (faults w) (faults v) earlier f.failures);
         pieces = λ b. subst (IsOpen r.ran.now.0.job) (sym ends_past) (f.pieces b);
+        file = o.file;
+        opened_from = o.opened_from;
+        causes = keeps chain old.past tables (lines_of r.ran.log) o;
       }
 
   rises_by : (lines : List (List ℕ)) (text : List ℕ) (s t : session.State) (w v : F) → Run (both (SessionStep past faults)) (s, w) lines text (t, v) → faults w ≤ faults v

@@ -1,23 +1,28 @@
 -- What a replay writes and saves, and how it ends.
-use Rattle.std.specs.Prelude.{◌≡◌, ◌⊎◌, ℕ, ◌+◌, List, Option, None, ⊤}
+use Rattle.std.specs.Prelude.{◌≡◌, ◌⊎◌, ℕ, ◌+◌, List, Option, Some, None, ⊤}
 use Rattle.host_io.specs.Lines.{lines_of}
 use Rattle.host_io.specs.Outside.{Outside}
-use Rattle.host_io.specs.Past.{Always}
+use Rattle.host_io.specs.Past.{Always, Past}
 use Rattle.host_io.specs.Reading.{TakesAtMost}
+use Rattle.host_io.specs.declared.name.Name.TheVariants as name
 use Rattle.asmap_vm.specs.Asmap.{Asmap}
+use Rattle.causes.specs.Kept.{KeepsCauses}
 use Rattle.log_lines.specs.Spelling.{HasFault}
 use Rattle.log_run.specs.Run.{Ran, Streams}
 use Rattle.log_run.specs.declared.end.LogEnd.{LogEnd}
 use Rattle.log_run.specs.declared.end.LogEnd.TheVariants as end
 use Rattle.log_run.specs.declared.limits.TheConstants.{MAX_LOG}
+use Rattle.peer_rec.specs.Snapshot.{Snapshot}
 use Rattle.peers_file.specs.declared.chain.Chain.{Chain}
 use Rattle.session.specs.Folders.{IsOpen}
 use Rattle.session.specs.History.{AtExit, Now, RoseBy, SinceEntry, Step, failed, fresh}
 use Rattle.session.specs.State as session
 use Rattle.table_machine.specs.State.{State}
 use Rattle.addrman_run.specs.Asmaps.{IsMapIn, RefusesAsmap}
+use Rattle.addrman_run.specs.InFolder.{IsAbsent}
 use Rattle.addrman_run.specs.Log.{SameLog}
 use Rattle.addrman_run.specs.Opening.{LacksKey, Opens, RefusesTables}
+use Rattle.addrman_run.specs.Peers.{IsSnapshotIn}
 use Rattle.addrman_run.specs.declared.status.Status.{Status}
 use Rattle.addrman_run.specs.declared.status.Status.TheVariants as status
 
@@ -35,11 +40,18 @@ IsBetweenLines end.WriteFault = ⊥
 IsBetweenLines end.Memory = ⊥
 IsBetweenLines other = ⊤
 
+-- the folder's peers.dat, none if there is no such file
+abbrev pub IsOpenedFrom : Chain → Option Past → Option Snapshot → Type 0
+IsOpenedFrom chain past None = IsAbsent name.Peers past
+IsOpenedFrom chain past (Some snap) = IsSnapshotIn chain past snap
+
 -- A replay that got past its opening, by the end of its run over the log. The folder's asmap is
 -- accepted, and the tables are open. The replies to the first lines of the log were written, and of
 -- the next one perhaps a part. A crash now, or at any moment since the start, leaves at peers.dat the
 -- file of a save of this run or what it could leave at the start; now not one from before the last
--- save whose reply is `saved`. No more saves have failed than the folder.
+-- save whose reply is `saved`. No more saves have failed than the folder. After each line the tables
+-- are sound, each bucket that a record is in has a cause, sources of one group reach few buckets, and
+-- a tried record leaves only for another one of its slot.
 pub record Replayed (key : Option (List ℕ)) (chain : Chain) (old new : Outside) (how : LogEnd) : Type 0 where
   pub map : Option Asmap
   pub has_map : IsMapIn old.past map
@@ -50,6 +62,9 @@ pub record Replayed (key : Option (List ℕ)) (chain : Chain) (old new : Outside
   pub since_entry : Always old.past new.past (SinceEntry ran.now (lines_of ran.next))
   pub failed_saves : RoseBy (failed ran.now.ended) old.folder_faults new.folder_faults
   pub pieces : IsBetweenLines how → IsOpen ran.now.now.job new.past
+  pub file : Option Snapshot
+  pub opened_from : IsOpenedFrom chain old.past file
+  pub causes : KeepsCauses file tables.places (at_start chain tables) (lines_of ran.log)
 
 -- nothing was written, and log and folder are as they were
 pub record IsUntouched (old new : Outside) : Type 0 where

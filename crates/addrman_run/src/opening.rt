@@ -2,6 +2,7 @@ ghost use Rattle.std.specs.Prelude.{◌≡◌, ◌≤◌, None, IfOk, IfErr};
 ghost use Rattle.placing.specs.Inside.{map_of};
 ghost use Rattle.peers_file.specs.Layout.{IsFile};
 ghost use Rattle.table_machine.specs.Restoring.{duplicate};
+ghost use Rattle.table_machine.specs.Sound.{IsSound};
 ghost use Rattle.addrman_run.specs.Inside.{IsKeyless, IsNoSnapshot, IsNotOpened, IsNotRestored, OpensWith};
 ghost use Rattle.addrman_run.specs.Opening.{places_of, tables_of};
 
@@ -47,6 +48,7 @@ fn restore_tables<'a, L: Ledger, H: BuildHasher + Drop>(
     ensures found { IfOk result (λ t. (duplicate snap.now ≡ None)
         × (t ≡ tables_of snap.now (map_of map.entry))) }
     ensures small { IfOk result (λ t. t.next_number ≤ MAX_RECORDS) }
+    ensures sound { IfOk result IsSound }
     ensures cause { IfErr result (IsNotRestored snap.now) }
 {
     let placer = Placer::make(snap.key(), map);
@@ -69,6 +71,7 @@ fn empty_tables<'a, H: BuildHasher + Drop>(
 ) -> Result<Tables<'a, H>, Status>
     ensures found { IfOk result (OpensWith key Chain.Main None (map_of map.entry)) }
     ensures small { IfOk result (λ t. t.next_number ≤ MAX_RECORDS) }
+    ensures sound { IfOk result IsSound }
     ensures cause { IfErr result (IsKeyless key) }
 {
     let Some(key) = key else {
@@ -92,6 +95,7 @@ pub(crate) fn open_tables<'a, H: BuildHasher + Drop>(
 ) -> Result<Tables<'a, H>, Status>
     ensures found { IfOk result (OpensWith key chain file.now (map_of map.entry)) }
     ensures small { IfOk result (λ t. t.next_number ≤ MAX_RECORDS) }
+    ensures sound { IfOk result IsSound }
     ensures cause { IfErr result (IsNotOpened key chain file.now) }
 {
     let bytes = match file {

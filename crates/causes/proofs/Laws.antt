@@ -13,7 +13,7 @@ use Rattle.log_lines.specs.declared.reply.Reply.{Reply}
 use Rattle.manager.specs.Machine.{Machine}
 use Rattle.manager.specs.Step as manager
 use Rattle.session.specs.History.{History, Step, fresh}
-use Rattle.session.specs.Run.{Run}
+use Rattle.log_run.specs.Run.{Run}
 use Rattle.session.specs.State.{State}
 use Rattle.table_machine.specs.Sound.{IsSound}
 use Rattle.table_machine.specs.State as tables

@@ -10,7 +10,7 @@ use Rattle.manager.specs.Machine.{Machine}
 use Rattle.manager.specs.Step as manager
 use Rattle.session.specs.Events.{Ended}
 use Rattle.session.specs.History.{History, Step}
-use Rattle.session.specs.Run.{Run}
+use Rattle.log_run.specs.Run.{Run}
 use Rattle.session.specs.State.{CommandStep, JobStep, MachineStep, State}
 
 -- a run goes on by one line

@@ -10,7 +10,7 @@ use Rattle.log_lines.specs.declared.command.Command.TheVariants as command
 use Rattle.manager.specs.Machine.{Machine}
 use Rattle.manager.specs.Messages.{take_entry}
 use Rattle.session.specs.History.{History, Step, fresh}
-use Rattle.session.specs.Run.{Run}
+use Rattle.log_run.specs.Run.{Run}
 use Rattle.session.specs.State.{State}
 use Rattle.table_machine.specs.State as tables
 

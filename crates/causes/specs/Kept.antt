@@ -3,7 +3,7 @@ use Rattle.std.specs.Prelude.{◌≡◌, ℕ, ◌≤◌, ◌<◌, ◌^◌, List,
 use Rattle.placing.specs.Places.{Places}
 use Rattle.peer_rec.specs.Snapshot.{Snapshot}
 use Rattle.session.specs.History.{History, Step, fresh}
-use Rattle.session.specs.Run.{Run}
+use Rattle.log_run.specs.Run.{Run}
 use Rattle.session.specs.State.{State}
 use Rattle.table_machine.specs.Restoring.{restored}
 use Rattle.table_machine.specs.Sound.{IsSound}

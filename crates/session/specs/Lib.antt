@@ -2,5 +2,4 @@ pub mod Events
 pub mod Folders
 pub mod History
 pub mod Inside
-pub mod Run
 pub mod State

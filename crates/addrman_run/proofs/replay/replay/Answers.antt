@@ -23,9 +23,10 @@ returns-in-Err-clause-outcome g c =
 pub returns-in-Err-check_map-clause-outcome : goal.returns-in-Err-check_map-clause-outcome
 returns-in-Err-check_map-clause-outcome g c =
     let old = outside g.L.Source g.F.Folder g.K.Sink c.args.log.now c.args.folder.now c.args.out.now in
-    let new = outside g.L.Source g.F.Folder g.K.Sink c.args.log.now c.load_input.new.folder c.args.out.now in
-    (refuses (g.F.Folder.past c.args.folder.now) c.in-Ok.bytes c.in-Err-check_map.fault c.in-Ok.ensures.found (c.in-Err-check_map.ensures.cause c.in-Err-check_map.fault refl),
-     untouched old new refl refl refl c.load_input.ensures.same)
+    let new = outside g.L.Source g.F.Folder g.K.Sink c.args.log.now c.load_input.new.folder c.args.out.now in (
+      refuses (g.F.Folder.past c.args.folder.now) c.in-Ok.bytes c.in-Err-check_map.fault c.in-Ok.ensures.found (c.in-Err-check_map.ensures.cause c.in-Err-check_map.fault refl),
+      untouched old new refl refl refl c.load_input.ensures.same,
+    )
 
 pub returns-in-Err-load_input-clause-outcome : goal.returns-in-Err-load_input-clause-outcome
 returns-in-Err-load_input-clause-outcome g c =
@@ -64,10 +65,16 @@ returns-clause-outcome g c =
     (opens c.args.key c.args.chain past c.in-Ok-load_input.file map c.in-Ok-open_tables.tables
     (found_before _ past c.in-Ok-load_input.file c.load_input.ensures.same c.in-Ok-load_input.ensures.found) c.in-Ok-open_tables.ensures.found)
     (starts c.args.chain c.in-Ok-open_tables.tables c.make-lines.result c.make-session.result c.open.result c.make-lines.ensures c.make-session.ensures c.open.ensures)
+    c.in-Ok-open_tables.ensures.sound c.in-Ok-open_tables.ensures.small
     (c.load_input-2.ensures.same ∙ c.load_input.ensures.same) (omega (arith, c.load_input.ensures.never_falls, c.load_input-2.ensures.never_falls)) refl refl c.run_log.ensures.ran))
 
 pub returns-clause-disk : goal.returns-clause-disk
-returns-clause-disk g c =
-    (omega (arith, c.load_input.ensures.never_falls, c.load_input-2.ensures.never_falls,
-      rises g.F.Folder.past g.F.Folder.faults c.make-lines.result _ _ c.load_input-2.new.folder c.run_log.new.world c.run_log.result c.run_log.ensures.ran),
-     λ is. absurd (no_disk c.run_log.result (sym c.status_of.ensures ∙ is)))
+returns-clause-disk g c = (
+  omega (
+    arith,
+    c.load_input.ensures.never_falls,
+    c.load_input-2.ensures.never_falls,
+    rises g.F.Folder.past g.F.Folder.faults c.make-lines.result _ _ c.load_input-2.new.folder c.run_log.new.world c.run_log.result c.run_log.ensures.ran,
+  ),
+  λ is. absurd (no_disk c.run_log.result (sym c.status_of.ensures ∙ is)),
+)
