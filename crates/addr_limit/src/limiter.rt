@@ -40,6 +40,7 @@ impl Limiter {
     ghost use Rattle.addr_limit.specs.State.{find_conn, without_conn, IsBounded, AreRising};
     ghost use Rattle.addr_limit.specs.Steps.{new_conn};
     ghost use Rattle.addr_limit.specs.Tokens.{refill, intake, intake_count, admit_conn};
+    ghost use Rattle.addr_limit.specs.Inside.{IsConn};
     ghost use Rattle.addr_limit.specs.Calls.{asked_of, after_open, after_asking, after_taking, after_message};
 
     /// Makes the limit, with no connections.
@@ -55,6 +56,7 @@ impl Limiter {
     pub fn find(&self, number: u32) -> Option<&Conn>
         ensures found { option_copied result ≡ find_conn number self.now }
         ensures bounded { IfSome result (λ c. IsBounded c.now) }
+        ensures fits { IfSome result (λ c. IsConn c.now) }
         ensures rising { AreRising self.now }
     {
         find_in(&self.conns, number)
@@ -144,6 +146,16 @@ impl Limiter {
     }
 }
 
+/// Returns how many of this many entries are admitted from the connection at the time `clock`, in
+/// seconds since 1970.
+pub(crate) fn admitted(conn: &Conn, count: u32, clock: u32) -> u32
+    requires { IsConn conn.now }
+    ensures count { result ≡ intake_count (refill clock conn.now) count }
+    ensures few { result ≤ count }
+{
+    intake_count(&refilled(conn, clock), count)
+}
+
 /// Returns the connection with the tokens of the time up to `clock`, in seconds since 1970.
 fn refilled(conn: &Conn, clock: u32) -> Conn
     requires { IsConn conn.now }
@@ -167,7 +179,8 @@ fn refilled(conn: &Conn, clock: u32) -> Conn
 
 /// Returns how many of this many entries are admitted.
 fn intake_count(conn: &Conn, count: u32) -> u32
-    ensures { result ≡ intake_count conn.now count }
+    ensures count { result ≡ intake_count conn.now count }
+    ensures few { result ≤ count }
 {
     if conn.unlimited {
         count

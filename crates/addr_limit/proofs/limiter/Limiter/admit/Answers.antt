@@ -14,4 +14,4 @@ returns-clause-entries c = λ entries many.
 
 pub returns-clause-first : goal.returns-clause-first
 returns-clause-first c = λ entries many.
-    first_are c.args.now c.args.count entries many _ c.in-Some.conn.now c.refilled-conn.result (found c) c.refilled-conn.ensures.value c.intake_count-taken.result c.intake_count-taken.ensures
+    first_are c.args.now c.args.count entries many _ c.in-Some.conn.now c.refilled-conn.result (found c) c.refilled-conn.ensures.value c.intake_count-taken.result c.intake_count-taken.ensures.count
