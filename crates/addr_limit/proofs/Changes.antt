@@ -1,8 +1,9 @@
 -- The calls of `Limiter` change the connections as the events say.
-use Rattle.std.proofs.Common.{◌≡◌, ℕ, ◌+◌, ◌≤◌, List, [], ◌∷◌, length, map, filter, not, Option, Some, None, IfSome, is_none, nat_lt, if◌then◌else◌, ◌==◌, Bool, true, false, Result, Ok, Err, min, refl, sym, ◌∙◌, ap, subst, arith}
+use Rattle.std.proofs.Common.{◌≡◌, ℕ, ◌+◌, ◌≤◌, List, [], ◌∷◌, length, map, filter, not, Option, Some, None, IfSome, is_none, nat_lt, unwrap_or, if◌then◌else◌, ◌==◌, Bool, true, false, Result, Ok, Err, min, refl, sym, ◌∙◌, ap, subst, arith}
 use Rattle.std.specs.List.{AllByRecursion, zip}
 use Rattle.std.specs.List.Sorted.{IsStrictlySortedBy}
 use Rattle.std.specs.Ordering.{nat_cmp}
+use Rattle.std.proofs.lemmas.Bool.{eqb-true}
 use Rattle.std.proofs.lemmas.Bool.Decides.{nat_tests}
 use Rattle.std.proofs.lemmas.Slice.Zip.{length-zip}
 use Rattle.net_addr.specs.Address.{Address}
@@ -20,40 +21,41 @@ use Rattle.addr_limit.specs.Calls.{after_open, after_asking, after_message}
 
 without-none : (number : ℕ) (conns : List Conn) → find_conn number conns ≡ None → without_conn number conns ≡ conns
 without-none number [] h = refl
-without-none number (c ∷ conns) h = by (c.number == number) h
+without-none number (c ∷ conns) h = by (c.number == number) h (without-none number conns)
   where
-    by : (b : Bool) → (if b then Some c else find_conn number conns) ≡ None → (if not b then c ∷ without_conn number conns else without_conn number conns) ≡ c ∷ conns
-    by true e = absurd cc
-    by false e = ap (λ cs. c ∷ cs) (without-none number conns e)
+    by : (b : Bool) → (if b then Some c else find_conn number conns) ≡ None → (find_conn number conns ≡ None → without_conn number conns ≡ conns) →
+        (if not b then c ∷ without_conn number conns else without_conn number conns) ≡ c ∷ conns
+    by true e rest = absurd cc
+    by false e rest = ap (λ cs. c ∷ cs) (rest e)
 
 -- the numbers of all connections after the first are greater
 above : (c : Conn) (conns : List Conn) (d : Conn) (number : ℕ) → AllByRecursion (λ k. nat_cmp c.number k ≡ nat_cmp 0 1) (map (λ e. e.number) conns) → find_conn number conns ≡ Some d → nat_lt c.number number ≡ true
 above c [] d number h e = absurd cc
-above c (x ∷ conns) d number h e = by (x.number == number) refl e
+above c (x ∷ conns) d number h e = by (x.number == number) refl e (above c conns d number h.1)
   where
-    by : (b : Bool) → (x.number == number) ≡ b → (if b then Some x else find_conn number conns) ≡ Some d → nat_lt c.number number ≡ true
-    by true at e = grind (arith, nat_tests, h.0, at)
-    by false at e = above c conns d number h.1 e
+    by : (b : Bool) → (x.number == number) ≡ b → (if b then Some x else find_conn number conns) ≡ Some d → (find_conn number conns ≡ Some d → nat_lt c.number number ≡ true) → nat_lt c.number number ≡ true
+    by true at e rest = grind (arith, nat_tests, h.0, at)
+    by false at e rest = rest e
 
 with-found : (c : Conn) (conns : List Conn) → AreRising conns → find_conn c.number conns ≡ Some c → with_conn c conns ≡ conns
 unfolding IsStrictlySortedBy
 with-found c [] rising h = absurd cc
-with-found c (d ∷ conns) rising h = by (d.number == c.number) refl h
+with-found c (d ∷ conns) rising h = by (d.number == c.number) refl h (with-found c conns rising.1)
   where
-    by : (b : Bool) → (d.number == c.number) ≡ b → (if b then Some d else find_conn c.number conns) ≡ Some c → with_conn c (d ∷ conns) ≡ d ∷ conns
-    by true at e =
+    by : (b : Bool) → (d.number == c.number) ≡ b → (if b then Some d else find_conn c.number conns) ≡ Some c → (find_conn c.number conns ≡ Some c → with_conn c conns ≡ conns) → with_conn c (d ∷ conns) ≡ d ∷ conns
+    by true at e rest =
         let same : d ≡ c = cc in
         grind (arith, nat_tests, at, same)
-    by false at e = grind (arith, nat_tests, at, above d conns c c.number rising.0 e, with-found c conns rising.1 e)
+    by false at e rest = grind (arith, nat_tests, at, above d conns c c.number rising.0 e, rest e)
 
 -- what is found has the number
 found-number : (number : ℕ) (conns : List Conn) (c : Conn) → find_conn number conns ≡ Some c → c.number ≡ number
 found-number number [] c h = absurd cc
-found-number number (d ∷ conns) c h = by (d.number == number) refl h
+found-number number (d ∷ conns) c h = by (d.number == number) refl h (found-number number conns c)
   where
-    by : (b : Bool) → (d.number == number) ≡ b → (if b then Some d else find_conn number conns) ≡ Some c → c.number ≡ number
-    by true at e = grind (arith, nat_tests, at, e)
-    by false at e = found-number number conns c e
+    by : (b : Bool) → (d.number == number) ≡ b → (if b then Some d else find_conn number conns) ≡ Some c → (find_conn number conns ≡ Some c → c.number ≡ number) → c.number ≡ number
+    by true at e rest = ap (λ o. (unwrap_or o d).number) (sym e) ∙ eqb-true d.number number at
+    by false at e rest = rest e
 
 -- what is found, put back, changes nothing
 pub set-found : (number : ℕ) (conns : List Conn) → AreRising conns → set_conn number (find_conn number conns) conns ≡ conns
@@ -97,7 +99,7 @@ module _ (now number : ℕ) (conns : List Conn) (rising : AreRising conns) where
   pub getaddr-is : after_asking (find_conn number conns) conns ≡ Next GetAddr
   getaddr-is = by (find_conn number conns) (set-found number conns rising)
     where
-      asked_or_not : (c : Conn) (b : Bool) → set_conn number (Some c) conns ≡ conns → (if b then conns else with_conn (record c { tenths = c.tenths + 10000; asked = true }) conns)
+      asked_or_not : (c : Conn) (b : Bool) → set_conn number (Some c) conns ≡ conns → (if b then conns else with_conn (if b then c else record c { tenths = c.tenths + 10000; asked = true }) conns)
           ≡ with_conn (if b then c else record c { tenths = c.tenths + 10000; asked = true }) conns
       asked_or_not c true same = sym same
       asked_or_not c false same = refl
@@ -124,8 +126,8 @@ module _ (now number : ℕ) (conns : List Conn) (rising : AreRising conns) where
   short-is entries words short = by (find_conn number conns) (set-found number conns rising)
     where
       by_test : (c : Conn) (b : Bool) (o p : Outcome) → o.conn ≡ Some c → b ≡ true → (if b then o else p).conn ≡ Some c
-      by_test c true o p is yes = is
-      by_test c false o p is yes = absurd cc
+      by_test c true o p is holds = is
+      by_test c false o p is holds = absurd cc
 
       by : (o : Option Conn) → set_conn number o conns ≡ conns → conns ≡ set_conn number (serve now number o (Message (Ok entries) words)).conn conns
       by None same = sym same
@@ -136,11 +138,16 @@ module _ (now number : ℕ) (conns : List Conn) (rising : AreRising conns) where
   taken-is entries words enough = by (find_conn number conns) (set-found number conns rising)
     where
       by_test : (b : Bool) (o p : Outcome) → b ≡ false → (if b then o else p).conn ≡ p.conn
-      by_test true o p no = absurd cc
-      by_test false o p no = refl
+      by_test true o p fails = absurd cc
+      by_test false o p fails = refl
 
       by : (o : Option Conn) → set_conn number o conns ≡ conns → after_message now entries o conns ≡ set_conn number (serve now number o (Message (Ok entries) words)).conn conns
       by None same = sym same
       by (Some c) same =
           ap (λ d. with_conn d conns) (entries-pairs (refill now c) entries words enough)
           ∙ sym (ap (λ o. set_conn number o conns) (by_test (nat_lt (length words) (length entries)) _ (take_entries (refill now c) (zip entries words)) enough))
+
+-- the connections after a request that is known
+pub along : (now number : ℕ) (conns new : List Conn) (request is : Request) → request ≡ is → new ≡ set_conn number (serve now number (find_conn number conns) is).conn conns →
+    new ≡ set_conn number (serve now number (find_conn number conns) request).conn conns
+along now number conns new request is same h = h ∙ ap (λ r. set_conn number (serve now number (find_conn number conns) r).conn conns) (sym same)

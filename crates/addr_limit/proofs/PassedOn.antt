@@ -1,7 +1,7 @@
 -- The entries of a message that are passed on.
-use Rattle.std.proofs.Common.{◌≡◌, ◌≢◌, ℕ, ◌+◌, ◌≤◌, ◌<◌, List, [], ◌∷◌, ◌++◌, length, get_or, take, map, All, Option, Some, None, option_map, if◌then◌else◌, Bool, true, false, refl, sym, ◌∙◌, ap, subst, arith}
+use Rattle.std.proofs.Common.{◌≡◌, ◌≢◌, ℕ, suc, min, ◌+◌, ◌≤◌, ◌<◌, List, [], ◌∷◌, ◌++◌, length, get_or, take, map, All, Option, Some, None, option_map, if◌then◌else◌, Bool, true, false, true≢false, refl, sym, ◌∙◌, ap, subst, arith}
 use Rattle.std.specs.List.{zip, filter_map, cons_option}
-use Rattle.std.proofs.lemmas.List.{take_more, map-append}
+use Rattle.std.proofs.lemmas.List.{take_more, map-append, append-nil, length-take}
 use Rattle.std.proofs.lemmas.List.Elements.{filter_map-append, All-nil, All-cons}
 use Rattle.std.proofs.lemmas.Slice.Zip.{length-zip, get_or-zip}
 use Rattle.net_addr.specs.declared.entry.Entry.{Entry}
@@ -22,3 +22,50 @@ one_more es ws i lt enough =
     ap (filter_map for_output) (take_more (zip es ws) i (None, 0) inside)
     ∙ filter_map-append for_output (take i (zip es ws)) (get_or (zip es ws) i (None, 0) ∷ [])
     ∙ ap (λ p. passing es ws i ++ cons_option (for_output p) []) (get_or-zip es ws i (None, 0) lt (omega (arith, lt, enough)))
+
+module _ (es : List (Option Entry)) (ws : List ℕ) (i : ℕ) (lt : i < length es) (enough : length es ≤ length ws) where
+  pub kept : (e : Entry) → unless_hidden (get_or es i None) ≡ Some e → passing es ws (i + 1) ≡ passing es ws i ++ (e, get_or ws i 0) ∷ []
+  kept e is = one_more es ws i lt enough ∙ ap (λ o. passing es ws i ++ cons_option (option_map (λ d. (d, get_or ws i 0)) o) []) is
+
+  pub left_out : unless_hidden (get_or es i None) ≡ None → passing es ws (i + 1) ≡ passing es ws i
+  left_out is = one_more es ws i lt enough ∙ ap (λ o. passing es ws i ++ cons_option (option_map (λ d. (d, get_or ws i 0)) o) []) is ∙ append-nil (passing es ws i)
+
+  pub first_kept : (e : Entry) → unless_hidden (get_or es i None) ≡ Some e → map (λ p. p.0) (passing es ws i) ++ e ∷ [] ≡ map (λ p. p.0) (passing es ws (i + 1))
+  first_kept e is = sym (map-append (λ p. p.0) (passing es ws i) ((e, get_or ws i 0) ∷ [])) ∙ ap (map (λ p. p.0)) (sym (kept e is))
+
+  pub word_kept : (e : Entry) → unless_hidden (get_or es i None) ≡ Some e → map (λ p. p.1) (passing es ws i) ++ get_or ws i 0 ∷ [] ≡ map (λ p. p.1) (passing es ws (i + 1))
+  word_kept e is = sym (map-append (λ p. p.1) (passing es ws i) ((e, get_or ws i 0) ∷ [])) ∙ ap (map (λ p. p.1)) (sym (kept e is))
+
+-- ---- what is passed on can be written
+
+abbrev IsPublic : Entry → Type 0
+IsPublic e = e.peer.addr.net ≢ Internal
+
+not_internal : (net : Net) → is_internal net ≡ false → net ≢ Internal
+not_internal net h e = true≢false (sym (ap is_internal e) ∙ h)
+
+all_public : (ps : List (Option Entry × ℕ)) → All IsPublic (map (λ p. p.0) (filter_map for_output ps))
+all_public [] = All-nil IsPublic
+all_public ((None, w) ∷ ps) = all_public ps
+all_public ((Some e, w) ∷ ps) = by (is_internal e.peer.addr.net) refl (all_public ps)
+  where
+    by : (b : Bool) → is_internal e.peer.addr.net ≡ b → All IsPublic (map (λ p. p.0) (filter_map for_output ps)) →
+        All IsPublic (map (λ p. p.0) (cons_option (option_map (λ d. (d, w)) (if b then None else Some e)) (filter_map for_output ps)))
+    by true at rest = rest
+    by false at rest = All-cons IsPublic e (map (λ p. p.0) (filter_map for_output ps)) (not_internal e.peer.addr.net at) rest
+
+no_more : (ps : List (Option Entry × ℕ)) → length (map (λ p. p.0) (filter_map for_output ps)) ≤ length ps
+no_more [] = omega arith
+no_more ((None, w) ∷ ps) = omega (arith, no_more ps)
+no_more ((Some e, w) ∷ ps) = by (is_internal e.peer.addr.net) (no_more ps)
+  where
+    by : (b : Bool) → length (map (λ p. p.0) (filter_map for_output ps)) ≤ length ps →
+        length (map (λ p. p.0) (cons_option (option_map (λ d. (d, w)) (if b then None else Some e)) (filter_map for_output ps))) ≤ suc (length ps)
+    by true rest = omega (arith, rest)
+    by false rest = omega (arith, rest)
+
+pub are_passing : (es : List (Option Entry)) (ws : List ℕ) (n : ℕ) (entries : List Entry) → n ≤ 1000 → entries ≡ map (λ p. p.0) (passing es ws n) → ArePassing entries
+are_passing es ws n entries few is = record {
+  count = omega (arith, few, ap length is, no_more (take n (zip es ws)), length-take n (zip es ws));
+  networks = subst (All IsPublic) (sym is) (all_public (take n (zip es ws)));
+}
