@@ -1,13 +1,17 @@
 -- The entries of a message that are passed on.
-use Rattle.std.proofs.Common.{◌≡◌, ◌≢◌, ℕ, suc, min, ◌+◌, ◌≤◌, ◌<◌, List, [], ◌∷◌, ◌++◌, length, get_or, take, map, All, Option, Some, None, option_map, if◌then◌else◌, Bool, true, false, true≢false, refl, sym, ◌∙◌, ap, subst, arith}
+use Rattle.std.proofs.Common.{◌≡◌, ◌≢◌, ℕ, suc, min, ◌+◌, ◌≤◌, ◌<◌, List, [], ◌∷◌, ◌++◌, length, get_or, take, map, All, Option, Some, None, option_map, Ok, nat_lt, if◌then◌else◌, Bool, true, false, true≢false, refl, sym, ◌∙◌, ap, subst, arith}
 use Rattle.std.specs.List.{zip, filter_map, cons_option}
 use Rattle.std.proofs.lemmas.List.{take_more, map-append, append-nil, length-take}
+use Rattle.std.proofs.lemmas.Bool.Decides.{nat_tests}
 use Rattle.std.proofs.lemmas.List.Elements.{filter_map-append, All-nil, All-cons}
 use Rattle.std.proofs.lemmas.Slice.Zip.{length-zip, get_or-zip}
 use Rattle.net_addr.specs.declared.entry.Entry.{Entry}
 use Rattle.net_addr.specs.declared.net.Net.{Net}
 use Rattle.net_addr.specs.declared.net.Net.TheVariants.{Internal}
-use Rattle.addr_limit.specs.Steps.{is_internal, unless_hidden, for_output}
+use Rattle.addr_limit.specs.declared.conn.Conn.{Conn}
+use Rattle.addr_limit.specs.Tokens.{refill, intake, intake_count}
+use Rattle.addr_limit.specs.Steps.{Outcome, is_internal, unless_hidden, for_output, message_line, take_message}
+use Rattle.addr_limit.proofs.Tokens.{intake-first}
 use Rattle.addr_limit.specs.Inside.{ArePassing}
 
 abbrev pub passing : List (Option Entry) → List ℕ → ℕ → List (Entry × ℕ)
@@ -69,3 +73,24 @@ are_passing es ws n entries few is = record {
   count = omega (arith, few, ap length is, no_more (take n (zip es ws)), length-take n (zip es ws));
   networks = subst (All IsPublic) (sym is) (all_public (take n (zip es ws)));
 }
+
+-- ---- the output line of a message
+
+same_line : (now : ℕ) (c : Conn) (ps : List (Entry × ℕ)) → message_line c ps ≡ message_line (refill now c) ps
+same_line now c [] = refl
+same_line now c (p ∷ ps) = refl
+
+pub message_line-is : (now : ℕ) (c : Conn) (es : List (Option Entry)) (ws : List ℕ) (n : ℕ) → n ≡ intake_count (refill now c) (length es) → nat_lt (length ws) (length es) ≡ false →
+    message_line c (passing es ws n) ≡ (take_message now c (Ok es) ws).text
+message_line-is now c es ws n is enough =
+    same_line now c (passing es ws n) ∙ ap (λ ps. message_line (refill now c) (filter_map for_output ps)) (sym first) ∙ sym (by (nat_lt (length ws) (length es)) _ _ enough)
+  where
+    all : length (zip es ws) ≡ length es
+    all = grind (arith, nat_tests, enough, length-zip es ws)
+
+    first : intake (refill now c) (zip es ws) ≡ take n (zip es ws)
+    first = intake-first (refill now c) (zip es ws) ∙ ap (λ m. take m (zip es ws)) (ap (intake_count (refill now c)) all ∙ sym is)
+
+    by : (b : Bool) (o p : Outcome) → b ≡ false → (if b then o else p).text ≡ p.text
+    by true o p fails = absurd cc
+    by false o p fails = refl
