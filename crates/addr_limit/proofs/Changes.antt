@@ -1,5 +1,5 @@
 -- The calls of `Limiter` change the connections as the events say.
-use Rattle.std.proofs.Common.{◌≡◌, ℕ, ◌+◌, ◌≤◌, List, [], ◌∷◌, length, map, filter, not, Option, Some, None, IfSome, is_none, nat_lt, unwrap_or, if◌then◌else◌, ◌==◌, Bool, true, false, Result, Ok, Err, min, refl, sym, ◌∙◌, ap, subst, arith}
+use Rattle.std.proofs.Common.{◌≡◌, ℕ, ◌+◌, ◌≤◌, List, [], ◌∷◌, length, map, not, Option, Some, None, is_none, nat_lt, unwrap_or, if◌then◌else◌, ◌==◌, Bool, true, false, Ok, Err, refl, sym, ◌∙◌, ap, subst, arith}
 use Rattle.std.specs.List.{AllByRecursion, zip}
 use Rattle.std.specs.List.Sorted.{IsStrictlySortedBy}
 use Rattle.std.specs.Ordering.{nat_cmp}
@@ -13,8 +13,8 @@ use Rattle.addr_limit.specs.declared.conn.Conn.{Conn}
 use Rattle.addr_limit.specs.declared.request.Request.{Request}
 use Rattle.addr_limit.specs.declared.request.Request.TheVariants.{Open, Close, GetAddr, Message, Stat}
 use Rattle.addr_limit.specs.State.{find_conn, with_conn, without_conn, set_conn, AreRising}
-use Rattle.addr_limit.specs.Tokens.{refill, after_getaddr, after_entry, after_entries}
-use Rattle.addr_limit.specs.Steps.{Outcome, new_conn, serve, take_message, take_entries}
+use Rattle.addr_limit.specs.Tokens.{refill, after_entry, after_entries}
+use Rattle.addr_limit.specs.Steps.{Outcome, new_conn, serve, take_entries}
 use Rattle.addr_limit.specs.Calls.{after_open, after_asking, after_message}
 
 -- ---- a connection that stays
@@ -78,6 +78,16 @@ entries-pairs c entries words enough = entries-length c entries (zip entries wor
 
 -- ---- the requests
 
+pub close-is : (now number : ℕ) (conns : List Conn) → without_conn number conns ≡ set_conn number (serve now number (find_conn number conns) Close).conn conns
+close-is now number conns = by (find_conn number conns)
+  where
+    by : (o : Option Conn) → without_conn number conns ≡ set_conn number (serve now number o Close).conn conns
+    by None = refl
+    by (Some c) = refl
+
+pub enough_words : (m n : ℕ) → m ≤ n → nat_lt n m ≡ false
+enough_words m n h = grind (arith, nat_tests, h)
+
 module _ (now number : ℕ) (conns : List Conn) (rising : AreRising conns) where
   abbrev Next : Request → List Conn
   Next request = set_conn number (serve now number (find_conn number conns) request).conn conns
@@ -88,13 +98,6 @@ module _ (now number : ℕ) (conns : List Conn) (rising : AreRising conns) where
       by : (o : Option Conn) → set_conn number o conns ≡ conns → (if is_none o then with_conn (new_conn number addr unlimited now) conns else conns) ≡ set_conn number (serve now number o (Open addr unlimited)).conn conns
       by None same = refl
       by (Some c) same = sym same
-
-  pub close-is : without_conn number conns ≡ Next Close
-  close-is = by (find_conn number conns)
-    where
-      by : (o : Option Conn) → without_conn number conns ≡ set_conn number (serve now number o Close).conn conns
-      by None = refl
-      by (Some c) = refl
 
   pub getaddr-is : after_asking (find_conn number conns) conns ≡ Next GetAddr
   getaddr-is = by (find_conn number conns) (set-found number conns rising)

@@ -1,10 +1,8 @@
 -- A line says one event or has one fault.
-use Rattle.std.proofs.Common.{◌≡◌, ◌≢◌, ◌⊎◌, ℕ, ◌<◌, ◌^◌, Bool, List, [], ◌∷◌, codes, get_or, length, Option, Result, Ok, Err, refl, sym, ap, subst, ◌∙◌, arith, inl, inr}
+use Rattle.std.proofs.Common.{◌≡◌, ◌≢◌, ◌⊎◌, ℕ, Bool, List, [], ◌∷◌, codes, get_or, refl, sym, ap, subst, ◌∙◌, arith, inl, inr}
 use Rattle.std.specs.Prelude.{◌==◌, if◌then◌else◌}
 use Rattle.net_addr.specs.Address.{Address}
-use Rattle.net_addr.specs.declared.entry.Entry.{Entry}
-use Rattle.addr_codecs.specs.declared.fault.MsgFault.{MsgFault}
-use Rattle.log_lines.specs.Fields.{Kind, OfAddr, Hex, Random, Either, Value, TheNumber, TheAddr, TheBytes, TheWords, TheChoice, fields_of, Means, IsDefinite, AllMean, IsFirstFault, AreAtFault}
+use Rattle.log_lines.specs.Fields.{Kind, Hex, Random, Value, TheNumber, TheAddr, TheBytes, TheWords, TheChoice, fields_of, Means, IsDefinite, AllMean, IsFirstFault, AreAtFault}
 use Rattle.log_lines.specs.Spelling.{u32_field}
 use Rattle.log_lines.specs.declared.fault.LineFault.{LineFault}
 use Rattle.log_lines.specs.declared.fault.LineFault.TheVariants as fault
@@ -15,7 +13,7 @@ use Rattle.addr_limit.specs.declared.verb.Verb.TheVariants as v
 use Rattle.addr_limit.specs.declared.event.Event.{Event}
 use Rattle.addr_limit.specs.declared.event.Event.TheVariants.{Now, Of, Nothing}
 use Rattle.addr_limit.specs.declared.request.Request.{Request}
-use Rattle.addr_limit.specs.declared.request.Request.TheVariants.{Open, Close, GetAddr, Message, Stat}
+use Rattle.addr_limit.specs.declared.request.Request.TheVariants.{Open, Close, Message}
 use Rattle.wire_num.proofs.ReadingLaws.{AreBytes}
 use Rattle.addr_limit.specs.Lines.{word_of, kinds_of, IsRead, IsRead2, Asks, SaysAfter, Says, IsOther, HasFault}
 use Rattle.addr_limit.proofs.Payloads.{hex_is_bytes, one_reading, one_reading2}

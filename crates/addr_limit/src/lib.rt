@@ -19,7 +19,9 @@ mod verb;
 pub use asked::Asked;
 pub use conn::Conn;
 pub use event::Event;
-pub use law::{connections_are_apart, lines_have_one_meaning, tokens_are_bounded};
+pub use law::{
+    calls_are_events, connections_are_apart, lines_have_one_meaning, tokens_are_bounded,
+};
 pub use limit_log::LimitLog;
 pub use limiter::Limiter;
 pub use memory::Memory;

@@ -4,6 +4,7 @@ ghost use Rattle.addr_limit.specs.Steps.{serve};
 ghost use Rattle.addr_limit.specs.Inside.{IsShort, IsShortRead};
 ghost use Rattle.addr_limit.specs.declared.request.Request;
 
+use crate::passing::count_of;
 use crate::print::output_line;
 use crate::read::read_event;
 use crate::{Event, Limiter, Memory, Request};
@@ -49,12 +50,7 @@ impl LimitLog {
     /// Carries out a line, which has no line feed, and appends its output line and a line feed. A
     /// line with another first field than those of events is passed on as it is. After an error
     /// nothing has changed.
-    pub fn step(
-        &mut self,
-        alloc: Global,
-        line: &[u8],
-        out: &mut Vec<u8>,
-    ) -> Result<(), LineFault>
+    pub fn step(&mut self, alloc: Global, line: &[u8], out: &mut Vec<u8>) -> Result<(), LineFault>
         requires short { length line.now ≤ MAX_LINE }
         ensures step { OnOk result ((text : List ℕ)
             × LimitStep self.old line.now text self.new
@@ -124,12 +120,7 @@ impl LimitLog {
 }
 
 /// Changes the connection of a number as the request says, at a time in seconds since 1970.
-fn change(
-    limiter: &mut Limiter,
-    clock: u32,
-    number: u32,
-    request: &Request,
-) -> Result<(), Memory>
+fn change(limiter: &mut Limiter, clock: u32, number: u32, request: &Request) -> Result<(), Memory>
     requires rising { AreRising limiter.old }
     requires short { IsShort request.now }
     ensures change { OnOk result (limiter.new ≡ set_conn number
@@ -170,9 +161,9 @@ fn take_message(
     let Ok(entries) = read else {
         return;
     };
-    let count = entries.items().len();
-    if count <= words.items().len() {
-        limiter.admit(number, count as u32, clock);
+    let entries = entries.items();
+    if entries.len() <= words.items().len() {
+        limiter.admit(number, count_of(entries), clock);
     }
 }
 

@@ -14,6 +14,15 @@ pub(crate) struct Passing {
     pub(crate) words: Vec<u64>,
 }
 
+/// Returns how many entries a message has. Those that are skipped or internal count too, and cost
+/// a token as others do.
+pub(crate) fn count_of(entries: &[Option<Entry>]) -> u32
+    requires { length entries.now ≤ 1000 }
+    ensures { result ≡ length entries.now }
+{
+    entries.len() as u32
+}
+
 /// Returns those of the first `taken` entries that are passed on, with their words.
 pub(crate) fn passing_entries(
     alloc: Global,

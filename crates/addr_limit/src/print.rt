@@ -5,7 +5,7 @@ ghost use Rattle.addr_limit.specs.Steps.{comment, stat_text, addrv2_line, messag
 ghost use Rattle.addr_limit.specs.Inside.{IsConn, IsShort, IsShortRead, ArePassing};
 
 use crate::limiter::admitted;
-use crate::passing::{Passing, passing_entries};
+use crate::passing::{Passing, count_of, passing_entries};
 use crate::{Conn, Memory, Request};
 use addr_codecs::{Entries, MsgFault, write_addrv2};
 use host_io::LINE_FEED;
@@ -55,12 +55,7 @@ fn unknown_line(
 }
 
 /// Returns the output line of a request about a connection.
-fn known_line(
-    alloc: Global,
-    clock: u32,
-    conn: &Conn,
-    request: &Request,
-) -> Result<Vec<u8>, Memory>
+fn known_line(alloc: Global, clock: u32, conn: &Conn, request: &Request) -> Result<Vec<u8>, Memory>
     requires conn { IsConn conn.now }
     requires short { IsShort request.now }
     ensures { IfOk result (λ text. text.items
@@ -130,7 +125,7 @@ fn read_line(
         let (need, have) = (entries.len() as u32, words.len() as u32);
         return reply_line(alloc, conn.number, &Reply::Short { need, have });
     }
-    let taken = admitted(conn, entries.len() as u32, clock);
+    let taken = admitted(conn, count_of(entries), clock);
     let passing = passing_entries(alloc, entries, words, taken as usize)?;
     entries_line(alloc, conn, &passing)
 }
@@ -189,12 +184,7 @@ fn addrv2_line(
 }
 
 /// Returns a comment line.
-fn comment_line(
-    alloc: Global,
-    word: &[u8],
-    number: u32,
-    said: &[u8],
-) -> Result<Vec<u8>, Memory>
+fn comment_line(alloc: Global, word: &[u8], number: u32, said: &[u8]) -> Result<Vec<u8>, Memory>
     ensures { IfOk result (λ text. text.items
         ≡ comment word.now number said.now ++ 10 ∷ []) }
 {

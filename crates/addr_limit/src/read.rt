@@ -58,11 +58,7 @@ fn verb_of(word: &[u8]) -> Option<Verb>
 }
 
 /// Reads the fields after a verb: a connection's number, and what is asked of it.
-fn read_request(
-    alloc: Global,
-    verb: Verb,
-    rest: Option<&[u8]>,
-) -> Result<(u32, Request), LineFault>
+fn read_request(alloc: Global, verb: Verb, rest: Option<&[u8]>) -> Result<(u32, Request), LineFault>
     requires { IfSome rest (λ text. length text.now ≤ MAX_LINE) }
     ensures found { IfOk result (λ r. SaysAfter verb (texts_after rest.entry) r.0 r.1) }
     ensures short { IfOk result (λ r. IsShort r.1) }

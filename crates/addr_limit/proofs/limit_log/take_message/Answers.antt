@@ -9,17 +9,17 @@ returns-in_default c =
     along c.args.clock c.args.number c.args.limiter.now _ _ _ (ap (λ read. Message read c.args.words.now) c.in_default.is)
     (refused-is c.args.clock c.args.number c.args.limiter.now c.requires.rising c.in_default.field-0 c.args.words.now)
 
-pub returns-then-count-items : goal.returns-then-count-items
-returns-then-count-items c =
+pub returns-then-entries-items : goal.returns-then-entries-items
+returns-then-entries-items c =
     let enough : nat_lt (length c.args.words.now) (length c.in-Ok.entries) ≡ false =
-    grind (arith, nat_tests, c.if-count-items.true, c.items.ensures.items, c.items-count.ensures) in
+    grind (arith, nat_tests, c.if-entries-items.true, c.items.ensures.items, c.items-entries.ensures) in
     along c.args.clock c.args.number c.args.limiter.now _ _ _ (ap (λ read. Message read c.args.words.now) c.in-Ok.is)
     (c.admit.ensures.entries c.in-Ok.entries (search rules)
     ∙ taken-is c.args.clock c.args.number c.args.limiter.now c.requires.rising c.in-Ok.entries c.args.words.now enough)
 
-pub returns-else-count-items : goal.returns-else-count-items
-returns-else-count-items c =
+pub returns-else-entries-items : goal.returns-else-entries-items
+returns-else-entries-items c =
     let short : nat_lt (length c.args.words.now) (length c.in-Ok.entries) ≡ true =
-    grind (arith, nat_tests, c.if-count-items.false, c.items.ensures.items, c.items-count.ensures) in
+    grind (arith, nat_tests, c.if-entries-items.false, c.items.ensures.items, c.items-entries.ensures) in
     along c.args.clock c.args.number c.args.limiter.now _ _ _ (ap (λ read. Message read c.args.words.now) c.in-Ok.is)
     (short-is c.args.clock c.args.number c.args.limiter.now c.requires.rising c.in-Ok.entries c.args.words.now short)

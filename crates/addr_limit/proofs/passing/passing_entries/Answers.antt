@@ -1,7 +1,7 @@
-use Rattle.std.proofs.Common.{rules, [], ◌∷◌, ◌++◌, ◌<◌, map, get_or, length, Some, None, arith, ap, ◌∙◌, sym}
+use Rattle.std.proofs.Common.{rules, [], ◌∷◌, ◌++◌, ◌<◌, map, get_or, length, None, arith, ap, ◌∙◌, sym}
 use Rattle.std.proofs.lemmas.List.{get_or_default}
 use Rattle.addr_limit.specs.Steps.{unless_hidden}
-use Rattle.addr_limit.proofs.PassedOn.{passing, first_kept, word_kept, left_out, are_passing}
+use Rattle.addr_limit.proofs.PassedOn.{first_kept, word_kept, left_out, are_passing}
 use Rattle.addr_limit.proofs.passing.passing_entries.Goals as goal
 use Rattle.addr_limit.proofs.passing.passing_entries.Goals.{in-Some+in_ok-push+in_ok-push-2, in_default}
 
@@ -14,11 +14,11 @@ loop-i-preserved c =
     let here = c.unless_hidden.ensures ∙ ap unless_hidden (c.index-entries-i.is ∙ get_or_default es i c.index-entries-i.result None lt) in
     elim c.match-unless_hidden.branch [
       | in-Some+in_ok-push+in_ok-push-2 w ↦ (
-          ap (λ p. p.entries.items) w.passing-is ∙ w.in_ok-push.ensures.items ∙ ap (λ xs. xs ++ w.in-Some.entry ∷ []) c.loop-i.invariant.0
-          ∙ first_kept es ws i lt c.requires.words w.in-Some.entry (sym here ∙ w.in-Some.is),
-          ap (λ p. p.words.items) w.passing-is ∙ w.in_ok-push-2.ensures.items ∙ ap (λ xs. xs ++ get_or ws i 0 ∷ []) c.loop-i.invariant.1
-          ∙ word_kept es ws i lt c.requires.words w.in-Some.entry (sym here ∙ w.in-Some.is),
-        )
+        ap (λ p. p.entries.items) w.passing-is ∙ w.in_ok-push.ensures.items ∙ ap (λ xs. xs ++ w.in-Some.entry ∷ []) c.loop-i.invariant.0
+            ∙ first_kept es ws i lt c.requires.words w.in-Some.entry (sym here ∙ w.in-Some.is),
+        ap (λ p. p.words.items) w.passing-is ∙ w.in_ok-push-2.ensures.items ∙ ap (λ xs. xs ++ get_or ws i 0 ∷ []) c.loop-i.invariant.1
+            ∙ word_kept es ws i lt c.requires.words w.in-Some.entry (sym here ∙ w.in-Some.is),
+      )
       | in_default w ↦
           let same = left_out es ws i lt c.requires.words (sym here ∙ w.in_default.is) in (
             ap (λ p. p.entries.items) w.passing-is ∙ c.loop-i.invariant.0 ∙ ap (map (λ p. p.0)) (sym same),
