@@ -29,21 +29,15 @@ pub(crate) fn output_line(
         ≡ (serve clock number (option_copied found.entry) request.now).text ++ 10 ∷ []) }
 {
     match found {
-        None => unknown_line(alloc, clock, number, request),
+        None => unknown_line(alloc, number, request),
         Some(conn) => known_line(alloc, clock, conn, request),
     }
 }
 
-/// Returns the output line of a request about a number that has no connection. The clock tells
-/// nothing in it.
-fn unknown_line(
-    alloc: Global,
-    _clock: u32,
-    number: u32,
-    request: &Request,
-) -> Result<Vec<u8>, Memory>
-    ensures { IfOk result (λ text. text.items
-        ≡ (serve_none _clock number request.now).text ++ 10 ∷ []) }
+/// Returns the output line of a request about a number that has no connection, at any time.
+fn unknown_line(alloc: Global, number: u32, request: &Request) -> Result<Vec<u8>, Memory>
+    ensures { (clock : ℕ) → IfOk result (λ text. text.items
+        ≡ (serve_none clock number request.now).text ++ 10 ∷ []) }
 {
     match request {
         Request::Open { .. } => comment_line(alloc, b"open", number, b""),
@@ -73,8 +67,8 @@ fn known_line(alloc: Global, clock: u32, conn: &Conn, request: &Request) -> Resu
 /// Returns the output line of `getaddr`.
 fn getaddr_line(alloc: Global, conn: &Conn) -> Result<Vec<u8>, Memory>
     ensures { IfOk result (λ text. text.items
-        ≡ comment (codes "getaddr") conn.now.number (if conn.now.asked then codes " already" else [])
-        ++ 10 ∷ []) }
+        ≡ comment (codes "getaddr") conn.now.number
+        (if conn.now.asked then codes " already" else []) ++ 10 ∷ []) }
 {
     if conn.asked {
         comment_line(alloc, b"getaddr", conn.number, b" already")

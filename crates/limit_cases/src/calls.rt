@@ -19,8 +19,8 @@ impl Calls for LimitCalls {
         })
     }
 
-    /// `line LINE` answers with the output line, or `fault` and the fault. The other calls are those
-    /// of `Limiter`.
+    /// `line LINE` answers with the output line, or `fault`, the fault, and how many bytes were
+    /// appended. The other calls are those of `Limiter`.
     fn call(&mut self, alloc: Global, name: &str, arguments: &str) -> Result<String, Unread> {
         match name {
             "line" => output_of(alloc, &mut self.log, arguments.as_bytes()),

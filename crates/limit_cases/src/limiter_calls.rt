@@ -68,13 +68,7 @@ fn admit(
 }
 
 /// Returns how many entries of all these messages are admitted.
-fn admit_times(
-    limiter: &mut Limiter,
-    times: u32,
-    number: u32,
-    count: u32,
-    now: u32,
-) -> Option<u64>
+fn admit_times(limiter: &mut Limiter, times: u32, number: u32, count: u32, now: u32) -> Option<u64>
     requires { count ≤ 1000 }
 {
     let mut sum = 0u64;
@@ -90,11 +84,7 @@ fn find_text(alloc: Global, found: Option<&Conn>) -> Result<String, Unread> {
     match found {
         Some(conn) => Ok(format!(in alloc;
             "{} tenths at {}, asked {}, processed {}, limited {}",
-            conn.tenths,
-            conn.moment,
-            conn.asked,
-            conn.processed,
-            conn.limited
+            conn.tenths, conn.moment, conn.asked, conn.processed, conn.limited
         )?),
         None => Ok(String::from_str(alloc, "none")?),
     }
