@@ -40,7 +40,6 @@ impl Limiter {
     ghost use Rattle.addr_limit.specs.State.{find_conn, without_conn, IsBounded, AreRising};
     ghost use Rattle.addr_limit.specs.Steps.{new_conn};
     ghost use Rattle.addr_limit.specs.Tokens.{refill, intake, intake_count, admit_conn};
-    ghost use Rattle.addr_limit.specs.Inside.{IsConn};
     ghost use Rattle.addr_limit.specs.Calls.{asked_of, after_open, after_asking, after_taking, after_message};
 
     /// Makes the limit, with no connections.
@@ -56,7 +55,6 @@ impl Limiter {
     pub fn find(&self, number: u32) -> Option<&Conn>
         ensures found { option_copied result ≡ find_conn number self.now }
         ensures bounded { IfSome result (λ c. IsBounded c.now) }
-        ensures fits { IfSome result (λ c. IsConn c.now) }
         ensures rising { AreRising self.now }
     {
         find_in(&self.conns, number)
@@ -149,7 +147,6 @@ impl Limiter {
 /// Returns how many of this many entries are admitted from the connection at the time `clock`, in
 /// seconds since 1970.
 pub(crate) fn admitted(conn: &Conn, count: u32, clock: u32) -> u32
-    requires { IsConn conn.now }
     ensures count { result ≡ intake_count (refill clock conn.now) count }
     ensures few { result ≤ count }
 {
@@ -158,9 +155,8 @@ pub(crate) fn admitted(conn: &Conn, count: u32, clock: u32) -> u32
 
 /// Returns the connection with the tokens of the time up to `clock`, in seconds since 1970.
 fn refilled(conn: &Conn, clock: u32) -> Conn
-    requires { IsConn conn.now }
     ensures value { result ≡ refill clock conn.now }
-    ensures conn { IsConn result }
+    ensures conn { IsConn conn.now → IsConn result }
 {
     let tenths = if conn.tenths < THOUSAND {
         let more = conn

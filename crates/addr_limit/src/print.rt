@@ -2,7 +2,7 @@ ghost use Rattle.std.specs.Prelude.{◌≡◌, ◌++◌, [], ◌∷◌, codes, d
 ghost use Rattle.net_addr.specs.declared.entry.Entry.{Entry};
 ghost use Rattle.log_lines.specs.Replies.{reply_line, numbers_text};
 ghost use Rattle.addr_limit.specs.Steps.{comment, stat_text, addrv2_line, message_line, take_message, serve, serve_none, serve_conn};
-ghost use Rattle.addr_limit.specs.Inside.{IsConn, IsShort, IsShortRead, ArePassing};
+ghost use Rattle.addr_limit.specs.Inside.{IsShort, IsShortRead, ArePassing};
 
 use crate::limiter::admitted;
 use crate::passing::{Passing, count_of, passing_entries};
@@ -23,8 +23,7 @@ pub(crate) fn output_line(
     found: Option<&Conn>,
     request: &Request,
 ) -> Result<Vec<u8>, Memory>
-    requires conn { IfSome found (λ c. IsConn c.now) }
-    requires short { IsShort request.now }
+    requires { IsShort request.now }
     ensures { IfOk result (λ text. text.items
         ≡ (serve clock number (option_copied found.entry) request.now).text ++ 10 ∷ []) }
 {
@@ -50,8 +49,7 @@ fn unknown_line(alloc: Global, number: u32, request: &Request) -> Result<Vec<u8>
 
 /// Returns the output line of a request about a connection.
 fn known_line(alloc: Global, clock: u32, conn: &Conn, request: &Request) -> Result<Vec<u8>, Memory>
-    requires conn { IsConn conn.now }
-    requires short { IsShort request.now }
+    requires { IsShort request.now }
     ensures { IfOk result (λ text. text.items
         ≡ (serve_conn clock conn.now request.now).text ++ 10 ∷ []) }
 {
@@ -105,8 +103,7 @@ fn read_line(
     read: &Result<Entries, MsgFault>,
     words: &Words,
 ) -> Result<Vec<u8>, Memory>
-    requires conn { IsConn conn.now }
-    requires short { IsShortRead read.now }
+    requires { IsShortRead read.now }
     ensures { IfOk result (λ text. text.items
         ≡ (take_message clock conn.now read.now words.now).text ++ 10 ∷ []) }
 {
