@@ -2,7 +2,8 @@
 use Rattle.std.proofs.Common.{◌≡◌, ℕ, List, [], ◌∷◌, ◌++◌, true, filter, length, Some, None, refl, sym, ◌∙◌, ap}
 use Rattle.std.specs.List.{last_or}
 use Rattle.addr_limit.specs.State.{State}
-use Rattle.addr_limit.specs.Steps.{Event, after, output}
+use Rattle.addr_limit.specs.Steps.{after, output}
+use Rattle.addr_limit.specs.declared.event.Event.{Event}
 use Rattle.addr_limit.specs.Apart.{Steps, Outputs, IsLastOutput}
 use Rattle.addr_limit.proofs.Apart.{depends_on, last_output}
 use Rattle.addr_limit.proofs.Served.{part_of, concerns, others_leave, answers_alike}

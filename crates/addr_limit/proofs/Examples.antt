@@ -8,7 +8,11 @@ use Rattle.hex.specs.Hex.{encode_with}
 use Rattle.wire_num.specs.CompactSize.{compact_size}
 use Rattle.addr_codecs.specs.Texts.{addrv2_entry_text, address_text}
 use Rattle.addr_limit.specs.State.{State, start}
-use Rattle.addr_limit.specs.Steps.{Request, Open, GetAddr, Message, Stat, Event, Now, Of, after, output}
+use Rattle.addr_limit.specs.Steps.{after, output}
+use Rattle.addr_limit.specs.declared.event.Event.{Event}
+use Rattle.addr_limit.specs.declared.event.Event.TheVariants.{Now, Of}
+use Rattle.addr_limit.specs.declared.request.Request.{Request}
+use Rattle.addr_limit.specs.declared.request.Request.TheVariants.{Open, GetAddr, Message, Stat}
 
 -- the outputs for events; a line that sets the clock has no text here
 abbrev outputs : State → List Event → List (List ℕ)

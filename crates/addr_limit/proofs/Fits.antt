@@ -7,7 +7,11 @@ use Rattle.addr_codecs.specs.declared.fault.MsgFault.{MsgFault}
 use Rattle.addr_limit.specs.declared.conn.Conn.{Conn}
 use Rattle.addr_limit.specs.Tokens.{refill, after_entry, after_entries, after_getaddr}
 use Rattle.addr_limit.specs.State.{State, find_conn, with_conn, without_conn, set_conn, IsBounded, AreBounded}
-use Rattle.addr_limit.specs.Steps.{Request, Open, Close, GetAddr, Message, Stat, Event, Now, Of, Nothing, Outcome, serve, take_message, take_entries, after}
+use Rattle.addr_limit.specs.Steps.{Outcome, serve, take_message, take_entries, after}
+use Rattle.addr_limit.specs.declared.event.Event.{Event}
+use Rattle.addr_limit.specs.declared.event.Event.TheVariants.{Now, Of, Nothing}
+use Rattle.addr_limit.specs.declared.request.Request.{Request}
+use Rattle.addr_limit.specs.declared.request.Request.TheVariants.{Open, Close, GetAddr, Message, Stat}
 use Rattle.addr_limit.proofs.Tokens.{refill-most}
 
 refill-bounded : (now : ℕ) (c : Conn) → IsBounded c → IsBounded (refill now c)

@@ -8,3 +8,7 @@ mod Examples
 pub mod Events
 pub mod Entries
 pub mod Messages
+pub mod Payloads
+pub mod Meanings
+pub mod Changes
+pub mod PassedOn

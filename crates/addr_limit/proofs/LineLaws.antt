@@ -1,14 +1,18 @@
 -- Which lines are about a number, and that a number's outputs depend on these lines alone.
-use Rattle.std.proofs.Common.{◌≡◌, ◌≢◌, ℕ, ◌<◌, ◌^◌, List, [], ◌∷◌, ◌==◌, Bool, true, false, codes, decimal, bytes_eq, refl, sym, ◌∙◌, ap, subst, arith}
+use Rattle.std.proofs.Common.{◌≡◌, ◌≢◌, ℕ, ◌<◌, ◌^◌, List, [], ◌∷◌, ◌++◌, ◌==◌, Bool, true, false, codes, decimal, bytes_eq, refl, sym, ◌∙◌, ap, subst, arith}
 use Rattle.std.proofs.lemmas.Bool.{eqb-true, eqb-false}
 use Rattle.std.proofs.lemmas.Fmt.{decimal_injective}
 use Rattle.std.proofs.lemmas.Slice.Eq.{bytes_eq-Decides}
 use Rattle.log_lines.specs.Fields.{Value, TheNumber, AllMean, fields_of}
 use Rattle.log_lines.specs.Spelling.{u32_field}
 use Rattle.addr_limit.specs.State.{State}
-use Rattle.addr_limit.specs.Steps.{Event, Now, Of, Nothing, after}
+use Rattle.addr_limit.specs.Steps.{after}
+use Rattle.addr_limit.specs.declared.event.Event.{Event}
+use Rattle.addr_limit.specs.declared.event.Event.TheVariants.{Now, Of, Nothing}
 use Rattle.addr_limit.specs.Apart.{DependsOn, IsLastOutput}
-use Rattle.addr_limit.specs.Lines.{Verb, OpenLine, CloseLine, GetAddrLine, FromLine, From2Line, StatLine, word_of, kinds_of, Says, IsOther, LineStep, are_about, is_about}
+use Rattle.addr_limit.specs.declared.verb.Verb.{Verb}
+use Rattle.addr_limit.specs.declared.verb.Verb.TheVariants as v
+use Rattle.addr_limit.specs.Lines.{word_of, kinds_of, Says, IsOther, LimitStep, are_about, is_about}
 use Rattle.addr_limit.proofs.Apart.{depends_on, last_output}
 use Rattle.addr_limit.proofs.Served.{part_of, concerns, others_leave, answers_alike}
 
@@ -29,12 +33,12 @@ decimals m n low low' = by (m == n) refl
 
 -- a line with a number is about it
 about_word : (verb : Verb) (number : ℕ) (text : List ℕ) (texts : List (List ℕ)) → are_about number (word_of verb ∷ text ∷ texts) ≡ bytes_eq text (decimal number)
-about_word OpenLine number text texts = refl
-about_word CloseLine number text texts = refl
-about_word GetAddrLine number text texts = refl
-about_word FromLine number text texts = refl
-about_word From2Line number text texts = refl
-about_word StatLine number text texts = refl
+about_word v.Open number text texts = refl
+about_word v.Close number text texts = refl
+about_word v.GetAddr number text texts = refl
+about_word v.From number text texts = refl
+about_word v.From2 number text texts = refl
+about_word v.Stat number text texts = refl
 
 about_now : (number : ℕ) (texts : List (List ℕ)) → are_about number (codes "now" ∷ texts) ≡ true
 about_now number [] = refl
@@ -46,21 +50,21 @@ about_other number (word ∷ []) h = differ word (codes "now") h.0
 about_other number (word ∷ text ∷ texts) h =
     rw (
       differ word (codes "now") h.0,
-      differ word (codes "open") (h.1 OpenLine),
-      differ word (codes "close") (h.1 CloseLine),
-      differ word (codes "getaddr") (h.1 GetAddrLine),
-      differ word (codes "from") (h.1 FromLine),
-      differ word (codes "from2") (h.1 From2Line),
-      differ word (codes "stat") (h.1 StatLine),
+      differ word (codes "open") (h.1 v.Open),
+      differ word (codes "close") (h.1 v.Close),
+      differ word (codes "getaddr") (h.1 v.GetAddr),
+      differ word (codes "from") (h.1 v.From),
+      differ word (codes "from2") (h.1 v.From2),
+      differ word (codes "stat") (h.1 v.Stat),
     ) refl
 
 -- the test on a line's text tells which events concern the number
 pub about_is : (number : ℕ) (line : List ℕ) (e : Event) → number < 2 ^ 64 → Says line e → is_about number line ≡ concerns number e
 about_is number line (Now time) low says = ap (are_about number) says.1 ∙ about_now number says.0
 about_is number line Nothing low says = about_other number (fields_of line) says
-about_is number line (Of other request) low says = ap (are_about number) says.3 ∙ by says.1 says.4
+about_is number line (Of other request) low says = ap (are_about number) says.2 ∙ by says.1 says.3.1
   where
-    by : (texts : List (List ℕ)) → AllMean (u32_field ∷ kinds_of says.0) texts (TheNumber other ∷ says.2) → are_about number (word_of says.0 ∷ texts) ≡ (other == number)
+    by : (texts : List (List ℕ)) → AllMean (u32_field ∷ kinds_of says.0) texts (TheNumber other ∷ says.3.0) → are_about number (word_of says.0 ∷ texts) ≡ (other == number)
     by [] means = absurd means
     by (text ∷ texts) means =
         let m = means.0 in
@@ -73,14 +77,14 @@ about_is number line (Of other request) low says = ap (are_about number) says.3 
         number_in v = 0
 
 -- each output line for a number is that of a log of the number's own lines and the times
-pub limits_apart : (number : ℕ) → number < 2 ^ 64 → (start : State) → DependsOn LineStep start (is_about number)
-limits_apart number low start = depends_on LineStep (part_of number) (is_about number)
+pub limits_apart : (number : ℕ) → number < 2 ^ 64 → (start : State) → DependsOn LimitStep start (is_about number)
+limits_apart number low start = depends_on LimitStep (part_of number) (is_about number)
     (λ s line out t step h. ap (part_of number) step.3 ∙ others_leave number s step.0 (sym (about_is number line step.0 low step.1) ∙ h))
     (λ s line out t u step h same.
     let both = answers_alike number s u line step.0 (sym (about_is number line step.0 low step.1) ∙ h) same in
-    (after u step.0, (step.0, step.1, step.2 ∙ sym both.0, refl), both.1 ∙ ap (part_of number) (sym step.3)))
+    (after u step.0, (step.0, step.1, step.2 ∙ ap (λ text. text ++ 10 ∷ []) (sym both.0), refl), both.1 ∙ ap (part_of number) (sym step.3)))
     start
 
 -- what a line of a connection gives is what the times and the lines of this connection alone give
-pub limits_apart_by_line : (number : ℕ) → number < 2 ^ 64 → (start : State) → IsLastOutput LineStep start (is_about number)
-limits_apart_by_line number low start = last_output LineStep start (is_about number) (limits_apart number low start)
+pub limits_apart_by_line : (number : ℕ) → number < 2 ^ 64 → (start : State) → IsLastOutput LimitStep start (is_about number)
+limits_apart_by_line number low start = last_output LimitStep start (is_about number) (limits_apart number low start)

@@ -7,7 +7,11 @@ use Rattle.addr_codecs.specs.declared.fault.MsgFault.{MsgFault}
 use Rattle.addr_limit.specs.declared.conn.Conn.{Conn}
 use Rattle.addr_limit.specs.Tokens.{refill, after_entries, after_entry}
 use Rattle.addr_limit.specs.State.{State, find_conn}
-use Rattle.addr_limit.specs.Steps.{Request, Open, Close, GetAddr, Message, Stat, Event, Now, Of, Nothing, Outcome, serve, serve_in, take_message, take_entries, after, output}
+use Rattle.addr_limit.specs.Steps.{Outcome, serve, serve_in, take_message, take_entries, after, output}
+use Rattle.addr_limit.specs.declared.event.Event.{Event}
+use Rattle.addr_limit.specs.declared.event.Event.TheVariants.{Now, Of, Nothing}
+use Rattle.addr_limit.specs.declared.request.Request.{Request}
+use Rattle.addr_limit.specs.declared.request.Request.TheVariants.{Open, Close, GetAddr, Message, Stat}
 use Rattle.addr_limit.proofs.Conns.{HasNumber, find_conn-number, find-set_conn, find_other-set_conn}
 
 pub after_entries-number : {E : Type 0} (c : Conn) (es : List E) → (after_entries c es).number ≡ c.number

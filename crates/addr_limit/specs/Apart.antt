@@ -1,4 +1,5 @@
--- Runs with one output a line, and what it means that some lines' outputs depend only on these lines.
+-- Runs with one output a line, and what it means that some lines' outputs depend only on these
+-- lines.
 use Rattle.std.specs.Prelude.{◌≡◌, List, [], ◌∷◌, ◌++◌, Bool, true, filter, Some, None, length}
 use Rattle.std.specs.List.{last_or}
 

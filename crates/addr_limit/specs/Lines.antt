@@ -1,5 +1,6 @@
 -- Which line says what, and what is wrong in a line that says nothing.
-use Rattle.std.specs.Prelude.{◌≡◌, ◌≢◌, ◌⊎◌, ℕ, List, [], ◌∷◌, Bool, false, ◌&&◌, ◌||◌, Result, Ok, Err, Option, codes, decimal, bytes_eq}
+use Rattle.std.specs.Prelude.{◌≡◌, ◌≢◌, ◌⊎◌, ℕ, List, [], ◌∷◌, ◌++◌, Bool, false, ◌&&◌, ◌||◌, Result, Ok, Err, Option, codes, decimal, bytes_eq}
+use Rattle.net_addr.specs.Address.{Address}
 use Rattle.net_addr.specs.declared.entry.Entry.{Entry}
 use Rattle.addr_codecs.specs.Layout.{IsAddrMessage, IsAddrv2Message, HasAddrFault, HasAddrv2Fault}
 use Rattle.addr_codecs.specs.declared.fault.MsgFault.{MsgFault}
@@ -7,33 +8,31 @@ use Rattle.log_lines.specs.Fields.{Kind, OfAddr, Hex, Random, Either, Value, The
 use Rattle.log_lines.specs.Spelling.{u32_field}
 use Rattle.log_lines.specs.declared.fault.LineFault.{LineFault}
 use Rattle.addr_limit.specs.State.{State}
-use Rattle.addr_limit.specs.Steps.{Request, Open, Close, GetAddr, Message, Stat, Event, Now, Of, Nothing, after, output}
+use Rattle.addr_limit.specs.Steps.{after, output}
+use Rattle.addr_limit.specs.declared.event.Event.{Event}
+use Rattle.addr_limit.specs.declared.event.Event.TheVariants.{Now, Of, Nothing}
+use Rattle.addr_limit.specs.declared.request.Request.{Request}
+use Rattle.addr_limit.specs.declared.request.Request.TheVariants.{Open, Close, GetAddr, Message, Stat}
+use Rattle.addr_limit.specs.declared.verb.Verb.{Verb}
+use Rattle.addr_limit.specs.declared.verb.Verb.TheVariants as v
 
--- the lines that name a number, by their first words
-pub data Verb : Type 0 where
-  OpenLine : Verb
-  CloseLine : Verb
-  GetAddrLine : Verb
-  FromLine : Verb
-  From2Line : Verb
-  StatLine : Verb
-
+-- the first word of a line that names a number
 abbrev pub word_of : Verb → List ℕ
-word_of OpenLine = codes "open"
-word_of CloseLine = codes "close"
-word_of GetAddrLine = codes "getaddr"
-word_of FromLine = codes "from"
-word_of From2Line = codes "from2"
-word_of StatLine = codes "stat"
+word_of v.Open = codes "open"
+word_of v.Close = codes "close"
+word_of v.GetAddr = codes "getaddr"
+word_of v.From = codes "from"
+word_of v.From2 = codes "from2"
+word_of v.Stat = codes "stat"
 
 -- the kinds of the fields after the number
 abbrev pub kinds_of : Verb → List Kind
-kinds_of OpenLine = OfAddr ∷ Either (codes "unlimited") (codes "limited") ∷ []
-kinds_of CloseLine = []
-kinds_of GetAddrLine = []
-kinds_of FromLine = Hex ∷ Random ∷ []
-kinds_of From2Line = Hex ∷ Random ∷ []
-kinds_of StatLine = []
+kinds_of v.Open = OfAddr ∷ Either (codes "unlimited") (codes "limited") ∷ []
+kinds_of v.Close = []
+kinds_of v.GetAddr = []
+kinds_of v.From = Hex ∷ Random ∷ []
+kinds_of v.From2 = Hex ∷ Random ∷ []
+kinds_of v.Stat = []
 
 -- the payload of an `addr` message reads as entries, or has a fault
 abbrev pub IsRead : List ℕ → Result (List (Option Entry)) MsgFault → Type 0
@@ -45,27 +44,35 @@ abbrev pub IsRead2 : List ℕ → Result (List (Option Entry)) MsgFault → Type
 IsRead2 payload (Ok entries) = IsAddrv2Message payload entries
 IsRead2 payload (Err fault) = HasAddrv2Fault payload fault
 
--- the request of the values of the fields after the number
+-- the values of the fields after the number ask for the request
 abbrev pub Asks : Verb → List Value → Request → Type 0
-Asks OpenLine values (Open addr unlimited) = values ≡ TheAddr addr ∷ TheChoice unlimited ∷ []
-Asks CloseLine values Close = values ≡ []
-Asks GetAddrLine values GetAddr = values ≡ []
-Asks FromLine values (Message read words) = (payload : List ℕ) × (values ≡ TheBytes payload ∷ TheWords words ∷ []) × IsRead payload read
-Asks From2Line values (Message read words) = (payload : List ℕ) × (values ≡ TheBytes payload ∷ TheWords words ∷ []) × IsRead2 payload read
-Asks StatLine values Stat = values ≡ []
-Asks verb values request = ⊥
+Asks v.Open values request =
+    (addr : Address) × (unlimited : Bool) × (values ≡ TheAddr addr ∷ TheChoice unlimited ∷ []) × (request ≡ Open addr unlimited)
+Asks v.Close values request = (values ≡ []) × (request ≡ Close)
+Asks v.GetAddr values request = (values ≡ []) × (request ≡ GetAddr)
+Asks v.From values request =
+    (payload : List ℕ) × (words : List ℕ) × (read : Result (List (Option Entry)) MsgFault)
+    × (values ≡ TheBytes payload ∷ TheWords words ∷ []) × IsRead payload read × (request ≡ Message read words)
+Asks v.From2 values request =
+    (payload : List ℕ) × (words : List ℕ) × (read : Result (List (Option Entry)) MsgFault)
+    × (values ≡ TheBytes payload ∷ TheWords words ∷ []) × IsRead2 payload read × (request ≡ Message read words)
+Asks v.Stat values request = (values ≡ []) × (request ≡ Stat)
 
 -- the first word is neither `now` nor that of a line with a number
 abbrev pub IsOther : List (List ℕ) → Type 0
 IsOther [] = Unit {0}
 IsOther (word ∷ texts) = (word ≢ codes "now") × ((verb : Verb) → word ≢ word_of verb)
 
+-- the fields after the first word say a request about the number
+abbrev pub SaysAfter : Verb → List (List ℕ) → ℕ → Request → Type 0
+SaysAfter verb texts number request =
+    (values : List Value) × AllMean (u32_field ∷ kinds_of verb) texts (TheNumber number ∷ values) × Asks verb values request
+
 -- the line says the event
 abbrev pub Says : List ℕ → Event → Type 0
 Says line (Now time) = (texts : List (List ℕ)) × (fields_of line ≡ codes "now" ∷ texts) × AllMean (u32_field ∷ []) texts (TheNumber time ∷ [])
 Says line (Of number request) =
-    (verb : Verb) × (texts : List (List ℕ)) × (values : List Value) × (fields_of line ≡ word_of verb ∷ texts)
-    × AllMean (u32_field ∷ kinds_of verb) texts (TheNumber number ∷ values) × Asks verb values request
+    (verb : Verb) × (texts : List (List ℕ)) × (fields_of line ≡ word_of verb ∷ texts) × SaysAfter verb texts number request
 Says line Nothing = IsOther (fields_of line)
 
 -- what is wrong in a line: its fields are counted and tested before anything is done
@@ -74,9 +81,9 @@ HasFault line f =
     ((texts : List (List ℕ)) × (fields_of line ≡ codes "now" ∷ texts) × AreAtFault (u32_field ∷ []) texts f)
     ⊎ ((verb : Verb) × (texts : List (List ℕ)) × (fields_of line ≡ word_of verb ∷ texts) × AreAtFault (u32_field ∷ kinds_of verb) texts f)
 
--- the step of a line
-abbrev pub LineStep : State → List ℕ → List ℕ → State → Type 0
-LineStep old line text new = (event : Event) × Says line event × (text ≡ output old line event) × (new ≡ after old event)
+-- the step of a line: its text is its output line and a line feed
+abbrev pub LimitStep : State → List ℕ → List ℕ → State → Type 0
+LimitStep old line text new = (event : Event) × Says line event × (text ≡ output old line event ++ 10 ∷ []) × (new ≡ after old event)
 
 -- the word is that of a line with a number
 abbrev pub is_word : List ℕ → Bool

@@ -1,9 +1,11 @@
--- What a line may say, and what it does. The answer to a request about a number depends on the
+-- What an event does. The answer to a request about a number depends on the
 -- clock and on the connection of this number, and on nothing else.
-use Rattle.std.specs.Prelude.{ℕ, List, [], ◌∷◌, ◌++◌, length, map, Bool, false, ◌==◌, nat_lt, Option, Some, None, Result, Ok, Err, codes, decimal, if◌then◌else◌}
+use Rattle.std.specs.Prelude.{ℕ, List, [], ◌∷◌, ◌++◌, length, map, Bool, true, false, nat_lt, Option, Some, None, option_map, Result, Ok, Err, codes, decimal, if◌then◌else◌}
 use Rattle.std.specs.List.{filter_map, zip}
 use Rattle.hex.specs.Hex.{encode_lower}
-use Rattle.net_addr.specs.Address.{Address, number_of}
+use Rattle.net_addr.specs.Address.{Address}
+use Rattle.net_addr.specs.declared.net.Net.{Net}
+use Rattle.net_addr.specs.declared.net.Net.TheVariants.{Internal}
 use Rattle.net_addr.specs.Text.{addr_text}
 use Rattle.net_addr.specs.declared.entry.Entry.{Entry}
 use Rattle.addr_codecs.specs.Texts.{message_text, addrv2_entry_text}
@@ -12,21 +14,10 @@ use Rattle.log_lines.specs.Replies.{fault_text, numbers_text}
 use Rattle.addr_limit.specs.declared.conn.Conn.{Conn}
 use Rattle.addr_limit.specs.Tokens.{refill, after_entries, intake, after_getaddr}
 use Rattle.addr_limit.specs.State.{State, find_conn, set_conn}
-
--- A request about a number: its connection opens, closes, or is sent getaddr; a message comes from
--- it, whose payload reads as entries or has a fault, with random words; its counts are printed.
-pub data Request : Type 0 where
-  Open : (addr : Address) → (unlimited : Bool) → Request
-  Close : Request
-  GetAddr : Request
-  Message : (read : Result (List (Option Entry)) MsgFault) → (words : List ℕ) → Request
-  Stat : Request
-
--- what a line says: the time, a request about a number, or nothing
-pub data Event : Type 0 where
-  Now : (time : ℕ) → Event
-  Of : (number : ℕ) → (request : Request) → Event
-  Nothing : Event
+use Rattle.addr_limit.specs.declared.request.Request.{Request}
+use Rattle.addr_limit.specs.declared.request.Request.TheVariants.{Open, Close, GetAddr, Message, Stat}
+use Rattle.addr_limit.specs.declared.event.Event.{Event}
+use Rattle.addr_limit.specs.declared.event.Event.TheVariants.{Now, Of, Nothing}
 
 -- the text of the output line, and the connection of the number afterwards, if there is one
 pub record Outcome : Type 0 where
@@ -52,17 +43,28 @@ new_conn number addr unlimited now = record {
   limited = 0;
 }
 
--- an entry with its word, unless it is skipped or internal
+abbrev pub is_internal : Net → Bool
+is_internal Internal = true
+is_internal other = false
+
+-- the entry, unless it is skipped or internal
+abbrev pub unless_hidden : Option Entry → Option Entry
+unless_hidden None = None
+unless_hidden (Some entry) = if is_internal entry.peer.addr.net then None else Some entry
+
+-- such an entry with its word
 abbrev pub for_output : Option Entry × ℕ → Option (Entry × ℕ)
-for_output (None, word) = None
-for_output (Some entry, word) = if number_of entry.peer.addr.net == 6 then None else Some (entry, word)
+for_output p = option_map (λ entry. (entry, p.1)) (unless_hidden p.0)
+
+-- the line of a log that adds entries, which come from the address, with their words
+abbrev pub addrv2_line : Address → List Entry → List ℕ → List ℕ
+addrv2_line addr entries words =
+    codes "addrv2 " ++ addr_text addr ++ codes " " ++ encode_lower (message_text addrv2_entry_text entries) ++ codes " " ++ numbers_text words
 
 -- the line for these entries and their words, which says so if there are none
 abbrev pub message_line : Conn → List (Entry × ℕ) → List ℕ
 message_line c [] = comment (codes "from") c.number (codes " none")
-message_line c (p ∷ ps) =
-    codes "addrv2 " ++ addr_text c.addr ++ codes " "
-    ++ encode_lower (message_text addrv2_entry_text (map (λ q. q.0) (p ∷ ps))) ++ codes " " ++ numbers_text (map (λ q. q.1) (p ∷ ps))
+message_line c (p ∷ ps) = addrv2_line c.addr (map (λ q. q.0) (p ∷ ps)) (map (λ q. q.1) (p ∷ ps))
 
 -- a message whose entries are paired with their words
 abbrev pub take_entries : Conn → List (Option Entry × ℕ) → Outcome

@@ -1,14 +1,37 @@
-ghost use Rattle.std.specs.Prelude.{ℕ, ◌<◌, ◌^◌};
-ghost use Rattle.addr_limit.specs.State.{State, start, AreBounded};
-ghost use Rattle.addr_limit.specs.Steps.{Event, after};
-ghost use Rattle.addr_limit.specs.Lines.{LineStep, is_about};
+ghost use Rattle.std.specs.Prelude.{◌≡◌, ℕ, ◌<◌, ◌≤◌, ◌^◌, Bool, List, length, Option, Ok};
+ghost use Rattle.net_addr.specs.Address.{Address};
+ghost use Rattle.net_addr.specs.declared.entry.Entry.{Entry};
+ghost use Rattle.addr_limit.specs.State.{State, start, find_conn, without_conn, AreBounded, AreRising};
+ghost use Rattle.addr_limit.specs.Steps.{new_conn, after};
+ghost use Rattle.addr_limit.specs.Calls.{after_open, after_asking, after_message};
+ghost use Rattle.addr_limit.specs.Lines.{LimitStep, Says, HasFault, is_about};
+ghost use Rattle.addr_limit.specs.declared.event.Event.{Event};
+ghost use Rattle.addr_limit.specs.declared.event.Event.TheVariants.{Of};
+ghost use Rattle.addr_limit.specs.declared.request.Request.TheVariants.{Open, Close, GetAddr, Message};
+ghost use Rattle.log_lines.specs.declared.fault.LineFault.{LineFault};
 ghost use Rattle.addr_limit.specs.Apart.{IsLastOutput};
 
 /// A law of whole logs: the output line of a line that names a number is the last one that the
 /// lines of that number and the `now` lines up to it have by themselves. No other connection can
 /// slow one down or help it.
 pub fn connections_are_apart()
-    ensures { (number : ℕ) → number < 2 ^ 32 → IsLastOutput LineStep start (is_about number) }
+    ensures { (number : ℕ) → number < 2 ^ 32 → IsLastOutput LimitStep start (is_about number) }
+{}
+
+/// The calls of `Limiter` on the connections of a state do what the events say.
+pub fn calls_are_events()
+    ensures opens { (st : State) (number : ℕ) (addr : Address) (unlimited : Bool) →
+        AreRising st.conns → after_open (new_conn number addr unlimited st.clock) st.conns
+        ≡ (after st (Of number (Open addr unlimited))).conns }
+    ensures closes { (st : State) (number : ℕ) →
+        without_conn number st.conns ≡ (after st (Of number Close)).conns }
+    ensures getaddr { (st : State) (number : ℕ) → AreRising st.conns →
+        after_asking (find_conn number st.conns) st.conns
+        ≡ (after st (Of number GetAddr)).conns }
+    ensures message { (st : State) (number : ℕ) (entries : List (Option Entry)) (words : List ℕ) →
+        AreRising st.conns → length entries ≤ length words →
+        after_message st.clock entries (find_conn number st.conns) st.conns
+        ≡ (after st (Of number (Message (Ok entries) words))).conns }
 {}
 
 /// A law of the state: whatever a line says, no connection has more than 2,000 tokens afterwards,
@@ -16,4 +39,12 @@ pub fn connections_are_apart()
 pub fn tokens_are_bounded()
     ensures { (st : State) → (event : Event) → AreBounded st.conns →
         AreBounded (after st event).conns }
+{}
+
+/// A line says exactly one event or has exactly one fault, and never both.
+pub fn lines_have_one_meaning()
+    ensures event { (line : List ℕ) (a b : Event) → Says line a → Says line b → a ≡ b }
+    ensures fault { (line : List ℕ) (f g : LineFault) → HasFault line f → HasFault line g → f ≡ g }
+    ensures right { (line : List ℕ) (a : Event) (f : LineFault) → Says line a →
+        ¬ HasFault line f }
 {}

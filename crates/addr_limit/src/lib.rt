@@ -3,12 +3,27 @@
 
 mod asked;
 mod conn;
+mod event;
+mod fields;
 mod law;
+mod limit_log;
 mod limiter;
 mod memory;
+mod passing;
+mod payload;
+mod print;
+mod read;
+mod request;
+mod verb;
 
 pub use asked::Asked;
 pub use conn::Conn;
-pub use law::{connections_are_apart, tokens_are_bounded};
+pub use event::Event;
+pub use law::{
+    calls_are_events, connections_are_apart, lines_have_one_meaning, tokens_are_bounded,
+};
+pub use limit_log::LimitLog;
 pub use limiter::Limiter;
 pub use memory::Memory;
+pub use request::Request;
+pub use verb::Verb;

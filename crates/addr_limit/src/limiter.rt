@@ -144,11 +144,19 @@ impl Limiter {
     }
 }
 
+/// Returns how many of this many entries are admitted from the connection at the time `clock`, in
+/// seconds since 1970.
+pub(crate) fn admitted(conn: &Conn, count: u32, clock: u32) -> u32
+    ensures count { result ≡ intake_count (refill clock conn.now) count }
+    ensures few { result ≤ count }
+{
+    intake_count(&refilled(conn, clock), count)
+}
+
 /// Returns the connection with the tokens of the time up to `clock`, in seconds since 1970.
 fn refilled(conn: &Conn, clock: u32) -> Conn
-    requires { IsConn conn.now }
     ensures value { result ≡ refill clock conn.now }
-    ensures conn { IsConn result }
+    ensures conn { IsConn conn.now → IsConn result }
 {
     let tenths = if conn.tenths < THOUSAND {
         let more = conn
@@ -167,7 +175,8 @@ fn refilled(conn: &Conn, clock: u32) -> Conn
 
 /// Returns how many of this many entries are admitted.
 fn intake_count(conn: &Conn, count: u32) -> u32
-    ensures { result ≡ intake_count conn.now count }
+    ensures count { result ≡ intake_count conn.now count }
+    ensures few { result ≤ count }
 {
     if conn.unlimited {
         count

@@ -10,8 +10,8 @@ pub returns-clause-entries : goal.returns-clause-entries
 returns-clause-entries c = λ entries many.
     c.replace.ensures.put
     ∙ message_is c.args.now c.args.count entries many _ c.in-Some.conn.now c.refilled-conn.result (found c) c.refilled-conn.ensures.value
-    c.args.self.now _ c.after.result c.refilled-conn.ensures.conn c.after.ensures.value c.self.view_is
+    c.args.self.now _ c.after.result (c.refilled-conn.ensures.conn c.in-Some.ensures.conn.0) c.after.ensures.value c.self.view_is
 
 pub returns-clause-first : goal.returns-clause-first
 returns-clause-first c = λ entries many.
-    first_are c.args.now c.args.count entries many _ c.in-Some.conn.now c.refilled-conn.result (found c) c.refilled-conn.ensures.value c.intake_count-taken.result c.intake_count-taken.ensures
+    first_are c.args.now c.args.count entries many _ c.in-Some.conn.now c.refilled-conn.result (found c) c.refilled-conn.ensures.value c.intake_count-taken.result c.intake_count-taken.ensures.count

@@ -1,0 +1,21 @@
+use Rattle.std.proofs.Common.{Err, ap}
+use Rattle.std.proofs.lemmas.Result.{err_from_is_err_and}
+use Rattle.log_lines.specs.Fields.{Hex, Random, TheNumber, TheBytes}
+use Rattle.log_lines.specs.Spelling.{u32_field}
+use Rattle.log_lines.specs.Inside.{texts_after}
+use Rattle.log_lines.proofs.FieldLemmas.{handed_on, second_of_three, third_of_three}
+use Rattle.addr_limit.proofs.read.message_fields.Goals as goal
+
+pub returns-in_err-payload-clause-fault : goal.returns-in_err-payload-clause-fault
+returns-in_err-payload-clause-fault c = λ f is not_memory.
+    let left = handed_on c.from_residual-in_err-payload.result c.in_err-payload.field-0.0 f (err_from_is_err_and c.from_residual-in_err-payload.result c.from_residual-in_err-payload.ensures.1) is in
+    let fields = rw c.in_ok-number.ensures.ok_part at c.three_fields.ensures.found in
+    second_of_three u32_field Hex Random (texts_after c.args.rest) c.in_ok-number.number.now c.in_ok-number.payload.now c.in_ok-number.words.now (TheNumber c.in_ok-number-2.number) f
+    fields c.in_ok-number-2.ensures.found (c.in_err-payload.ensures.fault f (ap Err left) not_memory)
+
+pub returns-in_err-words-clause-fault : goal.returns-in_err-words-clause-fault
+returns-in_err-words-clause-fault c = λ f is not_memory.
+    let left = handed_on c.from_residual-in_err-words.result c.in_err-words.field-0.0 f (err_from_is_err_and c.from_residual-in_err-words.result c.from_residual-in_err-words.ensures.1) is in
+    let fields = rw c.in_ok-number.ensures.ok_part at c.three_fields.ensures.found in
+    third_of_three u32_field Hex Random (texts_after c.args.rest) c.in_ok-number.number.now c.in_ok-number.payload.now c.in_ok-number.words.now (TheNumber c.in_ok-number-2.number) (TheBytes c.in_ok-payload.payload) f
+    fields c.in_ok-number-2.ensures.found c.in_ok-payload.ensures.found (c.in_err-words.ensures.fault f (ap Err left) not_memory)

@@ -1,0 +1,182 @@
+ghost use Rattle.std.specs.Prelude.{◌≡◌, ◌++◌, [], ◌∷◌, OnOk, OnErr};
+ghost use Rattle.addr_limit.specs.State.{find_conn, set_conn, AreRising};
+ghost use Rattle.addr_limit.specs.Steps.{serve};
+ghost use Rattle.addr_limit.specs.Inside.{IsShort, IsShortRead};
+ghost use Rattle.addr_limit.specs.declared.request.Request;
+
+use crate::passing::count_of;
+use crate::print::output_line;
+use crate::read::read_event;
+use crate::{Event, Limiter, Memory, Request};
+use addr_codecs::{Entries, MsgFault};
+use host_io::LINE_FEED;
+use log_lines::{LineFault, MAX_LINE, Words};
+use std::alloc::Global;
+use std::marker::Model;
+
+/// A clock, and the connections.
+#[derive(Drop)]
+pub struct LimitLog {
+    clock: u32,
+    limiter: Limiter,
+}
+
+impl Model for LimitLog {
+    ghost use Rattle.addr_limit.specs.State.{State};
+
+    ghost Value = { State };
+
+    ghost view = { λ l. record { clock = l.clock; conns = l.limiter } };
+}
+
+impl LimitLog {
+    ghost use Rattle.std.specs.Prelude.{◌≡◌, ◌≢◌, ◌≤◌, ◌++◌, ◌⊎◌, [], ◌∷◌, ℕ, List, length, Err, OnOk, OnErr};
+    ghost use Rattle.addr_limit.specs.State.{start};
+    ghost use Rattle.addr_limit.specs.Steps.{after, serve_in};
+    ghost use Rattle.addr_limit.specs.declared.event.Event.TheVariants.{Of};
+    ghost use Rattle.addr_limit.specs.Lines.{HasFault, LimitStep};
+    ghost use Rattle.addr_limit.specs.Inside.{IsShort};
+
+    /// Makes the log of no lines: the clock is 0, and there are no connections.
+    pub fn make(alloc: Global) -> LimitLog
+        ensures { result ≡ start }
+    {
+        LimitLog {
+            clock: 0,
+            limiter: Limiter::make(alloc),
+        }
+    }
+
+    /// Carries out a line, which has no line feed, and appends its output line and a line feed. A
+    /// line with another first field than those of events is passed on as it is. After an error
+    /// nothing has changed.
+    pub fn step(&mut self, alloc: Global, line: &[u8], out: &mut Vec<u8>) -> Result<(), LineFault>
+        requires short { length line.now ≤ MAX_LINE }
+        ensures step { OnOk result ((text : List ℕ)
+            × LimitStep self.old line.now text self.new
+            × (out.new.items ≡ out.old.items ++ text)) }
+        ensures fault { (f : LineFault) → result ≡ Err f → f ≢ LineFault.Memory →
+            HasFault line.now f }
+        ensures only_fault { (f : LineFault) → HasFault line.now f →
+            (result ≡ Err f) ⊎ (result ≡ Err LineFault.Memory) }
+        ensures err { OnErr result (self.new ≡ self.old) }
+        ensures list { OnErr result (out.new.items ≡ out.old.items) }
+    {
+        let event = match read_event(alloc, line) {
+            Ok(event) => event,
+            Err(fault) => return Err(fault),
+        };
+        let served = match &event {
+            Event::Now { time } => self.set_clock(*time, line, out),
+            Event::Of { number, request } => self.serve(alloc, *number, request, out),
+            Event::Nothing => put_line(line, out),
+        };
+        match served {
+            Ok(()) => Ok(()),
+            Err(_) => Err(LineFault::Memory),
+        }
+    }
+
+    /// Sets the clock, in seconds since 1970, and appends the line.
+    fn set_clock(&mut self, time: u32, line: &[u8], out: &mut Vec<u8>) -> Result<(), Memory>
+        ensures state { OnOk result (self.new ≡ record self.old { clock = time }) }
+        ensures text { OnOk result (out.new.items ≡ out.old.items ++ (line.now ++ 10 ∷ [])) }
+        ensures err { OnErr result (self.new ≡ self.old) }
+        ensures list { OnErr result (out.new.items ≡ out.old.items) }
+    {
+        put_line(line, out)?;
+        self.clock = time;
+        Ok(())
+    }
+
+    /// Carries out a request about a number, and appends its output line. The line is appended
+    /// first, so that only opening a connection may fail after it, and is then taken back.
+    fn serve(
+        &mut self,
+        alloc: Global,
+        number: u32,
+        request: &Request,
+        out: &mut Vec<u8>,
+    ) -> Result<(), Memory>
+        requires { IsShort request.now }
+        ensures state { OnOk result (self.new ≡ after self.old (Of number request.now)) }
+        ensures text { OnOk result (out.new.items
+            ≡ out.old.items ++ ((serve_in self.old number request.now).text ++ 10 ∷ [])) }
+        ensures err { OnErr result (self.new ≡ self.old) }
+        ensures list { OnErr result (out.new.items ≡ out.old.items) }
+    {
+        let found = self.limiter.find(number);
+        let text = output_line(alloc, self.clock, number, found, request)?;
+        let length = out.len();
+        out.extend_from_slice(text.as_slice())?;
+        match change(&mut self.limiter, self.clock, number, request) {
+            Ok(()) => Ok(()),
+            Err(fault) => {
+                out.truncate(length);
+                Err(fault)
+            }
+        }
+    }
+}
+
+/// Changes the connection of a number as the request says, at a time in seconds since 1970.
+fn change(limiter: &mut Limiter, clock: u32, number: u32, request: &Request) -> Result<(), Memory>
+    requires rising { AreRising limiter.old }
+    requires short { IsShort request.now }
+    ensures change { OnOk result (limiter.new ≡ set_conn number
+        (serve clock number (find_conn number limiter.old) request.now).conn limiter.old) }
+    ensures err { OnErr result (limiter.new ≡ limiter.old) }
+{
+    match request {
+        Request::Open { addr, unlimited } => {
+            limiter.add_conn(number, *addr, *unlimited, clock)?;
+        }
+        Request::Close => {
+            limiter.close_conn(number);
+        }
+        Request::GetAddr => {
+            limiter.getaddr(number);
+        }
+        Request::Message { read, words } => {
+            take_message(limiter, clock, number, read, words);
+        }
+        Request::Stat => {}
+    }
+    Ok(())
+}
+
+/// Spends the tokens for a message, unless it was refused or has too few random words.
+fn take_message(
+    limiter: &mut Limiter,
+    clock: u32,
+    number: u32,
+    read: &Result<Entries, MsgFault>,
+    words: &Words,
+)
+    requires rising { AreRising limiter.old }
+    requires short { IsShortRead read.now }
+    ensures { limiter.new ≡ set_conn number (serve clock number (find_conn number limiter.old)
+        (Request.Message read.now words.now)).conn limiter.old }
+{
+    let Ok(entries) = read else {
+        return;
+    };
+    let entries = entries.items();
+    if entries.len() <= words.items().len() {
+        limiter.admit(number, count_of(entries), clock);
+    }
+}
+
+/// Appends a line and a line feed. If memory runs out, nothing changes.
+fn put_line(line: &[u8], out: &mut Vec<u8>) -> Result<(), Memory>
+    ensures ok { OnOk result (out.new.items ≡ out.old.items ++ (line.now ++ 10 ∷ [])) }
+    ensures err { OnErr result (out.new.items ≡ out.old.items) }
+{
+    let length = out.len();
+    out.extend_from_slice(line)?;
+    if out.push(LINE_FEED).is_err() {
+        out.truncate(length);
+        return Err(Memory);
+    }
+    Ok(())
+}

@@ -1,0 +1,57 @@
+use crate::limiter_calls::limiter_call;
+use addr_limit::{LimitLog, Limiter};
+use call_rows::{Calls, Unread};
+use log_lines::{LineFault, MAX_LINE};
+use std::alloc::Global;
+
+/// A log of events, and connections.
+#[derive(Drop)]
+pub(crate) struct LimitCalls {
+    log: LimitLog,
+    limiter: Limiter,
+}
+
+impl Calls for LimitCalls {
+    fn start(alloc: Global) -> Result<LimitCalls, Unread> {
+        Ok(LimitCalls {
+            log: LimitLog::make(alloc),
+            limiter: Limiter::make(alloc),
+        })
+    }
+
+    /// `line LINE` answers with the output line, or `fault`, the fault, and how many bytes were
+    /// appended. The other calls are those of `Limiter`.
+    fn call(&mut self, alloc: Global, name: &str, arguments: &str) -> Result<String, Unread> {
+        match name {
+            "line" => output_of(alloc, &mut self.log, arguments.as_bytes()),
+            _ => limiter_call(alloc, &mut self.limiter, name, arguments),
+        }
+    }
+}
+
+/// Carries out the line, and returns its output line or its fault.
+fn output_of(alloc: Global, log: &mut LimitLog, line: &[u8]) -> Result<String, Unread> {
+    if line.len() > MAX_LINE {
+        return Err(Unread::Unmet);
+    }
+    let mut out = Vec::new(alloc);
+    match log.step(alloc, line, &mut out) {
+        Ok(()) => line_of(alloc, out.as_slice()),
+        Err(LineFault::Memory) => Err(Unread::Memory),
+        Err(fault) => {
+            let left = out.len();
+            Ok(format!(in alloc; "fault {fault}, {left} bytes")?)
+        }
+    }
+}
+
+/// Returns the line of a text, which has to end with its only line feed.
+fn line_of(alloc: Global, text: &[u8]) -> Result<String, Unread> {
+    let Ok(text) = str::from_utf8(text) else {
+        return Err(Unread::Form);
+    };
+    match text.split_once("\n") {
+        Some((line, "")) => Ok(String::from_str(alloc, line)?),
+        _ => Err(Unread::Unmet),
+    }
+}

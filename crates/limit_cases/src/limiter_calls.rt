@@ -1,0 +1,91 @@
+ghost use Rattle.std.specs.Prelude.{◌≤◌};
+
+use addr_limit::{Conn, Limiter, Memory};
+use call_rows::{Fields, Unread};
+use net_addr::parse_addr;
+use std::alloc::Global;
+
+/// Makes a call of `Limiter`: `add N ADDR MODE NOW`, `close N`, `getaddr N`, `admit N COUNT NOW`,
+/// `repeat TIMES N COUNT NOW`, which is as many calls of `admit` and answers with their sum, and
+/// `find N`.
+pub(crate) fn limiter_call(
+    alloc: Global,
+    limiter: &mut Limiter,
+    name: &str,
+    arguments: &str,
+) -> Result<String, Unread> {
+    let mut fields = Fields::of(arguments);
+    match name {
+        "add" => add(alloc, limiter, &mut fields),
+        "close" => {
+            let closed = limiter.close_conn(fields.small()?);
+            Ok(format!(in alloc; "{closed}")?)
+        }
+        "getaddr" => {
+            let asked = limiter.getaddr(fields.small()?);
+            Ok(format!(in alloc; "{asked:?}")?)
+        }
+        "admit" => admit(alloc, limiter, 1, &mut fields),
+        "repeat" => {
+            let times = fields.small()?;
+            admit(alloc, limiter, times, &mut fields)
+        }
+        "find" => find_text(alloc, limiter.find(fields.small()?)),
+        _ => Err(Unread::Form),
+    }
+}
+
+/// Opens a connection.
+fn add(alloc: Global, limiter: &mut Limiter, fields: &mut Fields<'_>) -> Result<String, Unread> {
+    let number = fields.small()?;
+    let Some(addr) = parse_addr(fields.word().as_bytes()) else {
+        return Err(Unread::Form);
+    };
+    let unlimited = fields.word() == "unlimited";
+    match limiter.add_conn(number, addr, unlimited, fields.small()?) {
+        Ok(added) => Ok(format!(in alloc; "{added}")?),
+        Err(Memory) => Err(Unread::Memory),
+    }
+}
+
+/// Takes as many messages of the same number of entries at one time.
+fn admit(
+    alloc: Global,
+    limiter: &mut Limiter,
+    times: u32,
+    fields: &mut Fields<'_>,
+) -> Result<String, Unread> {
+    let number = fields.small()?;
+    let count = fields.small()?;
+    let now = fields.small()?;
+    if count > 1000 {
+        return Err(Unread::Unmet);
+    }
+    match admit_times(limiter, times, number, count, now) {
+        Some(admitted) => Ok(format!(in alloc; "{admitted}")?),
+        None => Ok(String::from_str(alloc, "none")?),
+    }
+}
+
+/// Returns how many entries of all these messages are admitted.
+fn admit_times(limiter: &mut Limiter, times: u32, number: u32, count: u32, now: u32) -> Option<u64>
+    requires { count ≤ 1000 }
+{
+    let mut sum = 0u64;
+    for _ in 0..times {
+        let admitted = limiter.admit(number, count, now)?;
+        sum = sum.saturating_add(u64::from(admitted));
+    }
+    Some(sum)
+}
+
+/// Returns what a connection has: tenths, moment, whether getaddr was sent, and its counts.
+fn find_text(alloc: Global, found: Option<&Conn>) -> Result<String, Unread> {
+    match found {
+        Some(conn) => Ok(format!(in alloc;
+            "{} tenths at {}, asked {}, processed {}, limited {}",
+            conn.tenths, conn.moment, conn.asked, conn.processed, conn.limited
+        )?),
+        None => Ok(String::from_str(alloc, "none")?),
+    }
+}
