@@ -6,3 +6,5 @@ pub mod ListExamples
 pub mod Forms
 pub mod Masks
 pub mod WriteLaws
+pub mod MeaningLaws
+pub mod Merging

@@ -1,7 +1,8 @@
-use crate::edits::{drop_over, drop_subnet, index_of, put, put_longer};
+use crate::edits::{drop_over, drop_subnet, index_of, put_longer};
+use crate::merge::merge;
 use crate::{Ban, Memory, Subnet};
 use net_addr::NetAddr;
-use std::alloc::{AllocError, Global};
+use std::alloc::Global;
 use std::marker::Model;
 
 /// The most bans of a list. This limit is our own.
@@ -54,16 +55,14 @@ impl Bans {
 
     /// Makes the list of some bans, of which a later one takes the place of an earlier one of the
     /// same subnet.
-    pub(crate) fn of(alloc: Global, bans: &[Ban]) -> Result<Bans, AllocError>
+    pub(crate) fn of(alloc: Global, bans: &[Ban]) -> Result<Bans, Memory>
         requires proper { All (λ ban. IsProper ban.subnet) bans.now }
         requires few { length bans.now ≤ MAX_BANS }
         ensures { IfOk result (λ list. list ≡ merged bans.now) }
     {
-        let mut list = Vec::new(alloc);
-        for ban in bans {
-            put(&mut list, *ban)?;
-        }
-        Ok(Bans { bans: list })
+        Ok(Bans {
+            bans: merge(alloc, bans)?,
+        })
     }
 
     /// Returns the bans in their order.
