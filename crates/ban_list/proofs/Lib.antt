@@ -8,3 +8,4 @@ pub mod Masks
 pub mod WriteLaws
 pub mod MeaningLaws
 pub mod Merging
+pub mod ProperTexts
