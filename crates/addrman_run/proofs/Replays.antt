@@ -23,6 +23,7 @@ use Rattle.addrman_run.specs.declared.status.Status.{Status}
 use Rattle.addrman_run.specs.declared.status.Status.TheVariants.{PeersRefused}
 use Rattle.addrman_run.specs.declared.status.Status.TheVariants.{Done, Usage, LogLine, AsmapRefused, TableRefused, ReadFault, WriteFault, DiskFault, LogTooLong, Memory, NoFile, NoKey, NotBuilt}
 use Rattle.addrman_run.specs.declared.status.Status.TheVariants.{TooManyRows}
+use Rattle.addrman_run.specs.declared.status.Status.TheVariants.{BansRefused}
 
 -- a text of this kind was appended
 abbrev pub Told : (Machine → List ℕ → Type 0) → Machine → Option (List ℕ) → Option (List ℕ) → Type 0
@@ -61,6 +62,7 @@ replay_text key chain log map tables start now old new DiskFault has opens read 
 replay_text key chain log map tables start now old new LogTooLong has opens read is ends = absurd ends.ends
 replay_text key chain log map tables start now old new (NoFile n) has opens read is ends = absurd ends.ends
 replay_text key chain log map tables start now old new TooManyRows has opens read is ends = absurd ends.ends
+replay_text key chain log map tables start now old new (BansRefused fault) has opens read is ends = absurd ends.ends
 replay_text key chain log map tables start now old new NoKey has opens read is ends = absurd ends.ends
 
 -- why it ends so once the log was read
