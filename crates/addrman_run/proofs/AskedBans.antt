@@ -1,6 +1,6 @@
 -- What the arguments of the commands on the list of bans ask for.
 use Rattle.std.proofs.Common.{◌≡◌, ℕ, ◌<◌, ◌≤◌, List, [], ◌∷◌, drop, get_or, codes, decimal, Option, Some, None, ap, sym, subst, arith, ◌∙◌, refl}
-use Rattle.std.specs.Prelude.{IfSome}
+use Rattle.std.specs.Prelude.{IfSome, unwrap_or}
 use Rattle.ban_list.specs.BanFile.{max_time}
 use Rattle.ban_list.specs.Subnet.{IsProper}
 use Rattle.ban_list.specs.SubnetText.{IsSubnetText}
@@ -63,6 +63,14 @@ asks_ban words a b d three (Ban subnet now until) asks = record {
   small = asks.3;
 }
 
+same_some : {A : Type 0} (x y : A) → Some x ≡ Some y → x ≡ y
+same_some x y e = ap (λ o. unwrap_or o x) e
+
+-- what was read is what is asked for
+pub made_ban : (a b d : List ℕ) (request : Request) (is : AsksBan a b d request) (subnet : Subnet) (now until : ℕ) → Some subnet ≡ Some is.subnet → Some now ≡ Some is.now → Some until ≡ Some is.until → Some (Ban subnet now until) ≡ Some request
+made_ban a b d request is subnet now until s n u =
+    (λ i. Some (Ban (same_some subnet is.subnet s i) (same_some now is.now n i) (same_some until is.until u i))) ∙ ap Some (sym is.is)
+
 pub asks_unban : (words : List (List ℕ)) (a : List ℕ) → words ≡ a ∷ [] → (request : Request) → Asks (codes "unban" ∷ words) request → (subnet : Subnet) × IsSubnetText a subnet × (request ≡ Unban subnet)
 asks_unban words a one (Replay key chain) asks = absurd (omega (arith, ap (λ ws. get_or (get_or ws 0 []) 0 0) asks.2))
 asks_unban words a one Compile asks = absurd (omega (arith, ap (λ ws. get_or (get_or ws 0 []) 0 0) asks))
@@ -100,3 +108,9 @@ asks_banned words a b two (Banned peer now) asks = record {
   first = ap (λ ws. get_or ws 1 []) (sym two) ∙ ap (λ ws. get_or (drop 1 ws) 1 []) asks.3;
   small = asks.2;
 }
+
+pub made_unban : (request : Request) (s subnet : Subnet) → Some s ≡ Some subnet → request ≡ Unban subnet → Some (Unban s) ≡ Some request
+made_unban request s subnet e is = (λ i. Some (Unban (same_some s subnet e i))) ∙ ap Some (sym is)
+
+pub made_banned : (a b : List ℕ) (request : Request) (is : AsksBanned a b request) (peer : Peer) (now : ℕ) → Some peer ≡ Some is.peer → Some now ≡ Some is.now → Some (Banned peer now) ≡ Some request
+made_banned a b request is peer now p n = (λ i. Some (Banned (same_some peer is.peer p i) (same_some now is.now n i))) ∙ ap Some (sym is.is)

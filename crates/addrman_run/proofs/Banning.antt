@@ -1,6 +1,6 @@
 -- The list of the folder, and how a command on it ends.
 use Rattle.std.proofs.Common.{◌≡◌, ◌⊎◌, ℕ, List, refl, sym, ap, ◌∙◌, subst, inl, inr, Ok, Err}
-use Rattle.std.specs.Prelude.{Option, Some, None, IfOk, IfErr, option_map, Result}
+use Rattle.std.specs.Prelude.{Option, Some, None, [], IfOk, IfErr, MatchOption, option_map, Result}
 use Rattle.ban_list.specs.BanFile.{IsBanFile, HasBanFault, file_text}
 use Rattle.ban_list.specs.declared.ban.Ban.{Ban}
 use Rattle.ban_list.specs.declared.fault.BanFault.{BanFault}
@@ -12,6 +12,7 @@ use Rattle.host_io.proofs.Moments.{begun, joined}
 use Rattle.save_store.specs.Saves.{PublishesOrNot}
 use Rattle.addrman_run.specs.Bans.{AreBansIn, RefusesBans, Change, IsOldOrNewList, IsSaved, BansText}
 use Rattle.addrman_run.specs.Compile.{IsInPlace}
+use Rattle.addrman_run.specs.InFolder.{IsAbsent}
 use Rattle.addrman_run.specs.Inside.{IsLoaded, IsLoadFault, IsNoList, IsNoBans, IsAnswer, AnswerEnds}
 use Rattle.addrman_run.specs.declared.input.Input.TheVariants as input
 use Rattle.addrman_run.specs.declared.status.Status.{Status}
@@ -23,6 +24,11 @@ pub read_in : (past : Option Past) (bytes : List ℕ) (r : Result (List Ban) Sta
     IfOk r (IsBanFile bytes) → IfOk r (AreBansIn past)
 read_in past bytes (Ok bans) loaded is = inr (bytes, loaded, is)
 read_in past bytes (Err status) loaded is = tt
+
+pub none_in : (past : Option Past) (o : Option (List ℕ)) (bans : List Ban) → o ≡ None → bans ≡ [] →
+    MatchOption o (IsAbsent name.Bans past) (IsLoaded input.Bans past) → AreBansIn past bans
+none_in past None bans is none absent = inl (absent, none)
+none_in past (Some bytes) bans is none loaded = absurd (cc)
 
 refused : (past : Option Past) (bytes : List ℕ) (fault : BanFault) → IsLoaded input.Bans past bytes → HasBanFault bytes fault → RefusesBans past fault
 refused past bytes ban.Json loaded has = (bytes, loaded, has)
@@ -48,12 +54,12 @@ memory_or_refused bytes status why is = elim why [
   | inr fault ↦ let apart : BansRefused fault.0 ≡ DiskFault = sym fault.1 ∙ is in cc
 ]
 
-err_of : (r : Status) (s : Status) → Err {List Ban} r ≡ Err s → r ≡ s
-err_of r s e = cc
+err_of : (r : Result (List Ban) Status) (s t : Status) → r ≡ Err s → r ≡ Err t → s ≡ t
+err_of r s t e f = cc
 
 pub never_disk : (bytes : List ℕ) (r : Result (List Ban) Status) → IfErr r (IsNoList bytes) → r ≡ Err DiskFault → ⊥
 never_disk bytes (Ok bans) why is = cc
-never_disk bytes (Err status) why is = memory_or_refused bytes status why (err_of status DiskFault is)
+never_disk bytes (Err status) why is = memory_or_refused bytes status why (err_of (Err status) status DiskFault refl is)
 
 pub not_loaded_bans : (past : Option Past) (status : Status) → IsLoadFault input.Bans past status → IsNoBans past status
 not_loaded_bans past status why = elim why [

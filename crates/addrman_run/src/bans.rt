@@ -1,4 +1,4 @@
-ghost use Rattle.std.specs.Prelude.{◌≡◌, ◌≤◌, ℕ, List, Err, Some, None, IfOk, IfErr, option_map};
+ghost use Rattle.std.specs.Prelude.{◌≡◌, ◌≤◌, ℕ, List, Err, Some, IfOk, IfErr, option_map};
 ghost use Rattle.ban_list.specs.BanFile.{IsBanFile, file_text};
 ghost use Rattle.ban_list.specs.Bans.{ban_of};
 ghost use Rattle.ban_list.specs.Subnet.{IsProper};
@@ -118,21 +118,27 @@ fn answer_unban(alloc: Global, subnet: &Subnet, bans: &mut Bans) -> Result<Answe
     }
 }
 
-/// Returns the line about the ban that covers an address, if there is one.
-fn found_line(alloc: Global, found: Option<&Ban>) -> Result<Vec<u8>, Memory>
-    requires { IfSome found (λ ban. IsProper ban.now.subnet) }
-    ensures { IfOk result (λ text. text.items
-        ≡ found_text (option_map (λ ban. ban.now) found)) }
+/// Returns the line about a ban that is found.
+fn banned_line(alloc: Global, ban: &Ban) -> Result<Vec<u8>, Memory>
+    requires { IsProper ban.now.subnet }
+    ensures { IfOk result (λ text. text.items ≡ found_text (Some ban.now)) }
 {
-    let Some(ban) = found else {
-        return Ok(Vec::from_slice(alloc, b"free\n")?);
-    };
     let mut text = Vec::from_slice(alloc, b"banned ")?;
     put_subnet(&ban.subnet, &mut text)?;
     text.extend_from_slice(b" ")?;
     text.extend_from_slice(ban.until.to_string(alloc)?.as_bytes())?;
     text.extend_from_slice(b"\n")?;
     Ok(text)
+}
+
+/// Finds the ban that covers an address, and returns the line about it.
+fn find_line(alloc: Global, addr: &NetAddr, now: u32, bans: &Bans) -> Result<Vec<u8>, Memory>
+    ensures { IfOk result (λ text. text.items ≡ (banned_change addr.now now bans.now).line) }
+{
+    match bans.covering(addr, now) {
+        Some(ban) => banned_line(alloc, ban),
+        None => Ok(Vec::from_slice(alloc, b"free\n")?),
+    }
 }
 
 /// Carries out an order on the list.
@@ -147,7 +153,7 @@ fn answer_to(alloc: Global, order: &BanOrder, bans: &mut Bans) -> Result<Answer,
         BanOrder::Ban { subnet, now, until } => answer_ban(alloc, *subnet, *now, *until, bans),
         BanOrder::Unban { subnet } => answer_unban(alloc, subnet, bans),
         BanOrder::Find { addr, now } => {
-            let line = found_line(alloc, bans.covering(addr, *now))?;
+            let line = find_line(alloc, addr, *now, bans)?;
             Ok(Answer { line, file: None })
         }
     }
