@@ -158,9 +158,9 @@ IsProperOrder (order.Find addr now) = ⊤
 
 -- what is made of the list
 abbrev pub change_of : BanOrder → List Ban → Change
-change_of (order.Ban subnet now until) bans = ban_change (ban_of subnet now until) bans
-change_of (order.Unban subnet) bans = unban_change subnet bans
-change_of (order.Find addr now) bans = banned_change addr now bans
+change_of (order.Ban subnet now until) = ban_change (ban_of subnet now until)
+change_of (order.Unban subnet) = unban_change subnet
+change_of (order.Find addr now) = banned_change addr now
 
 -- why the bytes of banlist.json are not read: memory ran out, or their fault
 abbrev pub IsNoList : List ℕ → Status → Type 0
