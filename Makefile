@@ -1,6 +1,6 @@
 # make: builds the proved program and puts it at bin/addrman
 # make demo: compiles a small table of prefixes, checks the asmap, turns it back, looks up addresses in it, and
-# lists a file of peers and replays small logs
+# lists a file of peers, looks for a ban and replays small logs
 # make endings: tries the exit codes of the built program and their texts
 # make test: the gate
 
@@ -21,6 +21,7 @@ demo: all
 	cd examples && ../bin/addrman lookup '[2606:4700::1111]:8333'
 	cd examples/node && ../../bin/addrman show
 	cd examples/node && ../../bin/addrman replay < restart.log
+	cd examples/node && ../../bin/addrman banned '[2001:db8::1]:8333' 1700000000
 	bin/addrman replay --key $(ZERO_KEY) < examples/one-address.log
 	cd examples && ../bin/addrman replay --key=$(ZERO_KEY) < all-networks.log
 	cd examples && ../bin/addrman replay --key=$(ZERO_KEY) < every-line.log

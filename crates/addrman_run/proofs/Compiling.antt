@@ -5,6 +5,7 @@ use Rattle.host_io.specs.Disk.{Entry, Allows, MayHave, exactly}
 use Rattle.host_io.specs.Past.{Past, Always}
 use Rattle.host_io.specs.PerName.{under}
 use Rattle.host_io.specs.Writing.{Appended, AppendedPart}
+use Rattle.host_io.specs.declared.name.Name.{Name}
 use Rattle.host_io.specs.declared.name.Name.TheVariants as name
 use Rattle.host_io.proofs.Moments.{begun, joined}
 use Rattle.prefix_table.specs.declared.row.Row.{Row}
@@ -35,9 +36,9 @@ as_read (Some bytes) = refl
 reads : (e : Entry) (bytes : List ℕ) → ((found : Option (List ℕ)) → MayHave e found → found ≡ Some bytes) → e.file ≡ Some bytes
 reads e bytes all = all e.file (inl (as_read e.file))
 
-pub in_place : (file : List ℕ) (past : Option Past) → IfSome past (λ p. IsStored name.Asmap file p.now) → IsInPlace file past
-in_place file None stored = tt
-in_place file (Some p) stored = (reads (under p.now name.Asmap) file stored, stored)
+pub in_place : (at : Name) (file : List ℕ) (past : Option Past) → IfSome past (λ p. IsStored at file p.now) → IsInPlace at file past
+in_place at file None stored = tt
+in_place at file (Some p) stored = (reads (under p.now at) file stored, stored)
 
 -- EVERY MOMENT
 
@@ -81,7 +82,7 @@ none_compiled old new text written status same loaded why = elim why [
 
 -- it was compiled
 pub saved : (old new : Option Past) (file line : List ℕ) (before after : Option (List ℕ)) (status : Status) → IsNewAsmap old file line →
-    SaveEnds file line new before after status → CompileText old new before after status
+    SaveEnds name.Asmap file line new before after status → CompileText old new before after status
 saved old new file line before after status is ends = elim ends [
   | inl failed ↦ subst (CompileText old new before after) (sym failed.0) failed.1
   | inr done ↦ elim done.1 [

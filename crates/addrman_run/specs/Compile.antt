@@ -40,16 +40,16 @@ pub record IsOldOrNew (past : Option Past) (start disk : Disk) : Type 0 where
   pub others : (other : Name) → other ≢ name.AsmapTemp → other ≢ name.Asmap →
       NoMore start disk other
 
--- asmap.dat reads as these bytes, and every crash leaves it with them
-abbrev pub IsInPlace : List ℕ → Option Past → Type 0
-IsInPlace file past = IfSome past (λ p.
-    ((under p.now name.Asmap).file ≡ Some file) × IsStored name.Asmap file p.now)
+-- the file reads as these bytes, and every crash leaves it with them
+abbrev pub IsInPlace : Name → List ℕ → Option Past → Type 0
+IsInPlace name file past = IfSome past (λ p.
+    ((under p.now name).file ≡ Some file) × IsStored name file p.now)
 
 -- The file of the folder's table is in its place, and the line about it was written, or a part.
 abbrev pub SavesTable : (Option (List ℕ) → Option (List ℕ) → List ℕ → Type 0) →
     Option Past → Option Past → Option (List ℕ) → Option (List ℕ) → Type 0
 SavesTable Writes old new before after =
-    (rows : List Row) × (file : List ℕ) × IsCompiled old rows file × IsInPlace file new
+    (rows : List Row) × (file : List ℕ) × IsCompiled old rows file × IsInPlace name.Asmap file new
     × Writes before after (compile_text rows file)
 
 -- What is saved and written for each status, from the past of the folder at the start and at the

@@ -1,5 +1,5 @@
 -- Words of private contracts.
-use Rattle.std.specs.Prelude.{◌≡◌, ◌≢◌, ◌⊎◌, ◌≤◌, ℕ, List, Option, Some, None, ⊤}
+use Rattle.std.specs.Prelude.{◌≡◌, ◌≢◌, ◌⊎◌, ◌≤◌, ℕ, List, Option, Some, None, ⊤, option_map}
 use Rattle.host_io.specs.Past.{Always, Past}
 use Rattle.host_io.specs.Writing.{Appended, AppendedPart}
 use Rattle.host_io.specs.declared.name.Name.{Name}
@@ -11,6 +11,18 @@ use Rattle.asmap_vm.specs.declared.fault.CodeFault.TheVariants as code
 use Rattle.bit_code.specs.declared.bits.TheConstants.{MAX_ASMAP}
 use Rattle.peers_file.specs.declared.fault.FileFault.TheVariants as peers
 use Rattle.peers_file.specs.declared.read.TheConstants.{MAX_FILE}
+use Rattle.ban_list.specs.BanFile.{HasBanFault, file_text}
+use Rattle.ban_list.specs.Bans.{ban_of}
+use Rattle.ban_list.specs.Subnet.{IsProper}
+use Rattle.ban_list.specs.declared.ban.Ban.{Ban}
+use Rattle.ban_list.specs.declared.fault.BanFault.{BanFault}
+use Rattle.ban_list.specs.declared.fault.BanFault.TheVariants as ban
+use Rattle.ban_list.specs.declared.read_file.TheConstants as bans
+use Rattle.addrman_run.specs.Bans.{AreBansIn, RefusesBans, Change, ban_change, unban_change, banned_change}
+use Rattle.addrman_run.specs.declared.ban_order.BanOrder.{BanOrder}
+use Rattle.addrman_run.specs.declared.ban_order.BanOrder.TheVariants as order
+use Rattle.addrman_run.specs.declared.request.Request.{Request}
+use Rattle.addrman_run.specs.declared.request.Request.TheVariants as request
 use Rattle.addrman_run.specs.Compile.{IsCompiled, IsInPlace, compile_text}
 use Rattle.addrman_run.specs.InFolder.{IsFileIn, IsAbsent, IsTooLarge}
 use Rattle.addrman_run.specs.Tables.{RefusesTable}
@@ -32,7 +44,7 @@ use Rattle.peers_file.specs.declared.chain.Chain.{Chain}
 use Rattle.table_machine.specs.State.{State, empty_state}
 use Rattle.table_machine.specs.Restoring.{duplicate}
 use Rattle.addrman_run.specs.declared.status.Status.{Status}
-use Rattle.addrman_run.specs.declared.status.Status.TheVariants.{PeersRefused}
+use Rattle.addrman_run.specs.declared.status.Status.TheVariants.{PeersRefused, BansRefused}
 use Rattle.addrman_run.specs.declared.status.Status.TheVariants.{Done, LogLine, LineTooLong, LogTooLong, AsmapRefused, TableRefused, ReadFault, WriteFault, DiskFault, Memory, NoFile, NoKey}
 
 -- the name of a file that commands load
@@ -40,18 +52,21 @@ abbrev pub name_of : Input → Name
 name_of input.Asmap = name.Asmap
 name_of input.Prefixes = name.Prefixes
 name_of input.Peers = name.Peers
+name_of input.Bans = name.Bans
 
 -- the maximum size of it in bytes
 abbrev pub max_of : Input → ℕ
 max_of input.Asmap = MAX_ASMAP
 max_of input.Prefixes = MAX_TEXT
 max_of input.Peers = MAX_FILE
+max_of input.Bans = bans.MAX_FILE
 
 -- the status for a file of more bytes
 abbrev pub too_large_of : Input → ℕ → Status
 too_large_of input.Asmap size = AsmapRefused (code.TooLarge size)
 too_large_of input.Prefixes size = TableRefused (Rows (table.TooLarge size))
 too_large_of input.Peers size = PeersRefused (File (peers.TooLarge size))
+too_large_of input.Bans size = BansRefused (ban.TooLarge size)
 
 -- the file has these bytes, within its limit
 abbrev pub IsLoaded : Input → Option Past → List ℕ → Type 0
@@ -114,9 +129,9 @@ IsNotCompiled text status =
     × ((past : Option Past) → IsLoaded input.Prefixes past text → RefusesTable past fault))
 
 -- how the saving of a file and the line about it end: the folder failed, or the file is in its place and the line ends
-abbrev pub SaveEnds : List ℕ → List ℕ → Option Past → Option (List ℕ) → Option (List ℕ) → Status → Type 0
-SaveEnds file line past old new status =
-    ((status ≡ DiskFault) × (new ≡ old)) ⊎ (IsInPlace file past × LineEnds line old new status)
+abbrev pub SaveEnds : Name → List ℕ → List ℕ → Option Past → Option (List ℕ) → Option (List ℕ) → Status → Type 0
+SaveEnds name file line past old new status =
+    ((status ≡ DiskFault) × (new ≡ old)) ⊎ (IsInPlace name file past × LineEnds line old new status)
 
 -- the status of a replay, by the end of its run over the log
 abbrev pub status_of : LogEnd → Status
@@ -146,3 +161,44 @@ IsMapOf None None = ⊤
 IsMapOf (Some bytes) (Some m) = (m.file ≡ bytes) × IsAsmap m
 IsMapOf None (Some m) = ⊥
 IsMapOf (Some bytes) None = ⊥
+
+-- the subnet of a request, if it has one, is proper
+abbrev pub IsProperRequest : Request → Type 0
+IsProperRequest (request.Ban subnet now until) = IsProper subnet
+IsProperRequest (request.Unban subnet) = IsProper subnet
+IsProperRequest other = ⊤
+
+-- the same of what is asked of the list of bans
+abbrev pub IsProperOrder : BanOrder → Type 0
+IsProperOrder (order.Ban subnet now until) = IsProper subnet
+IsProperOrder (order.Unban subnet) = IsProper subnet
+IsProperOrder (order.Find addr now) = ⊤
+
+-- what is made of the list
+abbrev pub change_of : BanOrder → List Ban → Change
+change_of (order.Ban subnet now until) = ban_change (ban_of subnet now until)
+change_of (order.Unban subnet) = unban_change subnet
+change_of (order.Find addr now) = banned_change addr now
+
+-- why the bytes of banlist.json are not read: memory ran out, or their fault
+abbrev pub IsNoList : List ℕ → Status → Type 0
+IsNoList bytes status =
+    (status ≡ Memory) ⊎ ((fault : BanFault) × (status ≡ BansRefused fault) × HasBanFault bytes fault)
+
+-- why there is no list of bans: the folder failed, memory ran out, or banlist.json is refused
+abbrev pub IsNoBans : Option Past → Status → Type 0
+IsNoBans past status =
+    (status ≡ DiskFault) ⊎ ((status ≡ Memory)
+    ⊎ ((fault : BanFault) × (status ≡ BansRefused fault) × RefusesBans past fault))
+
+-- the line and the file that a command makes of the folder's list
+abbrev pub IsAnswer : (List Ban → Change) → Option Past → List ℕ → Option (List ℕ) → Type 0
+IsAnswer change past line file =
+    (bans : List Ban) × AreBansIn past bans × (line ≡ (change bans).line)
+    × (file ≡ option_map file_text (change bans).saved)
+
+-- how the saving of a file, if there is one, and the line end
+abbrev pub AnswerEnds : List ℕ → Option (List ℕ) → Option Past → Option Past →
+    Option (List ℕ) → Option (List ℕ) → Status → Type 0
+AnswerEnds line None before after old new status = (after ≡ before) × LineEnds line old new status
+AnswerEnds line (Some file) before after old new status = SaveEnds name.Bans file line after old new status

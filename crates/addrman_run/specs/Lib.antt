@@ -10,6 +10,7 @@ pub mod Lookup
 pub mod Check
 pub mod Decompile
 pub mod Compile
+pub mod Bans
 pub mod Show
 pub mod Opening
 pub mod Outcome

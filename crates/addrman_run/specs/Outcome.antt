@@ -1,5 +1,6 @@
 -- How a request ends: what it writes, why its status comes, and what it leaves.
 use Rattle.std.specs.Prelude.{◌≡◌, ◌≤◌, ℕ}
+use Rattle.ban_list.specs.Bans.{ban_of}
 use Rattle.host_io.specs.Faults.{Rose}
 use Rattle.host_io.specs.Outside.{Outside}
 use Rattle.addrman_run.specs.Replay.{ReplayEnds}
@@ -8,10 +9,12 @@ use Rattle.addrman_run.specs.Check.{CheckEnds}
 use Rattle.addrman_run.specs.Decompile.{DecompileEnds}
 use Rattle.addrman_run.specs.Compile.{CompileEnds}
 use Rattle.addrman_run.specs.Show.{ShowEnds}
+use Rattle.addrman_run.specs.Bans.{BansEnds, ban_change, unban_change, banned_change}
 use Rattle.addrman_run.specs.declared.request.Request.{Request}
 use Rattle.addrman_run.specs.declared.request.Request.TheVariants.{Show}
 use Rattle.addrman_run.specs.declared.request.Request.TheVariants.{Replay, Compile, Check, Lookup}
 use Rattle.addrman_run.specs.declared.request.Request.TheVariants.{Decompile}
+use Rattle.addrman_run.specs.declared.request.Request.TheVariants.{Ban, Unban, Banned}
 use Rattle.addrman_run.specs.declared.status.Status.{Status}
 use Rattle.addrman_run.specs.declared.status.Status.TheVariants as status
 
@@ -22,6 +25,9 @@ Ends Check old new answer = CheckEnds old new answer
 Ends Decompile old new answer = DecompileEnds old new answer
 Ends (Lookup peer) old new answer = LookupEnds peer old new answer
 Ends (Show chain) old new answer = ShowEnds chain old new answer
+Ends (Ban subnet now until) old new answer = BansEnds (ban_change (ban_of subnet now until)) old new answer
+Ends (Unban subnet) old new answer = BansEnds (unban_change subnet) old new answer
+Ends (Banned peer now) old new answer = BansEnds (banned_change peer.addr now) old new answer
 
 -- a count of faults did not fall, and rose if the run ended with this fault
 abbrev pub IsCounted : Status → ℕ → ℕ → Status → Type 0

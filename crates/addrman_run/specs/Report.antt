@@ -9,6 +9,8 @@ use Rattle.asmap_compile.specs.declared.fault.CompileFault.{CompileFault}
 use Rattle.asmap_compile.specs.declared.fault.CompileFault.TheVariants as compile
 use Rattle.log_lines.specs.declared.fault.LineFault.{LineFault}
 use Rattle.log_lines.specs.declared.fault.LineFault.TheVariants as line
+use Rattle.ban_list.specs.declared.fault.BanFault.{BanFault}
+use Rattle.ban_list.specs.declared.fault.BanFault.TheVariants as ban
 use Rattle.peers_file.specs.declared.fault.FileFault.{FileFault}
 use Rattle.peers_file.specs.declared.fault.FileFault.TheVariants as file
 use Rattle.addrman_run.specs.declared.peers_fault.PeersFault.{PeersFault}
@@ -19,6 +21,7 @@ use Rattle.addrman_run.specs.declared.status.Status.{Status}
 use Rattle.addrman_run.specs.declared.status.Status.TheVariants.{PeersRefused}
 use Rattle.addrman_run.specs.declared.status.Status.TheVariants.{Done, Usage, LogLine, AsmapRefused, TableRefused, ReadFault, WriteFault, DiskFault, LogTooLong, NoKey, Memory, LineTooLong, NoFile}
 use Rattle.addrman_run.specs.declared.status.Status.TheVariants.{TooManyRows}
+use Rattle.addrman_run.specs.declared.status.Status.TheVariants.{BansRefused}
 
 -- the exit code of the process
 abbrev pub code_of : Status → ℕ
@@ -36,6 +39,7 @@ code_of NoKey = 11
 code_of Memory = 12
 code_of (LineTooLong line) = 13
 code_of (NoFile name) = 14
+code_of (BansRefused fault) = 16
 code_of TooManyRows = 17
 
 abbrev pub file_fault_text : FileFault → List ℕ
@@ -60,6 +64,13 @@ peers_fault_text (Duplicate index) = codes "duplicate"
 abbrev pub code_fault_text : CodeFault → List ℕ
 code_fault_text (code.TooLarge size) = codes "too-large"
 code_fault_text code.Insane = codes "insane"
+
+abbrev pub ban_fault_text : BanFault → List ℕ
+ban_fault_text ban.Json = codes "json"
+ban_fault_text ban.Form = codes "form"
+ban_fault_text ban.TooMany = codes "too-many"
+ban_fault_text (ban.TooLarge size) = codes "too-large"
+ban_fault_text ban.Memory = codes "out of memory"
 
 abbrev pub line_fault_text : LineFault → List ℕ
 line_fault_text line.Word = codes "word"
@@ -108,6 +119,7 @@ reason_of NoKey = codes "no peers.dat and no key"
 reason_of Memory = codes "out of memory"
 reason_of (LineTooLong n) = codes "log line " ++ decimal n ++ codes ": too long"
 reason_of (NoFile name) = file_name_of name ++ codes " is missing"
+reason_of (BansRefused fault) = codes "banlist.json refused: " ++ ban_fault_text fault
 reason_of TooManyRows = codes "asmap.dat has more than 2000000 rows"
 
 abbrev pub line_of : List ℕ → List ℕ

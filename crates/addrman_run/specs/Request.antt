@@ -1,5 +1,7 @@
 -- What the arguments ask for.
-use Rattle.std.specs.Prelude.{◌≡◌, ◌⊎◌, ℕ, List, [], ◌∷◌, ◌++◌, length, Option, Some, None, Ok, codes}
+use Rattle.std.specs.Prelude.{◌≡◌, ◌⊎◌, ◌<◌, ◌≤◌, ℕ, List, [], ◌∷◌, ◌++◌, length, Option, Some, None, Ok, codes, decimal}
+use Rattle.ban_list.specs.BanFile.{max_time}
+use Rattle.ban_list.specs.SubnetText.{IsSubnetText}
 use Rattle.hex.specs.Hex.{decode_of}
 use Rattle.net_addr.specs.Text.{IsPeerText}
 use Rattle.peers_file.specs.declared.chain.Chain.{Chain}
@@ -8,6 +10,7 @@ use Rattle.addrman_run.specs.declared.request.Request.{Request}
 use Rattle.addrman_run.specs.declared.request.Request.TheVariants.{Show}
 use Rattle.addrman_run.specs.declared.request.Request.TheVariants.{Replay, Compile, Check, Lookup}
 use Rattle.addrman_run.specs.declared.request.Request.TheVariants.{Decompile}
+use Rattle.addrman_run.specs.declared.request.Request.TheVariants.{Ban, Unban, Banned}
 
 -- a key of 32 bytes, as 64 hexadecimal digits in either case
 abbrev pub IsKey : List ℕ → List ℕ → Type 0
@@ -48,3 +51,10 @@ Asks words Check = words ≡ codes "check" ∷ []
 Asks words Decompile = words ≡ codes "decompile" ∷ []
 Asks words (Lookup peer) = (text : List ℕ) × IsPeerText text peer × (words ≡ codes "lookup" ∷ text ∷ [])
 Asks words (Show chain) = (options : List (List ℕ)) × IsNet options chain × (words ≡ codes "show" ∷ options)
+Asks words (Ban subnet now until) =
+    (text : List ℕ) × IsSubnetText text subnet × (now < until) × (until ≤ max_time)
+    × (words ≡ codes "ban" ∷ text ∷ decimal now ∷ decimal until ∷ [])
+Asks words (Unban subnet) =
+    (text : List ℕ) × IsSubnetText text subnet × (words ≡ codes "unban" ∷ text ∷ [])
+Asks words (Banned peer now) =
+    (text : List ℕ) × IsPeerText text peer × (now ≤ max_time) × (words ≡ codes "banned" ∷ text ∷ decimal now ∷ [])

@@ -76,7 +76,7 @@ fn new_asmap(alloc: Global, text: &[u8]) -> Result<NewAsmap, Status>
 /// Saves a file as asmap.dat, and then writes the line about it.
 #[tactic(auto, using(crate::proofs::Compiling::in_place))]
 fn save_asmap<F: Folder, K: Sink>(file: &[u8], line: &[u8], folder: &mut F, out: &mut K) -> Status
-    ensures ends { SaveEnds file.now line.now (F.past folder.new) (K.written out.old)
+    ensures ends { SaveEnds name.Asmap file.now line.now (F.past folder.new) (K.written out.old)
         (K.written out.new) result }
     ensures any_moment { Always (F.past folder.old) (F.past folder.new)
         (PublishesOrNot name.AsmapTemp name.Asmap file.now) }

@@ -7,6 +7,7 @@ ghost use Rattle.addrman_run.specs.InFolder.{IsAbsent};
 
 use crate::{PeersFault, Status, TablesFault};
 use asmap_vm::CodeFault;
+use ban_list::BanFault;
 use bit_code::MAX_ASMAP;
 use host_io::{Bytes, Folder, Name};
 use peers_file::{FileFault, MAX_FILE};
@@ -20,6 +21,7 @@ pub(crate) enum Input {
     Asmap,
     Prefixes,
     Peers,
+    Bans,
 }
 
 impl Input {
@@ -31,6 +33,7 @@ impl Input {
             Input::Asmap => Name::Asmap,
             Input::Prefixes => Name::Prefixes,
             Input::Peers => Name::Peers,
+            Input::Bans => Name::Bans,
         }
     }
 
@@ -42,6 +45,7 @@ impl Input {
             Input::Asmap => MAX_ASMAP as u64,
             Input::Prefixes => MAX_TEXT as u64,
             Input::Peers => MAX_FILE as u64,
+            Input::Bans => ban_list::MAX_FILE as u64,
         }
     }
 
@@ -55,6 +59,7 @@ impl Input {
                 Status::TableRefused(TablesFault::Rows(TableFault::TooLarge { size }))
             }
             Input::Peers => Status::PeersRefused(PeersFault::File(FileFault::TooLarge { size })),
+            Input::Bans => Status::BansRefused(BanFault::TooLarge { size }),
         }
     }
 }

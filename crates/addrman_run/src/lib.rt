@@ -1,6 +1,9 @@
 //! The runs of the program: arguments, log, folder and output in, a status out.
 #![tactic(auto)]
 
+mod ban_order;
+mod ban_words;
+mod bans;
 mod check;
 mod compile;
 mod decompile;

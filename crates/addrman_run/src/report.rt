@@ -1,10 +1,11 @@
 ghost use Rattle.std.specs.Prelude.{◌≡◌, ◌++◌, codes, decimal, IfOk, OnOk, OnErr};
-ghost use Rattle.addrman_run.specs.Report.{file_fault_text, peers_fault_text};
+ghost use Rattle.addrman_run.specs.Report.{file_fault_text, peers_fault_text, ban_fault_text};
 ghost use Rattle.addrman_run.specs.Report.{code_of, reason_of, code_fault_text, line_fault_text, at_line, table_fault_text, compile_fault_text, tables_fault_text, line_of, status_text};
 
 use crate::{Memory, PeersFault, Status, TablesFault};
 use asmap_compile::CompileFault;
 use asmap_vm::CodeFault;
+use ban_list::BanFault;
 use log_lines::LineFault;
 use peers_file::FileFault;
 use prefix_table::TableFault;
@@ -29,6 +30,7 @@ pub fn code(status: &Status) -> u8
         Status::Memory => 12,
         Status::LineTooLong { .. } => 13,
         Status::NoFile { .. } => 14,
+        Status::BansRefused(_) => 16,
         Status::TooManyRows => 17,
     }
 }
@@ -71,6 +73,19 @@ fn code_fault_word(fault: &CodeFault) -> &'static [u8]
     match fault {
         CodeFault::TooLarge { .. } => b"too-large",
         CodeFault::Insane => b"insane",
+    }
+}
+
+/// Returns the word for why banlist.json is refused.
+fn ban_fault_word(fault: &BanFault) -> &'static [u8]
+    ensures { result.now ≡ ban_fault_text fault.now }
+{
+    match fault {
+        BanFault::Json => b"json",
+        BanFault::Form => b"form",
+        BanFault::TooMany => b"too-many",
+        BanFault::TooLarge { .. } => b"too-large",
+        BanFault::Memory => b"out of memory",
     }
 }
 
@@ -196,6 +211,9 @@ fn reason(alloc: Global, status: &Status) -> Result<Vec<u8>, AllocError>
         Status::Memory => Vec::from_slice(alloc, b"out of memory"),
         Status::LineTooLong { line } => line_too_long(alloc, *line),
         Status::NoFile { name } => joined(alloc, name.file_name().as_bytes(), b" is missing"),
+        Status::BansRefused(fault) => {
+            joined(alloc, b"banlist.json refused: ", ban_fault_word(fault))
+        }
         Status::TooManyRows => Vec::from_slice(alloc, b"asmap.dat has more than 2000000 rows"),
     }
 }

@@ -1,3 +1,4 @@
+use ban_list::Subnet;
 use net_addr::Peer;
 use peers_file::Chain;
 
@@ -7,7 +8,10 @@ pub enum Request {
     /// `replay --key HEX64 --net CHAIN`: carry out the lines of the log, from the tables of peers.dat,
     /// a file of this chain (of main without `--net`), or if it is absent, from empty tables with
     /// this key.
-    Replay { key: Option<[u8; 32]>, chain: Chain },
+    Replay {
+        key: Option<[u8; 32]>,
+        chain: Chain,
+    },
     /// `compile`: compile prefixes.txt into asmap.dat, and say how large it is.
     Compile,
     /// `check`: say whether asmap.dat is sane.
@@ -15,7 +19,27 @@ pub enum Request {
     /// `decompile`: write the table of prefixes that asmap.dat stands for.
     Decompile,
     /// `lookup PEER`: say which AS number and group the peer's address has.
-    Lookup { peer: Peer },
+    Lookup {
+        peer: Peer,
+    },
     /// `show --net CHAIN`: list what peers.dat has, a file of this chain; of main without `--net`.
-    Show { chain: Chain },
+    Show {
+        chain: Chain,
+    },
+    /// `ban SUBNET NOW UNTIL`: drop the bans of banlist.json that are over, and ban the subnet until
+    /// a later time, unless it is banned as long or the list is full.
+    Ban {
+        subnet: Subnet,
+        now: u32,
+        until: u32,
+    },
+    /// `unban SUBNET`: take the subnet's ban out of banlist.json.
+    Unban {
+        subnet: Subnet,
+    },
+    /// `banned PEER NOW`: say which ban of banlist.json covers the peer's address.
+    Banned {
+        peer: Peer,
+        now: u32,
+    },
 }

@@ -1,5 +1,6 @@
 use crate::{PeersFault, TablesFault};
 use asmap_vm::CodeFault;
+use ban_list::BanFault;
 use host_io::Name;
 use log_lines::LineFault;
 
@@ -39,4 +40,6 @@ pub enum Status {
     NoFile { name: Name },
     /// asmap.dat gives more rows than a table of prefixes may have.
     TooManyRows,
+    /// banlist.json is too large, or no file of a list of bans.
+    BansRefused(BanFault),
 }

@@ -4,6 +4,8 @@ ghost use Rattle.addrman_run.specs.Request.{Asks};
 ghost use Rattle.addrman_run.specs.Outcome.{Ends, HasCause};
 ghost use Rattle.addrman_run.specs.declared.request.Request.{Request};
 
+use crate::ban_order::BanOrder;
+use crate::bans::carry_out_order;
 use crate::check::Check;
 use crate::compile::compile_table;
 use crate::decompile::Decompile;
@@ -24,7 +26,8 @@ use std::hash::BuildHasher;
 /// with the folder's asmap.dat, if there is one. `compile` compiles the folder's
 /// prefixes.txt into asmap.dat, `check` checks asmap.dat, `decompile` writes the table of prefixes
 /// that it stands for, and `lookup PEER` writes the AS number and the group that it gives the peer's
-/// address. `show` lists what peers.dat has.
+/// address. `show` lists what peers.dat has. `ban SUBNET NOW UNTIL` and `unban SUBNET` change the
+/// list of bans in banlist.json, and `banned PEER NOW` writes which ban covers the peer's address.
 pub fn run<L: Source, F: Folder, K: Sink, H: BuildHasher + Drop>(
     alloc: Global,
     hasher: H,
@@ -50,5 +53,16 @@ pub fn run<L: Source, F: Folder, K: Sink, H: BuildHasher + Drop>(
         Request::Decompile => write_file_line(alloc, &Decompile, folder, out),
         Request::Lookup { peer } => write_file_line(alloc, &Lookup { peer }, folder, out),
         Request::Show { chain } => write_file_line(alloc, &Show { chain }, folder, out),
+        Request::Ban { subnet, now, until } => {
+            let order = BanOrder::Ban { subnet, now, until };
+            carry_out_order(alloc, &order, folder, out)
+        }
+        Request::Unban { subnet } => {
+            carry_out_order(alloc, &BanOrder::Unban { subnet }, folder, out)
+        }
+        Request::Banned { peer, now } => {
+            let addr = peer.addr;
+            carry_out_order(alloc, &BanOrder::Find { addr, now }, folder, out)
+        }
     }
 }

@@ -1,17 +1,30 @@
 ghost use Rattle.std.specs.Prelude.{◌≡◌, ◌≢◌, ◌⊎◌, ℕ, List, [], ◌∷◌, ◌++◌, codes, map, string_bytes, Option, Some, IfSome, IfNone};
 ghost use Rattle.std.specs.Option.{option_map};
 ghost use Rattle.addrman_run.specs.Request.{IsKey, IsKeyOption, IsOption, Asks};
+ghost use Rattle.addrman_run.specs.Inside.{IsProperRequest};
 ghost use Rattle.addrman_run.specs.Request.{chain_name, IsNet};
 ghost use Rattle.peers_file.specs.declared.chain.Chain.{Chain};
 ghost use Rattle.addrman_run.specs.declared.request.Request.{Request};
 
 use crate::Request;
+use crate::ban_words::{read_ban, read_banned, read_unban};
+use ban_list::texts_have_one_meaning;
 use hex::FromHex;
 use net_addr::parse_peer;
 use peers_file::Chain;
 
 /// Returns the request that the arguments ask for, or `None` if they are not those of a command.
 pub fn read_request(words: &[String]) -> Option<Request>
+    ensures found { IfSome result (λ request. Asks (map string_bytes words.now) request) }
+    ensures proper { IfSome result IsProperRequest }
+    ensures only { (request : Request) → Asks (map string_bytes words.now) request → result ≡ Some request }
+{
+    texts_have_one_meaning();
+    request_of(words)
+}
+
+/// Reads the name of the command, and then its arguments.
+fn request_of(words: &[String]) -> Option<Request>
     ensures found { IfSome result (λ request. Asks (map string_bytes words.now) request) }
     ensures only { (request : Request) → Asks (map string_bytes words.now) request → result ≡ Some request }
 {
@@ -28,6 +41,12 @@ pub fn read_request(words: &[String]) -> Option<Request>
         read_lookup(rest)
     } else if command == b"show".as_slice() {
         read_show(rest)
+    } else if command == b"ban".as_slice() {
+        read_ban(rest)
+    } else if command == b"unban".as_slice() {
+        read_unban(rest)
+    } else if command == b"banned".as_slice() {
+        read_banned(rest)
     } else {
         None
     }
@@ -55,7 +74,7 @@ fn if_no_words(words: &[String], request: Request) -> Option<Request>
 }
 
 /// Returns the argument if there is only one.
-fn only_word(words: &[String]) -> Option<&[u8]>
+pub(crate) fn only_word(words: &[String]) -> Option<&[u8]>
     ensures some { IfSome result (λ word. map string_bytes words.now ≡ word.now ∷ []) }
     ensures none { IfNone result ((word : List ℕ) → map string_bytes words.now ≡ word ∷ [] → ⊥) }
 {

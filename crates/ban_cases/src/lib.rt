@@ -1,8 +1,6 @@
-//! Tests of bans: subnets, files and lists of bans as rows of texts. The expected values are those
-//! of an independent program.
+//! Tests of bans: subnets and files as rows of texts; those of lists are rows of `run_cases`. The
+//! expected values are those of an independent program.
 #![tactic(auto)]
 
-#[cfg(test)]
-mod covering;
 #[cfg(test)]
 mod tables;

@@ -1,6 +1,6 @@
 -- Lists of bans.
-use Rattle.std.proofs.Common.{◌≡◌, ℕ, suc, ◌+◌, ◌<◌, ◌≤◌, Bool, true, false, cond, not, List, [], ◌∷◌, ◌++◌, All, length, get_or, filter, Option, Some, None, refl, sym, ap, ◌∙◌, subst, arith}
-use Rattle.std.specs.Prelude.{AllPairs, find, nat_lt, nat_le, is_some, ◌==◌}
+use Rattle.std.proofs.Common.{◌≡◌, ℕ, suc, ◌+◌, ◌<◌, ◌≤◌, Bool, true, false, cond, not, List, [], ◌∷◌, ◌++◌, All, length, get_or, filter, Option, Some, None, Bor, refl, sym, ap, ◌∙◌, subst, arith}
+use Rattle.std.specs.Prelude.{AllPairs, IfSome, option_map, find, nat_lt, nat_le, is_some, ◌==◌}
 use Rattle.std.specs.Prelude.{slice_set}
 use Rattle.std.specs.List.{position_or_len}
 use Rattle.std.specs.Bool.{Decides}
@@ -176,3 +176,17 @@ pub outcome-new : (new : Ban) (bans : List Ban) → listed new.subnet bans ≡ N
 outcome-new new bans e lt =
     let f : nat_le MAX_BANS (length bans) ≡ false = grind (arith, nat_tests) in
     rw (e, f) refl
+
+-- THE BAN THAT IS FOUND
+
+found_has : (P : Ban → Type 0) (p : Ban → Bool) (bans : List Ban) → All P bans → IfSome (find p bans) P
+found_has P p [] all = tt
+found_has P p (ban ∷ bans) all = cond_both (p ban) (Some ban) (find p bans) (λ o. IfSome o P) (λ _. All-head P ban bans all) (λ _. found_has P p bans (All-tail P ban bans all))
+
+lent_has : (P : Ban → Type 0) (r : Option (Bor Ban)) (o : Option Ban) → option_map (λ ban. ban.now) r ≡ o → IfSome o P → IfSome r (λ ban. P ban.now)
+lent_has P None o is has = tt
+lent_has P (Some ban) o is has = subst (λ x. IfSome x P) (sym is) has
+
+-- a ban of the list is of a proper subnet
+pub found_proper : (r : Option (Bor Ban)) (p : Ban → Bool) (bans : List Ban) → option_map (λ ban. ban.now) r ≡ find p bans → AreBans bans → IfSome r (λ ban. IsProper ban.now.subnet)
+found_proper r p bans is sound = lent_has (λ ban. IsProper ban.subnet) r (find p bans) is (found_has (λ ban. IsProper ban.subnet) p bans sound.proper)

@@ -56,7 +56,7 @@ elements_one (d ∷ ds) (a ∷ xs) (b ∷ bs) (inl h) (inr k) = absurd (h.0 b k.
 elements_one (d ∷ ds) (a ∷ xs) (b ∷ bs) (inr h) (inl k) = absurd (k.0 a h.0)
 elements_one (d ∷ ds) (a ∷ xs) (b ∷ bs) (inr h) (inr k) = λ i. one_element d a b h.0 k.0 i ∷ elements_one ds xs bs h.1 k.1 i
 
-abbrev list_of : Items → List Data
+abbrev pub list_of : Items → List Data
 list_of no_items = []
 list_of (item d ds) = d ∷ list_of ds
 

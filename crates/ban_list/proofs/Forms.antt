@@ -241,7 +241,7 @@ cases_whole bytes false true t w = w
 cases_whole bytes false false true w = w
 cases_whole bytes false false false w = w
 
-bracket_whole : (bytes : List ℕ) → IsWhole (from_v1 bytes).net → ⊥
+pub bracket_whole : (bytes : List ℕ) → IsWhole (from_v1 bytes).net → ⊥
 bracket_whole bytes w = cases_whole bytes _ _ _ w
 
 high_whole : (text : List ℕ) (a : Address) → IsWhole a.net → All (λ c. c ≤ 102) text → IsAddrText text a → ⊥

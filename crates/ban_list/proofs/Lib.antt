@@ -6,3 +6,6 @@ pub mod ListExamples
 pub mod Forms
 pub mod Masks
 pub mod WriteLaws
+pub mod MeaningLaws
+pub mod Merging
+pub mod ProperTexts

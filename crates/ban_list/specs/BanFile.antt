@@ -94,6 +94,14 @@ HasBanFault bytes TooMany = HasTooMany bytes
 HasBanFault bytes (TooLarge size) = ⊥
 HasBanFault bytes Memory = ⊥
 
+-- The bytes are the file of one list or have one fault, and never both; that memory runs out is no
+-- fault of bytes. That they are neither is impossible; which of the two holds, `read_bans` says.
+pub record HasOneMeaning (bytes : List ℕ) : Type 0 where
+  pub some : ((bans : List Ban) → ¬ IsBanFile bytes bans) → ((f : BanFault) → ¬ HasBanFault bytes f) → ⊥
+  pub one_list : (a b : List Ban) → IsBanFile bytes a → IsBanFile bytes b → a ≡ b
+  pub one_fault : (f g : BanFault) → HasBanFault bytes f → HasBanFault bytes g → f ≡ g
+  pub never_both : (a : List Ban) (f : BanFault) → IsBanFile bytes a → HasBanFault bytes f → ⊥
+
 -- the element that is written for a ban
 abbrev pub ban_data : Ban → Data
 ban_data ban =

@@ -1,7 +1,11 @@
-use crate::edits::{drop_over, drop_subnet, index_of, put, put_longer};
+ghost use Rattle.std.specs.Prelude.{◌≡◌, option_map, find};
+ghost use Rattle.ban_list.specs.Bans.{stops};
+
+use crate::edits::{drop_over, drop_subnet, index_of, put_longer};
+use crate::merge::merge;
 use crate::{Ban, Memory, Subnet};
 use net_addr::NetAddr;
-use std::alloc::{AllocError, Global};
+use std::alloc::Global;
 use std::marker::Model;
 
 /// The most bans of a list. This limit is our own.
@@ -37,7 +41,7 @@ impl Model for Bans {
 }
 
 impl Bans {
-    ghost use Rattle.std.specs.Prelude.{◌≡◌, [], IfOk, OnOk, OnErr, option_map, find, is_some, All, length, ◌≤◌};
+    ghost use Rattle.std.specs.Prelude.{◌≡◌, [], IfOk, IfSome, OnOk, OnErr, option_map, find, is_some, All, length, ◌≤◌};
     ghost use Rattle.ban_list.specs.BanFile.{merged};
     ghost use Rattle.ban_list.specs.Subnet.{IsProper};
     ghost use Rattle.ban_list.specs.Bans.{AreBans, after_ban, ban_of, listed, without, stops};
@@ -54,16 +58,14 @@ impl Bans {
 
     /// Makes the list of some bans, of which a later one takes the place of an earlier one of the
     /// same subnet.
-    pub(crate) fn of(alloc: Global, bans: &[Ban]) -> Result<Bans, AllocError>
+    pub(crate) fn of(alloc: Global, bans: &[Ban]) -> Result<Bans, Memory>
         requires proper { All (λ ban. IsProper ban.subnet) bans.now }
         requires few { length bans.now ≤ MAX_BANS }
         ensures { IfOk result (λ list. list ≡ merged bans.now) }
     {
-        let mut list = Vec::new(alloc);
-        for ban in bans {
-            put(&mut list, *ban)?;
-        }
-        Ok(Bans { bans: list })
+        Ok(Bans {
+            bans: merge(alloc, bans)?,
+        })
     }
 
     /// Returns the bans in their order.
@@ -109,8 +111,16 @@ impl Bans {
     /// Returns the first ban of the list that covers the address and is not over, or `None` if
     /// there is none (`BanMan::IsBanned` in banman.cpp of Bitcoin Core). It looks at each ban.
     pub fn covering(&self, addr: &NetAddr, now: u32) -> Option<&Ban>
-        ensures { option_map (λ ban. ban.now) result ≡ find (stops addr.now now) self.now }
+        ensures found { option_map (λ ban. ban.now) result ≡ find (stops addr.now now) self.now }
+        ensures proper { IfSome result (λ ban. IsProper ban.now.subnet) }
     {
-        self.bans.as_slice().iter().find(|ban| ban.stops(addr, now))
+        first_that_stops(self.bans(), addr, now)
     }
+}
+
+/// Returns the first ban that covers the address and is not over.
+fn first_that_stops<'a>(bans: &'a [Ban], addr: &NetAddr, now: u32) -> Option<&'a Ban>
+    ensures { option_map (λ ban. ban.now) result ≡ find (stops addr.now now) bans.now }
+{
+    bans.iter().find(|ban| ban.stops(addr, now))
 }

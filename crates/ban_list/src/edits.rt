@@ -1,12 +1,11 @@
-ghost use Rattle.std.specs.Prelude.{◌≡◌, ◌<◌, ◌≤◌, length, Some, None, OnOk, slice_index_or};
+ghost use Rattle.std.specs.Prelude.{◌≡◌, ◌<◌, ◌≤◌, length, Some, None, slice_index_or};
 ghost use Rattle.std.specs.List.{position_or_len};
 ghost use Rattle.std.specs.Vec.{vec_len, vec_capacity};
-ghost use Rattle.ban_list.specs.Bans.{outcome, put, current, without, is_of, listed};
+ghost use Rattle.ban_list.specs.Bans.{outcome, current, without, is_of, listed};
 ghost use Rattle.ban_list.specs.declared.ban.Ban.{Ban};
 ghost use Rattle.ban_list.specs.declared.bans.TheConstants.{MAX_BANS};
 
 use crate::{Ban, BanReply, MAX_BANS, Subnet};
-use std::alloc::AllocError;
 
 /// Drops the bans that are over.
 pub(crate) fn drop_over(bans: &mut Vec<Ban>, now: u32)
@@ -43,19 +42,6 @@ pub(crate) fn put_longer(bans: &mut Vec<Ban>, ban: Ban) -> BanReply
     }
     bans.push_reserved(ban);
     BanReply::Added
-}
-
-/// Puts a ban into the place of the ban of its subnet, or last if there is none.
-pub(crate) fn put(bans: &mut Vec<Ban>, ban: Ban) -> Result<(), AllocError>
-    ensures { OnOk result (bans.new.items ≡ put ban bans.old.items) }
-{
-    let index = index_of(bans, &ban.subnet);
-    if index < bans.len() {
-        bans[index] = ban;
-        return Ok(());
-    }
-    bans.push(ban)?;
-    Ok(())
 }
 
 /// Returns the index of the ban of a subnet, or the number of bans if there is none.

@@ -1,6 +1,7 @@
 ghost use Rattle.std.specs.Prelude.{◌≡◌};
 ghost use Rattle.ban_list.specs.declared.fault.BanFault.TheVariants as fault;
 
+use crate::Memory;
 use std::alloc::AllocError;
 use thiserror::Error;
 
@@ -16,7 +17,7 @@ pub enum BanFault {
     /// More than `MAX_BANS` elements count.
     #[error("too-many")]
     TooMany,
-    /// The file is above the limit of the command; `read_bans` never returns this.
+    /// The file has more than `MAX_FILE` bytes; `read_bans` never returns this.
     #[error("too-large")]
     TooLarge {
         /// The length of the file in bytes.
@@ -31,6 +32,14 @@ impl From<AllocError> for BanFault {
     ghost from_gives = { λ _ e. e ≡ fault.Memory };
 
     fn from(_: AllocError) -> BanFault {
+        BanFault::Memory
+    }
+}
+
+impl From<Memory> for BanFault {
+    ghost from_gives = { λ _ e. e ≡ fault.Memory };
+
+    fn from(_: Memory) -> BanFault {
         BanFault::Memory
     }
 }

@@ -1,8 +1,18 @@
 ghost use Rattle.std.specs.Prelude.{◌≡◌, ℕ, List};
+ghost use Rattle.ban_list.specs.BanFile.{HasOneMeaning};
+ghost use Rattle.ban_list.specs.Subnet.{IsProper};
 ghost use Rattle.ban_list.specs.SubnetText.{IsSubnetText};
 ghost use Rattle.ban_list.specs.declared.subnet.Subnet.{Subnet};
 
-/// A text is the text of at most one subnet.
+/// A text is the text of at most one subnet, and that is a proper one.
 pub fn texts_have_one_meaning()
-    ensures { (text : List ℕ) (a b : Subnet) → IsSubnetText text a → IsSubnetText text b → a ≡ b }
+    ensures one { (text : List ℕ) (a b : Subnet) → IsSubnetText text a → IsSubnetText text b →
+        a ≡ b }
+    ensures proper { (text : List ℕ) (s : Subnet) → IsSubnetText text s → IsProper s }
+{}
+
+/// A list of bytes is the file of exactly one list of bans or has exactly one fault, and never
+/// both.
+pub fn files_have_one_meaning()
+    ensures { (bytes : List ℕ) → HasOneMeaning bytes }
 {}

@@ -8,11 +8,16 @@ ghost use Rattle.ban_list.specs.declared.ban.Ban.{Ban};
 ghost use Rattle.ban_list.specs.declared.fault.BanFault.{BanFault};
 ghost use Rattle.ban_list.specs.declared.fault.BanFault.TheVariants as faults;
 ghost use Rattle.ban_list.specs.declared.bans.TheConstants.{MAX_BANS};
+ghost use Rattle.ban_list.specs.declared.read_file.TheConstants.{MAX_FILE};
 
 use crate::element::element_of;
 use crate::{Ban, BanFault, Bans, MAX_BANS};
 use serde_json::Value;
 use std::alloc::{AllocError, Global};
+
+/// The maximum size of a file of bans in bytes. `read_bans` reads longer ones too: who loads the
+/// file refuses them as `TooLarge`. This limit is our own.
+pub const MAX_FILE: usize = 33_554_432;
 
 /// Reads a file of bans. Elements that do not count are passed over, and of two elements of one
 /// subnet the later one's times take the place of the earlier one's.
@@ -25,6 +30,7 @@ pub fn read_bans(alloc: Global, bytes: &[u8]) -> Result<Bans, BanFault>
     // A file that has a fault is answered with that fault, unless memory runs out.
     ensures exact { (first : BanFault) → HasBanFault bytes.now first
         → IsErrAnd result (λ fault. (fault ≡ faults.Memory) ⊎ (fault ≡ first)) }
+    ensures max_file { MAX_FILE ≡ 33554432 }
 {
     let value = match parse(alloc, bytes) {
         Ok(value) => value,

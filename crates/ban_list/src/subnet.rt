@@ -2,7 +2,7 @@ use net_addr::NetAddr;
 
 /// The addresses of a network whose first bits are those of `addr` (`CSubNet` in netaddress.h of
 /// Bitcoin Core).
-#[derive(Clone, Copy, Debug, PartialEq, Eq)]
+#[derive(Clone, Copy, Debug, PartialEq, Eq, Hash)]
 pub struct Subnet {
     /// An address whose bits after the first `len` are zero.
     pub addr: NetAddr,

@@ -5,6 +5,7 @@ use crate::unread::Unread;
 use addrman_run::TablesFault::{Compile, Rows};
 use addrman_run::{Status, run_surely};
 use asmap_compile::CompileFault;
+use ban_list::BanFault;
 use log_lines::LineFault;
 use prefix_table::TableFault;
 use std::alloc::Global;
@@ -12,7 +13,7 @@ use std::hash::{BuildHasherDefault, FoldHasher};
 use std::io;
 
 /// Statuses that none of the cases ends with, and the exit code and the text of each.
-const STATUSES: [(Status, &str); 8] = [
+const STATUSES: [(Status, &str); 9] = [
     (
         Status::LogLine {
             line: u64::MAX,
@@ -40,6 +41,10 @@ const STATUSES: [(Status, &str); 8] = [
     (
         Status::NotBuilt { line: u64::MAX },
         "15 not built at line 18446744073709551615",
+    ),
+    (
+        Status::BansRefused(BanFault::TooMany),
+        "16 banlist.json refused: too-many",
     ),
     (
         Status::TooManyRows,

@@ -1,5 +1,5 @@
 //! What a crash leaves of saves that were stopped. Each line is one compile over an old asmap.dat,
-//! or two or three saves of peers.dat one after another, in a folder in memory of which calls fail:
+//! one unban over an old banlist.json, or two or three saves of peers.dat one after another, in a folder in memory of which calls fail:
 //! the number of the call, whether it was made all the same, how the compile or each save ended,
 //! the file as it reads, and what crashes leave of it.
 #![tactic(auto)]
@@ -12,7 +12,7 @@ use host_io::Memory;
 use repeated::{Way, saves_after_a_fault, stopped_saves};
 use std::io;
 use std::process::ExitCode;
-use stopped::stopped_compile;
+use stopped::{Command, stopped_command};
 
 /// Prints a line.
 fn print_line(rt: &impl Print, line: Result<String, Memory>) -> io::Result<()> {
@@ -22,10 +22,14 @@ fn print_line(rt: &impl Print, line: Result<String, Memory>) -> io::Result<()> {
     }
 }
 
-/// Prints the lines of the compiles in which this call fails, from call 0 to 8.
-fn print_compiles(rt: &(impl Print + AllocGlobal), is_made: bool) -> io::Result<()> {
+/// Prints the lines of the commands in which this call fails, from call 0 to 8.
+fn print_commands(
+    rt: &(impl Print + AllocGlobal),
+    command: Command,
+    is_made: bool,
+) -> io::Result<()> {
     for call in 0..9 {
-        print_line(rt, stopped_compile(rt.alloc(), call, is_made))?;
+        print_line(rt, stopped_command(rt.alloc(), command, call, is_made))?;
     }
     Ok(())
 }
@@ -48,7 +52,8 @@ fn print_faults(rt: &(impl Print + AllocGlobal), way: Way, is_made: bool) -> io:
 
 /// Prints all lines of calls that fail and are made all the same, or not.
 fn print_all(rt: &(impl Print + AllocGlobal), is_made: bool) -> io::Result<()> {
-    print_compiles(rt, is_made)?;
+    print_commands(rt, Command::Compile, is_made)?;
+    print_commands(rt, Command::Unban, is_made)?;
     print_stopped(rt, Way::Whole, is_made)?;
     print_stopped(rt, Way::Pieces, is_made)?;
     print_faults(rt, Way::Whole, is_made)?;

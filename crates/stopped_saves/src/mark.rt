@@ -7,13 +7,22 @@ pub(crate) const OLD: &[u8] = &[1, 0, 0, 0, 0, 2];
 /// The file that the compile makes.
 const NEW: &[u8] = &[0, 0, 0];
 
+/// The file that banlist.json has before a ban is taken out of it.
+pub(crate) const OLD_BANS: &[u8] =
+    b"{\"banned_nets\":[{\"address\":\"1.2.3.4\",\"ban_created\":1,\"banned_until\":2,\"version\":1}]}";
+
+/// The file of no bans.
+const NEW_BANS: &[u8] = b"{\"banned_nets\":[]}";
+
 /// The files that are saved as peers.dat, one after another.
 pub(crate) const SAVES: [&[u8]; 3] = [b"1st", b"2nd", b"3rd"];
 
 /// The files, and the letter or digit of each.
-const MARKS: [(&[u8], &str); 5] = [
+const MARKS: [(&[u8], &str); 7] = [
     (OLD, "o"),
     (NEW, "n"),
+    (OLD_BANS, "o"),
+    (NEW_BANS, "n"),
     (b"1st", "1"),
     (b"2nd", "2"),
     (b"3rd", "3"),

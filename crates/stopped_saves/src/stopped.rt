@@ -1,4 +1,4 @@
-use crate::mark::{OLD, made_word, marks};
+use crate::mark::{OLD, OLD_BANS, made_word, marks};
 use addrman_run::{code, run};
 use host_io::{MemFolder, MemSink, MemSource, Memory, Name};
 use std::alloc::Global;
@@ -7,29 +7,72 @@ use std::hash::{BuildHasherDefault, FoldHasher};
 /// A table of one row.
 const TABLE: &[u8] = b"::/0 AS1\n";
 
-/// Makes a folder with an old asmap.dat and a table.
+/// A command that replaces a file.
+#[derive(Clone, Copy)]
+pub(crate) enum Command {
+    /// Compile a table into asmap.dat.
+    Compile,
+    /// Take the only ban out of banlist.json.
+    Unban,
+}
+
+impl Command {
+    /// Returns the first argument.
+    fn verb(self) -> &'static str {
+        match self {
+            Command::Compile => "compile",
+            Command::Unban => "unban",
+        }
+    }
+
+    /// Returns the file that is replaced.
+    fn name(self) -> Name {
+        match self {
+            Command::Compile => Name::Asmap,
+            Command::Unban => Name::Bans,
+        }
+    }
+
+    /// Returns the arguments.
+    fn arguments(self, alloc: Global) -> Result<Vec<String>, Memory> {
+        let mut arguments = Vec::new(alloc);
+        arguments.push(String::from_str(alloc, self.verb())?)?;
+        if let Command::Unban = self {
+            arguments.push(String::from_str(alloc, "1.2.3.4")?)?;
+        }
+        Ok(arguments)
+    }
+}
+
+/// Makes a folder with an old asmap.dat, an old banlist.json and a table.
 fn folder_of(alloc: Global, fails: &[(u64, bool)]) -> Result<MemFolder, Memory> {
     let mut folder = MemFolder::make(alloc, fails)?;
     folder.put(Name::Asmap, OLD)?;
+    folder.put(Name::Bans, OLD_BANS)?;
     folder.put(Name::Prefixes, TABLE)?;
     Ok(folder)
 }
 
-/// Compiles the table of the folder, and returns the exit code.
-fn compile(alloc: Global, folder: &mut MemFolder) -> Result<u8, Memory> {
+/// Runs the command in the folder, and returns the exit code.
+fn run_command(alloc: Global, command: Command, folder: &mut MemFolder) -> Result<u8, Memory> {
     let mut log = MemSource::make(alloc, b"", 1, &[])?;
     let mut out = MemSink::make(alloc, &[])?;
-    let words = [String::from_str(alloc, "compile")?];
+    let words = command.arguments(alloc)?;
     let hasher = BuildHasherDefault::<FoldHasher>::new();
-    let status = run(alloc, hasher, &words, &mut log, folder, &mut out);
+    let status = run(alloc, hasher, words.as_slice(), &mut log, folder, &mut out);
     Ok(code(&status))
 }
 
-/// Compiles while a call of the folder fails, and returns the line about it.
-pub(crate) fn stopped_compile(alloc: Global, call: u64, is_made: bool) -> Result<String, Memory> {
+/// Runs the command while a call of the folder fails, and returns the line about it.
+pub(crate) fn stopped_command(
+    alloc: Global,
+    command: Command,
+    call: u64,
+    is_made: bool,
+) -> Result<String, Memory> {
     let mut folder = folder_of(alloc, &[(call, is_made)])?;
-    let code = compile(alloc, &mut folder)?;
-    let found = marks(alloc, &folder, Name::Asmap)?;
-    let (made, found) = (made_word(is_made), found.as_str());
-    Ok(format!(in alloc; "compile, call {call} {made}: code {code}, {found}")?)
+    let code = run_command(alloc, command, &mut folder)?;
+    let found = marks(alloc, &folder, command.name())?;
+    let (verb, made, found) = (command.verb(), made_word(is_made), found.as_str());
+    Ok(format!(in alloc; "{verb}, call {call} {made}: code {code}, {found}")?)
 }

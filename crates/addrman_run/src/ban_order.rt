@@ -1,0 +1,22 @@
+use ban_list::Subnet;
+use net_addr::NetAddr;
+
+/// What is asked of the list of bans.
+#[derive(Clone, Copy, Debug)]
+pub(crate) enum BanOrder {
+    /// Ban a subnet from `now` until a later time.
+    Ban {
+        subnet: Subnet,
+        now: u32,
+        until: u32,
+    },
+    /// Take a subnet's ban out of the list.
+    Unban {
+        subnet: Subnet,
+    },
+    /// Find the ban that covers an address.
+    Find {
+        addr: NetAddr,
+        now: u32,
+    },
+}
