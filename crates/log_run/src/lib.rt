@@ -5,16 +5,15 @@ mod buffer;
 mod end;
 mod fault;
 mod feed;
+mod law;
 mod limits;
 mod reader;
 mod room;
 mod run;
 mod steps;
 
-pub use buffer::Buffer;
 pub use end::LogEnd;
-pub use fault::LogFault;
+pub use law::limits_are_numbers;
 pub use limits::{MAX_LINE, MAX_LOG, MAX_READ};
-pub use reader::LogReader;
 pub use run::run_log;
 pub use steps::{LineSteps, Stop};

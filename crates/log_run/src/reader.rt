@@ -179,12 +179,12 @@ impl LogReader {
         ensures fault { IfErr result (λ fault. fault ≡ LogFault.LineTooLong) }
         ensures long { OnErr result (IsLong self.now) }
     {
-        let count = self.buffer.bytes().len();
-        if count == 0 {
+        let length = self.buffer.bytes().len();
+        if length == 0 {
             return Ok(None);
         }
-        if count <= MAX_LINE {
-            return Ok(Some(count));
+        if length <= MAX_LINE {
+            return Ok(Some(length));
         }
         Err(LogFault::LineTooLong)
     }

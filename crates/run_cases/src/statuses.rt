@@ -13,7 +13,7 @@ use std::hash::{BuildHasherDefault, FoldHasher};
 use std::io;
 
 /// Statuses that none of the cases ends with, and the exit code and the text of each.
-const STATUSES: [(Status, &str); 9] = [
+const STATUSES: [(Status, &str); 10] = [
     (
         Status::LogLine {
             line: u64::MAX,
@@ -37,10 +37,11 @@ const STATUSES: [(Status, &str); 9] = [
         Status::TableRefused(Compile(CompileFault::TooLarge { bits: 67_108_865 })),
         "6 prefixes.txt refused: code-too-large",
     ),
+    (Status::LogTooLong, "10 log too long"),
     (Status::Memory, "12 out of memory"),
     (
-        Status::NotBuilt { line: u64::MAX },
-        "15 not built at line 18446744073709551615",
+        Status::LineTooLong { line: u64::MAX },
+        "13 log line 18446744073709551615: too long",
     ),
     (
         Status::BansRefused(BanFault::TooMany),

@@ -6,5 +6,5 @@ use Rattle.log_run.proofs.reader.LogReader.last_line.Goals as goal
 
 pub returns-clause-long : goal.returns-clause-long
 returns-clause-long c =
-    long_rest c.args.self.now c.bytes-count.result.now (c.bytes-count.ensures ∙ ap (λ r. r.waiting) c.self.view_is) (omega arith)
-    (subst HasNoFeed (sym c.bytes-count.ensures) (c.self.invariant.ended (subst IsTrue (sym (ap (λ r. r.is_ended) c.self.view_is)) c.requires.ended)))
+    long_rest c.args.self.now c.bytes-length.result.now (c.bytes-length.ensures ∙ ap (λ r. r.waiting) c.self.view_is) (omega arith)
+    (subst HasNoFeed (sym c.bytes-length.ensures) (c.self.invariant.ended (subst IsTrue (sym (ap (λ r. r.is_ended) c.self.view_is)) c.requires.ended)))
