@@ -1,0 +1,4 @@
+mod Apart
+mod Members
+mod Judged
+mod Examples
