@@ -1,10 +1,10 @@
 -- When a verdict comes.
-use Rattle.std.proofs.Common.{◌≡◌, ◌↔◌, ◌-◌, ℕ, List, Bool, true, false, nat_lt, nat_le, Contains, if◌then◌else◌, refl, sym, subst}
+use Rattle.std.proofs.Common.{◌≡◌, ◌↔◌, ◌⊎◌, ◌-◌, ◌<◌, ◌≤◌, ◌∙◌, inl, inr, arith, ℕ, List, Bool, true, false, nat_lt, nat_le, Contains, if◌then◌else◌, refl, sym, subst}
 use Rattle.std.specs.Bool.{Decides}
 use Rattle.std.proofs.lemmas.Bool.{le-leb, leb-true}
 use Rattle.std.proofs.lemmas.Bool.Decides.{Decides-and, Decides-ltb}
 use Rattle.peer_open.specs.Groups.{Outbound, groups, has_group}
-use Rattle.peer_open.specs.Verdicts.{IsTooSoon, is_recent, judge}
+use Rattle.peer_open.specs.Verdicts.{IsTooSoon, is_recent, judge, judge_feeler}
 use Rattle.peer_open.specs.declared.verdict.Verdict.{Verdict}
 use Rattle.peer_open.specs.declared.verdict.Verdict.TheVariants.{Take, SameGroup, Recent}
 use Rattle.peer_open.proofs.Apart.{has_group-Decides}
@@ -46,3 +46,41 @@ pub judged_so : (v : Verdict) (os : List Outbound) (group : List ℕ) (last_try 
 judged_so v os group last_try now tries is =
     subst (λ u. (u ≡ SameGroup ↔ Contains (groups os) group) × (u ≡ Recent ↔ ((¬ Contains (groups os) group) × IsTooSoon last_try now tries))) (sym is)
     (judged os group last_try now tries)
+
+-- ---- what the verdict that takes a peer says
+
+recent_not_taken : (b : Bool) → (if b then Recent else Take) ≡ Take → b ≡ false
+recent_not_taken true e = absurd cc
+recent_not_taken false e = refl
+
+late_of : (last_try now tries : ℕ) → is_recent last_try now tries ≡ false → now - last_try < 600 → 31 ≤ tries
+late_of last_try now tries h soon = elim (order tries) [
+  | inl late ↦ late
+  | inr early ↦ absurd (apart (sym ((is_recent-Decides last_try now tries).1 (soon, early)) ∙ h))
+]
+  where
+    order : (n : ℕ) → (31 ≤ n) ⊎ (n ≤ 30)
+    order n = omega arith
+    apart : true ≡ false → ⊥
+    apart e = cc e
+
+-- a feeler's peer that was tried within ten minutes has try 31 or a later one
+pub feeler_late : (last_try now tries : ℕ) → judge_feeler last_try now tries ≡ Take → now - last_try < 600 → 31 ≤ tries
+feeler_late last_try now tries e = late_of last_try now tries (recent_not_taken (is_recent last_try now tries) e)
+
+by_take : (b : Bool) (v : Verdict) → (if b then SameGroup else v) ≡ Take → (b ≡ false) × (v ≡ Take)
+by_take true v e = absurd cc
+by_take false v e = (refl, e)
+
+-- so has an outbound peer
+pub taken_late : (os : List Outbound) (group : List ℕ) (last_try now tries : ℕ) → judge os group last_try now tries ≡ Take → now - last_try < 600 → 31 ≤ tries
+taken_late os group last_try now tries e =
+    feeler_late last_try now tries (by_take (has_group group os) (judge_feeler last_try now tries) e).1
+
+-- and no open peer is in its group
+pub taken_apart : (os : List Outbound) (group : List ℕ) (last_try now tries : ℕ) → judge os group last_try now tries ≡ Take → ¬ Contains (groups os) group
+taken_apart os group last_try now tries e = λ has.
+    apart (sym ((has_group-Decides group os).1 has) ∙ (by_take (has_group group os) (judge_feeler last_try now tries) e).0)
+  where
+    apart : true ≡ false → ⊥
+    apart e = cc e

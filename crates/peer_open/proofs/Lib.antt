@@ -1,4 +1,4 @@
-mod Apart
+pub mod Apart
 mod Members
-mod Judged
+pub mod Judged
 mod Examples

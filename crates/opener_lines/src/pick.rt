@@ -1,0 +1,89 @@
+ghost use Rattle.std.specs.Prelude.{◌≡◌, ◌≢◌, ◌+◌, ◌≤◌, ◌<◌, ◌^◌, IfOk};
+ghost use Rattle.log_lines.specs.Random.{seeded_words};
+ghost use Rattle.net_addr.specs.NetSet.{all};
+ghost use Rattle.table_machine.specs.Picks.{select};
+ghost use Rattle.opener_lines.specs.Tries.{pick_by};
+ghost use Rattle.opener_lines.specs.declared.words.TheConstants.{TRY_WORDS};
+
+use crate::memory::Memory;
+use crate::words::{TRY_WORDS, seeded_words};
+use crate::Aim;
+use log_lines::Words;
+use manager::Manager;
+use net_addr::NetSet;
+use peer_rec::Picked;
+use picking::select;
+use std::alloc::Global;
+use std::hash::BuildHasher;
+use std::sync::ledger::Ledger;
+use steps::Steps;
+use tables::Tables;
+
+/// The words that a try reads at first. Most picks end within them.
+const FIRST_WORDS: u64 = 128;
+
+/// Returns the pick of a try: a peer of the new table for a feeler and else of both, or the
+/// occupant with which a feeler begins.
+pub(crate) fn pick_by<H: BuildHasher, L: Ledger>(
+    alloc: Global,
+    manager: &Manager<'_, H>,
+    aim: &Aim,
+    seed: u32,
+    number: u32,
+    steps: &mut Steps<L>,
+) -> Result<Picked, Memory>
+    ensures { IfOk result (λ picked. picked ≡ pick_by manager.now aim.now seed number) }
+{
+    let new_only = match aim {
+        Aim::Outbound => false,
+        Aim::Feeler { occupant } => {
+            if let Some((peer, last_try)) = occupant {
+                if number == 1 {
+                    return Ok(Picked::One(*peer, *last_try));
+                }
+            }
+            true
+        }
+    };
+    let seed = u64::from(seed) + u64::from(number);
+    pick(alloc, manager.tables(), new_only, seed, manager.clock(), steps)
+}
+
+/// Picks a peer by the words of a seed, at a time in seconds since 1970. Most picks read few words,
+/// so only a short list of them is made at first. A pick that ends within it ends the same over all
+/// words.
+#[tactic(auto, using(crate::proofs::Prefixes::first_words))]
+fn pick<H: BuildHasher, L: Ledger>(
+    alloc: Global,
+    tables: &Tables<'_, H>,
+    new_only: bool,
+    seed: u64,
+    now: u32,
+    steps: &mut Steps<L>,
+) -> Result<Picked, Memory>
+    ensures { IfOk result (λ picked.
+        picked ≡ select tables.now new_only all (seeded_words seed TRY_WORDS) now) }
+{
+    let words = seeded_words(alloc, seed, FIRST_WORDS)?;
+    match select(tables, new_only, NetSet::all(), words.items(), now, steps) {
+        Picked::One(peer, last_try) => Ok(Picked::One(peer, last_try)),
+        Picked::Nothing => Ok(Picked::Nothing),
+        Picked::Exhausted => pick_by_all(alloc, tables, new_only, seed, now, steps),
+    }
+}
+
+/// Picks a peer by all words of a seed, at a time in seconds since 1970.
+fn pick_by_all<H: BuildHasher, L: Ledger>(
+    alloc: Global,
+    tables: &Tables<'_, H>,
+    new_only: bool,
+    seed: u64,
+    now: u32,
+    steps: &mut Steps<L>,
+) -> Result<Picked, Memory>
+    ensures { IfOk result (λ picked.
+        picked ≡ select tables.now new_only all (seeded_words seed TRY_WORDS) now) }
+{
+    let words = seeded_words(alloc, seed, TRY_WORDS)?;
+    Ok(select(tables, new_only, NetSet::all(), words.items(), now, steps))
+}

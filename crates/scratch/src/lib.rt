@@ -1,0 +1,7 @@
+//! Scratch.
+#![tactic(auto)]
+
+/// Returns one.
+pub fn one() -> u8 {
+    1
+}
