@@ -4,3 +4,5 @@ pub mod OneMeaning
 pub mod Outcomes
 pub mod Done
 pub mod Fairness
+pub mod Results
+pub mod FieldCounts

@@ -1,5 +1,6 @@
 -- Tries have one outcome.
 use Rattle.std.proofs.Common.{◌≡◌, ◌≢◌, ◌⊎◌, ℕ, zero, suc, ◌+◌, ◌<◌, ◌≤◌, inl, inr, refl, sym, ap, subst, ◌∙◌, arith}
+use Rattle.std.proofs.lemmas.Bool.Decides.{leb_tells}
 use Rattle.net_addr.specs.declared.peer.Peer.{Peer}
 use Rattle.peer_open.specs.declared.opener.TheConstants.{MAX_TRIES}
 use Rattle.opener_lines.specs.Tries.{HasOutcome, IsFirst, NoneBefore}
@@ -15,10 +16,10 @@ none_before_one tries j least before = absurd (omega arith)
 
 -- one more try that does not decide
 pub none_before_next : (tries : ℕ → Try) (i : ℕ) → NoneBefore tries i → tries i ≡ Next → NoneBefore tries (i + 1)
-none_before_next tries i before next j least within = elim (cases j i within) [ inl is ↦ subst (λ k. tries k ≡ Next) (sym is) next | inr less ↦ before j least less ]
-  where
-    cases : (a b : ℕ) → a < b + 1 → (a ≡ b) ⊎ (a < b)
-    cases a b h = omega arith
+none_before_next tries i before next j least within = elim (leb_tells i j) [
+  | inl last ↦ let is : i ≡ j = omega (arith, last.1, within) in subst (λ k. tries k ≡ Next) is next
+  | inr less ↦ before j least less.1
+]
 
 -- some tries are the first, or none decides
 search_tries : (tries : ℕ → Try) (n : ℕ) → n ≤ MAX_TRIES → ((found : Outcome) × HasOutcome tries found) ⊎ NoneBefore tries (n + 1)
@@ -41,14 +42,13 @@ some_outcome tries = elim (search_tries tries MAX_TRIES (omega arith)) [
 
 -- two first tries are one
 same_first : (tries : ℕ → Try) (i j : ℕ) (a b : Try) → a ≢ Next → b ≢ Next → IsFirst tries i a → IsFirst tries j b → (i ≡ j) × (a ≡ b)
-same_first tries i j a b first second h k = by (order i j)
-  where
-    order : (m n : ℕ) → (m < n) ⊎ ((n < m) ⊎ (m ≡ n))
-    order m n = omega arith
-    by : (i < j) ⊎ ((j < i) ⊎ (i ≡ j)) → (i ≡ j) × (a ≡ b)
-    by (inl less) = absurd (first (sym h.comes ∙ k.before i h.least less))
-    by (inr (inl more)) = absurd (second (sym k.comes ∙ h.before j k.least more))
-    by (inr (inr is)) = (is, sym h.comes ∙ ap tries is ∙ k.comes)
+same_first tries i j a b first second h k = elim (leb_tells i j) [
+  | inr more ↦ absurd (second (sym k.comes ∙ h.before j k.least more.1))
+  | inl most ↦ elim (leb_tells j i) [
+    | inr less ↦ absurd (first (sym h.comes ∙ k.before i h.least less.1))
+    | inl least ↦ let is : i ≡ j = omega (arith, most.1, least.1) in (is, sym h.comes ∙ ap tries is ∙ k.comes)
+  ]
+]
 
 gave_up : (tries : ℕ → Try) (i : ℕ) (a : Try) → a ≢ Next → IsFirst tries i a → NoneBefore tries (suc MAX_TRIES) → ⊥
 gave_up tries i a decides h none = decides (sym h.comes ∙ none i h.least (omega (arith, h.most)))

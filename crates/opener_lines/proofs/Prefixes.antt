@@ -3,6 +3,7 @@ use Rattle.std.proofs.Common.{◌≡◌, ◌≢◌, ℕ, zero, suc, ◌%◌, ◌
 use Rattle.rand_xoshiro.specs.Xoshiro256.{plus_plus, of_seed}
 use Rattle.rand_xoshiro.specs.SplitMix64.{splitmix_seed}
 use Rattle.log_lines.specs.Random.{outputs, seeded_words}
+use Rattle.net_addr.specs.declared.peer.Peer.{Peer}
 use Rattle.peer_rec.specs.declared.picked.Picked.{Picked}
 use Rattle.peer_rec.specs.declared.picked.Picked.TheVariants.{One, Nothing, Exhausted}
 use Rattle.peer_rec.specs.declared.rec.Rec.{Rec}
@@ -79,3 +80,15 @@ first_words st new_only nets seed few more now found h is ends =
     let whole = more_words seed few more h in
     is ∙ sym (prefix_decides st new_only nets (seeded_words seed few) whole.0 now (λ runs_out. ends (is ∙ runs_out)))
     ∙ ap (λ ws. select st new_only nets ws now) (sym whole.1)
+
+one_apart : (peer : Peer) (last_try : ℕ) → One peer last_try ≡ Exhausted → ⊥
+one_apart peer last_try e = cc e
+
+nothing_apart : Nothing ≡ Exhausted → ⊥
+nothing_apart e = cc e
+
+pub one_ends : (found : Picked) (peer : Peer) (last_try : ℕ) → found ≡ One peer last_try → found ≢ Exhausted
+one_ends found peer last_try is e = one_apart peer last_try (sym is ∙ e)
+
+pub nothing_ends : (found : Picked) → found ≡ Nothing → found ≢ Exhausted
+nothing_ends found is e = nothing_apart (sym is ∙ e)

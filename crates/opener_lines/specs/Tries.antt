@@ -1,6 +1,6 @@
 -- The tries of a connection (`CConnman::ThreadOpenConnections` in net.cpp of Bitcoin Core). Each try
 -- picks a peer by random words of its own, and the first one that decides counts.
-use Rattle.std.specs.Prelude.{◌≡◌, ℕ, suc, ◌+◌, ◌<◌, ◌≤◌, List, Bool, true, false, Option, Some, None}
+use Rattle.std.specs.Prelude.{◌≡◌, ℕ, suc, ◌+◌, ◌<◌, ◌≤◌, List, Bool, true, false, ◌==◌, Option, Some, None, if◌then◌else◌}
 use Rattle.net_addr.specs.NetSet.{all}
 use Rattle.net_addr.specs.declared.peer.Peer.{Peer}
 use Rattle.placing.specs.Places.{Places, group}
@@ -34,8 +34,9 @@ pick_of_try m new_only seed i = select m.tables new_only all (try_words seed i) 
 
 -- the same of a feeler, whose first try takes the occupant that a collision waits for, if there is one
 abbrev pub pick_of_feeler : Machine → Option (Peer × ℕ) → ℕ → ℕ → Picked
-pick_of_feeler m (Some occupant) seed 1 = picked.One occupant.0 occupant.1
-pick_of_feeler m occupant seed i = pick_of_try m true seed i
+pick_of_feeler m None seed i = pick_of_try m true seed i
+pick_of_feeler m (Some occupant) seed i =
+    if i == 1 then picked.One occupant.0 occupant.1 else pick_of_try m true seed i
 
 abbrev pub pick_by : Machine → Aim → ℕ → ℕ → Picked
 pick_by m aim.Outbound seed i = pick_of_try m false seed i

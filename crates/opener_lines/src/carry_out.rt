@@ -134,9 +134,12 @@ fn occupant<H: BuildHasher, L: Ledger>(
     ensures machine { manager.new ≡ after_clash manager.old word }
     ensures numbers { manager.new.tables.next_number ≤ manager.old.tables.next_number + 1000 }
 {
-    match manager.apply(alloc, &Command::Clash { word }, steps) {
-        Ok(Reply::Clash(found)) => found,
-        // Such a command takes no memory, and has no other reply.
+    // Such a command takes no memory, and has no other reply.
+    let Ok(reply) = manager.apply(alloc, &Command::Clash { word }, steps) else {
+        unreachable!()
+    };
+    match &reply {
+        Reply::Clash(found) => *found,
         _ => unreachable!(),
     }
 }

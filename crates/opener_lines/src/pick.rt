@@ -1,5 +1,6 @@
 ghost use Rattle.std.specs.Prelude.{◌≡◌, ◌≢◌, ◌+◌, ◌≤◌, ◌<◌, ◌^◌, IfOk};
 ghost use Rattle.log_lines.specs.Random.{seeded_words};
+ghost use Rattle.log_lines.specs.declared.random.TheConstants.{MAX_SEEDED};
 ghost use Rattle.net_addr.specs.NetSet.{all};
 ghost use Rattle.table_machine.specs.Picks.{select};
 ghost use Rattle.opener_lines.specs.Tries.{pick_by};
@@ -8,7 +9,7 @@ ghost use Rattle.opener_lines.specs.declared.words.TheConstants.{TRY_WORDS};
 use crate::memory::Memory;
 use crate::words::{TRY_WORDS, seeded_words};
 use crate::Aim;
-use log_lines::Words;
+use log_lines::MAX_SEEDED;
 use manager::Manager;
 use net_addr::NetSet;
 use peer_rec::Picked;
@@ -52,7 +53,6 @@ pub(crate) fn pick_by<H: BuildHasher, L: Ledger>(
 /// Picks a peer by the words of a seed, at a time in seconds since 1970. Most picks read few words,
 /// so only a short list of them is made at first. A pick that ends within it ends the same over all
 /// words.
-#[tactic(auto, using(crate::proofs::Prefixes::first_words))]
 fn pick<H: BuildHasher, L: Ledger>(
     alloc: Global,
     tables: &Tables<'_, H>,
@@ -64,26 +64,30 @@ fn pick<H: BuildHasher, L: Ledger>(
     ensures { IfOk result (λ picked.
         picked ≡ select tables.now new_only all (seeded_words seed TRY_WORDS) now) }
 {
-    let words = seeded_words(alloc, seed, FIRST_WORDS)?;
-    match select(tables, new_only, NetSet::all(), words.items(), now, steps) {
-        Picked::One(peer, last_try) => Ok(Picked::One(peer, last_try)),
-        Picked::Nothing => Ok(Picked::Nothing),
-        Picked::Exhausted => pick_by_all(alloc, tables, new_only, seed, now, steps),
+    let picked = pick_by_words(alloc, tables, new_only, seed, FIRST_WORDS, now, steps)?;
+    match picked {
+        Picked::One(_, _) => Ok(picked),
+        Picked::Nothing => Ok(picked),
+        Picked::Exhausted => {
+            pick_by_words(alloc, tables, new_only, seed, TRY_WORDS, now, steps)
+        }
     }
 }
 
-/// Picks a peer by all words of a seed, at a time in seconds since 1970.
-fn pick_by_all<H: BuildHasher, L: Ledger>(
+/// Picks a peer by the first words of a seed, at a time in seconds since 1970.
+fn pick_by_words<H: BuildHasher, L: Ledger>(
     alloc: Global,
     tables: &Tables<'_, H>,
     new_only: bool,
     seed: u64,
+    count: u64,
     now: u32,
     steps: &mut Steps<L>,
 ) -> Result<Picked, Memory>
+    requires { count ≤ MAX_SEEDED }
     ensures { IfOk result (λ picked.
-        picked ≡ select tables.now new_only all (seeded_words seed TRY_WORDS) now) }
+        picked ≡ select tables.now new_only all (seeded_words seed count) now) }
 {
-    let words = seeded_words(alloc, seed, TRY_WORDS)?;
+    let words = seeded_words(alloc, seed, count)?;
     Ok(select(tables, new_only, NetSet::all(), words.items(), now, steps))
 }

@@ -2,7 +2,8 @@ ghost use Rattle.std.specs.Prelude.{◌≡◌, ◌≢◌, ◌-◌, ◌^◌, ◌�
 ghost use Rattle.host_io.specs.Lines.{IsPassedOver};
 ghost use Rattle.log_lines.specs.Fields.{Number, OfPeer, TheNumber, ThePeer, Means, AreAtFault, IsFieldFault, fields_of};
 ghost use Rattle.log_lines.specs.Inside.{texts_after};
-ghost use Rattle.opener_lines.specs.Grammar.{Asks, AsksAfter, HasFault, IsOwnWord, IsSaveWord, kinds_of, word_of};
+ghost use Rattle.log_lines.specs.Spelling as machine;
+ghost use Rattle.opener_lines.specs.Grammar.{Asks, AsksAfter, HasFault, IsOwnWord, IsSaveWord, Saves, kinds_of, word_of};
 ghost use Rattle.opener_lines.specs.declared.request.Request.{Request};
 ghost use Rattle.opener_lines.specs.declared.verb.Verb.{Verb};
 
@@ -42,7 +43,7 @@ fn read_asked(alloc: Global, line: &[u8]) -> Result<Request, LineFault>
     if let Some(verb) = verb_of(word) {
         return read_own(verb, rest);
     }
-    if is_save_word(word) {
+    if let Some(_) = save_verb(word) {
         return Err(LineFault::Word);
     }
     match read_line(alloc, line) {
@@ -68,19 +69,21 @@ fn verb_of(word: &[u8]) -> Option<Verb>
     }
 }
 
-/// Returns `true` for the keyword of a line that saves.
-fn is_save_word(word: &[u8]) -> bool
-    ensures yes { IsTrue result → IsSaveWord word.now }
-    ensures no { IsSaveWord word.now → IsTrue result }
+/// Returns the verb of a line that saves, if this is its keyword.
+fn save_verb(word: &[u8]) -> Option<log_lines::Verb>
+    ensures found { IfSome result (λ verb. Saves verb × (word.now ≡ machine.word_of verb)) }
+    ensures none { IfNone result (¬ IsSaveWord word.now) }
 {
     if word == b"save".as_slice() {
-        true
+        Some(log_lines::Verb::Save)
     } else if word == b"save-begin".as_slice() {
-        true
+        Some(log_lines::Verb::SaveBegin)
     } else if word == b"save-step".as_slice() {
-        true
+        Some(log_lines::Verb::SaveStep)
+    } else if word == b"save-end".as_slice() {
+        Some(log_lines::Verb::SaveEnd)
     } else {
-        word == b"save-end".as_slice()
+        None
     }
 }
 
@@ -136,10 +139,15 @@ fn one_field(rest: Option<&[u8]>) -> Option<&[u8]>
     ensures found { IfSome result (λ a. texts_after rest.entry ≡ a.now ∷ []) }
     ensures none { IfNone result (length (texts_after rest.entry) ≢ 1) }
 {
-    let (field, rest) = cut_field(rest?);
     match rest {
-        None => Some(field),
-        Some(_) => None,
+        None => None,
+        Some(text) => {
+            let (field, after) = cut_field(text);
+            match after {
+                None => Some(field),
+                Some(_) => None,
+            }
+        }
     }
 }
 

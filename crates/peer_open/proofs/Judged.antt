@@ -1,8 +1,8 @@
 -- When a verdict comes.
-use Rattle.std.proofs.Common.{◌≡◌, ◌↔◌, ◌⊎◌, ◌-◌, ◌<◌, ◌≤◌, ◌∙◌, inl, inr, arith, ℕ, List, Bool, true, false, nat_lt, nat_le, Contains, if◌then◌else◌, refl, sym, subst}
+use Rattle.std.proofs.Common.{◌≡◌, ◌↔◌, ◌-◌, ◌<◌, ◌≤◌, ◌∙◌, inl, inr, arith, ℕ, List, Bool, true, false, nat_lt, nat_le, Contains, if◌then◌else◌, refl, sym, subst}
 use Rattle.std.specs.Bool.{Decides}
 use Rattle.std.proofs.lemmas.Bool.{le-leb, leb-true}
-use Rattle.std.proofs.lemmas.Bool.Decides.{Decides-and, Decides-ltb}
+use Rattle.std.proofs.lemmas.Bool.Decides.{Decides-and, Decides-ltb, leb_tells}
 use Rattle.peer_open.specs.Groups.{Outbound, groups, has_group}
 use Rattle.peer_open.specs.Verdicts.{IsTooSoon, is_recent, judge, judge_feeler}
 use Rattle.peer_open.specs.declared.verdict.Verdict.{Verdict}
@@ -54,13 +54,11 @@ recent_not_taken true e = absurd cc
 recent_not_taken false e = refl
 
 late_of : (last_try now tries : ℕ) → is_recent last_try now tries ≡ false → now - last_try < 600 → 31 ≤ tries
-late_of last_try now tries h soon = elim (order tries) [
-  | inl late ↦ late
-  | inr early ↦ absurd (apart (sym ((is_recent-Decides last_try now tries).1 (soon, early)) ∙ h))
+late_of last_try now tries h soon = elim (leb_tells tries 30) [
+  | inl early ↦ absurd (apart (sym ((is_recent-Decides last_try now tries).1 (soon, early.1)) ∙ h))
+  | inr late ↦ omega (arith, late.1)
 ]
   where
-    order : (n : ℕ) → (31 ≤ n) ⊎ (n ≤ 30)
-    order n = omega arith
     apart : true ≡ false → ⊥
     apart e = cc e
 
