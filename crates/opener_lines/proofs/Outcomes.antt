@@ -82,3 +82,8 @@ one_outcome tries outcome.Nothing outcome.GaveUp h k = absurd (gave_up tries h.0
 one_outcome tries outcome.GaveUp (outcome.Taken q j) h k = absurd (gave_up tries j (Take q) (takes q) k h)
 one_outcome tries outcome.GaveUp outcome.Nothing h k = absurd (gave_up tries k.0 try.Nothing ends k.1 h)
 one_outcome tries outcome.GaveUp outcome.GaveUp h k = refl
+
+-- the first try that takes a peer
+pub first_take : (tries : ℕ → Try) (i : ℕ) (found : Try) (peer : Peer) → 1 ≤ i → i ≤ MAX_TRIES → NoneBefore tries i → found ≡ tries i → found ≡ Take peer
+    → IsFirst tries i (Take peer)
+first_take tries i found peer least most before comes is = record { least = least; most = most; before = before; comes = sym comes ∙ is }

@@ -3,7 +3,7 @@ ghost use Rattle.log_lines.specs.Random.{seeded_words};
 ghost use Rattle.log_lines.specs.declared.random.TheConstants.{MAX_SEEDED};
 ghost use Rattle.net_addr.specs.NetSet.{all};
 ghost use Rattle.table_machine.specs.Picks.{select};
-ghost use Rattle.opener_lines.specs.Tries.{pick_by};
+ghost use Rattle.opener_lines.specs.Tries.{pick_by, pick_of_feeler, pick_of_try};
 ghost use Rattle.opener_lines.specs.declared.words.TheConstants.{TRY_WORDS};
 
 use crate::memory::Memory;
@@ -11,7 +11,7 @@ use crate::words::{TRY_WORDS, seeded_words};
 use crate::Aim;
 use log_lines::MAX_SEEDED;
 use manager::Manager;
-use net_addr::NetSet;
+use net_addr::{NetSet, Peer};
 use peer_rec::Picked;
 use picking::select;
 use std::alloc::Global;
@@ -23,8 +23,7 @@ use tables::Tables;
 /// The words that a try reads at first. Most picks end within them.
 const FIRST_WORDS: u64 = 128;
 
-/// Returns the pick of a try: a peer of the new table for a feeler and else of both, or the
-/// occupant with which a feeler begins.
+/// Returns the pick of a try.
 pub(crate) fn pick_by<H: BuildHasher, L: Ledger>(
     alloc: Global,
     manager: &Manager<'_, H>,
@@ -35,17 +34,47 @@ pub(crate) fn pick_by<H: BuildHasher, L: Ledger>(
 ) -> Result<Picked, Memory>
     ensures { IfOk result (λ picked. picked ≡ pick_by manager.now aim.now seed number) }
 {
-    let new_only = match aim {
-        Aim::Outbound => false,
-        Aim::Feeler { occupant } => {
-            if let Some((peer, last_try)) = occupant {
-                if number == 1 {
-                    return Ok(Picked::One(*peer, *last_try));
-                }
+    match aim {
+        Aim::Outbound => pick_of_try(alloc, manager, false, seed, number, steps),
+        Aim::Feeler { occupant } => pick_of_feeler(alloc, manager, occupant, seed, number, steps),
+    }
+}
+
+/// Returns the pick of a feeler's try: in the first the occupant, if there is one, and else a peer
+/// of the new table.
+fn pick_of_feeler<H: BuildHasher, L: Ledger>(
+    alloc: Global,
+    manager: &Manager<'_, H>,
+    occupant: &Option<(Peer, u32)>,
+    seed: u32,
+    number: u32,
+    steps: &mut Steps<L>,
+) -> Result<Picked, Memory>
+    ensures { IfOk result (λ picked. picked ≡ pick_of_feeler manager.now occupant.now seed number) }
+{
+    match occupant {
+        None => pick_of_try(alloc, manager, true, seed, number, steps),
+        Some((peer, last_try)) => {
+            if number == 1 {
+                Ok(Picked::One(*peer, *last_try))
+            } else {
+                pick_of_try(alloc, manager, true, seed, number, steps)
             }
-            true
         }
-    };
+    }
+}
+
+/// Returns the pick of a try by its random words, from the new table only or from both.
+fn pick_of_try<H: BuildHasher, L: Ledger>(
+    alloc: Global,
+    manager: &Manager<'_, H>,
+    new_only: bool,
+    seed: u32,
+    number: u32,
+    steps: &mut Steps<L>,
+) -> Result<Picked, Memory>
+    ensures { IfOk result (λ picked. picked ≡ pick_of_try manager.now new_only seed number) }
+{
     let seed = u64::from(seed) + u64::from(number);
     pick(alloc, manager.tables(), new_only, seed, manager.clock(), steps)
 }

@@ -1,7 +1,0 @@
-//! Scratch.
-#![tactic(auto)]
-
-/// Returns one.
-pub fn one() -> u8 {
-    1
-}
