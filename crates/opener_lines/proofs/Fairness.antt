@@ -91,12 +91,14 @@ line_apart old new line text (inr step) apart = step_apart old new step.0 step.1
 fair_outbound : (old : State) (seed : ℕ) (found : Outcome) → HasOutcome (try_by old.machine old.open_peers aim.Outbound seed) found
     → IsFair old (request.Outbound seed) (answer_to_outbound old.machine.tables.places found)
 fair_outbound old seed (outcome.Taken peer i) h =
-    let t = taken old.machine old.open_peers aim.Outbound seed peer i h.comes in
-    ((h.least, h.most), record {
-      last_try = t.last_try;
-      picked = t.picked;
-      late = taken_late old.open_peers (group old.machine.tables.places peer.addr) t.last_try old.machine.clock i t.verdict;
-    })
+    let t = taken old.machine old.open_peers aim.Outbound seed peer i h.comes in (
+      (h.least, h.most),
+      record {
+        last_try = t.last_try;
+        picked = t.picked;
+        late = taken_late old.open_peers (group old.machine.tables.places peer.addr) t.last_try old.machine.clock i t.verdict;
+      },
+    )
 fair_outbound old seed outcome.Nothing h = tt
 fair_outbound old seed outcome.GaveUp h = tt
 

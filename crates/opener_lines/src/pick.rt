@@ -6,9 +6,9 @@ ghost use Rattle.table_machine.specs.Picks.{select};
 ghost use Rattle.opener_lines.specs.Tries.{pick_by, pick_of_feeler, pick_of_try};
 ghost use Rattle.opener_lines.specs.declared.words.TheConstants.{TRY_WORDS};
 
+use crate::Aim;
 use crate::memory::Memory;
 use crate::words::{TRY_WORDS, seeded_words};
-use crate::Aim;
 use log_lines::MAX_SEEDED;
 use manager::Manager;
 use net_addr::{NetSet, Peer};
@@ -76,7 +76,14 @@ fn pick_of_try<H: BuildHasher, L: Ledger>(
     ensures { IfOk result (λ picked. picked ≡ pick_of_try manager.now new_only seed number) }
 {
     let seed = u64::from(seed) + u64::from(number);
-    pick(alloc, manager.tables(), new_only, seed, manager.clock(), steps)
+    pick(
+        alloc,
+        manager.tables(),
+        new_only,
+        seed,
+        manager.clock(),
+        steps,
+    )
 }
 
 /// Picks a peer by the words of a seed, at a time in seconds since 1970. Most picks read few words,
@@ -97,9 +104,7 @@ fn pick<H: BuildHasher, L: Ledger>(
     match picked {
         Picked::One(_, _) => Ok(picked),
         Picked::Nothing => Ok(picked),
-        Picked::Exhausted => {
-            pick_by_words(alloc, tables, new_only, seed, TRY_WORDS, now, steps)
-        }
+        Picked::Exhausted => { pick_by_words(alloc, tables, new_only, seed, TRY_WORDS, now, steps) }
     }
 }
 

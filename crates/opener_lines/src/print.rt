@@ -39,11 +39,7 @@ pub(crate) fn tested_text(alloc: Global, peer: &Peer, tries: u32) -> Result<Vec<
 pub(crate) fn closed_text(was_open: bool) -> &'static [u8]
     ensures { result.now ≡ closed_text was_open }
 {
-    if was_open {
-        b"closed\n"
-    } else {
-        b"unknown\n"
-    }
+    if was_open { b"closed\n" } else { b"unknown\n" }
 }
 
 /// Appends a group in hexadecimal.
