@@ -1,5 +1,5 @@
 -- What a request has done, and what it leaves.
-use Rattle.std.proofs.Common.{◌≡◌, ◌⊎◌, ℕ, ◌≤◌, List, [], ◌∷◌, ◌++◌, Result, Ok, Err, OnOk, OnErr, inl, inr, refl, sym, ap, subst, ◌∙◌, arith, append-nil}
+use Rattle.std.proofs.Common.{◌≡◌, ◌⊎◌, ℕ, ◌<◌, ◌≤◌, List, [], ◌∷◌, ◌++◌, length, Option, Result, Ok, Err, OnOk, OnErr, inl, inr, refl, sym, ap, subst, ◌∙◌, arith, append-nil}
 use Rattle.host_io.specs.Lines.{IsPassedOver}
 use Rattle.net_addr.specs.declared.peer.Peer.{Peer}
 use Rattle.table_machine.specs.Clashes.{clash_pick}
@@ -16,9 +16,11 @@ use Rattle.peer_open.specs.Groups.{Outbound, is_open, without_peer}
 use Rattle.opener_lines.specs.Grammar.{Asks}
 use Rattle.opener_lines.specs.Inside.{CanBeDone, Leaves}
 use Rattle.opener_lines.specs.Lines.{LeavesPart, LineStep}
-use Rattle.opener_lines.specs.State.{Answer, Closed, FeelerStep, OutboundStep, State, Step, Told, after_clash, answer_to_feeler, state}
+use Rattle.opener_lines.specs.State.{Answer, Closed, FeelerStep, Full, OutboundStep, State, Step, Told, after_clash, answer_to_feeler, answer_to_outbound, peers_after, state}
 use Rattle.opener_lines.specs.Texts.{answer_text}
-use Rattle.opener_lines.specs.Tries.{try_by}
+use Rattle.peer_open.specs.declared.opener.TheConstants.{MAX_OUTBOUND}
+use Rattle.opener_lines.specs.Tries.{HasOutcome, try_by}
+use Rattle.opener_lines.specs.declared.tries.Outcome.{Outcome}
 use Rattle.opener_lines.specs.declared.aim.Aim.TheVariants as aim
 use Rattle.opener_lines.specs.declared.request.Request.{Request}
 use Rattle.opener_lines.specs.declared.request.Request.TheVariants as request
@@ -128,3 +130,25 @@ left old new line (request.Machine command) asks (inr (inr part)) = inr (inr (co
 left old new line (request.Outbound seed) asks (inr (inr part)) = absurd part
 left old new line (request.Feeler seed word) asks (inr (inr part)) = absurd part
 left old new line (request.Close peer) asks (inr (inr part)) = absurd part
+
+-- ---- of the tries
+
+pub outbound_done : (m : Machine) (old new : List Outbound) (seed : ℕ) (found : Outcome) (before after : List ℕ) → length old < MAX_OUTBOUND
+    → HasOutcome (try_by m old aim.Outbound seed) found → new ≡ peers_after m.tables.places found old
+    → after ≡ before ++ answer_text (answer_to_outbound m.tables.places found)
+    → (answer : Answer) × OutboundStep (state m old) seed answer (state m new) × (after ≡ before ++ answer_text answer)
+outbound_done m old new seed found before after few h is text =
+    (answer_to_outbound m.tables.places found, inr (few, (found, h, refl, ap (state m) is)), text)
+
+pub full_done : (m : Machine) (old : List Outbound) (seed : ℕ) (before after : List ℕ) → length old ≡ MAX_OUTBOUND → after ≡ before ++ answer_text Full
+    → (answer : Answer) × OutboundStep (state m old) seed answer (state m old) × (after ≡ before ++ answer_text answer)
+full_done m old seed before after full text = (Full, inl (full, refl, refl), text)
+
+pub feeler_done : (old new : Machine) (peers : List Outbound) (seed word : ℕ) (occupant : Option (Peer × ℕ)) (found : Outcome) (before after : List ℕ)
+    → occupant ≡ (clash_pick old.tables word).answer → new ≡ after_clash old word → HasOutcome (try_by new peers (aim.Feeler occupant) seed) found
+    → after ≡ before ++ answer_text (answer_to_feeler found)
+    → (answer : Answer) × FeelerStep (state old peers) seed word answer (state new peers) × (after ≡ before ++ answer_text answer)
+feeler_done old new peers seed word occupant found before after first is h text =
+    let picked = subst (λ o. HasOutcome (try_by new peers (aim.Feeler o) seed) found) first h in
+    let done = subst (λ m. HasOutcome (try_by m peers (aim.Feeler (clash_pick old.tables word).answer) seed) found) is picked in
+    (answer_to_feeler found, (found, done, refl, ap (λ m. state m peers) is), text)

@@ -122,3 +122,12 @@ step_fair old new (request.Outbound seed) answer (inr step) =
 step_fair old new (request.Feeler seed word) answer step = subst (IsFair old (request.Feeler seed word)) (sym step.2) (fair_feeler old seed word step.0 step.1)
 step_fair old new (request.Close peer) answer step = fair_close old peer answer
 step_fair old new (request.Machine command) answer step = tt
+
+-- the group of the peer that the tries took is that of no open peer
+pub no_group : (m : Machine) (open_peers : List Outbound) (seed : ℕ) (found : Outcome) (peer : Peer) (i : ℕ) (its_group : List ℕ)
+    → HasOutcome (try_by m open_peers aim.Outbound seed) found → found ≡ outcome.Taken peer i → its_group ≡ group m.tables.places peer.addr
+    → ¬ Contains (groups open_peers) its_group
+no_group m open_peers seed found peer i its_group h is same =
+    let first = subst (HasOutcome (try_by m open_peers aim.Outbound seed)) is h in
+    let t = taken m open_peers aim.Outbound seed peer i first.comes in
+    subst (λ g. ¬ Contains (groups open_peers) g) (sym same) (taken_apart open_peers (group m.tables.places peer.addr) t.last_try m.clock i t.verdict)
