@@ -152,3 +152,8 @@ feeler_done old new peers seed word occupant found before after first is h text 
     let picked = subst (λ o. HasOutcome (try_by new peers (aim.Feeler o) seed) found) first h in
     let done = subst (λ m. HasOutcome (try_by m peers (aim.Feeler (clash_pick old.tables word).answer) seed) found) is picked in
     (answer_to_feeler found, (found, done, refl, ap (λ m. state m peers) is), text)
+
+-- what holds in any case holds after an error
+pub err_so : {A E : Type 0} (Q : Type 0) (r : Result A E) → Q → OnErr r Q
+err_so Q (Ok x) h = tt
+err_so Q (Err e) h = h
