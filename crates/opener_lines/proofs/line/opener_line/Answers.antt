@@ -1,4 +1,4 @@
-use Rattle.std.proofs.Common.{inl, inr, refl}
+use Rattle.std.proofs.Common.{inl, inr, refl, rules}
 use Rattle.opener_lines.specs.State.{state}
 use Rattle.opener_lines.proofs.Done.{left}
 use Rattle.opener_lines.proofs.OneMeaning.{asked_no_fault}
@@ -16,9 +16,9 @@ returns-in-Err-clause-only_fault g c = λ f has.
     ]
 
 pub returns-in-Ok-clause-only_fault : goal.returns-in-Ok-clause-only_fault
-returns-in-Ok-clause-only_fault g c = λ f has. absurd (asked_no_fault c.args.line.now c.in-Ok-Some.request f c.in-Ok-Some.ensures.found has)
+returns-in-Ok-clause-only_fault g c = λ f has. absurd (asked_no_fault c.args.line.now c.in-Ok-Some.request f (search rules) has)
 
 pub returns-clause-memory : goal.returns-clause-memory
 returns-clause-memory g c = λ _.
-    left (state c.args.manager.now c.args.opener.now) (state c.carry_out.new.manager c.carry_out.new.opener) c.args.line.now c.in-Ok-Some.request c.in-Ok-Some.ensures.found
+    left (state c.args.manager.now c.args.opener.now) (state c.carry_out.new.manager c.carry_out.new.opener) c.args.line.now c.in-Ok-Some.request (search rules)
     c.in-Err-carry_out.ensures.err
