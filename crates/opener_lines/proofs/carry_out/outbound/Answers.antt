@@ -27,7 +27,7 @@ returns-in_ok-put_text-in-Taken-clause-step g c =
     let its_group = c.group-group.ensures ∙ ap (λ p. group p peer.addr) c.requires.places in
     let few : length peers < MAX_OUTBOUND = search rules in
     let whole = c.as_slice-in-Taken.ensures.value ∙ c.in_ok-text-in-Taken.ensures ∙ ap (λ g. opened_text peer g c.in-Taken.tries) (c.as_slice.ensures.value ∙ its_group)
-        ∙ ap (λ o. answer_text (answer_to_outbound m.tables.places o)) (sym c.in-Taken.is) in
+    ∙ ap (λ o. answer_text (answer_to_outbound m.tables.places o)) (sym c.in-Taken.is) in
     outbound_done m peers c.add_peer.new.self c.args.seed c.in_ok-peer.field-0 before c.put_text-in-Taken.new.out.items few c.in_ok-peer.ensures
     (c.add_peer.ensures ∙ ap (λ g. with_peer peer g peers) its_group ∙ ap (λ o. peers_after m.tables.places o peers) (sym c.in-Taken.is))
     (c.in_ok-put_text-in-Taken.ensures.items ∙ ap (λ t. before ++ t) whole)
