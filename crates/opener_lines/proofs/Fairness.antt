@@ -1,0 +1,133 @@
+-- The peers that are taken keep the rules.
+use Rattle.std.proofs.Common.{◌≡◌, ◌≢◌, ℕ, ◌-◌, ◌<◌, ◌≤◌, List, inl, inr, refl, sym, ap, subst, ◌∙◌, arith, Contains, Bool, true, false, nat_lt, nat_le, ◌&&◌, if◌then◌else◌}
+use Rattle.net_addr.specs.declared.peer.Peer.{Peer}
+use Rattle.placing.specs.Places.{Places, group}
+use Rattle.peer_rec.specs.declared.picked.Picked.{Picked}
+use Rattle.peer_rec.specs.declared.picked.Picked.TheVariants as picked
+use Rattle.table_machine.specs.Clashes.{clash_pick}
+use Rattle.manager.specs.Machine.{Machine}
+use Rattle.peer_open.specs.Groups.{Outbound, AreApart, groups}
+use Rattle.peer_open.specs.Verdicts.{IsTooSoon, judge, judge_feeler}
+use Rattle.peer_open.specs.declared.verdict.Verdict.{Verdict}
+use Rattle.peer_open.specs.declared.verdict.Verdict.TheVariants as verdict
+use Rattle.peer_open.proofs.Apart.{apart-with_peer, apart-without_peer}
+use Rattle.peer_open.proofs.Judged.{taken_apart, taken_late, feeler_late}
+use Rattle.opener_lines.specs.Fair.{IsFair, IsLateIfRecent, IsTry}
+use Rattle.opener_lines.specs.Lines.{LineStep}
+use Rattle.opener_lines.specs.State.{Answer, Closed, FeelerStep, Full, GaveUp, NoPeer, Opened, OutboundStep, State, Step, Tested, Told, after_clash, answer_to_feeler, answer_to_outbound, peers_after}
+use Rattle.opener_lines.specs.Tries.{HasOutcome, IsFirst, pick_by, try_by, try_of_pick, try_of_verdict, verdict_by}
+use Rattle.opener_lines.specs.declared.aim.Aim.{Aim}
+use Rattle.opener_lines.specs.declared.aim.Aim.TheVariants as aim
+use Rattle.opener_lines.specs.declared.request.Request.{Request}
+use Rattle.opener_lines.specs.declared.request.Request.TheVariants as request
+use Rattle.opener_lines.specs.declared.tries.Outcome.{Outcome}
+use Rattle.opener_lines.specs.declared.tries.Outcome.TheVariants as outcome
+use Rattle.opener_lines.specs.declared.tries.Try.{Try}
+use Rattle.opener_lines.specs.declared.tries.Try.TheVariants.{Take, Next}
+use Rattle.opener_lines.specs.declared.tries.Try.TheVariants as try
+
+-- ---- what a try took
+
+taken_peer : Peer → Try → Peer
+taken_peer p (Take q) = q
+taken_peer p try.Nothing = p
+taken_peer p Next = p
+
+-- a verdict that takes a peer
+takes : (v : Verdict) (p q : Peer) → try_of_verdict v p ≡ Take q → (v ≡ verdict.Take) × (p ≡ q)
+unfolding taken_peer
+takes verdict.Take p q e = (refl, ap (taken_peer p) e)
+takes verdict.SameGroup p q e = absurd cc
+takes verdict.Recent p q e = absurd cc
+
+-- the pick of a try that took a peer, and the verdict on it
+pub record IsTaken (m : Machine) (open_peers : List Outbound) (goal : Aim) (seed : ℕ) (peer : Peer) (i : ℕ) : Type 0 where
+  pub last_try : ℕ
+  pub picked : pick_by m goal seed i ≡ picked.One peer last_try
+  pub verdict : verdict_by goal m.tables.places open_peers peer last_try m.clock i ≡ verdict.Take
+
+pub taken : (m : Machine) (open_peers : List Outbound) (goal : Aim) (seed : ℕ) (peer : Peer) (i : ℕ) → try_by m open_peers goal seed i ≡ Take peer
+    → IsTaken m open_peers goal seed peer i
+taken m open_peers goal seed peer i e = by (pick_by m goal seed i) refl e
+  where
+    by : (p : Picked) → pick_by m goal seed i ≡ p
+        → try_of_pick (λ q last_try. verdict_by goal m.tables.places open_peers q last_try m.clock i) p ≡ Take peer → IsTaken m open_peers goal seed peer i
+    by (picked.One q last_try) is e =
+        let found = takes (verdict_by goal m.tables.places open_peers q last_try m.clock i) q peer e in
+        record {
+          last_try = last_try;
+          picked = is ∙ ap (λ p. picked.One p last_try) found.1;
+          verdict = subst (λ p. verdict_by goal m.tables.places open_peers p last_try m.clock i ≡ verdict.Take) found.1 found.0;
+        }
+    by picked.Nothing is e = absurd cc
+    by picked.Exhausted is e = absurd cc
+
+-- ---- groups
+
+outbound_apart : (m : Machine) (open_peers : List Outbound) (seed : ℕ) (found : Outcome) → HasOutcome (try_by m open_peers aim.Outbound seed) found
+    → AreApart open_peers → AreApart (peers_after m.tables.places found open_peers)
+outbound_apart m open_peers seed (outcome.Taken peer i) h apart =
+    let t = taken m open_peers aim.Outbound seed peer i h.comes in
+    apart-with_peer peer (group m.tables.places peer.addr) open_peers apart
+    (taken_apart open_peers (group m.tables.places peer.addr) t.last_try m.clock i t.verdict)
+outbound_apart m open_peers seed outcome.Nothing h apart = apart
+outbound_apart m open_peers seed outcome.GaveUp h apart = apart
+
+step_apart : (old new : State) (asked : Request) (answer : Answer) → Step old asked answer new → AreApart old.open_peers → AreApart new.open_peers
+step_apart old new (request.Outbound seed) answer (inl full) apart = subst (λ st. AreApart st.open_peers) (sym full.2) apart
+step_apart old new (request.Outbound seed) answer (inr step) apart =
+    subst (λ st. AreApart st.open_peers) (sym step.1.3) (outbound_apart old.machine old.open_peers seed step.1.0 step.1.1 apart)
+step_apart old new (request.Feeler seed word) answer step apart = subst (λ st. AreApart st.open_peers) (sym step.3) apart
+step_apart old new (request.Close peer) answer step apart =
+    subst (λ st. AreApart st.open_peers) (sym step.1) (apart-without_peer peer old.open_peers apart)
+step_apart old new (request.Machine command) answer step apart = subst (λ st. AreApart st.open_peers) (sym step.4) apart
+
+pub line_apart : (old new : State) (line text : List ℕ) → LineStep old line text new → AreApart old.open_peers → AreApart new.open_peers
+line_apart old new line text (inl passed) apart = subst (λ st. AreApart st.open_peers) (sym passed.2) apart
+line_apart old new line text (inr step) apart = step_apart old new step.0 step.1 step.3 apart
+
+-- ---- tries
+
+fair_outbound : (old : State) (seed : ℕ) (found : Outcome) → HasOutcome (try_by old.machine old.open_peers aim.Outbound seed) found
+    → IsFair old (request.Outbound seed) (answer_to_outbound old.machine.tables.places found)
+fair_outbound old seed (outcome.Taken peer i) h =
+    let t = taken old.machine old.open_peers aim.Outbound seed peer i h.comes in (
+      (h.least, h.most),
+      record {
+        last_try = t.last_try;
+        picked = t.picked;
+        late = taken_late old.open_peers (group old.machine.tables.places peer.addr) t.last_try old.machine.clock i t.verdict;
+      },
+    )
+fair_outbound old seed outcome.Nothing h = tt
+fair_outbound old seed outcome.GaveUp h = tt
+
+fair_feeler : (old : State) (seed word : ℕ) (found : Outcome)
+    → HasOutcome (try_by (after_clash old.machine word) old.open_peers (aim.Feeler (clash_pick old.machine.tables word).answer) seed) found
+    → IsFair old (request.Feeler seed word) (answer_to_feeler found)
+fair_feeler old seed word (outcome.Taken peer i) h =
+    let t = taken (after_clash old.machine word) old.open_peers (aim.Feeler (clash_pick old.machine.tables word).answer) seed peer i h.comes in
+    ((h.least, h.most), record { last_try = t.last_try; picked = t.picked; late = feeler_late t.last_try old.machine.clock i t.verdict })
+fair_feeler old seed word outcome.Nothing h = tt
+fair_feeler old seed word outcome.GaveUp h = tt
+
+-- other requests take no peer
+fair_close : (old : State) (peer : Peer) (answer : Answer) → IsFair old (request.Close peer) answer
+fair_close old peer answer = tt
+
+pub step_fair : (old new : State) (asked : Request) (answer : Answer) → Step old asked answer new → IsFair old asked answer
+step_fair old new (request.Outbound seed) answer (inl full) = subst (IsFair old (request.Outbound seed)) (sym full.1) tt
+step_fair old new (request.Outbound seed) answer (inr step) =
+    subst (IsFair old (request.Outbound seed)) (sym step.1.2) (fair_outbound old seed step.1.0 step.1.1)
+step_fair old new (request.Feeler seed word) answer step = subst (IsFair old (request.Feeler seed word)) (sym step.2) (fair_feeler old seed word step.0 step.1)
+step_fair old new (request.Close peer) answer step = fair_close old peer answer
+step_fair old new (request.Machine command) answer step = tt
+
+-- the group of the peer that the tries took is that of no open peer
+pub no_group : (m : Machine) (open_peers : List Outbound) (seed : ℕ) (found : Outcome) (peer : Peer) (i : ℕ) (its_group : List ℕ)
+    → HasOutcome (try_by m open_peers aim.Outbound seed) found → found ≡ outcome.Taken peer i → its_group ≡ group m.tables.places peer.addr
+    → ¬ Contains (groups open_peers) its_group
+no_group m open_peers seed found peer i its_group h is same =
+    let first = subst (HasOutcome (try_by m open_peers aim.Outbound seed)) is h in
+    let t = taken m open_peers aim.Outbound seed peer i first.comes in
+    subst (λ g. ¬ Contains (groups open_peers) g) (sym same) (taken_apart open_peers (group m.tables.places peer.addr) t.last_try m.clock i t.verdict)

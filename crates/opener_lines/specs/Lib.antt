@@ -1,0 +1,7 @@
+pub mod Grammar
+pub mod Tries
+pub mod State
+pub mod Texts
+pub mod Lines
+pub mod Inside
+pub mod Fair

@@ -1,0 +1,78 @@
+-- The address manager with the open outbound peers, and what a request does to them.
+use Rattle.std.specs.Prelude.{◌≡◌, ◌⊎◌, ℕ, ◌<◌, List, [], Bool, length, Option}
+use Rattle.net_addr.specs.declared.peer.Peer.{Peer}
+use Rattle.placing.specs.Places.{Places, group}
+use Rattle.table_machine.specs.Clashes.{clash_pick}
+use Rattle.log_lines.specs.declared.reply.Reply.{Reply}
+use Rattle.manager.specs.Machine.{Machine}
+use Rattle.manager.specs.Step as manager
+use Rattle.peer_open.specs.Groups.{Outbound, is_open, with_peer, without_peer}
+use Rattle.peer_open.specs.declared.opener.TheConstants.{MAX_OUTBOUND}
+use Rattle.opener_lines.specs.Tries.{HasOutcome, try_by}
+use Rattle.opener_lines.specs.declared.aim.Aim.TheVariants as aim
+use Rattle.opener_lines.specs.declared.request.Request.{Request}
+use Rattle.opener_lines.specs.declared.request.Request.TheVariants as request
+use Rattle.opener_lines.specs.declared.tries.Outcome.{Outcome}
+use Rattle.opener_lines.specs.declared.tries.Outcome.TheVariants as outcome
+
+pub record State : Type 0 where
+  pub machine : Machine
+  pub open_peers : List Outbound
+
+abbrev pub state : Machine → List Outbound → State
+state machine open_peers = record { machine = machine; open_peers = open_peers }
+
+-- What a request is answered: there are ten peers already; what the tries of a connection came to,
+-- with the group of a peer that was opened; whether a peer was open; or the address manager's reply.
+pub data Answer : Type 0 where
+  Full : Answer
+  Opened : (peer : Peer) (group : List ℕ) (tries : ℕ) → Answer
+  Tested : (peer : Peer) (tries : ℕ) → Answer
+  NoPeer : Answer
+  GaveUp : Answer
+  Closed : (was_open : Bool) → Answer
+  Told : (reply : Reply) → Answer
+
+abbrev pub answer_to_outbound : Places → Outcome → Answer
+answer_to_outbound places (outcome.Taken peer i) = Opened peer (group places peer.addr) i
+answer_to_outbound places outcome.Nothing = NoPeer
+answer_to_outbound places outcome.GaveUp = GaveUp
+
+abbrev pub answer_to_feeler : Outcome → Answer
+answer_to_feeler (outcome.Taken peer i) = Tested peer i
+answer_to_feeler outcome.Nothing = NoPeer
+answer_to_feeler outcome.GaveUp = GaveUp
+
+-- the open peers after the tries, with the peer that was taken, the last
+abbrev pub peers_after : Places → Outcome → List Outbound → List Outbound
+peers_after places (outcome.Taken peer i) open_peers = with_peer peer (group places peer.addr) open_peers
+peers_after places other open_peers = open_peers
+
+-- the tries of an outbound connection, unless there are ten already
+abbrev pub OutboundStep : State → ℕ → Answer → State → Type 0
+OutboundStep old seed answer new =
+    ((length old.open_peers ≡ MAX_OUTBOUND) × (answer ≡ Full) × (new ≡ old))
+    ⊎ ((length old.open_peers < MAX_OUTBOUND) × ((found : Outcome) × HasOutcome (try_by old.machine old.open_peers aim.Outbound seed) found
+    × (answer ≡ answer_to_outbound old.machine.tables.places found)
+    × (new ≡ record old { open_peers = peers_after old.machine.tables.places found old.open_peers })))
+
+-- the address manager after the pick of a collision by a word
+abbrev pub after_clash : Machine → ℕ → Machine
+after_clash m word = record m { tables = (clash_pick m.tables word).state }
+
+-- the tries of a feeler, after the pick of a collision
+abbrev pub FeelerStep : State → ℕ → ℕ → Answer → State → Type 0
+FeelerStep old seed word answer new =
+    (found : Outcome)
+    × HasOutcome (try_by (after_clash old.machine word) old.open_peers (aim.Feeler (clash_pick old.machine.tables word).answer) seed) found
+    × (answer ≡ answer_to_feeler found) × (new ≡ record old { machine = after_clash old.machine word })
+
+-- what a request is answered, and the state after it
+abbrev pub Step : State → Request → Answer → State → Type 0
+Step old (request.Outbound seed) answer new = OutboundStep old seed answer new
+Step old (request.Feeler seed word) answer new = FeelerStep old seed word answer new
+Step old (request.Close peer) answer new =
+    (answer ≡ Closed (is_open peer old.open_peers)) × (new ≡ record old { open_peers = without_peer peer old.open_peers })
+Step old (request.Machine command) answer new =
+    (reply : Reply) × (machine : Machine) × manager.Step old.machine command reply machine × (answer ≡ Told reply)
+    × (new ≡ record old { machine = machine })

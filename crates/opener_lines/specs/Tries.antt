@@ -1,0 +1,82 @@
+-- The tries of a connection (`CConnman::ThreadOpenConnections` in net.cpp of Bitcoin Core). Each try
+-- picks a peer by random words of its own, and the first one that decides counts.
+use Rattle.std.specs.Prelude.{◌≡◌, ℕ, suc, ◌+◌, ◌<◌, ◌≤◌, List, Bool, true, false, ◌==◌, Option, Some, None, if◌then◌else◌}
+use Rattle.net_addr.specs.NetSet.{all}
+use Rattle.net_addr.specs.declared.peer.Peer.{Peer}
+use Rattle.placing.specs.Places.{Places, group}
+use Rattle.peer_rec.specs.declared.picked.Picked.{Picked}
+use Rattle.peer_rec.specs.declared.picked.Picked.TheVariants as picked
+use Rattle.table_machine.specs.Picks.{select}
+use Rattle.log_lines.specs.Random.{seeded_words}
+use Rattle.manager.specs.Machine.{Machine}
+use Rattle.peer_open.specs.Groups.{Outbound}
+use Rattle.peer_open.specs.Verdicts.{judge, judge_feeler}
+use Rattle.peer_open.specs.declared.opener.TheConstants.{MAX_TRIES}
+use Rattle.peer_open.specs.declared.verdict.Verdict.{Verdict}
+use Rattle.peer_open.specs.declared.verdict.Verdict.TheVariants as verdict
+use Rattle.opener_lines.specs.declared.aim.Aim.{Aim}
+use Rattle.opener_lines.specs.declared.aim.Aim.TheVariants as aim
+use Rattle.opener_lines.specs.declared.tries.Outcome.{Outcome}
+use Rattle.opener_lines.specs.declared.tries.Outcome.TheVariants.{Taken, GaveUp}
+use Rattle.opener_lines.specs.declared.tries.Outcome.TheVariants as outcome
+use Rattle.opener_lines.specs.declared.tries.Try.{Try}
+use Rattle.opener_lines.specs.declared.tries.Try.TheVariants.{Take, Next}
+use Rattle.opener_lines.specs.declared.tries.Try.TheVariants as try
+use Rattle.opener_lines.specs.declared.words.TheConstants.{TRY_WORDS}
+
+-- the random words of try i: those of a field `@V:10000` with V = seed + i
+abbrev pub try_words : ℕ → ℕ → List ℕ
+try_words seed i = seeded_words (seed + i) TRY_WORDS
+
+-- the pick of try i, from the new table only or from both
+abbrev pub pick_of_try : Machine → Bool → ℕ → ℕ → Picked
+pick_of_try m new_only seed i = select m.tables new_only all (try_words seed i) m.clock
+
+-- the same of a feeler, whose first try takes the occupant that a collision waits for, if there is one
+abbrev pub pick_of_feeler : Machine → Option (Peer × ℕ) → ℕ → ℕ → Picked
+pick_of_feeler m None seed i = pick_of_try m true seed i
+pick_of_feeler m (Some occupant) seed i =
+    if i == 1 then picked.One occupant.0 occupant.1 else pick_of_try m true seed i
+
+abbrev pub pick_by : Machine → Aim → ℕ → ℕ → Picked
+pick_by m aim.Outbound seed i = pick_of_try m false seed i
+pick_by m (aim.Feeler occupant) seed i = pick_of_feeler m occupant seed i
+
+-- whether the peer is taken in try i
+abbrev pub verdict_by : Aim → Places → List Outbound → Peer → ℕ → ℕ → ℕ → Verdict
+verdict_by aim.Outbound places open_peers peer last_try now i = judge open_peers (group places peer.addr) last_try now i
+verdict_by (aim.Feeler occupant) places open_peers peer last_try now i = judge_feeler last_try now i
+
+abbrev pub try_of_verdict : Verdict → Peer → Try
+try_of_verdict verdict.Take peer = Take peer
+try_of_verdict verdict.SameGroup peer = Next
+try_of_verdict verdict.Recent peer = Next
+
+-- what try i comes to if this was its pick
+abbrev pub try_of_pick : (Peer → ℕ → Verdict) → Picked → Try
+try_of_pick verdict_on (picked.One peer last_try) = try_of_verdict (verdict_on peer last_try) peer
+try_of_pick verdict_on picked.Nothing = try.Nothing
+try_of_pick verdict_on picked.Exhausted = Next
+
+-- what try i comes to
+abbrev pub try_by : Machine → List Outbound → Aim → ℕ → ℕ → Try
+try_by m open_peers goal seed i =
+    try_of_pick (λ peer last_try. verdict_by goal m.tables.places open_peers peer last_try m.clock i) (pick_by m goal seed i)
+
+-- the tries before this one do not decide
+abbrev pub NoneBefore : (ℕ → Try) → ℕ → Type 0
+NoneBefore tries i = (j : ℕ) → 1 ≤ j → j < i → tries j ≡ Next
+
+-- try i is the first that decides, with this result
+pub record IsFirst (tries : ℕ → Try) (i : ℕ) (result : Try) : Type 0 where
+  pub least : 1 ≤ i
+  pub most : i ≤ MAX_TRIES
+  pub before : NoneBefore tries i
+  pub comes : tries i ≡ result
+
+-- What the tries come to: the first that decides takes a peer or finds none to take, or none of
+-- `MAX_TRIES` decides.
+abbrev pub HasOutcome : (ℕ → Try) → Outcome → Type 0
+HasOutcome tries (Taken peer i) = IsFirst tries i (Take peer)
+HasOutcome tries outcome.Nothing = (i : ℕ) × IsFirst tries i try.Nothing
+HasOutcome tries GaveUp = NoneBefore tries (suc MAX_TRIES)

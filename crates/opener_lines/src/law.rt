@@ -1,0 +1,53 @@
+ghost use Rattle.std.specs.Prelude.{◌≡◌, ◌≢◌, ℕ, ◌+◌, ◌≤◌, ◌++◌, Bool, List, codes, decimal};
+ghost use Rattle.host_io.specs.Lines.{IsPassedOver};
+ghost use Rattle.log_lines.specs.Fields.{AreWords};
+ghost use Rattle.log_lines.specs.declared.fault.LineFault.{LineFault};
+ghost use Rattle.peer_open.specs.Groups.{AreApart};
+ghost use Rattle.peer_rec.specs.declared.picked.Picked.TheVariants.{Exhausted};
+ghost use Rattle.table_machine.specs.Picks.{select};
+ghost use Rattle.table_machine.specs.State as tables;
+ghost use Rattle.opener_lines.specs.Fair.{IsFair};
+ghost use Rattle.opener_lines.specs.Grammar.{Asks, HasFault};
+ghost use Rattle.opener_lines.specs.Lines.{LineStep};
+ghost use Rattle.opener_lines.specs.State.{Answer, State, Step};
+ghost use Rattle.opener_lines.specs.Tries.{HasOutcome};
+ghost use Rattle.opener_lines.specs.declared.request.Request.{Request};
+ghost use Rattle.opener_lines.specs.declared.tries.Outcome.{Outcome};
+ghost use Rattle.opener_lines.specs.declared.tries.Try.{Try};
+
+/// A line of an opener's log is passed over, asks for exactly one thing or has exactly one fault,
+/// and never two of these.
+pub fn opener_lines_have_one_meaning()
+    ensures request { (line : List ℕ) (a b : Request) → Asks line a → Asks line b → a ≡ b }
+    ensures fault { (line : List ℕ) (f g : LineFault) → HasFault line f → HasFault line g → f ≡ g }
+    ensures right { (line : List ℕ) (a : Request) (f : LineFault) → Asks line a →
+        ¬ HasFault line f }
+    ensures passed { (line : List ℕ) (a : Request) → IsPassedOver line → ¬ Asks line a }
+{}
+
+/// Whatever a line does, no two open peers are in one group afterwards if none were before.
+pub fn groups_stay_apart()
+    ensures { (old new : State) (line text : List ℕ) → LineStep old line text new →
+        AreApart old.open_peers → AreApart new.open_peers }
+{}
+
+/// A peer that is taken was picked by a try from 1 to 100, and by the 31st or a later one if it was
+/// tried less than ten minutes before.
+pub fn tries_are_fair()
+    ensures { (old new : State) (asked : Request) (answer : Answer) → Step old asked answer new →
+        IsFair old asked answer }
+{}
+
+/// Tries have exactly one outcome.
+pub fn tries_end_once()
+    ensures some { (tries : ℕ → Try) → (found : Outcome) × HasOutcome tries found }
+    ensures only { (tries : ℕ → Try) (a b : Outcome) → HasOutcome tries a → HasOutcome tries b →
+        a ≡ b }
+{}
+
+/// A pick that ends within the first random words ends the same over all of them.
+pub fn first_words_decide()
+    ensures { (st : tables.State) (new_only : Bool) (nets xs ys : List ℕ) (now : ℕ) →
+        select st new_only nets xs now ≢ Exhausted →
+        select st new_only nets (xs ++ ys) now ≡ select st new_only nets xs now }
+{}

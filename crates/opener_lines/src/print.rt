@@ -1,0 +1,80 @@
+ghost use Rattle.std.specs.Prelude.{◌≡◌, ◌+◌, ◌≤◌, ◌++◌, codes, decimal, length, vec_len, IfOk, OnOk, OnErr};
+ghost use Rattle.hex.specs.Hex.{encode_lower};
+ghost use Rattle.opener_lines.specs.Texts.{closed_text, opened_text, tested_text, tries_text};
+
+use crate::memory::Memory;
+use itoa::Buffer;
+use net_addr::{Peer, put_peer};
+use std::alloc::Global;
+
+/// Returns the answer to a connection that was opened, with the peer's group in hexadecimal.
+pub(crate) fn opened_text(
+    alloc: Global,
+    peer: &Peer,
+    group: &[u8],
+    tries: u32,
+) -> Result<Vec<u8>, Memory>
+    ensures { IfOk result (λ text. text.items ≡ opened_text peer.now group.now tries) }
+{
+    let mut text = Vec::new(alloc);
+    put_text(b"outbound ", &mut text)?;
+    put_peer(peer, &mut text)?;
+    put_group(group, &mut text)?;
+    put_tries(tries, &mut text)?;
+    Ok(text)
+}
+
+/// Returns the answer to a feeler for which a peer was taken.
+pub(crate) fn tested_text(alloc: Global, peer: &Peer, tries: u32) -> Result<Vec<u8>, Memory>
+    ensures { IfOk result (λ text. text.items ≡ tested_text peer.now tries) }
+{
+    let mut text = Vec::new(alloc);
+    put_text(b"feeler ", &mut text)?;
+    put_peer(peer, &mut text)?;
+    put_tries(tries, &mut text)?;
+    Ok(text)
+}
+
+/// Returns the answer to a peer that was closed.
+pub(crate) fn closed_text(was_open: bool) -> &'static [u8]
+    ensures { result.now ≡ closed_text was_open }
+{
+    if was_open { b"closed\n" } else { b"unknown\n" }
+}
+
+/// Appends a group in hexadecimal.
+fn put_group(group: &[u8], out: &mut Vec<u8>) -> Result<(), Memory>
+    ensures { OnOk result (out.new.items
+        ≡ out.old.items ++ codes " group " ++ encode_lower group.now) }
+{
+    put_text(b" group ", out)?;
+    let digits = hex::encode(*out.allocator(), group)?;
+    put_text(digits.as_bytes(), out)
+}
+
+/// Appends how many tries there were, and a line feed.
+fn put_tries(tries: u32, out: &mut Vec<u8>) -> Result<(), Memory>
+    ensures { OnOk result (out.new.items ≡ out.old.items ++ tries_text tries) }
+{
+    put_number(b" tries ", u64::from(tries), out)?;
+    put_text(b"\n", out)
+}
+
+/// Appends a text and a number after it.
+pub(crate) fn put_number(word: &[u8], number: u64, out: &mut Vec<u8>) -> Result<(), Memory>
+    ensures items { OnOk result (out.new.items ≡ out.old.items ++ word.now ++ decimal number) }
+    ensures short { OnOk result (vec_len out.new ≤ vec_len out.old + length word.now + 40) }
+{
+    put_text(word, out)?;
+    put_text(Buffer::new().format(number).as_bytes(), out)
+}
+
+/// Appends the bytes. If memory runs out, nothing changes.
+pub(crate) fn put_text(text: &[u8], out: &mut Vec<u8>) -> Result<(), Memory>
+    ensures items { OnOk result (out.new.items ≡ out.old.items ++ text.now) }
+    ensures len { OnOk result (vec_len out.new ≡ vec_len out.old + length text.now) }
+    ensures err { OnErr result (out.new.items ≡ out.old.items) }
+{
+    out.extend_from_slice(text)?;
+    Ok(())
+}

@@ -1,0 +1,4 @@
+pub mod Apart
+mod Members
+pub mod Judged
+mod Examples
