@@ -1,23 +1,22 @@
 -- The loop over the lines of a log, and how it ends.
-use Rattle.std.proofs.Common.{◌≡◌, ◌≢◌, ℕ, zero, suc, ◌+◌, ◌-◌, ◌≤◌, ◌<◌, List, [], ◌∷◌, ◌++◌, length, take, drop, refl, sym, ap, ◌∙◌, subst, append_assoc, arith, inl, inr}
-use Rattle.std.specs.Prelude.{Bool, true, false, IfNone, IfSome, IsTrue, Option, Some, None, Result, Ok, Err}
-use Rattle.std.proofs.lemmas.List.{append-nil, length-append, length-drop, length-take, take-append-drop}
+use Rattle.std.proofs.Common.{◌≡◌, ◌≢◌, ℕ, ◌+◌, ◌-◌, ◌≤◌, ◌<◌, List, [], ◌∷◌, ◌++◌, length, take, drop, refl, sym, ap, ◌∙◌, subst, append_assoc, arith, inl, inr}
+use Rattle.std.specs.Prelude.{Bool, false, IfSome, IsTrue, Option, Some, None}
+use Rattle.std.proofs.lemmas.List.{append-nil, length-append, length-drop, take-append-drop}
 use Rattle.std.proofs.Math.Seq.{drop-append-add}
-use Rattle.host_io.specs.Lines.{lines_of}
 use Rattle.host_io.specs.Reading.{MovesBytes, TakesAtMost}
 use Rattle.host_io.specs.Writing.{Appended, AppendedPart}
 use Rattle.log_lines.specs.declared.fault.LineFault.{LineFault}
 use Rattle.log_run.specs.Log.{IsAtEnd}
 use Rattle.log_run.specs.Reading.{HasMore, HasNoLine, HasRead, IsLine, IsLong, Reading}
 use Rattle.log_run.specs.Reading.IsNext.{fed, last}
-use Rattle.log_run.specs.Run.{EndsBy, NextLine, NoLine, Run, Steps, Streams}
+use Rattle.log_run.specs.Run.{EndsBy, NextLine, Run, Steps, Streams}
 use Rattle.log_run.specs.Worlds.{RanIn, StepsIn, WorldEnds, both}
 use Rattle.log_run.specs.declared.end.LogEnd.{LogEnd}
 use Rattle.log_run.specs.declared.end.LogEnd.TheVariants.{Done, Fault, LineTooLong, LogTooLong, ReadFault, WriteFault, Memory}
 use Rattle.log_run.specs.declared.steps.Stop.{Stop}
 use Rattle.log_run.specs.declared.steps.Stop.TheVariants as stop
-use Rattle.log_run.specs.declared.limits.TheConstants.{MAX_LINE, MAX_LOG}
-use Rattle.log_run.proofs.Runs.{Cut, Kept, Read, begins, cut_line, is_near, kept_line, kept_start, left_is, log_known, log_length, log_of, long_line, moved_read, next_line, no_line, rest_of, taken_all}
+use Rattle.log_run.specs.declared.limits.TheConstants.{MAX_LOG}
+use Rattle.log_run.proofs.Runs.{Kept, Read, begins, is_near, kept_line, kept_start, left_is, log_known, log_length, log_of, long_line, moved_read, next_line, no_line, rest_of, taken_all}
 
 -- how many bytes wait or may still be read
 abbrev pub left_of : Reading → ℕ

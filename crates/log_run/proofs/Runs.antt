@@ -1,17 +1,16 @@
 -- A run over the lines that a reader gives.
-use Rattle.std.proofs.Common.{◌≡◌, ◌≢◌, ℕ, zero, suc, ◌+◌, ◌-◌, ◌≤◌, ◌<◌, List, [], ◌∷◌, ◌++◌, length, take, drop, refl, sym, ap, ◌∙◌, subst, append_assoc, arith, inl, inr}
-use Rattle.std.specs.Prelude.{◌⊎◌, All, Bool, true, false, IsTrue, IfNone, IfSome, Option, Some, None}
+use Rattle.std.proofs.Common.{◌≡◌, ℕ, zero, suc, ◌+◌, ◌≤◌, ◌<◌, List, [], ◌∷◌, ◌++◌, length, take, drop, refl, sym, ap, ◌∙◌, subst, append_assoc, arith}
+use Rattle.std.specs.Prelude.{All, false, IsTrue, IfSome, Option, Some, None}
 use Rattle.std.proofs.lemmas.List.{append-nil, drop_all, length-append, length-drop, length-take, take-append-drop, take_all}
 use Rattle.std.proofs.lemmas.List.Elements.{All-append}
-use Rattle.std.proofs.Math.Seq.{drop-append-add, drop-append_seam, take-append-add, take-append_seam}
+use Rattle.std.proofs.Math.Seq.{drop-append-add, drop-append_seam, take-append-add}
 use Rattle.std.proofs.lemmas.Bool.{ne_eqb}
 use Rattle.host_io.specs.Lines.{lines_of, onto_first}
-use Rattle.host_io.specs.Reading.{MovesBytes, TakesAtMost}
-use Rattle.host_io.specs.Writing.{Appended, AppendedPart}
+use Rattle.host_io.specs.Reading.{MovesBytes}
 use Rattle.log_run.specs.Log.{BeginsWith, HasNoFeed, IsAtEnd, IsNear}
-use Rattle.log_run.specs.Reading.{HasMore, HasNoLine, HasRead, IsLine, IsLong, IsNext, Reading}
+use Rattle.log_run.specs.Reading.{HasRead, IsLine, IsLong, IsNext, Reading}
 use Rattle.log_run.specs.Reading.IsNext.{fed, last}
-use Rattle.log_run.specs.Run.{EndsBy, NextLine, NoLine, Ran, Run, Steps, Streams}
+use Rattle.log_run.specs.Run.{NextLine, NoLine}
 use Rattle.log_run.specs.declared.limits.TheConstants.{MAX_LINE, MAX_LOG, MAX_READ}
 
 -- a byte that ends no line is added to the first line

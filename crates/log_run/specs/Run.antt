@@ -1,6 +1,6 @@
 -- A run over the lines of a log, one step a line, and how it ends. A step leads from a state, by a
 -- line, to the text of the reply and the next state.
-use Rattle.std.specs.Prelude.{◌≡◌, ◌≢◌, ◌⊎◌, ℕ, ◌+◌, ◌≤◌, List, [], ◌∷◌, ◌++◌, length, Option, Some, IfSome}
+use Rattle.std.specs.Prelude.{◌≡◌, ◌≢◌, ℕ, ◌+◌, ◌≤◌, List, [], ◌∷◌, ◌++◌, length, Option, Some, IfSome}
 use Rattle.host_io.specs.Lines.{lines_of}
 use Rattle.host_io.specs.Writing.{Appended}
 use Rattle.log_lines.specs.declared.fault.LineFault.{LineFault}

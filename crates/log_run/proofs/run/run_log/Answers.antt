@@ -1,14 +1,13 @@
-use Rattle.std.proofs.Common.{◌≡◌, ◌≢◌, ◌+◌, ◌-◌, ℕ, [], ◌++◌, length, take, drop, refl, sym, ap, ◌∙◌, subst, arith}
-use Rattle.std.specs.Prelude.{IfNone, IfSome, IsTrue, Option, Some, None, Result, Ok, Err}
+use Rattle.std.proofs.Common.{◌≡◌, ◌≢◌, ◌-◌, ℕ, [], ◌++◌, sym, ap, ◌∙◌, subst, arith}
+use Rattle.std.specs.Prelude.{IfNone, IfSome, IsTrue, Option, Some, Result, Ok, Err}
 use Rattle.host_io.specs.Writing.{Appended, AppendedPart}
-use Rattle.log_lines.specs.declared.fault.LineFault.{LineFault}
 use Rattle.log_run.specs.Reading.{IsLine, Reading}
 use Rattle.log_run.specs.declared.fault.LogFault.{LogFault}
 use Rattle.log_run.specs.declared.fault.LogFault.TheVariants as fault
 use Rattle.log_run.specs.declared.steps.Stop.{Stop}
 use Rattle.log_run.specs.declared.steps.Stop.TheVariants as stop
 use Rattle.log_run.specs.declared.limits.TheConstants.{MAX_LOG}
-use Rattle.log_run.proofs.Loops.{NextRead, at_done, at_failed, at_long, at_memory, at_stop, at_too_long, at_write_fault, fewer_left, fewer_waits, left_of, looped_more, looped_start, some_waits, takes_more, takes_read}
+use Rattle.log_run.proofs.Loops.{at_done, at_failed, at_long, at_memory, at_stop, at_too_long, at_write_fault, fewer_left, fewer_waits, looped_more, looped_start, takes_more, takes_read}
 use Rattle.log_run.proofs.run.run_log.Goals as goal
 
 line_of : (next : Reading) (found : Option ℕ) (count : ℕ) → found ≡ Some count → IfSome found (λ n. IsLine next n) → IsLine next count

@@ -1,4 +1,4 @@
-use Rattle.std.proofs.Common.{ℕ, ◌≤◌}
+use Rattle.std.proofs.Common.{◌≤◌}
 use Rattle.log_run.proofs.Readers.{SoFar, left_to_read}
 use Rattle.log_run.proofs.reader.LogReader.next_line.Given as goal
 

@@ -1,4 +1,4 @@
-use Rattle.std.proofs.Common.{◌∙◌, ◌+◌, ap, arith, length, nat_eq, subst, sym}
+use Rattle.std.proofs.Common.{◌+◌, ap, arith, length, nat_eq, subst, sym}
 use Rattle.log_run.specs.Inside.{IsReader}
 use Rattle.log_run.specs.Log.{HasNoFeed}
 use Rattle.log_run.proofs.Readers.{grown}
