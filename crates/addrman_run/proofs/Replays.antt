@@ -22,9 +22,10 @@ use Rattle.session.proofs.Promise.{IsCut, IsKept, cut_line, cut_memory, history,
 use Rattle.table_machine.specs.State.{State}
 use Rattle.addrman_run.specs.Asmaps.{IsMapIn, RefusesAsmap}
 use Rattle.addrman_run.specs.Inside.{IsLoadFault, SessionStep, StoppedStep, status_of}
+use Rattle.addrman_run.proofs.Reopening.{reopens}
 use Rattle.addrman_run.specs.Opening.{Opens, places_of}
 use Rattle.addrman_run.specs.Opening.Opens.{from_file, from_key}
-use Rattle.causes.specs.Kept.{IsOpening, KeepsCauses}
+use Rattle.causes.specs.Kept.{IsOpening, KeepsCauses, opened}
 use Rattle.causes.proofs.Laws.{keeps_causes}
 use Rattle.peer_rec.specs.Snapshot.{Snapshot}
 use Rattle.placing.specs.Places.{Places}
@@ -35,7 +36,7 @@ use Rattle.addrman_run.specs.declared.status.Status.TheVariants as status
 use Rattle.asmap_vm.specs.declared.fault.CodeFault.{CodeFault}
 use Rattle.asmap_vm.specs.declared.fault.CodeFault.TheVariants.{TooLarge}
 use Rattle.manager.specs.Machine.{Machine}
-use Rattle.addrman_run.specs.Replay.{HasMap, IsBetweenLines, IsOpenedFrom, IsUntouched, ReplayOutcome, Replayed, at_start, streams_of}
+use Rattle.addrman_run.specs.Replay.{HasMap, IsBetweenLines, IsOpenedFrom, IsUntouched, ReplayOutcome, Replayed, at_start, pending, streams_of}
 
 -- the history of a run, and what it keeps
 pub record Followed (start : History) (lines : List (List ℕ)) (text : List ℕ) (last : session.State) (old now : Option Past) (f g : ℕ) : Type 0 where
@@ -71,33 +72,40 @@ now_weaker P Q (Some o) None weaker is = tt
 now_weaker P Q (Some o) (Some n) weaker is = weaker o.now n.now is
 
 -- the opening, as the law on causes wants it
-pub record Opened (chain : Chain) (past : Option Past) (st : State) : Type 0 where
+pub record Opened (chain : Chain) (past : Option Past) (map : Option Asmap) (st : State) : Type 0 where
   pub file : Option Snapshot
   pub opened_from : IsOpenedFrom chain past file
   pub places : Places
   pub opening : IsOpening file places (at_start chain st)
+  pub with_map : places.map ≡ map
 
 opened_with : (key : Option (List ℕ)) (chain : Chain) (past : Option Past) (map : Option Asmap) (st : State) → Opens key chain past map st → IsSound st
-    → st.next_number ≤ 81920 → Opened chain past st
+    → st.next_number ≤ 81920 → Opened chain past map st
 opened_with key chain past map st (from_file snap is_in no_duplicate is) sound few = record {
   file = Some snap;
   opened_from = is_in;
   places = places_of snap.key map;
   opening = record { tables = is; sound = sound; clock = omega arith; numbers = omega (arith, few) };
+  with_map = refl;
 }
 opened_with key chain past map st (from_key given absent is_key is) sound few = record {
   file = None;
   opened_from = absent;
   places = places_of given map;
   opening = record { tables = is; sound = sound; clock = omega arith; numbers = omega (arith, few) };
+  with_map = refl;
 }
 
 -- what a run from it keeps
-keeps : (chain : Chain) (past : Option Past) (st : State) (lines : List (List ℕ)) (o : Opened chain past st) → KeepsCauses o.file st.places (at_start chain st) lines
-keeps chain past st lines o =
-    let k = keeps_causes o.file o.places (at_start chain st) o.opening lines in
-    let same = k.same_places [] (fresh (at_start chain st)) (record { after = lines; cut = refl; few = omega arith; text = []; run = (refl, refl) }) in
-    subst (λ p. KeepsCauses o.file p (at_start chain st) lines) (sym same) k
+same_opening : (chain : Chain) (past : Option Past) (map : Option Asmap) (st : State) (o : Opened chain past map st) → st.places ≡ o.places
+same_opening chain past map st o =
+    (keeps_causes o.file o.places (at_start chain st) o.opening []).same_places [] (fresh (at_start chain st))
+    (record { after = []; cut = refl; few = omega arith; text = []; run = (refl, refl) })
+
+keeps : (chain : Chain) (past : Option Past) (map : Option Asmap) (st : State) (lines : List (List ℕ)) (o : Opened chain past map st)
+    → KeepsCauses o.file st.places (at_start chain st) lines
+keeps chain past map st lines o =
+    subst (λ p. KeepsCauses o.file p (at_start chain st) lines) (sym (same_opening chain past map st o)) (keeps_causes o.file o.places (at_start chain st) o.opening lines)
 
 -- what holds before the next lines, told with them
 exit_before : (h : History) (rest : List (List ℕ)) (start disk : Disk) → AtExit h [] start disk → AtExit h rest start disk
@@ -122,9 +130,19 @@ pub record Finished (h : History) (rest : List (List ℕ)) (old now : Option Pas
   pub failures : RoseBy (failed h.ended) f g
   pub pieces : IsBetweenLines how → IsOpen h.now.job now
 
-between : (s : session.State) (ended : List Ended) (rest : List (List ℕ)) (old now : Option Past) (f g : ℕ) (how : LogEnd) → IsKept s ended old now f g
+between : (s : session.State) (ended : List Ended) (old now : Option Past) (f g : ℕ) (how : LogEnd) → IsKept s ended old now f g
+    → Finished (history s ended) [] old now f g how
+between s ended old now f g how k = record {
+  exit = k.exit;
+  since = k.since;
+  failures = k.failures;
+  pieces = λ _. k.is_open;
+}
+
+-- the same, where the next lines may be told too
+before_next : (s : session.State) (ended : List Ended) (rest : List (List ℕ)) (old now : Option Past) (f g : ℕ) (how : LogEnd) → IsKept s ended old now f g
     → Finished (history s ended) rest old now f g how
-between s ended rest old now f g how k = record {
+before_next s ended rest old now f g how k = record {
   exit = now_weaker (AtExit (history s ended) []) (AtExit (history s ended) rest) old now (exit_before (history s ended) rest) k.exit;
   since = always_before (history s ended) rest old now k.since;
   failures = k.failures;
@@ -141,22 +159,24 @@ within s ended line after rest old now f g how is not_between c = record {
 }
 
 module _ {F : Type 0} (past : F → Option Past) (faults : F → ℕ) where
-  same_world : (s : session.State) (ended : List Ended) (next : List ℕ) (old : Option Past) (f : ℕ) (how : LogEnd) (w v : F) → v ≡ w
-      → IsKept s ended old (past w) f (faults w) → Finished (history s ended) (lines_of next) old (past v) f (faults v) how
-  same_world s ended next old f how w v same k =
-      subst (λ x. Finished (history s ended) (lines_of next) old (past x) f (faults x) how) (sym same) (between s ended (lines_of next) old (past w) f (faults w) how k)
+  same_world : (s : session.State) (ended : List Ended) (old : Option Past) (f : ℕ) (how : LogEnd) (w v : F) → v ≡ w
+      → IsKept s ended old (past w) f (faults w) → Finished (history s ended) [] old (past v) f (faults v) how
+  same_world s ended old f how w v same k =
+      subst (λ x. Finished (history s ended) [] old (past x) f (faults x) how) (sym same) (between s ended old (past w) f (faults w) how k)
 
   finish : (s : session.State) (ended : List Ended) (next : List ℕ) (old : Option Past) (f : ℕ) (how : LogEnd) (w v : F) → IsKept s ended old (past w) f (faults w)
-      → WorldEnds (SessionStep past faults) (StoppedStep past faults) (s, w) next v how → Finished (history s ended) (lines_of next) old (past v) f (faults v) how
-  finish s ended next old f end.Done w v k same = same_world s ended next old f end.Done w v same k
-  finish s ended next old f (end.Fault n fault) w v k same = same_world s ended next old f (end.Fault n fault) w v same k
-  finish s ended next old f (end.LineTooLong n) w v k same = same_world s ended next old f (end.LineTooLong n) w v same k
-  finish s ended next old f end.LogTooLong w v k same = same_world s ended next old f end.LogTooLong w v same k
-  finish s ended next old f end.ReadFault w v k same = same_world s ended next old f end.ReadFault w v same k
-  finish s ended next old f end.WriteFault w v k (line, after, text, later, is, (turn, opened, le)) =
+      → WorldEnds (SessionStep past faults) (StoppedStep past faults) (s, w) next v how → Finished (history s ended) (pending how next) old (past v) f (faults v) how
+  finish s ended next old f end.Done w v k same = same_world s ended old f end.Done w v same k
+  finish s ended next old f (end.Fault n fault) w v k same = same_world s ended old f (end.Fault n fault) w v same k
+  finish s ended next old f (end.LineTooLong n) w v k same = same_world s ended old f (end.LineTooLong n) w v same k
+  finish s ended next old f end.LogTooLong w v k same = same_world s ended old f end.LogTooLong w v same k
+  finish s ended next old f end.ReadFault w v k same = same_world s ended old f end.ReadFault w v same k
+  finish s ended next old f end.WriteFault w v k (line, after, text, later, is, (turn, is_open, le)) =
       within s ended line (lines_of after) (lines_of next) old (past v) f (faults v) end.WriteFault is (λ b. b)
       (cut_line s later ended line text (lines_of after) old (past w) (past v) f (faults w) (faults v) k turn le)
-  finish s ended next old f end.Memory w v k (inl same) = same_world s ended next old f end.Memory w v same k
+  finish s ended next old f end.Memory w v k (inl same) =
+      subst (λ x. Finished (history s ended) (lines_of next) old (past x) f (faults x) end.Memory) (sym same)
+      (before_next s ended (lines_of next) old (past w) f (faults w) end.Memory k)
   finish s ended next old f end.Memory w v k (inr (line, after, is, (may, le))) =
       within s ended line (lines_of after) (lines_of next) old (past v) f (faults v) end.Memory is (λ b. b)
       (cut_memory s ended line (lines_of after) old (past w) (past v) f (faults w) (faults v) k may le)
@@ -169,7 +189,7 @@ module _ {F : Type 0} (past : F → Option Past) (faults : F → ℕ) where
   ends_by log answered next s w ended part old new (end.LineTooLong n) is = is
   ends_by log answered next s w ended part old new end.LogTooLong is = is
   ends_by log answered next s w ended part old new end.ReadFault is = is
-  ends_by log answered next s w ended part old new end.WriteFault (line, after, rest, later, next_line, (turn, opened, le), some, near) =
+  ends_by log answered next s w ended part old new end.WriteFault (line, after, rest, later, next_line, (turn, is_open, le), some, near) =
       (line, after, rest, history later.0 (onto turn.ended ended), next_line, (turn.ended, turn.step, refl), some, near)
   ends_by log answered next s w ended part old new end.Memory is = is
 
@@ -206,15 +226,19 @@ module _ {F : Type 0} (past : F → Option Past) (faults : F → ℕ) where
           written = r.ran.written;
           ends = ends_by r.ran.log r.ran.answered r.ran.next r.ran.now.0 r.ran.now.1 h.ended r.ran.part (streams_of old) (streams_of new) how r.ran.ends;
         };
-        at_exit = subst (λ p. Now (AtExit (history r.ran.now.0 h.ended) (lines_of r.ran.next)) p new.past) same_past
-            (subst (Now (AtExit (history r.ran.now.0 h.ended) (lines_of r.ran.next)) (past w)) (sym ends_past) f.exit);
-        since_entry = subst (λ p. Always p new.past (SinceEntry (history r.ran.now.0 h.ended) (lines_of r.ran.next))) same_past
-            (subst (λ p. Always (past w) p (SinceEntry (history r.ran.now.0 h.ended) (lines_of r.ran.next))) (sym ends_past) f.since);
+        at_exit = subst (λ p. Now (AtExit (history r.ran.now.0 h.ended) (pending how r.ran.next)) p new.past) same_past
+            (subst (Now (AtExit (history r.ran.now.0 h.ended) (pending how r.ran.next)) (past w)) (sym ends_past) f.exit);
+        since_entry = subst (λ p. Always p new.past (SinceEntry (history r.ran.now.0 h.ended) (pending how r.ran.next))) same_past
+            (subst (λ p. Always (past w) p (SinceEntry (history r.ran.now.0 h.ended) (pending how r.ran.next))) (sym ends_past) f.since);
         failed_saves = subst (RoseBy (failed h.ended) old.folder_faults) (sym ends_faults) (later_rose (failed h.ended) old.folder_faults (faults w) (faults v) earlier f.failures);
         pieces = λ b. subst (IsOpen r.ran.now.0.job) (sym ends_past) (f.pieces b);
         file = o.file;
         opened_from = o.opened_from;
-        causes = keeps chain old.past tables (lines_of r.ran.log) o;
+        is_opened = o.opening.tables ∙ ap (opened o.file) (sym (same_opening chain old.past map tables o));
+        causes = keeps chain old.past map tables (lines_of r.ran.log) o;
+        reopens = λ before h after.
+            let k = keeps chain old.past map tables (lines_of r.ran.log) o in
+            reopens chain map h.now.machine.tables (k.sound before h after) (ap (λ p. p.map) (k.same_places before h after ∙ same_opening chain old.past map tables o) ∙ o.with_map);
       }
 
   rises_by : (lines : List (List ℕ)) (text : List ℕ) (s t : session.State) (w v : F) → Run (both (SessionStep past faults)) (s, w) lines text (t, v) → faults w ≤ faults v
@@ -227,7 +251,7 @@ module _ {F : Type 0} (past : F → Option Past) (faults : F → ℕ) where
   rises_last s next (end.LineTooLong n) w v same = omega (arith, ap faults same)
   rises_last s next end.LogTooLong w v same = omega (arith, ap faults same)
   rises_last s next end.ReadFault w v same = omega (arith, ap faults same)
-  rises_last s next end.WriteFault w v (line, after, text, later, is, (turn, opened, le)) = le
+  rises_last s next end.WriteFault w v (line, after, text, later, is, (turn, is_open, le)) = le
   rises_last s next end.Memory w v (inl same) = omega (arith, ap faults same)
   rises_last s next end.Memory w v (inr (line, after, is, (may, le))) = le
 

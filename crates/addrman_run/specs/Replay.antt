@@ -1,12 +1,14 @@
 -- What a replay writes and saves, and how it ends.
-use Rattle.std.specs.Prelude.{◌≡◌, ◌⊎◌, ℕ, ◌+◌, List, Option, Some, None, ⊤}
+use Rattle.std.specs.Prelude.{◌≡◌, ◌⊎◌, ℕ, ◌+◌, List, [], Option, Some, None, ⊤}
+use Rattle.host_io.specs.Disk.{files_on}
 use Rattle.host_io.specs.Lines.{lines_of}
 use Rattle.host_io.specs.Outside.{Outside}
 use Rattle.host_io.specs.Past.{Always, Past}
+use Rattle.host_io.specs.PerName.{under}
 use Rattle.host_io.specs.Reading.{TakesAtMost}
 use Rattle.host_io.specs.declared.name.Name.TheVariants as name
 use Rattle.asmap_vm.specs.Asmap.{Asmap}
-use Rattle.causes.specs.Kept.{KeepsCauses}
+use Rattle.causes.specs.Kept.{IsAfter, KeepsCauses, opened}
 use Rattle.log_lines.specs.Spelling.{HasFault}
 use Rattle.log_run.specs.Run.{Ran, Streams}
 use Rattle.log_run.specs.declared.end.LogEnd.{LogEnd}
@@ -15,8 +17,9 @@ use Rattle.log_run.specs.declared.limits.TheConstants.{MAX_LOG}
 use Rattle.peer_rec.specs.Snapshot.{Snapshot}
 use Rattle.peers_file.specs.declared.chain.Chain.{Chain}
 use Rattle.session.specs.Folders.{IsOpen}
-use Rattle.session.specs.History.{AtExit, Now, RoseBy, SinceEntry, Step, failed, fresh}
+use Rattle.session.specs.History.{AtExit, History, Now, RoseBy, SinceEntry, Step, failed, fresh}
 use Rattle.session.specs.State as session
+use Rattle.table_machine.specs.Restart.{restart}
 use Rattle.table_machine.specs.State.{State}
 use Rattle.addrman_run.specs.Asmaps.{IsMapIn, RefusesAsmap}
 use Rattle.addrman_run.specs.InFolder.{IsAbsent}
@@ -45,26 +48,43 @@ abbrev pub IsOpenedFrom : Chain → Option Past → Option Snapshot → Type 0
 IsOpenedFrom chain past None = IsAbsent name.Peers past
 IsOpenedFrom chain past (Some snap) = IsSnapshotIn chain past snap
 
+-- Where peers.dat has the file of these tables, it opens, and only as they are after a restart.
+abbrev pub ReopensAs : Chain → Option Asmap → State → Type 0
+ReopensAs chain map st =
+    (past : Past) (key : Option (List ℕ)) → under (files_on past.now) name.Peers ≡ Some (session.file_of chain st)
+    → Opens key chain (Some past) map (restart st)
+    × ((found : State) → Opens key chain (Some past) map found → found ≡ restart st)
+
+-- the lines of which the first may have been carried out, though its reply is not written
+abbrev pub pending : LogEnd → List ℕ → List (List ℕ)
+pending end.WriteFault next = lines_of next
+pending end.Memory next = lines_of next
+pending other next = []
+
 -- A replay that got past its opening, by the end of its run over the log. The folder's asmap is
 -- accepted, and the tables are open. The replies to the first lines of the log were written, and of
 -- the next one perhaps a part. A crash now, or at any moment since the start, leaves at peers.dat the
 -- file of a save of this run or what it could leave at the start; now not one from before the last
 -- save whose reply is `saved`. No more saves have failed than the folder. After each line the tables
 -- are sound, each bucket that a record is in has a cause, sources of one group reach few buckets, and
--- a tried record leaves only for another one of its slot.
+-- a tried record leaves only for another one of its slot. A file that was saved opens again, with the
+-- same asmap, as the tables of its line after a restart.
 pub record Replayed (key : Option (List ℕ)) (chain : Chain) (old new : Outside) (how : LogEnd) : Type 0 where
   pub map : Option Asmap
   pub has_map : IsMapIn old.past map
   pub tables : State
   pub opens : Opens key chain old.past map tables
   pub ran : Ran Step HasFault (fresh (at_start chain tables)) (streams_of old) (streams_of new) how
-  pub at_exit : Now (AtExit ran.now (lines_of ran.next)) old.past new.past
-  pub since_entry : Always old.past new.past (SinceEntry ran.now (lines_of ran.next))
+  pub at_exit : Now (AtExit ran.now (pending how ran.next)) old.past new.past
+  pub since_entry : Always old.past new.past (SinceEntry ran.now (pending how ran.next))
   pub failed_saves : RoseBy (failed ran.now.ended) old.folder_faults new.folder_faults
   pub pieces : IsBetweenLines how → IsOpen ran.now.now.job new.past
   pub file : Option Snapshot
   pub opened_from : IsOpenedFrom chain old.past file
+  pub is_opened : tables ≡ opened file tables.places
   pub causes : KeepsCauses file tables.places (at_start chain tables) (lines_of ran.log)
+  pub reopens : (before : List (List ℕ)) (h : History) → IsAfter (at_start chain tables) (lines_of ran.log) before h
+      → ReopensAs chain map h.now.machine.tables
 
 -- nothing was written, and log and folder are as they were
 pub record IsUntouched (old new : Outside) : Type 0 where
