@@ -1,6 +1,5 @@
 -- What the limit has done, from what its run over the log says.
-use Rattle.std.proofs.Common.{◌≡◌, ◌<◌, ◌^◌, ℕ, List, [], ◌∷◌, ◌++◌, refl, ap, ◌∙◌, subst, cc}
-use Rattle.std.specs.Prelude.{Option, Some, None, IfSome}
+use Rattle.std.proofs.Common.{◌≡◌, ◌<◌, ◌^◌, ℕ, List, [], ◌∷◌, ◌++◌, refl, ap, ◌∙◌, subst}
 use Rattle.std.specs.List.{flat_map}
 use Rattle.log_run.specs.Run.{EndsBy, Ran, Run, Streams}
 use Rattle.log_run.specs.Worlds.{StepsIn, both}
