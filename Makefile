@@ -24,6 +24,7 @@ demo: all
 	cd examples/node && ../../bin/addrman banned '[2001:db8::1]:8333' 1700000000
 	bin/addrman replay --key $(ZERO_KEY) < examples/one-address.log
 	cd examples && ../bin/addrman replay --key=$(ZERO_KEY) < all-networks.log
+	cd examples && ../bin/addrman limit < events.log | ../bin/addrman replay --key=$(ZERO_KEY)
 	cd examples && ../bin/addrman replay --key=$(ZERO_KEY) < every-line.log
 
 endings: all

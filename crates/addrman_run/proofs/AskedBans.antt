@@ -10,7 +10,7 @@ use Rattle.net_addr.specs.declared.peer.Peer.{Peer}
 use Rattle.addrman_run.specs.Inside.{IsProperRequest}
 use Rattle.addrman_run.specs.Request.{Asks}
 use Rattle.addrman_run.specs.declared.request.Request.{Request}
-use Rattle.addrman_run.specs.declared.request.Request.TheVariants.{Replay, Compile, Check, Decompile, Lookup, Show, Ban, Unban, Banned}
+use Rattle.addrman_run.specs.declared.request.Request.TheVariants.{Replay, Compile, Check, Decompile, Limit, Lookup, Show, Ban, Unban, Banned}
 
 -- THE SUBNET IS PROPER
 
@@ -19,6 +19,7 @@ proper law words (Replay key chain) asks = tt
 proper law words Compile asks = tt
 proper law words Check asks = tt
 proper law words Decompile asks = tt
+proper law words Limit asks = tt
 proper law words (Lookup peer) asks = tt
 proper law words (Show chain) asks = tt
 proper law words (Ban subnet now until) asks = law asks.0 subnet asks.1
@@ -47,6 +48,7 @@ asks_ban words a b d three (Replay key chain) asks = absurd (omega (arith, ap (�
 asks_ban words a b d three Compile asks = absurd (omega (arith, ap (λ ws. get_or (get_or ws 0 []) 0 0) asks))
 asks_ban words a b d three Check asks = absurd (omega (arith, ap (λ ws. get_or (get_or ws 0 []) 0 0) asks))
 asks_ban words a b d three Decompile asks = absurd (omega (arith, ap (λ ws. get_or (get_or ws 0 []) 0 0) asks))
+asks_ban words a b d three Limit asks = absurd (omega (arith, ap (λ ws. get_or (get_or ws 0 []) 0 0) asks))
 asks_ban words a b d three (Lookup peer) asks = absurd (omega (arith, ap (λ ws. get_or (get_or ws 0 []) 0 0) asks.2))
 asks_ban words a b d three (Show chain) asks = absurd (omega (arith, ap (λ ws. get_or (get_or ws 0 []) 0 0) asks.2))
 asks_ban words a b d three (Unban subnet) asks = absurd (omega (arith, ap (λ ws. get_or (get_or ws 0 []) 0 0) asks.2))
@@ -76,6 +78,7 @@ asks_unban words a one (Replay key chain) asks = absurd (omega (arith, ap (λ ws
 asks_unban words a one Compile asks = absurd (omega (arith, ap (λ ws. get_or (get_or ws 0 []) 0 0) asks))
 asks_unban words a one Check asks = absurd (omega (arith, ap (λ ws. get_or (get_or ws 0 []) 0 0) asks))
 asks_unban words a one Decompile asks = absurd (omega (arith, ap (λ ws. get_or (get_or ws 0 []) 0 0) asks))
+asks_unban words a one Limit asks = absurd (omega (arith, ap (λ ws. get_or (get_or ws 0 []) 0 0) asks))
 asks_unban words a one (Lookup peer) asks = absurd (omega (arith, ap (λ ws. get_or (get_or ws 0 []) 0 0) asks.2))
 asks_unban words a one (Show chain) asks = absurd (omega (arith, ap (λ ws. get_or (get_or ws 0 []) 0 0) asks.2))
 asks_unban words a one (Ban subnet now until) asks = absurd (omega (arith, ap (λ ws. get_or (get_or ws 0 []) 0 0) asks.4))
@@ -96,6 +99,7 @@ asks_banned words a b two (Replay key chain) asks = absurd (omega (arith, ap (λ
 asks_banned words a b two Compile asks = absurd (omega (arith, ap (λ ws. get_or (get_or ws 0 []) 0 0) asks))
 asks_banned words a b two Check asks = absurd (omega (arith, ap (λ ws. get_or (get_or ws 0 []) 0 0) asks))
 asks_banned words a b two Decompile asks = absurd (omega (arith, ap (λ ws. get_or (get_or ws 0 []) 0 0) asks))
+asks_banned words a b two Limit asks = absurd (omega (arith, ap (λ ws. get_or (get_or ws 0 []) 0 0) asks))
 asks_banned words a b two (Lookup peer) asks = absurd (omega (arith, ap (λ ws. get_or (get_or ws 0 []) 0 0) asks.2))
 asks_banned words a b two (Show chain) asks = absurd (omega (arith, ap (λ ws. get_or (get_or ws 0 []) 0 0) asks.2))
 asks_banned words a b two (Ban subnet now until) asks = absurd (omega (arith, ap (λ ws. get_or (get_or ws 0 []) 3 0) asks.4))

@@ -8,7 +8,7 @@ use Rattle.addrman_run.specs.Request.{IsKey, IsOption, IsNet, IsKeyOption, IsOpe
 use Rattle.addrman_run.specs.declared.request.Request.{Request}
 use Rattle.addrman_run.specs.declared.request.Request.TheVariants.{Show}
 use Rattle.addrman_run.specs.declared.request.Request.TheVariants.{Replay, Compile, Check, Lookup}
-use Rattle.addrman_run.specs.declared.request.Request.TheVariants.{Decompile}
+use Rattle.addrman_run.specs.declared.request.Request.TheVariants.{Decompile, Limit}
 use Rattle.addrman_run.specs.declared.request.Request.TheVariants.{Ban, Unban, Banned}
 
 -- the words begin with an option, in two words or in one, and go on with the rest
@@ -53,6 +53,7 @@ asks_replay words (Replay key chain) (options, opening, is) = replay key chain r
 asks_replay words Compile asks = absurd (omega (arith, ap (λ ws. get_or (get_or ws 0 []) 0 0) asks))
 asks_replay words Check asks = absurd (omega (arith, ap (λ ws. get_or (get_or ws 0 []) 0 0) asks))
 asks_replay words Decompile asks = absurd (omega (arith, ap (λ ws. get_or (get_or ws 0 []) 0 0) asks))
+asks_replay words Limit asks = absurd (omega (arith, ap (λ ws. get_or (get_or ws 0 []) 0 0) asks))
 asks_replay words (Lookup peer) asks = absurd (omega (arith, ap (λ ws. get_or (get_or ws 0 []) 0 0) asks.2))
 asks_replay words (Show chain) asks = absurd (omega (arith, ap (λ ws. get_or (get_or ws 0 []) 0 0) asks.2))
 asks_replay words (Ban subnet now until) asks = absurd (omega (arith, ap (λ ws. get_or (get_or ws 0 []) 0 0) asks.4))

@@ -133,7 +133,7 @@ abbrev pub SaveEnds : Name → List ℕ → List ℕ → Option Past → Option 
 SaveEnds name file line past old new status =
     ((status ≡ DiskFault) × (new ≡ old)) ⊎ (IsInPlace name file past × LineEnds line old new status)
 
--- the status of a replay, by the end of its run over the log
+-- the status of a run over the log, by how it ends
 abbrev pub status_of : LogEnd → Status
 status_of end.Done = Done
 status_of (end.Fault n fault) = LogLine n fault

@@ -5,6 +5,7 @@ pub mod Tables
 pub mod Peers
 pub mod Log
 pub mod Replay
+pub mod Limit
 pub mod FileLine
 pub mod Lookup
 pub mod Check

@@ -8,12 +8,13 @@ use Rattle.addrman_run.specs.Lookup.{LookupEnds}
 use Rattle.addrman_run.specs.Check.{CheckEnds}
 use Rattle.addrman_run.specs.Decompile.{DecompileEnds}
 use Rattle.addrman_run.specs.Compile.{CompileEnds}
+use Rattle.addrman_run.specs.Limit.{LimitEnds}
 use Rattle.addrman_run.specs.Show.{ShowEnds}
 use Rattle.addrman_run.specs.Bans.{BansEnds, ban_change, unban_change, banned_change}
 use Rattle.addrman_run.specs.declared.request.Request.{Request}
 use Rattle.addrman_run.specs.declared.request.Request.TheVariants.{Show}
 use Rattle.addrman_run.specs.declared.request.Request.TheVariants.{Replay, Compile, Check, Lookup}
-use Rattle.addrman_run.specs.declared.request.Request.TheVariants.{Decompile}
+use Rattle.addrman_run.specs.declared.request.Request.TheVariants.{Decompile, Limit}
 use Rattle.addrman_run.specs.declared.request.Request.TheVariants.{Ban, Unban, Banned}
 use Rattle.addrman_run.specs.declared.status.Status.{Status}
 use Rattle.addrman_run.specs.declared.status.Status.TheVariants as status
@@ -23,6 +24,7 @@ Ends (Replay key chain) old new answer = ReplayEnds key chain old new answer
 Ends Compile old new answer = CompileEnds old new answer
 Ends Check old new answer = CheckEnds old new answer
 Ends Decompile old new answer = DecompileEnds old new answer
+Ends Limit old new answer = LimitEnds old new answer
 Ends (Lookup peer) old new answer = LookupEnds peer old new answer
 Ends (Show chain) old new answer = ShowEnds chain old new answer
 Ends (Ban subnet now until) old new answer = BansEnds (ban_change (ban_of subnet now until)) old new answer

@@ -9,7 +9,7 @@ use Rattle.peers_file.specs.declared.chain.Chain.TheVariants.{Main, Test, Signet
 use Rattle.addrman_run.specs.declared.request.Request.{Request}
 use Rattle.addrman_run.specs.declared.request.Request.TheVariants.{Show}
 use Rattle.addrman_run.specs.declared.request.Request.TheVariants.{Replay, Compile, Check, Lookup}
-use Rattle.addrman_run.specs.declared.request.Request.TheVariants.{Decompile}
+use Rattle.addrman_run.specs.declared.request.Request.TheVariants.{Decompile, Limit}
 use Rattle.addrman_run.specs.declared.request.Request.TheVariants.{Ban, Unban, Banned}
 
 -- a key of 32 bytes, as 64 hexadecimal digits in either case
@@ -49,6 +49,7 @@ Asks words (Replay key chain) =
 Asks words Compile = words ≡ codes "compile" ∷ []
 Asks words Check = words ≡ codes "check" ∷ []
 Asks words Decompile = words ≡ codes "decompile" ∷ []
+Asks words Limit = words ≡ codes "limit" ∷ []
 Asks words (Lookup peer) = (text : List ℕ) × IsPeerText text peer × (words ≡ codes "lookup" ∷ text ∷ [])
 Asks words (Show chain) = (options : List (List ℕ)) × IsNet options chain × (words ≡ codes "show" ∷ options)
 Asks words (Ban subnet now until) =

@@ -5,18 +5,19 @@ ghost use Rattle.asmap_vm.specs.Code.{Tree, IsSaneFile};
 ghost use Rattle.asmap_vm.specs.declared.fault.CodeFault.{CodeFault};
 ghost use Rattle.log_run.specs.declared.limits.TheConstants.{MAX_LOG};
 ghost use Rattle.placing.specs.Inside.{map_of};
-ghost use Rattle.addrman_run.specs.Inside.{IsMapOf, status_of};
+ghost use Rattle.addrman_run.specs.Inside.{IsMapOf};
 ghost use Rattle.addrman_run.specs.Outcome.{IsCounted};
 ghost use Rattle.addrman_run.specs.Replay.{ReplayOutcome};
 
 use crate::Status;
 use crate::input::{Input, load_input};
+use crate::log_status::status_of;
 use crate::opening::open_tables;
 use crate::session_lines::SessionLines;
 use asmap_vm::{CodeFault, Sane, check};
 use bit_code::MAX_ASMAP;
 use host_io::{Bytes, Folder, Sink, Source};
-use log_run::{LogEnd, run_log};
+use log_run::run_log;
 use manager::Manager;
 use peers_file::Chain;
 use session::Session;
@@ -36,21 +37,6 @@ fn check_map(bytes: &Option<Bytes>) -> Result<Option<Sane<'_>>, CodeFault>
             Err(fault) => Err(fault),
         },
         None => Ok(None),
-    }
-}
-
-/// Returns the status of a replay, by the end of its run over the log.
-fn status_of(end: LogEnd) -> Status
-    ensures { result ≡ status_of end }
-{
-    match end {
-        LogEnd::Done => Status::Done,
-        LogEnd::Fault { line, fault } => Status::LogLine { line, fault },
-        LogEnd::LineTooLong { line } => Status::LineTooLong { line },
-        LogEnd::LogTooLong => Status::LogTooLong,
-        LogEnd::ReadFault => Status::ReadFault,
-        LogEnd::WriteFault => Status::WriteFault,
-        LogEnd::Memory => Status::Memory,
     }
 }
 

@@ -18,6 +18,8 @@ pub enum Request {
     Check,
     /// `decompile`: write the table of prefixes that asmap.dat stands for.
     Decompile,
+    /// `limit`: limit the addresses that each connection may send, and write the log that is left.
+    Limit,
     /// `lookup PEER`: say which AS number and group the peer's address has.
     Lookup {
         peer: Peer,

@@ -10,7 +10,7 @@ use std::hash::BuildHasher;
 use std::marker::Model;
 
 /// Returns why a line with this fault is not carried out.
-fn stop_of(fault: LineFault) -> Stop
+pub(crate) fn stop_of(fault: LineFault) -> Stop
     ensures fault { (f : LineFault) → result ≡ Stop.Fault f →
         (f ≡ fault) × (fault ≢ LineFault.Memory) }
     ensures memory { result ≡ Stop.Memory → fault ≡ LineFault.Memory }

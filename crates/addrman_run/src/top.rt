@@ -10,6 +10,7 @@ use crate::check::Check;
 use crate::compile::compile_table;
 use crate::decompile::Decompile;
 use crate::file_line::write_file_line;
+use crate::limit::limit;
 use crate::lookup::Lookup;
 use crate::replay::replay;
 use crate::show::Show;
@@ -26,7 +27,8 @@ use std::hash::BuildHasher;
 /// with the folder's asmap.dat, if there is one. `compile` compiles the folder's
 /// prefixes.txt into asmap.dat, `check` checks asmap.dat, `decompile` writes the table of prefixes
 /// that it stands for, and `lookup PEER` writes the AS number and the group that it gives the peer's
-/// address. `show` lists what peers.dat has. `ban SUBNET NOW UNTIL` and `unban SUBNET` change the
+/// address. `limit` carries out the lines of the log under the limit on received addresses, and
+/// writes the log that is left. `show` lists what peers.dat has. `ban SUBNET NOW UNTIL` and `unban SUBNET` change the
 /// list of bans in banlist.json, and `banned PEER NOW` writes which ban covers the peer's address.
 pub fn run<L: Source, F: Folder, K: Sink, H: BuildHasher + Drop>(
     alloc: Global,
@@ -51,6 +53,7 @@ pub fn run<L: Source, F: Folder, K: Sink, H: BuildHasher + Drop>(
         Request::Compile => compile_table(alloc, folder, out),
         Request::Check => write_file_line(alloc, &Check, folder, out),
         Request::Decompile => write_file_line(alloc, &Decompile, folder, out),
+        Request::Limit => limit(alloc, log, out),
         Request::Lookup { peer } => write_file_line(alloc, &Lookup { peer }, folder, out),
         Request::Show { chain } => write_file_line(alloc, &Show { chain }, folder, out),
         Request::Ban { subnet, now, until } => {

@@ -37,6 +37,8 @@ fn request_of(words: &[String]) -> Option<Request>
         if_no_words(rest, Request::Check)
     } else if command == b"decompile".as_slice() {
         if_no_words(rest, Request::Decompile)
+    } else if command == b"limit".as_slice() {
+        if_no_words(rest, Request::Limit)
     } else if command == b"lookup".as_slice() {
         read_lookup(rest)
     } else if command == b"show".as_slice() {

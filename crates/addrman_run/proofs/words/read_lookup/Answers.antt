@@ -7,7 +7,7 @@ use Rattle.addrman_run.specs.Request.{Asks}
 use Rattle.addrman_run.specs.declared.request.Request.{Request}
 use Rattle.addrman_run.specs.declared.request.Request.TheVariants.{Show}
 use Rattle.addrman_run.specs.declared.request.Request.TheVariants.{Replay, Compile, Check, Lookup}
-use Rattle.addrman_run.specs.declared.request.Request.TheVariants.{Decompile}
+use Rattle.addrman_run.specs.declared.request.Request.TheVariants.{Decompile, Limit}
 use Rattle.addrman_run.specs.declared.request.Request.TheVariants.{Ban, Unban, Banned}
 use Rattle.addrman_run.proofs.words.read_lookup.Goals as goal
 
@@ -22,6 +22,7 @@ asks_lookup words word one (Unban subnet) asks = absurd (omega (arith, ap (λ ws
 asks_lookup words word one (Banned peer now) asks = absurd (omega (arith, ap (λ ws. get_or (get_or ws 0 []) 0 0) asks.3))
 asks_lookup words word one Check asks = absurd (omega (arith, ap (λ ws. get_or (get_or ws 0 []) 0 0) asks))
 asks_lookup words word one Decompile asks = absurd (omega (arith, ap (λ ws. get_or (get_or ws 0 []) 0 0) asks))
+asks_lookup words word one Limit asks = absurd (omega (arith, ap (λ ws. get_or (get_or ws 0 []) 1 0) asks))
 asks_lookup words word one (Lookup peer) asks =
     let same = ap (λ ws. get_or (drop 1 ws) 0 []) (sym asks.2) ∙ ap (λ ws. get_or ws 0 []) one in
     (peer, subst (λ t. IsPeerText t peer) same asks.1, refl)

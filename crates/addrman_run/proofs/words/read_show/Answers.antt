@@ -5,7 +5,7 @@ use Rattle.addrman_run.specs.Request.{Asks, IsNet}
 use Rattle.addrman_run.specs.declared.request.Request.{Request}
 use Rattle.addrman_run.specs.declared.request.Request.TheVariants.{Show}
 use Rattle.addrman_run.specs.declared.request.Request.TheVariants.{Replay, Compile, Check, Lookup}
-use Rattle.addrman_run.specs.declared.request.Request.TheVariants.{Decompile}
+use Rattle.addrman_run.specs.declared.request.Request.TheVariants.{Decompile, Limit}
 use Rattle.addrman_run.specs.declared.request.Request.TheVariants.{Ban, Unban, Banned}
 use Rattle.addrman_run.proofs.words.read_show.Goals as goal
 
@@ -15,6 +15,7 @@ asks_show words (Replay key chain) asks = absurd (omega (arith, ap (λ ws. get_o
 asks_show words Compile asks = absurd (omega (arith, ap (λ ws. get_or (get_or ws 0 []) 0 0) asks))
 asks_show words Check asks = absurd (omega (arith, ap (λ ws. get_or (get_or ws 0 []) 0 0) asks))
 asks_show words Decompile asks = absurd (omega (arith, ap (λ ws. get_or (get_or ws 0 []) 0 0) asks))
+asks_show words Limit asks = absurd (omega (arith, ap (λ ws. get_or (get_or ws 0 []) 0 0) asks))
 asks_show words (Ban subnet now until) asks = absurd (omega (arith, ap (λ ws. get_or (get_or ws 0 []) 0 0) asks.4))
 asks_show words (Unban subnet) asks = absurd (omega (arith, ap (λ ws. get_or (get_or ws 0 []) 0 0) asks.2))
 asks_show words (Banned peer now) asks = absurd (omega (arith, ap (λ ws. get_or (get_or ws 0 []) 0 0) asks.3))

@@ -1,16 +1,7 @@
-use Rattle.std.proofs.Common.{◌≡◌, ◌≢◌, Result, Ok, Err, refl, sym, ap, subst}
+use Rattle.std.proofs.Common.{refl, sym, subst}
 use Rattle.log_lines.specs.Spelling.{HasFault}
-use Rattle.log_run.specs.declared.steps.Stop.{Stop}
-use Rattle.log_run.specs.declared.steps.Stop.TheVariants as stop
+use Rattle.addrman_run.proofs.Stops.{same_stop}
 use Rattle.addrman_run.proofs.session_lines.SessionLinesLineSteps.carry_out.Goals as goal
-
-stop_in : {T : Type 0} → Result T Stop → Stop
-stop_in (Ok x) = stop.Memory
-stop_in (Err s) = s
-
-same_stop : {T : Type 0} (s r : Stop) → ◌≡◌ {A = Result T Stop} (Err s) (Err r) → s ≡ r
-unfolding stop_in
-same_stop s r is = ap stop_in is
 
 pub returns-in-Err-clause-fault : goal.returns-in-Err-clause-fault
 returns-in-Err-clause-fault g c = λ fault is.

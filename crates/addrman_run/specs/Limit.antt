@@ -1,0 +1,49 @@
+-- What the limit on received addresses writes for the lines of a log, and how it ends.
+use Rattle.std.specs.Prelude.{◌≡◌, ℕ, ◌+◌, ◌<◌, ◌^◌, List, [], ◌∷◌, ◌++◌, length, filter, Bool, true, Some, None}
+use Rattle.std.specs.List.{flat_map, last_or}
+use Rattle.host_io.specs.Outside.{Outside}
+use Rattle.host_io.specs.Reading.{TakesAtMost}
+use Rattle.addr_limit.specs.Apart.{Outputs}
+use Rattle.addr_limit.specs.Lines.{HasFault, LimitStep, is_about}
+use Rattle.addr_limit.specs.State.{State, start}
+use Rattle.log_run.specs.Run.{Ran, Streams}
+use Rattle.log_run.specs.declared.end.LogEnd.{LogEnd}
+use Rattle.log_run.specs.declared.end.LogEnd.TheVariants as end
+use Rattle.log_run.specs.declared.limits.TheConstants.{MAX_LOG}
+use Rattle.addrman_run.specs.Replay.{streams_of}
+use Rattle.addrman_run.specs.declared.status.Status.{Status}
+use Rattle.addrman_run.specs.declared.status.Status.TheVariants as status
+
+-- The output of each chosen line is the last output of the chosen lines up to it by themselves.
+abbrev pub AreApart : (List ℕ → Bool) → List (List ℕ) → List (List ℕ) → Type 0
+AreApart about lines outs =
+    (before : List (List ℕ)) (line : List ℕ) (after : List (List ℕ)) → lines ≡ before ++ line ∷ after → about line ≡ true →
+    (own : List (List ℕ)) × (own_end : State) × (front : List (List ℕ)) × (out : List ℕ) × (back : List (List ℕ)) ×
+    Outputs LimitStep start (filter about (before ++ line ∷ [])) own own_end × (outs ≡ front ++ out ∷ back) × (length front ≡ length before) × (last_or None own ≡ Some out)
+
+-- A run over the log under the limit, by its end. Each line that is answered has one output, and the
+-- one for a line that names a number depends on the lines of that number and the `now` lines only.
+pub record Limited (old new : Streams) (how : LogEnd) : Type 0 where
+  pub ran : Ran LimitStep HasFault start old new how
+  pub outputs : List (List ℕ)
+  pub each : Outputs LimitStep start ran.answered outputs ran.now
+  pub whole : ran.replies ≡ flat_map (λ output. output) outputs
+  pub apart : (number : ℕ) → number < 2 ^ 32 → AreApart (is_about number) ran.answered outputs
+
+-- how the limit ends, by its status
+abbrev pub LimitOutcome : Streams → Streams → Status → Type 0
+LimitOutcome old new status.Done = Limited old new end.Done
+LimitOutcome old new (status.LogLine n fault) = Limited old new (end.Fault n fault)
+LimitOutcome old new (status.LineTooLong n) = Limited old new (end.LineTooLong n)
+LimitOutcome old new status.LogTooLong = Limited old new end.LogTooLong
+LimitOutcome old new status.ReadFault = Limited old new end.ReadFault
+LimitOutcome old new status.WriteFault = Limited old new end.WriteFault
+LimitOutcome old new status.Memory = Limited old new end.Memory
+LimitOutcome old new other = ⊥
+
+-- The folder is as it was, and at most one byte more than a log may have was read.
+pub record LimitEnds (old new : Outside) (answer : Status) : Type 0 where
+  pub outcome : LimitOutcome (streams_of old) (streams_of new) answer
+  pub taken : TakesAtMost old.left new.left (MAX_LOG + 1)
+  pub past : new.past ≡ old.past
+  pub folder_faults : new.folder_faults ≡ old.folder_faults
