@@ -26,6 +26,9 @@ demo: all
 	cd examples && ../bin/addrman replay --key=$(ZERO_KEY) < all-networks.log
 	cd examples && ../bin/addrman limit < events.log | ../bin/addrman replay --key=$(ZERO_KEY)
 	cd examples && ../bin/addrman replay --key=$(ZERO_KEY) < every-line.log
+	mkdir -p bin/saved && rm -f bin/saved/*
+	cd bin/saved && ../addrman replay --key $(ZERO_KEY) < ../../examples/saves.log
+	cd bin/saved && ../addrman show
 
 endings: all
 	bench/endings
