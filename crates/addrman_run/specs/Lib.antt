@@ -12,6 +12,7 @@ pub mod Decompile
 pub mod Compile
 pub mod Bans
 pub mod Show
+pub mod Generate
 pub mod Opening
 pub mod Outcome
 pub mod Report

@@ -8,6 +8,8 @@ mod check;
 mod compile;
 mod decompile;
 mod file_line;
+mod gen_words;
+mod generate;
 mod input;
 mod law;
 mod lookup;

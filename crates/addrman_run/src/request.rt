@@ -42,4 +42,9 @@ pub enum Request {
         peer: Peer,
         now: u32,
     },
+    /// `gen START LINES`: write the generated log of a number with this many lines.
+    Gen {
+        start: u64,
+        lines: u32,
+    },
 }

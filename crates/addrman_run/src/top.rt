@@ -10,6 +10,7 @@ use crate::check::Check;
 use crate::compile::compile_table;
 use crate::decompile::Decompile;
 use crate::file_line::write_file_line;
+use crate::generate::generate;
 use crate::lookup::Lookup;
 use crate::replay::replay;
 use crate::show::Show;
@@ -28,6 +29,7 @@ use std::hash::BuildHasher;
 /// that it stands for, and `lookup PEER` writes the AS number and the group that it gives the peer's
 /// address. `show` lists what peers.dat has. `ban SUBNET NOW UNTIL` and `unban SUBNET` change the
 /// list of bans in banlist.json, and `banned PEER NOW` writes which ban covers the peer's address.
+/// `gen START LINES` writes a generated log.
 pub fn run<L: Source, F: Folder, K: Sink, H: BuildHasher + Drop>(
     alloc: Global,
     hasher: H,
@@ -64,5 +66,6 @@ pub fn run<L: Source, F: Folder, K: Sink, H: BuildHasher + Drop>(
             let addr = peer.addr;
             carry_out_order(alloc, &BanOrder::Find { addr, now }, folder, out)
         }
+        Request::Gen { start, lines } => generate(alloc, start, lines, out),
     }
 }
