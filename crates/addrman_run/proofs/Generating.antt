@@ -46,6 +46,10 @@ at_end : (now : List (List ℕ)) → (now ≢ [] → ⊥) → now ≡ []
 at_end [] none = refl
 at_end (line ∷ lines) none = absurd (none (λ e. cc e))
 
+-- another line comes
+pub some_more : (more : Bool) (now : List (List ℕ)) → more ≡ true → (IsTrue more ↔ (now ≢ [])) → now ≢ []
+some_more more now is iff = iff.0 is
+
 pub writes_all : (log now : List (List ℕ)) (old new : Option (List ℕ)) → Writing log now old new → (now ≢ [] → ⊥) → Appended old new (concat log)
 writes_all log now old new w none =
     subst (Appended old new) (sym (append-nil w.text) ∙ ap (λ xs. w.text ++ concat xs) (sym (at_end now none)) ∙ w.whole) w.written
