@@ -42,7 +42,7 @@ pub fewer : (now after : List (List ℕ)) → now ≢ [] → after ≡ lines_aft
 fewer [] after some is = absurd (some refl)
 fewer (line ∷ lines) after some is = omega (arith, ap length is)
 
-at_end : (now : List (List ℕ)) → (now ≢ [] → ⊥) → now ≡ []
+pub at_end : (now : List (List ℕ)) → (now ≢ [] → ⊥) → now ≡ []
 at_end [] none = refl
 at_end (line ∷ lines) none = absurd (none (λ e. cc e))
 
