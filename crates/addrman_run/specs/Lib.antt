@@ -14,6 +14,7 @@ pub mod Bans
 pub mod Show
 pub mod Generate
 pub mod Opening
+pub mod Trial
 pub mod Outcome
 pub mod Report
 pub mod Inside

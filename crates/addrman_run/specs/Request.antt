@@ -12,7 +12,7 @@ use Rattle.addrman_run.specs.declared.request.Request.TheVariants.{Show}
 use Rattle.addrman_run.specs.declared.request.Request.TheVariants.{Replay, Compile, Check, Lookup}
 use Rattle.addrman_run.specs.declared.request.Request.TheVariants.{Decompile}
 use Rattle.addrman_run.specs.declared.request.Request.TheVariants.{Ban, Unban, Banned}
-use Rattle.addrman_run.specs.declared.request.Request.TheVariants.{Gen}
+use Rattle.addrman_run.specs.declared.request.Request.TheVariants.{Gen, Trial}
 
 -- a key of 32 bytes, as 64 hexadecimal digits in either case
 abbrev pub IsKey : List ℕ → List ℕ → Type 0
@@ -63,3 +63,6 @@ Asks words (Banned peer now) =
 Asks words (Gen start lines) =
     (start < 2 ^ 64) × (0 < lines) × (lines ≤ MAX_LINES)
     × (words ≡ codes "gen" ∷ decimal start ∷ decimal lines ∷ [])
+Asks words (Trial start lines) =
+    (start < 2 ^ 64) × (0 < lines) × (lines ≤ MAX_LINES)
+    × (words ≡ codes "trial" ∷ decimal start ∷ decimal lines ∷ [])

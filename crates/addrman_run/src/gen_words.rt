@@ -20,6 +20,18 @@ pub(crate) fn read_gen(words: &[String]) -> Option<Request>
     Some(Request::Gen { start, lines })
 }
 
+/// Reads the arguments after `trial`, which are those after `gen`.
+pub(crate) fn read_trial(words: &[String]) -> Option<Request>
+    ensures found { IfSome result (Asks (codes "trial" ∷ map string_bytes words.now)) }
+    ensures only { (request : Request) → Asks (codes "trial" ∷ map string_bytes words.now) request →
+        result ≡ Some request }
+{
+    let (start, lines) = two_words(words)?;
+    let start = parse_number(start, u64::MAX)?;
+    let lines = read_lines(lines)?;
+    Some(Request::Trial { start, lines })
+}
+
 /// Reads the number of lines of a log, at least one.
 fn read_lines(text: &[u8]) -> Option<u32>
     ensures found { IfSome result (λ lines. (0 < lines) × (lines ≤ MAX_LINES)

@@ -26,6 +26,8 @@ mod status;
 mod sure;
 mod tables_fault;
 mod top;
+mod trial;
+mod trial_line;
 mod words;
 
 pub use law::folders_open_once;

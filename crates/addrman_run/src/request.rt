@@ -47,4 +47,10 @@ pub enum Request {
         start: u64,
         lines: u32,
     },
+    /// `trial START LINES`: carry out the generated log of a number from empty tables, and write one
+    /// line about the replies.
+    Trial {
+        start: u64,
+        lines: u32,
+    },
 }

@@ -14,6 +14,7 @@ use crate::generate::generate;
 use crate::lookup::Lookup;
 use crate::replay::replay;
 use crate::show::Show;
+use crate::trial::trial;
 use crate::words::read_request;
 use crate::{Request, Status};
 use host_io::{Folder, Sink, Source};
@@ -29,7 +30,8 @@ use std::hash::BuildHasher;
 /// that it stands for, and `lookup PEER` writes the AS number and the group that it gives the peer's
 /// address. `show` lists what peers.dat has. `ban SUBNET NOW UNTIL` and `unban SUBNET` change the
 /// list of bans in banlist.json, and `banned PEER NOW` writes which ban covers the peer's address.
-/// `gen START LINES` writes a generated log.
+/// `gen START LINES` writes a generated log, and `trial START LINES` carries it out from empty tables
+/// and writes one line about the replies.
 pub fn run<L: Source, F: Folder, K: Sink, H: BuildHasher + Drop>(
     alloc: Global,
     hasher: H,
@@ -67,5 +69,6 @@ pub fn run<L: Source, F: Folder, K: Sink, H: BuildHasher + Drop>(
             carry_out_order(alloc, &BanOrder::Find { addr, now }, folder, out)
         }
         Request::Gen { start, lines } => generate(alloc, start, lines, out),
+        Request::Trial { start, lines } => trial(alloc, hasher, start, lines, out),
     }
 }
