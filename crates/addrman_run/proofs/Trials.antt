@@ -1,10 +1,20 @@
 -- The replies of a trial, line by line.
-use Rattle.std.proofs.Common.{◌≡◌, ◌≢◌, ◌≤◌, ◌<◌, ◌+◌, ◌*◌, ℕ, List, [], ◌∷◌, ◌++◌, length, map, refl, sym, ap, ◌∙◌, subst, arith, append_assoc}
-use Rattle.std.specs.Prelude.{Option, Some, None}
+use Rattle.std.proofs.Common.{◌≡◌, ◌≢◌, ◌≤◌, ◌<◌, ◌+◌, ◌*◌, ℕ, zero, suc, List, [], ◌∷◌, ◌++◌, length, map, refl, sym, ap, ◌∙◌, subst, arith, append_assoc}
+use Rattle.std.specs.Prelude.{Option, Some, None, not, count_by, replicate, Result, Ok, Err, IfOk}
+use Rattle.std.specs.List.{concat}
+use Rattle.host_io.specs.Lines.{lines_of}
+use Rattle.manager.specs.Machine.{Machine}
+use Rattle.manager.specs.Step.{counts_of}
+use Rattle.peers_file.specs.declared.chain.Chain.TheVariants.{Main}
+use Rattle.placing.specs.Places.{Places}
+use Rattle.peer_rec.specs.Rec.{is_tried}
+use Rattle.peer_rec.specs.declared.counts.Counts.{Counts}
+use Rattle.table_machine.specs.State.{State, empty_state}
 use Rattle.std.proofs.lemmas.List.{append-nil, length-append}
 use Rattle.sha2.specs.Hashers.{Holds256}
 use Rattle.sha2.specs.declared.Sha256.{Sha256}
-use Rattle.gen_load.specs.Log.{next_line, lines_after}
+use Rattle.gen_load.specs.Log.{beginning, drawn_line, drawn_lines, whole_log, log, next_line, lines_after}
+use Rattle.gen_load.specs.declared.position.Position.{Position}
 use Rattle.gen_load.specs.Spelling.{without_feed}
 use Rattle.gen_load.specs.declared.generated.TheConstants.{MAX_LINES}
 use Rattle.log_run.specs.Run.{Run, Steps}
@@ -15,6 +25,9 @@ use Rattle.session.specs.State as session
 use Rattle.session.proofs.Promise.{history}
 use Rattle.addrman_run.proofs.Generating.{at_end}
 use Rattle.addrman_run.specs.Inside.{HasReplies, Replied}
+use Rattle.addrman_run.specs.Opening.{places_of}
+use Rattle.addrman_run.specs.Replay.{at_start}
+use Rattle.addrman_run.specs.Trial.{IsTrial, sizes_text, trial_start, with_counts, with_sum}
 
 -- a run goes on by one line
 run_more : {S : Type 0} (step : Steps S) (done : List (List ℕ)) (a b c : S) (line text reply : List ℕ)
@@ -87,3 +100,40 @@ pub tries_all : (start : session.State) (log now : List (List ℕ)) (st : sessio
 tries_all start log now st hasher bytes sum digest t none is =
     let all : t.answered ≡ map without_feed log = sym (append-nil t.answered) ∙ ap (λ xs. t.answered ++ map without_feed xs) (sym (at_end now none)) ∙ t.whole in
     (t.text, t.ended, subst (λ ls. Run Step (fresh start) ls t.text (history st t.ended)) all t.runs, t.count, is t.text t.hash)
+
+drawn_count : (n : ℕ) (at : Position) → length (drawn_lines n at) ≡ n
+drawn_count zero at = refl
+drawn_count (suc n) at = ap suc (drawn_count n (drawn_line at).after)
+
+log_count : (n : ℕ) (at : Position) → length (whole_log n at) ≡ n
+log_count zero at = refl
+log_count (suc n) at = ap suc (drawn_count n at)
+
+-- a log has at most as many lines as it may have
+pub few_lines : (start lines : ℕ) (made : List (List ℕ)) → made ≡ log start lines → lines ≤ MAX_LINES → length made ≤ MAX_LINES
+few_lines start lines made is few = omega (arith, few, ap length is, log_count lines (beginning start))
+
+counts_are : (c : Counts) (st : State) → c.new_count ≡ count_by (λ r. not (is_tried r)) st.records → c.tried_count ≡ count_by is_tried st.records → c.clashes ≡ length st.collisions → c ≡ counts_of st
+counts_are c st new tried clashes = λ i. record { new_count = new i; tried_count = tried i; clashes = clashes i }
+
+-- the line about the replies of a generated log
+pub is_trial : (start lines bytes : ℕ) (sum line : List ℕ) (made : List (List ℕ)) (first last : session.State) (tables : State) (c : Counts) → first ≡ trial_start → made ≡ log start lines
+    → HasReplies first (map without_feed made) last bytes sum → lines_of (concat (log start lines)) ≡ map without_feed (log start lines) → tables ≡ last.machine.tables
+    → c.new_count ≡ count_by (λ r. not (is_tried r)) tables.records → c.tried_count ≡ count_by is_tried tables.records → c.clashes ≡ length tables.collisions
+    → line ≡ with_sum (with_counts (sizes_text lines bytes) c) sum → IsTrial start lines line
+is_trial start lines bytes sum line made first last tables c begins is_made (text, ended, run, count, hash) cut same new tried clashes is = record {
+  replies = text;
+  last = history last ended;
+  runs = subst (λ s. Run Step (fresh s) (lines_of (concat (log start lines))) text (history last ended)) begins
+      (subst (λ ls. Run Step (fresh first) ls text (history last ended)) (ap (map without_feed) is_made ∙ sym cut) run);
+  is = is ∙ (λ i. with_sum (with_counts (sizes_text lines (count i)) ((counts_are c tables new tried clashes ∙ ap counts_of same) i)) (hash i));
+}
+
+-- the session at the start
+pub begins : (first : session.State) (machine : Machine) (tables : State) (places : Places) → first ≡ session.state Main machine None → machine ≡ record { tables = tables; clock = 0 }
+    → tables ≡ empty_state places → places ≡ places_of (replicate 32 0) None → first ≡ trial_start
+begins first machine tables places f m t p = f ∙ ap (λ x. session.state Main x None) m ∙ ap (at_start Main) (t ∙ ap empty_state p)
+
+pub ok_weaker : {A E : Type 0} (r : Result A E) (P Q : A → Type 0) → ((x : A) → P x → Q x) → IfOk r P → IfOk r Q
+ok_weaker (Ok x) P Q weaker is = weaker x is
+ok_weaker (Err e) P Q weaker is = tt

@@ -4,7 +4,7 @@ use Rattle.addrman_run.proofs.trial.replies_to.Given as goal
 
 -- the lines so far have their replies
 abbrev pub invariant-loop-hasher : goal.invariant-loop-hasher
-invariant-loop-hasher l = Trying l.fn.session l.fn.log l.log l.session l.hasher l.bytes
+invariant-loop-hasher g l = Trying l.fn.session l.fn.log l.log l.session l.hasher l.bytes
 
 abbrev pub decreases-loop-hasher : goal.decreases-loop-hasher
-decreases-loop-hasher l = length l.log
+decreases-loop-hasher g l = length l.log
