@@ -69,7 +69,7 @@ part_of (Some before) mid new a line rest all is part whole =
       length a + n,
       omega (arith, less, ap length whole, length-append a (line ++ rest), length-append line rest),
       written ∙ ap Some (append_assoc before a (take n line))
-      ∙ ap (λ xs. Some (before ++ xs)) (ap (λ xs. a ++ xs) (sym (take-append-le n line rest (omega (arith, less)))) ∙ sym (take-append-add a (line ++ rest) n) ∙ ap (take (length a + n)) whole),
+          ∙ ap (λ xs. Some (before ++ xs)) (ap (λ xs. a ++ xs) (sym (take-append-le n line rest (omega (arith, less)))) ∙ sym (take-append-add a (line ++ rest) n) ∙ ap (take (length a + n)) whole),
     )
 
 pub writes_part : (log now : List (List ℕ)) (old mid new : Option (List ℕ)) (line : List ℕ) → Writing log now old mid → now ≢ [] → line ≡ next_line now
