@@ -10,7 +10,7 @@ use Rattle.net_addr.specs.declared.peer.Peer.{Peer}
 use Rattle.addrman_run.specs.Inside.{IsProperRequest}
 use Rattle.addrman_run.specs.Request.{Asks}
 use Rattle.addrman_run.specs.declared.request.Request.{Request}
-use Rattle.addrman_run.specs.declared.request.Request.TheVariants.{Replay, Compile, Check, Decompile, Limit, Lookup, Show, Ban, Unban, Banned}
+use Rattle.addrman_run.specs.declared.request.Request.TheVariants.{Replay, Compile, Check, Decompile, Limit, Lookup, Show, Ban, Unban, Banned, Gen, Trial}
 
 -- THE SUBNET IS PROPER
 
@@ -25,6 +25,8 @@ proper law words (Show chain) asks = tt
 proper law words (Ban subnet now until) asks = law asks.0 subnet asks.1
 proper law words (Unban subnet) asks = law asks.0 subnet asks.1
 proper law words (Banned peer now) asks = tt
+proper law words (Gen start lines) asks = tt
+proper law words (Trial start lines) asks = tt
 
 pub proper_asked : ((text : List ℕ) (s : Subnet) → IsSubnetText text s → IsProper s) → (words : List (List ℕ)) (r : Option Request) → IfSome r (λ request. Asks words request) → IfSome r IsProperRequest
 proper_asked law words None asks = tt
@@ -53,6 +55,8 @@ asks_ban words a b d three (Lookup peer) asks = absurd (omega (arith, ap (λ ws.
 asks_ban words a b d three (Show chain) asks = absurd (omega (arith, ap (λ ws. get_or (get_or ws 0 []) 0 0) asks.2))
 asks_ban words a b d three (Unban subnet) asks = absurd (omega (arith, ap (λ ws. get_or (get_or ws 0 []) 0 0) asks.2))
 asks_ban words a b d three (Banned peer now) asks = absurd (omega (arith, ap (λ ws. get_or (get_or ws 0 []) 3 0) asks.3))
+asks_ban words a b d three (Gen start lines) asks = absurd (omega (arith, ap (λ ws. get_or (get_or ws 0 []) 0 0) asks.3))
+asks_ban words a b d three (Trial start lines) asks = absurd (omega (arith, ap (λ ws. get_or (get_or ws 0 []) 0 0) asks.3))
 asks_ban words a b d three (Ban subnet now until) asks = record {
   subnet = subnet;
   now = now;
@@ -83,6 +87,8 @@ asks_unban words a one (Lookup peer) asks = absurd (omega (arith, ap (λ ws. get
 asks_unban words a one (Show chain) asks = absurd (omega (arith, ap (λ ws. get_or (get_or ws 0 []) 0 0) asks.2))
 asks_unban words a one (Ban subnet now until) asks = absurd (omega (arith, ap (λ ws. get_or (get_or ws 0 []) 0 0) asks.4))
 asks_unban words a one (Banned peer now) asks = absurd (omega (arith, ap (λ ws. get_or (get_or ws 0 []) 0 0) asks.3))
+asks_unban words a one (Gen start lines) asks = absurd (omega (arith, ap (λ ws. get_or (get_or ws 0 []) 0 0) asks.3))
+asks_unban words a one (Trial start lines) asks = absurd (omega (arith, ap (λ ws. get_or (get_or ws 0 []) 0 0) asks.3))
 asks_unban words a one (Unban subnet) asks =
     (subnet, subst (λ t. IsSubnetText t subnet) (ap (λ ws. get_or (drop 1 ws) 0 []) (sym asks.2) ∙ ap (λ ws. get_or ws 0 []) one) asks.1, refl)
 
@@ -103,6 +109,8 @@ asks_banned words a b two Limit asks = absurd (omega (arith, ap (λ ws. get_or (
 asks_banned words a b two (Lookup peer) asks = absurd (omega (arith, ap (λ ws. get_or (get_or ws 0 []) 0 0) asks.2))
 asks_banned words a b two (Show chain) asks = absurd (omega (arith, ap (λ ws. get_or (get_or ws 0 []) 0 0) asks.2))
 asks_banned words a b two (Ban subnet now until) asks = absurd (omega (arith, ap (λ ws. get_or (get_or ws 0 []) 3 0) asks.4))
+asks_banned words a b two (Gen start lines) asks = absurd (omega (arith, ap (λ ws. get_or (get_or ws 0 []) 0 0) asks.3))
+asks_banned words a b two (Trial start lines) asks = absurd (omega (arith, ap (λ ws. get_or (get_or ws 0 []) 0 0) asks.3))
 asks_banned words a b two (Unban subnet) asks = absurd (omega (arith, ap (λ ws. get_or (get_or ws 0 []) 0 0) asks.2))
 asks_banned words a b two (Banned peer now) asks = record {
   peer = peer;

@@ -9,7 +9,7 @@ use Rattle.addrman_run.specs.declared.request.Request.{Request}
 use Rattle.addrman_run.specs.declared.request.Request.TheVariants.{Show}
 use Rattle.addrman_run.specs.declared.request.Request.TheVariants.{Replay, Compile, Check, Lookup}
 use Rattle.addrman_run.specs.declared.request.Request.TheVariants.{Decompile, Limit}
-use Rattle.addrman_run.specs.declared.request.Request.TheVariants.{Ban, Unban, Banned}
+use Rattle.addrman_run.specs.declared.request.Request.TheVariants.{Ban, Unban, Banned, Gen, Trial}
 
 -- the words begin with an option, in two words or in one, and go on with the rest
 abbrev Begins : List ℕ → List ℕ → List (List ℕ) → List (List ℕ) → Type 0
@@ -59,6 +59,8 @@ asks_replay words (Show chain) asks = absurd (omega (arith, ap (λ ws. get_or (g
 asks_replay words (Ban subnet now until) asks = absurd (omega (arith, ap (λ ws. get_or (get_or ws 0 []) 0 0) asks.4))
 asks_replay words (Unban subnet) asks = absurd (omega (arith, ap (λ ws. get_or (get_or ws 0 []) 0 0) asks.2))
 asks_replay words (Banned peer now) asks = absurd (omega (arith, ap (λ ws. get_or (get_or ws 0 []) 0 0) asks.3))
+asks_replay words (Gen start lines) asks = absurd (omega (arith, ap (λ ws. get_or (get_or ws 0 []) 0 0) asks.3))
+asks_replay words (Trial start lines) asks = absurd (omega (arith, ap (λ ws. get_or (get_or ws 0 []) 0 0) asks.3))
 
 option_of : (name value : List ℕ) (rest words : List (List ℕ)) → Begins name value rest words → (own : List (List ℕ)) × IsOption name value own × (words ≡ own ++ rest)
 option_of name value rest words (inl two) = (name ∷ value ∷ [], inl refl, two)

@@ -1,5 +1,5 @@
 -- Words of private contracts.
-use Rattle.std.specs.Prelude.{◌≡◌, ◌≢◌, ◌⊎◌, ◌≤◌, ℕ, List, Option, Some, None, ⊤, option_map}
+use Rattle.std.specs.Prelude.{◌≡◌, ◌≢◌, ◌⊎◌, ◌≤◌, ℕ, List, ◌++◌, length, Option, Some, None, ⊤, option_map}
 use Rattle.host_io.specs.Past.{Always, Past}
 use Rattle.host_io.specs.Writing.{Appended, AppendedPart}
 use Rattle.host_io.specs.declared.name.Name.{Name}
@@ -33,11 +33,16 @@ use Rattle.addrman_run.specs.declared.tables_fault.TablesFault.{TablesFault}
 use Rattle.addrman_run.specs.declared.tables_fault.TablesFault.TheVariants.{Rows}
 use Rattle.addrman_run.specs.declared.peers_fault.PeersFault.TheVariants.{Duplicate, File}
 use Rattle.addrman_run.specs.Opening.{places_of, tables_of}
+use Rattle.log_run.specs.Run.{Run}
 use Rattle.log_run.specs.Worlds.{StepsIn}
 use Rattle.log_run.specs.declared.end.LogEnd.{LogEnd}
 use Rattle.log_run.specs.declared.end.LogEnd.TheVariants as end
+use Rattle.session.specs.Events.{Ended}
 use Rattle.session.specs.Folders.{AtMost, IsOpen, MayPublish, Turn}
+use Rattle.session.specs.History.{Step, fresh}
 use Rattle.session.specs.State as session
+use Rattle.session.specs.State.{LineStep}
+use Rattle.sha2.specs.Sha256.{sha256}
 use Rattle.peer_rec.specs.Snapshot.{Snapshot}
 use Rattle.peers_file.specs.Layout.{IsFile, HasFileFault}
 use Rattle.peers_file.specs.declared.chain.Chain.{Chain}
@@ -202,3 +207,14 @@ abbrev pub AnswerEnds : List ℕ → Option (List ℕ) → Option Past → Optio
     Option (List ℕ) → Option (List ℕ) → Status → Type 0
 AnswerEnds line None before after old new status = (after ≡ before) × LineEnds line old new status
 AnswerEnds line (Some file) before after old new status = SaveEnds name.Bans file line after old new status
+
+-- a line of a generated log was carried out, and its reply appended
+abbrev pub Replied : session.State → List ℕ → List ℕ → List ℕ → session.State → Type 0
+Replied old line before after new =
+    (text : List ℕ) × (ended : Option Ended) × LineStep old line text new ended × (after ≡ before ++ text)
+
+-- the replies to some lines have so many bytes and this SHA-256
+abbrev pub HasReplies : session.State → List (List ℕ) → session.State → ℕ → List ℕ → Type 0
+HasReplies old lines new bytes sum =
+    (text : List ℕ) × (ended : List Ended) × Run Step (fresh old) lines text (record { now = new; ended = ended })
+    × (bytes ≡ length text) × (sum ≡ sha256 text)

@@ -13,7 +13,9 @@ pub mod Decompile
 pub mod Compile
 pub mod Bans
 pub mod Show
+pub mod Generate
 pub mod Opening
+pub mod Trial
 pub mod Outcome
 pub mod Report
 pub mod Inside

@@ -10,12 +10,15 @@ use Rattle.addrman_run.specs.Decompile.{DecompileEnds}
 use Rattle.addrman_run.specs.Compile.{CompileEnds}
 use Rattle.addrman_run.specs.Limit.{LimitEnds}
 use Rattle.addrman_run.specs.Show.{ShowEnds}
+use Rattle.addrman_run.specs.Generate.{GenEnds}
+use Rattle.addrman_run.specs.Trial.{TrialEnds}
 use Rattle.addrman_run.specs.Bans.{BansEnds, ban_change, unban_change, banned_change}
 use Rattle.addrman_run.specs.declared.request.Request.{Request}
 use Rattle.addrman_run.specs.declared.request.Request.TheVariants.{Show}
 use Rattle.addrman_run.specs.declared.request.Request.TheVariants.{Replay, Compile, Check, Lookup}
 use Rattle.addrman_run.specs.declared.request.Request.TheVariants.{Decompile, Limit}
 use Rattle.addrman_run.specs.declared.request.Request.TheVariants.{Ban, Unban, Banned}
+use Rattle.addrman_run.specs.declared.request.Request.TheVariants.{Gen, Trial}
 use Rattle.addrman_run.specs.declared.status.Status.{Status}
 use Rattle.addrman_run.specs.declared.status.Status.TheVariants as status
 
@@ -30,6 +33,8 @@ Ends (Show chain) old new answer = ShowEnds chain old new answer
 Ends (Ban subnet now until) old new answer = BansEnds (ban_change (ban_of subnet now until)) old new answer
 Ends (Unban subnet) old new answer = BansEnds (unban_change subnet) old new answer
 Ends (Banned peer now) old new answer = BansEnds (banned_change peer.addr now) old new answer
+Ends (Gen start lines) old new answer = GenEnds start lines old new answer
+Ends (Trial start lines) old new answer = TrialEnds start lines old new answer
 
 -- a count of faults did not fall, and rose if the run ended with this fault
 abbrev pub IsCounted : Status → ℕ → ℕ → Status → Type 0

@@ -1,7 +1,8 @@
 -- What the arguments ask for.
-use Rattle.std.specs.Prelude.{◌≡◌, ◌⊎◌, ◌<◌, ◌≤◌, ℕ, List, [], ◌∷◌, ◌++◌, length, Option, Some, None, Ok, codes, decimal}
+use Rattle.std.specs.Prelude.{◌≡◌, ◌⊎◌, ◌<◌, ◌≤◌, ℕ, ◌^◌, List, [], ◌∷◌, ◌++◌, length, Option, Some, None, Ok, codes, decimal}
 use Rattle.ban_list.specs.BanFile.{max_time}
 use Rattle.ban_list.specs.SubnetText.{IsSubnetText}
+use Rattle.gen_load.specs.declared.generated.TheConstants.{MAX_LINES}
 use Rattle.hex.specs.Hex.{decode_of}
 use Rattle.net_addr.specs.Text.{IsPeerText}
 use Rattle.peers_file.specs.declared.chain.Chain.{Chain}
@@ -11,6 +12,7 @@ use Rattle.addrman_run.specs.declared.request.Request.TheVariants.{Show}
 use Rattle.addrman_run.specs.declared.request.Request.TheVariants.{Replay, Compile, Check, Lookup}
 use Rattle.addrman_run.specs.declared.request.Request.TheVariants.{Decompile, Limit}
 use Rattle.addrman_run.specs.declared.request.Request.TheVariants.{Ban, Unban, Banned}
+use Rattle.addrman_run.specs.declared.request.Request.TheVariants.{Gen, Trial}
 
 -- a key of 32 bytes, as 64 hexadecimal digits in either case
 abbrev pub IsKey : List ℕ → List ℕ → Type 0
@@ -59,3 +61,9 @@ Asks words (Unban subnet) =
     (text : List ℕ) × IsSubnetText text subnet × (words ≡ codes "unban" ∷ text ∷ [])
 Asks words (Banned peer now) =
     (text : List ℕ) × IsPeerText text peer × (now ≤ max_time) × (words ≡ codes "banned" ∷ text ∷ decimal now ∷ [])
+Asks words (Gen start lines) =
+    (start < 2 ^ 64) × (0 < lines) × (lines ≤ MAX_LINES)
+    × (words ≡ codes "gen" ∷ decimal start ∷ decimal lines ∷ [])
+Asks words (Trial start lines) =
+    (start < 2 ^ 64) × (0 < lines) × (lines ≤ MAX_LINES)
+    × (words ≡ codes "trial" ∷ decimal start ∷ decimal lines ∷ [])

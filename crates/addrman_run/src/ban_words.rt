@@ -56,7 +56,7 @@ fn read_time(text: &[u8]) -> Option<u32>
 }
 
 /// Returns the arguments if there are two.
-fn two_words(words: &[String]) -> Option<(&[u8], &[u8])>
+pub(crate) fn two_words(words: &[String]) -> Option<(&[u8], &[u8])>
     ensures some { IfSome result (λ parts.
         map string_bytes words.now ≡ parts.0.now ∷ parts.1.now ∷ []) }
     ensures none { IfNone result ((a b : List ℕ) → map string_bytes words.now ≡ a ∷ b ∷ [] → ⊥) }

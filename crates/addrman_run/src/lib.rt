@@ -8,6 +8,8 @@ mod check;
 mod compile;
 mod decompile;
 mod file_line;
+mod gen_words;
+mod generate;
 mod input;
 mod law;
 mod limit;
@@ -27,6 +29,8 @@ mod status;
 mod sure;
 mod tables_fault;
 mod top;
+mod trial;
+mod trial_line;
 mod words;
 
 pub use law::folders_open_once;

@@ -44,4 +44,15 @@ pub enum Request {
         peer: Peer,
         now: u32,
     },
+    /// `gen START LINES`: write the generated log of a number with this many lines.
+    Gen {
+        start: u64,
+        lines: u32,
+    },
+    /// `trial START LINES`: carry out the generated log of a number from empty tables, and write one
+    /// line about the replies.
+    Trial {
+        start: u64,
+        lines: u32,
+    },
 }

@@ -10,10 +10,12 @@ use crate::check::Check;
 use crate::compile::compile_table;
 use crate::decompile::Decompile;
 use crate::file_line::write_file_line;
+use crate::generate::generate;
 use crate::limit::limit;
 use crate::lookup::Lookup;
 use crate::replay::replay;
 use crate::show::Show;
+use crate::trial::trial;
 use crate::words::read_request;
 use crate::{Request, Status};
 use host_io::{Folder, Sink, Source};
@@ -30,6 +32,8 @@ use std::hash::BuildHasher;
 /// address. `limit` carries out the lines of the log under the limit on received addresses, and
 /// writes the log that is left. `show` lists what peers.dat has. `ban SUBNET NOW UNTIL` and `unban SUBNET` change the
 /// list of bans in banlist.json, and `banned PEER NOW` writes which ban covers the peer's address.
+/// `gen START LINES` writes a generated log, and `trial START LINES` carries it out from empty tables
+/// and writes one line about the replies.
 pub fn run<L: Source, F: Folder, K: Sink, H: BuildHasher + Drop>(
     alloc: Global,
     hasher: H,
@@ -67,5 +71,7 @@ pub fn run<L: Source, F: Folder, K: Sink, H: BuildHasher + Drop>(
             let addr = peer.addr;
             carry_out_order(alloc, &BanOrder::Find { addr, now }, folder, out)
         }
+        Request::Gen { start, lines } => generate(alloc, start, lines, out),
+        Request::Trial { start, lines } => trial(alloc, hasher, start, lines, out),
     }
 }

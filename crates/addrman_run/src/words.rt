@@ -8,6 +8,7 @@ ghost use Rattle.addrman_run.specs.declared.request.Request.{Request};
 
 use crate::Request;
 use crate::ban_words::{read_ban, read_banned, read_unban};
+use crate::gen_words::{read_gen, read_trial};
 use ban_list::texts_have_one_meaning;
 use hex::FromHex;
 use net_addr::parse_peer;
@@ -49,6 +50,10 @@ fn request_of(words: &[String]) -> Option<Request>
         read_unban(rest)
     } else if command == b"banned".as_slice() {
         read_banned(rest)
+    } else if command == b"gen".as_slice() {
+        read_gen(rest)
+    } else if command == b"trial".as_slice() {
+        read_trial(rest)
     } else {
         None
     }

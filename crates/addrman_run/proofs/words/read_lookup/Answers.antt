@@ -8,7 +8,7 @@ use Rattle.addrman_run.specs.declared.request.Request.{Request}
 use Rattle.addrman_run.specs.declared.request.Request.TheVariants.{Show}
 use Rattle.addrman_run.specs.declared.request.Request.TheVariants.{Replay, Compile, Check, Lookup}
 use Rattle.addrman_run.specs.declared.request.Request.TheVariants.{Decompile, Limit}
-use Rattle.addrman_run.specs.declared.request.Request.TheVariants.{Ban, Unban, Banned}
+use Rattle.addrman_run.specs.declared.request.Request.TheVariants.{Ban, Unban, Banned, Gen, Trial}
 use Rattle.addrman_run.proofs.words.read_lookup.Goals as goal
 
 -- a word after the command asks for the lookup of the peer that it is
@@ -20,6 +20,8 @@ asks_lookup words word one (Show chain) asks = absurd (omega (arith, ap (λ ws. 
 asks_lookup words word one (Ban subnet now until) asks = absurd (omega (arith, ap (λ ws. get_or (get_or ws 0 []) 0 0) asks.4))
 asks_lookup words word one (Unban subnet) asks = absurd (omega (arith, ap (λ ws. get_or (get_or ws 0 []) 0 0) asks.2))
 asks_lookup words word one (Banned peer now) asks = absurd (omega (arith, ap (λ ws. get_or (get_or ws 0 []) 0 0) asks.3))
+asks_lookup words word one (Gen start lines) asks = absurd (omega (arith, ap (λ ws. get_or (get_or ws 0 []) 0 0) asks.3))
+asks_lookup words word one (Trial start lines) asks = absurd (omega (arith, ap (λ ws. get_or (get_or ws 0 []) 0 0) asks.3))
 asks_lookup words word one Check asks = absurd (omega (arith, ap (λ ws. get_or (get_or ws 0 []) 0 0) asks))
 asks_lookup words word one Decompile asks = absurd (omega (arith, ap (λ ws. get_or (get_or ws 0 []) 0 0) asks))
 asks_lookup words word one Limit asks = absurd (omega (arith, ap (λ ws. get_or (get_or ws 0 []) 1 0) asks))

@@ -6,7 +6,7 @@ use Rattle.addrman_run.specs.declared.request.Request.{Request}
 use Rattle.addrman_run.specs.declared.request.Request.TheVariants.{Show}
 use Rattle.addrman_run.specs.declared.request.Request.TheVariants.{Replay, Compile, Check, Lookup}
 use Rattle.addrman_run.specs.declared.request.Request.TheVariants.{Decompile, Limit}
-use Rattle.addrman_run.specs.declared.request.Request.TheVariants.{Ban, Unban, Banned}
+use Rattle.addrman_run.specs.declared.request.Request.TheVariants.{Ban, Unban, Banned, Gen, Trial}
 use Rattle.addrman_run.proofs.words.read_show.Goals as goal
 
 -- the words after the command choose the chain that is asked for
@@ -19,6 +19,8 @@ asks_show words Limit asks = absurd (omega (arith, ap (λ ws. get_or (get_or ws 
 asks_show words (Ban subnet now until) asks = absurd (omega (arith, ap (λ ws. get_or (get_or ws 0 []) 0 0) asks.4))
 asks_show words (Unban subnet) asks = absurd (omega (arith, ap (λ ws. get_or (get_or ws 0 []) 0 0) asks.2))
 asks_show words (Banned peer now) asks = absurd (omega (arith, ap (λ ws. get_or (get_or ws 0 []) 0 0) asks.3))
+asks_show words (Gen start lines) asks = absurd (omega (arith, ap (λ ws. get_or (get_or ws 0 []) 0 0) asks.3))
+asks_show words (Trial start lines) asks = absurd (omega (arith, ap (λ ws. get_or (get_or ws 0 []) 0 0) asks.3))
 asks_show words (Lookup peer) asks = absurd (omega (arith, ap (λ ws. get_or (get_or ws 0 []) 0 0) asks.2))
 asks_show words (Show chain) asks = (chain, subst (λ ws. IsNet ws chain) (sym (ap (drop 1) asks.2)) asks.1, refl)
 
