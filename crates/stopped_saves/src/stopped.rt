@@ -1,3 +1,5 @@
+ghost use Rattle.std.specs.Prelude.{◌≤◌};
+
 use crate::mark::{OLD, OLD_BANS, made_word, marks};
 use addrman_run::{code, run};
 use host_io::{MemFolder, MemSink, MemSource, Memory, Name};
@@ -33,14 +35,14 @@ impl Command {
         }
     }
 
-    /// Returns the arguments.
-    fn arguments(self, alloc: Global) -> Result<Vec<String>, Memory> {
-        let mut arguments = Vec::new(alloc);
-        arguments.push(String::from_str(alloc, self.verb())?)?;
-        if let Command::Unban = self {
-            arguments.push(String::from_str(alloc, "1.2.3.4")?)?;
+    /// Returns how many of the arguments, the verb and a subnet, the command takes.
+    fn count(self) -> usize
+        ensures { result ≤ 2 }
+    {
+        match self {
+            Command::Compile => 1,
+            Command::Unban => 2,
         }
-        Ok(arguments)
     }
 }
 
@@ -57,9 +59,19 @@ fn folder_of(alloc: Global, fails: &[(u64, bool)]) -> Result<MemFolder, Memory> 
 fn run_command(alloc: Global, command: Command, folder: &mut MemFolder) -> Result<u8, Memory> {
     let mut log = MemSource::make(alloc, b"", 1, &[])?;
     let mut out = MemSink::make(alloc, &[])?;
-    let words = command.arguments(alloc)?;
+    let words = [
+        String::from_str(alloc, command.verb())?,
+        String::from_str(alloc, "1.2.3.4")?,
+    ];
     let hasher = BuildHasherDefault::<FoldHasher>::new();
-    let status = run(alloc, hasher, words.as_slice(), &mut log, folder, &mut out);
+    let status = run(
+        alloc,
+        hasher,
+        &words[..command.count()],
+        &mut log,
+        folder,
+        &mut out,
+    );
     Ok(code(&status))
 }
 
