@@ -14,9 +14,11 @@ use Rattle.addr_limit.specs.declared.event.Event.{Event}
 use Rattle.addr_limit.specs.declared.event.Event.TheVariants.{Now, Of, Nothing}
 use Rattle.addr_limit.specs.declared.request.Request.{Request}
 use Rattle.addr_limit.specs.declared.request.Request.TheVariants.{Open, Close, Message}
+use Rattle.addr_codecs.specs.declared.form.Form.{Form}
+use Rattle.addr_codecs.specs.declared.form.Form.TheVariants.{Addr, Addrv2}
 use Rattle.wire_num.proofs.ReadingLaws.{AreBytes}
-use Rattle.addr_limit.specs.Lines.{word_of, kinds_of, IsRead, IsRead2, Asks, SaysAfter, Says, IsOther, HasFault}
-use Rattle.addr_limit.proofs.Payloads.{hex_is_bytes, one_reading, one_reading2}
+use Rattle.addr_limit.specs.Lines.{word_of, kinds_of, IsRead, AsksMessage, Asks, SaysAfter, Says, IsOther, HasFault}
+use Rattle.addr_limit.proofs.Payloads.{hex_is_bytes, one_reading}
 
 -- ---- the verb of a word, by its first and its fifth letter
 
@@ -144,22 +146,23 @@ bytes_of texts number values payload words means is = by texts (subst (λ vs. Al
     by (a ∷ []) m = absurd m.1
     by (a ∷ b ∷ ts) m = of_hex b m.1.0
 
+-- the same message after the same fields
+one_message : (form : Form) (texts : List (List ℕ)) (number : ℕ) (values : List Value) (a b : Request) → AllMean (u32_field ∷ Hex ∷ Random ∷ []) texts (TheNumber number ∷ values) →
+    AsksMessage form values a → AsksMessage form values b → a ≡ b
+one_message form texts number values a b means h k =
+    let payloads = same_payloads h.0 k.0 h.1 k.1 values h.3 k.3 in
+    let reads = one_reading form h.0 (bytes_of texts number values h.0 h.1 means h.3) h.2 k.2 h.4 (subst (λ p. IsRead form p k.2) (sym payloads) k.4) in
+    let words = same_words h.0 k.0 h.1 k.1 values h.3 k.3 in
+    h.5 ∙ (λ i. Message (reads i) (words i)) ∙ sym k.5
+
 one_request : (verb : Verb) (texts : List (List ℕ)) (number : ℕ) (values : List Value) (a b : Request) → AllMean (u32_field ∷ kinds_of verb) texts (TheNumber number ∷ values) →
     Asks verb values a → Asks verb values b → a ≡ b
 one_request v.Open texts number values a b means h k = h.3 ∙ same_opens h.0 k.0 h.1 k.1 values h.2 k.2 ∙ sym k.3
 one_request v.Close texts number values a b means h k = h.1 ∙ sym k.1
 one_request v.GetAddr texts number values a b means h k = h.1 ∙ sym k.1
 one_request v.Stat texts number values a b means h k = h.1 ∙ sym k.1
-one_request v.From texts number values a b means h k =
-    let payloads = same_payloads h.0 k.0 h.1 k.1 values h.3 k.3 in
-    let reads = one_reading h.0 (bytes_of texts number values h.0 h.1 means h.3) h.2 k.2 h.4 (subst (λ p. IsRead p k.2) (sym payloads) k.4) in
-    let words = same_words h.0 k.0 h.1 k.1 values h.3 k.3 in
-    h.5 ∙ (λ i. Message (reads i) (words i)) ∙ sym k.5
-one_request v.From2 texts number values a b means h k =
-    let payloads = same_payloads h.0 k.0 h.1 k.1 values h.3 k.3 in
-    let reads = one_reading2 h.0 (bytes_of texts number values h.0 h.1 means h.3) h.2 k.2 h.4 (subst (λ p. IsRead2 p k.2) (sym payloads) k.4) in
-    let words = same_words h.0 k.0 h.1 k.1 values h.3 k.3 in
-    h.5 ∙ (λ i. Message (reads i) (words i)) ∙ sym k.5
+one_request v.From texts number values a b means h k = one_message Addr texts number values a b means h k
+one_request v.From2 texts number values a b means h k = one_message Addrv2 texts number values a b means h k
 
 -- the same request after the same fields
 same_request : (verb : Verb) (texts : List (List ℕ)) (m n : ℕ) (a b : Request) → SaysAfter verb texts m a → SaysAfter verb texts n b → Of m a ≡ Of n b
