@@ -61,13 +61,13 @@ SampleStep old max pct classes words answer new =
     ⊎ ((length old.tables.order ≤ length words)
     × Gives old reply.Sample (sample old.tables max pct classes words old.clock) answer new)
 
--- the commands that are supported: all but those that save
-abbrev pub IsBuilt : Command → Type 0
-IsBuilt command.Save = ⊥
-IsBuilt command.SaveBegin = ⊥
-IsBuilt (command.SaveStep count) = ⊥
-IsBuilt command.SaveEnd = ⊥
-IsBuilt other = ⊤
+-- the command is none of those that save
+abbrev pub SavesNothing : Command → Type 0
+SavesNothing command.Save = ⊥
+SavesNothing command.SaveBegin = ⊥
+SavesNothing (command.SaveStep count) = ⊥
+SavesNothing command.SaveEnd = ⊥
+SavesNothing other = ⊤
 
 -- a sample is of at most 100 percent
 abbrev pub HasPercent : Command → Type 0

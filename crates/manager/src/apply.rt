@@ -1,5 +1,5 @@
 ghost use Rattle.std.specs.Prelude.{◌≢◌, ◌+◌, ◌≤◌, ◌<◌, ◌^◌, IfOk, OnErr};
-ghost use Rattle.manager.specs.Step.{Step, IsBuilt, HasPercent, NeedsMemory, LeavesPart};
+ghost use Rattle.manager.specs.Step.{Step, SavesNothing, HasPercent, NeedsMemory, LeavesPart};
 
 use crate::{Manager, Memory};
 use addr_codecs::Form;
@@ -19,7 +19,7 @@ impl<'a, H: BuildHasher> Manager<'a, H> {
         command: &Command,
         steps: &mut Steps<L>,
     ) -> Result<Reply, Memory>
-        requires built { IsBuilt command.now }
+        requires no_save { SavesNothing command.now }
         requires percent { HasPercent command.now }
         requires room { self.old.tables.next_number < 2 ^ 62 }
         ensures step { IfOk result (λ answer. Step self.old command.now answer self.new) }
