@@ -11,8 +11,8 @@ use steps::Steps;
 
 impl<'a, H: BuildHasher> Manager<'a, H> {
     /// Carries out a command that saves nothing, and returns its reply. The next record number must
-    /// be below 2^62, so that a whole message fits. If memory runs out, nothing changes, except that
-    /// some of the first entries of a message may have been taken.
+    /// be below 2^62, so that a whole message fits. If memory runs out, nothing changes, except
+    /// that some of the first entries of a message may have been taken.
     pub fn apply<L: Ledger>(
         &mut self,
         alloc: Global,
