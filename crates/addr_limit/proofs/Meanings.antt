@@ -2,12 +2,12 @@
 use Rattle.std.proofs.Common.{◌≡◌, ◌≢◌, ◌⊎◌, ℕ, Bool, List, [], ◌∷◌, codes, get_or, refl, sym, ap, subst, ◌∙◌, arith, inl, inr}
 use Rattle.std.specs.Prelude.{◌==◌, if◌then◌else◌}
 use Rattle.net_addr.specs.Address.{Address}
-use Rattle.log_lines.specs.Fields.{Kind, Hex, Random, Value, TheNumber, TheAddr, TheBytes, TheWords, TheChoice, fields_of, Means, IsDefinite, AllMean, IsFirstFault, AreAtFault}
+use Rattle.log_lines.specs.Fields.{Hex, Random, Value, TheNumber, TheAddr, TheBytes, TheWords, TheChoice, fields_of, Means, AllMean, AreAtFault}
 use Rattle.log_lines.specs.Spelling.{u32_field}
 use Rattle.log_lines.specs.declared.fault.LineFault.{LineFault}
 use Rattle.log_lines.specs.declared.fault.LineFault.TheVariants as fault
-use Rattle.log_lines.proofs.Readings.{one_value}
-use Rattle.log_lines.proofs.FaultLemmas.{no_fault, same_heads, same_tails}
+use Rattle.log_lines.proofs.Readings.{AreDefinite, one_list}
+use Rattle.log_lines.proofs.FaultLemmas.{no_fault, same_fault, same_heads, same_tails}
 use Rattle.addr_limit.specs.declared.verb.Verb.{Verb}
 use Rattle.addr_limit.specs.declared.verb.Verb.TheVariants as v
 use Rattle.addr_limit.specs.declared.event.Event.{Event}
@@ -55,24 +55,6 @@ not_now v.From2 e = omega (arith, ap (λ t. get_or t 0 0) e)
 not_now v.Stat e = omega (arith, ap (λ t. get_or t 0 0) e)
 
 -- ---- the values of fields
-
-AreDefinite : List Kind → Type 0
-AreDefinite [] = Unit {0}
-AreDefinite (kind ∷ kinds) = IsDefinite kind × AreDefinite kinds
-
-one_list : (kinds : List Kind) (texts : List (List ℕ)) (xs ys : List Value) → AreDefinite kinds → AllMean kinds texts xs → AllMean kinds texts ys → xs ≡ ys
-unfolding AreDefinite
-one_list [] [] [] [] definite h k = refl
-one_list (kind ∷ kinds) (text ∷ texts) (x ∷ xs) (y ∷ ys) definite h k =
-    let heads = one_value kind text x y definite.0 h.0 k.0 in
-    let tails = one_list kinds texts xs ys definite.1 h.1 k.1 in
-    λ i. heads i ∷ tails i
-one_list [] [] (x ∷ xs) ys definite h k = absurd h
-one_list [] [] [] (y ∷ ys) definite h k = absurd k
-one_list [] (text ∷ texts) xs ys definite h k = absurd h
-one_list (kind ∷ kinds) [] xs ys definite h k = absurd h
-one_list (kind ∷ kinds) (text ∷ texts) [] ys definite h k = absurd h
-one_list (kind ∷ kinds) (text ∷ texts) (x ∷ xs) [] definite h k = absurd k
 
 now_definite : AreDefinite (u32_field ∷ [])
 unfolding AreDefinite
@@ -195,20 +177,6 @@ one_event line Nothing (Of n b) h k = absurd ((other_of line (word_of k.0) k.1 k
 one_event line Nothing Nothing h k = refl
 
 -- ---- faults
-
-same_first : (kinds : List Kind) (texts : List (List ℕ)) (f g : LineFault) → IsFirstFault kinds texts f → IsFirstFault kinds texts g → f ≡ g
-same_first [] texts f g h k = absurd h
-same_first (kind ∷ kinds) [] f g h k = absurd h
-same_first (kind ∷ kinds) (text ∷ texts) f g (inl h) (inl k) = h.1 ∙ sym k.1
-same_first (kind ∷ kinds) (text ∷ texts) f g (inl h) (inr k) = absurd (h.0 k.0)
-same_first (kind ∷ kinds) (text ∷ texts) f g (inr h) (inl k) = absurd (k.0 h.0)
-same_first (kind ∷ kinds) (text ∷ texts) f g (inr h) (inr k) = same_first kinds texts f g h.1 k.1
-
-same_fault : (kinds : List Kind) (texts : List (List ℕ)) (f g : LineFault) → AreAtFault kinds texts f → AreAtFault kinds texts g → f ≡ g
-same_fault kinds texts f g (inl h) (inl k) = h.1 ∙ sym k.1
-same_fault kinds texts f g (inl h) (inr k) = absurd (h.0 k.0)
-same_fault kinds texts f g (inr h) (inl k) = absurd (k.0 h.0)
-same_fault kinds texts f g (inr h) (inr k) = same_first kinds texts f g h.1 k.1
 
 -- a fault after `now`
 fault_of_now : (line : List ℕ) (texts : List (List ℕ)) (f : LineFault) → fields_of line ≡ codes "now" ∷ texts → HasFault line f → AreAtFault (u32_field ∷ []) texts f

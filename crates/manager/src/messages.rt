@@ -1,4 +1,4 @@
-ghost use Rattle.std.specs.Prelude.{◌≡◌, ◌≢◌, ◌+◌, ◌≤◌, ◌<◌, ◌^◌, length, IfOk, IfErr, OnOk, OnErr};
+ghost use Rattle.std.specs.Prelude.{◌≡◌, ◌+◌, ◌≤◌, ◌<◌, ◌^◌, length, IfOk, OnOk, OnErr};
 ghost use Rattle.addr_codecs.specs.Layout.{IsMessage, HasMessageFault};
 ghost use Rattle.manager.specs.Machine.{with_tables};
 ghost use Rattle.manager.specs.Messages.{clamp_time, take_entry, take_entries};
