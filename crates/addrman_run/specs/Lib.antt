@@ -17,5 +17,6 @@ pub mod Generate
 pub mod Opening
 pub mod Trial
 pub mod Outcome
+pub mod Complete
 pub mod Report
 pub mod Inside

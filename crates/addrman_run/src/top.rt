@@ -1,6 +1,7 @@
 ghost use Rattle.std.specs.Prelude.{◌≡◌, ◌≢◌, map, string_bytes};
 ghost use Rattle.host_io.specs.Outside.{outside};
 ghost use Rattle.addrman_run.specs.Request.{Asks};
+ghost use Rattle.addrman_run.specs.Complete.{IsComplete};
 ghost use Rattle.addrman_run.specs.Outcome.{Ends, HasCause};
 ghost use Rattle.addrman_run.specs.declared.request.Request.{Request};
 
@@ -48,6 +49,9 @@ pub fn run<L: Source, F: Folder, K: Sink, H: BuildHasher + Drop>(
     ensures cause { HasCause (outside L.Source F.Folder K.Sink log.old folder.old out.old) (outside L.Source F.Folder K.Sink log.new folder.new out.new) result }
     ensures outcome { (request : Request) → Asks (map string_bytes words.now) request →
         Ends request (outside L.Source F.Folder K.Sink log.old folder.old out.old) (outside L.Source F.Folder K.Sink log.new folder.new out.new) result }
+    ensures complete { (request : Request) → Asks (map string_bytes words.now) request →
+        IsComplete request (outside L.Source F.Folder K.Sink log.old folder.old out.old)
+        (outside L.Source F.Folder K.Sink log.new folder.new out.new) result }
 {
     let Some(request) = read_request(words) else {
         return Status::Usage;
