@@ -1,3 +1,4 @@
+use crate::damage::{cuts, flips};
 use crate::spelled::{bytes_of, chain_of};
 use call_rows::{Calls, Fields, Unread};
 use peer_rec::Snapshot;
@@ -16,7 +17,7 @@ impl Calls for FileCalls {
 
     /// `fault CHAIN FILE` answers with the word of the file's first fault and the fault, `rewrite
     /// CHAIN FILE OTHER` with whether what the file has is written as the other file, and `line N
-    /// CHAIN FILE` with a line of the file's list.
+    /// CHAIN FILE` with a line of the file's list; and the calls of damaged files.
     fn call(&mut self, alloc: Global, name: &str, arguments: &str) -> Result<String, Unread> {
         let mut fields = Fields::of(arguments);
         match name {
@@ -33,6 +34,8 @@ impl Calls for FileCalls {
                 let read = read_next(alloc, &mut fields)?;
                 line_of(alloc, number, &read)
             }
+            "flips" => flips(alloc, &mut fields),
+            "cuts" => cuts(alloc, &mut fields),
             _ => Err(Unread::Form),
         }
     }
@@ -49,7 +52,10 @@ fn read_next(
 }
 
 /// Returns the word of the fault, and the fault.
-fn fault_of(alloc: Global, read: &Result<Snapshot, FileFault>) -> Result<String, Unread> {
+pub(crate) fn fault_of(
+    alloc: Global,
+    read: &Result<Snapshot, FileFault>,
+) -> Result<String, Unread> {
     match read {
         Ok(_) => Ok(String::from_str(alloc, "none")?),
         Err(FileFault::Memory) => Err(Unread::Memory),

@@ -3,6 +3,7 @@
 #![tactic(auto)]
 
 mod calls;
+mod damage;
 mod spelled;
 
 use call_rows::check_files;

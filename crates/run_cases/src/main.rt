@@ -6,12 +6,14 @@
 mod case;
 mod cases;
 mod drawn;
+mod long_logs;
 mod ran;
 mod statuses;
 mod unread;
 
 use cases::{Tally, check_text};
 use drawn::check_drawn;
+use long_logs::check_long_logs;
 use statuses::{check_statuses, check_surely};
 use std::process::ExitCode;
 use std::rt::{Env, Files};
@@ -41,11 +43,13 @@ fn check_all<R: Env + Files + Print + Eprint + AllocGlobal>(rt: &R) -> io::Resul
     let statuses = report(rt, "statuses", check_statuses(rt)?)?;
     let surely = report(rt, "a run that nothing can stop", check_surely(rt))?;
     let drawn = report(rt, "drawn logs", check_drawn(rt)?)?;
+    let long = report(rt, "long logs", check_long_logs(rt)?)?;
     Ok(
         of_files
             .saturating_add(statuses)
             .saturating_add(surely)
-            .saturating_add(drawn),
+            .saturating_add(drawn)
+            .saturating_add(long),
     )
 }
 

@@ -14,7 +14,7 @@ use std::hash::{BuildHasherDefault, FoldHasher};
 use std::io;
 
 /// Statuses that none of the cases ends with, and the exit code and the text of each.
-const STATUSES: [(Status, &str); 10] = [
+const STATUSES: [(Status, &str); 9] = [
     (
         Status::LogLine {
             line: u64::MAX,
@@ -38,7 +38,6 @@ const STATUSES: [(Status, &str); 10] = [
         Status::TableRefused(Compile(CompileFault::TooLarge { bits: 67_108_865 })),
         "6 prefixes.txt refused: code-too-large",
     ),
-    (Status::LogTooLong, "10 log too long"),
     (Status::Memory, "12 out of memory"),
     (
         Status::LineTooLong { line: u64::MAX },

@@ -63,7 +63,11 @@ fn save_all(
 }
 
 /// Returns the calls from `call` on. The first is made all the same, if `is_made`.
-fn from_call(alloc: Global, call: u64, is_made: bool) -> Result<Vec<(u64, bool)>, AllocError> {
+pub(crate) fn from_call(
+    alloc: Global,
+    call: u64,
+    is_made: bool,
+) -> Result<Vec<(u64, bool)>, AllocError> {
     let mut fails = Vec::new(alloc);
     fails.push((call, is_made))?;
     for more in 1..16u64 {
