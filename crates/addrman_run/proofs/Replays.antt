@@ -1,6 +1,6 @@
 -- What a replay has done, from what its run over the log says.
-use Rattle.std.proofs.Common.{◌≡◌, ◌≢◌, ◌≤◌, ◌+◌, ℕ, List, [], ◌∷◌, ◌++◌, refl, sym, ap, ◌∙◌, subst, inl, inr, arith}
-use Rattle.std.specs.Prelude.{◌⊎◌, Option, Some, None, IfSome}
+use Rattle.std.proofs.Common.{◌≡◌, ◌≤◌, ℕ, List, [], ◌∷◌, refl, sym, ap, ◌∙◌, subst, inl, inr, arith}
+use Rattle.std.specs.Prelude.{Option, Some, None}
 use Rattle.host_io.specs.Disk.{Disk}
 use Rattle.host_io.specs.Lines.{lines_of}
 use Rattle.host_io.specs.Outside.{Outside}
@@ -9,13 +9,13 @@ use Rattle.host_io.specs.Past.{Always, Past}
 use Rattle.host_io.specs.Reading.{TakesAtMost}
 use Rattle.asmap_vm.specs.Asmap.{Asmap}
 use Rattle.log_lines.specs.Spelling.{HasFault}
-use Rattle.log_run.specs.Run.{EndsBy, Ran, Run, Streams}
+use Rattle.log_run.specs.Run.{EndsBy, Run, Streams}
 use Rattle.log_run.specs.Worlds.{RanIn, WorldEnds, both}
 use Rattle.log_run.specs.declared.end.LogEnd.{LogEnd}
 use Rattle.log_run.specs.declared.end.LogEnd.TheVariants as end
 use Rattle.peers_file.specs.declared.chain.Chain.{Chain}
 use Rattle.session.specs.Events.{Ended}
-use Rattle.session.specs.Folders.{IsOpen, Turn}
+use Rattle.session.specs.Folders.{IsOpen}
 use Rattle.session.specs.History.{AtExit, History, Now, RoseBy, SinceEntry, Step, failed, fresh, onto}
 use Rattle.session.specs.State as session
 use Rattle.session.proofs.OneHistory.{one_run}
