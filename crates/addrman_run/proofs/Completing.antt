@@ -20,16 +20,20 @@ use Rattle.log_run.specs.Run.{Ran, Steps, Streams}
 use Rattle.log_run.specs.declared.end.LogEnd.TheVariants as end
 use Rattle.log_run.specs.declared.end.LogEnd.{LogEnd}
 use Rattle.log_run.specs.declared.limits.TheConstants.{MAX_LINE, MAX_LOG}
+use Rattle.opener_lines.proofs.OneMeaning.{asked_no_fault}
+use Rattle.opener_lines.specs.Grammar.{HasFault as OpenerFault}
 use Rattle.peers_file.specs.declared.chain.Chain.{Chain}
 use Rattle.session.specs.History.{RoseBy}
 use Rattle.addrman_run.specs.Bans.{BansEnds, Change, ReportsBans}
 use Rattle.addrman_run.specs.Compile.{CompileEnds}
-use Rattle.addrman_run.specs.Complete.{IsComplete, IsGoodLog, IsLimitLine, IsReplayLine, IsUsable, NoRefusal, NoSaveFails, NothingFails, NothingIsWrong, ReportsOpening}
+use Rattle.addrman_run.specs.Complete.{IsComplete, IsGoodLog, IsLimitLine, IsOpenerLine, IsReplayLine, IsUsable, NoRefusal, NoSaveFails, NothingFails, NothingIsWrong, ReportsOpening}
 use Rattle.addrman_run.specs.FileLine.{FileLineEnds}
 use Rattle.addrman_run.specs.Generate.{GenText}
-use Rattle.addrman_run.specs.Limit.{LimitEnds}
+use Rattle.addrman_run.specs.Limit.{LimitEnds, Limited}
+use Rattle.addrman_run.specs.Log.{LogOutcome, streams_of}
+use Rattle.addrman_run.specs.Opener.{OpenerEnds, OpenerRan}
 use Rattle.addrman_run.specs.Outcome.{Ends, HasCause}
-use Rattle.addrman_run.specs.Replay.{ReplayEnds}
+use Rattle.addrman_run.specs.Replay.{NotOpened, ReplayEnds, Replayed}
 use Rattle.addrman_run.specs.Tables.{ReportsTable}
 use Rattle.addrman_run.specs.Trial.{TrialText}
 use Rattle.addrman_run.specs.declared.request.Request.TheVariants as request
@@ -109,6 +113,10 @@ replay_line : (line : List ℕ) (fault : LineFault) → IsReplayLine line → Ha
 replay_line line fault (inl passed) why = why.0 passed
 replay_line line fault (inr (command, spells)) why = spelled_no_fault line command fault spells why
 
+opener_line : (line : List ℕ) (fault : LineFault) → IsOpenerLine line → OpenerFault line fault → ⊥
+opener_line line fault (inl passed) why = why.0 passed
+opener_line line fault (inr (asked, asks)) why = asked_no_fault line asked fault asks why
+
 limit_line : (line : List ℕ) (fault : LineFault) → IsLimitLine line → LimitFault line fault → ⊥
 limit_line line fault (event, says) why = event_no_fault line event fault says why
 
@@ -122,42 +130,54 @@ no_write_fault old new cause calm = calm.out (cause.out.1 refl)
 no_read_fault : (old new : Outside) → HasCause old new ReadFault → NothingFails old new → ⊥
 no_read_fault old new cause calm = calm.log (cause.log.1 refl)
 
+-- a command that carries out the lines of a log
+log_done : (Runs : LogEnd → Type 0) (Stops : Status → Type 0) (old new : Outside) (answer : Status) → LogOutcome Runs Stops answer → HasCause old new answer
+    → NothingFails old new → ((n : ℕ) (fault : LineFault) → Runs (end.Fault n fault) → ⊥) → ((n : ℕ) → Runs (end.LineTooLong n) → ⊥)
+    → (Runs end.LogTooLong → ⊥) → (HasCause old new answer → Stops answer → IsDone answer) → IsDone answer
+log_done Runs Stops old new Done ends cause calm fault long whole stops = inl refl
+log_done Runs Stops old new Memory ends cause calm fault long whole stops = inr refl
+log_done Runs Stops old new (LogLine n f) ends cause calm fault long whole stops = absurd (fault n f ends)
+log_done Runs Stops old new (LineTooLong n) ends cause calm fault long whole stops = absurd (long n ends)
+log_done Runs Stops old new LogTooLong ends cause calm fault long whole stops = absurd (whole ends)
+log_done Runs Stops old new ReadFault ends cause calm fault long whole stops = absurd (no_read_fault old new cause calm)
+log_done Runs Stops old new WriteFault ends cause calm fault long whole stops = absurd (no_write_fault old new cause calm)
+log_done Runs Stops old new other ends cause calm fault long whole stops = stops cause ends
+
+-- why no tables were opened
+unopened_done : (key : Option (List ℕ)) (chain : Chain) (old new : Outside) (answer : Status) → NoRefusal (ReportsOpening key chain old.past) → NothingFails old new
+    → HasCause old new answer → NotOpened key chain old new answer → IsDone answer
+unopened_done key chain old new Memory fine calm cause is = inr refl
+unopened_done key chain old new DiskFault fine calm cause is = absurd (no_disk_fault old new cause calm is.1.log.0)
+unopened_done key chain old new (AsmapRefused fault) fine calm cause is = absurd (fine (AsmapRefused fault) is.0)
+unopened_done key chain old new (PeersRefused fault) fine calm cause is = absurd (fine (PeersRefused fault) is.0.1)
+unopened_done key chain old new NoKey fine calm cause is = absurd (fine NoKey is.0.1)
+unopened_done key chain old new other fine calm cause is = absurd is.0
+
 replay_done : (key : Option (List ℕ)) (chain : Chain) (old new : Outside) (answer : Status) → ReplayEnds key chain old new answer → HasCause old new answer
     → IsGoodLog IsReplayLine old.left × NoRefusal (ReportsOpening key chain old.past) → NothingFails old new → IsDone answer
-replay_done key chain old new Done ends cause fine calm = inl refl
-replay_done key chain old new Memory ends cause fine calm = inr refl
-replay_done key chain old new (LogLine n fault) ends cause fine calm = absurd (no_fault _ _ _ IsReplayLine replay_line _ _ fine.0 n fault ends.outcome.ran)
-replay_done key chain old new (LineTooLong n) ends cause fine calm = absurd (no_long_line _ _ _ IsReplayLine replay_line _ _ fine.0 n ends.outcome.ran)
-replay_done key chain old new LogTooLong ends cause fine calm = absurd (no_long_log _ _ _ IsReplayLine replay_line _ _ fine.0 ends.outcome.ran)
-replay_done key chain old new ReadFault ends cause fine calm = absurd (no_read_fault old new cause calm)
-replay_done key chain old new WriteFault ends cause fine calm = absurd (no_write_fault old new cause calm)
-replay_done key chain old new DiskFault ends cause fine calm = absurd (no_disk_fault old new cause calm ends.outcome.log.0)
-replay_done key chain old new (AsmapRefused fault) ends cause fine calm = absurd (fine.1 (AsmapRefused fault) ends.outcome.0)
-replay_done key chain old new (PeersRefused fault) ends cause fine calm = absurd (fine.1 (PeersRefused fault) ends.outcome.1)
-replay_done key chain old new NoKey ends cause fine calm = absurd (fine.1 NoKey ends.outcome.1)
-replay_done key chain old new Usage ends cause fine calm = absurd ends.outcome
-replay_done key chain old new (TableRefused fault) ends cause fine calm = absurd ends.outcome
-replay_done key chain old new (NoFile file) ends cause fine calm = absurd ends.outcome
-replay_done key chain old new TooManyRows ends cause fine calm = absurd ends.outcome
-replay_done key chain old new (BansRefused fault) ends cause fine calm = absurd ends.outcome
+replay_done key chain old new answer ends cause fine calm =
+    log_done (Replayed key chain old new) (NotOpened key chain old new) old new answer ends.outcome cause calm
+    (λ n fault run. no_fault _ _ _ IsReplayLine replay_line _ _ fine.0 n fault run.ran)
+    (λ n run. no_long_line _ _ _ IsReplayLine replay_line _ _ fine.0 n run.ran)
+    (λ run. no_long_log _ _ _ IsReplayLine replay_line _ _ fine.0 run.ran)
+    (unopened_done key chain old new answer fine.1 calm)
+
+opener_done : (key : Option (List ℕ)) (chain : Chain) (old new : Outside) (answer : Status) → OpenerEnds key chain old new answer → HasCause old new answer
+    → IsGoodLog IsOpenerLine old.left × NoRefusal (ReportsOpening key chain old.past) → NothingFails old new → IsDone answer
+opener_done key chain old new answer ends cause fine calm =
+    log_done (OpenerRan key chain old new) (NotOpened key chain old new) old new answer ends.outcome cause calm
+    (λ n fault run. no_fault _ _ _ IsOpenerLine opener_line _ _ fine.0 n fault run.ran)
+    (λ n run. no_long_line _ _ _ IsOpenerLine opener_line _ _ fine.0 n run.ran)
+    (λ run. no_long_log _ _ _ IsOpenerLine opener_line _ _ fine.0 run.ran)
+    (unopened_done key chain old new answer fine.1 calm)
 
 limit_done : (old new : Outside) (answer : Status) → LimitEnds old new answer → HasCause old new answer → IsGoodLog IsLimitLine old.left → NothingFails old new → IsDone answer
-limit_done old new Done ends cause fine calm = inl refl
-limit_done old new Memory ends cause fine calm = inr refl
-limit_done old new (LogLine n fault) ends cause fine calm = absurd (no_fault _ _ _ IsLimitLine limit_line _ _ fine n fault ends.outcome.ran)
-limit_done old new (LineTooLong n) ends cause fine calm = absurd (no_long_line _ _ _ IsLimitLine limit_line _ _ fine n ends.outcome.ran)
-limit_done old new LogTooLong ends cause fine calm = absurd (no_long_log _ _ _ IsLimitLine limit_line _ _ fine ends.outcome.ran)
-limit_done old new ReadFault ends cause fine calm = absurd (no_read_fault old new cause calm)
-limit_done old new WriteFault ends cause fine calm = absurd (no_write_fault old new cause calm)
-limit_done old new DiskFault ends cause fine calm = absurd ends.outcome
-limit_done old new (AsmapRefused fault) ends cause fine calm = absurd ends.outcome
-limit_done old new (PeersRefused fault) ends cause fine calm = absurd ends.outcome
-limit_done old new NoKey ends cause fine calm = absurd ends.outcome
-limit_done old new Usage ends cause fine calm = absurd ends.outcome
-limit_done old new (TableRefused fault) ends cause fine calm = absurd ends.outcome
-limit_done old new (NoFile file) ends cause fine calm = absurd ends.outcome
-limit_done old new TooManyRows ends cause fine calm = absurd ends.outcome
-limit_done old new (BansRefused fault) ends cause fine calm = absurd ends.outcome
+limit_done old new answer ends cause fine calm =
+    log_done (Limited (streams_of old) (streams_of new)) (λ other. ⊥) old new answer ends.outcome cause calm
+    (λ n fault run. no_fault _ _ _ IsLimitLine limit_line _ _ fine n fault run.ran)
+    (λ n run. no_long_line _ _ _ IsLimitLine limit_line _ _ fine n run.ran)
+    (λ run. no_long_log _ _ _ IsLimitLine limit_line _ _ fine run.ran)
+    (λ cause none. absurd none)
 
 -- a command that loads one file and writes a line about it
 file_line_done : (name : Name) (IsLine : Option Past → List ℕ → Type 0) (Refuses : Option Past → Status → Type 0) (old new : Outside) (answer : Status)
@@ -260,6 +280,7 @@ none_failed (suc n) before after still fits (inr rose) = absurd (still (inr (ome
 
 no_save_fails : (request : Request) (old new : Outside) → NoSaveFails request old new
 no_save_fails (request.Replay key chain) old new = λ still fits how run. none_failed _ old.folder_faults new.folder_faults still fits run.failed_saves
+no_save_fails (request.Opener key chain) old new = tt
 no_save_fails request.Compile old new = tt
 no_save_fails request.Check old new = tt
 no_save_fails request.Decompile old new = tt
@@ -276,6 +297,7 @@ no_save_fails (request.Trial first count) old new = tt
 
 done : (request : Request) (old new : Outside) (answer : Status) → Ends request old new answer → HasCause old new answer → NothingIsWrong request old → NothingFails old new → IsDone answer
 done (request.Replay key chain) old new answer ends cause fine calm = replay_done key chain old new answer ends cause fine calm
+done (request.Opener key chain) old new answer ends cause fine calm = opener_done key chain old new answer ends cause fine calm
 done request.Compile old new answer ends cause fine calm = compile_done old new answer ends cause fine calm
 done request.Check old new answer ends cause fine calm = file_line_done _ _ _ old new answer ends cause fine calm
 done request.Decompile old new answer ends cause fine calm = file_line_done _ _ _ old new answer ends cause fine calm

@@ -18,6 +18,7 @@ use Rattle.session.specs.Events.{Ended}
 use Rattle.session.specs.Folders.{IsOpen}
 use Rattle.session.specs.History.{AtExit, History, Now, RoseBy, SinceEntry, Step, failed, fresh, onto}
 use Rattle.session.specs.State as session
+use Rattle.session.proofs.OneHistory.{one_run}
 use Rattle.session.proofs.Promise.{IsCut, IsKept, cut_line, cut_memory, history, kept_line, kept_start}
 use Rattle.table_machine.specs.State.{State}
 use Rattle.addrman_run.specs.Asmaps.{IsMapIn}
@@ -204,6 +205,7 @@ module _ {F : Type 0} (past : F → Option Past) (faults : F → ℕ) where
       let h = follow past faults r.ran.answered r.ran.replies start r.ran.now.0 w r.ran.now.1 [] (past w) (faults w) r.ran.runs
       (kept_start start (past w) (faults w) (ap (λ s. s.job) begins)) in
       let f = finish r.ran.now.0 h.ended r.ran.next (past w) (faults w) how r.ran.now.1 v h.kept r.world_ends in
+      let runs = subst (λ s. Run Step (fresh s) r.ran.answered r.ran.replies (history r.ran.now.0 h.ended)) begins h.runs in
       record {
         map = map;
         has_map = has_map;
@@ -217,11 +219,13 @@ module _ {F : Type 0} (past : F → Option Past) (faults : F → ℕ) where
           begins = r.ran.begins;
           replies = r.ran.replies;
           now = history r.ran.now.0 h.ended;
-          runs = subst (λ s. Run Step (fresh s) r.ran.answered r.ran.replies (history r.ran.now.0 h.ended)) begins h.runs;
+          runs = runs;
           part = r.ran.part;
           written = r.ran.written;
           ends = ends_by r.ran.log r.ran.answered r.ran.next r.ran.now.0 r.ran.now.1 h.ended r.ran.part (streams_of old) (streams_of new) how r.ran.ends;
         };
+        fixed = λ other its_runs.
+            (one_run (fresh (at_start chain tables)) other (history r.ran.now.0 h.ended) r.ran.answered r.ran.replies r.ran.replies [] [] its_runs runs refl).1;
         at_exit = subst (λ p. Now (AtExit (history r.ran.now.0 h.ended) (pending how r.ran.next)) p new.past) same_past
             (subst (Now (AtExit (history r.ran.now.0 h.ended) (pending how r.ran.next)) (past w)) (sym ends_past) f.exit);
         since_entry = subst (λ p. Always p new.past (SinceEntry (history r.ran.now.0 h.ended) (pending how r.ran.next))) same_past

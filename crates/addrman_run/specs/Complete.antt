@@ -13,6 +13,8 @@ use Rattle.log_lines.specs.Spelling.{Spells}
 use Rattle.log_lines.specs.declared.command.Command.{Command}
 use Rattle.log_run.specs.declared.end.LogEnd.{LogEnd}
 use Rattle.log_run.specs.declared.limits.TheConstants.{MAX_LINE, MAX_LOG}
+use Rattle.opener_lines.specs.Grammar.{Asks}
+use Rattle.opener_lines.specs.declared.request.Request as opener
 use Rattle.peers_file.specs.declared.chain.Chain.{Chain}
 use Rattle.session.specs.History.{failed}
 use Rattle.addrman_run.specs.Asmaps.{ReportsAsmap}
@@ -25,7 +27,7 @@ use Rattle.addrman_run.specs.Show.{ReportsPeers}
 use Rattle.addrman_run.specs.Tables.{ReportsTable}
 use Rattle.addrman_run.specs.declared.request.Request.{Request}
 use Rattle.addrman_run.specs.declared.request.Request.TheVariants.{Show}
-use Rattle.addrman_run.specs.declared.request.Request.TheVariants.{Replay, Compile, Check, Lookup}
+use Rattle.addrman_run.specs.declared.request.Request.TheVariants.{Replay, Opener, Compile, Check, Lookup}
 use Rattle.addrman_run.specs.declared.request.Request.TheVariants.{Decompile, Limit}
 use Rattle.addrman_run.specs.declared.request.Request.TheVariants.{Ban, Unban, Banned}
 use Rattle.addrman_run.specs.declared.request.Request.TheVariants.{Gen, Trial}
@@ -37,6 +39,10 @@ use Rattle.addrman_run.specs.declared.status.Status.TheVariants.{Done, Memory, P
 -- a line that a replay carries out: it is passed over, or spells a command
 abbrev pub IsReplayLine : List ℕ → Type 0
 IsReplayLine line = IsPassedOver line ⊎ ((command : Command) × Spells line command)
+
+-- a line that an opener carries out
+abbrev pub IsOpenerLine : List ℕ → Type 0
+IsOpenerLine line = IsPassedOver line ⊎ ((asked : opener.Request) × Asks line asked)
 
 -- a line that the limit carries out
 abbrev pub IsLimitLine : List ℕ → Type 0
@@ -61,7 +67,7 @@ NoRefusal Reports = (answer : Status) → ¬ Reports answer
 abbrev pub IsUsable : Name → (Option Past → Status → Type 0) → Option Past → Type 0
 IsUsable name Reports past = ¬ IsAbsent name past × NoRefusal (Reports past)
 
--- a status that says why a replay ends before the log: peers.dat or asmap.dat is refused, or there is
+-- a status that says why a replay or an opener ends before the log: peers.dat or asmap.dat is refused, or there is
 -- neither a peers.dat nor a key
 abbrev pub ReportsOpening : Option (List ℕ) → Chain → Option Past → Status → Type 0
 ReportsOpening key chain past (PeersRefused fault) = RefusesTables chain past fault
@@ -73,6 +79,7 @@ ReportsOpening key chain past other = ReportsAsmap past other
 -- Nothing is wrong with what the request reads: the log, if it reads one, and its files.
 abbrev pub NothingIsWrong : Request → Outside → Type 0
 NothingIsWrong (Replay key chain) at = IsGoodLog IsReplayLine at.left × NoRefusal (ReportsOpening key chain at.past)
+NothingIsWrong (Opener key chain) at = IsGoodLog IsOpenerLine at.left × NoRefusal (ReportsOpening key chain at.past)
 NothingIsWrong Compile at = IsUsable name.Prefixes ReportsTable at.past
 NothingIsWrong Check at = IsUsable name.Asmap ReportsAsmap at.past
 NothingIsWrong Decompile at = IsUsable name.Asmap ReportsDecompile at.past

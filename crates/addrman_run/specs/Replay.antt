@@ -10,7 +10,7 @@ use Rattle.host_io.specs.declared.name.Name.TheVariants as name
 use Rattle.asmap_vm.specs.Asmap.{Asmap}
 use Rattle.causes.specs.Kept.{IsAfter, KeepsCauses, opened}
 use Rattle.log_lines.specs.Spelling.{HasFault}
-use Rattle.log_run.specs.Run.{Ran}
+use Rattle.log_run.specs.Run.{Ran, Run}
 use Rattle.log_run.specs.declared.end.LogEnd.{LogEnd}
 use Rattle.log_run.specs.declared.end.LogEnd.TheVariants as end
 use Rattle.log_run.specs.declared.limits.TheConstants.{MAX_LOG}
@@ -58,18 +58,21 @@ pending other next = []
 
 -- A replay that got past its opening, by the end of its run over the log. The folder's asmap is
 -- accepted, and the tables are open. The replies to the first lines of the log were written, and of
--- the next one perhaps a part. A crash now, or at any moment since the start, leaves at peers.dat the
--- file of a save of this run or what it could leave at the start; now not one from before the last
--- save whose reply is `saved`. No more saves have failed than the folder. After each line the tables
--- are sound, each bucket that a record is in has a cause, sources of one group reach few buckets, and
--- a tried record leaves only for another one of its slot. A file that was saved opens again, with the
--- same asmap, as the tables of its line after a restart.
+-- the next one perhaps a part. No other history has these replies. A crash now, or at any moment
+-- since the start, leaves at peers.dat the file of a save of this run or what it could leave at the
+-- start; now not one from before the last save whose reply is `saved`. No more saves have failed
+-- than the folder. After each line the tables are sound, each bucket that a record is in has a
+-- cause, sources of one group reach few buckets, and a tried record leaves only for another one of
+-- its slot. A file that was saved opens again, with the same asmap, as the tables of its line after
+-- a restart.
 pub record Replayed (key : Option (List ℕ)) (chain : Chain) (old new : Outside) (how : LogEnd) : Type 0 where
   pub map : Option Asmap
   pub has_map : IsMapIn old.past map
   pub tables : State
   pub opens : Opens key chain old.past map tables
   pub ran : Ran Step HasFault (fresh (at_start chain tables)) (streams_of old) (streams_of new) how
+  pub fixed : (other : History)
+      → Run Step (fresh (at_start chain tables)) ran.answered ran.replies other → other ≡ ran.now
   pub at_exit : Now (AtExit ran.now (pending how ran.next)) old.past new.past
   pub since_entry : Always old.past new.past (SinceEntry ran.now (pending how ran.next))
   pub failed_saves : RoseBy (failed ran.now.ended) old.folder_faults new.folder_faults

@@ -5,6 +5,9 @@ use Rattle.addrman_run.proofs.top.run.Goals as goal
 pub returns-in-Replay-clause-complete : goal.returns-in-Replay-clause-complete
 returns-in-Replay-clause-complete g c = λ request asks. complete request _ _ _ (search rules) (search rules)
 
+pub returns-in-Opener-clause-complete : goal.returns-in-Opener-clause-complete
+returns-in-Opener-clause-complete g c = λ request asks. complete request _ _ _ (search rules) (search rules)
+
 pub returns-in-Compile-clause-complete : goal.returns-in-Compile-clause-complete
 returns-in-Compile-clause-complete g c = λ request asks. complete request _ _ _ (search rules) (search rules)
 
