@@ -1,5 +1,5 @@
 -- A run in which nothing is wrong and nothing fails is done, or out of memory.
-use Rattle.std.proofs.Common.{◌≡◌, ◌≢◌, ◌<◌, ◌≤◌, ◌^◌, ◌+◌, ℕ, zero, suc, List, [], ◌∷◌, ◌++◌, length, refl, sym, ap, ◌∙◌, subst, inl, inr, arith}
+use Rattle.std.proofs.Common.{◌≡◌, ◌≢◌, ◌≤◌, ◌+◌, ℕ, zero, suc, List, [], ◌∷◌, ◌++◌, length, refl, sym, ap, ◌∙◌, subst, inl, inr, arith}
 use Rattle.std.specs.Prelude.{◌⊎◌, All, IfSome, Option}
 use Rattle.std.proofs.lemmas.Bool.{ne_eqb}
 use Rattle.std.proofs.lemmas.List.Elements.{All-head, All-tail}
@@ -273,13 +273,13 @@ trial_done first count old new NoKey text cause calm = absurd text
 
 -- ---- the saves of a replay
 
-none_failed : (n before after : ℕ) → ¬ Rose before after → after < 2 ^ 64 → RoseBy n before after → n ≡ 0
-none_failed zero before after still fits rose = refl
-none_failed (suc n) before after still fits (inl rose) = absurd (still (inl (omega (arith, rose))))
-none_failed (suc n) before after still fits (inr rose) = absurd (still (inr (omega (arith, rose, fits))))
+none_failed : (n before after : ℕ) → ¬ Rose before after → RoseBy n before after → n ≡ 0
+none_failed zero before after still rose = refl
+none_failed (suc n) before after still (inl rose) = absurd (still (inl (omega (arith, rose))))
+none_failed (suc n) before after still (inr rose) = absurd (still rose.1)
 
 no_save_fails : (request : Request) (old new : Outside) → NoSaveFails request old new
-no_save_fails (request.Replay key chain) old new = λ still fits how run. none_failed _ old.folder_faults new.folder_faults still fits run.failed_saves
+no_save_fails (request.Replay key chain) old new = λ still how run. none_failed _ old.folder_faults new.folder_faults still run.failed_saves
 no_save_fails (request.Opener key chain) old new = tt
 no_save_fails request.Compile old new = tt
 no_save_fails request.Check old new = tt

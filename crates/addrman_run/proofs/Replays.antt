@@ -192,7 +192,8 @@ module _ {F : Type 0} (past : F → Option Past) (faults : F → ℕ) where
 
   later_rose : (n f g h : ℕ) → f ≤ g → RoseBy n g h → RoseBy n f h
   later_rose n f g h le (inl r) = inl (omega (arith, le, r))
-  later_rose n f g h le (inr r) = inr r
+  later_rose n f g h le (inr (full, inl rose)) = inr (full, inl (omega (arith, le, rose)))
+  later_rose n f g h le (inr (full, inr is)) = inr (full, inr is)
 
   pub replayed : (key : Option (List ℕ)) (chain : Chain) (map : Option Asmap) (tables : State) (start : session.State) (old new : Outside) (w v : F) (how : LogEnd)
       → IsMapIn old.past map → Opens key chain old.past map tables → start ≡ at_start chain tables → IsSound tables

@@ -1,6 +1,6 @@
 -- When a run has to do what it is asked for: nothing is wrong with the log and the files, and
 -- nothing fails.
-use Rattle.std.specs.Prelude.{◌≡◌, ◌⊎◌, ◌<◌, ◌≤◌, ◌^◌, ℕ, List, All, length, Option, Some, ⊤}
+use Rattle.std.specs.Prelude.{◌≡◌, ◌⊎◌, ◌≤◌, ℕ, List, All, length, Option, Some, ⊤}
 use Rattle.addr_limit.specs.Lines.{Says}
 use Rattle.addr_limit.specs.declared.event.Event.{Event}
 use Rattle.host_io.specs.Faults.{Rose}
@@ -98,10 +98,10 @@ pub record NothingFails (old new : Outside) : Type 0 where
   pub out : ¬ Rose old.out_faults new.out_faults
   pub folder : new.left ≡ old.left → ¬ Rose old.folder_faults new.folder_faults
 
--- If the folder's count, a number of 64 bits, did not rise at all, no save of a replay failed.
+-- If the folder's count did not rise at all, no save of a replay failed.
 abbrev pub NoSaveFails : Request → Outside → Outside → Type 0
 NoSaveFails (Replay key chain) old new =
-    ¬ Rose old.folder_faults new.folder_faults → new.folder_faults < 2 ^ 64 →
+    ¬ Rose old.folder_faults new.folder_faults →
     (how : LogEnd) (run : Replayed key chain old new how) → failed run.ran.now.ended ≡ 0
 NoSaveFails other old new = ⊤
 
