@@ -6,6 +6,7 @@ pub mod Peers
 pub mod Log
 pub mod Replay
 pub mod Limit
+pub mod Opener
 pub mod FileLine
 pub mod Lookup
 pub mod Check

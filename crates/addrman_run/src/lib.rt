@@ -17,6 +17,8 @@ mod limit_lines;
 mod log_status;
 mod lookup;
 mod memory;
+mod opener;
+mod opener_steps;
 mod opening;
 mod output;
 mod peers_fault;
