@@ -26,6 +26,7 @@ demo: all
 	cd examples && ../bin/addrman replay --key=$(ZERO_KEY) < all-networks.log
 	cd examples && ../bin/addrman limit < events.log | ../bin/addrman replay --key=$(ZERO_KEY)
 	cd examples && ../bin/addrman replay --key=$(ZERO_KEY) < every-line.log
+	cd examples && ../bin/addrman opener --key=$(ZERO_KEY) < opener.log
 	mkdir -p bin/saved && rm -f bin/saved/*
 	cd bin/saved && ../addrman replay --key $(ZERO_KEY) < ../../examples/saves.log
 	cd bin/saved && ../addrman show

@@ -1,4 +1,5 @@
--- An address of `addrv2` is read exactly as it is laid out, each fault the first, and what is written of one is read as it.
+-- An address of `addrv2` is read exactly as it is laid out, each fault the first, and what is
+-- written of one is read as it.
 use Rattle.std.proofs.Common.{◌≡◌, ℕ, ◌≤◌, Bool, true, false, cond, leb, List, [], ◌∷◌, ◌++◌, length, Option, Some, None, Ok, Err, refl, sym, ap, subst, ◌∙◌, append_assoc, arith}
 use Rattle.std.specs.Prelude.{◌||◌}
 use Rattle.std.proofs.lemmas.Bool.{le-leb, eq-eqb}

@@ -21,7 +21,8 @@ time = 0x00 ∷ 0xf1 ∷ 0x53 ∷ 0x65 ∷ []
 abbrev port : List ℕ
 port = 0x20 ∷ 0x8d ∷ []
 
--- four entries: 8.8.8.8 as IPv4, an unknown network, the mapped form of 8.8.8.8 and an internal name as IPv6
+-- four entries: 8.8.8.8 as IPv4, an unknown network, the mapped form of 8.8.8.8 and an internal
+-- name as IPv6
 abbrev four : List ℕ
 four = 4 ∷ (time ++ 1 ∷ 1 ∷ 4 ∷ 8 ∷ 8 ∷ 8 ∷ 8 ∷ port
     ++ time ++ 0xfd ∷ 0x09 ∷ 0x04 ∷ 9 ∷ 2 ∷ 7 ∷ 7 ∷ port

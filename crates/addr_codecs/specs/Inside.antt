@@ -30,13 +30,15 @@ addrv2_entry_at bytes = do
   port ← fault_as of_wire (be_at w16 addr.1)
   Ok (option_map (entry time.0 services.0 port.0) addr.0, port.1)
 
-unfoldable pub message_at : (List ℕ → Result (Option Entry × List ℕ) MsgFault) → List ℕ → Result (List (Option Entry) × List ℕ) MsgFault
+unfoldable pub message_at : (List ℕ → Result (Option Entry × List ℕ) MsgFault) → List ℕ
+    → Result (List (Option Entry) × List ℕ) MsgFault
 message_at r bytes = do
   n ← fault_as of_wire (compact_at bytes)
   if nat_le n.0 1000 then times_at 0 n.0 (λ _. r) n.1 else Err TooMany
 
 -- The view of an answer is what the reading gives, unless memory ran out.
-abbrev pub GivesUnlessMemory : {X Y : Type 0} → (X → Y) → Result X MsgFault → Result Y MsgFault → Type 0
+abbrev pub GivesUnlessMemory : {X Y : Type 0} → (X → Y) → Result X MsgFault → Result Y MsgFault
+    → Type 0
 GivesUnlessMemory view (Ok x) read = read ≡ Ok (view x)
 GivesUnlessMemory view (Err e) read = e ≢ Memory → read ≡ Err e
 

@@ -11,6 +11,8 @@ use Rattle.wire_num.specs.Format.{Format, ◌>>=◌, value, check, times, under,
 use Rattle.wire_num.specs.Fields.{some_bytes, byte, le, be, compact}
 use Rattle.addr_codecs.specs.Faults.{of_wire, in_address, of_address}
 use Rattle.addr_codecs.specs.Network.{network_of, is_length, address_of}
+use Rattle.addr_codecs.specs.declared.form.Form.{Form}
+use Rattle.addr_codecs.specs.declared.form.Form.TheVariants.{Addr, Addrv2}
 use Rattle.addr_codecs.specs.declared.fault.MsgFault.{MsgFault}
 use Rattle.addr_codecs.specs.declared.fault.MsgFault.TheVariants.{TooMany, Trailing}
 use Rattle.addr_codecs.specs.declared.address_fault.AddressFault.{AddressFault}
@@ -20,7 +22,8 @@ abbrev pub field : {A : Type 0} → Format WireFault A → Format MsgFault A
 field p = under of_wire p
 
 abbrev pub entry : ℕ → ℕ → ℕ → Address → Entry
-entry time services port addr = record { time = time; services = services; peer = record { addr = addr; port = port } }
+entry time services port addr =
+    record { time = time; services = services; peer = record { addr = addr; port = port } }
 
 -- an entry of `addr`, which is never skipped
 unfoldable pub addr_entry : Format MsgFault (Option Entry)
@@ -78,3 +81,13 @@ HasAddrFault bytes f = HasFault (message addr_entry) Trailing bytes f
 
 abbrev pub HasAddrv2Fault : List ℕ → MsgFault → Type 0
 HasAddrv2Fault bytes f = HasFault (message addrv2_entry) Trailing bytes f
+
+-- the bytes are a message of the form with these entries
+abbrev pub IsMessage : Form → List ℕ → List (Option Entry) → Type 0
+IsMessage Addr bytes es = IsAddrMessage bytes es
+IsMessage Addrv2 bytes es = IsAddrv2Message bytes es
+
+-- the first fault of bytes that are to be a message of the form
+abbrev pub HasMessageFault : Form → List ℕ → MsgFault → Type 0
+HasMessageFault Addr bytes f = HasAddrFault bytes f
+HasMessageFault Addrv2 bytes f = HasAddrv2Fault bytes f

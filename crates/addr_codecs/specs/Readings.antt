@@ -11,7 +11,9 @@ use Rattle.addr_codecs.specs.declared.address_fault.AddressFault.TheVariants.{Ba
 unfoldable pub length_at : Option Net → List ℕ → Result (ℕ × List ℕ) AddressFault
 length_at network bytes = do
   len ← fault_as in_address (compact_at bytes)
-  if nat_le len.0 512 then (if is_length network len.0 then Ok (len.0, len.1) else Err BadLength) else Err TooLong
+  if nat_le len.0 512
+      then (if is_length network len.0 then Ok (len.0, len.1) else Err BadLength)
+      else Err TooLong
 
 unfoldable pub address_at : List ℕ → Result (Option Address × List ℕ) AddressFault
 address_at bytes = do

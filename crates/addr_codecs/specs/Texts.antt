@@ -12,7 +12,9 @@ use Rattle.wire_num.specs.CompactSize.{compact_size}
 
 -- an entry of `addr`
 unfoldable pub addr_entry_text : Entry → List ℕ
-addr_entry_text e = to_le_bytes w32 e.time ++ to_le_bytes w64 e.services ++ unwrap_or (v1_bytes e.peer.addr) [] ++ to_be_bytes w16 e.peer.port
+addr_entry_text e =
+    to_le_bytes w32 e.time ++ to_le_bytes w64 e.services ++ unwrap_or (v1_bytes e.peer.addr) []
+    ++ to_be_bytes w16 e.peer.port
 
 -- the number of a network in BIP 155; an internal name has none, and is written as IPv6
 -- (`CNetAddr::SerializeV2Stream`)
@@ -37,11 +39,15 @@ prefix_of Cjdns = []
 
 -- the network, the length and the bytes of an address
 unfoldable pub address_text : Address → List ℕ
-address_text a = (id_of a.net ∷ []) ++ compact_size (length (prefix_of a.net ++ a.bytes)) ++ prefix_of a.net ++ a.bytes
+address_text a =
+    (id_of a.net ∷ []) ++ compact_size (length (prefix_of a.net ++ a.bytes)) ++ prefix_of a.net
+    ++ a.bytes
 
 -- an entry of `addrv2`
 unfoldable pub addrv2_entry_text : Entry → List ℕ
-addrv2_entry_text e = to_le_bytes w32 e.time ++ compact_size e.services ++ address_text e.peer.addr ++ to_be_bytes w16 e.peer.port
+addrv2_entry_text e =
+    to_le_bytes w32 e.time ++ compact_size e.services ++ address_text e.peer.addr
+    ++ to_be_bytes w16 e.peer.port
 
 -- the number of entries, and the entries one after another
 abbrev pub message_text : (Entry → List ℕ) → List Entry → List ℕ

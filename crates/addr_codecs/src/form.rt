@@ -9,9 +9,9 @@ use crate::memory::Memory;
 use crate::writing::{put_addr_entry, put_addrv2_entry};
 use net_addr::Entry;
 
-/// The two forms of a message.
+/// The two messages that announce addresses.
 #[derive(Clone, Copy, Debug, PartialEq, Eq)]
-pub(crate) enum Form {
+pub enum Form {
     /// `addr`, with addresses of sixteen bytes.
     Addr,
     /// `addrv2`, with addresses of every network (BIP 155).

@@ -2,7 +2,7 @@ ghost use Rattle.std.specs.Prelude.{◌≡◌, ◌≢◌, ◌≤◌, List, Optio
 ghost use Rattle.net_addr.specs.declared.entry.Entry.{Entry};
 ghost use Rattle.wire_num.specs.Readings.{times_at, all_of};
 ghost use Rattle.addr_codecs.specs.Faults.{UnlessMemory};
-ghost use Rattle.addr_codecs.specs.Layout.{IsAddrMessage, IsAddrv2Message, HasAddrFault, HasAddrv2Fault};
+ghost use Rattle.addr_codecs.specs.Layout.{IsAddrMessage, IsAddrv2Message, IsMessage, HasAddrFault, HasAddrv2Fault, HasMessageFault};
 ghost use Rattle.addr_codecs.specs.Inside.{GivesUnlessMemory, entry_at, message_at};
 ghost use Rattle.addr_codecs.specs.declared.fault.MsgFault.{MsgFault};
 ghost use Rattle.addr_codecs.specs.declared.fault.MsgFault.TheVariants.{Memory, Trailing};
@@ -43,7 +43,7 @@ fn take_entries(
 
 /// Returns the entries of a message of this form: the count, the entries, and nothing after them.
 #[tactic(auto, unfolding(crate::specs::Inside::message_at))]
-fn read_message(alloc: Global, form: Form, bytes: &[u8]) -> Result<Entries, MsgFault>
+fn read_whole(alloc: Global, form: Form, bytes: &[u8]) -> Result<Entries, MsgFault>
     ensures found { GivesUnlessMemory (λ x. x) result
         (all_of (message_at (entry_at form)) Trailing bytes.now) }
     ensures few { IfOk result (λ entries. length entries ≤ 1000) }
@@ -73,7 +73,7 @@ pub fn read_addr(alloc: Global, bytes: &[u8]) -> Result<Entries, MsgFault>
     ensures first { (fault : MsgFault) → HasAddrFault bytes.now fault →
         UnlessMemory result (Err fault) }
 {
-    read_message(alloc, Form::Addr, bytes)
+    read_whole(alloc, Form::Addr, bytes)
 }
 
 /// Reads an `addrv2` message (BIP 155): the number of entries, at most 1000, and for each entry the
@@ -92,5 +92,18 @@ pub fn read_addrv2(alloc: Global, bytes: &[u8]) -> Result<Entries, MsgFault>
     ensures first { (fault : MsgFault) → HasAddrv2Fault bytes.now fault →
         UnlessMemory result (Err fault) }
 {
-    read_message(alloc, Form::Addrv2, bytes)
+    read_whole(alloc, Form::Addrv2, bytes)
+}
+
+/// Reads the message of a form, as `read_addr` or `read_addrv2` does.
+pub fn read_message(alloc: Global, form: Form, bytes: &[u8]) -> Result<Entries, MsgFault>
+    ensures found { IfOk result (λ entries. IsMessage form bytes.now entries) }
+    ensures few { IfOk result (λ entries. length entries ≤ 1000) }
+    ensures cause { IfErr result (λ fault. fault ≢ Memory
+        → HasMessageFault form bytes.now fault) }
+{
+    match form {
+        Form::Addr => read_addr(alloc, bytes),
+        Form::Addrv2 => read_addrv2(alloc, bytes),
+    }
 }

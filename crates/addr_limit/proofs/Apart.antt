@@ -1,4 +1,4 @@
--- Outputs that depend on a part of the state alone.
+-- Outputs that depend only on a part of the state.
 use Rattle.std.proofs.Common.{cond, ◌≡◌, List, [], ◌∷◌, ◌++◌, Bool, true, false, filter, refl, sym, ◌∙◌, ap, subst}
 use Rattle.std.specs.List.{last_or}
 use Rattle.std.proofs.Common.{length, suc, Option, Some, None}
@@ -65,7 +65,7 @@ last_output step start about depends before line after outs end run h =
       last_or-push None own.0 one.0,
     )
 
--- A part of the state that other lines leave, and from which alone these lines are answered.
+-- A part of the state that other lines leave, and that is all that these lines are answered from.
 module _ {S L O P : Type 0} (step : Steps S L O) (part : S → P) (about : L → Bool)
     (leaves : (s : S) (line : L) (out : O) (t : S) → step s line out t → about line ≡ false → part t ≡ part s)
     (answers : (s : S) (line : L) (out : O) (t u : S) → step s line out t → about line ≡ true → part u ≡ part s →
@@ -73,7 +73,7 @@ module _ {S L O P : Type 0} (step : Steps S L O) (part : S → P) (about : L →
   abbrev Alike : S → List L → S → Type 0
   Alike u lines t = (outs : List O) × (v : S) × Outputs step u lines outs v × (part v ≡ part t)
 
-  -- from a state with the same part, these lines alone lead to a state with the same part
+  -- from a state with the same part, these lines lead, without the others, to one with that part
   alike : (lines : List L) (outs : List O) (s t u : S) → Outputs step s lines outs t → part u ≡ part s → Alike u (filter about lines) t
   alike [] outs s t u run same = ([], u, (refl, refl), same ∙ ap part (sym run.1))
   alike (line ∷ lines) outs s t u run same = by (about line) refl (λ v h. alike lines run.1 run.2 t v run.5 h)

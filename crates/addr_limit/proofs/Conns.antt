@@ -1,4 +1,4 @@
--- What stands at a number after a change at one.
+-- What is at a number after a change at one.
 use Rattle.std.proofs.Common.{◌≡◌, ◌≢◌, ℕ, List, [], ◌∷◌, Option, Some, None, IfSome, if◌then◌else◌, ◌==◌, Bool, true, false, refl, ◌∙◌, subst, arith}
 use Rattle.std.proofs.lemmas.Bool.{eqb-true}
 use Rattle.std.proofs.lemmas.Bool.Decides.{nat_tests}
@@ -33,7 +33,7 @@ pub find_other-without_conn : (number other : ℕ) (conns : List Conn) → numbe
 find_other-without_conn number other [] differ = refl
 find_other-without_conn number other (c ∷ conns) differ = grind (arith, nat_tests, find_other-without_conn number other conns differ)
 
--- what was set stands there
+-- what was set is there
 pub find-set_conn : (number : ℕ) (o : Option Conn) (conns : List Conn) → HasNumber number o → find_conn number (set_conn number o conns) ≡ o
 find-set_conn number None conns h = find-without_conn number conns
 find-set_conn number (Some c) conns h = subst (λ n. find_conn n (with_conn c conns) ≡ Some c) h (find-with_conn c conns)

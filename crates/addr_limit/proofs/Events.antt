@@ -39,7 +39,8 @@ apart number start = last_output EventStep start (λ p. concerns number p.1) (de
     (after u p.1, (step.0 ∙ sym both.0, refl), both.1 ∙ ap (part_of number) (sym step.1)))
     start)
 
--- output line i for events is the last one for the number's own events and the times among the first i
+-- output line i for events is the last one for the number's own events and the times among the
+-- first i
 pub events_apart : (number : ℕ) (start : State) (before : List Line) (p : Line) (more : List Line) → concerns number p.1 ≡ true →
     (front : List (List ℕ)) × (out : List ℕ) × (back : List (List ℕ)) × (outputs start (before ++ p ∷ more) ≡ front ++ out ∷ back)
     × (length front ≡ length before) × (last_or None (outputs start (filter (λ q. concerns number q.1) (before ++ p ∷ []))) ≡ Some out)

@@ -1,4 +1,4 @@
--- Which lines are about a number, and that a number's outputs depend on these lines alone.
+-- Which lines are about a number, and that a number's outputs depend only on these lines.
 use Rattle.std.proofs.Common.{◌≡◌, ◌≢◌, ℕ, ◌<◌, ◌^◌, List, [], ◌∷◌, ◌++◌, ◌==◌, Bool, true, false, codes, decimal, bytes_eq, refl, sym, ◌∙◌, ap, subst, arith}
 use Rattle.std.proofs.lemmas.Bool.{eqb-true, eqb-false}
 use Rattle.std.proofs.lemmas.Fmt.{decimal_injective}
@@ -85,6 +85,6 @@ limits_apart number low start = depends_on LimitStep (part_of number) (is_about 
     (after u step.0, (step.0, step.1, step.2 ∙ ap (λ text. text ++ 10 ∷ []) (sym both.0), refl), both.1 ∙ ap (part_of number) (sym step.3)))
     start
 
--- what a line of a connection gives is what the times and the lines of this connection alone give
+-- what a line of a connection gives is what only the times and the lines of this connection give
 pub limits_apart_by_line : (number : ℕ) → number < 2 ^ 64 → (start : State) → IsLastOutput LimitStep start (is_about number)
 limits_apart_by_line number low start = last_output LimitStep start (is_about number) (limits_apart number low start)

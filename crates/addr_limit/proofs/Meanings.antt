@@ -2,21 +2,23 @@
 use Rattle.std.proofs.Common.{◌≡◌, ◌≢◌, ◌⊎◌, ℕ, Bool, List, [], ◌∷◌, codes, get_or, refl, sym, ap, subst, ◌∙◌, arith, inl, inr}
 use Rattle.std.specs.Prelude.{◌==◌, if◌then◌else◌}
 use Rattle.net_addr.specs.Address.{Address}
-use Rattle.log_lines.specs.Fields.{Kind, Hex, Random, Value, TheNumber, TheAddr, TheBytes, TheWords, TheChoice, fields_of, Means, IsDefinite, AllMean, IsFirstFault, AreAtFault}
+use Rattle.log_lines.specs.Fields.{Hex, Random, Value, TheNumber, TheAddr, TheBytes, TheWords, TheChoice, fields_of, Means, AllMean, AreAtFault}
 use Rattle.log_lines.specs.Spelling.{u32_field}
 use Rattle.log_lines.specs.declared.fault.LineFault.{LineFault}
 use Rattle.log_lines.specs.declared.fault.LineFault.TheVariants as fault
-use Rattle.log_lines.proofs.Readings.{one_value}
-use Rattle.log_lines.proofs.FaultLemmas.{no_fault, same_heads, same_tails}
+use Rattle.log_lines.proofs.Readings.{AreDefinite, one_list}
+use Rattle.log_lines.proofs.FaultLemmas.{no_fault, same_fault, same_heads, same_tails}
 use Rattle.addr_limit.specs.declared.verb.Verb.{Verb}
 use Rattle.addr_limit.specs.declared.verb.Verb.TheVariants as v
 use Rattle.addr_limit.specs.declared.event.Event.{Event}
 use Rattle.addr_limit.specs.declared.event.Event.TheVariants.{Now, Of, Nothing}
 use Rattle.addr_limit.specs.declared.request.Request.{Request}
 use Rattle.addr_limit.specs.declared.request.Request.TheVariants.{Open, Close, Message}
+use Rattle.addr_codecs.specs.declared.form.Form.{Form}
+use Rattle.addr_codecs.specs.declared.form.Form.TheVariants.{Addr, Addrv2}
 use Rattle.wire_num.proofs.ReadingLaws.{AreBytes}
-use Rattle.addr_limit.specs.Lines.{word_of, kinds_of, IsRead, IsRead2, Asks, SaysAfter, Says, IsOther, HasFault}
-use Rattle.addr_limit.proofs.Payloads.{hex_is_bytes, one_reading, one_reading2}
+use Rattle.addr_limit.specs.Lines.{word_of, kinds_of, IsRead, AsksMessage, Asks, SaysAfter, Says, IsOther, HasFault}
+use Rattle.addr_limit.proofs.Payloads.{hex_is_bytes, one_reading}
 
 -- ---- the verb of a word, by its first and its fifth letter
 
@@ -53,24 +55,6 @@ not_now v.From2 e = omega (arith, ap (λ t. get_or t 0 0) e)
 not_now v.Stat e = omega (arith, ap (λ t. get_or t 0 0) e)
 
 -- ---- the values of fields
-
-AreDefinite : List Kind → Type 0
-AreDefinite [] = Unit {0}
-AreDefinite (kind ∷ kinds) = IsDefinite kind × AreDefinite kinds
-
-one_list : (kinds : List Kind) (texts : List (List ℕ)) (xs ys : List Value) → AreDefinite kinds → AllMean kinds texts xs → AllMean kinds texts ys → xs ≡ ys
-unfolding AreDefinite
-one_list [] [] [] [] definite h k = refl
-one_list (kind ∷ kinds) (text ∷ texts) (x ∷ xs) (y ∷ ys) definite h k =
-    let heads = one_value kind text x y definite.0 h.0 k.0 in
-    let tails = one_list kinds texts xs ys definite.1 h.1 k.1 in
-    λ i. heads i ∷ tails i
-one_list [] [] (x ∷ xs) ys definite h k = absurd h
-one_list [] [] [] (y ∷ ys) definite h k = absurd k
-one_list [] (text ∷ texts) xs ys definite h k = absurd h
-one_list (kind ∷ kinds) [] xs ys definite h k = absurd h
-one_list (kind ∷ kinds) (text ∷ texts) [] ys definite h k = absurd h
-one_list (kind ∷ kinds) (text ∷ texts) (x ∷ xs) [] definite h k = absurd k
 
 now_definite : AreDefinite (u32_field ∷ [])
 unfolding AreDefinite
@@ -144,22 +128,23 @@ bytes_of texts number values payload words means is = by texts (subst (λ vs. Al
     by (a ∷ []) m = absurd m.1
     by (a ∷ b ∷ ts) m = of_hex b m.1.0
 
+-- the same message after the same fields
+one_message : (form : Form) (texts : List (List ℕ)) (number : ℕ) (values : List Value) (a b : Request) → AllMean (u32_field ∷ Hex ∷ Random ∷ []) texts (TheNumber number ∷ values) →
+    AsksMessage form values a → AsksMessage form values b → a ≡ b
+one_message form texts number values a b means h k =
+    let payloads = same_payloads h.0 k.0 h.1 k.1 values h.3 k.3 in
+    let reads = one_reading form h.0 (bytes_of texts number values h.0 h.1 means h.3) h.2 k.2 h.4 (subst (λ p. IsRead form p k.2) (sym payloads) k.4) in
+    let words = same_words h.0 k.0 h.1 k.1 values h.3 k.3 in
+    h.5 ∙ (λ i. Message (reads i) (words i)) ∙ sym k.5
+
 one_request : (verb : Verb) (texts : List (List ℕ)) (number : ℕ) (values : List Value) (a b : Request) → AllMean (u32_field ∷ kinds_of verb) texts (TheNumber number ∷ values) →
     Asks verb values a → Asks verb values b → a ≡ b
 one_request v.Open texts number values a b means h k = h.3 ∙ same_opens h.0 k.0 h.1 k.1 values h.2 k.2 ∙ sym k.3
 one_request v.Close texts number values a b means h k = h.1 ∙ sym k.1
 one_request v.GetAddr texts number values a b means h k = h.1 ∙ sym k.1
 one_request v.Stat texts number values a b means h k = h.1 ∙ sym k.1
-one_request v.From texts number values a b means h k =
-    let payloads = same_payloads h.0 k.0 h.1 k.1 values h.3 k.3 in
-    let reads = one_reading h.0 (bytes_of texts number values h.0 h.1 means h.3) h.2 k.2 h.4 (subst (λ p. IsRead p k.2) (sym payloads) k.4) in
-    let words = same_words h.0 k.0 h.1 k.1 values h.3 k.3 in
-    h.5 ∙ (λ i. Message (reads i) (words i)) ∙ sym k.5
-one_request v.From2 texts number values a b means h k =
-    let payloads = same_payloads h.0 k.0 h.1 k.1 values h.3 k.3 in
-    let reads = one_reading2 h.0 (bytes_of texts number values h.0 h.1 means h.3) h.2 k.2 h.4 (subst (λ p. IsRead2 p k.2) (sym payloads) k.4) in
-    let words = same_words h.0 k.0 h.1 k.1 values h.3 k.3 in
-    h.5 ∙ (λ i. Message (reads i) (words i)) ∙ sym k.5
+one_request v.From texts number values a b means h k = one_message Addr texts number values a b means h k
+one_request v.From2 texts number values a b means h k = one_message Addrv2 texts number values a b means h k
 
 -- the same request after the same fields
 same_request : (verb : Verb) (texts : List (List ℕ)) (m n : ℕ) (a b : Request) → SaysAfter verb texts m a → SaysAfter verb texts n b → Of m a ≡ Of n b
@@ -192,20 +177,6 @@ one_event line Nothing (Of n b) h k = absurd ((other_of line (word_of k.0) k.1 k
 one_event line Nothing Nothing h k = refl
 
 -- ---- faults
-
-same_first : (kinds : List Kind) (texts : List (List ℕ)) (f g : LineFault) → IsFirstFault kinds texts f → IsFirstFault kinds texts g → f ≡ g
-same_first [] texts f g h k = absurd h
-same_first (kind ∷ kinds) [] f g h k = absurd h
-same_first (kind ∷ kinds) (text ∷ texts) f g (inl h) (inl k) = h.1 ∙ sym k.1
-same_first (kind ∷ kinds) (text ∷ texts) f g (inl h) (inr k) = absurd (h.0 k.0)
-same_first (kind ∷ kinds) (text ∷ texts) f g (inr h) (inl k) = absurd (k.0 h.0)
-same_first (kind ∷ kinds) (text ∷ texts) f g (inr h) (inr k) = same_first kinds texts f g h.1 k.1
-
-same_fault : (kinds : List Kind) (texts : List (List ℕ)) (f g : LineFault) → AreAtFault kinds texts f → AreAtFault kinds texts g → f ≡ g
-same_fault kinds texts f g (inl h) (inl k) = h.1 ∙ sym k.1
-same_fault kinds texts f g (inl h) (inr k) = absurd (h.0 k.0)
-same_fault kinds texts f g (inr h) (inl k) = absurd (k.0 h.0)
-same_fault kinds texts f g (inr h) (inr k) = same_first kinds texts f g h.1 k.1
 
 -- a fault after `now`
 fault_of_now : (line : List ℕ) (texts : List (List ℕ)) (f : LineFault) → fields_of line ≡ codes "now" ∷ texts → HasFault line f → AreAtFault (u32_field ∷ []) texts f

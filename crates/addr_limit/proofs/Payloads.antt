@@ -5,15 +5,16 @@ use Rattle.hex.specs.Hex.{decode_pairs, pair_value, value_at, digit_or_error, he
 use Rattle.hex.specs.declared.error.FromHexError.{FromHexError}
 use Rattle.hex.specs.declared.error.FromHexError.TheVariants.{OddLength}
 use Rattle.net_addr.specs.declared.entry.Entry.{Entry}
-use Rattle.wire_num.specs.Format.{HasOneMeaning}
 use Rattle.wire_num.proofs.ReadingLaws.{AreBytes, one_meaning}
-use Rattle.addr_codecs.specs.Layout.{message, addr_entry, addrv2_entry}
+use Rattle.addr_codecs.specs.Layout.{message, addr_entry, addrv2_entry, IsMessage, HasMessageFault}
+use Rattle.addr_codecs.specs.declared.form.Form.{Form}
+use Rattle.addr_codecs.specs.declared.form.Form.TheVariants.{Addr, Addrv2}
 use Rattle.addr_codecs.specs.Inside.{message_at, addr_entry_at, addrv2_entry_at}
 use Rattle.addr_codecs.specs.declared.fault.MsgFault.{MsgFault}
 use Rattle.addr_codecs.specs.declared.fault.MsgFault.TheVariants.{Trailing}
 use Rattle.addr_codecs.proofs.MessageLaws.{Reads-message, Reads-addr_entry, Reads-addrv2_entry}
 use Rattle.log_lines.specs.Fields.{IsHex}
-use Rattle.addr_limit.specs.Lines.{IsRead, IsRead2}
+use Rattle.addr_limit.specs.Lines.{IsRead}
 
 -- ---- decoded bytes are bytes
 
@@ -67,26 +68,20 @@ hex_is_bytes text bytes (inr some) = by (length text % 2 == 1) some.1
 
 -- ---- a payload has one reading
 
-pub one_reading : (payload : List ℕ) → AreBytes payload → (a b : Result (List (Option Entry)) MsgFault) → IsRead payload a → IsRead payload b → a ≡ b
-one_reading payload bytes a b h k = by a b h k
-  where
-    meaning : HasOneMeaning (message addr_entry) Trailing payload
-    meaning = one_meaning (message addr_entry) Trailing (message_at addr_entry_at) payload (Reads-message addr_entry addr_entry_at Reads-addr_entry) bytes
+one_by : (form : Form) (payload : List ℕ)
+    → ((x y : List (Option Entry)) → IsMessage form payload x → IsMessage form payload y → x ≡ y)
+    → ((f g : MsgFault) → HasMessageFault form payload f → HasMessageFault form payload g → f ≡ g)
+    → ((x : List (Option Entry)) (f : MsgFault) → IsMessage form payload x → HasMessageFault form payload f → ⊥)
+    → (a b : Result (List (Option Entry)) MsgFault) → IsRead form payload a → IsRead form payload b → a ≡ b
+one_by form payload value fault both (Ok x) (Ok y) h k = ap Ok (value x y h k)
+one_by form payload value fault both (Ok x) (Err g) h k = absurd (both x g h k)
+one_by form payload value fault both (Err f) (Ok y) h k = absurd (both y f k h)
+one_by form payload value fault both (Err f) (Err g) h k = ap Err (fault f g h k)
 
-    by : (a b : Result (List (Option Entry)) MsgFault) → IsRead payload a → IsRead payload b → a ≡ b
-    by (Ok x) (Ok y) h k = ap Ok (meaning.one_value x y h k)
-    by (Ok x) (Err g) h k = absurd (meaning.never_both x g h k)
-    by (Err f) (Ok y) h k = absurd (meaning.never_both y f k h)
-    by (Err f) (Err g) h k = ap Err (meaning.one_fault f g h k)
-
-pub one_reading2 : (payload : List ℕ) → AreBytes payload → (a b : Result (List (Option Entry)) MsgFault) → IsRead2 payload a → IsRead2 payload b → a ≡ b
-one_reading2 payload bytes a b h k = by a b h k
-  where
-    meaning : HasOneMeaning (message addrv2_entry) Trailing payload
-    meaning = one_meaning (message addrv2_entry) Trailing (message_at addrv2_entry_at) payload (Reads-message addrv2_entry addrv2_entry_at Reads-addrv2_entry) bytes
-
-    by : (a b : Result (List (Option Entry)) MsgFault) → IsRead2 payload a → IsRead2 payload b → a ≡ b
-    by (Ok x) (Ok y) h k = ap Ok (meaning.one_value x y h k)
-    by (Ok x) (Err g) h k = absurd (meaning.never_both x g h k)
-    by (Err f) (Ok y) h k = absurd (meaning.never_both y f k h)
-    by (Err f) (Err g) h k = ap Err (meaning.one_fault f g h k)
+pub one_reading : (form : Form) (payload : List ℕ) → AreBytes payload → (a b : Result (List (Option Entry)) MsgFault) → IsRead form payload a → IsRead form payload b → a ≡ b
+one_reading Addr payload bytes =
+    let meaning = one_meaning (message addr_entry) Trailing (message_at addr_entry_at) payload (Reads-message addr_entry addr_entry_at Reads-addr_entry) bytes in
+    one_by Addr payload meaning.one_value meaning.one_fault meaning.never_both
+one_reading Addrv2 payload bytes =
+    let meaning = one_meaning (message addrv2_entry) Trailing (message_at addrv2_entry_at) payload (Reads-message addrv2_entry addrv2_entry_at Reads-addrv2_entry) bytes in
+    one_by Addrv2 payload meaning.one_value meaning.one_fault meaning.never_both

@@ -59,7 +59,8 @@ for_output p = option_map (λ entry. (entry, p.1)) (unless_hidden p.0)
 -- the line of a log that adds entries, which come from the address, with their words
 abbrev pub addrv2_line : Address → List Entry → List ℕ → List ℕ
 addrv2_line addr entries words =
-    codes "addrv2 " ++ addr_text addr ++ codes " " ++ encode_lower (message_text addrv2_entry_text entries) ++ codes " " ++ numbers_text words
+    codes "addrv2 " ++ addr_text addr ++ codes " "
+    ++ encode_lower (message_text addrv2_entry_text entries) ++ codes " " ++ numbers_text words
 
 -- the line for these entries and their words, which says so if there are none
 abbrev pub message_line : Conn → List (Entry × ℕ) → List ℕ
@@ -68,32 +69,44 @@ message_line c (p ∷ ps) = addrv2_line c.addr (map (λ q. q.0) (p ∷ ps)) (map
 
 -- a message whose entries are paired with their words
 abbrev pub take_entries : Conn → List (Option Entry × ℕ) → Outcome
-take_entries c pairs = outcome (message_line c (filter_map for_output (intake c pairs))) (Some (after_entries c pairs))
+take_entries c pairs =
+    outcome (message_line c (filter_map for_output (intake c pairs))) (Some (after_entries c pairs))
 
 abbrev pub take_message : ℕ → Conn → Result (List (Option Entry)) MsgFault → List ℕ → Outcome
-take_message now c (Err fault) words = outcome (comment (codes "from") c.number (codes " refused " ++ fault_text fault)) (Some c)
+take_message now c (Err fault) words =
+    outcome (comment (codes "from") c.number (codes " refused " ++ fault_text fault)) (Some c)
 take_message now c (Ok entries) words =
     if nat_lt (length words) (length entries)
-    then outcome (comment (codes "from") c.number (codes " short " ++ decimal (length entries) ++ codes " " ++ decimal (length words))) (Some c)
+    then outcome
+    (comment (codes "from") c.number
+    (codes " short " ++ decimal (length entries) ++ codes " " ++ decimal (length words)))
+    (Some c)
     else take_entries (refill now c) (zip entries words)
 
 abbrev pub stat_text : Conn → List ℕ
-stat_text c = codes " processed " ++ decimal c.processed ++ codes " limited " ++ decimal c.limited ++ codes " tenths " ++ decimal c.tenths
+stat_text c =
+    codes " processed " ++ decimal c.processed ++ codes " limited " ++ decimal c.limited
+    ++ codes " tenths " ++ decimal c.tenths
 
 -- a request about a number that has a connection
 abbrev pub serve_conn : ℕ → Conn → Request → Outcome
-serve_conn now c (Open addr unlimited) = outcome (comment (codes "open") c.number (codes " already")) (Some c)
+serve_conn now c (Open addr unlimited) =
+    outcome (comment (codes "open") c.number (codes " already")) (Some c)
 serve_conn now c Close = outcome (comment (codes "close") c.number []) None
-serve_conn now c GetAddr = outcome (comment (codes "getaddr") c.number (if c.asked then codes " already" else [])) (Some (after_getaddr c))
+serve_conn now c GetAddr =
+    outcome (comment (codes "getaddr") c.number (if c.asked then codes " already" else []))
+    (Some (after_getaddr c))
 serve_conn now c (Message read words) = take_message now c read words
 serve_conn now c Stat = outcome (comment (codes "stat") c.number (stat_text c)) (Some c)
 
 -- a request about a number that has none
 abbrev pub serve_none : ℕ → ℕ → Request → Outcome
-serve_none now number (Open addr unlimited) = outcome (comment (codes "open") number []) (Some (new_conn number addr unlimited now))
+serve_none now number (Open addr unlimited) =
+    outcome (comment (codes "open") number []) (Some (new_conn number addr unlimited now))
 serve_none now number Close = outcome (comment (codes "close") number (codes " unknown")) None
 serve_none now number GetAddr = outcome (comment (codes "getaddr") number (codes " unknown")) None
-serve_none now number (Message read words) = outcome (comment (codes "from") number (codes " unknown")) None
+serve_none now number (Message read words) =
+    outcome (comment (codes "from") number (codes " unknown")) None
 serve_none now number Stat = outcome (comment (codes "stat") number (codes " unknown")) None
 
 -- the answer to a request, by what is found at its number
@@ -107,7 +120,8 @@ serve_in st number request = serve st.clock number (find_conn number st.conns) r
 -- the state after a line
 abbrev pub after : State → Event → State
 after st (Now time) = record st { clock = time }
-after st (Of number request) = record st { conns = set_conn number (serve_in st number request).conn st.conns }
+after st (Of number request) =
+    record st { conns = set_conn number (serve_in st number request).conn st.conns }
 after st Nothing = st
 
 -- the output line: the line itself, unless it is a request

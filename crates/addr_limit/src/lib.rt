@@ -4,7 +4,6 @@
 mod asked;
 mod conn;
 mod event;
-mod fields;
 mod law;
 mod limit_log;
 mod limiter;

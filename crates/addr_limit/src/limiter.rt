@@ -70,7 +70,8 @@ impl Limiter {
         now: u32,
     ) -> Result<bool, Memory>
         ensures answer { IfOk result (λ b. b ≡ is_none (find_conn number self.old)) }
-        ensures conns { OnOk result (self.new ≡ after_open (new_conn number addr unlimited now) self.old) }
+        ensures conns { OnOk result (self.new
+            ≡ after_open (new_conn number addr unlimited now) self.old) }
         ensures err { OnErr result (self.new ≡ self.old) }
     {
         if find_in(&self.conns, number).is_some() {
@@ -126,7 +127,8 @@ impl Limiter {
     /// number has no connection.
     pub fn admit(&mut self, number: u32, count: u32, now: u32) -> Option<u32>
         requires { count ≤ 1000 }
-        ensures answer { result ≡ option_map (λ c. intake_count (refill now c) count) (find_conn number self.old) }
+        ensures answer { result ≡ option_map (λ c. intake_count (refill now c) count)
+            (find_conn number self.old) }
         ensures conns { self.new ≡ after_taking now count (find_conn number self.old) self.old }
         ensures entries { (entries : List (Option Entry)) → length entries ≡ count →
             self.new ≡ after_message now entries (find_conn number self.old) self.old }
@@ -213,7 +215,8 @@ fn find_in(conns: &BTreeMap<u32, Conn>, number: u32) -> Option<&Conn>
 fn put_in(conns: &mut BTreeMap<u32, Conn>, conn: Conn) -> Result<(), Memory>
     requires entries { AreKept conns.old.entries }
     requires conn { IsConn conn }
-    ensures put { OnOk result (conns_of conns.new.entries ≡ with_conn conn (conns_of conns.old.entries)) }
+    ensures put { OnOk result (conns_of conns.new.entries
+        ≡ with_conn conn (conns_of conns.old.entries)) }
     ensures full { OnErr result (find_conn conn.number (conns_of conns.old.entries) ≡ None) }
     ensures err { OnErr result (conns.new.entries ≡ conns.old.entries) }
     ensures entries { AreKept conns.new.entries }

@@ -8,11 +8,14 @@ ghost use Rattle.addr_limit.specs.Inside.{IsShort, IsShortEvent};
 ghost use Rattle.addr_limit.specs.declared.event.Event.{Event};
 ghost use Rattle.addr_limit.specs.declared.verb.Verb.{Verb};
 
-use crate::fields::{no_fields, one_field, three_fields};
-use crate::payload::{read_bytes, read_from, read_from2, read_random};
+use crate::payload::read_entries;
 use crate::{Event, Request, Verb};
+use addr_codecs::Form;
 use host_io::Bytes;
-use log_lines::{LineFault, MAX_LINE, Words, cut_field, read_addr, read_either, read_u32};
+use log_lines::{
+    LineFault, MAX_LINE, Words, cut_field, one_field, read_addr, read_either, read_payload,
+    read_random, read_u32, three_fields,
+};
 use net_addr::NetAddr;
 use std::alloc::Global;
 
@@ -80,12 +83,12 @@ fn read_request(alloc: Global, verb: Verb, rest: Option<&[u8]>) -> Result<(u32, 
         }
         Verb::From => {
             let (number, payload, words) = message_fields(alloc, rest)?;
-            let read = read_from(alloc, payload.items())?;
+            let read = read_entries(alloc, Form::Addr, payload.items())?;
             Ok((number, Request::Message { read, words }))
         }
         Verb::From2 => {
             let (number, payload, words) = message_fields(alloc, rest)?;
-            let read = read_from2(alloc, payload.items())?;
+            let read = read_entries(alloc, Form::Addrv2, payload.items())?;
             Ok((number, Request::Message { read, words }))
         }
         Verb::Stat => {
@@ -133,7 +136,7 @@ fn message_fields(alloc: Global, rest: Option<&[u8]>) -> Result<(u32, Bytes, Wor
 {
     let (number, payload, words) = three_fields(rest).ok_or(LineFault::Fields)?;
     let number = read_u32(number, 0, u32::MAX)?;
-    let payload = read_bytes(alloc, payload)?;
+    let payload = read_payload(alloc, payload)?;
     let words = read_random(alloc, words)?;
     Ok((number, payload, words))
 }

@@ -10,12 +10,13 @@ use Rattle.net_addr.specs.declared.peer.Peer.{Peer}
 use Rattle.addrman_run.specs.Inside.{IsProperRequest}
 use Rattle.addrman_run.specs.Request.{Asks}
 use Rattle.addrman_run.specs.declared.request.Request.{Request}
-use Rattle.addrman_run.specs.declared.request.Request.TheVariants.{Replay, Compile, Check, Decompile, Limit, Lookup, Show, Ban, Unban, Banned, Gen, Trial}
+use Rattle.addrman_run.specs.declared.request.Request.TheVariants.{Replay, Opener, Compile, Check, Decompile, Limit, Lookup, Show, Ban, Unban, Banned, Gen, Trial}
 
 -- THE SUBNET IS PROPER
 
 proper : ((text : List ℕ) (s : Subnet) → IsSubnetText text s → IsProper s) → (words : List (List ℕ)) (request : Request) → Asks words request → IsProperRequest request
 proper law words (Replay key chain) asks = tt
+proper law words (Opener key chain) asks = tt
 proper law words Compile asks = tt
 proper law words Check asks = tt
 proper law words Decompile asks = tt
@@ -47,6 +48,7 @@ pub record AsksBan (a b d : List ℕ) (request : Request) : Type 0 where
 
 pub asks_ban : (words : List (List ℕ)) (a b d : List ℕ) → words ≡ a ∷ b ∷ d ∷ [] → (request : Request) → Asks (codes "ban" ∷ words) request → AsksBan a b d request
 asks_ban words a b d three (Replay key chain) asks = absurd (omega (arith, ap (λ ws. get_or (get_or ws 0 []) 0 0) asks.2))
+asks_ban words a b d three (Opener key chain) asks = absurd (omega (arith, ap (λ ws. get_or (get_or ws 0 []) 0 0) asks.2))
 asks_ban words a b d three Compile asks = absurd (omega (arith, ap (λ ws. get_or (get_or ws 0 []) 0 0) asks))
 asks_ban words a b d three Check asks = absurd (omega (arith, ap (λ ws. get_or (get_or ws 0 []) 0 0) asks))
 asks_ban words a b d three Decompile asks = absurd (omega (arith, ap (λ ws. get_or (get_or ws 0 []) 0 0) asks))
@@ -79,6 +81,7 @@ made_ban a b d request is subnet now until s n u =
 
 pub asks_unban : (words : List (List ℕ)) (a : List ℕ) → words ≡ a ∷ [] → (request : Request) → Asks (codes "unban" ∷ words) request → (subnet : Subnet) × IsSubnetText a subnet × (request ≡ Unban subnet)
 asks_unban words a one (Replay key chain) asks = absurd (omega (arith, ap (λ ws. get_or (get_or ws 0 []) 0 0) asks.2))
+asks_unban words a one (Opener key chain) asks = absurd (omega (arith, ap (λ ws. get_or (get_or ws 0 []) 0 0) asks.2))
 asks_unban words a one Compile asks = absurd (omega (arith, ap (λ ws. get_or (get_or ws 0 []) 0 0) asks))
 asks_unban words a one Check asks = absurd (omega (arith, ap (λ ws. get_or (get_or ws 0 []) 0 0) asks))
 asks_unban words a one Decompile asks = absurd (omega (arith, ap (λ ws. get_or (get_or ws 0 []) 0 0) asks))
@@ -102,6 +105,7 @@ pub record AsksBanned (a b : List ℕ) (request : Request) : Type 0 where
 
 pub asks_banned : (words : List (List ℕ)) (a b : List ℕ) → words ≡ a ∷ b ∷ [] → (request : Request) → Asks (codes "banned" ∷ words) request → AsksBanned a b request
 asks_banned words a b two (Replay key chain) asks = absurd (omega (arith, ap (λ ws. get_or (get_or ws 0 []) 0 0) asks.2))
+asks_banned words a b two (Opener key chain) asks = absurd (omega (arith, ap (λ ws. get_or (get_or ws 0 []) 0 0) asks.2))
 asks_banned words a b two Compile asks = absurd (omega (arith, ap (λ ws. get_or (get_or ws 0 []) 0 0) asks))
 asks_banned words a b two Check asks = absurd (omega (arith, ap (λ ws. get_or (get_or ws 0 []) 0 0) asks))
 asks_banned words a b two Decompile asks = absurd (omega (arith, ap (λ ws. get_or (get_or ws 0 []) 0 0) asks))

@@ -1,6 +1,6 @@
 -- How a replay opens its tables.
 use Rattle.std.proofs.Common.{◌≡◌, ℕ, ◌+◌, ◌≤◌, List, [], ◌∷◌, length, Bool, true, false, refl, sym, ◌∙◌, subst, arith, inl, inr}
-use Rattle.std.specs.Prelude.{Option, Some, None, MatchOption, if◌then◌else◌, not, ◌||◌, is_some}
+use Rattle.std.specs.Prelude.{Option, Some, None, Result, Ok, Err, IfOk, IfErr, MatchOption, if◌then◌else◌, not, ◌||◌, is_some}
 use Rattle.std.specs.List.{range_with_len}
 use Rattle.host_io.specs.Past.{Past}
 use Rattle.host_io.specs.declared.name.Name.TheVariants as name
@@ -13,19 +13,22 @@ use Rattle.peer_rec.specs.declared.rec.Rec.{Rec}
 use Rattle.peer_rec.specs.declared.file_rec.FileRec.{FileRec}
 use Rattle.peers_file.specs.Layout.{IsFile}
 use Rattle.peers_file.specs.declared.chain.Chain.{Chain}
-use Rattle.peers_file.specs.declared.fault.FileFault.TheVariants.{TooLarge}
 use Rattle.table_machine.specs.State.{State, by_number, empty_state, new_rec_at, tried_occupant}
 use Rattle.table_machine.specs.Entries.{with_last}
 use Rattle.table_machine.specs.Restoring.{drop_all, drop_record, give_if_empty, give_or, place_all, place_pair, place_record, record_of, restored, uses_buckets, with_all_new, with_all_tried, with_new, with_tried}
 use Rattle.addrman_run.specs.InFolder.{IsAbsent}
 use Rattle.addrman_run.specs.Inside.{IsKeyless, IsLoaded, IsLoadFault, IsNoSnapshot, IsNotOpened, IsNotRestored, OpensWith}
-use Rattle.addrman_run.specs.Opening.{LacksKey, Opens, RefusesTables}
+use Rattle.addrman_run.specs.Log.{LogOutcome}
+use Rattle.addrman_run.specs.Opening.{HasMap, IsUnopened, Opens}
 use Rattle.addrman_run.specs.Opening.Opens.{from_file, from_key}
 use Rattle.addrman_run.specs.declared.input.Input.TheVariants as input
-use Rattle.addrman_run.specs.declared.peers_fault.PeersFault.{PeersFault}
 use Rattle.addrman_run.specs.declared.peers_fault.PeersFault.TheVariants.{Duplicate, File}
 use Rattle.addrman_run.specs.declared.status.Status.{Status}
-use Rattle.addrman_run.specs.declared.status.Status.TheVariants.{DiskFault, Memory, NoKey, PeersRefused}
+use Rattle.addrman_run.specs.declared.status.Status.TheVariants.{AsmapRefused, DiskFault, Memory, NoKey, PeersRefused}
+use Rattle.addrman_run.specs.Replay.{IsUntouched, NotOpened}
+use Rattle.causes.proofs.Restored.{opened-caused}
+use Rattle.host_io.specs.Outside.{Outside}
+use Rattle.log_run.specs.declared.end.LogEnd.{LogEnd}
 use Rattle.addrman_run.proofs.Showing.{too_large}
 
 -- ---- the number of the next record
@@ -98,34 +101,67 @@ opens key chain past None map st found with_key = from_key with_key.0 found with
 opens key chain past (Some bytes) map st found with_file =
     from_file with_file.0 (bytes, found.1, with_file.1) with_file.2 with_file.3
 
--- what holds of each status that no tables are opened for
-module _ (P : Status → Type 0) (key : Option (List ℕ)) (chain : Chain) (past : Option Past) (no_key : LacksKey key past → P NoKey)
-    (refused : (fault : PeersFault) → RefusesTables chain past fault → P (PeersRefused fault)) (memory : P Memory) where
-  keyless : (status : Status) → IsAbsent name.Peers past → IsKeyless key status → P status
-  keyless NoKey absent is = no_key (is, absent)
-  keyless Memory absent is = memory
-  keyless other absent is = absurd is
+-- ---- why the folder opens no tables
 
-  no_snapshot : (bytes : List ℕ) (status : Status) → IsLoaded input.Peers past bytes → IsNoSnapshot chain bytes status → P status
-  no_snapshot bytes (PeersRefused (File fault)) found is = refused (File fault) (is.0, (bytes, found.1, is.1))
-  no_snapshot bytes Memory found is = memory
-  no_snapshot bytes other found is = absurd is
+module _ (key : Option (List ℕ)) (chain : Chain) (past : Option Past) where
+  -- the folder's asmap is not loaded
+  pub no_asmap : (status : Status) → IsLoadFault input.Asmap past status → IsUnopened key chain past status
+  no_asmap status (inl is) = subst (IsUnopened key chain past) (sym is) tt
+  no_asmap status (inr (inl is)) = subst (IsUnopened key chain past) (sym is) tt
+  no_asmap status (inr (inr is)) = subst (IsUnopened key chain past) (sym is.1) is.2
 
-  not_restored : (bytes : List ℕ) (snap : Snapshot) (status : Status) → IsLoaded input.Peers past bytes → IsFile chain bytes snap → IsNotRestored snap status → P status
-  not_restored bytes snap (PeersRefused (Duplicate index)) found file is = refused (Duplicate index) (snap, (bytes, found.1, file), is)
-  not_restored bytes snap Memory found file is = memory
-  not_restored bytes snap other found file is = absurd is
+  module _ (map : HasMap past) where
+    keyless : (status : Status) → IsAbsent name.Peers past → IsKeyless key status → IsUnopened key chain past status
+    keyless NoKey absent is = (map, (is, absent))
+    keyless Memory absent is = tt
+    keyless other absent is = absurd is
 
-  pub not_opened : (file : Option (List ℕ)) (status : Status) → MatchOption file (IsAbsent name.Peers past) (IsLoaded input.Peers past)
-      → IsNotOpened key chain file status → P status
-  not_opened None status found is = keyless status found is
-  not_opened (Some bytes) status found (inl is) = no_snapshot bytes status found is
-  not_opened (Some bytes) status found (inr is) = not_restored bytes is.0 status found is.1 is.2
+    no_snapshot : (bytes : List ℕ) (status : Status) → IsLoaded input.Peers past bytes → IsNoSnapshot chain bytes status → IsUnopened key chain past status
+    no_snapshot bytes (PeersRefused (File fault)) found is = (map, (is.0, (bytes, found.1, is.1)))
+    no_snapshot bytes Memory found is = tt
+    no_snapshot bytes other found is = absurd is
 
-  pub not_loaded : (status : Status) → P DiskFault → IsLoadFault input.Peers past status → P status
-  not_loaded status disk (inl is) = subst P (sym is) disk
-  not_loaded status disk (inr (inl is)) = subst P (sym is) memory
-  not_loaded status disk (inr (inr is)) = subst P (sym is.1) (refused (File (TooLarge is.0)) (too_large chain past is.0 is.2))
+    not_restored : (bytes : List ℕ) (snap : Snapshot) (status : Status) → IsLoaded input.Peers past bytes → IsFile chain bytes snap → IsNotRestored snap status
+        → IsUnopened key chain past status
+    not_restored bytes snap (PeersRefused (Duplicate index)) found file is = (map, (snap, (bytes, found.1, file), is))
+    not_restored bytes snap Memory found file is = tt
+    not_restored bytes snap other found file is = absurd is
+
+    -- the bytes of peers.dat open none
+    pub not_opened : (file : Option (List ℕ)) (status : Status) → MatchOption file (IsAbsent name.Peers past) (IsLoaded input.Peers past)
+        → IsNotOpened key chain file status → IsUnopened key chain past status
+    not_opened None status found is = keyless status found is
+    not_opened (Some bytes) status found (inl is) = no_snapshot bytes status found is
+    not_opened (Some bytes) status found (inr is) = not_restored bytes is.0 status found is.1 is.2
+
+    -- peers.dat is not loaded
+    pub no_peers : (status : Status) → IsLoadFault input.Peers past status → IsUnopened key chain past status
+    no_peers status (inl is) = subst (IsUnopened key chain past) (sym is) tt
+    no_peers status (inr (inl is)) = subst (IsUnopened key chain past) (sym is) tt
+    no_peers status (inr (inr is)) = subst (IsUnopened key chain past) (sym is.1) (map, too_large chain past is.0 is.2)
+
+-- what holds of a result
+pub ok_so : {A E : Type 0} (P Q : A → Type 0) (r : Result A E) → ((x : A) → P x → Q x) → IfOk r P → IfOk r Q
+ok_so P Q (Ok x) f is = f x is
+ok_so P Q (Err e) f is = tt
+
+pub err_so : {A E : Type 0} (P Q : E → Type 0) (r : Result A E) → ((e : E) → P e → Q e) → IfErr r P → IfErr r Q
+err_so P Q (Ok x) f is = tt
+err_so P Q (Err e) f is = f e is
+
+-- where no tables are opened, the log is not run
+pub not_run : (ran : LogEnd → Type 0) (key : Option (List ℕ)) (chain : Chain) (old new : Outside) (status : Status)
+    → IsUnopened key chain old.past status → IsUntouched old new → LogOutcome ran (NotOpened key chain old new) status
+not_run ran key chain old new (AsmapRefused fault) is same = (is, same)
+not_run ran key chain old new (PeersRefused fault) is same = (is, same)
+not_run ran key chain old new NoKey is same = (is, same)
+not_run ran key chain old new DiskFault is same = (is, same)
+not_run ran key chain old new Memory is same = inl (is, same)
+not_run ran key chain old new other is same = absurd is
+
+-- the key and asmap of restored tables
+pub restored_places : (snap : Snapshot) (places : Places) → (restored snap places).places ≡ places
+restored_places snap places = (opened-caused (λ peer source. Unit {0}) (Some snap) places).0
 
 -- what was loaded, where the folder has the same past
 pub found_before : (past before : Option Past) (file : Option (List ℕ)) → past ≡ before

@@ -1,4 +1,4 @@
--- What the arguments of a replay begin with, and what they ask for then.
+-- What the arguments that open tables begin with, and what they choose then.
 use Rattle.std.proofs.Common.{◌≡◌, ◌⊎◌, ℕ, List, [], ◌∷◌, ◌++◌, drop, get_or, length, codes, Option, Some, None, inl, inr, ap, sym, subst, arith, ◌∙◌, append_assoc, refl}
 use Rattle.std.specs.Prelude.{IfSome}
 use Rattle.std.proofs.lemmas.List.{append_cancel_left, length-append}
@@ -7,7 +7,7 @@ use Rattle.peers_file.specs.declared.chain.Chain.TheVariants.{Main}
 use Rattle.addrman_run.specs.Request.{IsKey, IsOption, IsNet, IsKeyOption, IsOpeningOptions, Asks, chain_name}
 use Rattle.addrman_run.specs.declared.request.Request.{Request}
 use Rattle.addrman_run.specs.declared.request.Request.TheVariants.{Show}
-use Rattle.addrman_run.specs.declared.request.Request.TheVariants.{Replay, Compile, Check, Lookup}
+use Rattle.addrman_run.specs.declared.request.Request.TheVariants.{Replay, Opener, Compile, Check, Lookup}
 use Rattle.addrman_run.specs.declared.request.Request.TheVariants.{Decompile, Limit}
 use Rattle.addrman_run.specs.declared.request.Request.TheVariants.{Ban, Unban, Banned, Gen, Trial}
 
@@ -43,13 +43,25 @@ chosen : (words : List (List ℕ)) (key : Option (List ℕ)) (chain : Chain) →
 chosen words key chain (first, second, is, inl (keys, net)) = chosen_from_key first second words key chain is keys net
 chosen words key chain (first, second, is, inr (net, keys)) = chosen_from_net first second words key chain is net keys
 
--- the request is a replay with the key and the chain that the words choose
-data AsksReplay (words : List (List ℕ)) (request : Request) : Type 0 where
-  replay : (key : Option (List ℕ)) (chain : Chain) → request ≡ Replay key chain → Chooses words key chain → AsksReplay words request
+-- what is asked for after the name of a command that opens tables
+pub record AsksOpening (made : Option (List ℕ) → Chain → Request) (words : List (List ℕ)) (request : Request) : Type 0 where
+  pub key : Option (List ℕ)
+  pub chain : Chain
+  pub is : request ≡ made key chain
+  pub options : IsOpeningOptions words key chain
 
--- what is asked for after the command is a replay
-asks_replay : (words : List (List ℕ)) (request : Request) → Asks (codes "replay" ∷ words) request → AsksReplay words request
-asks_replay words (Replay key chain) (options, opening, is) = replay key chain refl (chosen words key chain (subst (λ ws. IsOpeningOptions ws key chain) (sym (ap (drop 1) is)) opening))
+asks_opening : (made : Option (List ℕ) → Chain → Request) (name : List ℕ) (words options : List (List ℕ)) (key : Option (List ℕ)) (chain : Chain)
+    → IsOpeningOptions options key chain → name ∷ words ≡ name ∷ options → AsksOpening made words (made key chain)
+asks_opening made name words options key chain opening is = record {
+  key = key;
+  chain = chain;
+  is = refl;
+  options = subst (λ ws. IsOpeningOptions ws key chain) (sym (ap (drop 1) is)) opening;
+}
+
+pub asks_replay : (words : List (List ℕ)) (request : Request) → Asks (codes "replay" ∷ words) request → AsksOpening Replay words request
+asks_replay words (Replay key chain) (options, opening, is) = asks_opening Replay (codes "replay") words options key chain opening is
+asks_replay words (Opener key chain) asks = absurd (omega (arith, ap (λ ws. get_or (get_or ws 0 []) 0 0) asks.2))
 asks_replay words Compile asks = absurd (omega (arith, ap (λ ws. get_or (get_or ws 0 []) 0 0) asks))
 asks_replay words Check asks = absurd (omega (arith, ap (λ ws. get_or (get_or ws 0 []) 0 0) asks))
 asks_replay words Decompile asks = absurd (omega (arith, ap (λ ws. get_or (get_or ws 0 []) 0 0) asks))
@@ -62,21 +74,38 @@ asks_replay words (Banned peer now) asks = absurd (omega (arith, ap (λ ws. get_
 asks_replay words (Gen start lines) asks = absurd (omega (arith, ap (λ ws. get_or (get_or ws 0 []) 0 0) asks.3))
 asks_replay words (Trial start lines) asks = absurd (omega (arith, ap (λ ws. get_or (get_or ws 0 []) 0 0) asks.3))
 
+pub asks_opener : (words : List (List ℕ)) (request : Request) → Asks (codes "opener" ∷ words) request → AsksOpening Opener words request
+asks_opener words (Replay key chain) asks = absurd (omega (arith, ap (λ ws. get_or (get_or ws 0 []) 0 0) asks.2))
+asks_opener words (Opener key chain) (options, opening, is) = asks_opening Opener (codes "opener") words options key chain opening is
+asks_opener words Compile asks = absurd (omega (arith, ap (λ ws. get_or (get_or ws 0 []) 0 0) asks))
+asks_opener words Check asks = absurd (omega (arith, ap (λ ws. get_or (get_or ws 0 []) 0 0) asks))
+asks_opener words Decompile asks = absurd (omega (arith, ap (λ ws. get_or (get_or ws 0 []) 0 0) asks))
+asks_opener words Limit asks = absurd (omega (arith, ap (λ ws. get_or (get_or ws 0 []) 0 0) asks))
+asks_opener words (Lookup peer) asks = absurd (omega (arith, ap (λ ws. get_or (get_or ws 0 []) 0 0) asks.2))
+asks_opener words (Show chain) asks = absurd (omega (arith, ap (λ ws. get_or (get_or ws 0 []) 0 0) asks.2))
+asks_opener words (Ban subnet now until) asks = absurd (omega (arith, ap (λ ws. get_or (get_or ws 0 []) 0 0) asks.4))
+asks_opener words (Unban subnet) asks = absurd (omega (arith, ap (λ ws. get_or (get_or ws 0 []) 0 0) asks.2))
+asks_opener words (Banned peer now) asks = absurd (omega (arith, ap (λ ws. get_or (get_or ws 0 []) 0 0) asks.3))
+asks_opener words (Gen start lines) asks = absurd (omega (arith, ap (λ ws. get_or (get_or ws 0 []) 0 0) asks.3))
+asks_opener words (Trial start lines) asks = absurd (omega (arith, ap (λ ws. get_or (get_or ws 0 []) 0 0) asks.3))
+
 option_of : (name value : List ℕ) (rest words : List (List ℕ)) → Begins name value rest words → (own : List (List ℕ)) × IsOption name value own × (words ≡ own ++ rest)
 option_of name value rest words (inl two) = (name ∷ value ∷ [], inl refl, two)
 option_of name value rest words (inr one) = ((name ++ codes "=" ++ value) ∷ [], inr refl, one)
 
 -- words that begin with a key, and then choose a chain
-asked_by_key : (words rest : List (List ℕ)) (digits key : List ℕ) (chain : Chain) → Begins (codes "--key") digits rest words → IsKey digits key → IsNet rest chain → Asks (codes "replay" ∷ words) (Replay (Some key) chain)
-asked_by_key words rest digits key chain b read net =
+chosen_by_key : (words rest : List (List ℕ)) (digits key : List ℕ) (chain : Chain) → Begins (codes "--key") digits rest words → IsKey digits key → IsNet rest chain
+    → IsOpeningOptions words (Some key) chain
+chosen_by_key words rest digits key chain b read net =
     let own = option_of (codes "--key") digits rest words b in
-    (words, (own.0, rest, own.2, inl ((digits, read, own.1), net)), refl)
+    (own.0, rest, own.2, inl ((digits, read, own.1), net))
 
 -- words that begin with a chain, and then choose a key
-asked_by_net : (words rest : List (List ℕ)) (key : Option (List ℕ)) (chain : Chain) → Begins (codes "--net") (chain_name chain) rest words → IsKeyOption rest key → Asks (codes "replay" ∷ words) (Replay key chain)
-asked_by_net words rest key chain b keys =
+chosen_by_net : (words rest : List (List ℕ)) (key : Option (List ℕ)) (chain : Chain) → Begins (codes "--net") (chain_name chain) rest words → IsKeyOption rest key
+    → IsOpeningOptions words key chain
+chosen_by_net words rest key chain b keys =
     let own = option_of (codes "--net") (chain_name chain) rest words b in
-    (words, (own.0, rest, own.2, inr (inr own.1, keys)), refl)
+    (own.0, rest, own.2, inr (inr own.1, keys))
 
 -- ONE READING
 
@@ -104,26 +133,28 @@ third_of_net name rest words (inr is) = ap (λ ws. get_or (get_or ws 0 []) 2 0) 
 third_of_none : (words : List (List ℕ)) → words ≡ [] → get_or (get_or words 0 []) 2 0 ≡ 0
 third_of_none words is = ap (λ ws. get_or (get_or ws 0 []) 2 0) is
 
-key_only : (words rest : List (List ℕ)) (digits : List ℕ) (r : Option Request) → Begins (codes "--key") digits rest words →
-    ((key : List ℕ) (chain : Chain) → IsKey digits key → IsNet rest chain → r ≡ Some (Replay (Some key) chain)) →
-    (key : Option (List ℕ)) (chain : Chain) → Chooses words key chain → r ≡ Some (Replay key chain)
+-- what was read
+abbrev Read : Type 0
+Read = Option (Option (List ℕ) × Chain)
+
+key_only : (words rest : List (List ℕ)) (digits : List ℕ) (r : Read) → Begins (codes "--key") digits rest words →
+    ((key : List ℕ) (chain : Chain) → IsKey digits key → IsNet rest chain → r ≡ Some (Some key, chain)) →
+    (key : Option (List ℕ)) (chain : Chain) → Chooses words key chain → r ≡ Some (key, chain)
 key_only words rest digits r b only key chain (neither is k c) = absurd (omega (arith, third_of_none words is, third_of_key digits rest words b))
 key_only words rest digits r b only key chain (net_first left a keys) = absurd (omega (arith, third_of_key digits rest words b, third_of_net (chain_name chain) left words a))
 key_only words rest digits r b only key chain (key_first other left k e read a net) =
     let same = same_start (codes "--key") other digits left rest words a b in
-    only k chain (subst (λ ds. IsKey ds k) same.0 read) (subst (λ ws. IsNet ws chain) same.1 net) ∙ ap (λ ks. Some (Replay ks chain)) (sym e)
+    only k chain (subst (λ ds. IsKey ds k) same.0 read) (subst (λ ws. IsNet ws chain) same.1 net) ∙ ap (λ (ks : Option (List ℕ)). Some (ks, chain)) (sym e)
 
 -- the reading after a key is that of all words
-pub only_by_key : (words rest : List (List ℕ)) (digits : List ℕ) (r : Option Request) → Begins (codes "--key") digits rest words →
-    ((key : List ℕ) (chain : Chain) → IsKey digits key → IsNet rest chain → r ≡ Some (Replay (Some key) chain)) →
-    (request : Request) → Asks (codes "replay" ∷ words) request → r ≡ Some request
-only_by_key words rest digits r b only request asks = elim (asks_replay words request asks) [
-  | replay key chain is opening ↦ key_only words rest digits r b only key chain opening ∙ ap Some (sym is)
-]
+pub only_by_key : (words rest : List (List ℕ)) (digits : List ℕ) (r : Read) → Begins (codes "--key") digits rest words →
+    ((key : List ℕ) (chain : Chain) → IsKey digits key → IsNet rest chain → r ≡ Some (Some key, chain)) →
+    (key : Option (List ℕ)) (chain : Chain) → IsOpeningOptions words key chain → r ≡ Some (key, chain)
+only_by_key words rest digits r b only key chain opening = key_only words rest digits r b only key chain (chosen words key chain opening)
 
-net_only : (words rest : List (List ℕ)) (name : List ℕ) (r : Option Request) → Begins (codes "--net") name rest words →
-    ((key : Option (List ℕ)) (chain : Chain) → name ≡ chain_name chain → IsKeyOption rest key → r ≡ Some (Replay key chain)) →
-    (key : Option (List ℕ)) (chain : Chain) → Chooses words key chain → r ≡ Some (Replay key chain)
+net_only : (words rest : List (List ℕ)) (name : List ℕ) (r : Read) → Begins (codes "--net") name rest words →
+    ((key : Option (List ℕ)) (chain : Chain) → name ≡ chain_name chain → IsKeyOption rest key → r ≡ Some (key, chain)) →
+    (key : Option (List ℕ)) (chain : Chain) → Chooses words key chain → r ≡ Some (key, chain)
 net_only words rest name r b only key chain (neither is k c) = absurd (omega (arith, third_of_none words is, third_of_net name rest words b))
 net_only words rest name r b only key chain (key_first digits left k e read a net) = absurd (omega (arith, third_of_key digits left words a, third_of_net name rest words b))
 net_only words rest name r b only key chain (net_first left a keys) =
@@ -131,12 +162,10 @@ net_only words rest name r b only key chain (net_first left a keys) =
     only key chain same.0 (subst (λ ws. IsKeyOption ws key) (sym same.1) keys)
 
 -- the reading after a chain is that of all words
-pub only_by_net : (words rest : List (List ℕ)) (name : List ℕ) (r : Option Request) → Begins (codes "--net") name rest words →
-    ((key : Option (List ℕ)) (chain : Chain) → name ≡ chain_name chain → IsKeyOption rest key → r ≡ Some (Replay key chain)) →
-    (request : Request) → Asks (codes "replay" ∷ words) request → r ≡ Some request
-only_by_net words rest name r b only request asks = elim (asks_replay words request asks) [
-  | replay key chain is opening ↦ net_only words rest name r b only key chain opening ∙ ap Some (sym is)
-]
+pub only_by_net : (words rest : List (List ℕ)) (name : List ℕ) (r : Read) → Begins (codes "--net") name rest words →
+    ((key : Option (List ℕ)) (chain : Chain) → name ≡ chain_name chain → IsKeyOption rest key → r ≡ Some (key, chain)) →
+    (key : Option (List ℕ)) (chain : Chain) → IsOpeningOptions words key chain → r ≡ Some (key, chain)
+only_by_net words rest name r b only key chain opening = net_only words rest name r b only key chain (chosen words key chain opening)
 
 none_chosen : (words : List (List ℕ)) (key : Option (List ℕ)) (chain : Chain) → (words ≡ [] → ⊥) →
     ((value : List ℕ) (rest : List (List ℕ)) → Begins (codes "--key") value rest words → ⊥) →
@@ -145,27 +174,36 @@ none_chosen words key chain some key_off net_off (neither is k c) = some is
 none_chosen words key chain some key_off net_off (key_first digits rest k e read b net) = key_off digits rest b
 none_chosen words key chain some key_off net_off (net_first rest b keys) = net_off (chain_name chain) rest b
 
--- words that begin with neither option ask for no replay
-pub none_asked : (words : List (List ℕ)) (request : Request) → (words ≡ [] → ⊥) →
+-- words that begin with neither option are no options
+pub no_options : (words : List (List ℕ)) (key : Option (List ℕ)) (chain : Chain) → (words ≡ [] → ⊥) →
     ((value : List ℕ) (rest : List (List ℕ)) → Begins (codes "--key") value rest words → ⊥) →
-    ((value : List ℕ) (rest : List (List ℕ)) → Begins (codes "--net") value rest words → ⊥) → Asks (codes "replay" ∷ words) request → ⊥
-none_asked words request some key_off net_off asks = elim (asks_replay words request asks) [
-  | replay key chain is opening ↦ none_chosen words key chain some key_off net_off opening
-]
+    ((value : List ℕ) (rest : List (List ℕ)) → Begins (codes "--net") value rest words → ⊥) → IsOpeningOptions words key chain → ⊥
+no_options words key chain some key_off net_off opening = none_chosen words key chain some key_off net_off (chosen words key chain opening)
 
--- what was read after a key is asked for
-pub found_by_key : (words rest : List (List ℕ)) (digits : List ℕ) (r : Option Request) → Begins (codes "--key") digits rest words →
-    IfSome r (λ request. (key : List ℕ) × (chain : Chain) × (request ≡ Replay (Some key) chain) × IsKey digits key × IsNet rest chain) →
-    IfSome r (λ request. Asks (codes "replay" ∷ words) request)
+-- no words choose no key, and main
+pub none_is : (words : List (List ℕ)) → words ≡ [] → IsOpeningOptions words None Main
+none_is words is = ([], [], is, inl (refl, inl (refl, refl)))
+
+pub none_only : (words : List (List ℕ)) → words ≡ [] → (key : Option (List ℕ)) (chain : Chain) → IsOpeningOptions words key chain → ◌≡◌ {A = Read} (Some (None, Main)) (Some (key, chain))
+none_only words is key chain opening = by (chosen words key chain opening)
+  where
+    by : Chooses words key chain → ◌≡◌ {A = Read} (Some (None, Main)) (Some (key, chain))
+    by (neither none k c) = ap (λ (ks : Option (List ℕ)). Some (ks, Main)) (sym k) ∙ ap (λ c. Some (key, c)) (sym c)
+    by (key_first digits rest k e read b net) = absurd (omega (arith, third_of_none words is, third_of_key digits rest words b))
+    by (net_first rest b keys) = absurd (omega (arith, third_of_none words is, third_of_net (chain_name chain) rest words b))
+
+-- what was read after a key is chosen
+pub found_by_key : (words rest : List (List ℕ)) (digits : List ℕ) (r : Read) → Begins (codes "--key") digits rest words →
+    IfSome r (λ o. (key : List ℕ) × (o.0 ≡ Some key) × IsKey digits key × IsNet rest o.1) →
+    IfSome r (λ o. IsOpeningOptions words o.0 o.1)
 found_by_key words rest digits None b found = tt
-found_by_key words rest digits (Some request) b (key, chain, is, read, net) =
-    subst (λ asked. Asks (codes "replay" ∷ words) asked) (sym is) (asked_by_key words rest digits key chain b read net)
+found_by_key words rest digits (Some o) b (key, is, read, net) =
+    subst (λ k. IsOpeningOptions words k o.1) (sym is) (chosen_by_key words rest digits key o.1 b read net)
 
--- what was read after a chain is asked for
-pub found_by_net : (words rest : List (List ℕ)) (name : List ℕ) (r : Option Request) → Begins (codes "--net") name rest words →
-    IfSome r (λ request. (key : Option (List ℕ)) × (chain : Chain) × (request ≡ Replay key chain) × (name ≡ chain_name chain) × IsKeyOption rest key) →
-    IfSome r (λ request. Asks (codes "replay" ∷ words) request)
+-- what was read after a chain is chosen
+pub found_by_net : (words rest : List (List ℕ)) (name : List ℕ) (r : Read) → Begins (codes "--net") name rest words →
+    IfSome r (λ o. (name ≡ chain_name o.1) × IsKeyOption rest o.0) →
+    IfSome r (λ o. IsOpeningOptions words o.0 o.1)
 found_by_net words rest name None b found = tt
-found_by_net words rest name (Some request) b (key, chain, is, named, keys) =
-    subst (λ asked. Asks (codes "replay" ∷ words) asked) (sym is)
-    (asked_by_net words rest key chain (subst (λ n. Begins (codes "--net") n rest words) named b) keys)
+found_by_net words rest name (Some o) b (named, keys) =
+    chosen_by_net words rest o.0 o.1 (subst (λ n. Begins (codes "--net") n rest words) named b) keys

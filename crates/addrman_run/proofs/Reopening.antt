@@ -1,20 +1,15 @@
 -- What a save wrote, opened again.
-use Rattle.std.proofs.Common.{◌≡◌, ◌<◌, ◌≤◌, ℕ, List, [], length, Some, None, Ok, refl, sym, ap, ◌∙◌, subst, arith}
+use Rattle.std.proofs.Common.{◌≡◌, ℕ, List, [], length, Some, None, Ok, refl, sym, ap, ◌∙◌, subst}
 use Rattle.std.specs.Prelude.{Option, Result}
 use Rattle.std.proofs.lemmas.List.{append-nil}
 use Rattle.sha2.proofs.Facts256.{length-sha256}
 use Rattle.sha2.specs.Sha256.{sha256}
 use Rattle.asmap_vm.specs.Asmap.{Asmap}
-use Rattle.host_io.specs.Disk.{files_on}
-use Rattle.host_io.specs.Past.{Past}
-use Rattle.host_io.specs.PerName.{under}
-use Rattle.host_io.specs.declared.name.Name.TheVariants as name
 use Rattle.placing.specs.Places.{double_sha256, sum_of}
-use Rattle.peer_rec.specs.Snapshot.{IsSnapshot, Snapshot}
+use Rattle.peer_rec.specs.Snapshot.{Snapshot}
 use Rattle.peers_file.specs.Inside.{IsWritten}
 use Rattle.peers_file.specs.Layout.{IsFile, between}
 use Rattle.peers_file.specs.Readings.{body_at}
-use Rattle.peers_file.specs.Texts.{file_text}
 use Rattle.peers_file.specs.declared.chain.Chain.{Chain}
 use Rattle.peers_file.specs.declared.fault.FileFault.{FileFault}
 use Rattle.peers_file.proofs.FileLaws.{Reads-body}

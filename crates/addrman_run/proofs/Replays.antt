@@ -1,6 +1,6 @@
 -- What a replay has done, from what its run over the log says.
-use Rattle.std.proofs.Common.{◌≡◌, ◌≢◌, ◌≤◌, ◌+◌, ℕ, List, [], ◌∷◌, ◌++◌, refl, sym, ap, ◌∙◌, subst, inl, inr, arith}
-use Rattle.std.specs.Prelude.{◌⊎◌, Option, Some, None, IfSome}
+use Rattle.std.proofs.Common.{◌≡◌, ◌≤◌, ℕ, List, [], ◌∷◌, refl, sym, ap, ◌∙◌, subst, inl, inr, arith}
+use Rattle.std.specs.Prelude.{Option, Some, None}
 use Rattle.host_io.specs.Disk.{Disk}
 use Rattle.host_io.specs.Lines.{lines_of}
 use Rattle.host_io.specs.Outside.{Outside}
@@ -9,19 +9,20 @@ use Rattle.host_io.specs.Past.{Always, Past}
 use Rattle.host_io.specs.Reading.{TakesAtMost}
 use Rattle.asmap_vm.specs.Asmap.{Asmap}
 use Rattle.log_lines.specs.Spelling.{HasFault}
-use Rattle.log_run.specs.Run.{EndsBy, Ran, Run, Streams}
+use Rattle.log_run.specs.Run.{EndsBy, Run, Streams}
 use Rattle.log_run.specs.Worlds.{RanIn, WorldEnds, both}
 use Rattle.log_run.specs.declared.end.LogEnd.{LogEnd}
 use Rattle.log_run.specs.declared.end.LogEnd.TheVariants as end
 use Rattle.peers_file.specs.declared.chain.Chain.{Chain}
 use Rattle.session.specs.Events.{Ended}
-use Rattle.session.specs.Folders.{IsOpen, Turn}
+use Rattle.session.specs.Folders.{IsOpen}
 use Rattle.session.specs.History.{AtExit, History, Now, RoseBy, SinceEntry, Step, failed, fresh, onto}
 use Rattle.session.specs.State as session
+use Rattle.session.proofs.OneHistory.{one_run}
 use Rattle.session.proofs.Promise.{IsCut, IsKept, cut_line, cut_memory, history, kept_line, kept_start}
 use Rattle.table_machine.specs.State.{State}
-use Rattle.addrman_run.specs.Asmaps.{IsMapIn, RefusesAsmap}
-use Rattle.addrman_run.specs.Inside.{IsLoadFault, SessionStep, StoppedStep, status_of}
+use Rattle.addrman_run.specs.Asmaps.{IsMapIn}
+use Rattle.addrman_run.specs.Inside.{SessionStep, StoppedStep}
 use Rattle.addrman_run.proofs.Reopening.{reopens}
 use Rattle.addrman_run.specs.Opening.{Opens, places_of}
 use Rattle.addrman_run.specs.Opening.Opens.{from_file, from_key}
@@ -30,13 +31,9 @@ use Rattle.causes.proofs.Laws.{keeps_causes}
 use Rattle.peer_rec.specs.Snapshot.{Snapshot}
 use Rattle.placing.specs.Places.{Places}
 use Rattle.table_machine.specs.Sound.{IsSound}
-use Rattle.addrman_run.specs.declared.input.Input.TheVariants as input
-use Rattle.addrman_run.specs.declared.status.Status.{Status}
-use Rattle.addrman_run.specs.declared.status.Status.TheVariants as status
-use Rattle.asmap_vm.specs.declared.fault.CodeFault.{CodeFault}
-use Rattle.asmap_vm.specs.declared.fault.CodeFault.TheVariants.{TooLarge}
 use Rattle.manager.specs.Machine.{Machine}
-use Rattle.addrman_run.specs.Replay.{HasMap, IsBetweenLines, IsOpenedFrom, IsUntouched, ReplayOutcome, Replayed, at_start, pending, streams_of}
+use Rattle.addrman_run.specs.Log.{streams_of}
+use Rattle.addrman_run.specs.Replay.{IsBetweenLines, IsOpenedFrom, IsUntouched, Replayed, at_start, pending}
 
 -- the history of a run, and what it keeps
 pub record Followed (start : History) (lines : List (List ℕ)) (text : List ℕ) (last : session.State) (old now : Option Past) (f g : ℕ) : Type 0 where
@@ -195,7 +192,8 @@ module _ {F : Type 0} (past : F → Option Past) (faults : F → ℕ) where
 
   later_rose : (n f g h : ℕ) → f ≤ g → RoseBy n g h → RoseBy n f h
   later_rose n f g h le (inl r) = inl (omega (arith, le, r))
-  later_rose n f g h le (inr r) = inr r
+  later_rose n f g h le (inr (full, inl rose)) = inr (full, inl (omega (arith, le, rose)))
+  later_rose n f g h le (inr (full, inr is)) = inr (full, inr is)
 
   pub replayed : (key : Option (List ℕ)) (chain : Chain) (map : Option Asmap) (tables : State) (start : session.State) (old new : Outside) (w v : F) (how : LogEnd)
       → IsMapIn old.past map → Opens key chain old.past map tables → start ≡ at_start chain tables → IsSound tables
@@ -208,6 +206,7 @@ module _ {F : Type 0} (past : F → Option Past) (faults : F → ℕ) where
       let h = follow past faults r.ran.answered r.ran.replies start r.ran.now.0 w r.ran.now.1 [] (past w) (faults w) r.ran.runs
       (kept_start start (past w) (faults w) (ap (λ s. s.job) begins)) in
       let f = finish r.ran.now.0 h.ended r.ran.next (past w) (faults w) how r.ran.now.1 v h.kept r.world_ends in
+      let runs = subst (λ s. Run Step (fresh s) r.ran.answered r.ran.replies (history r.ran.now.0 h.ended)) begins h.runs in
       record {
         map = map;
         has_map = has_map;
@@ -221,11 +220,13 @@ module _ {F : Type 0} (past : F → Option Past) (faults : F → ℕ) where
           begins = r.ran.begins;
           replies = r.ran.replies;
           now = history r.ran.now.0 h.ended;
-          runs = subst (λ s. Run Step (fresh s) r.ran.answered r.ran.replies (history r.ran.now.0 h.ended)) begins h.runs;
+          runs = runs;
           part = r.ran.part;
           written = r.ran.written;
           ends = ends_by r.ran.log r.ran.answered r.ran.next r.ran.now.0 r.ran.now.1 h.ended r.ran.part (streams_of old) (streams_of new) how r.ran.ends;
         };
+        fixed = λ other its_runs.
+            (one_run (fresh (at_start chain tables)) other (history r.ran.now.0 h.ended) r.ran.answered r.ran.replies r.ran.replies [] [] its_runs runs refl).1;
         at_exit = subst (λ p. Now (AtExit (history r.ran.now.0 h.ended) (pending how r.ran.next)) p new.past) same_past
             (subst (Now (AtExit (history r.ran.now.0 h.ended) (pending how r.ran.next)) (past w)) (sym ends_past) f.exit);
         since_entry = subst (λ p. Always p new.past (SinceEntry (history r.ran.now.0 h.ended) (pending how r.ran.next))) same_past
@@ -261,42 +262,12 @@ module _ {F : Type 0} (past : F → Option Past) (faults : F → ℕ) where
   rises start old new w v how r =
       omega (arith, rises_by r.ran.answered r.ran.replies start r.ran.now.0 w r.ran.now.1 r.ran.runs, rises_last r.ran.now.0 r.ran.next how r.ran.now.1 v r.world_ends)
 
--- the outcome by its status
-pub outcome_of : (key : Option (List ℕ)) (chain : Chain) (old new : Outside) (how : LogEnd) → Replayed key chain old new how → ReplayOutcome key chain old new (status_of how)
-outcome_of key chain old new end.Done r = r
-outcome_of key chain old new (end.Fault n fault) r = r
-outcome_of key chain old new (end.LineTooLong n) r = r
-outcome_of key chain old new end.LogTooLong r = r
-outcome_of key chain old new end.ReadFault r = r
-outcome_of key chain old new end.WriteFault r = r
-outcome_of key chain old new end.Memory r = inr r
-
 pub untouched : (old new : Outside) → new.written ≡ old.written → new.left ≡ old.left → new.log_faults ≡ old.log_faults → new.past ≡ old.past → IsUntouched old new
 untouched old new written left log past = record { written = written; log = (left, log); past = past }
 
 pub takes_none : (left : Option (List ℕ)) (most : ℕ) → TakesAtMost left left most
 takes_none None most = tt
 takes_none (Some bytes) most = (0, omega arith, refl)
-
--- the run over the log never ends by a fault of the folder
-pub no_disk : (how : LogEnd) → status_of how ≡ status.DiskFault → ⊥
-no_disk end.Done is = cc is
-no_disk (end.Fault n fault) is = cc is
-no_disk (end.LineTooLong n) is = cc is
-no_disk end.LogTooLong is = cc is
-no_disk end.ReadFault is = cc is
-no_disk end.WriteFault is = cc is
-no_disk end.Memory is = cc is
-
-pub has_map : (old : Outside) (map : Option Asmap) → IsMapIn old.past map → HasMap old
-has_map old map is = (map, is)
-
--- what holds of each status that the asmap is not loaded for
-pub asmap_not_loaded : (P : Status → Type 0) (past : Option Past) (answer : Status) → IsLoadFault input.Asmap past answer → P status.DiskFault → P status.Memory
-    → ((fault : CodeFault) → RefusesAsmap past fault → P (status.AsmapRefused fault)) → P answer
-asmap_not_loaded P past answer (inl is) disk memory refused = subst P (sym is) disk
-asmap_not_loaded P past answer (inr (inl is)) disk memory refused = subst P (sym is) memory
-asmap_not_loaded P past answer (inr (inr is)) disk memory refused = subst P (sym is.1) (refused (TooLarge is.0) is.2)
 
 -- the session at the start
 pub starts : (chain : Chain) (tables : State) (lines made : session.State) (machine : Machine) → lines ≡ made → made ≡ session.state chain machine None

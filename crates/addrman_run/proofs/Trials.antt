@@ -1,6 +1,6 @@
 -- The replies of a trial, line by line.
-use Rattle.std.proofs.Common.{◌≡◌, ◌≢◌, ◌≤◌, ◌<◌, ◌+◌, ◌*◌, ℕ, zero, suc, List, [], ◌∷◌, ◌++◌, length, map, refl, sym, ap, ◌∙◌, subst, arith, append_assoc}
-use Rattle.std.specs.Prelude.{Option, Some, None, not, count_by, replicate, Result, Ok, Err, IfOk}
+use Rattle.std.proofs.Common.{◌≡◌, ◌≢◌, ◌≤◌, ◌+◌, ◌*◌, ℕ, zero, suc, List, [], ◌∷◌, ◌++◌, length, map, refl, sym, ap, ◌∙◌, subst, arith, append_assoc}
+use Rattle.std.specs.Prelude.{None, not, count_by, replicate, Result, Ok, Err, IfOk}
 use Rattle.std.specs.List.{concat}
 use Rattle.host_io.specs.Lines.{lines_of}
 use Rattle.manager.specs.Machine.{Machine}
@@ -20,7 +20,7 @@ use Rattle.gen_load.specs.declared.generated.TheConstants.{MAX_LINES}
 use Rattle.log_run.specs.Run.{Run, Steps}
 use Rattle.session.specs.Events.{Ended}
 use Rattle.session.specs.Folders.{IsOpen}
-use Rattle.session.specs.History.{History, Step, fresh, onto}
+use Rattle.session.specs.History.{Step, fresh, onto}
 use Rattle.session.specs.State as session
 use Rattle.session.proofs.Promise.{history}
 use Rattle.addrman_run.proofs.Generating.{at_end}

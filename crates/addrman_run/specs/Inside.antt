@@ -32,7 +32,10 @@ use Rattle.addrman_run.specs.declared.input.Input.TheVariants as input
 use Rattle.addrman_run.specs.declared.tables_fault.TablesFault.{TablesFault}
 use Rattle.addrman_run.specs.declared.tables_fault.TablesFault.TheVariants.{Rows}
 use Rattle.addrman_run.specs.declared.peers_fault.PeersFault.TheVariants.{Duplicate, File}
-use Rattle.addrman_run.specs.Opening.{places_of, tables_of}
+use Rattle.addrman_run.specs.Asmaps.{IsMapIn}
+use Rattle.addrman_run.specs.Opening.{Opens, places_of, tables_of}
+use Rattle.opener_lines.specs.State as opener
+use Rattle.placing.specs.Places.{Places}
 use Rattle.log_run.specs.Run.{Run}
 use Rattle.log_run.specs.Worlds.{StepsIn}
 use Rattle.log_run.specs.declared.end.LogEnd.{LogEnd}
@@ -112,6 +115,15 @@ abbrev pub IsKeyless : Option (List ℕ) → Status → Type 0
 IsKeyless key NoKey = key ≡ None
 IsKeyless key Memory = ⊤
 IsKeyless key other = ⊥
+
+-- the tables that a folder opens
+abbrev pub OpensIn : Option (List ℕ) → Chain → Option Past → State → Type 0
+OpensIn key chain past st = (map : Option Asmap) × IsMapIn past map × Opens key chain past map st
+
+-- An opener, and the key and asmap of its placer.
+pub record Placed : Type 0 where
+  pub opener : opener.State
+  pub places : Places
 
 -- why no tables are opened, by the bytes of the file
 abbrev pub IsNotOpened : Option (List ℕ) → Chain → Option (List ℕ) → Status → Type 0

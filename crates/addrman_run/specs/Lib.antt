@@ -6,6 +6,7 @@ pub mod Peers
 pub mod Log
 pub mod Replay
 pub mod Limit
+pub mod Opener
 pub mod FileLine
 pub mod Lookup
 pub mod Check
@@ -17,5 +18,6 @@ pub mod Generate
 pub mod Opening
 pub mod Trial
 pub mod Outcome
+pub mod Complete
 pub mod Report
 pub mod Inside

@@ -8,11 +8,9 @@ use Rattle.addr_limit.specs.Lines.{HasFault, LimitStep, is_about}
 use Rattle.addr_limit.specs.State.{State, start}
 use Rattle.log_run.specs.Run.{Ran, Streams}
 use Rattle.log_run.specs.declared.end.LogEnd.{LogEnd}
-use Rattle.log_run.specs.declared.end.LogEnd.TheVariants as end
 use Rattle.log_run.specs.declared.limits.TheConstants.{MAX_LOG}
-use Rattle.addrman_run.specs.Replay.{streams_of}
+use Rattle.addrman_run.specs.Log.{LogOutcome, streams_of}
 use Rattle.addrman_run.specs.declared.status.Status.{Status}
-use Rattle.addrman_run.specs.declared.status.Status.TheVariants as status
 
 -- The output of each chosen line is the last output of the chosen lines up to it by themselves.
 abbrev pub AreApart : (List ℕ → Bool) → List (List ℕ) → List (List ℕ) → Type 0
@@ -32,14 +30,7 @@ pub record Limited (old new : Streams) (how : LogEnd) : Type 0 where
 
 -- how the limit ends, by its status
 abbrev pub LimitOutcome : Streams → Streams → Status → Type 0
-LimitOutcome old new status.Done = Limited old new end.Done
-LimitOutcome old new (status.LogLine n fault) = Limited old new (end.Fault n fault)
-LimitOutcome old new (status.LineTooLong n) = Limited old new (end.LineTooLong n)
-LimitOutcome old new status.LogTooLong = Limited old new end.LogTooLong
-LimitOutcome old new status.ReadFault = Limited old new end.ReadFault
-LimitOutcome old new status.WriteFault = Limited old new end.WriteFault
-LimitOutcome old new status.Memory = Limited old new end.Memory
-LimitOutcome old new other = ⊥
+LimitOutcome old new = LogOutcome (Limited old new) (λ answer. ⊥)
 
 -- The folder is as it was, and at most one byte more than a log may have was read.
 pub record LimitEnds (old new : Outside) (answer : Status) : Type 0 where

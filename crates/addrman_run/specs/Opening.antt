@@ -1,5 +1,5 @@
 -- How a replay opens the tables: from the folder's peers.dat, or empty under the key of its arguments.
-use Rattle.std.specs.Prelude.{◌≡◌, ◌⊎◌, ℕ, List, Option, Some, None}
+use Rattle.std.specs.Prelude.{◌≡◌, ◌⊎◌, ℕ, List, Option, Some, None, ⊤}
 use Rattle.host_io.specs.Past.{Past}
 use Rattle.host_io.specs.declared.name.Name.TheVariants as name
 use Rattle.asmap_vm.specs.Asmap.{Asmap}
@@ -8,10 +8,13 @@ use Rattle.peer_rec.specs.Snapshot.{Snapshot}
 use Rattle.table_machine.specs.State.{State, empty_state}
 use Rattle.table_machine.specs.Restoring.{restored, duplicate}
 use Rattle.peers_file.specs.declared.chain.Chain.{Chain}
+use Rattle.addrman_run.specs.Asmaps.{IsMapIn, RefusesAsmap}
 use Rattle.addrman_run.specs.InFolder.{IsAbsent}
 use Rattle.addrman_run.specs.Peers.{IsSnapshotIn, RefusesPeers}
 use Rattle.addrman_run.specs.declared.peers_fault.PeersFault.{PeersFault}
 use Rattle.addrman_run.specs.declared.peers_fault.PeersFault.TheVariants.{File, Duplicate}
+use Rattle.addrman_run.specs.declared.status.Status.{Status}
+use Rattle.addrman_run.specs.declared.status.Status.TheVariants as status
 
 -- what buckets and slots depend on, under a key and the folder's asmap
 abbrev pub places_of : List ℕ → Option Asmap → Places
@@ -36,6 +39,20 @@ RefusesTables chain past (Duplicate index) = (snap : Snapshot) × IsSnapshotIn c
 -- there is neither a file nor a key
 abbrev pub LacksKey : Option (List ℕ) → Option Past → Type 0
 LacksKey key past = (key ≡ None) × IsAbsent name.Peers past
+
+-- the folder's asmap is accepted
+abbrev pub HasMap : Option Past → Type 0
+HasMap past = (map : Option Asmap) × IsMapIn past map
+
+-- Why no tables are opened, by the status. Files are looked at in this order: asmap.dat, peers.dat.
+-- HasCause says why the folder fails.
+abbrev pub IsUnopened : Option (List ℕ) → Chain → Option Past → Status → Type 0
+IsUnopened key chain past (status.AsmapRefused fault) = RefusesAsmap past fault
+IsUnopened key chain past (status.PeersRefused fault) = HasMap past × RefusesTables chain past fault
+IsUnopened key chain past status.NoKey = HasMap past × LacksKey key past
+IsUnopened key chain past status.DiskFault = ⊤
+IsUnopened key chain past status.Memory = ⊤
+IsUnopened key chain past other = ⊥
 
 -- A folder opens in one way: with some tables, or not, since its peers.dat is refused or a key is missing.
 pub record OpensOnce (key : Option (List ℕ)) (chain : Chain) (past : Option Past) (map : Option Asmap) : Type 0 where

@@ -9,13 +9,14 @@ use Rattle.addrman_run.specs.Check.{CheckEnds}
 use Rattle.addrman_run.specs.Decompile.{DecompileEnds}
 use Rattle.addrman_run.specs.Compile.{CompileEnds}
 use Rattle.addrman_run.specs.Limit.{LimitEnds}
+use Rattle.addrman_run.specs.Opener.{OpenerEnds}
 use Rattle.addrman_run.specs.Show.{ShowEnds}
 use Rattle.addrman_run.specs.Generate.{GenEnds}
 use Rattle.addrman_run.specs.Trial.{TrialEnds}
 use Rattle.addrman_run.specs.Bans.{BansEnds, ban_change, unban_change, banned_change}
 use Rattle.addrman_run.specs.declared.request.Request.{Request}
 use Rattle.addrman_run.specs.declared.request.Request.TheVariants.{Show}
-use Rattle.addrman_run.specs.declared.request.Request.TheVariants.{Replay, Compile, Check, Lookup}
+use Rattle.addrman_run.specs.declared.request.Request.TheVariants.{Replay, Opener, Compile, Check, Lookup}
 use Rattle.addrman_run.specs.declared.request.Request.TheVariants.{Decompile, Limit}
 use Rattle.addrman_run.specs.declared.request.Request.TheVariants.{Ban, Unban, Banned}
 use Rattle.addrman_run.specs.declared.request.Request.TheVariants.{Gen, Trial}
@@ -24,6 +25,7 @@ use Rattle.addrman_run.specs.declared.status.Status.TheVariants as status
 
 abbrev pub Ends : Request → Outside → Outside → Status → Type 0
 Ends (Replay key chain) old new answer = ReplayEnds key chain old new answer
+Ends (Opener key chain) old new answer = OpenerEnds key chain old new answer
 Ends Compile old new answer = CompileEnds old new answer
 Ends Check old new answer = CheckEnds old new answer
 Ends Decompile old new answer = DecompileEnds old new answer

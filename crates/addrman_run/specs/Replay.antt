@@ -1,5 +1,5 @@
 -- What a replay writes and saves, and how it ends.
-use Rattle.std.specs.Prelude.{◌≡◌, ◌⊎◌, ℕ, ◌+◌, List, [], Option, Some, None, ⊤}
+use Rattle.std.specs.Prelude.{◌≡◌, ℕ, ◌+◌, List, [], Option, Some, None, ⊤}
 use Rattle.host_io.specs.Disk.{files_on}
 use Rattle.host_io.specs.Lines.{lines_of}
 use Rattle.host_io.specs.Outside.{Outside}
@@ -10,7 +10,7 @@ use Rattle.host_io.specs.declared.name.Name.TheVariants as name
 use Rattle.asmap_vm.specs.Asmap.{Asmap}
 use Rattle.causes.specs.Kept.{IsAfter, KeepsCauses, opened}
 use Rattle.log_lines.specs.Spelling.{HasFault}
-use Rattle.log_run.specs.Run.{Ran, Streams}
+use Rattle.log_run.specs.Run.{Ran, Run}
 use Rattle.log_run.specs.declared.end.LogEnd.{LogEnd}
 use Rattle.log_run.specs.declared.end.LogEnd.TheVariants as end
 use Rattle.log_run.specs.declared.limits.TheConstants.{MAX_LOG}
@@ -21,21 +21,16 @@ use Rattle.session.specs.History.{AtExit, History, Now, RoseBy, SinceEntry, Step
 use Rattle.session.specs.State as session
 use Rattle.table_machine.specs.Restart.{restart}
 use Rattle.table_machine.specs.State.{State}
-use Rattle.addrman_run.specs.Asmaps.{IsMapIn, RefusesAsmap}
+use Rattle.addrman_run.specs.Asmaps.{IsMapIn}
 use Rattle.addrman_run.specs.InFolder.{IsAbsent}
-use Rattle.addrman_run.specs.Log.{SameLog}
-use Rattle.addrman_run.specs.Opening.{LacksKey, Opens, RefusesTables}
+use Rattle.addrman_run.specs.Log.{LogOutcome, SameLog, streams_of}
+use Rattle.addrman_run.specs.Opening.{IsUnopened, Opens}
 use Rattle.addrman_run.specs.Peers.{IsSnapshotIn}
 use Rattle.addrman_run.specs.declared.status.Status.{Status}
-use Rattle.addrman_run.specs.declared.status.Status.TheVariants as status
 
 -- the session that a replay begins with: the tables, at the time 0, and no open save
 abbrev pub at_start : Chain → State → session.State
 at_start chain tables = session.state chain (record { tables = tables; clock = 0 }) None
-
--- what is known of the log and of the output
-abbrev pub streams_of : Outside → Streams
-streams_of at = record { left = at.left; written = at.written }
 
 -- no line was carried out in part
 abbrev pub IsBetweenLines : LogEnd → Type 0
@@ -63,18 +58,21 @@ pending other next = []
 
 -- A replay that got past its opening, by the end of its run over the log. The folder's asmap is
 -- accepted, and the tables are open. The replies to the first lines of the log were written, and of
--- the next one perhaps a part. A crash now, or at any moment since the start, leaves at peers.dat the
--- file of a save of this run or what it could leave at the start; now not one from before the last
--- save whose reply is `saved`. No more saves have failed than the folder. After each line the tables
--- are sound, each bucket that a record is in has a cause, sources of one group reach few buckets, and
--- a tried record leaves only for another one of its slot. A file that was saved opens again, with the
--- same asmap, as the tables of its line after a restart.
+-- the next one perhaps a part. No other history has these replies. A crash now, or at any moment
+-- since the start, leaves at peers.dat the file of a save of this run or what it could leave at the
+-- start; now not one from before the last save whose reply is `saved`. No more saves have failed
+-- than the folder. After each line the tables are sound, each bucket that a record is in has a
+-- cause, sources of one group reach few buckets, and a tried record leaves only for another one of
+-- its slot. A file that was saved opens again, with the same asmap, as the tables of its line after
+-- a restart.
 pub record Replayed (key : Option (List ℕ)) (chain : Chain) (old new : Outside) (how : LogEnd) : Type 0 where
   pub map : Option Asmap
   pub has_map : IsMapIn old.past map
   pub tables : State
   pub opens : Opens key chain old.past map tables
   pub ran : Ran Step HasFault (fresh (at_start chain tables)) (streams_of old) (streams_of new) how
+  pub fixed : (other : History)
+      → Run Step (fresh (at_start chain tables)) ran.answered ran.replies other → other ≡ ran.now
   pub at_exit : Now (AtExit ran.now (pending how ran.next)) old.past new.past
   pub since_entry : Always old.past new.past (SinceEntry ran.now (pending how ran.next))
   pub failed_saves : RoseBy (failed ran.now.ended) old.folder_faults new.folder_faults
@@ -92,27 +90,13 @@ pub record IsUntouched (old new : Outside) : Type 0 where
   pub log : SameLog old new
   pub past : new.past ≡ old.past
 
--- the folder's asmap is accepted
-abbrev pub HasMap : Outside → Type 0
-HasMap old = (map : Option Asmap) × IsMapIn old.past map
+-- no tables were opened, and nothing was done
+abbrev pub NotOpened : Option (List ℕ) → Chain → Outside → Outside → Status → Type 0
+NotOpened key chain old new answer = IsUnopened key chain old.past answer × IsUntouched old new
 
--- How a replay ends, by its status. HasCause says why the three faults of the outside come.
+-- how a replay ends, by its status
 abbrev pub ReplayOutcome : Option (List ℕ) → Chain → Outside → Outside → Status → Type 0
-ReplayOutcome key chain old new status.Done = Replayed key chain old new end.Done
-ReplayOutcome key chain old new (status.LogLine n fault) = Replayed key chain old new (end.Fault n fault)
-ReplayOutcome key chain old new (status.LineTooLong n) = Replayed key chain old new (end.LineTooLong n)
-ReplayOutcome key chain old new status.LogTooLong = Replayed key chain old new end.LogTooLong
-ReplayOutcome key chain old new status.ReadFault = Replayed key chain old new end.ReadFault
-ReplayOutcome key chain old new status.WriteFault = Replayed key chain old new end.WriteFault
-ReplayOutcome key chain old new status.Memory =
-    IsUntouched old new ⊎ Replayed key chain old new end.Memory
-ReplayOutcome key chain old new status.DiskFault = IsUntouched old new
-ReplayOutcome key chain old new (status.AsmapRefused fault) =
-    RefusesAsmap old.past fault × IsUntouched old new
-ReplayOutcome key chain old new (status.PeersRefused fault) =
-    HasMap old × RefusesTables chain old.past fault × IsUntouched old new
-ReplayOutcome key chain old new status.NoKey = HasMap old × LacksKey key old.past × IsUntouched old new
-ReplayOutcome key chain old new other = ⊥
+ReplayOutcome key chain old new = LogOutcome (Replayed key chain old new) (NotOpened key chain old new)
 
 pub record ReplayEnds (key : Option (List ℕ)) (chain : Chain) (old new : Outside) (answer : Status) : Type 0 where
   pub outcome : ReplayOutcome key chain old new answer

@@ -9,7 +9,7 @@ use Rattle.peers_file.specs.declared.chain.Chain.{Chain}
 use Rattle.peers_file.specs.declared.chain.Chain.TheVariants.{Main, Test, Signet, Regtest}
 use Rattle.addrman_run.specs.declared.request.Request.{Request}
 use Rattle.addrman_run.specs.declared.request.Request.TheVariants.{Show}
-use Rattle.addrman_run.specs.declared.request.Request.TheVariants.{Replay, Compile, Check, Lookup}
+use Rattle.addrman_run.specs.declared.request.Request.TheVariants.{Replay, Opener, Compile, Check, Lookup}
 use Rattle.addrman_run.specs.declared.request.Request.TheVariants.{Decompile, Limit}
 use Rattle.addrman_run.specs.declared.request.Request.TheVariants.{Ban, Unban, Banned}
 use Rattle.addrman_run.specs.declared.request.Request.TheVariants.{Gen, Trial}
@@ -48,6 +48,8 @@ IsOpeningOptions options key chain =
 abbrev pub Asks : List (List ℕ) → Request → Type 0
 Asks words (Replay key chain) =
     (options : List (List ℕ)) × IsOpeningOptions options key chain × (words ≡ codes "replay" ∷ options)
+Asks words (Opener key chain) =
+    (options : List (List ℕ)) × IsOpeningOptions options key chain × (words ≡ codes "opener" ∷ options)
 Asks words Compile = words ≡ codes "compile" ∷ []
 Asks words Check = words ≡ codes "check" ∷ []
 Asks words Decompile = words ≡ codes "decompile" ∷ []

@@ -1,14 +1,22 @@
-ghost use Rattle.std.specs.Prelude.{◌≡◌, ◌≤◌, None, IfOk, IfErr};
+ghost use Rattle.std.specs.Prelude.{◌≡◌, ◌≤◌, ℕ, List, None, Some, Err, IfOk, IfErr, IfSome, MatchOption, length};
+ghost use Rattle.host_io.specs.Faults.{Rose};
+ghost use Rattle.host_io.specs.declared.name.Name.TheVariants as name;
+ghost use Rattle.asmap_vm.specs.Code.{Tree, IsSaneFile};
+ghost use Rattle.asmap_vm.specs.declared.fault.CodeFault.{CodeFault};
 ghost use Rattle.placing.specs.Inside.{map_of};
 ghost use Rattle.peers_file.specs.Layout.{IsFile};
 ghost use Rattle.table_machine.specs.Restoring.{duplicate};
 ghost use Rattle.table_machine.specs.Sound.{IsSound};
-ghost use Rattle.addrman_run.specs.Inside.{IsKeyless, IsNoSnapshot, IsNotOpened, IsNotRestored, OpensWith};
-ghost use Rattle.addrman_run.specs.Opening.{places_of, tables_of};
+ghost use Rattle.addrman_run.specs.InFolder.{IsAbsent};
+ghost use Rattle.addrman_run.specs.Inside.{IsKeyless, IsLoaded, IsMapOf, IsNoSnapshot, IsNotOpened, IsNotRestored, OpensIn, OpensWith};
+ghost use Rattle.addrman_run.specs.Opening.{IsUnopened, places_of, tables_of};
+ghost use Rattle.addrman_run.specs.declared.input.Input.TheVariants as input;
 
+use crate::input::{Input, load_input};
 use crate::{PeersFault, Status};
-use asmap_vm::Sane;
-use host_io::Bytes;
+use asmap_vm::{CodeFault, Sane, check};
+use bit_code::MAX_ASMAP;
+use host_io::{Bytes, Folder};
 use peer_rec::Snapshot;
 use peers_file::{Chain, FileFault, read_file};
 use placing::Placer;
@@ -34,27 +42,30 @@ fn read_peers(alloc: Global, bytes: &[u8], chain: Chain) -> Result<Snapshot, Sta
     }
 }
 
-/// Restores the tables of a snapshot. Its steps are counted, and nobody reads how many.
+/// Restores the tables of a snapshot, and returns them and their placer. The steps are counted, and
+/// nobody reads how many.
 fn restore_tables<'a, L: Ledger, H: BuildHasher + Drop>(
     alloc: Global,
     hasher: H,
     snap: &Snapshot,
     map: Option<Sane<'a>>,
     blank: Blank,
-) -> Result<Tables<'a, H>, Status>
+) -> Result<(Tables<'a, H>, Placer<'a>), Status>
     requires name { blank.name ≡ L.name }
     requires parts { blank.parts ≡ L.parts }
     requires one { blank.parts ≡ 1 }
-    ensures found { IfOk result (λ t. (duplicate snap.now ≡ None)
-        × (t ≡ tables_of snap.now (map_of map.entry))) }
-    ensures small { IfOk result (λ t. t.next_number ≤ MAX_RECORDS) }
-    ensures sound { IfOk result IsSound }
+    ensures found { IfOk result (λ opened. (duplicate snap.now ≡ None)
+        × (opened.0 ≡ tables_of snap.now (map_of map.entry))) }
+    ensures placer { IfOk result (λ opened. opened.1 ≡ opened.0.places) }
+    ensures small { IfOk result (λ opened. opened.0.next_number ≤ MAX_RECORDS) }
+    ensures sound { IfOk result (λ opened. IsSound opened.0) }
     ensures cause { IfErr result (IsNotRestored snap.now) }
 {
     let placer = Placer::make(snap.key(), map);
+    let own_placer = Placer::make(snap.key(), map);
     let mut steps = Steps::<L>::none(blank);
-    match Tables::restore(alloc, snap, placer, hasher, &mut steps) {
-        Ok(tables) => Ok(tables),
+    match Tables::restore(alloc, snap, own_placer, hasher, &mut steps) {
+        Ok(tables) => Ok((tables, placer)),
         Err(RestoreFault::Duplicate { index }) => {
             Err(Status::PeersRefused(PeersFault::Duplicate { index }))
         }
@@ -62,40 +73,43 @@ fn restore_tables<'a, L: Ledger, H: BuildHasher + Drop>(
     }
 }
 
-/// Opens empty tables, if there is a key.
+/// Opens empty tables, if there is a key, and returns them and their placer.
 fn empty_tables<'a, H: BuildHasher + Drop>(
     alloc: Global,
     hasher: H,
     key: Option<[u8; 32]>,
     map: Option<Sane<'a>>,
-) -> Result<Tables<'a, H>, Status>
-    ensures found { IfOk result (OpensWith key Chain.Main None (map_of map.entry)) }
-    ensures small { IfOk result (λ t. t.next_number ≤ MAX_RECORDS) }
-    ensures sound { IfOk result IsSound }
+) -> Result<(Tables<'a, H>, Placer<'a>), Status>
+    ensures found { IfOk result (λ opened. OpensWith key Chain.Main None (map_of map.entry) opened.0) }
+    ensures placer { IfOk result (λ opened. opened.1 ≡ opened.0.places) }
+    ensures small { IfOk result (λ opened. opened.0.next_number ≤ MAX_RECORDS) }
+    ensures sound { IfOk result (λ opened. IsSound opened.0) }
     ensures cause { IfErr result (IsKeyless key) }
 {
     let Some(key) = key else {
         return Err(Status::NoKey);
     };
+    let placer = Placer::make(key, map);
     match Tables::open(alloc, Placer::make(key, map), hasher) {
-        Ok(tables) => Ok(tables),
+        Ok(tables) => Ok((tables, placer)),
         Err(_) => Err(Status::Memory),
     }
 }
 
-/// Opens the tables that a replay begins with: those of the bytes of peers.dat, or if it is absent,
-/// empty ones with the key.
-pub(crate) fn open_tables<'a, H: BuildHasher + Drop>(
+/// Opens the tables of the bytes of peers.dat, or if it is absent, empty ones with the key, and
+/// returns them and their placer.
+fn open_tables<'a, H: BuildHasher + Drop>(
     alloc: Global,
     hasher: H,
     key: Option<[u8; 32]>,
     chain: Chain,
     map: Option<Sane<'a>>,
     file: &Option<Bytes>,
-) -> Result<Tables<'a, H>, Status>
-    ensures found { IfOk result (OpensWith key chain file.now (map_of map.entry)) }
-    ensures small { IfOk result (λ t. t.next_number ≤ MAX_RECORDS) }
-    ensures sound { IfOk result IsSound }
+) -> Result<(Tables<'a, H>, Placer<'a>), Status>
+    ensures found { IfOk result (λ opened. OpensWith key chain file.now (map_of map.entry) opened.0) }
+    ensures placer { IfOk result (λ opened. opened.1 ≡ opened.0.places) }
+    ensures small { IfOk result (λ opened. opened.0.next_number ≤ MAX_RECORDS) }
+    ensures sound { IfOk result (λ opened. IsSound opened.0) }
     ensures cause { IfErr result (IsNotOpened key chain file.now) }
 {
     let bytes = match file {
@@ -107,4 +121,54 @@ pub(crate) fn open_tables<'a, H: BuildHasher + Drop>(
         Err(status) => return Err(status),
     };
     restore_tables::<Brand, H>(alloc, hasher, &snap, map, Blank::new(1))
+}
+
+/// Checks the asmap in these bytes, if there are any.
+fn check_map(bytes: &Option<Bytes>) -> Result<Option<Sane<'_>>, CodeFault>
+    requires { IfSome bytes.now (λ b. length b ≤ MAX_ASMAP) }
+    ensures found { IfOk result (λ map. IsMapOf bytes.now (map_of map)) }
+    ensures cause { (fault : CodeFault) → result ≡ Err fault → (fault ≡ CodeFault.Insane)
+        × ((b : List ℕ) × (bytes.now ≡ Some b) × ((t : Tree) → ¬ IsSaneFile t b)) }
+{
+    match bytes {
+        Some(bytes) => match check(bytes.items()) {
+            Ok(sane) => Ok(Some(sane)),
+            Err(fault) => Err(fault),
+        },
+        None => Ok(None),
+    }
+}
+
+/// Opens the tables that a replay or an opener begins with: those of the folder's peers.dat, or if
+/// it is absent, empty ones with the key. Either way they have the folder's asmap, which is in the
+/// bytes. Returns them and their placer.
+pub(crate) fn open_folder<'a, F: Folder, H: BuildHasher + Drop>(
+    alloc: Global,
+    hasher: H,
+    key: Option<[u8; 32]>,
+    chain: Chain,
+    asmap: &'a Option<Bytes>,
+    folder: &mut F,
+) -> Result<(Tables<'a, H>, Placer<'a>), Status>
+    requires asmap { MatchOption asmap.now (IsAbsent name.Asmap (F.past folder.old))
+        (IsLoaded input.Asmap (F.past folder.old)) }
+    ensures found { IfOk result (λ opened. OpensIn key chain (F.past folder.old) opened.0) }
+    ensures placer { IfOk result (λ opened. opened.1 ≡ opened.0.places) }
+    ensures small { IfOk result (λ opened. opened.0.next_number ≤ MAX_RECORDS) }
+    ensures sound { IfOk result (λ opened. IsSound opened.0) }
+    ensures cause { IfErr result (IsUnopened key chain (F.past folder.old)) }
+    ensures fault { result ≡ Err Status.DiskFault →
+        Rose (F.faults folder.old) (F.faults folder.new) }
+    ensures never_falls { F.faults folder.old ≤ F.faults folder.new }
+    ensures same { F.past folder.new ≡ F.past folder.old }
+{
+    let map = match check_map(asmap) {
+        Ok(map) => map,
+        Err(fault) => return Err(Status::AsmapRefused(fault)),
+    };
+    let file = match load_input(alloc, Input::Peers, folder) {
+        Ok(file) => file,
+        Err(status) => return Err(status),
+    };
+    open_tables(alloc, hasher, key, chain, map, &file)
 }

@@ -1,44 +1,22 @@
-ghost use Rattle.std.specs.Prelude.{◌≡◌, ℕ, List, ◌+◌, ◌≤◌, length, IfOk, IfSome, Some, Err};
 ghost use Rattle.host_io.specs.Outside.{outside};
 ghost use Rattle.host_io.specs.Reading.{TakesAtMost};
-ghost use Rattle.asmap_vm.specs.Code.{Tree, IsSaneFile};
-ghost use Rattle.asmap_vm.specs.declared.fault.CodeFault.{CodeFault};
+ghost use Rattle.std.specs.Prelude.{◌+◌};
 ghost use Rattle.log_run.specs.declared.limits.TheConstants.{MAX_LOG};
-ghost use Rattle.placing.specs.Inside.{map_of};
-ghost use Rattle.addrman_run.specs.Inside.{IsMapOf};
 ghost use Rattle.addrman_run.specs.Outcome.{IsCounted};
 ghost use Rattle.addrman_run.specs.Replay.{ReplayOutcome};
 
 use crate::Status;
 use crate::input::{Input, load_input};
 use crate::log_status::status_of;
-use crate::opening::open_tables;
+use crate::opening::open_folder;
 use crate::session_lines::SessionLines;
-use asmap_vm::{CodeFault, Sane, check};
-use bit_code::MAX_ASMAP;
-use host_io::{Bytes, Folder, Sink, Source};
+use host_io::{Folder, Sink, Source};
 use log_run::run_log;
 use manager::Manager;
 use peers_file::Chain;
 use session::Session;
 use std::alloc::Global;
 use std::hash::BuildHasher;
-
-/// Checks the asmap in these bytes, if there are any.
-fn check_map(bytes: &Option<Bytes>) -> Result<Option<Sane<'_>>, CodeFault>
-    requires { IfSome bytes.now (λ b. length b ≤ MAX_ASMAP) }
-    ensures found { IfOk result (λ map. IsMapOf bytes.now (map_of map)) }
-    ensures cause { (fault : CodeFault) → result ≡ Err fault → (fault ≡ CodeFault.Insane)
-        × ((b : List ℕ) × (bytes.now ≡ Some b) × ((t : Tree) → ¬ IsSaneFile t b)) }
-{
-    match bytes {
-        Some(bytes) => match check(bytes.items()) {
-            Ok(sane) => Ok(Some(sane)),
-            Err(fault) => Err(fault),
-        },
-        None => Ok(None),
-    }
-}
 
 /// Carries out the lines of the log, from the tables of the folder's peers.dat, or if it is absent,
 /// from empty ones with the key. Either way they have the folder's asmap. Saves replace peers.dat.
@@ -63,16 +41,8 @@ pub(crate) fn replay<L: Source, F: Folder, K: Sink, H: BuildHasher + Drop>(
         Ok(bytes) => bytes,
         Err(status) => return status,
     };
-    let map = match check_map(&bytes) {
-        Ok(map) => map,
-        Err(fault) => return Status::AsmapRefused(fault),
-    };
-    let file = match load_input(alloc, Input::Peers, folder) {
-        Ok(file) => file,
-        Err(status) => return status,
-    };
-    let tables = match open_tables(alloc, hasher, key, chain, map, &file) {
-        Ok(tables) => tables,
+    let (tables, _) = match open_folder(alloc, hasher, key, chain, &bytes, folder) {
+        Ok(opened) => opened,
         Err(status) => return status,
     };
     let session = Session::make(Manager::open(tables), chain);

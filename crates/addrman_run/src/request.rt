@@ -12,6 +12,12 @@ pub enum Request {
         key: Option<[u8; 32]>,
         chain: Chain,
     },
+    /// `opener --key HEX64 --net CHAIN`: carry out the lines of a log that also opens, tests and
+    /// closes outbound connections, from the tables that a replay with these options begins with.
+    Opener {
+        key: Option<[u8; 32]>,
+        chain: Chain,
+    },
     /// `compile`: compile prefixes.txt into asmap.dat, and say how large it is.
     Compile,
     /// `check`: say whether asmap.dat is sane.

@@ -1,6 +1,7 @@
 ghost use Rattle.std.specs.Prelude.{◌≡◌, ◌≢◌, map, string_bytes};
 ghost use Rattle.host_io.specs.Outside.{outside};
 ghost use Rattle.addrman_run.specs.Request.{Asks};
+ghost use Rattle.addrman_run.specs.Complete.{IsComplete};
 ghost use Rattle.addrman_run.specs.Outcome.{Ends, HasCause};
 ghost use Rattle.addrman_run.specs.declared.request.Request.{Request};
 
@@ -13,6 +14,7 @@ use crate::file_line::write_file_line;
 use crate::generate::generate;
 use crate::limit::limit;
 use crate::lookup::Lookup;
+use crate::opener::opener;
 use crate::replay::replay;
 use crate::show::Show;
 use crate::trial::trial;
@@ -26,7 +28,8 @@ use std::hash::BuildHasher;
 ///
 /// `replay --key HEX64 --net CHAIN` carries out the lines of the log and writes the reply to each,
 /// from the tables of the folder's peers.dat, or if it is absent, from empty ones with that key, and
-/// with the folder's asmap.dat, if there is one. `compile` compiles the folder's
+/// with the folder's asmap.dat, if there is one. `opener --key HEX64 --net CHAIN` does the same for a
+/// log that also opens, tests and closes outbound connections, and changes no file. `compile` compiles the folder's
 /// prefixes.txt into asmap.dat, `check` checks asmap.dat, `decompile` writes the table of prefixes
 /// that it stands for, and `lookup PEER` writes the AS number and the group that it gives the peer's
 /// address. `limit` carries out the lines of the log under the limit on received addresses, and
@@ -48,12 +51,16 @@ pub fn run<L: Source, F: Folder, K: Sink, H: BuildHasher + Drop>(
     ensures cause { HasCause (outside L.Source F.Folder K.Sink log.old folder.old out.old) (outside L.Source F.Folder K.Sink log.new folder.new out.new) result }
     ensures outcome { (request : Request) → Asks (map string_bytes words.now) request →
         Ends request (outside L.Source F.Folder K.Sink log.old folder.old out.old) (outside L.Source F.Folder K.Sink log.new folder.new out.new) result }
+    ensures complete { (request : Request) → Asks (map string_bytes words.now) request →
+        IsComplete request (outside L.Source F.Folder K.Sink log.old folder.old out.old)
+        (outside L.Source F.Folder K.Sink log.new folder.new out.new) result }
 {
     let Some(request) = read_request(words) else {
         return Status::Usage;
     };
     match request {
         Request::Replay { key, chain } => replay(alloc, hasher, key, chain, log, folder, out),
+        Request::Opener { key, chain } => opener(alloc, hasher, key, chain, log, folder, out),
         Request::Compile => compile_table(alloc, folder, out),
         Request::Check => write_file_line(alloc, &Check, folder, out),
         Request::Decompile => write_file_line(alloc, &Decompile, folder, out),

@@ -1,6 +1,6 @@
 ghost use Rattle.std.specs.Prelude.{◌≡◌, ◌≢◌, ◌⊎◌, ℕ, List, [], ◌∷◌, ◌++◌, codes, map, string_bytes, Option, Some, IfSome, IfNone};
 ghost use Rattle.std.specs.Option.{option_map};
-ghost use Rattle.addrman_run.specs.Request.{IsKey, IsKeyOption, IsOption, Asks};
+ghost use Rattle.addrman_run.specs.Request.{IsKey, IsKeyOption, IsOpeningOptions, IsOption, Asks};
 ghost use Rattle.addrman_run.specs.Inside.{IsProperRequest};
 ghost use Rattle.addrman_run.specs.Request.{chain_name, IsNet};
 ghost use Rattle.peers_file.specs.declared.chain.Chain.{Chain};
@@ -32,6 +32,8 @@ fn request_of(words: &[String]) -> Option<Request>
     let (command, rest) = first_word(words)?;
     if command == b"replay".as_slice() {
         read_replay(rest)
+    } else if command == b"opener".as_slice() {
+        read_opener(rest)
     } else if command == b"compile".as_slice() {
         if_no_words(rest, Request::Compile)
     } else if command == b"check".as_slice() {
@@ -91,16 +93,33 @@ pub(crate) fn only_word(words: &[String]) -> Option<&[u8]>
     }
 }
 
-/// Reads the arguments after `replay`: `--key` with a key and `--net` with a chain, each at most once.
+/// Reads the arguments after `replay`.
 fn read_replay(words: &[String]) -> Option<Request>
     ensures found { IfSome result (λ request. Asks (codes "replay" ∷ map string_bytes words.now) request) }
     ensures only { (request : Request) → Asks (codes "replay" ∷ map string_bytes words.now) request → result ≡ Some request }
 {
+    let (key, chain) = read_opening(words)?;
+    Some(Request::Replay { key, chain })
+}
+
+/// Reads the arguments after `opener`.
+fn read_opener(words: &[String]) -> Option<Request>
+    ensures found { IfSome result (λ request. Asks (codes "opener" ∷ map string_bytes words.now) request) }
+    ensures only { (request : Request) → Asks (codes "opener" ∷ map string_bytes words.now) request → result ≡ Some request }
+{
+    let (key, chain) = read_opening(words)?;
+    Some(Request::Opener { key, chain })
+}
+
+/// Reads the arguments that say how tables are opened: `--key` with a key and `--net` with a chain,
+/// each at most once.
+fn read_opening(words: &[String]) -> Option<(Option<[u8; 32]>, Chain)>
+    ensures found { IfSome result (λ o. IsOpeningOptions (map string_bytes words.now) o.0 o.1) }
+    ensures only { (key : Option (List ℕ)) (chain : Chain) →
+        IsOpeningOptions (map string_bytes words.now) key chain → result ≡ Some (key, chain) }
+{
     if words.is_empty() {
-        return Some(Request::Replay {
-            key: None,
-            chain: Chain::Main,
-        });
+        return Some((None, Chain::Main));
     }
     if let Some((digits, rest)) = cut_option(words, b"--key") {
         return read_key_then_net(digits, rest);
@@ -110,26 +129,27 @@ fn read_replay(words: &[String]) -> Option<Request>
 }
 
 /// Reads the digits of a key, and then the arguments that choose a chain.
-fn read_key_then_net(digits: &[u8], words: &[String]) -> Option<Request>
-    ensures found { IfSome result (λ request. (key : List ℕ) × (chain : Chain) × (request ≡ Request.Replay (Some key) chain) × IsKey digits.now key × IsNet (map string_bytes words.now) chain) }
-    ensures only { (key : List ℕ) (chain : Chain) → IsKey digits.now key → IsNet (map string_bytes words.now) chain → result ≡ Some (Request.Replay (Some key) chain) }
+fn read_key_then_net(digits: &[u8], words: &[String]) -> Option<(Option<[u8; 32]>, Chain)>
+    ensures found { IfSome result (λ o. (key : List ℕ) × (o.0 ≡ Some key) × IsKey digits.now key
+        × IsNet (map string_bytes words.now) o.1) }
+    ensures only { (key : List ℕ) (chain : Chain) → IsKey digits.now key →
+        IsNet (map string_bytes words.now) chain → result ≡ Some (Some key, chain) }
 {
     let key = read_key(digits)?;
     let chain = read_net(words)?;
-    Some(Request::Replay {
-        key: Some(key),
-        chain,
-    })
+    Some((Some(key), chain))
 }
 
 /// Reads the name of a chain, and then the arguments that choose a key.
-fn read_net_then_key(name: &[u8], words: &[String]) -> Option<Request>
-    ensures found { IfSome result (λ request. (key : Option (List ℕ)) × (chain : Chain) × (request ≡ Request.Replay key chain) × (name.now ≡ chain_name chain) × IsKeyOption (map string_bytes words.now) key) }
-    ensures only { (key : Option (List ℕ)) (chain : Chain) → name.now ≡ chain_name chain → IsKeyOption (map string_bytes words.now) key → result ≡ Some (Request.Replay key chain) }
+fn read_net_then_key(name: &[u8], words: &[String]) -> Option<(Option<[u8; 32]>, Chain)>
+    ensures found { IfSome result (λ o. (name.now ≡ chain_name o.1)
+        × IsKeyOption (map string_bytes words.now) o.0) }
+    ensures only { (key : Option (List ℕ)) (chain : Chain) → name.now ≡ chain_name chain →
+        IsKeyOption (map string_bytes words.now) key → result ≡ Some (key, chain) }
 {
     let chain = read_chain(name)?;
     let key = read_key_option(words)?;
-    Some(Request::Replay { key, chain })
+    Some((key, chain))
 }
 
 /// Reads the arguments that are `--key` with a key, or none for no key.

@@ -1,5 +1,5 @@
--- The number of the last row, in their order, that is a prefix of an address. Among rows that rise it
--- is the longest.
+-- The number of the last row, in their order, that is a prefix of an address. Among rows that rise
+-- it is the longest.
 use Rattle.std.proofs.Common.{◌≡◌, ℕ, ◌<◌, ◌≤◌, Bool, true, false, List, [], ◌∷◌, ◌++◌, length, filter, cond, inl, inr, refl, ap, sym, ◌∙◌, arith, Contains, Some}
 use Rattle.std.specs.Prelude.{if◌then◌else◌, Option}
 use Rattle.std.specs.Option.{option_map_or}

@@ -304,7 +304,7 @@ gone_on bits next pending rows whole new true some none offset same h =
 gone_on bits next pending rows whole new false some none offset same h =
     same ∙ none_left bits next rows whole (moved bits next next pending [] rows rows whole refl (none refl) refl h)
 
--- too many of the rows so far are too many rows
+-- if the rows already read are too many, all rows are
 pub cause_ahead : (bits : List Bool) (at : ℕ) (parts : List Part) (rows whole : List Row) (fault : BackFault) → AreAhead bits at parts rows whole → HasCause rows fault → HasCause whole fault
 cause_ahead bits at parts rows whole (TooMany n) h cause =
     (cause.0, omega (arith, cause.1, ap (λ (xs : List Row). length xs) h.rows_are, length-append rows (rows_ahead h.ahead)))

@@ -42,7 +42,8 @@ unfoldable pub code_ahead : List Ahead → List Bool
 code_ahead [] = []
 code_ahead (a ∷ more) = code a.tree ++ code_ahead more
 
--- the bits from an offset on are the code of these parts, and their rows after those so far are all
+-- the bits from an offset on are the code of these parts, and the rows already read with theirs
+-- after them are all rows
 pub record AreAhead (bits : List Bool) (at : ℕ) (parts : List Part)
     (rows whole : List Row) : Type 0 where
   pub ahead : List Ahead

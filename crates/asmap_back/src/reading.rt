@@ -21,7 +21,7 @@ pub(crate) struct Reading {
     /// The right parts of the jumps that are open, the last of which is read next. Each begins
     /// where the part before it ends.
     pub pending: Vec<Part>,
-    /// The rows so far.
+    /// The rows that are already read.
     pub rows: Vec<Row>,
 }
 

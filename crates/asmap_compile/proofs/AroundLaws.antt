@@ -18,8 +18,8 @@ use Rattle.asmap_compile.proofs.TurnLaws.{rows_le}
 use Rattle.prefix_table.proofs.PathLaws.{path_long, address_start, covers_bits, prefix_first}
 use Rattle.asmap_compile.proofs.RowLaws.{best_row}
 
--- what the rows before index i say of those that are kept on the stack: it has no others, they grow longer, and any
--- other is a prefix of no later row
+-- what the rows before index i say of those that are kept on the stack: it has no others, they grow
+-- longer, and any other is a prefix of no later row
 pub record IsAround (rows : List Row) (i : ℕ) (around : List Row) : Type 0 where
   pub there : (k : ℕ) (d : Row) → k < length around → (j : ℕ) × (j < i) × (get_or rows j d ≡ get_or around k d)
   pub grows : (a b : ℕ) (d : Row) → a < b → b < length around → (get_or around a d).len < (get_or around b d).len

@@ -18,7 +18,8 @@ use Rattle.asmap_compile.proofs.Sizes.{rows_at, room, tree_long, code_least, sin
 use Rattle.asmap_compile.proofs.Trees.{tree_last, tree_end, way_bits, tree_single, tree_forked, full_end, default_holds, default_set}
 use Rattle.asmap_compile.proofs.Ways.{Begun, Turn, turn, turn_end, turn_single, turn_forked, begun_side, begun_short, IsWay, way_is, begun_goes, way_row, number_same}
 
--- rows that the tree is made of: distinct, not too many, each with another number than the path before it
+-- rows that the tree is made of: distinct, not too many, each with another number than the path
+-- before it
 pub record AreKept (rows : List Row) : Type 0 where
   pub are : AreRows rows
   pub few : length rows ≤ 2000000

@@ -1,4 +1,5 @@
--- How long the code of a compiled tree is: long enough for every jump in it to be spelled, and short enough.
+-- How long the code of a compiled tree is: long enough for every jump in it to be spelled, and
+-- short enough.
 use Rattle.std.proofs.Common.{◌≡◌, ℕ, zero, suc, ◌+◌, ◌-◌, ◌*◌, ◌^◌, ◌<◌, ◌≤◌, Bool, true, false, ◌&&◌, cond, List, [], ◌∷◌, ◌++◌, length, take, drop, ◌⊎◌, inl, inr, refl, ap, sym, ◌∙◌, subst, arith, length-append, nat_lt, leb}
 use Rattle.std.specs.List.{list_all, filter}
 use Rattle.std.proofs.lemmas.Bool.{cases_eq, leb-true, and_parts}
@@ -179,7 +180,8 @@ rows_most rows p bits =
     rows in
     omega (arith, add)
 
--- what the code of a tree may take for each row that begins with its path, by how many bits can follow the path
+-- what the code of a tree may take for each row that begins with its path, by how many bits can
+-- follow the path
 abbrev pub room : ℕ → ℕ
 room left = 205 + 3 * left
 

@@ -1,4 +1,5 @@
--- The end of a single path: the first row that is longer, or the first bit in which the first and the last row differ.
+-- The end of a single path: the first row that is longer, or the first bit in which the first and
+-- the last row differ.
 use Rattle.std.proofs.Common.{◌≡◌, ◌↔◌, ℕ, ◌+◌, ◌-◌, ◌/◌, ◌%◌, ◌<◌, ◌≤◌, Bool, true, false, List, [], ◌∷◌, ◌++◌, length, get_or, min, ◌⊎◌, inl, inr, refl, ap, sym, ◌∙◌, subst, arith, length-append, append-nil, Contains, eqb, eq-eqb}
 use Rattle.std.proofs.lemmas.Bool.{cases_lt, cases_eq, eqb-true, eqb-false, ne_eqb}
 use Rattle.std.proofs.lemmas.List.{get_or_default}

@@ -80,8 +80,11 @@ tree_at (suc left) rows p default = elim (onward rows p) [
   | End ↦ Return (number_at rows p)
   | Single side ↦
       let bits = side ∷ stretch left rows (p ++ side ∷ []) in
-      under_default (number_at rows p) default (matches 16 bits (tree_at left rows (p ++ bits) (number_at rows p)))
-  | Forked ↦ Jump (tree_at left rows (p ++ false ∷ []) default) (tree_at left rows (p ++ true ∷ []) default)
+      under_default (number_at rows p) default
+      (matches 16 bits (tree_at left rows (p ++ bits) (number_at rows p)))
+  | Forked ↦
+      Jump (tree_at left rows (p ++ false ∷ []) default)
+      (tree_at left rows (p ++ true ∷ []) default)
 ]
 
 -- the tree of a table: of the rows that stay, from the empty path on, with the default 0

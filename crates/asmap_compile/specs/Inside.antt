@@ -33,4 +33,5 @@ pub record IsPart (table : List Row) (p : List Bool) (left : ℕ) (part : List R
 
 -- the rows of a table that stay, and extend a path properly
 pub record IsLonger (table : List Row) (p : List Bool) (rows : List Row) : Type 0 where
-  pub are : rows ≡ filter (λ row. begins_with (path row) p && nat_lt (length p) row.len) (rows_kept table)
+  pub are : rows
+      ≡ filter (λ row. begins_with (path row) p && nat_lt (length p) row.len) (rows_kept table)

@@ -14,4 +14,6 @@ IsAsmap m = IsSaneFile m.tree m.file
 
 -- an asmap is stored as the two
 abbrev pub coded_asmap : Coded Asmap
-coded_asmap = code_by (List ℕ × Tree) (coded× (coded_list coded_ℕ) tree_code) (λ m. (m.file, m.tree)) (λ p. record { file = p.0; tree = p.1 }) (λ _. refl)
+coded_asmap =
+    code_by (List ℕ × Tree) (coded× (coded_list coded_ℕ) tree_code) (λ m. (m.file, m.tree))
+    (λ p. record { file = p.0; tree = p.1 }) (λ _. refl)

@@ -1,6 +1,6 @@
 -- The tree of instructions of an asmap file: its spelling in bits, which trees are sane, and the
--- number that a tree gives for an address. The rules are those of `Interpret` and `SanityCheckASMap`
--- in util/asmap.cpp of Bitcoin Core, for 128 address bits.
+-- number that a tree gives for an address. The rules are those of `Interpret` and
+-- `SanityCheckASMap` in util/asmap.cpp of Bitcoin Core, for 128 address bits.
 use Rattle.std.specs.Prelude.{ℕ, ◌-◌, ◌<◌, ◌≤◌, Bool, true, List, [], ◌∷◌, ◌++◌, if◌then◌else◌, length, drop, ⊤}
 use Rattle.bit_code.specs.Coder.{digits, number_of, spelling, HasValue}
 use Rattle.bit_code.specs.Prefixes.{begins_with}
@@ -32,8 +32,10 @@ default_kind = 3
 -- the bits that a tree is spelled by; a jump says how long the left part is
 unfoldable pub code : Tree → List Bool
 code (Return n) = spelling coders.Kind return_kind ++ spelling coders.Asn n
-code (Jump l r) = spelling coders.Kind jump_kind ++ spelling coders.Jump (length (code l)) ++ code l ++ code r
-code (Match wanted t) = spelling coders.Kind match_kind ++ spelling coders.Match (number_of (true ∷ wanted)) ++ code t
+code (Jump l r) =
+    spelling coders.Kind jump_kind ++ spelling coders.Jump (length (code l)) ++ code l ++ code r
+code (Match wanted t) =
+    spelling coders.Kind match_kind ++ spelling coders.Match (number_of (true ∷ wanted)) ++ code t
 code (Default n t) = spelling coders.Kind default_kind ++ spelling coders.Asn n ++ code t
 
 -- it may follow a default directly: it is neither a return nor a default
@@ -57,7 +59,8 @@ pub record IsMatch (wanted : List Bool) (t : Tree) : Type 0 where
 unfoldable pub IsSaneWithin : ℕ → Tree → Type 0
 IsSaneWithin left (Return n) = HasValue coders.Asn n
 IsSaneWithin left (Jump l r) =
-    (0 < left) × HasValue coders.Jump (length (code l)) × IsSaneWithin (left - 1) l × IsSaneWithin (left - 1) r
+    (0 < left) × HasValue coders.Jump (length (code l)) × IsSaneWithin (left - 1) l
+    × IsSaneWithin (left - 1) r
 IsSaneWithin left (Match wanted t) =
     IsMatch wanted t × (length wanted ≤ left) × IsSaneWithin (left - length wanted) t
 IsSaneWithin left (Default n t) = HasValue coders.Asn n × TakesDefault t × IsSaneWithin left t

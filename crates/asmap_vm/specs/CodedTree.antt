@@ -1,5 +1,5 @@
--- A code for trees, so that a tree can be part of the value of a model: a list of tokens, one for each
--- instruction, after those of its parts.
+-- A code for trees, so that a tree can be part of the value of a model: a list of tokens, one for
+-- each instruction, after those of its parts.
 use Rattle.std.specs.Prelude.{◌≡◌, ◌⊎◌, ℕ, Bool, List, [], ◌∷◌, refl}
 use Rattle.std.specs.Coded.{Coded, code_by, coded_ℕ, coded_bool, coded_list, coded⊎}
 use Rattle.std.proofs.Common.{inl, inr, ap, ◌∙◌}
@@ -33,16 +33,19 @@ abbrev pub first_tree : List Tree → Tree
 first_tree [] = Return 0
 first_tree (t ∷ made) = t
 
-pub trees-tokens : (t : Tree) (more : List Token) (made : List Tree) → trees (tokens t more) made ≡ trees more (t ∷ made)
+pub trees-tokens : (t : Tree) (more : List Token) (made : List Tree)
+    → trees (tokens t more) made ≡ trees more (t ∷ made)
 trees-tokens (Return n) more made = refl
 trees-tokens (Default n t) more made = trees-tokens t (inl (inr n) ∷ more) made
 trees-tokens (Match wanted t) more made = trees-tokens t (inr (inl wanted) ∷ more) made
 trees-tokens (Jump l r) more made =
-    trees-tokens l (tokens r (inr (inr tt) ∷ more)) made ∙ trees-tokens r (inr (inr tt) ∷ more) (l ∷ made)
+    trees-tokens l (tokens r (inr (inr tt) ∷ more)) made
+    ∙ trees-tokens r (inr (inr tt) ∷ more) (l ∷ made)
 
 abbrev pub token_code : Coded Token
 token_code = coded⊎ (coded⊎ coded_ℕ coded_ℕ) (coded⊎ (coded_list coded_bool) coded_unit)
 
 abbrev pub tree_code : Coded Tree
 tree_code =
-    code_by (List Token) (coded_list token_code) (λ t. tokens t []) (λ made. first_tree (trees made [])) (λ t. ap first_tree (trees-tokens t [] []))
+    code_by (List Token) (coded_list token_code) (λ t. tokens t [])
+    (λ made. first_tree (trees made [])) (λ t. ap first_tree (trees-tokens t [] []))

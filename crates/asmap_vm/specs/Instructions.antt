@@ -38,7 +38,8 @@ instruction_at kind n =
 -- the bits begin with the instruction, and then go on with the rest
 pub record IsNext (i : Instruction) (bits rest : List Bool) : Type 0 where
   pub value : HasValue (coder_of i) (number_in i)
-  pub spelled : bits ≡ spelling coders.Kind (kind_of i) ++ (spelling (coder_of i) (number_in i) ++ rest)
+  pub spelled : bits
+      ≡ spelling coders.Kind (kind_of i) ++ (spelling (coder_of i) (number_in i) ++ rest)
 
 -- the first instruction of a tree
 abbrev pub head : Tree → Instruction
@@ -54,8 +55,8 @@ tail (Jump l r) = code l ++ code r
 tail (Match wanted t) = code t
 tail (Default n t) = code t
 
--- The bits begin with the code of a tree, and then go on with the rest. The tree is sane, and no path
--- in it takes more than this many address bits.
+-- The bits begin with the code of a tree, and then go on with the rest. The tree is sane, and no
+-- path in it takes more than this many address bits.
 pub record HasTree (left : ℕ) (t : Tree) (bits rest : List Bool) : Type 0 where
   pub sane : IsSaneWithin left t
   pub spelled : bits ≡ code t ++ rest

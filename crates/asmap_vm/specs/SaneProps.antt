@@ -22,8 +22,10 @@ IsMatch-prop wanted t = hlevel (props, IsNoShortMatch-prop)
 IsSaneWithin-prop : (left : ℕ) (t : Tree) → IsProp (IsSaneWithin left t)
 unfolding IsSaneWithin
 IsSaneWithin-prop left (Return n) = hlevel props
-IsSaneWithin-prop left (Jump l r) = hlevel (props, IsSaneWithin-prop (left - 1) l, IsSaneWithin-prop (left - 1) r)
-IsSaneWithin-prop left (Match wanted t) = hlevel (props, IsMatch-prop wanted t, IsSaneWithin-prop (left - length wanted) t)
+IsSaneWithin-prop left (Jump l r) =
+    hlevel (props, IsSaneWithin-prop (left - 1) l, IsSaneWithin-prop (left - 1) r)
+IsSaneWithin-prop left (Match wanted t) =
+    hlevel (props, IsMatch-prop wanted t, IsSaneWithin-prop (left - length wanted) t)
 IsSaneWithin-prop left (Default n t) = hlevel (props, TakesDefault-prop t, IsSaneWithin-prop left t)
 
 pub IsSaneFile-prop : (t : Tree) (bytes : List ℕ) → IsProp (IsSaneFile t bytes)

@@ -29,17 +29,19 @@ pub record IsPadding (bits : List Bool) : Type 0 where
   pub few : length bits ≤ 7
   pub zero : bits ≡ replicate (length bits) false
 
--- what has to follow a part of a file of this many bits: the pending right parts, each at its offset,
--- and the padding
+-- what has to follow a part of a file of this many bits: the pending right parts, each at its
+-- offset, and the padding
 unfoldable pub Follow : ℕ → List RightPart → List Bool → Type 0
 Follow total [] bits = IsPadding bits
 Follow total (right ∷ more) bits =
-    (right.begins + length bits ≡ total) × ((rest : List Bool) × IsPart Nothing right.left bits rest × Follow total more rest)
+    (right.begins + length bits ≡ total)
+    × ((rest : List Bool) × IsPart Nothing right.left bits rest × Follow total more rest)
 
 -- the bits from the next offset on are a part that is sane there, and what has to follow it
 unfoldable pub Completes : List Bool → Scan → Type 0
 Completes bits scan =
-    (rest : List Bool) × IsPart scan.before scan.left (drop scan.offset bits) rest × Follow (length bits) scan.pending rest
+    (rest : List Bool) × IsPart scan.before scan.left (drop scan.offset bits) rest
+    × Follow (length bits) scan.pending rest
 
 -- before the first instruction
 abbrev pub start : Scan

@@ -4,7 +4,8 @@ use Rattle.bit_code.specs.Coder.{digits}
 use Rattle.asmap_vm.specs.Code.{Tree, code, IsSaneWithin, meaning}
 use Rattle.asmap_vm.specs.declared.walk.Walk.{Walk}
 
--- at the offset is the code of a sane tree, which gives this answer for the address bits that are left
+-- at the offset is the code of a sane tree, which gives this answer for the address bits that are
+-- left
 pub record Answers (bits : List Bool) (address : ℕ) (walk : Walk) (answer : ℕ) : Type 0 where
   pub tree : Tree
   pub rest : List Bool

@@ -158,7 +158,8 @@ impl Scan {
             × IsPadding (drop self.old.offset bits.now) }
         ensures insane { result ≡ Step.Insane → IsStuck bits.now self.old }
         ensures more { result ≡ Step.More → (part : RightPart)
-            × (self.old.pending ≡ part ∷ self.new.pending) × (part.begins ≡ self.old.offset) × (self.new ≡ record self.new {
+            × (self.old.pending ≡ part ∷ self.new.pending) × (part.begins ≡ self.old.offset)
+            × (self.new ≡ record self.new {
               offset = self.old.offset;
               left = part.left;
               before = Before.Nothing;

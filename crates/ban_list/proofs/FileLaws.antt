@@ -144,7 +144,7 @@ many_of bytes value elements counted json form are many = record {
   many = many;
 }
 
--- none so far
+-- no elements have no bans
 pub elements_none : (bans : List Ban) → bans ≡ [] → AreElements [] bans
 unfolding AreElements
 elements_none bans e = e

@@ -45,7 +45,8 @@ unfoldable pub AreElements : List Data → List Ban → Type 0
 AreElements [] bans = bans ≡ []
 AreElements (d ∷ ds) [] = ((ban : Ban) → IsElement d ban → ⊥) × AreElements ds []
 AreElements (d ∷ ds) (ban ∷ bans) =
-    (((other : Ban) → IsElement d other → ⊥) × AreElements ds (ban ∷ bans)) ⊎ (IsElement d ban × AreElements ds bans)
+    (((other : Ban) → IsElement d other → ⊥) × AreElements ds (ban ∷ bans))
+    ⊎ (IsElement d ban × AreElements ds bans)
 
 -- one ban for each subnet: a later one takes the place of an earlier one
 abbrev pub merged : List Ban → List Ban
@@ -97,7 +98,8 @@ HasBanFault bytes Memory = ⊥
 -- The bytes are the file of one list or have one fault, and never both; that memory runs out is no
 -- fault of bytes. That they are neither is impossible; which of the two holds, `read_bans` says.
 pub record HasOneMeaning (bytes : List ℕ) : Type 0 where
-  pub some : ((bans : List Ban) → ¬ IsBanFile bytes bans) → ((f : BanFault) → ¬ HasBanFault bytes f) → ⊥
+  pub some : ((bans : List Ban) → ¬ IsBanFile bytes bans)
+      → ((f : BanFault) → ¬ HasBanFault bytes f) → ⊥
   pub one_list : (a b : List Ban) → IsBanFile bytes a → IsBanFile bytes b → a ≡ b
   pub one_fault : (f g : BanFault) → HasBanFault bytes f → HasBanFault bytes g → f ≡ g
   pub never_both : (a : List Ban) (f : BanFault) → IsBanFile bytes a → HasBanFault bytes f → ⊥
@@ -111,7 +113,8 @@ ban_data ban =
     (member (codes "version") (number (unsigned 1)) no_members))))
 
 abbrev pub file_data : List Ban → Data
-file_data bans = object (member (codes "banned_nets") (array (items_of (map ban_data bans))) no_members)
+file_data bans =
+    object (member (codes "banned_nets") (array (items_of (map ban_data bans))) no_members)
 
 -- the file that is written for a list: without spaces and line feeds
 unfoldable pub file_text : List Ban → List ℕ

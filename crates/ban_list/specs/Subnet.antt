@@ -43,4 +43,5 @@ pub record IsProper (s : Subnet) : Type 0 where
 -- the address is of the same network and begins with the subnet's bits (`CSubNet::Match` in
 -- netaddress.cpp)
 abbrev pub covers : Subnet → Address → Bool
-covers s a = (number_of s.addr.net == number_of a.net) && in_range (range s.addr.bytes s.len) a.bytes
+covers s a =
+    (number_of s.addr.net == number_of a.net) && in_range (range s.addr.bytes s.len) a.bytes

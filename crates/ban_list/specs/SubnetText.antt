@@ -9,8 +9,8 @@ use Rattle.ban_list.specs.Subnet.{width, clear, IsWhole}
 use Rattle.ban_list.specs.declared.subnet.Subnet.{Subnet}
 
 -- a text of an address of the network that has lengths. IPv6 has no brackets here; its bytes are in
--- the old form, so the text of a mapped IPv4 address or of an internal name is none of these, and that of a
--- Tor v2 address is the subnet of `::`
+-- the old form, so the text of a mapped IPv4 address or of an internal name is none of these, and
+-- that of a Tor v2 address is the subnet of `::`
 abbrev pub IsIpText : Net → List ℕ → Address → Type 0
 IsIpText Ipv4 text a = IsDottedText text a
 IsIpText Ipv6 text a = IsBracketText (codes "[" ++ text ++ codes "]") a × (a.net ≡ Ipv6)

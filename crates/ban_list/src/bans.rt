@@ -76,15 +76,16 @@ impl Bans {
         &self.bans
     }
 
-    /// Drops the bans that are over, and bans a subnet from `now` until a time. If it has a ban that
-    /// ends as late or later, that one is kept; one that ends earlier gets the new times in its
-    /// position; a new one goes last, unless there are `MAX_BANS` already. If memory runs out, the
-    /// list is unchanged.
+    /// Drops the bans that are over, and bans a subnet from `now` until a time. If it has a ban
+    /// that ends as late or later, that one is kept; one that ends earlier gets the new times in
+    /// its position; a new one goes last, unless there are `MAX_BANS` already. If memory runs out,
+    /// the list is unchanged.
     pub fn ban(&mut self, subnet: Subnet, now: u32, until: u32) -> Result<BanReply, Memory>
         requires { IsProper subnet }
         ensures reply { IfOk result (λ reply.
             reply ≡ (after_ban (ban_of subnet now until) self.old).reply) }
-        ensures bans { OnOk result (self.new ≡ (after_ban (ban_of subnet now until) self.old).bans) }
+        ensures bans { OnOk result (self.new
+            ≡ (after_ban (ban_of subnet now until) self.old).bans) }
         ensures err { OnErr result (self.new ≡ self.old) }
         ensures max_bans { MAX_BANS ≡ 100000 }
     {

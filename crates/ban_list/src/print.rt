@@ -9,8 +9,8 @@ use itoa::Buffer;
 use net_addr::{Net, NetAddr, put_addr, put_ipv6};
 use std::alloc::{AllocError, Global};
 
-/// Appends the text of a subnet: an IPv4 or IPv6 address, a slash and the length, or the address
-/// alone. If memory runs out, `out` is unchanged.
+/// Appends the text of a subnet: an IPv4 or IPv6 address, a slash and the length, or only the
+/// address. If memory runs out, `out` is unchanged.
 pub fn put_subnet(subnet: &Subnet, out: &mut Vec<u8>) -> Result<(), Memory>
     requires { IsProper subnet.now }
     ensures ok { OnOk result (out.new.items ≡ out.old.items ++ subnet_text subnet.now) }

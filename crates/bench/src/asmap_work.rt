@@ -18,8 +18,8 @@ pub(crate) enum AsmapWork {
 }
 
 impl AsmapWork {
-    /// Does the work over the bytes of the file. Returns the sum of the numbers that were looked up,
-    /// or how often the file was checked.
+    /// Does the work over the bytes of the file. Returns the sum of the numbers that were looked
+    /// up, or how often the file was checked.
     pub fn run(self, code: &[u8]) -> Result<u64, Refusal> {
         match self {
             AsmapWork::Lookups(count) => {

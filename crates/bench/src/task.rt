@@ -45,9 +45,10 @@ fn codecs_kind(word: &String) -> Result<CodecsKind, Refusal> {
 }
 
 impl Task {
-    /// Returns the task that the arguments name: `asmap N`, `check N`, `codecs KIND TIMES`, `table N`,
-    /// `matches N`, `compile TIMES`, `tables N`, `lines LENGTH TIMES`, `index-adds N TIMES`,
-    /// `index-removes N TIMES`, `index-finds N SOME TIMES` or `index-turns N SOME TIMES`.
+    /// Returns the task that the arguments name: `asmap N`, `check N`, `codecs KIND TIMES`,
+    /// `table N`, `matches N`, `compile TIMES`, `tables N`, `lines LENGTH TIMES`,
+    /// `index-adds N TIMES`, `index-removes N TIMES`, `index-finds N SOME TIMES` or
+    /// `index-turns N SOME TIMES`.
     pub fn of(words: &[String]) -> Result<Task, Refusal> {
         match words {
             [command, count] => match command.as_str() {

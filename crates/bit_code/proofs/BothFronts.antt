@@ -11,7 +11,8 @@ use Rattle.bit_code.proofs.LowDigits.{length-low_digits, low_digits_split}
 use Rattle.bit_code.proofs.ReadingLaws.{read_value-again, read_value-takes}
 use Rattle.bit_code.proofs.Fronts.{shorter, shorter_rest, past_the_end, more_after}
 
--- with more bits after them, the bits begin with this kind and this number, which this many bits spell
+-- with more bits after them, the bits begin with this kind and this number, which this many bits
+-- spell
 pub record BeginsWithBoth (kind n kind_len len : ℕ) (bits : List Bool) : Type 0 where
   pub after : List Bool
   pub room : kind_len + len ≤ length (bits ++ after)

@@ -49,14 +49,16 @@ sizes Jump = range_with_len 5 26
 unfoldable pub values_of : List ℕ → ℕ
 values_of classes = sum_by (λ size. 2 ^ size) classes
 
--- The spelling of number n, counted from 0, over classes of these sizes. A zero-bit says that n is of
--- the first class, and its digits follow; a one-bit, that it is of a later class. The last class has
--- no zero-bit.
+-- The spelling of number n, counted from 0, over classes of these sizes. A zero-bit says that n is
+-- of the first class, and its digits follow; a one-bit, that it is of a later class. The last class
+-- has no zero-bit.
 unfoldable pub spelling_by : List ℕ → ℕ → List Bool
 spelling_by [] n = []
 spelling_by (size ∷ []) n = digits size n
 spelling_by (size ∷ next ∷ more) n =
-    if nat_lt n (2 ^ size) then false ∷ digits size n else true ∷ spelling_by (next ∷ more) (n - 2 ^ size)
+    if nat_lt n (2 ^ size)
+    then false ∷ digits size n
+    else true ∷ spelling_by (next ∷ more) (n - 2 ^ size)
 
 -- the bits that spell a value of the coder
 unfoldable pub spelling : Coder → ℕ → List Bool

@@ -7,8 +7,8 @@ use Rattle.bit_code.specs.declared.classes.Classes.{Classes}
 use Rattle.bit_code.specs.declared.coder.Coder.{Coder}
 use Rattle.bit_code.specs.declared.coder.Coder.TheVariants.{Kind, Asn, Match, Jump}
 
--- the low 57 digits of a number, low digit first, are the bits from an offset on; any bits may follow
--- the last one
+-- the low 57 digits of a number, low digit first, are the bits from an offset on; any bits may
+-- follow the last one
 pub record IsWindow (bits : List Bool) (at window : ℕ) : Type 0 where
   pub more : List Bool
   pub after : List Bool
@@ -45,7 +45,8 @@ class_head zero (suc last) = false ∷ []
 class_head (suc class) zero = []
 class_head (suc class) (suc last) = true ∷ class_head class last
 
--- the low digits of a number before this one are set, and it is not, or it is that of the last class
+-- the low digits of a number before this one are set, and it is not, or it is that of the last
+-- class
 pub record IsClass (n class last : ℕ) : Type 0 where
   pub within : class ≤ last
   pub ones : (i : ℕ) → i < class → has_bit n i ≡ true
@@ -58,5 +59,7 @@ AreBytes bytes = (i : ℕ) → slice_index bytes i < 256
 -- eight bytes from byte q on
 abbrev pub eight : List ℕ → ℕ → List ℕ
 eight bytes q =
-    slice_index bytes q ∷ slice_index bytes (q + 1) ∷ slice_index bytes (q + 2) ∷ slice_index bytes (q + 3)
-    ∷ slice_index bytes (q + 4) ∷ slice_index bytes (q + 5) ∷ slice_index bytes (q + 6) ∷ slice_index bytes (q + 7) ∷ []
+    slice_index bytes q ∷ slice_index bytes (q + 1)
+    ∷ slice_index bytes (q + 2) ∷ slice_index bytes (q + 3)
+    ∷ slice_index bytes (q + 4) ∷ slice_index bytes (q + 5)
+    ∷ slice_index bytes (q + 6) ∷ slice_index bytes (q + 7) ∷ []

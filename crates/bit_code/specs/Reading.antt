@@ -5,7 +5,8 @@ use Rattle.bit_code.specs.declared.coder.Coder.{Coder}
 
 -- the number that the first bits are the digits of, and the bits after them
 unfoldable pub digits_at : ℕ → List Bool → Option (ℕ × List Bool)
-digits_at size bits = if nat_lt (length bits) size then None else Some (number_of (take size bits), drop size bits)
+digits_at size bits =
+    if nat_lt (length bits) size then None else Some (number_of (take size bits), drop size bits)
 
 -- what was read, with this many values before it
 abbrev pub after_values : ℕ → Option (ℕ × List Bool) → Option (ℕ × List Bool)

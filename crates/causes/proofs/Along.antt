@@ -7,7 +7,7 @@ use Rattle.peer_rec.specs.declared.fate.Fate.{Fate}
 use Rattle.peer_rec.specs.declared.fate.Fate.TheVariants.{Erased, Kept, Moved}
 use Rattle.table_machine.specs.State.{After, State, by_number, outcome, tried_occupant}
 use Rattle.table_machine.specs.Tried.{good}
-use Rattle.table_machine.specs.Clashes.{after_fate, clash_pick, erase_clash, fate_of, pick_newcomer, pick_opponent, resolve, resolve_all}
+use Rattle.table_machine.specs.Clashes.{after_fate, clash_pick, erase_clash, fate_of, pick_newcomer, pick_occupant, resolve, resolve_all}
 use Rattle.table_machine.specs.Picks.{eligible_at, order_swap, sample, sample_from, sample_limit, with_peers}
 
 -- what holds of a state holds after all decisions, if it is kept when a collision is dropped and
@@ -39,7 +39,7 @@ module _ (st : State) (P : State → Type 0) (same : P st) (erased : (number : �
       number : ℕ
       number = get_or st.collisions (word % length st.collisions) 0
 
-      picked : (o : Option Rec) → P (pick_opponent st o).state
+      picked : (o : Option Rec) → P (pick_occupant st o).state
       picked None = same
       picked (Some occupant) = same
 

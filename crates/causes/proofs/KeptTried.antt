@@ -51,8 +51,8 @@ start Success st p sound has tried success = record {
 }
 
 -- the occupant of a tried slot of a sound state is found
-opponent-is : (st : State) (peer : Peer) (old : Rec) → IsSound st → Contains st.records old → is_at_own st.places peer old ≡ true → tried_occupant st peer ≡ Some old
-opponent-is st peer old sound has at =
+occupant-is : (st : State) (peer : Peer) (old : Rec) → IsSound st → Contains st.records old → is_at_own st.places peer old ≡ true → tried_occupant st peer ≡ Some old
+occupant-is st peer old sound has at =
     find_only (is_at_own st.places peer) st.records old has at
     (λ q c at_q. same_record st.records q old sound.rising c has (sound.tried_slots (tried_bucket st.places peer) (own_slot st.places peer) q old c has at_q at))
 
@@ -110,7 +110,7 @@ module _ (p : Rec) (now : ℕ) (low : now < 2 ^ 32) (places : Places) where
       late n d =
           let same = (peer_found st.records newcomer.peer d.0 d.2).1 in
           let at = subst (λ (x : Peer). is_at_own st.places x d.1 ≡ true) (sym same) d.4.at in
-          moved-late newcomer d.1 now (subst (λ o. fate_by newcomer o now ≡ Moved) (opponent-is st newcomer.peer d.1 m.sound d.4.was at) fate)
+          moved-late newcomer d.1 now (subst (λ o. fate_by newcomer o now ≡ Moved) (occupant-is st newcomer.peer d.1 m.sound d.4.was at) fate)
 
       still : IsStill st → IsStill new ⊎ ((q : Rec) × IsTaken new q)
       still s = ⊎_elim inl (λ d. inr (placed (after_success d.0 now) Tried, leaves d)) (reached-stays p.number p.peer (λ t. (t ≡ p.last_success) ⊎ (t ≡ now)) st now newcomer.peer false (inr refl) s)

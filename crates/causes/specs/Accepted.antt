@@ -44,7 +44,8 @@ Accepts old other peer source = ⊥
 -- One of the lines is a message from the source, and an entry for the peer got a slot when the run
 -- came to this line. (How saves ended before it makes no difference: they leave the machine as it
 -- is.)
-pub record IsAccepted (st : State) (lines : List (List ℕ)) (peer : Peer) (source : Address) : Type 0 where
+pub record IsAccepted (st : State) (lines : List (List ℕ)) (peer : Peer)
+    (source : Address) : Type 0 where
   pub before : List (List ℕ)
   pub line : List ℕ
   pub after : List (List ℕ)

@@ -16,13 +16,15 @@ abbrev pub IsListed : Option Snapshot → Places → ℕ → Peer → ℕ → Ty
 IsListed None places number peer bucket = ⊥
 IsListed (Some snap) places number peer bucket =
     (snap.bucket_count ≡ 1024) × (snap.sum ≡ sum_of places.map)
-    × ((r : Rec) × Contains (appended snap places).records r × (r.number ≡ number) × (r.peer ≡ peer))
+    × ((r : Rec) × Contains (appended snap places).records r
+    × (r.number ≡ number) × (r.peer ≡ peer))
     × Contains snap.listed (bucket, number)
 
 -- Why the record of a number, a peer and a source of its own is in a bucket: an entry for the peer
 -- was accepted, and the bucket is that of the peer and of the entry's source; it is that of the
 -- peer and of the record's own source; or the file listed it.
-pub data IsCaused (Accepted : Peer → Address → Type 0) (Listed : ℕ → Peer → ℕ → Type 0) (places : Places)
+pub data IsCaused (Accepted : Peer → Address → Type 0)
+    (Listed : ℕ → Peer → ℕ → Type 0) (places : Places)
     (number : ℕ) (peer : Peer) (own : Address) (bucket : ℕ) : Type 0 where
   Told : (source : Address) → Accepted peer source → bucket ≡ new_bucket places peer source
       → IsCaused Accepted Listed places number peer own bucket
@@ -39,7 +41,8 @@ AreCaused Accepted Listed st =
 -- the peer or is the record's own
 abbrev pub IsBy : (Peer → Address → Type 0) → Places → List (List ℕ) → Rec → ℕ → Type 0
 IsBy Accepted places groups r bucket =
-    (source : Address) × Contains groups (group places source) × (Accepted r.peer source ⊎ (source ≡ r.source))
+    (source : Address) × Contains groups (group places source)
+    × (Accepted r.peer source ⊎ (source ≡ r.source))
     × (bucket ≡ new_bucket places r.peer source)
 
 -- the buckets that sources of some groups reach: the 64 of each group in turn
@@ -50,11 +53,15 @@ reach places groups = flat_map (source_buckets places) groups
 -- many they are and whatever else the node is told between, have put records into 64 buckets a
 -- group at most. The tried records of one group are in 8 buckets at most.
 pub record IsBounded (Accepted : Peer → Address → Type 0) (st : State) : Type 0 where
-  pub new_source : (r : Rec) → Contains st.records r → (bucket : ℕ) → Contains (buckets_of r) bucket → (source : Address)
-      → IsBy Accepted st.places (group st.places source ∷ []) r bucket → Contains (source_buckets st.places (group st.places source)) bucket
-  pub new_groups : (groups : List (List ℕ)) (r : Rec) → Contains st.records r → (bucket : ℕ) → Contains (buckets_of r) bucket
+  pub new_source : (r : Rec) → Contains st.records r → (bucket : ℕ)
+      → Contains (buckets_of r) bucket → (source : Address)
+      → IsBy Accepted st.places (group st.places source ∷ []) r bucket
+      → Contains (source_buckets st.places (group st.places source)) bucket
+  pub new_groups : (groups : List (List ℕ)) (r : Rec) → Contains st.records r → (bucket : ℕ)
+      → Contains (buckets_of r) bucket
       → IsBy Accepted st.places groups r bucket → Contains (reach st.places groups) bucket
   pub new_count : (groups : List (List ℕ)) → length (reach st.places groups) ≡ 64 * length groups
   pub tried_group : (r : Rec) → Contains st.records r → is_tried r ≡ true
-      → Contains (group_buckets st.places (group st.places r.peer.addr)) (tried_bucket st.places r.peer)
+      → Contains (group_buckets st.places (group st.places r.peer.addr))
+      (tried_bucket st.places r.peer)
   pub tried_count : (peer_group : List ℕ) → length (group_buckets st.places peer_group) ≡ 8

@@ -39,12 +39,16 @@ pub record IsAfter (st : State) (lines before : List (List ℕ)) (h : History) :
 -- What holds after each line of a run that began with the tables of a file, or with empty ones.
 -- Each state is sound. Each bucket has a cause, and sources reach few of them. And over the next
 -- line each tried record stays, unless another one displaces it.
-pub record KeepsCauses (file : Option Snapshot) (places : Places) (st : State) (lines : List (List ℕ)) : Type 0 where
-  pub sound : (before : List (List ℕ)) (h : History) → IsAfter st lines before h → IsSound h.now.machine.tables
-  pub same_places : (before : List (List ℕ)) (h : History) → IsAfter st lines before h → h.now.machine.tables.places ≡ places
+pub record KeepsCauses (file : Option Snapshot) (places : Places) (st : State)
+    (lines : List (List ℕ)) : Type 0 where
+  pub sound : (before : List (List ℕ)) (h : History) → IsAfter st lines before h
+      → IsSound h.now.machine.tables
+  pub same_places : (before : List (List ℕ)) (h : History) → IsAfter st lines before h
+      → h.now.machine.tables.places ≡ places
   pub causes : (before : List (List ℕ)) (h : History) → IsAfter st lines before h
       → AreCaused (IsAccepted st before) (IsListed file places) h.now.machine.tables
   pub reach : (before : List (List ℕ)) (h : History) → IsAfter st lines before h
       → IsBounded (IsAccepted st before) h.now.machine.tables
   pub tried : (before : List (List ℕ)) (h : History) → IsAfter st lines before h
-      → (line text : List ℕ) (next : History) → Step h line text next → KeepsTried h.now.machine line next.now.machine
+      → (line text : List ℕ) (next : History) → Step h line text next
+      → KeepsTried h.now.machine line next.now.machine

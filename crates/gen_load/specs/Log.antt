@@ -68,7 +68,9 @@ peer_line word end at = drawn (word ++ peer_text (draw_peer at) ++ end) (past at
 -- an `addr` message from a source, with a seed for one random word an entry
 abbrev pub message_line : Address → List Entry → ℕ → List ℕ
 message_line source entries seed =
-    codes "addr " ++ addr_text source ++ codes " " ++ encode_lower (message_text addr_entry_text entries) ++ codes " @" ++ decimal seed ++ codes ":"
+    codes "addr " ++ addr_text source ++ codes " "
+    ++ encode_lower (message_text addr_entry_text entries) ++ codes " @" ++ decimal seed
+    ++ codes ":"
     ++ decimal (length entries)
 
 -- a source, the number of entries, the entries, and the seed
@@ -81,12 +83,14 @@ addr_line at =
     drawn (message_line source (draw_entries count first) (draw (2 ^ 32) end)) (past end)
 
 abbrev pub select_line : Position → Drawn
-select_line at = drawn (codes "select any all @" ++ decimal (draw (2 ^ 32) at) ++ codes ":" ++ decimal 300) (past at)
+select_line at =
+    drawn (codes "select any all @" ++ decimal (draw (2 ^ 32) at) ++ codes ":" ++ decimal 300)
+    (past at)
 
 abbrev pub clash_line : Position → Drawn
 clash_line at = drawn (codes "clash " ++ decimal (draw (2 ^ 32) at)) (past at)
 
--- which of sixteen numbers stands for which kind of line
+-- the kind of line for each of sixteen numbers
 abbrev pub kind_of : ℕ → Kind
 kind_of n =
     if nat_lt n 2 then kind.Now

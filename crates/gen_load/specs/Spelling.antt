@@ -11,7 +11,8 @@ use Rattle.gen_load.specs.declared.generated.TheConstants.{MAX_LENGTH}
 -- the peers of a message are routable
 abbrev pub HasRoutablePeers : List ℕ → Type 0
 HasRoutablePeers payload =
-    (entries : List (Option Entry)) → IsAddrMessage payload entries → (e : Entry) → Contains entries (Some e) → is_routable e.peer.addr ≡ true
+    (entries : List (Option Entry)) → IsAddrMessage payload entries → (e : Entry)
+    → Contains entries (Some e) → is_routable e.peer.addr ≡ true
 
 -- a command of one of the eight kinds that logs have, of which none saves; its source and its peers
 -- are routable

@@ -22,7 +22,7 @@ pub enum Kind {
     Resolve,
 }
 
-/// Returns the kind that a number below 16 stands for.
+/// Returns the kind of line for a number below 16.
 pub fn kind_of(number: u64) -> Kind
     ensures { result ≡ kind_of number }
 {

@@ -1,4 +1,4 @@
-//! A log for trials that looks like a part of a node's life: its lines follow from a number alone.
+//! A log for trials that looks like a part of a node's life: its lines follow from one number.
 #![tactic(auto)]
 
 mod generated;

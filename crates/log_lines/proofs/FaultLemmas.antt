@@ -35,7 +35,7 @@ same_first (kind ∷ kinds) (text ∷ texts) f g (inl h) (inr k) = absurd (h.0 k
 same_first (kind ∷ kinds) (text ∷ texts) f g (inr h) (inl k) = absurd (k.0 h.0)
 same_first (kind ∷ kinds) (text ∷ texts) f g (inr h) (inr k) = same_first kinds texts f g h.1 k.1
 
-same_fault : (kinds : List Kind) (texts : List (List ℕ)) (f g : LineFault) → AreAtFault kinds texts f → AreAtFault kinds texts g → f ≡ g
+pub same_fault : (kinds : List Kind) (texts : List (List ℕ)) (f g : LineFault) → AreAtFault kinds texts f → AreAtFault kinds texts g → f ≡ g
 same_fault kinds texts f g (inl h) (inl k) = h.1 ∙ sym k.1
 same_fault kinds texts f g (inl h) (inr k) = absurd (h.0 k.0)
 same_fault kinds texts f g (inr h) (inl k) = absurd (k.0 h.0)

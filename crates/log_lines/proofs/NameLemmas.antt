@@ -260,7 +260,7 @@ no_classes text apart unnamed form = elim form.1.2 [ inl h ↦ apart h.0 | inr h
 pub no_nets : (text : List ℕ) → text ≢ codes "all" → ((nets : List Net) → AreNames text nets → ¬ All (λ net. net ≢ Unroutable) nets) → ¬ IsInForm Nets text
 no_nets text apart unnamed form = elim form.1.2 [ inl h ↦ apart h.0 | inr h ↦ unnamed h.0 h.1 h.2 ]
 
--- a text whose set has `unroutable` names no networks alone
+-- a text whose set has `unroutable` names something that is no network
 pub some_unroutable : (text set : List ℕ) (nets : List Net) → AreNames text nets → set ≡ set_of nets → has set Unroutable ≡ true →
     (ys : List Net) → AreNames text ys → ¬ All (λ net. net ≢ Unroutable) ys
 some_unroutable text set nets named is has_it ys others routable =

@@ -46,11 +46,11 @@ one_value Classes text a b definite h k = h.1 ∙ ap TheNets (one_classes text h
 
 -- ---- the fields of a line
 
-AreDefinite : List Kind → Type 0
+unfoldable pub AreDefinite : List Kind → Type 0
 AreDefinite [] = Unit {0}
 AreDefinite (kind ∷ kinds) = IsDefinite kind × AreDefinite kinds
 
-one_list : (kinds : List Kind) (texts : List (List ℕ)) (xs ys : List Value) → AreDefinite kinds → AllMean kinds texts xs → AllMean kinds texts ys → xs ≡ ys
+pub one_list : (kinds : List Kind) (texts : List (List ℕ)) (xs ys : List Value) → AreDefinite kinds → AllMean kinds texts xs → AllMean kinds texts ys → xs ≡ ys
 unfolding AreDefinite
 one_list [] [] [] [] definite h k = refl
 one_list (kind ∷ kinds) (text ∷ texts) (x ∷ xs) (y ∷ ys) definite h k =

@@ -45,16 +45,20 @@ IsHex text bytes = ((text ≡ codes "-") × (bytes ≡ [])) ⊎ ((text ≢ []) �
 
 -- numbers below 2^64 with commas between them
 abbrev pub AreNumbers : List ℕ → List ℕ → Type 0
-AreNumbers text words = (words ≢ []) × All (λ w. w < 2 ^ 64) words × (text ≡ join_with_byte 44 (map decimal words))
+AreNumbers text words =
+    (words ≢ []) × All (λ w. w < 2 ^ 64) words × (text ≡ join_with_byte 44 (map decimal words))
 
 -- `@S:N`, the first N words of the generator that the seed S gives, at most `MAX_SEEDED`
 abbrev pub AreSeeded : List ℕ → List ℕ → Type 0
 AreSeeded text words =
-    (seed : ℕ) × (count : ℕ) × (seed < 2 ^ 64) × (count ≤ MAX_SEEDED) × (text ≡ codes "@" ++ decimal seed ++ codes ":" ++ decimal count) × (words ≡ seeded_words seed count)
+    (seed : ℕ) × (count : ℕ) × (seed < 2 ^ 64) × (count ≤ MAX_SEEDED)
+    × (text ≡ codes "@" ++ decimal seed ++ codes ":" ++ decimal count)
+    × (words ≡ seeded_words seed count)
 
 -- `-` for no words, numbers, or a seed
 abbrev pub AreWords : List ℕ → List ℕ → Type 0
-AreWords text words = ((text ≡ codes "-") × (words ≡ [])) ⊎ (AreNumbers text words ⊎ AreSeeded text words)
+AreWords text words =
+    ((text ≡ codes "-") × (words ≡ [])) ⊎ (AreNumbers text words ⊎ AreSeeded text words)
 
 -- the name of a network, or of a class that no network has
 abbrev pub net_name : Net → List ℕ
@@ -66,7 +70,7 @@ net_name I2p = codes "i2p"
 net_name Cjdns = codes "cjdns"
 net_name Internal = codes "internal"
 
--- one name or more with commas between them, none twice, in any order
+-- the names, at least one and each once, in any order and separated by commas
 pub record AreNames (text : List ℕ) (nets : List Net) : Type 0 where
   pub some : nets ≢ []
   pub once : AllPairs (λ a b. a ≢ b) nets
@@ -78,12 +82,16 @@ set_of nets = fold with none nets
 
 -- `all`, or the names of classes of addresses
 abbrev pub AreClasses : List ℕ → List ℕ → Type 0
-AreClasses text set = ((text ≡ codes "all") × (set ≡ all)) ⊎ ((nets : List Net) × AreNames text nets × (set ≡ set_of nets))
+AreClasses text set =
+    ((text ≡ codes "all") × (set ≡ all))
+    ⊎ ((nets : List Net) × AreNames text nets × (set ≡ set_of nets))
 
 -- `all`, or the names of networks, of which `unroutable` is none
 abbrev pub AreNets : List ℕ → List ℕ → Type 0
 AreNets text set =
-    ((text ≡ codes "all") × (set ≡ all)) ⊎ ((nets : List Net) × AreNames text nets × All (λ net. net ≢ Unroutable) nets × (set ≡ set_of nets))
+    ((text ≡ codes "all") × (set ≡ all))
+    ⊎ ((nets : List Net) × AreNames text nets × All (λ net. net ≢ Unroutable) nets
+    × (set ≡ set_of nets))
 
 abbrev pub choice : List ℕ → List ℕ → Bool → List ℕ
 choice first second true = first
@@ -91,7 +99,8 @@ choice first second false = second
 
 -- the text is of the kind and has the value
 abbrev pub Means : Kind → List ℕ → Value → Type 0
-Means (Number least most) text v = (n : ℕ) × (v ≡ TheNumber n) × (least ≤ n) × (n ≤ most) × (text ≡ decimal n)
+Means (Number least most) text v =
+    (n : ℕ) × (v ≡ TheNumber n) × (least ≤ n) × (n ≤ most) × (text ≡ decimal n)
 Means OfAddr text v = (a : Address) × (v ≡ TheAddr a) × IsAddrText text a
 Means OfPeer text v = (p : Peer) × (v ≡ ThePeer p) × IsPeerText text p
 Means Hex text v = (bytes : List ℕ) × (v ≡ TheBytes bytes) × IsHex text bytes
@@ -141,11 +150,13 @@ IsFieldFault kind text f = ¬ IsInForm kind text × (f ≡ fault_of kind)
 
 -- the fault of the first text that is not of its kind
 abbrev pub IsFirstFault : List Kind → List (List ℕ) → LineFault → Type 0
-IsFirstFault (kind ∷ kinds) (text ∷ texts) f = IsFieldFault kind text f ⊎ (IsInForm kind text × IsFirstFault kinds texts f)
+IsFirstFault (kind ∷ kinds) (text ∷ texts) f =
+    IsFieldFault kind text f ⊎ (IsInForm kind text × IsFirstFault kinds texts f)
 IsFirstFault [] texts f = ⊥
 IsFirstFault (kind ∷ kinds) [] f = ⊥
 
 -- what is wrong in the fields: how many they are, or else the first that is not of its kind
 abbrev pub AreAtFault : List Kind → List (List ℕ) → LineFault → Type 0
 AreAtFault kinds texts f =
-    ((length texts ≢ length kinds) × (f ≡ fault.Fields)) ⊎ ((length texts ≡ length kinds) × IsFirstFault kinds texts f)
+    ((length texts ≢ length kinds) × (f ≡ fault.Fields))
+    ⊎ ((length texts ≡ length kinds) × IsFirstFault kinds texts f)

@@ -34,7 +34,9 @@ seen_text r = codes " time " ++ decimal r.time ++ codes " services " ++ decimal 
 
 -- when a peer was reached and tried, and how often it failed since
 abbrev pub tries_text : Rec → List ℕ
-tries_text r = codes " success " ++ decimal r.last_success ++ codes " try " ++ decimal r.last_try ++ codes " attempts " ++ decimal r.attempts
+tries_text r =
+    codes " success " ++ decimal r.last_success ++ codes " try " ++ decimal r.last_try
+    ++ codes " attempts " ++ decimal r.attempts
 
 -- a record on one line
 abbrev pub rec_text : Rec → List ℕ
@@ -75,14 +77,18 @@ picked_text picked.TheVariants.Exhausted = codes "exhausted"
 
 abbrev pub size_text : Counts → List ℕ
 size_text counts =
-    codes "size new " ++ decimal counts.new_count ++ codes " tried " ++ decimal counts.tried_count ++ codes " clashes " ++ decimal counts.clashes
+    codes "size new " ++ decimal counts.new_count ++ codes " tried " ++ decimal counts.tried_count
+    ++ codes " clashes " ++ decimal counts.clashes
 
 abbrev pub resolved_text : Resolved → List ℕ
-resolved_text r = codes "resolved erased " ++ decimal r.erased ++ codes " moved " ++ decimal r.moved ++ codes " kept " ++ decimal r.kept
+resolved_text r =
+    codes "resolved erased " ++ decimal r.erased ++ codes " moved " ++ decimal r.moved
+    ++ codes " kept " ++ decimal r.kept
 
 -- how many peers there are, and each after a space
 abbrev pub sample_text : List Peer → List ℕ
-sample_text peers = codes "sample " ++ decimal (length peers) ++ flat_map (λ p. codes " " ++ peer_text p) peers
+sample_text peers =
+    codes "sample " ++ decimal (length peers) ++ flat_map (λ p. codes " " ++ peer_text p) peers
 
 abbrev pub clash_text : Option (Peer × ℕ) → List ℕ
 clash_text None = codes "none"
@@ -90,11 +96,13 @@ clash_text (Some p) = timed_text (codes "clash ") p.0 p.1
 
 -- each record on a line of its own, and how many there are
 abbrev pub dump_text : List Rec → List ℕ
-dump_text records = flat_map (λ q. rec_text q ++ codes "\n") records ++ codes "end " ++ decimal (length records)
+dump_text records =
+    flat_map (λ q. rec_text q ++ codes "\n") records ++ codes "end " ++ decimal (length records)
 
 abbrev pub reply_line : Reply → List ℕ
 reply_line (r.Now time) = codes "now " ++ decimal time
-reply_line (r.Added accepted total) = codes "added " ++ decimal accepted ++ codes " of " ++ decimal total
+reply_line (r.Added accepted total) =
+    codes "added " ++ decimal accepted ++ codes " of " ++ decimal total
 reply_line (r.Refused fault) = codes "refused " ++ fault_text fault
 reply_line (r.Short need have) = codes "short " ++ decimal need ++ codes " " ++ decimal have
 reply_line (r.Good answer) = good_text answer

@@ -91,7 +91,8 @@ values_of (c.Services peer services) = ThePeer peer ∷ TheNumber services ∷ [
 values_of (c.Find peer) = ThePeer peer ∷ []
 values_of c.Size = []
 values_of (c.Select new_only nets words) = TheChoice new_only ∷ TheNets nets ∷ TheWords words ∷ []
-values_of (c.Sample max pct classes words) = TheNumber max ∷ TheNumber pct ∷ TheNets classes ∷ TheWords words ∷ []
+values_of (c.Sample max pct classes words) =
+    TheNumber max ∷ TheNumber pct ∷ TheNets classes ∷ TheWords words ∷ []
 values_of c.Resolve = []
 values_of (c.Clash word) = TheNumber word ∷ []
 values_of c.Dump = []
@@ -102,16 +103,20 @@ values_of c.SaveEnd = []
 
 -- the fields after this word spell the command
 abbrev pub SpellsAfter : Verb → List (List ℕ) → Command → Type 0
-SpellsAfter verb texts command = (verb ≡ verb_of command) × AllMean (kinds_of verb) texts (values_of command)
+SpellsAfter verb texts command =
+    (verb ≡ verb_of command) × AllMean (kinds_of verb) texts (values_of command)
 
 -- the line spells the command
 abbrev pub Spells : List ℕ → Command → Type 0
 Spells line command =
-    (verb : Verb) × (texts : List (List ℕ)) × (fields_of line ≡ word_of verb ∷ texts) × SpellsAfter verb texts command
+    (verb : Verb) × (texts : List (List ℕ)) × (fields_of line ≡ word_of verb ∷ texts)
+    × SpellsAfter verb texts command
 
 -- what is wrong in a line that is not passed over: its first word is that of no command, or else
 -- one of its other fields is malformed, or there are too few or too many
 abbrev pub HasFault : List ℕ → LineFault → Type 0
 HasFault line f =
-    ¬ IsPassedOver line × ((word : List ℕ) × (texts : List (List ℕ)) × (fields_of line ≡ word ∷ texts) ×
-    ((((verb : Verb) → word ≢ word_of verb) × (f ≡ fault.Word)) ⊎ ((verb : Verb) × (word ≡ word_of verb) × AreAtFault (kinds_of verb) texts f)))
+    ¬ IsPassedOver line
+    × ((word : List ℕ) × (texts : List (List ℕ)) × (fields_of line ≡ word ∷ texts) ×
+    ((((verb : Verb) → word ≢ word_of verb) × (f ≡ fault.Word))
+    ⊎ ((verb : Verb) × (word ≡ word_of verb) × AreAtFault (kinds_of verb) texts f)))

@@ -81,7 +81,7 @@ pub fn read_either(text: &[u8], first: &[u8], second: &[u8]) -> Result<bool, Lin
 }
 
 /// Reads bytes: `-` for none, or two hexadecimal digits a byte, in either case.
-pub fn read_hex(alloc: Global, text: &[u8]) -> Result<Bytes, LineFault>
+pub(crate) fn read_hex(alloc: Global, text: &[u8]) -> Result<Bytes, LineFault>
     ensures found { IfOk result (λ bytes. IsHex text.now bytes) }
     ensures only { (bytes : List ℕ) → IsHex text.now bytes →
         (result ≡ Ok bytes) ⊎ (result ≡ Err LineFault.Memory) }
@@ -102,7 +102,7 @@ pub fn read_hex(alloc: Global, text: &[u8]) -> Result<Bytes, LineFault>
 }
 
 /// Reads the bytes of a payload.
-pub(crate) fn read_payload(alloc: Global, text: &[u8]) -> Result<Bytes, LineFault>
+pub fn read_payload(alloc: Global, text: &[u8]) -> Result<Bytes, LineFault>
     ensures found { IfOk result (λ bytes. Means Hex text.now (TheBytes bytes)) }
     ensures fault { (f : LineFault) → result ≡ Err f → f ≢ LineFault.Memory →
         IsFieldFault Hex text.now f }
@@ -111,7 +111,7 @@ pub(crate) fn read_payload(alloc: Global, text: &[u8]) -> Result<Bytes, LineFaul
 }
 
 /// Reads random words.
-pub(crate) fn read_random(alloc: Global, text: &[u8]) -> Result<Words, LineFault>
+pub fn read_random(alloc: Global, text: &[u8]) -> Result<Words, LineFault>
     requires { length text.now ≤ MAX_LINE }
     ensures found { IfOk result (λ words. Means Random text.now (TheWords words)) }
     ensures fault { (f : LineFault) → result ≡ Err f → f ≢ LineFault.Memory →

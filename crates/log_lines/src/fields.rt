@@ -24,7 +24,7 @@ pub(crate) fn no_fields(rest: Option<&[u8]>) -> bool
 }
 
 /// Returns the field if there is only one.
-pub(crate) fn one_field(rest: Option<&[u8]>) -> Option<&[u8]>
+pub fn one_field(rest: Option<&[u8]>) -> Option<&[u8]>
     ensures found { IfSome result (λ a. texts_after rest.entry ≡ a.now ∷ []) }
     ensures none { IfNone result (length (texts_after rest.entry) ≢ 1) }
     ensures short { IfSome result (λ found. IfSome rest.entry (λ text.
@@ -35,7 +35,7 @@ pub(crate) fn one_field(rest: Option<&[u8]>) -> Option<&[u8]>
 }
 
 /// Returns the fields if there are two.
-pub(crate) fn two_fields(rest: Option<&[u8]>) -> Option<(&[u8], &[u8])>
+pub fn two_fields(rest: Option<&[u8]>) -> Option<(&[u8], &[u8])>
     ensures found { IfSome result (λ fields. texts_after rest.entry
         ≡ fields.0.now ∷ fields.1.now ∷ []) }
     ensures none { IfNone result (length (texts_after rest.entry) ≢ 2) }
@@ -48,7 +48,7 @@ pub(crate) fn two_fields(rest: Option<&[u8]>) -> Option<(&[u8], &[u8])>
 }
 
 /// Returns the fields if there are three.
-pub(crate) fn three_fields(rest: Option<&[u8]>) -> Option<(&[u8], &[u8], &[u8])>
+pub fn three_fields(rest: Option<&[u8]>) -> Option<(&[u8], &[u8], &[u8])>
     ensures found { IfSome result (λ fields. texts_after rest.entry
         ≡ fields.0.now ∷ fields.1.now ∷ fields.2.now ∷ []) }
     ensures none { IfNone result (length (texts_after rest.entry) ≢ 3) }

@@ -18,8 +18,8 @@ mod words;
 
 pub use command::Command;
 pub use fault::LineFault;
-pub use field::{read_addr, read_decimal, read_either, read_hex, read_u32};
-pub use fields::cut_field;
+pub use field::{read_addr, read_decimal, read_either, read_payload, read_random, read_u32};
+pub use fields::{cut_field, one_field, three_fields, two_fields};
 pub use host_io::split_line;
 pub use law::{fields_have_one_value, limits, lines_have_one_meaning};
 pub use memory::Memory;

@@ -11,11 +11,14 @@ use net_addr::{Peer, put_addr, put_peer};
 use peer_rec::{Counts, Good, Picked, Place, Rec, Resolved};
 use std::alloc::Global;
 
+/// Room for the text of most replies, so that it seldom grows.
+const REPLY_ROOM: usize = 128;
+
 /// Returns the text of a reply, which ends with a line feed.
 pub fn reply_text(alloc: Global, reply: &Reply) -> Result<Vec<u8>, Memory>
     ensures { IfOk result (λ text. text.items ≡ reply_text reply.now) }
 {
-    let mut text = Vec::new(alloc);
+    let mut text = Vec::with_capacity(alloc, REPLY_ROOM)?;
     put_line(reply, &mut text)?;
     put_text(&[LINE_FEED], &mut text)?;
     Ok(text)

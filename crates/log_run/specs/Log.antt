@@ -7,8 +7,8 @@ use Rattle.log_run.specs.declared.limits.TheConstants.{MAX_LINE, MAX_LOG, MAX_RE
 abbrev pub HasNoFeed : List ℕ → Type 0
 HasNoFeed bytes = All (λ b. b ≢ 10) bytes
 
--- The log begins with these lines, each within its limit. They end within its first `MAX_LOG` bytes,
--- and `rest` comes after them.
+-- The log begins with these lines, each within its limit. They end within its first `MAX_LOG`
+-- bytes, and `rest` comes after them.
 pub record BeginsWith (log : List ℕ) (lines : List (List ℕ)) (rest : List ℕ) : Type 0 where
   pub bytes : List ℕ
   pub whole : log ≡ bytes ++ rest

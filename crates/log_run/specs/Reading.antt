@@ -11,15 +11,18 @@ pub record Reading : Type 0 where
 
 -- fewer bytes than one read may take wait after the end of the next line
 abbrev pub IsRecent : List ℕ → Type 0
-IsRecent waiting = (line : List ℕ) → (after : List ℕ) → waiting ≡ line ++ 10 ∷ after → length after < MAX_READ
+IsRecent waiting =
+    (line : List ℕ) → (after : List ℕ) → waiting ≡ line ++ 10 ∷ after → length after < MAX_READ
 
 -- these bytes were read since
 abbrev pub HasRead : List ℕ → Reading → Reading → Type 0
-HasRead piece old new = (new.waiting ≡ old.waiting ++ piece) × (new.taken ≡ old.taken + length piece)
+HasRead piece old new =
+    (new.waiting ≡ old.waiting ++ piece) × (new.taken ≡ old.taken + length piece)
 
 -- The first n bytes that wait are the next line: a line feed follows, or the log has ended.
 pub data IsNext (now : Reading) (n : ℕ) : Type 0 where
-  fed : (after : List ℕ) → now.waiting ≡ take n now.waiting ++ 10 ∷ after → length after < MAX_READ → now.is_ended ≡ false → IsNext now n
+  fed : (after : List ℕ) → now.waiting ≡ take n now.waiting ++ 10 ∷ after
+      → length after < MAX_READ → now.is_ended ≡ false → IsNext now n
   last : length now.waiting ≡ n → 0 < n → IsTrue now.is_ended → IsNext now n
 
 -- The next line, within its limit.
@@ -38,4 +41,5 @@ IsLong now = HasNoFeed (take (MAX_LINE + 1) now.waiting) × (MAX_LINE < length n
 abbrev pub HasMore : Reading → Reading → Option (List ℕ) → Option (List ℕ) → Type 0
 HasMore old now before after =
     (bytes : List ℕ) → before ≡ Some bytes →
-    (more : List ℕ) × (more ≢ []) × (old.waiting ++ bytes ≡ now.waiting ++ more) × (after ≡ Some (drop 1 more))
+    (more : List ℕ) × (more ≢ []) × (old.waiting ++ bytes ≡ now.waiting ++ more)
+    × (after ≡ Some (drop 1 more))

@@ -17,7 +17,8 @@ Steps S = S → List ℕ → List ℕ → S → Type 0
 abbrev pub Run : {S : Type 0} → Steps S → S → List (List ℕ) → List ℕ → S → Type 0
 Run step old [] text new = (text ≡ []) × (new ≡ old)
 Run {S = S} step old (line ∷ lines) text new =
-    (first : List ℕ) × (rest : List ℕ) × (mid : S) × (text ≡ first ++ rest) × step old line first mid
+    (first : List ℕ) × (rest : List ℕ) × (mid : S) × (text ≡ first ++ rest)
+    × step old line first mid
     × Run step mid lines rest new
 
 -- The bytes that were known of a log and of an output before and after.
@@ -26,12 +27,13 @@ pub record Streams : Type 0 where
   pub written : Option (List ℕ)
 
 -- The next line of the log after the lines that are answered, and the bytes after it.
-pub record NextLine (log : List ℕ) (answered : List (List ℕ)) (next line after : List ℕ) : Type 0 where
+pub record NextLine (log : List ℕ) (answered : List (List ℕ))
+    (next line after : List ℕ) : Type 0 where
   pub begins : BeginsWith log (answered ++ line ∷ []) after
   pub split : lines_of next ≡ line ∷ lines_of after
 
--- The first bytes of those that are not answered, which have no line feed, and the bytes after them.
--- The first ones end within the first `MAX_LOG` bytes of the log.
+-- The first bytes of those that are not answered, which have no line feed, and the bytes after
+-- them. The first ones end within the first `MAX_LOG` bytes of the log.
 pub record NoLine (log next first more : List ℕ) : Type 0 where
   pub whole : next ≡ first ++ more
   pub no_feed : HasNoFeed first
@@ -39,7 +41,8 @@ pub record NoLine (log next first more : List ℕ) : Type 0 where
 
 -- How a run ends: what of the log is not answered, which part of the next reply was written, and
 -- what is left of the log.
-abbrev pub EndsBy : {S : Type 0} → Steps S → (List ℕ → LineFault → Type 0) → (log : List ℕ) → (answered : List (List ℕ))
+abbrev pub EndsBy : {S : Type 0} → Steps S → (List ℕ → LineFault → Type 0) → (log : List ℕ)
+    → (answered : List (List ℕ))
     → (next : List ℕ) → (now : S) → (part : List ℕ) → Streams → Streams → LogEnd → Type 0
 EndsBy step has_fault log answered next now part old new Done =
     (part ≡ []) × (next ≡ []) × IfSome old.left (λ _. new.left ≡ Some [])
@@ -56,8 +59,10 @@ EndsBy step has_fault log answered next now part old new ReadFault =
     (part ≡ []) × ((first : List ℕ) × (more : List ℕ) × NoLine log next first more
     × (length first ≤ MAX_LINE) × IfSome old.left (λ _. new.left ≡ Some more))
 EndsBy {S = S} step has_fault log answered next now part old new WriteFault =
-    (line : List ℕ) × (after : List ℕ) × (rest : List ℕ) × (later : S) × NextLine log answered next line after
-    × step now line (part ++ rest) later × IfSome old.written (λ _. rest ≢ []) × IsNear after old.left new.left
+    (line : List ℕ) × (after : List ℕ) × (rest : List ℕ) × (later : S)
+    × NextLine log answered next line after
+    × step now line (part ++ rest) later × IfSome old.written (λ _. rest ≢ [])
+    × IsNear after old.left new.left
 EndsBy step has_fault log answered next now part old new Memory = part ≡ []
 
 -- A run over a log: the replies to its first lines were written, and perhaps a part of the next.

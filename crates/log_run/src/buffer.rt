@@ -64,7 +64,8 @@ impl Buffer {
             × ((piece : List ℕ) × (self.new ≡ self.old ++ piece) × (length piece ≡ n))) }
         ensures moved { OnOk result (MovesBytes (L.left source.old) (L.left source.new)
             self.old self.new) }
-        ensures end { IfOk result (λ n. IfSome (L.left source.old) (λ bytes. (n ≡ 0) ↔ (bytes ≡ []))) }
+        ensures end { IfOk result (λ n.
+            IfSome (L.left source.old) (λ bytes. (n ≡ 0) ↔ (bytes ≡ []))) }
         ensures err { OnErr result ((self.new ≡ self.old)
             × (L.left source.new ≡ L.left source.old)) }
         ensures unknown { IfNone (L.left source.old) (L.left source.new ≡ None) }

@@ -1,4 +1,4 @@
-//! The run over a log: it is read in pieces, and each line is carried out as soon as it is there.
+//! The run over a log: it is read in pieces, and a line is carried out when its end is read.
 #![tactic(auto)]
 
 mod buffer;

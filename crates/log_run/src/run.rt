@@ -14,7 +14,8 @@ use std::alloc::Global;
 
 /// Returns how a run ends at the line with this number, which is not carried out.
 fn end_at(stop: Stop, line: u64) -> LogEnd
-    ensures fault { (fault : LineFault) → stop ≡ Stop.Fault fault → result ≡ LogEnd.Fault line fault }
+    ensures fault { (fault : LineFault) → stop ≡ Stop.Fault fault
+        → result ≡ LogEnd.Fault line fault }
     ensures memory { stop ≡ Stop.Memory → result ≡ LogEnd.Memory }
     ensures other { (result ≢ LogEnd.ReadFault) × (result ≢ LogEnd.WriteFault) }
 {

@@ -21,7 +21,8 @@ entry time = record { time = time; services = 1; peer = record { addr = dns; por
 abbrev stored : ℕ → ℕ → Address → ℕ
 stored now time source = (clamp_time (entry time) now).time - penalty_of (entry time) source 7200
 
--- long past, just not; ten minutes ahead, and a second more; with a clock near 0; announced by the peer itself
+-- long past, just not; ten minutes ahead, and a second more; with a clock near 0; announced by the
+-- peer itself
 stored_times :
     stored 1700000000 100000000 other
     ∷ stored 1700000000 100000001 other

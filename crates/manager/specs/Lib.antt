@@ -1,4 +1,3 @@
 pub mod Machine
 pub mod Messages
 pub mod Step
-pub mod Inside

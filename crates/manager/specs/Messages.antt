@@ -10,7 +10,9 @@ use Rattle.manager.specs.Machine.{Machine}
 -- a time long past or ahead counts as five days ago
 abbrev pub clamp_time : Entry → ℕ → Entry
 clamp_time entry now =
-    if nat_le entry.time 100000000 || nat_lt (now + 600) entry.time then record entry { time = now - 432000 } else entry
+    if nat_le entry.time 100000000 || nat_lt (now + 600) entry.time
+    then record entry { time = now - 432000 }
+    else entry
 
 -- what is subtracted from the time of an entry that a peer announces of another, in seconds
 abbrev pub message_penalty : ℕ
@@ -19,7 +21,8 @@ message_penalty = 7200
 -- an entry of a message, with its word; a skipped one changes nothing
 abbrev pub take_entry : State → ℕ → Option Entry → Address → ℕ → After Bool
 take_entry st now None source word = no st
-take_entry st now (Some entry) source word = add st now (clamp_time entry now) source message_penalty word
+take_entry st now (Some entry) source word =
+    add st now (clamp_time entry now) source message_penalty word
 
 -- the count of entries that got a slot, with one more entry before the rest
 abbrev pub with_entry : After Bool → After ℕ → After ℕ

@@ -7,7 +7,7 @@ use Rattle.addr_codecs.specs.declared.fault.MsgFault.{MsgFault}
 use Rattle.addr_codecs.specs.declared.fault.MsgFault.TheVariants as msg
 use Rattle.peer_rec.specs.Rec.{is_tried}
 use Rattle.peer_rec.specs.declared.counts.Counts.{Counts}
-use Rattle.table_machine.specs.State.{State, find_peer}
+use Rattle.table_machine.specs.State.{State, After, find_peer}
 use Rattle.table_machine.specs.Tried.{good, attempt, connected, set_services}
 use Rattle.table_machine.specs.Clashes.{resolve, clash_pick}
 use Rattle.table_machine.specs.Picks.{select, sample}
@@ -15,25 +15,31 @@ use Rattle.log_lines.specs.declared.command.Command.{Command}
 use Rattle.log_lines.specs.declared.command.Command.TheVariants as command
 use Rattle.log_lines.specs.declared.reply.Reply.{Reply}
 use Rattle.log_lines.specs.declared.reply.Reply.TheVariants as reply
-use Rattle.manager.specs.Machine.{Machine}
+use Rattle.manager.specs.Machine.{Machine, with_tables}
 use Rattle.manager.specs.Messages.{take_message, take_entries}
 
 -- A message of these entries. One with more entries than there are random words changes nothing.
 abbrev pub EntriesStep : Machine → List (Option Entry) → Address → List ℕ → Reply → Machine → Type 0
 EntriesStep old entries source words answer new =
-    ((length words < length entries) × (answer ≡ reply.Short (length entries) (length words)) × (new ≡ old))
-    ⊎ ((length entries ≤ length words) × (answer ≡ reply.Added (take_message old entries source words).answer (length entries))
-    × (new ≡ record old { tables = (take_message old entries source words).state }))
+    ((length words < length entries)
+    × (answer ≡ reply.Short (length entries) (length words)) × (new ≡ old))
+    ⊎ ((length entries ≤ length words)
+    × (answer ≡ reply.Added (take_message old entries source words).answer (length entries))
+    × (new ≡ with_tables old (take_message old entries source words).state))
 
 -- a message with a fault, which changes nothing, or one of entries
-abbrev pub MessageStep : (List (Option Entry) → Type 0) → (MsgFault → Type 0) → Machine → Address → List ℕ → Reply → Machine → Type 0
+abbrev pub MessageStep : (List (Option Entry) → Type 0) → (MsgFault → Type 0) → Machine
+    → Address → List ℕ → Reply → Machine → Type 0
 MessageStep IsMessage HasFault old source words answer new =
-    ((fault : MsgFault) × HasFault fault × (fault ≢ msg.Memory) × (answer ≡ reply.Refused fault) × (new ≡ old))
-    ⊎ ((entries : List (Option Entry)) × IsMessage entries × EntriesStep old entries source words answer new)
+    ((fault : MsgFault) × HasFault fault × (fault ≢ msg.Memory)
+    × (answer ≡ reply.Refused fault) × (new ≡ old))
+    ⊎ ((entries : List (Option Entry)) × IsMessage entries
+    × EntriesStep old entries source words answer new)
 
--- the answer, and the tables after it
-abbrev pub Gives : Machine → Reply → State → Reply → Machine → Type 0
-Gives old told tables answer new = (answer ≡ told) × (new ≡ record old { tables = tables })
+-- what a call of the tables answers, in a reply, and the tables after it
+abbrev pub Gives : {A : Type 0} → Machine → (A → Reply) → After A → Reply → Machine → Type 0
+Gives old reply_of after answer new =
+    (answer ≡ reply_of after.answer) × (new ≡ with_tables old after.state)
 
 -- the answer to a question, which changes nothing
 abbrev pub Tells : Machine → Reply → Reply → Machine → Type 0
@@ -50,17 +56,18 @@ counts_of st = record {
 -- A sample of the tables. With fewer random words than there are records it changes nothing.
 abbrev pub SampleStep : Machine → ℕ → ℕ → List ℕ → List ℕ → Reply → Machine → Type 0
 SampleStep old max pct classes words answer new =
-    ((length words < length old.tables.order) × Tells old (reply.Short (length old.tables.order) (length words)) answer new)
+    ((length words < length old.tables.order)
+    × Tells old (reply.Short (length old.tables.order) (length words)) answer new)
     ⊎ ((length old.tables.order ≤ length words)
-    × Gives old (reply.Sample (sample old.tables max pct classes words old.clock).answer) (sample old.tables max pct classes words old.clock).state answer new)
+    × Gives old reply.Sample (sample old.tables max pct classes words old.clock) answer new)
 
--- the commands that are supported: all but those that save
-abbrev pub IsBuilt : Command → Type 0
-IsBuilt command.Save = ⊥
-IsBuilt command.SaveBegin = ⊥
-IsBuilt (command.SaveStep count) = ⊥
-IsBuilt command.SaveEnd = ⊥
-IsBuilt other = ⊤
+-- the command is none of those that save
+abbrev pub SavesNothing : Command → Type 0
+SavesNothing command.Save = ⊥
+SavesNothing command.SaveBegin = ⊥
+SavesNothing (command.SaveStep count) = ⊥
+SavesNothing command.SaveEnd = ⊥
+SavesNothing other = ⊤
 
 -- a sample is of at most 100 percent
 abbrev pub HasPercent : Command → Type 0
@@ -69,23 +76,31 @@ HasPercent other = ⊤
 
 -- what a command is answered, and the machine after it
 abbrev pub Step : Machine → Command → Reply → Machine → Type 0
-Step old (command.Now time) answer new = (answer ≡ reply.Now time) × (new ≡ record old { clock = time })
-Step old (command.Addr source payload words) answer new = MessageStep (IsAddrMessage payload) (HasAddrFault payload) old source words answer new
-Step old (command.Addr2 source payload words) answer new = MessageStep (IsAddrv2Message payload) (HasAddrv2Fault payload) old source words answer new
+Step old (command.Now time) answer new =
+    (answer ≡ reply.Now time) × (new ≡ record old { clock = time })
+Step old (command.Addr source payload words) answer new =
+    MessageStep (IsAddrMessage payload) (HasAddrFault payload) old source words answer new
+Step old (command.Addr2 source payload words) answer new =
+    MessageStep (IsAddrv2Message payload) (HasAddrv2Fault payload) old source words answer new
 Step old (command.Good peer testing) answer new =
-    Gives old (reply.Good (good old.tables old.clock peer testing).answer) (good old.tables old.clock peer testing).state answer new
+    Gives old reply.Good (good old.tables old.clock peer testing) answer new
 Step old (command.Attempt peer count) answer new =
-    Gives old (reply.Known (attempt old.tables old.clock peer count).answer) (attempt old.tables old.clock peer count).state answer new
+    Gives old reply.Known (attempt old.tables old.clock peer count) answer new
 Step old (command.Connected peer) answer new =
-    Gives old (reply.Known (connected old.tables old.clock peer).answer) (connected old.tables old.clock peer).state answer new
+    Gives old reply.Known (connected old.tables old.clock peer) answer new
 Step old (command.Services peer services) answer new =
-    Gives old (reply.Known (set_services old.tables peer services).answer) (set_services old.tables peer services).state answer new
-Step old (command.Find peer) answer new = Tells old (reply.Found (find_peer old.tables peer)) answer new
+    Gives old reply.Known (set_services old.tables peer services) answer new
+Step old (command.Find peer) answer new =
+    Tells old (reply.Found (find_peer old.tables peer)) answer new
 Step old command.Size answer new = Tells old (reply.Size (counts_of old.tables)) answer new
-Step old (command.Select new_only nets words) answer new = Tells old (reply.Picked (select old.tables new_only nets words old.clock)) answer new
-Step old (command.Sample max pct classes words) answer new = SampleStep old max pct classes words answer new
-Step old command.Resolve answer new = Gives old (reply.Resolved (resolve old.tables old.clock).answer) (resolve old.tables old.clock).state answer new
-Step old (command.Clash word) answer new = Gives old (reply.Clash (clash_pick old.tables word).answer) (clash_pick old.tables word).state answer new
+Step old (command.Select new_only nets words) answer new =
+    Tells old (reply.Picked (select old.tables new_only nets words old.clock)) answer new
+Step old (command.Sample max pct classes words) answer new =
+    SampleStep old max pct classes words answer new
+Step old command.Resolve answer new =
+    Gives old reply.Resolved (resolve old.tables old.clock) answer new
+Step old (command.Clash word) answer new =
+    Gives old reply.Clash (clash_pick old.tables word) answer new
 Step old command.Dump answer new = Tells old (reply.Dump old.tables.records) answer new
 Step old other answer new = ⊥
 
@@ -93,18 +108,23 @@ Step old other answer new = ⊥
 abbrev pub TookFirst : Machine → List (Option Entry) → Address → List ℕ → Machine → Type 0
 TookFirst old entries source words new =
     (k : ℕ) × (k < length entries) × (length entries ≤ length words)
-    × (new ≡ record old { tables = (take_entries old.tables old.clock (take k entries) source words).state })
+    × (new ≡ with_tables old
+    (take_entries old.tables old.clock (take k entries) source words).state)
 
 -- what a message leaves that ran out of memory: the machine as it was, or some of its first entries
 -- taken
-abbrev pub LeavesEntries : (List (Option Entry) → Type 0) → Machine → Address → List ℕ → Machine → Type 0
+abbrev pub LeavesEntries : (List (Option Entry) → Type 0) → Machine → Address → List ℕ
+    → Machine → Type 0
 LeavesEntries IsMessage old source words new =
-    (new ≡ old) ⊎ ((entries : List (Option Entry)) × IsMessage entries × TookFirst old entries source words new)
+    (new ≡ old)
+    ⊎ ((entries : List (Option Entry)) × IsMessage entries × TookFirst old entries source words new)
 
 -- what a command leaves that ran out of memory
 abbrev pub LeavesPart : Machine → Command → Machine → Type 0
-LeavesPart old (command.Addr source payload words) new = LeavesEntries (IsAddrMessage payload) old source words new
-LeavesPart old (command.Addr2 source payload words) new = LeavesEntries (IsAddrv2Message payload) old source words new
+LeavesPart old (command.Addr source payload words) new =
+    LeavesEntries (IsAddrMessage payload) old source words new
+LeavesPart old (command.Addr2 source payload words) new =
+    LeavesEntries (IsAddrv2Message payload) old source words new
 LeavesPart old other new = new ≡ old
 
 -- the commands that need memory

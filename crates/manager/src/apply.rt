@@ -1,8 +1,8 @@
 ghost use Rattle.std.specs.Prelude.{◌≢◌, ◌+◌, ◌≤◌, ◌<◌, ◌^◌, IfOk, OnErr};
-ghost use Rattle.manager.specs.Step.{Step, IsBuilt, HasPercent, NeedsMemory, LeavesPart};
+ghost use Rattle.manager.specs.Step.{Step, SavesNothing, HasPercent, NeedsMemory, LeavesPart};
 
-use crate::messages::Form;
 use crate::{Manager, Memory};
+use addr_codecs::Form;
 use log_lines::{Command, Reply};
 use std::alloc::Global;
 use std::hash::BuildHasher;
@@ -10,16 +10,16 @@ use std::sync::ledger::Ledger;
 use steps::Steps;
 
 impl<'a, H: BuildHasher> Manager<'a, H> {
-    /// Carries out a supported command, and returns its reply. The next record number must be below
-    /// 2^62, so that a whole message fits. If memory runs out, nothing changes, except that some of
-    /// the first entries of a message may have been taken.
+    /// Carries out a command that saves nothing, and returns its reply. The next record number must
+    /// be below 2^62, so that a whole message fits. If memory runs out, nothing changes, except
+    /// that some of the first entries of a message may have been taken.
     pub fn apply<L: Ledger>(
         &mut self,
         alloc: Global,
         command: &Command,
         steps: &mut Steps<L>,
     ) -> Result<Reply, Memory>
-        requires built { IsBuilt command.now }
+        requires no_save { SavesNothing command.now }
         requires percent { HasPercent command.now }
         requires room { self.old.tables.next_number < 2 ^ 62 }
         ensures step { IfOk result (λ answer. Step self.old command.now answer self.new) }

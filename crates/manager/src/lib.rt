@@ -2,7 +2,6 @@
 #![tactic(auto)]
 
 mod apply;
-mod built;
 mod collisions;
 mod manager;
 mod memory;
@@ -11,6 +10,5 @@ mod news;
 mod picks;
 mod questions;
 
-pub use built::is_built;
 pub use manager::Manager;
 pub use memory::Memory;

@@ -1,10 +1,11 @@
-ghost use Rattle.std.specs.Prelude.{◌≡◌, ◌≢◌, ◌+◌, ◌≤◌, ◌<◌, ◌^◌, length, IfOk, IfErr, OnOk, OnErr};
+ghost use Rattle.std.specs.Prelude.{◌≡◌, ◌+◌, ◌≤◌, ◌<◌, ◌^◌, length, IfOk, OnOk, OnErr};
+ghost use Rattle.addr_codecs.specs.Layout.{IsMessage, HasMessageFault};
+ghost use Rattle.manager.specs.Machine.{with_tables};
 ghost use Rattle.manager.specs.Messages.{clamp_time, take_entry, take_entries};
-ghost use Rattle.manager.specs.Inside.{IsMessage, HasFault};
 ghost use Rattle.manager.specs.Step.{EntriesStep, MessageStep, TookFirst, LeavesEntries};
 
 use crate::{Manager, Memory};
-use addr_codecs::{Entries, MsgFault, read_addr, read_addrv2};
+use addr_codecs::{Form, MsgFault, read_message};
 use host_io::Bytes;
 use log_lines::{Reply, Words};
 use net_addr::{Entry, NetAddr};
@@ -12,14 +13,6 @@ use std::alloc::Global;
 use std::hash::BuildHasher;
 use std::sync::ledger::Ledger;
 use steps::Steps;
-
-/// The two messages that announce addresses.
-#[derive(Clone, Copy, Debug, PartialEq, Eq)]
-pub(crate) enum Form {
-    Addr,
-    /// The message of BIP 155.
-    Addrv2,
-}
 
 /// What is subtracted from the time of an entry that a peer announces of another, in seconds
 /// (`ProcessMessage` in net_processing.cpp of Bitcoin Core).
@@ -40,19 +33,6 @@ fn clamp_time(entry: &Entry, now: u32) -> Entry
     }
 }
 
-/// Reads the entries of the message in a payload.
-fn read_payload(alloc: Global, form: Form, payload: &[u8]) -> Result<Entries, MsgFault>
-    ensures found { IfOk result (λ entries. IsMessage form payload.now entries) }
-    ensures few { IfOk result (λ entries. length entries ≤ 1000) }
-    ensures cause { IfErr result (λ fault. fault ≢ MsgFault.Memory
-        → HasFault form payload.now fault) }
-{
-    match form {
-        Form::Addr => read_addr(alloc, payload),
-        Form::Addrv2 => read_addrv2(alloc, payload),
-    }
-}
-
 impl<'a, H: BuildHasher> Manager<'a, H> {
     /// Adds an entry of a message, with its random word, and returns whether it got a slot. A
     /// skipped one changes nothing.
@@ -66,7 +46,8 @@ impl<'a, H: BuildHasher> Manager<'a, H> {
         requires more { self.old.tables.next_number < 2 ^ 63 }
         ensures answer { IfOk result (λ answer. answer
             ≡ (take_entry self.old.tables self.old.clock entry.now source.now word).answer) }
-        ensures state { OnOk result (self.new ≡ record self.old { tables = (take_entry self.old.tables self.old.clock entry.now source.now word).state }) }
+        ensures state { OnOk result (self.new ≡ with_tables self.old
+            (take_entry self.old.tables self.old.clock entry.now source.now word).state) }
         ensures numbers { self.new.tables.next_number ≤ self.old.tables.next_number + 1 }
         ensures err { OnErr result (self.new ≡ self.old) }
     {
@@ -94,8 +75,10 @@ impl<'a, H: BuildHasher> Manager<'a, H> {
         requires more { self.old.tables.next_number < 2 ^ 62 }
         requires few { length entries.now ≤ 1000 }
         requires words { length entries.now ≤ length words.now }
-        ensures count { IfOk result (λ count. count ≡ (take_entries self.old.tables self.old.clock entries.now source.now words.now).answer) }
-        ensures state { OnOk result (self.new ≡ record self.old { tables = (take_entries self.old.tables self.old.clock entries.now source.now words.now).state }) }
+        ensures count { IfOk result (λ count. count ≡ (take_entries self.old.tables
+            self.old.clock entries.now source.now words.now).answer) }
+        ensures state { OnOk result (self.new ≡ with_tables self.old (take_entries self.old.tables
+            self.old.clock entries.now source.now words.now).state) }
         ensures numbers { self.new.tables.next_number ≤ self.old.tables.next_number + 1000 }
         ensures err { OnErr result (TookFirst self.old entries.now source.now words.now self.new) }
     {
@@ -118,7 +101,8 @@ impl<'a, H: BuildHasher> Manager<'a, H> {
         requires more { self.old.tables.next_number < 2 ^ 62 }
         requires few { length entries.now ≤ 1000 }
         requires few_words { length words.now < 2 ^ 32 }
-        ensures step { IfOk result (λ answer. EntriesStep self.old entries.now source.now words.now answer self.new) }
+        ensures step { IfOk result (λ answer. EntriesStep self.old entries.now source.now
+            words.now answer self.new) }
         ensures numbers { self.new.tables.next_number ≤ self.old.tables.next_number + 1000 }
         ensures err { OnErr result (TookFirst self.old entries.now source.now words.now self.new) }
     {
@@ -146,11 +130,13 @@ impl<'a, H: BuildHasher> Manager<'a, H> {
         steps: &mut Steps<L>,
     ) -> Result<Reply, Memory>
         requires more { self.old.tables.next_number < 2 ^ 62 }
-        ensures step { IfOk result (λ answer. MessageStep (IsMessage form payload.now) (HasFault form payload.now) self.old source.now words.now answer self.new) }
+        ensures step { IfOk result (λ answer. MessageStep (IsMessage form payload.now)
+            (HasMessageFault form payload.now) self.old source.now words.now answer self.new) }
         ensures numbers { self.new.tables.next_number ≤ self.old.tables.next_number + 1000 }
-        ensures err { OnErr result (LeavesEntries (IsMessage form payload.now) self.old source.now words.now self.new) }
+        ensures err { OnErr result (LeavesEntries (IsMessage form payload.now) self.old
+            source.now words.now self.new) }
     {
-        match read_payload(alloc, form, payload.items()) {
+        match read_message(alloc, form, payload.items()) {
             Ok(entries) => self.take_message(entries.items(), source, words.items(), steps),
             Err(MsgFault::Memory) => Err(Memory),
             Err(fault) => Ok(Reply::Refused(fault)),

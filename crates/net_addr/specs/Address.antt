@@ -47,7 +47,9 @@ begins_with bytes prefix = starts_with ◌==◌ bytes prefix
 
 -- sixteen bytes that are the old form of something other than an IPv6 address
 abbrev pub is_old_form : List ℕ → Bool
-is_old_form bytes = begins_with bytes mapped_prefix || begins_with bytes internal_prefix || begins_with bytes torv2_prefix
+is_old_form bytes =
+    begins_with bytes mapped_prefix || begins_with bytes internal_prefix
+    || begins_with bytes torv2_prefix
 
 -- an address of one of the six networks: as many bytes as the network has, each below 256, and no
 -- IPv6 value that is the old form of something else

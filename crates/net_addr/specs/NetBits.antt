@@ -18,10 +18,12 @@ abbrev pub bits_of : List ℕ → ℕ
 bits_of nets = sum_by (λ n. 2 ^ n) nets
 
 -- what a computed table shows of each number below a bound
-pub each_below : (p : ℕ → Bool) (bound : ℕ) → list_all p (range_with_len 0 bound) ≡ true → (n : ℕ) → n < bound → p n ≡ true
+pub each_below : (p : ℕ → Bool) (bound : ℕ) → list_all p (range_with_len 0 bound) ≡ true
+    → (n : ℕ) → n < bound → p n ≡ true
 each_below p bound table n below =
     let numbers = range_with_len 0 bound in
-    let within : n < length numbers = subst (λ l. n < l) (sym (length-range_with_len 0 bound)) below in
+    let within : n < length numbers =
+    subst (λ l. n < l) (sym (length-range_with_len 0 bound)) below in
     subst (λ k. p k ≡ true) (get_or-range_with_len 0 bound n 0 below ∙ zero-add n)
     (All-get_or (λ k. p k ≡ true) numbers n 0 within (AllPass-from_list_all p numbers table))
 

@@ -8,7 +8,9 @@ use Rattle.net_addr.specs.declared.net.Net.TheVariants.{Unroutable, Ipv4, Ipv6, 
 
 -- the eight bits of a byte, the highest first
 abbrev pub byte_bits : ℕ → List ℕ
-byte_bits b = bit_at b 7 ∷ bit_at b 6 ∷ bit_at b 5 ∷ bit_at b 4 ∷ bit_at b 3 ∷ bit_at b 2 ∷ bit_at b 1 ∷ bit_at b 0 ∷ []
+byte_bits b =
+    bit_at b 7 ∷ bit_at b 6 ∷ bit_at b 5 ∷ bit_at b 4
+    ∷ bit_at b 3 ∷ bit_at b 2 ∷ bit_at b 1 ∷ bit_at b 0 ∷ []
 
 abbrev pub bits_of : List ℕ → List ℕ
 bits_of bytes = flat_map byte_bits bytes
@@ -43,7 +45,7 @@ ipv6_invalid =
     range (0 ∷ 0 ∷ 0 ∷ 0 ∷ 0 ∷ 0 ∷ 0 ∷ 0 ∷ 0 ∷ 0 ∷ 0 ∷ 0 ∷ 0 ∷ 0 ∷ 0 ∷ 0 ∷ []) 128 ∷
     range (0x20 ∷ 0x01 ∷ 0x0d ∷ 0xb8 ∷ []) 32 ∷ []
 
--- this host: 127.0.0.0/8 and 0.0.0.0/8, and ::1 (`CNetAddr::IsLocal`)
+-- addresses of this host: 127.0.0.0/8, 0.0.0.0/8 and ::1 (`CNetAddr::IsLocal`)
 abbrev pub ipv4_local : List Range
 ipv4_local = four 127 0 0 0 8 ∷ four 0 0 0 0 8 ∷ []
 
@@ -53,11 +55,12 @@ ipv6_local = range (0 ∷ 0 ∷ 0 ∷ 0 ∷ 0 ∷ 0 ∷ 0 ∷ 0 ∷ 0 ∷ 0 ∷ 
 -- IPv4 ranges that are not routed: RFC 1918, 2544, 3927, 6598, 5737 (`CNetAddr::IsRoutable`)
 abbrev pub ipv4_reserved : List Range
 ipv4_reserved =
-    four 10 0 0 0 8 ∷ four 172 16 0 0 12 ∷ four 192 168 0 0 16 ∷ four 198 18 0 0 15 ∷ four 169 254 0 0 16 ∷
+    four 10 0 0 0 8 ∷ four 172 16 0 0 12 ∷ four 192 168 0 0 16 ∷
+    four 198 18 0 0 15 ∷ four 169 254 0 0 16 ∷
     four 100 64 0 0 10 ∷ four 192 0 2 0 24 ∷ four 198 51 100 0 24 ∷ four 203 0 113 0 24 ∷ []
 
--- IPv6 ranges that are not routed: fe80::/64, fc00::/7, 2001:10::/28, 2001:20::/28 (RFC 4862, 4193,
--- 4843, 7343)
+-- IPv6 ranges that are not routed: fe80::/64 (RFC 4862), fc00::/7 (RFC 4193), 2001:10::/28 (RFC
+-- 4843) and 2001:20::/28 (RFC 7343)
 abbrev pub ipv6_reserved : List Range
 ipv6_reserved =
     range (0xfe ∷ 0x80 ∷ 0 ∷ 0 ∷ 0 ∷ 0 ∷ 0 ∷ 0 ∷ []) 64 ∷ range (0xfc ∷ []) 7 ∷
@@ -133,7 +136,8 @@ linked_ipv4 a = if is_routable a then linked_by a.net a.bytes else None
 abbrev pub class_by : Net → Address → Net
 class_by Internal a = Internal
 class_by Unroutable a = Unroutable
-class_by Ipv6 a = if is_routable a then (if is_some (linked_ipv4 a) then Ipv4 else Ipv6) else Unroutable
+class_by Ipv6 a =
+    if is_routable a then (if is_some (linked_ipv4 a) then Ipv4 else Ipv6) else Unroutable
 class_by other a = if is_routable a then other else Unroutable
 
 -- the network that an address is reached through (`CNetAddr::GetNetClass`)

@@ -48,7 +48,8 @@ same_parts a b e f = λ i. record { net = e i; bytes = f i }
 
 number_and_bytes_injective : (a b : Address) → number_and_bytes a ≡ number_and_bytes b → a ≡ b
 number_and_bytes_injective a b e =
-    same_parts a b (number_of_injective a.net b.net (ap (λ xs. slice_index xs 0) e)) (ap (λ xs. drop 1 xs) e)
+    same_parts a b (number_of_injective a.net b.net (ap (λ xs. slice_index xs 0) e))
+    (ap (λ xs. drop 1 xs) e)
 
 -- `==` of two addresses is true exactly when they are equal
 pub same_address-Decides : (a b : Address) → Decides (same_address a b) (a ≡ b)
@@ -81,5 +82,8 @@ same_peer_parts p q e f = λ i. record { addr = e i; port = f i }
 -- `==` of two peers is true exactly when they are equal
 pub same_peer-Decides : (p q : Peer) → Decides (same_peer p q) (p ≡ q)
 same_peer-Decides p q =
-    let d = Decides-and (same_address p.addr q.addr) (p.port == q.port) (same_address-Decides p.addr q.addr) (Decides-eqb p.port q.port) in
-    (λ h. same_peer_parts p q (d.0 h).0 (d.0 h).1, λ e. d.1 (ap (λ r. r.addr) e, ap (λ r. r.port) e))
+    let d = Decides-and (same_address p.addr q.addr) (p.port == q.port)
+    (same_address-Decides p.addr q.addr) (Decides-eqb p.port q.port) in (
+      λ h. same_peer_parts p q (d.0 h).0 (d.0 h).1,
+      λ e. d.1 (ap (λ r. r.addr) e, ap (λ r. r.port) e),
+    )

@@ -12,7 +12,9 @@ ones_after n b = b / 2 ^ (8 - n) * 2 ^ (8 - n) + (2 ^ (8 - n) - 1)
 
 -- the first n bits of the bytes, and ones up to the end of a byte that they fill only in part
 abbrev pub first_bits : ℕ → List ℕ → List ℕ
-first_bits n bytes = take (n / 8) bytes ++ (if n % 8 == 0 then [] else ones_after (n % 8) (slice_index bytes (n / 8)) ∷ [])
+first_bits n bytes =
+    take (n / 8) bytes
+    ++ (if n % 8 == 0 then [] else ones_after (n % 8) (slice_index bytes (n / 8)) ∷ [])
 
 -- Hurricane Electric's 2001:470::/32, whose users have a longer prefix each
 abbrev pub he_net : Range
@@ -31,12 +33,15 @@ part_by Internal a = a.bytes
 -- the group: for an AS number that is not 0, the number 2 of the network IPv6 and then the AS
 -- number with its low byte first; otherwise the class and its part
 abbrev pub group_of : Address → ℕ → List ℕ
-group_of a asn = if asn == 0 then number_of (net_class a) ∷ part_by (net_class a) a else 2 ∷ to_le_bytes w32 asn
+group_of a asn =
+    if asn == 0 then number_of (net_class a) ∷ part_by (net_class a) a else 2 ∷ to_le_bytes w32 asn
 
 -- the 128 bits that are looked up: those of `::ffff:` and the linked IPv4 address, else the sixteen
 -- bytes
 abbrev pub looked_up : Address → ℕ
-looked_up a = from_be_bytes w128 (unwrap_or (option_map (λ ipv4. mapped_prefix ++ ipv4) (linked_ipv4 a)) a.bytes)
+looked_up a =
+    from_be_bytes w128
+    (unwrap_or (option_map (λ ipv4. mapped_prefix ++ ipv4) (linked_ipv4 a)) a.bytes)
 
 abbrev pub asmap_by : Net → Address → Option ℕ
 asmap_by Ipv4 a = Some (looked_up a)

@@ -10,7 +10,7 @@ use Rattle.log_lines.specs.declared.command.Command.{Command}
 use Rattle.log_lines.specs.declared.command.Command.TheVariants as c
 use Rattle.log_lines.specs.declared.verb.Verb as machine_verb
 use Rattle.log_lines.specs.declared.verb.Verb.TheVariants as v
-use Rattle.manager.specs.Step.{IsBuilt}
+use Rattle.manager.specs.Step.{SavesNothing}
 use Rattle.opener_lines.specs.Grammar.{Saves, word_of}
 use Rattle.opener_lines.specs.declared.verb.Verb.{Verb}
 use Rattle.opener_lines.specs.declared.verb.Verb.TheVariants.{Outbound, Feeler, Close}
@@ -59,7 +59,7 @@ pub not_both : (a : Verb) (b : machine_verb.Verb) → word_of a ≡ machine.word
 not_both a b e = none-some a (sym (not_own b) ∙ ap own_of (sym e) ∙ own_back a)
 
 -- a command that begins with a word that saves does save
-pub saves_not_built : (command : Command) → Saves (machine.verb_of command) → IsBuilt command → ⊥
+pub saves_not_built : (command : Command) → Saves (machine.verb_of command) → SavesNothing command → ⊥
 saves_not_built (c.Now time) saves built = saves
 saves_not_built (c.Addr source payload words) saves built = saves
 saves_not_built (c.Addr2 source payload words) saves built = saves
@@ -80,7 +80,7 @@ saves_not_built (c.SaveStep count) saves built = built
 saves_not_built c.SaveEnd saves built = built
 
 -- and any other does not
-pub built : (command : Command) → ¬ Saves (machine.verb_of command) → IsBuilt command
+pub built : (command : Command) → ¬ Saves (machine.verb_of command) → SavesNothing command
 built (c.Now time) keeps = tt
 built (c.Addr source payload words) keeps = tt
 built (c.Addr2 source payload words) keeps = tt

@@ -8,7 +8,7 @@ use Rattle.log_lines.specs.declared.fault.LineFault.{LineFault}
 use Rattle.log_lines.specs.declared.fault.LineFault.TheVariants as fault
 use Rattle.log_lines.specs.declared.verb.Verb as machine_verb
 use Rattle.log_lines.specs.declared.verb.Verb.TheVariants as v
-use Rattle.manager.specs.Step.{IsBuilt}
+use Rattle.manager.specs.Step.{SavesNothing}
 use Rattle.opener_lines.specs.declared.request.Request.{Request}
 use Rattle.opener_lines.specs.declared.request.Request.TheVariants as request
 use Rattle.opener_lines.specs.declared.verb.Verb.{Verb}
@@ -52,7 +52,7 @@ AsksOwn line asked = (verb : Verb) × (texts : List (List ℕ)) × (fields_of li
 
 -- the line asks for the request: one of the opener's own, or a command that does not save
 abbrev pub Asks : List ℕ → Request → Type 0
-Asks line (request.Machine command) = machine.Spells line command × IsBuilt command
+Asks line (request.Machine command) = machine.Spells line command × SavesNothing command
 Asks line other = AsksOwn line other
 
 -- What is wrong in a line that begins with this word: a field after a word of the opener's own, or

@@ -9,7 +9,7 @@ use Rattle.opener_lines.specs.declared.request.Request.TheVariants as request
 
 -- a command that does not save, and a sample of at most 100 percent
 abbrev pub CanBeDone : Request → Type 0
-CanBeDone (request.Machine command) = manager.IsBuilt command × manager.HasPercent command
+CanBeDone (request.Machine command) = manager.SavesNothing command × manager.HasPercent command
 CanBeDone other = ⊤
 
 -- what a message leaves that ran out of memory

@@ -2,7 +2,7 @@ ghost use Rattle.std.specs.Prelude.{◌≡◌, ◌+◌, ◌≤◌, ◌<◌, ◌^
 ghost use Rattle.log_lines.specs.Replies.{reply_text};
 ghost use Rattle.log_lines.specs.declared.reply.Reply as replies;
 ghost use Rattle.manager.specs.Step as machine;
-ghost use Rattle.manager.specs.Step.{IsBuilt, HasPercent, LeavesPart};
+ghost use Rattle.manager.specs.Step.{SavesNothing, HasPercent, LeavesPart};
 ghost use Rattle.peer_open.specs.Groups.{is_open, without_peer};
 ghost use Rattle.table_machine.specs.Clashes.{clash_pick};
 ghost use Rattle.opener_lines.specs.Inside.{CanBeDone, Leaves};
@@ -163,7 +163,7 @@ fn tell<H: BuildHasher, L: Ledger>(
     out: &mut Vec<u8>,
     steps: &mut Steps<L>,
 ) -> Result<(), Memory>
-    requires built { IsBuilt command.now }
+    requires no_save { SavesNothing command.now }
     requires percent { HasPercent command.now }
     requires room { manager.old.tables.next_number < 2 ^ 62 }
     ensures step { OnOk result ((reply : replies.Reply)

@@ -41,7 +41,8 @@ impl Counts {
 
     /// Counts one record less.
     pub(crate) fn lower(&mut self, net: Net, tried: bool)
-        requires some { 0 < cond tried (get_or self.old.in_tried (number_of net) 0) (get_or self.old.in_new (number_of net) 0) }
+        requires some { 0 < cond tried (get_or self.old.in_tried (number_of net) 0)
+            (get_or self.old.in_new (number_of net) 0) }
         ensures { AreOneMore self.new self.old (number_of net) tried }
     {
         if tried {

@@ -48,7 +48,8 @@ chances_by_the_clock : map (λ last_try. chance (kept now 0 last_try 1) now) (42
     7086696 ∷ 7086696 ∷ 7086696 ∷ 708669603 ∷ []
 chances_by_the_clock = refl
 
--- three failures and no success: kept for a minute after the last try, and while that lies ahead of the clock
+-- three failures and no success: kept for a minute after the last try, and while that lies ahead of
+-- the clock
 after_the_last_try : map (λ last_try. is_terrible (kept now 0 last_try 3) now)
     (1699999939 ∷ 1699999940 ∷ now ∷ 1700000001 ∷ 4294967295 ∷ []) ≡ true ∷ false ∷ false ∷ false ∷ false ∷ []
 after_the_last_try = refl
@@ -75,8 +76,8 @@ a_week = refl
 over_a_week : map (λ attempts. is_terrible (kept now 1699395199 0 attempts) now) (9 ∷ 10 ∷ []) ≡ false ∷ true ∷ []
 over_a_week = refl
 
--- the last minute spares a record that fails every other test: one from the future, or from long ago, that failed often
--- and never succeeded
+-- the last minute spares a record that fails every other test: one from the future, or from long
+-- ago, that failed often and never succeeded
 all_wrong : map (λ time. is_terrible (kept time 0 1699999939 2147483647) now) (4294967295 ∷ 0 ∷ []) ≡ true ∷ true ∷ []
 all_wrong = refl
 

@@ -81,7 +81,8 @@ impl Rec {
     /// it.
     pub fn with_bucket(&self, bucket: u16) -> Rec
         requires room { length (buckets_of self.now) < 8 }
-        ensures { result ≡ record self.now { place = New (with_bucket bucket (buckets_of self.now)) } }
+        ensures { result
+            ≡ record self.now { place = New (with_bucket bucket (buckets_of self.now)) } }
     {
         let place = self.place.with_bucket(bucket);
         Rec {
@@ -92,7 +93,8 @@ impl Rec {
 
     /// Returns the record in the new table without `bucket`.
     pub fn without_bucket(&self, bucket: u16) -> Rec
-        ensures { result ≡ record self.now { place = New (without_bucket bucket (buckets_of self.now)) } }
+        ensures { result
+            ≡ record self.now { place = New (without_bucket bucket (buckets_of self.now)) } }
     {
         let place = self.place.without_bucket(bucket);
         Rec {

@@ -33,7 +33,8 @@ impl Model for Snapshot {
 
     ghost view = { λ s. snapshot s.key s.new_recs s.tried_recs s.bucket_count s.listed s.sum };
 
-    ghost invariant = { λ s. IsSnapshot (snapshot s.key s.new_recs s.tried_recs s.bucket_count s.listed s.sum) };
+    ghost invariant = { λ s.
+        IsSnapshot (snapshot s.key s.new_recs s.tried_recs s.bucket_count s.listed s.sum) };
 }
 
 impl Snapshot {

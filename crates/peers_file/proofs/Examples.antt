@@ -1,4 +1,5 @@
--- Worked examples, with the values that an independent program gives: files of each format, and first faults.
+-- Worked examples, with the values that an independent program gives: files of each format, and
+-- first faults.
 use Rattle.std.specs.Prelude.{◌≡◌, ℕ, List, [], ◌∷◌, ◌++◌, replicate, Some, None, Result, Ok, Err, refl}
 use Rattle.sha2.specs.Sha256.{sha256, digest_bytes, hash_after, compress, rounds, schedule, first_words}
 use Rattle.std.specs.Prelude.ℤ.{pos, negsuc}

@@ -1,4 +1,5 @@
--- The written file as a whole: it stands for its snapshot, has no fault, and is far below the limit.
+-- The written file as a whole: it is the file of its snapshot, has no fault, and is far below the
+-- limit.
 use Rattle.std.proofs.Common.{◌≡◌, ◌≢◌, ℕ, suc, ◌+◌, ◌-◌, ◌*◌, ◌≤◌, ◌<◌, ◌^◌, Bool, true, false, not, cond, ltb, List, [], ◌∷◌, ◌++◌, length, take, drop, map, All, Option, Some, None, Result, Ok, Err, refl, sym, ap, subst, ◌∙◌, ⊎_elim, arith, le-ltb}
 use Rattle.std.proofs.lemmas.Bool.{eq-eqb}
 use Rattle.std.specs.Int.Bits.{bit_xor}
@@ -194,7 +195,7 @@ whole_file chain snap written =
     let few = short_file chain snap written in
     whole_of chain (magic_of chain) (body_text snap) (double_sha256 (magic_of chain ++ body_text snap)) (file_text chain snap) refl refl (file_parts chain snap) (omega arith)
 
--- the written file stands for its snapshot
+-- the written file is the file of its snapshot
 pub is_file : (chain : Chain) (snap : Snapshot) → IsWritten snap → IsFile chain (file_text chain snap) snap
 is_file chain snap written =
     let whole = whole_file chain snap written in

@@ -16,7 +16,7 @@ pub record IsWritten (snap : Snapshot) : Type 0 where
   pub buckets : snap.bucket_count ≡ 1024
   pub few_listed : length snap.listed ≤ 65536
 
--- a record before its peer, its peer and its source, and what stands after these
+-- a record before its peer, its peer and its source, and what comes after these
 unfoldable pub front_text : FileRec → List ℕ
 front_text r = to_le_bytes w32 0x20035b60 ++ to_le_bytes w32 r.time ++ compact_size r.services
 
@@ -28,7 +28,9 @@ marks_text r = to_le_bytes w64 r.last_success ++ to_le_bytes w32 r.attempts
 
 -- the numbers of new records, of tried ones and of buckets
 unfoldable pub counts_text : Snapshot → List ℕ
-counts_text snap = to_le_bytes w32 (length snap.new_recs) ++ to_le_bytes w32 (length snap.tried_recs) ++ to_le_bytes w32 (bit_xor snap.bucket_count (2 ^ 30))
+counts_text snap =
+    to_le_bytes w32 (length snap.new_recs) ++ to_le_bytes w32 (length snap.tried_recs)
+    ++ to_le_bytes w32 (bit_xor snap.bucket_count (2 ^ 30))
 
 -- the pairs of a bucket: their number, and the index in each
 unfoldable pub pairs_text : List (ℕ × ℕ) → List ℕ

@@ -1,6 +1,6 @@
 -- The layout of peers.dat in formats 1 to 4, field by field, and the fault that each field may show
--- (`AddrManImpl::Serialize` and `Unserialize` in addrman.cpp, `AddrInfo` in addrman_impl.h and `CAddress` in protocol.h of
--- Bitcoin Core).
+-- (`AddrManImpl::Serialize` and `Unserialize` in addrman.cpp, `AddrInfo` in addrman_impl.h and
+-- `CAddress` in protocol.h of Bitcoin Core).
 use Rattle.std.specs.Prelude.{◌≡◌, ℕ, ◌-◌, ◌/◌, ◌^◌, List, [], ◌∷◌, length, take, drop, replicate, Bool, true, false, not, ◌&&◌, ◌==◌, nat_lt, nat_le, bytes_eq, Option, Some, None, unwrap_or, filter, map, if◌then◌else◌, ◌⊎◌}
 use Rattle.std.specs.List.{flat_map}
 use Rattle.std.specs.Int.{w16, w32, w64, cast_signed}
@@ -113,15 +113,17 @@ count_field kind limit = do
 unfoldable pub buckets_field : Format FileFault ℕ
 buckets_field = do
   coded ← field (le w32)
-  check (nat_le (bit_xor coded (2 ^ 30)) MAX_BUCKETS) (Buckets (cast_signed w32 (bit_xor coded (2 ^ 30)))) (bit_xor coded (2 ^ 30))
+  check (nat_le (bit_xor coded (2 ^ 30)) MAX_BUCKETS)
+      (Buckets (cast_signed w32 (bit_xor coded (2 ^ 30)))) (bit_xor coded (2 ^ 30))
 
--- how many entries are read where this number of them stands: none if it is negative
+-- how many entries are read after this count of them: none if it is negative
 abbrev pub entries_of : ℕ → ℕ
 entries_of n = if nat_lt n (2 ^ 31) then n else 0
 
 -- the indexes that a bucket lists, as pairs; indexes of no new record are passed over
 abbrev pub pairs_with : ℕ → ℕ → List ℕ → List (ℕ × ℕ)
-pairs_with new_count bucket indexes = map (λ i. (bucket, i)) (filter (λ i. nat_lt i new_count) indexes)
+pairs_with new_count bucket indexes =
+    map (λ i. (bucket, i)) (filter (λ i. nat_lt i new_count) indexes)
 
 -- a bucket: the number of its entries, and the index of a new record in each
 unfoldable pub bucket_of : ℕ → ℕ → Format FileFault (List (ℕ × ℕ))
@@ -143,7 +145,8 @@ head_with format key new_count tried_count bucket_count = record {
   bucket_count = bucket_count;
 }
 
--- the format, the least format that a program has to know of which reads the file, plus 32, the key, and the counts
+-- the format, the least format that a program has to know of which reads the file, plus 32, the
+-- key, and the counts
 unfoldable pub head : Format FileFault Head
 head = do
   format ← field byte
@@ -162,7 +165,7 @@ buckets_of new_count bucket_count = do
   listed ← times 0 bucket_count (bucket_of new_count)
   value (flat_map (λ pairs. pairs) listed)
 
--- what stands between the magic and the sum of the file
+-- what is between the magic and the sum of the file
 unfoldable pub body : Format FileFault Snapshot
 body = do
   h ← head
@@ -183,7 +186,8 @@ whole_fault chain bytes =
     if nat_lt 33554432 (length bytes) then Some (TooLarge (length bytes))
     else if nat_lt (length bytes) 36 then Some Truncated
     else if not (bytes_eq (take 4 bytes) (magic_of chain)) then Some BadMagic
-    else if not (bytes_eq (drop (length bytes - 32) bytes) (double_sha256 before_sum)) then Some BadSum
+    else if not (bytes_eq (drop (length bytes - 32) bytes) (double_sha256 before_sum))
+    then Some BadSum
     else None
 
 -- the bytes are the file of the snapshot
@@ -193,12 +197,17 @@ IsFile chain bytes snap = (whole_fault chain bytes ≡ None) × body.spells (bet
 -- the first fault of bytes that are to be a file
 abbrev pub HasFileFault : Chain → List ℕ → FileFault → Type 0
 HasFileFault chain bytes f =
-    (whole_fault chain bytes ≡ Some f) ⊎ ((whole_fault chain bytes ≡ None) × HasFault body Trailing (between bytes) f)
+    (whole_fault chain bytes ≡ Some f)
+    ⊎ ((whole_fault chain bytes ≡ None) × HasFault body Trailing (between bytes) f)
 
--- the bytes are the file of one snapshot or have one fault, and never both; that memory runs out is no fault of bytes
+-- the bytes are the file of one snapshot or have one fault, and never both; that memory runs out is
+-- no fault of bytes
 pub record HasOneMeaning (chain : Chain) (bytes : List ℕ) : Type 0 where
-  pub some : ((snap : Snapshot) × IsFile chain bytes snap) ⊎ ((f : FileFault) × HasFileFault chain bytes f)
+  pub some : ((snap : Snapshot) × IsFile chain bytes snap)
+      ⊎ ((f : FileFault) × HasFileFault chain bytes f)
   pub one_snapshot : (a b : Snapshot) → IsFile chain bytes a → IsFile chain bytes b → a ≡ b
-  pub one_fault : (f g : FileFault) → HasFileFault chain bytes f → HasFileFault chain bytes g → f ≡ g
-  pub never_both : (a : Snapshot) (f : FileFault) → IsFile chain bytes a → HasFileFault chain bytes f → ⊥
+  pub one_fault : (f g : FileFault) → HasFileFault chain bytes f → HasFileFault chain bytes g
+      → f ≡ g
+  pub never_both : (a : Snapshot) (f : FileFault) → IsFile chain bytes a
+      → HasFileFault chain bytes f → ⊥
   pub no_memory : HasFileFault chain bytes Memory → ⊥

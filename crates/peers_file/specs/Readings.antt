@@ -27,7 +27,8 @@ abbrev pub field_at : {A : Type 0} → (List ℕ → Result (A × List ℕ) Wire
 field_at r = under_at of_field r
 
 unfoldable pub layout_at : ℕ → ℕ → Read ℕ
-layout_at i high = then_at (field_at (le_at w32)) (λ n. check_at (n / 2 ^ 19 == high) (Record i cause.Version) n)
+layout_at i high =
+    then_at (field_at (le_at w32)) (λ n. check_at (n / 2 ^ 19 == high) (Record i cause.Version) n)
 
 unfoldable pub success_at : ℕ → Read ℕ
 success_at i = then_at (field_at (le_at w64)) (λ n. check_at (nat_lt n (2 ^ 32)) (Time i) n)
@@ -63,12 +64,15 @@ abbrev pub record_in_at : ℕ → ℕ → Read FileRec
 record_in_at format i bytes = if nat_lt format 3 then old_record_at i bytes else record_at i bytes
 
 unfoldable pub count_at : Which → ℕ → Read ℕ
-count_at kind limit = then_at (field_at (le_at w32)) (λ n. check_at (nat_le n limit) (Count kind (cast_signed w32 n)) n)
+count_at kind limit =
+    then_at (field_at (le_at w32))
+    (λ n. check_at (nat_le n limit) (Count kind (cast_signed w32 n)) n)
 
 unfoldable pub buckets_at : Read ℕ
 buckets_at =
     then_at (field_at (le_at w32)) (λ coded.
-    check_at (nat_le (bit_xor coded (2 ^ 30)) MAX_BUCKETS) (Buckets (cast_signed w32 (bit_xor coded (2 ^ 30)))) (bit_xor coded (2 ^ 30)))
+    check_at (nat_le (bit_xor coded (2 ^ 30)) MAX_BUCKETS)
+    (Buckets (cast_signed w32 (bit_xor coded (2 ^ 30)))) (bit_xor coded (2 ^ 30)))
 
 unfoldable pub bucket_at : ℕ → ℕ → Read (List (ℕ × ℕ))
 bucket_at new_count bucket =
@@ -77,7 +81,8 @@ bucket_at new_count bucket =
     value_at (pairs_with new_count bucket indexes)))
 
 abbrev pub sum_in_at : ℕ → Read (List ℕ)
-sum_in_at format bytes = if format == 1 then value_at (replicate 32 0) bytes else field_at (bytes_at 32) bytes
+sum_in_at format bytes =
+    if format == 1 then value_at (replicate 32 0) bytes else field_at (bytes_at 32) bytes
 
 unfoldable pub head_at : Read Head
 head_at =
@@ -92,7 +97,9 @@ head_at =
     value_at (head_with format key new_count tried_count bucket_count)))))))))
 
 unfoldable pub all_buckets_at : ℕ → ℕ → Read (List (ℕ × ℕ))
-all_buckets_at new_count bucket_count = then_at (times_at 0 bucket_count (bucket_at new_count)) (λ listed. value_at (flat_map (λ pairs. pairs) listed))
+all_buckets_at new_count bucket_count =
+    then_at (times_at 0 bucket_count (bucket_at new_count))
+    (λ listed. value_at (flat_map (λ pairs. pairs) listed))
 
 unfoldable pub body_at : Read Snapshot
 body_at =
@@ -104,6 +111,7 @@ body_at =
     value_at (snapshot h.key new_recs tried_recs h.bucket_count listed sum))))))
 
 -- The view of an answer is what the reading gives, unless memory ran out.
-abbrev pub GivesUnlessMemory : {X Y : Type 0} → (X → Y) → Result X FileFault → Result Y FileFault → Type 0
+abbrev pub GivesUnlessMemory : {X Y : Type 0} → (X → Y) → Result X FileFault
+    → Result Y FileFault → Type 0
 GivesUnlessMemory view (Ok x) read = read ≡ Ok (view x)
 GivesUnlessMemory view (Err e) read = e ≢ Memory → read ≡ Err e

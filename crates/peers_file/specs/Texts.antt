@@ -1,4 +1,5 @@
--- How peers.dat is written, in format 4: each number and each length in the fewest bytes that it fits.
+-- How peers.dat is written, in format 4: each number and each length in the fewest bytes that it
+-- fits.
 use Rattle.std.specs.Prelude.{ℕ, ◌^◌, List, [], ◌∷◌, ◌++◌, length, map, filter, ◌==◌}
 use Rattle.std.specs.List.{flat_map, range_with_len}
 use Rattle.std.specs.Int.{w16, w32, w64, to_le_bytes, to_be_bytes}
@@ -14,7 +15,8 @@ use Rattle.peers_file.specs.Layout.{magic_of}
 -- a record
 unfoldable pub record_text : FileRec → List ℕ
 record_text r =
-    to_le_bytes w32 0x20035b60 ++ (to_le_bytes w32 r.time ++ (compact_size r.services ++ (address_text r.peer.addr ++ (to_be_bytes w16 r.peer.port
+    to_le_bytes w32 0x20035b60 ++ (to_le_bytes w32 r.time ++ (compact_size r.services
+    ++ (address_text r.peer.addr ++ (to_be_bytes w16 r.peer.port
     ++ (address_text r.source ++ (to_le_bytes w64 r.last_success ++ to_le_bytes w32 r.attempts))))))
 
 -- the indexes that a bucket lists
@@ -23,14 +25,18 @@ indexes_of listed bucket = map (λ pair. pair.1) (filter (λ pair. pair.0 == buc
 
 -- a bucket
 unfoldable pub bucket_text : List (ℕ × ℕ) → ℕ → List ℕ
-bucket_text listed bucket = to_le_bytes w32 (length (indexes_of listed bucket)) ++ flat_map (to_le_bytes w32) (indexes_of listed bucket)
+bucket_text listed bucket =
+    to_le_bytes w32 (length (indexes_of listed bucket))
+    ++ flat_map (to_le_bytes w32) (indexes_of listed bucket)
 
 -- the format and what it asks of its readers, the key, and the counts
 unfoldable pub head_text : Snapshot → List ℕ
 head_text snap =
-    (4 ∷ 36 ∷ []) ++ (snap.key ++ (to_le_bytes w32 (length snap.new_recs) ++ (to_le_bytes w32 (length snap.tried_recs) ++ to_le_bytes w32 (bit_xor snap.bucket_count (2 ^ 30)))))
+    (4 ∷ 36 ∷ []) ++ (snap.key ++ (to_le_bytes w32 (length snap.new_recs)
+    ++ (to_le_bytes w32 (length snap.tried_recs)
+    ++ to_le_bytes w32 (bit_xor snap.bucket_count (2 ^ 30)))))
 
--- what stands between the magic and the sum of the file
+-- what is between the magic and the sum of the file
 unfoldable pub body_text : Snapshot → List ℕ
 body_text snap =
     head_text snap ++ (flat_map record_text snap.new_recs ++ (flat_map record_text snap.tried_recs
@@ -38,4 +44,5 @@ body_text snap =
 
 -- the file: the magic, the body, and the sum of both
 unfoldable pub file_text : Chain → Snapshot → List ℕ
-file_text chain snap = let before_sum = magic_of chain ++ body_text snap in before_sum ++ double_sha256 before_sum
+file_text chain snap =
+    let before_sum = magic_of chain ++ body_text snap in before_sum ++ double_sha256 before_sum

@@ -8,7 +8,7 @@ use crate::fault::{FileFault, Which};
 use peer_rec::{MAX_BUCKETS, MAX_NEW, MAX_TRIED};
 use wire_num::{take_byte, take_le32};
 
-/// What stands before the records.
+/// What comes before the records.
 #[derive(Drop)]
 pub(crate) struct Head {
     /// 1 to 4.
@@ -52,7 +52,7 @@ fn take_bucket_count(bytes: &[u8]) -> Result<(u32, &[u8]), FileFault>
     Ok((count, rest))
 }
 
-/// Takes what stands before the records.
+/// Takes what comes before the records.
 #[tactic(auto, unfolding(crate::specs::Readings::head_at))]
 pub(crate) fn take_head(bytes: &[u8]) -> Result<(Head, &[u8]), FileFault>
     ensures found { Gives (λ x. (x.0, x.1.now)) result (head_at bytes.now) }

@@ -5,5 +5,6 @@ ghost use Rattle.peers_file.specs.declared.chain.Chain.{Chain};
 /// For every chain, a list of bytes is the file of exactly one snapshot or has exactly one fault,
 /// and never both.
 pub fn files_have_one_meaning()
-    ensures { (chain : Chain) (bytes : List ℕ) → All (λ b. b < 256) bytes → HasOneMeaning chain bytes }
+    ensures { (chain : Chain) (bytes : List ℕ) → All (λ b. b < 256) bytes
+        → HasOneMeaning chain bytes }
 {}

@@ -29,7 +29,8 @@ fn are_same(bytes: &[u8], others: &[u8]) -> bool
 /// whole, or the first fault.
 #[tactic(auto, unfolding(crate::specs::Layout::whole_fault))]
 fn check_whole(bytes: &[u8], chain: Chain) -> Result<&[u8], FileFault>
-    ensures { MatchResult result (λ middle. (whole_fault chain bytes.now ≡ None) × (middle.now ≡ between bytes.now))
+    ensures { MatchResult result
+        (λ middle. (whole_fault chain bytes.now ≡ None) × (middle.now ≡ between bytes.now))
         (λ fault. whole_fault chain bytes.now ≡ Some fault) }
 {
     let length = bytes.len();
@@ -64,7 +65,7 @@ fn take_sum(format: u8, bytes: &[u8]) -> Result<([u8; 32], &[u8]), FileFault>
     }
 }
 
-/// Reads what stands between the magic and the sum of a file.
+/// Reads what is between the magic and the sum of a file.
 #[tactic(auto, unfolding(crate::specs::Readings::body_at))]
 fn read_body(alloc: Global, bytes: &[u8]) -> Result<Snapshot, FileFault>
     ensures { GivesUnlessMemory (λ snap. snap) result (all_of body_at Trailing bytes.now) }

@@ -82,7 +82,7 @@ fn pairs_of(
         .collect(alloc)
 }
 
-/// Returns how many entries are read where this number of them stands: none if it is negative.
+/// Returns how many entries are read after this count of them: none if it is negative.
 fn entries_of(number: u32) -> u32
     ensures { result ≡ entries_of number }
 {
@@ -97,7 +97,8 @@ fn take_bucket(
     bucket: u32,
     bytes: &[u8],
 ) -> Result<(Vec<(u32, u32)>, &[u8]), FileFault>
-    ensures { GivesUnlessMemory (λ x. (x.0.items, x.1.now)) result (bucket_at new_count bucket bytes.now) }
+    ensures { GivesUnlessMemory (λ x. (x.0.items, x.1.now)) result
+        (bucket_at new_count bucket bytes.now) }
 {
     let (number, rest) = take_le32(bytes)?;
     let (indexes, rest) = match take_indexes(alloc, entries_of(number), rest) {

@@ -29,7 +29,7 @@ fn put_number(out: &mut Vec<u8>, number: u32) -> Result<(), Memory>
     Ok(())
 }
 
-/// Appends what stands before the peer of a record.
+/// Appends what comes before the peer of a record.
 #[tactic(auto, unfolding(crate::specs::Inside::front_text))]
 fn put_front(out: &mut Vec<u8>, rec: &FileRec) -> Result<(), Memory>
     ensures found { OnOk result (out.new.items ≡ out.old.items ++ front_text rec.now) }
@@ -56,7 +56,7 @@ fn put_who(out: &mut Vec<u8>, rec: &FileRec) -> Result<(), Memory>
     Ok(())
 }
 
-/// Appends what stands after the source of a record.
+/// Appends what comes after the source of a record.
 #[tactic(auto, unfolding(crate::specs::Inside::marks_text))]
 fn put_marks(out: &mut Vec<u8>, rec: &FileRec) -> Result<(), Memory>
     ensures found { OnOk result (out.new.items ≡ out.old.items ++ marks_text rec.now) }
@@ -139,7 +139,7 @@ fn put_counts(out: &mut Vec<u8>, snap: &Snapshot) -> Result<(), Memory>
     Ok(())
 }
 
-/// Appends what stands before the records.
+/// Appends what comes before the records.
 fn put_head(out: &mut Vec<u8>, snap: &Snapshot) -> Result<(), Memory>
     ensures found { OnOk result (out.new.items ≡ out.old.items ++ head_text snap.now) }
     ensures snapshot { OnOk result (IsSnapshot snap.now) }
@@ -151,7 +151,7 @@ fn put_head(out: &mut Vec<u8>, snap: &Snapshot) -> Result<(), Memory>
     Ok(())
 }
 
-/// Appends what stands between the magic and the sum of a file.
+/// Appends what is between the magic and the sum of a file.
 #[tactic(auto, unfolding(crate::specs::Texts::body_text))]
 fn put_body(out: &mut Vec<u8>, snap: &Snapshot) -> Result<(), Memory>
     requires buckets { snap.now.bucket_count ≡ 1024 }
@@ -175,7 +175,8 @@ pub fn write_file(alloc: Global, snap: &Snapshot, chain: Chain) -> Result<Bytes,
     requires few_listed { length snap.now.listed ≤ 65536 }
     ensures found { IfOk result (λ bytes. bytes ≡ file_text chain snap.now) }
     ensures read_back { IfOk result (λ bytes. IsFile chain bytes snap.now) }
-    ensures no_fault { IfOk result (λ bytes. (fault : FileFault) → HasFileFault chain bytes fault → ⊥) }
+    ensures no_fault { IfOk result (λ bytes. (fault : FileFault)
+        → HasFileFault chain bytes fault → ⊥) }
     ensures short { IfOk result (λ bytes. length bytes < 33554432) }
 {
     let mut out = Vec::new(alloc);

@@ -1,4 +1,5 @@
--- Worked examples, computed over the definitions, with the texts that an independent program prints.
+-- Worked examples, computed over the definitions, with the texts that an independent program
+-- prints.
 use Rattle.std.proofs.Common.{◌≡◌, [], ◌∷◌, ◌++◌, refl}
 use Rattle.std.specs.Prelude.{codes, replicate}
 use Rattle.std.specs.Fmt.{digits}

@@ -1,4 +1,5 @@
--- The text that lists what a file of peers has, a line each. Key and checksum are in the order of the file's bytes.
+-- The text that lists what a file of peers has, a line each. Key and checksum are in the order of
+-- the file's bytes.
 use Rattle.std.specs.Prelude.{ℕ, List, ◌++◌, length, codes, decimal}
 use Rattle.std.specs.List.{flat_map, enumerate_from}
 use Rattle.hex.specs.Hex.{encode_lower}
@@ -10,10 +11,12 @@ use Rattle.peer_rec.specs.Snapshot.{Snapshot}
 abbrev pub origin_text : FileRec → List ℕ
 origin_text r = codes " " ++ peer_text r.peer ++ codes " source " ++ addr_text r.source
 
--- when its peer was last seen, which services it offers, when it was last reached, and how often it failed since
+-- when its peer was last seen, which services it offers, when it was last reached, and how often it
+-- failed since
 abbrev pub marks_text : FileRec → List ℕ
 marks_text r =
-    codes " time " ++ decimal r.time ++ codes " services " ++ decimal r.services ++ codes " success " ++ decimal r.last_success
+    codes " time " ++ decimal r.time ++ codes " services " ++ decimal r.services
+    ++ codes " success " ++ decimal r.last_success
     ++ codes " attempts " ++ decimal r.attempts
 
 -- a record of a table, and its index
@@ -27,11 +30,16 @@ records_text table recs = flat_map (λ p. record_text table p.0 p.1) (enumerate_
 -- how many records of each table and how many buckets there are
 abbrev pub counts_text : Snapshot → List ℕ
 counts_text snap =
-    codes "file new " ++ decimal (length snap.new_recs) ++ codes " tried " ++ decimal (length snap.tried_recs) ++ codes " buckets " ++ decimal snap.bucket_count
+    codes "file new " ++ decimal (length snap.new_recs) ++ codes " tried "
+    ++ decimal (length snap.tried_recs) ++ codes " buckets " ++ decimal snap.bucket_count
 
 -- the first line
 abbrev pub head_text : Snapshot → List ℕ
-head_text snap = counts_text snap ++ codes " key " ++ encode_lower snap.key ++ codes " sum " ++ encode_lower snap.sum ++ codes "\n"
+head_text snap =
+    counts_text snap ++ codes " key " ++ encode_lower snap.key ++ codes " sum "
+    ++ encode_lower snap.sum ++ codes "\n"
 
 unfoldable pub snapshot_text : Snapshot → List ℕ
-snapshot_text snap = head_text snap ++ records_text (codes "new ") snap.new_recs ++ records_text (codes "tried ") snap.tried_recs
+snapshot_text snap =
+    head_text snap ++ records_text (codes "new ") snap.new_recs
+    ++ records_text (codes "tried ") snap.tried_recs

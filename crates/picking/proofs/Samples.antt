@@ -12,7 +12,7 @@ joined : (peers more : List Peer) (rest : After (List Peer)) → with_peers peer
 joined peers more rest = ap (λ ps. outcome ps rest.state) (sym (append_assoc peers more rest.answer))
 
 module _ (classes : List ℕ) (now limit : ℕ) (words : List ℕ) where
-  -- the peers so far, and then those of the words from a position on
+  -- the peers already picked, and then those of the words from a position on
   abbrev pub sofar : State → List Peer → ℕ → After (List Peer)
   sofar st peers i = with_peers peers (sample_from st classes now i (limit - length peers) (drop i words))
 

@@ -35,7 +35,9 @@ pub record Places : Type 0 where
   pub map : Option Asmap
 
 abbrev pub coded_places : Coded Places
-coded_places = code_by (List ℕ × Option Asmap) (coded× (coded_list coded_ℕ) (coded_option coded_asmap)) (λ p. (p.key, p.map)) (λ p. record { key = p.0; map = p.1 }) (λ _. refl)
+coded_places =
+    code_by (List ℕ × Option Asmap) (coded× (coded_list coded_ℕ) (coded_option coded_asmap))
+    (λ p. (p.key, p.map)) (λ p. record { key = p.0; map = p.1 }) (λ _. refl)
 
 -- the key has 32 bytes, and the asmap is one that is accepted
 pub record IsPlaces (places : Places) : Type 0 where
@@ -65,26 +67,30 @@ group places a = group_of a (asn places.map a)
 
 -- the 64 buckets of the new table for peers that sources of one group announce
 abbrev pub source_bucket : Places → List ℕ → ℕ → ℕ
-source_bucket places source_group i = hash_of (places.key ∷ sized source_group ∷ to_le_bytes w64 i ∷ []) % 1024
+source_bucket places source_group i =
+    hash_of (places.key ∷ sized source_group ∷ to_le_bytes w64 i ∷ []) % 1024
 
 abbrev pub source_buckets : Places → List ℕ → List ℕ
 source_buckets places source_group = map (source_bucket places source_group) (range_with_len 0 64)
 
 -- the 8 buckets of the tried table for peers of one group
 abbrev pub group_bucket : Places → List ℕ → ℕ → ℕ
-group_bucket places peer_group i = hash_of (places.key ∷ sized peer_group ∷ to_le_bytes w64 i ∷ []) % 256
+group_bucket places peer_group i =
+    hash_of (places.key ∷ sized peer_group ∷ to_le_bytes w64 i ∷ []) % 256
 
 abbrev pub group_buckets : Places → List ℕ → List ℕ
 group_buckets places peer_group = map (group_bucket places peer_group) (range_with_len 0 8)
 
 -- the index, among the source group's 64 buckets, of the bucket for peers of `peer_group`
 abbrev pub source_choice : Places → List ℕ → List ℕ → ℕ
-source_choice places peer_group source_group = hash_of (places.key ∷ sized peer_group ∷ sized source_group ∷ []) % 64
+source_choice places peer_group source_group =
+    hash_of (places.key ∷ sized peer_group ∷ sized source_group ∷ []) % 64
 
 -- the bucket of the new table for a peer that a source announces, below 1024
 unfoldable pub new_bucket : Places → Peer → Address → ℕ
 new_bucket places peer source =
-    source_bucket places (group places source) (source_choice places (group places peer.addr) (group places source))
+    source_bucket places (group places source)
+    (source_choice places (group places peer.addr) (group places source))
 
 -- the index, among the 8 buckets of its group, of a peer's bucket
 abbrev pub group_choice : Places → Peer → ℕ

@@ -74,9 +74,11 @@ IsReading text reading = IsReadingOf text reading.rows.items reading.fault
 -- the row at k has the prefix of the next one, which is in the line of this number
 pub record IsRepeatAt (rows : List NumberedRow) (k n : ℕ) : Type 0 where
   pub within : k + 1 < length rows
-  pub same : (d : NumberedRow) → SamePrefix (row_in (slice_index_or rows k d)) (row_in (slice_index_or rows (k + 1) d))
+  pub same : (d : NumberedRow)
+      → SamePrefix (row_in (slice_index_or rows k d)) (row_in (slice_index_or rows (k + 1) d))
   pub line : (d : NumberedRow) → (slice_index_or rows (k + 1) d).line ≡ n
 
 -- the order of the rows of a table; rows with the same prefix are in the order of their lines
 abbrev pub NotAfter : NumberedRow → NumberedRow → Type 0
-NotAfter a b = Precedes (row_in a) (row_in b) ⊎ (SamePrefix (row_in a) (row_in b) × (a.line ≤ b.line))
+NotAfter a b =
+    Precedes (row_in a) (row_in b) ⊎ (SamePrefix (row_in a) (row_in b) × (a.line ≤ b.line))

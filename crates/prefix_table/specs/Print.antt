@@ -12,7 +12,8 @@ abbrev pub is_mapped : Row → Bool
 is_mapped row = nat_le 96 row.len && (row.bits / 2 ^ 32 == 65535)
 
 abbrev pub ipv4_entry : Row → Entry
-ipv4_entry row = record { family = Ipv4; address = row.bits % 2 ^ 32; len = row.len - 96; asn = row.asn }
+ipv4_entry row =
+    record { family = Ipv4; address = row.bits % 2 ^ 32; len = row.len - 96; asn = row.asn }
 
 abbrev pub ipv6_entry : Row → Entry
 ipv6_entry row = record { family = Ipv6; address = row.bits; len = row.len; asn = row.asn }
@@ -30,7 +31,8 @@ address_text entry = text_by entry.family entry.address
 
 -- an address, a slash, the length, a space, `AS` and the number
 abbrev pub entry_text : Entry → List ℕ
-entry_text entry = address_text entry ++ codes "/" ++ decimal entry.len ++ codes " AS" ++ decimal entry.asn
+entry_text entry =
+    address_text entry ++ codes "/" ++ decimal entry.len ++ codes " AS" ++ decimal entry.asn
 
 -- a row and its line feed
 unfoldable pub row_text : Row → List ℕ

@@ -52,7 +52,8 @@ longest (row ∷ rows) = Some (longer row (longest rows))
 
 -- the AS number of the most specific row that covers the address, or 0 (RFC 4632, section 5.1)
 unfoldable pub best : List Row → ℕ → ℕ
-best rows address = option_map_or (λ row. row.asn) (longest (filter (λ row. covers row address) rows)) 0
+best rows address =
+    option_map_or (λ row. row.asn) (longest (filter (λ row. covers row address) rows)) 0
 
 -- the row is a prefix of the address, and no longer row of the table is
 pub record IsLongest (rows : List Row) (address : ℕ) (row : Row) : Type 0 where
@@ -62,4 +63,5 @@ pub record IsLongest (rows : List Row) (address : ℕ) (row : Row) : Type 0 wher
 
 -- the number of a path: that of the longest row that is the path or a prefix of it, or 0
 unfoldable pub number_at : List Row → List Bool → ℕ
-number_at rows p = option_map_or (λ row. row.asn) (longest (filter (λ row. begins_with p (path row)) rows)) 0
+number_at rows p =
+    option_map_or (λ row. row.asn) (longest (filter (λ row. begins_with p (path row)) rows)) 0

@@ -52,7 +52,11 @@ pub record IsInRange (entry : Entry) : Type 0 where
 -- the row of a line
 abbrev pub row_of : Entry → Row
 row_of entry =
-    record { bits = address_bits entry.family entry.address; len = 128 - width entry.family + entry.len; asn = entry.asn }
+    record {
+      bits = address_bits entry.family entry.address;
+      len = 128 - width entry.family + entry.len;
+      asn = entry.asn;
+    }
 
 -- no one-bit after the prefix
 abbrev pub IsClear : Row → Type 0

@@ -4,7 +4,8 @@ ghost use Rattle.prefix_table.specs.declared.fault.TableFault.TheVariants as fau
 use std::alloc::AllocError;
 use thiserror::Error;
 
-/// Why a text is not read as a table. Lines are counted from 1; the first line with a fault decides.
+/// Why a text is not read as a table. Lines are counted from 1; the first line with a fault
+/// decides.
 #[derive(Clone, Copy, Debug, PartialEq, Eq, Error)]
 pub enum TableFault {
     /// The line is neither empty, nor a comment, nor a row.

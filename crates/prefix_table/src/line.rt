@@ -16,7 +16,8 @@ const MAX_NUMBER: u64 = 9_999_999_999;
 
 /// Returns the row of the line, which has number `line`, or `None` if it is passed over.
 pub(crate) fn read_line(text: &[u8], line: u32) -> Result<Option<Row>, TableFault>
-    ensures found { IfOk result (λ row. MatchOption row (IsPassedOver text.now) (IsRowLine text.now)) }
+    ensures found { IfOk result (λ row.
+        MatchOption row (IsPassedOver text.now) (IsRowLine text.now)) }
     ensures cause { IfErr result (HasFault [] text.now line) }
     ensures settled { IsSettled text.now }
 {

@@ -11,7 +11,8 @@ use Rattle.peer_index.specs.Order.{Order, id_of}
 -- the index has the peers of the valid records, and no others
 abbrev pub AreIn : List FileRec → Order → Type 0
 AreIn earlier index = (peer : Peer) →
-    is_some (id_of index peer) ≡ list_any (λ q. is_valid q.peer.addr && same_peer q.peer peer) earlier
+    is_some (id_of index peer)
+    ≡ list_any (λ q. is_valid q.peer.addr && same_peer q.peer peer) earlier
 
 -- the records of a file are in the ranges of their fields
 pub record AreFileRecs (snap : Snapshot) : Type 0 where

@@ -27,9 +27,11 @@ state_of places recs = record {
 pub record IsPlan (places : Places) (recs : List Rec) (news : ℕ) (slots : Slots) : Type 0 where
   pub numbers : map (λ r. r.number) recs ≡ range_with_len 0 (length recs)
   pub new : (bucket slot : ℕ) → bucket < 1024 → slot < 64
-      → new_id slots bucket slot ≡ option_map (λ r. r.number) (find (is_new_at places bucket slot) recs)
+      → new_id slots bucket slot
+      ≡ option_map (λ r. r.number) (find (is_new_at places bucket slot) recs)
   pub tried : (bucket slot : ℕ) → bucket < 256 → slot < 64
-      → tried_id slots bucket slot ≡ option_map (λ r. r.number) (find (is_tried_at places bucket slot) recs)
+      → tried_id slots bucket slot
+      ≡ option_map (λ r. r.number) (find (is_tried_at places bucket slot) recs)
   pub most : news ≤ length recs
   pub untried : (r : Rec) → Contains recs r → r.number < news → is_tried r ≡ false
 
@@ -48,7 +50,8 @@ stays turn r = not (nat_lt r.number turn && length (buckets_of r) == 0)
 
 -- the state when the turn of a number comes, with the order as it is then
 abbrev pub dropping : Places → List Rec → ℕ → List ℕ → State
-dropping places recs turn order = record (state_of places recs) { records = filter (stays turn) recs; order = order }
+dropping places recs turn order =
+    record (state_of places recs) { records = filter (stays turn) recs; order = order }
 
 -- the records of a file, after those that its buckets list are placed
 abbrev pub placed : Snapshot → Places → State

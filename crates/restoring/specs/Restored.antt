@@ -18,7 +18,8 @@ rec_by order (Some id) = rec_of order id
 -- The index has the records of the state, in the same order. Each slot of the grid has the id of
 -- the record that occupies it, and none exactly if it is empty. Key, asmap and the next number are
 -- the state's, there is no collision, and no peer was reached yet.
-pub record ArePartsOf (st : State) (placer : Places) (slots : Slots) (order : Order) (next_free : ℕ) : Type 0 where
+pub record ArePartsOf (st : State) (placer : Places) (slots : Slots) (order : Order)
+    (next_free : ℕ) : Type 0 where
   pub places : st.places ≡ placer
   pub next : st.next_number ≡ next_free
   pub nothing_waits : st.collisions ≡ []
@@ -26,10 +27,14 @@ pub record ArePartsOf (st : State) (placer : Places) (slots : Slots) (order : Or
   pub index : IsOrder order
   pub recs : IsPermutation st.records (records order)
   pub numbers : map (λ r. r.number) (records order) ≡ st.order
-  pub new : (bucket slot : ℕ) → bucket < 1024 → slot < 64 → rec_by order (new_id slots bucket slot) ≡ new_rec_at st bucket slot
-  pub new_none : (bucket slot : ℕ) → bucket < 1024 → slot < 64 → new_rec_at st bucket slot ≡ None → new_id slots bucket slot ≡ None
-  pub tried : (bucket slot : ℕ) → bucket < 256 → slot < 64 → rec_by order (tried_id slots bucket slot) ≡ tried_rec_at st bucket slot
-  pub tried_none : (bucket slot : ℕ) → bucket < 256 → slot < 64 → tried_rec_at st bucket slot ≡ None → tried_id slots bucket slot ≡ None
+  pub new : (bucket slot : ℕ) → bucket < 1024 → slot < 64
+      → rec_by order (new_id slots bucket slot) ≡ new_rec_at st bucket slot
+  pub new_none : (bucket slot : ℕ) → bucket < 1024 → slot < 64
+      → new_rec_at st bucket slot ≡ None → new_id slots bucket slot ≡ None
+  pub tried : (bucket slot : ℕ) → bucket < 256 → slot < 64
+      → rec_by order (tried_id slots bucket slot) ≡ tried_rec_at st bucket slot
+  pub tried_none : (bucket slot : ℕ) → bucket < 256 → slot < 64
+      → tried_rec_at st bucket slot ≡ None → tried_id slots bucket slot ≡ None
 
 -- why a snapshot is not restored: the index is that of the first duplicate, and memory may always
 -- run out

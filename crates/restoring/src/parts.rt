@@ -26,8 +26,8 @@ pub struct Parts<'a, H: BuildHasher> {
     pub next_number: u64,
 }
 
-/// Restores the tables of a file (`AddrManImpl::Unserialize` in addrman.cpp of Bitcoin Core), unless
-/// two of its valid records have one peer.
+/// Restores the tables of a file (`AddrManImpl::Unserialize` in addrman.cpp of Bitcoin Core),
+/// unless two of its valid records have one peer.
 pub fn restore<'a, H: BuildHasher + Drop, L: Ledger>(
     alloc: Global,
     snap: &Snapshot,

@@ -124,7 +124,8 @@ impl<'a> Plan<'a> {
         requires only { self.old.news ≡ length self.old.recs.items }
         requires plan { IsPlanned self.old }
         ensures plan { OnOk result (IsPlanned self.new) }
-        ensures state { OnOk result (state_by self.new ≡ with_all_new (state_by self.old) recs.now) }
+        ensures state { OnOk result (state_by self.new
+            ≡ with_all_new (state_by self.old) recs.now) }
         ensures placer { self.new.placer ≡ self.old.placer }
         ensures count { OnOk result (self.new.news ≡ self.old.news + length recs.now) }
     {
@@ -269,9 +270,9 @@ impl<'a> Plan<'a> {
         self.give_if_empty(index, bucket as u16, steps)
     }
 
-    /// Places the new record at an index, which a bucket of the file lists: in that bucket if the
-    /// file's buckets are used and its slot there is empty, else in the bucket of its own source if
-    /// the slot there is empty.
+    /// Places the new record at an index, which a bucket of the file lists. If the file's buckets
+    /// are used and its slot in that bucket is empty, it goes there, else to the bucket that its
+    /// source gives it, unless its slot there is occupied.
     pub(crate) fn place<L: Ledger>(
         &mut self,
         are_used: bool,
@@ -283,7 +284,8 @@ impl<'a> Plan<'a> {
         requires bucket { are_used ≡ true → bucket < 1024 }
         requires index { index < self.old.news }
         ensures plan { IsPlanned self.new }
-        ensures state { state_by self.new ≡ place_pair are_used (state_by self.old) (bucket, index) }
+        ensures state { state_by self.new
+            ≡ place_pair are_used (state_by self.old) (bucket, index) }
         ensures placer { self.new.placer ≡ self.old.placer }
         ensures news { self.new.news ≡ self.old.news }
         ensures length { length self.new.recs.items ≡ length self.old.recs.items }

@@ -6,8 +6,8 @@ use crate::Memory;
 /// Why tables are not restored.
 #[derive(Clone, Copy, Debug, PartialEq, Eq)]
 pub enum RestoreFault {
-    /// A valid record has the peer of an earlier valid one. Records are counted from 0, the new ones
-    /// first.
+    /// Two records with valid addresses have one peer. `index` is the later one's, counted from 0,
+    /// the new records first.
     Duplicate { index: u32 },
     /// Out of memory.
     Memory,

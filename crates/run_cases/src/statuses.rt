@@ -3,9 +3,10 @@ use crate::cases::Tally;
 use crate::ran::end_of;
 use crate::unread::Unread;
 use addrman_run::TablesFault::{Compile, Rows};
-use addrman_run::{Status, run_surely};
+use addrman_run::{Status, run};
 use asmap_compile::CompileFault;
 use ban_list::BanFault;
+use host_io::{SureFolder, SureSink, SureSource};
 use log_lines::LineFault;
 use prefix_table::TableFault;
 use std::alloc::Global;
@@ -79,7 +80,10 @@ fn is_surely_done(alloc: Global) -> Result<bool, Unread> {
     case.read_lines("now 1700000000")?;
     let hasher = BuildHasherDefault::<FoldHasher>::new();
     let arguments = case.arguments.as_slice();
-    let status = run_surely(alloc, hasher, arguments, case.log.as_slice());
+    let mut log = SureSource::make(case.log.as_slice());
+    let mut folder = SureFolder::make();
+    let mut out = SureSink::make();
+    let status = run(alloc, hasher, arguments, &mut log, &mut folder, &mut out);
     Ok(status == Status::Done)
 }
 

@@ -23,11 +23,13 @@ pub fn load<F: Folder>(
     ensures within { IfOk result (λ loaded. IfSome loaded (λ bytes. length bytes ≤ limit)) }
     ensures absent { IfSome (files_of (F.past folder.old)) (λ files. under files name ≡ None →
         (result ≡ Ok None) ⊎ (result ≡ Err LoadFault.Disk)) }
-    ensures larger { IfSome (known_bytes (files_of (F.past folder.old)) name) (λ bytes. limit < length bytes →
+    ensures larger { IfSome (known_bytes (files_of (F.past folder.old)) name) (λ bytes.
+        limit < length bytes →
         (result ≡ Err (LoadFault.TooLarge (length bytes))) ⊎ (result ≡ Err LoadFault.Disk)) }
     ensures too_large { (size : ℕ) → result ≡ Err (LoadFault.TooLarge size) → limit < size }
     ensures size { (size : ℕ) → result ≡ Err (LoadFault.TooLarge size) →
-        IfSome (files_of (F.past folder.old)) (λ files. option_map length (under files name) ≡ Some size) }
+        IfSome (files_of (F.past folder.old)) (λ files.
+        option_map length (under files name) ≡ Some size) }
     ensures cause { IsErrOf result LoadFault.Disk →
         Rose (F.faults folder.old) (F.faults folder.new) }
     ensures same { F.past folder.new ≡ F.past folder.old }

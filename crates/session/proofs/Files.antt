@@ -1,9 +1,11 @@
 -- What a step of a session does to the files that a crash may leave.
-use Rattle.std.proofs.Common.{◌≡◌, ℕ, ◌≤◌, List, ◌∷◌, ◌++◌, take, drop, inl, inr, refl, sym, ap, ◌∙◌, subst, append_assoc, arith}
+use Rattle.std.proofs.Common.{◌≡◌, ℕ, ◌≤◌, ◌<◌, List, ◌∷◌, ◌++◌, take, drop, inl, inr, refl, sym, ap, ◌∙◌, subst, append_assoc, arith}
 use Rattle.std.specs.Prelude.{Option, Some, None, IfSome, ◌⊎◌, Bool, true, false}
 use Rattle.std.specs.Option.{option_map}
+use Rattle.std.proofs.Math.Nat.{eq-or-lt_of_le}
 use Rattle.std.proofs.lemmas.List.{take-append-drop}
 use Rattle.host_io.specs.Disk.{Disk, MayHave}
+use Rattle.host_io.specs.Faults.{Rose}
 use Rattle.host_io.specs.Past.{Past}
 use Rattle.host_io.specs.PerName.{under}
 use Rattle.host_io.specs.declared.name.Name.TheVariants.{Peers}
@@ -230,16 +232,26 @@ next_any start s t line text e ended found (inl passed) (inl x) =
 next_any start s t line text e ended found (inl passed) (inr y) = absurd y
 next_any start s t line text e ended found (inr step) x = any_command start s t step.0 step.1 e ended found step.3 x
 
+-- a count that rose is still above after more calls, or at its end
+rose_later : (f mid g : ℕ) → f ≤ mid → mid ≤ g → Rose f mid → Rose f g
+rose_later f mid g before le (inl rose) = inl (omega (arith, le, rose))
+rose_later f mid g before le (inr is) = elim (eq-or-lt_of_le le) [
+  | inl same ↦ inr (sym same ∙ is)
+  | inr more ↦ inl (omega (arith, before, more))
+]
+
 -- the number of failed saves
-pub next_failed : (e : Option Ended) (ended : List Ended) (f mid g : ℕ) (after : Option Past) → HasEnded e after mid g → mid ≤ g
+pub still_failed : (n f mid g : ℕ) → f ≤ mid → mid ≤ g → RoseBy n f mid → RoseBy n f g
+still_failed n f mid g before le (inl r) = inl (omega (arith, le, r))
+still_failed n f mid g before le (inr r) = inr (omega (arith, le, r.0), rose_later f mid g before le r.1)
+
+pub next_failed : (e : Option Ended) (ended : List Ended) (f mid g : ℕ) (after : Option Past) → HasEnded e after mid g → f ≤ mid → mid ≤ g
     → RoseBy (failed ended) f mid → RoseBy (failed (onto e ended)) f g
-next_failed None ended f mid g after h le (inl r) = inl (omega (arith, le, r))
-next_failed None ended f mid g after h le (inr r) = inr (omega (arith, le, r))
-next_failed (Some (Saved file)) ended f mid g after h le (inl r) = inl (omega (arith, le, r))
-next_failed (Some (Saved file)) ended f mid g after h le (inr r) = inr (omega (arith, le, r))
-next_failed (Some (NotSaved file)) ended f mid g after (inl h) le (inl r) = inl (omega (arith, h, r))
-next_failed (Some (NotSaved file)) ended f mid g after (inl h) le (inr r) = inr (omega (arith, h, r))
-next_failed (Some (NotSaved file)) ended f mid g after (inr h) le r = inr (omega (arith, h))
+next_failed None ended f mid g after h before le r = still_failed (failed ended) f mid g before le r
+next_failed (Some (Saved file)) ended f mid g after h before le r = still_failed (failed ended) f mid g before le r
+next_failed (Some (NotSaved file)) ended f mid g after (inl h) before le (inl r) = inl (omega (arith, h, r))
+next_failed (Some (NotSaved file)) ended f mid g after (inl h) before le (inr r) = inr (omega (arith, h, r.0), inl (omega (arith, before, h)))
+next_failed (Some (NotSaved file)) ended f mid g after (inr h) before le r = inr (omega (arith, h), inr h)
 
 -- a file that a command may publish is that of the open save, or of the save that it begins
 published_begins : (s : State) (line : List ℕ) (rest : List (List ℕ)) (asked : Command) (job : Option Job) (file : List ℕ) (found : Option (List ℕ))

@@ -2,3 +2,4 @@ pub mod Effects
 pub mod Lines
 pub mod Files
 pub mod Promise
+pub mod OneHistory

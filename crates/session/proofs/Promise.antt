@@ -10,7 +10,7 @@ use Rattle.save_store.specs.Job.{whole}
 use Rattle.session.specs.Folders.{AtMost, IsFile, IsOpen, MayPublish, Turn, published_in}
 use Rattle.session.specs.History.{AtExit, BeginsNext, History, Now, RoseBy, SinceEntry, failed, fresh, onto}
 use Rattle.session.specs.State.{State}
-use Rattle.session.proofs.Files.{EndedAt, ended_at, in_begins, may_begin, next_any, next_failed, next_last}
+use Rattle.session.proofs.Files.{EndedAt, ended_at, in_begins, may_begin, next_any, next_failed, next_last, still_failed}
 
 abbrev pub history : State → List Ended → History
 history st ended = record { now = st; ended = ended }
@@ -19,6 +19,7 @@ history st ended = record { now = st; ended = ended }
 pub record IsKept (st : State) (ended : List Ended) (old now : Option Past) (faults_before faults_now : ℕ) : Type 0 where
   pub exit : Now (AtExit (history st ended) []) old now
   pub since : Always old now (SinceEntry (history st ended) [])
+  pub rises : faults_before ≤ faults_now
   pub failures : RoseBy (failed ended) faults_before faults_now
   pub is_open : IsOpen st.job now
 
@@ -31,6 +32,7 @@ pub kept_start : (st : State) (past : Option Past) (f : ℕ) → st.job ≡ None
 kept_start st past f none = record {
   exit = now_here (AtExit (fresh st) []) past (λ d found may. inr (inr may));
   since = nothing_since (SinceEntry (fresh st) []) past (λ d. record { at = λ found may. inr (inr may); others = λ n t m found may. may });
+  rises = omega arith;
   failures = inl (omega arith);
   is_open = subst (λ j. IsOpen j past) (sym none) tt;
 }
@@ -76,7 +78,8 @@ kept_line s t ended line text old mid new f g h k turn opened le =
             ]));
             others = λ n t m found may. p.others n t m found (most.others n t m found may);
           });
-      failures = next_failed turn.ended ended f g h new turn.has le k.failures;
+      rises = omega (arith, k.rises, le);
+      failures = next_failed turn.ended ended f g h new turn.has k.rises le k.failures;
       is_open = opened;
     }
 
@@ -107,7 +110,7 @@ cut s ended line rest file old mid new f g h k always begins le = record {
         ];
         others = λ n t m found may. p.others n t m found (most.others n t m found may);
       });
-  failures = elim k.failures [ inl r ↦ inl (omega (arith, r, le)) | inr r ↦ inr (omega (arith, r, le)) ];
+  failures = still_failed (failed ended) f g h k.rises le k.failures;
 }
 
 -- a line that was carried out, of whose reply the last bytes are not written

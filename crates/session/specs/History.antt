@@ -2,6 +2,7 @@
 use Rattle.std.specs.Prelude.{◌≡◌, ◌≢◌, ◌⊎◌, ℕ, ◌+◌, ◌-◌, ◌^◌, ◌≤◌, List, [], ◌∷◌, Option, Some, None, IfSome}
 use Rattle.std.specs.Option.{option_map}
 use Rattle.host_io.specs.Disk.{Disk, MayHave}
+use Rattle.host_io.specs.Faults.{Rose}
 use Rattle.host_io.specs.Past.{Past}
 use Rattle.host_io.specs.PerName.{under}
 use Rattle.host_io.specs.declared.name.Name.{Name}
@@ -40,9 +41,9 @@ failed [] = 0
 failed (Saved file ∷ ended) = failed ended
 failed (NotSaved file ∷ ended) = failed ended + 1
 
--- the count of faults rose by so many at least, or is at its end
+-- the count of faults rose by so many at least, or it rose and is at its end
 abbrev pub RoseBy : ℕ → ℕ → ℕ → Type 0
-RoseBy n before after = (before + n ≤ after) ⊎ (2 ^ 64 - 1 ≤ after)
+RoseBy n before after = (before + n ≤ after) ⊎ ((2 ^ 64 - 1 ≤ after) × Rose before after)
 
 -- the commands that begin a save, if none is open
 abbrev pub IsBeginning : Command → Type 0

@@ -1,5 +1,5 @@
 -- What a save command and any command have done.
-use Rattle.std.specs.Prelude.{◌≡◌, ℕ, List, Option}
+use Rattle.std.specs.Prelude.{ℕ, List, Option}
 use Rattle.host_io.specs.Past.{Past, Always}
 use Rattle.log_lines.specs.declared.command.Command.{Command}
 use Rattle.log_lines.specs.declared.reply.Reply.{Reply}

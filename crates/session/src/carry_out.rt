@@ -1,6 +1,6 @@
 ghost use Rattle.std.specs.Prelude.{◌≡◌, ◌+◌, ◌*◌, ◌≤◌, ◌<◌, ◌^◌, List, ℕ, Option, None, IfOk, OnErr};
 ghost use Rattle.host_io.specs.Past.{Always};
-ghost use Rattle.manager.specs.Step.{Step, IsBuilt, HasPercent, LeavesPart};
+ghost use Rattle.manager.specs.Step.{Step, SavesNothing, HasPercent, LeavesPart};
 ghost use Rattle.peers_file.specs.declared.chain.Chain as chains;
 ghost use Rattle.save_store.specs.Job.{Job};
 ghost use Rattle.session.specs.Folders.{AtMost, IsEvent, IsOpen, published};
@@ -31,7 +31,7 @@ fn apply<L: Ledger, H: BuildHasher>(
     requires name { blank.name ≡ L.name }
     requires parts { blank.parts ≡ L.parts }
     requires one { blank.parts ≡ 1 }
-    requires built { IsBuilt command.now }
+    requires no_save { SavesNothing command.now }
     requires percent { HasPercent command.now }
     requires room { manager.old.tables.next_number < 2 ^ 62 }
     ensures step { IfOk result (λ answer. (chain : chains.Chain) (job : Option Job) →

@@ -4,8 +4,10 @@
 mod carry_out;
 mod encode;
 mod events;
+mod law;
 mod memory;
 mod saving;
 mod session;
 
+pub use law::text_fixes_the_history;
 pub use session::Session;

@@ -38,7 +38,7 @@ sound_empty places is = record {
   ranges = record { places = is; last_good = omega arith; next_number = omega arith };
   new_slots = λ bucket slot r q c. absurd (none_in_nil r c);
   tried_slots = λ bucket slot r q c. absurd (none_in_nil r c);
-  opponents = λ k d within. absurd (omega arith);
+  occupants = λ k d within. absurd (omega arith);
   records = λ k d within. absurd (omega arith);
 }
 

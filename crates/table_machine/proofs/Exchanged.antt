@@ -22,7 +22,7 @@ order_swap-sound st i j sound first second = record {
   ranges = sound.ranges;
   new_slots = sound.new_slots;
   tried_slots = sound.tried_slots;
-  opponents = sound.opponents;
+  occupants = sound.occupants;
   records = sound.records;
 }
 

@@ -17,7 +17,7 @@ use Rattle.peer_rec.specs.declared.place.Place.{Place}
 use Rattle.peer_rec.specs.declared.place.Place.TheVariants.{New, Tried}
 use Rattle.table_machine.specs.State.{State, is_new_at, is_tried_at, new_rec_at}
 use Rattle.table_machine.specs.Entries.{delete, give_bucket, with_last}
-use Rattle.table_machine.specs.Sound.{AtMostOne, HasOpponent, IsSound}
+use Rattle.table_machine.specs.Sound.{AtMostOne, HasOccupant, IsSound}
 use Rattle.table_machine.proofs.Buckets.{HasRoom, IsRec-placed, IsRec-with_bucket, placed, with_bucket-cases}
 use Rattle.table_machine.proofs.Lists.{All-from_Contains, AllPairs-from_map, All-same_images, Contains-map, filter-map, find-None, rising-push}
 use Rattle.table_machine.proofs.Orders.{others, others-without_first}
@@ -239,6 +239,6 @@ sound_from_filling n st fill all = record {
   ranges = record { places = fill.places; last_good = fill.last_good; next_number = fill.next_number };
   new_slots = fill.new_slots;
   tried_slots = fill.tried_slots;
-  opponents = subst (All (HasOpponent st)) (sym fill.nothing_waits) (λ k d within. absurd (omega arith));
+  occupants = subst (All (HasOccupant st)) (sym fill.nothing_waits) (λ k d within. absurd (omega arith));
   records = All-from_Contains IsRec st.records (λ r c. IsRec-from_half r (fill.records r c) (all r c));
 }

@@ -8,7 +8,7 @@ use Rattle.net_addr.specs.declared.peer.Peer.{Peer}
 use Rattle.peer_rec.specs.declared.rec.Rec.{Rec}
 use Rattle.table_machine.specs.State.{State, by_number, tried_occupant, After, outcome}
 use Rattle.table_machine.specs.Tried.{good}
-use Rattle.table_machine.specs.Clashes.{after_fate, clash_pick, erase_clash, fate_of, pick_newcomer, pick_opponent, resolve, resolve_all}
+use Rattle.table_machine.specs.Clashes.{after_fate, clash_pick, erase_clash, fate_of, pick_newcomer, pick_occupant, resolve, resolve_all}
 use Rattle.peer_rec.specs.declared.fate.Fate.{Fate}
 use Rattle.peer_rec.specs.declared.fate.Fate.TheVariants.{Erased, Kept, Moved}
 use Rattle.table_machine.specs.Picks.{order_swap, sample, sample_from, sample_limit, eligible_at, with_peers}
@@ -81,7 +81,7 @@ module _ (st : State) (P : State → Type 0) (same : P st) (erased : (number : �
       number : ℕ
       number = get_or st.collisions (word % length st.collisions) 0
 
-      picked : (o : Option Rec) → P (pick_opponent st o).state
+      picked : (o : Option Rec) → P (pick_occupant st o).state
       picked None = same
       picked (Some occupant) = same
 
@@ -108,9 +108,9 @@ clash_pick-None st word sound = by (length st.collisions == 0) (by_number st num
     occupied : (r : Rec) → by_number st number ≡ Some r → length st.collisions ≢ 0 → IsSome (tried_occupant st r.peer)
     occupied r found some =
         let below = mod_below word (length st.collisions) (omega arith) in
-        subst (λ o. IfSome o (λ q. IsSome (tried_occupant st q.peer))) found (sound.opponents (word % length st.collisions) 0 below)
+        subst (λ o. IfSome o (λ q. IsSome (tried_occupant st q.peer))) found (sound.occupants (word % length st.collisions) 0 below)
 
-    picked : (o : Option Rec) → IsSome o → (pick_opponent st o).answer ≡ None → ⊥
+    picked : (o : Option Rec) → IsSome o → (pick_occupant st o).answer ≡ None → ⊥
     picked None some none = absurd (true≢false (sym some))
     picked (Some occupant) some none = absurd (true≢false (ap is_some none))
 

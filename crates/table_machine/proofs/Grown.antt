@@ -72,9 +72,9 @@ grown-new places rs (q ∷ qs) untried =
     ∙ ap (grown places none) (append_assoc rs (q ∷ []) qs)
 
 -- the tried slot of a record is empty as long as only others of a sound state were appended
-opponent-none : (st : State) → IsSound st → (has : ℕ → ℕ → Bool) (rs : List Rec) → ((r : Rec) → Contains rs r → Contains st.records r) → (q : Rec) → Contains st.records q → is_tried q ≡ true
+occupant-none : (st : State) → IsSound st → (has : ℕ → ℕ → Bool) (rs : List Rec) → ((r : Rec) → Contains rs r → Contains st.records r) → (q : Rec) → Contains st.records q → is_tried q ≡ true
     → ((r : Rec) → Contains rs r → r.number ≢ q.number) → tried_occupant (grown st.places has rs) q.peer ≡ None
-opponent-none st sound has rs from q there tried apart =
+occupant-none st sound has rs from q there tried apart =
     find_none_from (is_at_own st.places q.peer) (part has 0 rs) (λ x c at.
     let bucket = tried_bucket st.places q.peer in
     let slot = own_slot st.places q.peer in
@@ -107,7 +107,7 @@ grown-tried st sound rs (q ∷ qs) from apart tried =
     let last = record_of (file_rec q) (length rs) Tried in
     let start = grown st.places none rs in
     let valid : not (is_valid q.peer.addr) ≡ false = ap not (All-contains (λ (r : Rec). is_valid r.peer.addr ≡ true) st.records q sound.valid there) in
-    let empty = opponent-none st sound none rs (λ r c. from r (Contains-append_left rs (q ∷ qs) r c)) q there is (apart_before rs q qs apart) in
+    let empty = occupant-none st sound none rs (λ r c. from r (Contains-append_left rs (q ∷ qs) r c)) q there is (apart_before rs q qs apart) in
     let whole : rs ++ q ∷ [] ++ qs ≡ rs ++ q ∷ qs = append_assoc rs (q ∷ []) qs in
     let step : with_tried start (file_rec q) ≡ grown st.places none (rs ++ q ∷ []) =
     (λ i. if valid i || is_some (empty i) then start else with_last start last)

@@ -73,7 +73,7 @@ index-at st sound r c =
 pub new-there : (st : State) (r : Rec) (b : ℕ) → Contains st.records r → Contains (buckets_of r) b → Contains (new_records st) r
 new-there st r b c listed = Contains-filter (λ (q : Rec). not (is_tried q)) st.records r c (ap not (untried-listed r b listed))
 
--- what a pair of a slot stands for
+-- the record that a pair is written for, which is at the slot
 pub record IsPairAt (st : State) (bucket slot : ℕ) (pair : ℕ × ℕ) : Type 0 where
   pub r : Rec
   pub there : Contains st.records r

@@ -1,5 +1,5 @@
--- The states in the middle of a restart of a sound state: the records of that state, renumbered, each
--- with those of its buckets whose pair was placed.
+-- The states in the middle of a restart of a sound state: the records of that state, renumbered,
+-- each with those of its buckets whose pair was placed.
 use Rattle.std.proofs.Common.{◌≡◌, ◌≢◌, ℕ, suc, ◌+◌, ◌<◌, ◌≤◌, Bool, true, List, [], ◌∷◌, ◌++◌, map, length, AllPairs, Contains, filter, refl, sym, ap, subst, ◌∙◌, inl, inr, ◌⊎◌, arith}
 use Rattle.std.specs.List.{range_with_len}
 use Rattle.std.specs.List.Sorted.{IsStrictlyIncreasing}

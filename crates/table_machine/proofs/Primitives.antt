@@ -25,8 +25,8 @@ use Rattle.table_machine.proofs.SoundBut.{IsMidway, HasRival, HasRivals, is_at_o
 abbrev pub IsOnlyAt : (ℕ → ℕ → Rec → Bool) → List Rec → Rec → Type 0
 IsOnlyAt is_at records r = (bucket slot : ℕ) (q : Rec) → Contains records q → is_at bucket slot r ≡ true → is_at bucket slot q ≡ true → q.number ≡ r.number
 
--- If no slot has two records of the old list, and r shares none with another of its records, no slot
--- has two records of a list made of both.
+-- If no slot has two records of the old list, and r shares none with another of its records, no
+-- slot has two records of a list made of both.
 pub AtMostOne-with : (is_at : ℕ → ℕ → Rec → Bool) (old new : List Rec) (r : Rec) → AtMostOne is_at old → IsOnlyAt is_at old r
     → ((q : Rec) → Contains new q → (r ≡ q) ⊎ Contains old q) → AtMostOne is_at new
 AtMostOne-with is_at old new r one only from bucket slot p q has_p has_q at_p at_q = by (from p has_p) (from q has_q)

@@ -1,5 +1,5 @@
--- The restart law: what a save writes of a sound state, restored with the same map, is that state after
--- a restart, and no peer is there twice.
+-- The restart law: what a save writes of a sound state, restored with the same map, is that state
+-- after a restart, and no peer is there twice.
 use Rattle.std.proofs.Common.{◌≡◌, ◌≢◌, ℕ, ◌+◌, ◌<◌, Bool, true, false, not, ◌==◌, ◌&&◌, ◌||◌, List, [], ◌∷◌, ◌++◌, map, length, All, AllPairs, Contains, Option, Some, None, refl, sym, ap, subst, ◌∙◌, inl, inr, ⊎_elim, arith, true≢false, if◌then◌else◌}
 use Rattle.std.specs.List.{range_with_len}
 use Rattle.std.proofs.lemmas.Bool.{both_ways, ne_eqb}

@@ -1,5 +1,5 @@
--- What a save writes of a sound state meets the conditions of a snapshot and of the file, and the state
--- after a restart is sound.
+-- What a save writes of a sound state meets the conditions of a snapshot and of the file, and the
+-- state after a restart is sound.
 use Rattle.std.proofs.Common.{All, Bool, filter, ◌≡◌, ℕ, ◌+◌, ◌*◌, ◌<◌, ◌≤◌, not, List, [], ◌∷◌, length, map, get_or, AllPairs, Contains, flat_map, Option, Some, None, refl, subst, arith, length-append}
 use Rattle.std.specs.List.{range_with_len}
 use Rattle.std.proofs.lemmas.List.{length-map}

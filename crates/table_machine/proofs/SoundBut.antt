@@ -8,7 +8,7 @@ use Rattle.placing.specs.Places.{Places, tried_bucket}
 use Rattle.peer_rec.specs.Rec.{IsRec}
 use Rattle.peer_rec.specs.declared.rec.Rec.{Rec}
 use Rattle.table_machine.specs.State.{State, by_number, is_new_at, is_tried_at, tried_occupant}
-use Rattle.table_machine.specs.Sound.{AreInRange, AreListed, AreCollisions, AtMostOne, HasOpponent, IsSound}
+use Rattle.table_machine.specs.Sound.{AreInRange, AreListed, AreCollisions, AtMostOne, HasOccupant, IsSound}
 use Rattle.table_machine.proofs.Lists.{All-from_Contains, find-Some, find-IsSome}
 use Rattle.table_machine.proofs.Records.{find-number, number_found, own_slot}
 
@@ -45,20 +45,20 @@ abbrev pub IsSoundBut : ℕ → State → Type 0
 IsSoundBut n st = IsMidway n Never st
 
 -- that the tried slots of collisions are occupied, from searches to membership and back
-rivals_from_opponents : (st : State) → IsSound st → (r : Rec) → Contains st.records r → Contains st.collisions r.number → HasRival st.places st.records r.peer
-rivals_from_opponents st sound r c waits =
+rivals_from_occupants : (st : State) → IsSound st → (r : Rec) → Contains st.records r → Contains st.collisions r.number → HasRival st.places st.records r.peer
+rivals_from_occupants st sound r c waits =
     by (tried_occupant st r.peer) refl
     (subst (λ o. IfSome o (λ q. IsSome (tried_occupant st q.peer))) (find-number st.records r sound.rising c)
-    (All-contains (HasOpponent st) st.collisions r.number sound.opponents waits))
+    (All-contains (HasOccupant st) st.collisions r.number sound.occupants waits))
   where
     by : (o : Option Rec) → tried_occupant st r.peer ≡ o → IsSome o → HasRival st.places st.records r.peer
     by None found some = absurd (true≢false (sym some))
     by (Some q) found some = let h = find-Some (is_at_own st.places r.peer) st.records q found in (q, h.0, h.1)
 
-opponents_from_rivals : (st : State) → ((r : Rec) → Contains st.records r → Contains st.collisions r.number → HasRival st.places st.records r.peer) → All (HasOpponent st) st.collisions
-opponents_from_rivals st rivals = All-from_Contains (HasOpponent st) st.collisions each
+occupants_from_rivals : (st : State) → ((r : Rec) → Contains st.records r → Contains st.collisions r.number → HasRival st.places st.records r.peer) → All (HasOccupant st) st.collisions
+occupants_from_rivals st rivals = All-from_Contains (HasOccupant st) st.collisions each
   where
-    each : (n : ℕ) → Contains st.collisions n → HasOpponent st n
+    each : (n : ℕ) → Contains st.collisions n → HasOccupant st n
     each n waits = by (by_number st n) refl
       where
         by : (o : Option Rec) → by_number st n ≡ o → IfSome o (λ q. IsSome (tried_occupant st q.peer))
@@ -76,7 +76,7 @@ sound_but n st sound = record {
   ranges = sound.ranges;
   new_slots = sound.new_slots;
   tried_slots = sound.tried_slots;
-  rivals = λ r c waits. inl (rivals_from_opponents st sound r c waits);
+  rivals = λ r c waits. inl (rivals_from_occupants st sound r c waits);
   records = λ r c other. All-contains IsRec st.records r sound.records c;
 }
 
@@ -89,7 +89,7 @@ sound_from_midway n MayBeEmpty st but closed own = record {
   ranges = but.ranges;
   new_slots = but.new_slots;
   tried_slots = but.tried_slots;
-  opponents = opponents_from_rivals st (λ r c waits. ⊎_elim (λ h. h) (closed r.peer) (but.rivals r c waits));
+  occupants = occupants_from_rivals st (λ r c waits. ⊎_elim (λ h. h) (closed r.peer) (but.rivals r c waits));
   records = All-from_Contains IsRec st.records (λ r c. ⊎_elim (own r c) (but.records r c) (cases_eq r.number n));
 }
 

@@ -91,7 +91,7 @@ not_made_yet sound = let below : 2 < 2 = sound.collisions_below_next 0 0 (omega 
 
 -- a collision whose slot of the tried table is empty
 nothing_to_wait_for : IsSound (state (rec 0 8333 (New (87 ∷ [])) ∷ []) (0 ∷ []) (0 ∷ []) 2) → ⊥
-nothing_to_wait_for sound = let occupied : false ≡ true = sound.opponents 0 0 (omega arith) in absurd (cc)
+nothing_to_wait_for sound = let occupied : false ≡ true = sound.occupants 0 0 (omega arith) in absurd (cc)
 
 -- a record in the new table with no bucket, and one with too many attempts
 no_bucket : IsSound (state (rec 0 8333 (New []) ∷ []) (0 ∷ []) [] 2) → ⊥

@@ -5,18 +5,18 @@ use Rattle.std.proofs.lemmas.List.Kept.{IsStrictlyIncreasing-filter}
 use Rattle.peer_rec.proofs.Lists.{length-below_above}
 use Rattle.peer_rec.specs.Buckets.{with_bucket}
 use Rattle.table_machine.specs.State.{State}
-use Rattle.table_machine.specs.Sound.{AreCollisions, HasOpponent, IsSound}
+use Rattle.table_machine.specs.Sound.{AreCollisions, HasOccupant, IsSound}
 use Rattle.table_machine.proofs.Buckets.{length_filter_le, long-with_bucket, rising-with_bucket}
 
 -- other collisions of a sound state
-collisions-sound : (st : State) (collisions : List ℕ) → IsSound st → AreCollisions collisions st.next_number → All (HasOpponent st) collisions → IsSound (record st { collisions = collisions })
-collisions-sound st collisions sound waiting opponents = record {
+collisions-sound : (st : State) (collisions : List ℕ) → IsSound st → AreCollisions collisions st.next_number → All (HasOccupant st) collisions → IsSound (record st { collisions = collisions })
+collisions-sound st collisions sound waiting occupants = record {
   listed = sound.listed;
   waiting = waiting;
   ranges = sound.ranges;
   new_slots = sound.new_slots;
   tried_slots = sound.tried_slots;
-  opponents = opponents;
+  occupants = occupants;
   records = sound.records;
 }
 
@@ -30,12 +30,12 @@ erase-sound st n sound =
       few_collisions = omega arith;
       collisions_below_next = All-filter (λ m. not (m == n)) (λ m. m < st.next_number) st.collisions sound.collisions_below_next;
     }
-    (All-filter (λ m. not (m == n)) (HasOpponent st) st.collisions sound.opponents)
+    (All-filter (λ m. not (m == n)) (HasOccupant st) st.collisions sound.occupants)
 
 -- a collision is added
-pub wait-sound : (st : State) (n : ℕ) → IsSound st → length st.collisions < 10 → n < st.next_number → HasOpponent st n
+pub wait-sound : (st : State) (n : ℕ) → IsSound st → length st.collisions < 10 → n < st.next_number → HasOccupant st n
     → IsSound (record st { collisions = with_bucket n st.collisions })
-wait-sound st n sound few below opponent =
+wait-sound st n sound few below occupant =
     let low = filter (λ m. nat_lt m n) st.collisions in
     let high = filter (λ m. nat_lt n m) st.collisions in
     let long = long-with_bucket n st.collisions in
@@ -47,8 +47,8 @@ wait-sound st n sound few below opponent =
           (All-filter (λ m. nat_lt m n) (λ m. m < st.next_number) st.collisions sound.collisions_below_next)
           (All-cons (λ m. m < st.next_number) n high below (All-filter (λ m. nat_lt n m) (λ m. m < st.next_number) st.collisions sound.collisions_below_next));
     }
-    (All-append (HasOpponent st) low (n ∷ high) (All-filter (λ m. nat_lt m n) (HasOpponent st) st.collisions sound.opponents)
-    (All-cons (HasOpponent st) n high opponent (All-filter (λ m. nat_lt n m) (HasOpponent st) st.collisions sound.opponents)))
+    (All-append (HasOccupant st) low (n ∷ high) (All-filter (λ m. nat_lt m n) (HasOccupant st) st.collisions sound.occupants)
+    (All-cons (HasOccupant st) n high occupant (All-filter (λ m. nat_lt n m) (HasOccupant st) st.collisions sound.occupants)))
 
 -- a later success
 pub last_good-sound : (st : State) (now : ℕ) → IsSound st → now < 2 ^ 32 → IsSound (record st { last_good = now })
@@ -58,6 +58,6 @@ last_good-sound st now sound fits = record {
   ranges = record { places = sound.places; last_good = fits; next_number = sound.next_number };
   new_slots = sound.new_slots;
   tried_slots = sound.tried_slots;
-  opponents = sound.opponents;
+  occupants = sound.occupants;
   records = sound.records;
 }

@@ -21,7 +21,8 @@ erase_clash st number = record st { collisions = filter (λ n. not (n == number)
 abbrev pub fate_against : Rec → Rec → ℕ → Fate
 fate_against newcomer occupant now =
     if nat_lt now (occupant.last_success + 14400) then Erased
-    else if nat_lt now (occupant.last_try + 14400) then (if nat_lt (occupant.last_try + 60) now then Moved else Kept)
+    else if nat_lt now (occupant.last_try + 14400)
+    then (if nat_lt (occupant.last_try + 60) now then Moved else Kept)
     else if nat_lt (newcomer.last_success + 2400) now then Moved
     else Kept
 
@@ -69,17 +70,18 @@ abbrev pub resolve : State → ℕ → After Resolved
 resolve st now = resolve_all st now st.collisions
 
 -- the occupant to be tested and the time of its last try
-abbrev pub pick_opponent : State → Option Rec → After (Option (Peer × ℕ))
-pick_opponent st None = outcome None st
-pick_opponent st (Some occupant) = outcome (Some (occupant.peer, occupant.last_try)) st
+abbrev pub pick_occupant : State → Option Rec → After (Option (Peer × ℕ))
+pick_occupant st None = outcome None st
+pick_occupant st (Some occupant) = outcome (Some (occupant.peer, occupant.last_try)) st
 
 abbrev pub pick_newcomer : State → ℕ → Option Rec → After (Option (Peer × ℕ))
 pick_newcomer st number None = outcome None (erase_clash st number)
-pick_newcomer st number (Some newcomer) = pick_opponent st (tried_occupant st newcomer.peer)
+pick_newcomer st number (Some newcomer) = pick_occupant st (tried_occupant st newcomer.peer)
 
 -- The random word selects a collision; the answer is the occupant of its slot. A collision whose
 -- record was deleted is dropped (`SelectTriedCollision_`).
 abbrev pub clash_pick : State → ℕ → After (Option (Peer × ℕ))
 clash_pick st word =
     if length st.collisions == 0 then outcome None st
-    else (let number = get_or st.collisions (word % length st.collisions) 0 in pick_newcomer st number (by_number st number))
+    else (let number = get_or st.collisions (word % length st.collisions) 0 in
+    pick_newcomer st number (by_number st number))

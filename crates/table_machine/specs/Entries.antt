@@ -30,11 +30,13 @@ with_record st r = record st { records = change_number r.number r st.records }
 
 -- the record gets the bucket
 abbrev pub give_bucket : State → Rec → ℕ → State
-give_bucket st r bucket = with_record st (record r { place = New (with_bucket bucket (buckets_of r)) })
+give_bucket st r bucket =
+    with_record st (record r { place = New (with_bucket bucket (buckets_of r)) })
 
 -- the record loses the bucket
 abbrev pub take_bucket : State → Rec → ℕ → State
-take_bucket st r bucket = with_record st (record r { place = New (without_bucket bucket (buckets_of r)) })
+take_bucket st r bucket =
+    with_record st (record r { place = New (without_bucket bucket (buckets_of r)) })
 
 -- the record is deleted, and the last number of the order takes its position
 -- (`AddrManImpl::Delete`)
@@ -55,7 +57,8 @@ clear_slot st occupant bucket =
 -- the occupant makes way if it is terrible, or has other buckets while the record has none
 abbrev pub makes_way : Rec → Rec → ℕ → Bool
 makes_way occupant r now =
-    is_terrible occupant now || (nat_lt 1 (length (buckets_of occupant)) && length (buckets_of r) == 0)
+    is_terrible occupant now
+    || (nat_lt 1 (length (buckets_of occupant)) && length (buckets_of r) == 0)
 
 -- An occupied slot. If it is the record's own, nothing changes. If the occupant makes way, the
 -- record gets it. If the occupant stays, a record that was made for this entry is deleted.
@@ -85,7 +88,10 @@ lag now time = if nat_lt now (time + 86400) then 3600 else 86400
 -- the record of a known peer after an entry: with a later time, and more services
 abbrev pub refresh : Rec → Entry → ℕ → ℕ → Rec
 refresh r entry penalty now = record r {
-  time = if nat_lt (r.time + lag now entry.time + penalty) entry.time then entry.time - penalty else r.time;
+  time =
+      if nat_lt (r.time + lag now entry.time + penalty) entry.time
+      then entry.time - penalty
+      else r.time;
   services = bit_or r.services entry.services;
 }
 

@@ -121,7 +121,8 @@ order_at st i = option_and_then (by_number st) (slice_get st.order i)
 
 -- the peer at a position of the order, if its record may be in a sample
 abbrev pub eligible_at : State → List ℕ → ℕ → ℕ → List Peer
-eligible_at st classes now i = map (λ r. r.peer) (filter (is_eligible classes now) (option_to_list (order_at st i)))
+eligible_at st classes now i =
+    map (λ r. r.peer) (filter (is_eligible classes now) (option_to_list (order_at st i)))
 
 -- the sample with some more peers before the rest
 abbrev pub with_peers : List Peer → After (List Peer) → After (List Peer)
@@ -143,4 +144,5 @@ sample_from st classes now i left (word ∷ words) =
 -- Some of the peers of a set of classes, selected by random words (`GetAddr_`). It is used only
 -- with at least as many words as records. The order stays as the exchanges leave it.
 abbrev pub sample : State → ℕ → ℕ → List ℕ → List ℕ → ℕ → After (List Peer)
-sample st most percent classes words now = sample_from st classes now 0 (sample_limit (length st.order) most percent) words
+sample st most percent classes words now =
+    sample_from st classes now 0 (sample_limit (length st.order) most percent) words

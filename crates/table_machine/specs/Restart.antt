@@ -9,7 +9,8 @@ use Rattle.table_machine.specs.Snapshot.{new_records, tried_records}
 -- the records with the numbers from n on, not tried since the restart
 abbrev pub renumbered : ℕ → List Rec → List Rec
 renumbered n [] = []
-renumbered n (r ∷ rs) = record r { number = n; last_try = 0; last_count = 0 } ∷ renumbered (n + 1) rs
+renumbered n (r ∷ rs) =
+    record r { number = n; last_try = 0; last_count = 0 } ∷ renumbered (n + 1) rs
 
 -- The state after a restart: the records of the new table first, and each kind by rising number.
 abbrev pub restart : State → State

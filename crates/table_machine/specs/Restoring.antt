@@ -57,7 +57,8 @@ give_or st r bucket (Some occupant) other = other
 
 -- by what the bucket has in the slot of the record's peer
 abbrev pub give_if_empty : State → Rec → ℕ → State → State
-give_if_empty st r bucket other = give_or st r bucket (new_rec_at st bucket (new_slot st.places r.peer bucket)) other
+give_if_empty st r bucket other =
+    give_or st r bucket (new_rec_at st bucket (new_slot st.places r.peer bucket)) other
 
 -- The turn of a record that a bucket of the file lists. It gets that bucket if the file's buckets
 -- are used and its slot there is empty. If not, it gets its source's bucket, if its slot in that
@@ -95,17 +96,20 @@ uses_buckets snap places = snap.bucket_count == 1024 && bytes_eq snap.sum (sum_o
 
 -- the records of a file, the new ones first
 abbrev pub appended : Snapshot → Places → State
-appended snap places = with_all_tried (with_all_new (empty_state places) snap.new_recs) snap.tried_recs
+appended snap places =
+    with_all_tried (with_all_new (empty_state places) snap.new_recs) snap.tried_recs
 
 -- What is restored of a file: its records are appended, those that its buckets list are placed in
 -- the order of the list, and new records that are in no bucket then are deleted by rising number.
 abbrev pub restored : Snapshot → Places → State
 restored snap places =
-    drop_all (place_all (uses_buckets snap places) (appended snap places) snap.listed) (range_with_len 0 (length snap.new_recs))
+    drop_all (place_all (uses_buckets snap places) (appended snap places) snap.listed)
+    (range_with_len 0 (length snap.new_recs))
 
 -- the record is valid, and so is an earlier one of the same peer
 abbrev pub is_repeated : List FileRec → FileRec → Bool
-is_repeated earlier r = is_valid r.peer.addr && list_any (λ q. is_valid q.peer.addr && same_peer q.peer r.peer) earlier
+is_repeated earlier r =
+    is_valid r.peer.addr && list_any (λ q. is_valid q.peer.addr && same_peer q.peer r.peer) earlier
 
 -- the index of the first such record, where the first of the list has the index `index`
 abbrev pub duplicate_from : List FileRec → ℕ → List FileRec → Option ℕ

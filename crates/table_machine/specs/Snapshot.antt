@@ -11,7 +11,15 @@ use Rattle.table_machine.specs.State.{State, new_rec_at}
 
 -- what is kept of the record
 abbrev pub file_rec : Rec → FileRec
-file_rec r = record { peer = r.peer; source = r.source; time = r.time; services = r.services; last_success = r.last_success; attempts = r.attempts }
+file_rec r =
+    record {
+      peer = r.peer;
+      source = r.source;
+      time = r.time;
+      services = r.services;
+      last_success = r.last_success;
+      attempts = r.attempts;
+    }
 
 -- the records of the new table, by rising number
 abbrev pub new_records : State → List Rec

@@ -14,8 +14,8 @@ AtMostOne is_at records = (bucket slot : ℕ) (r q : Rec) → Contains records r
     is_at bucket slot r ≡ true → is_at bucket slot q ≡ true → r.number ≡ q.number
 
 -- the tried slot of a collision is occupied
-abbrev pub HasOpponent : State → ℕ → Type 0
-HasOpponent st number = IfSome (by_number st number) (λ r. IsSome (tried_occupant st r.peer))
+abbrev pub HasOccupant : State → ℕ → Type 0
+HasOccupant st number = IfSome (by_number st number) (λ r. IsSome (tried_occupant st r.peer))
 
 -- The order names each record once; peers are distinct and valid; numbers rise and are below the
 -- next number.
@@ -49,5 +49,5 @@ pub record IsSound (st : State) : Type 0 where
   pub open ranges use *
   pub new_slots : AtMostOne (is_new_at st.places) st.records
   pub tried_slots : AtMostOne (is_tried_at st.places) st.records
-  pub opponents : All (HasOpponent st) st.collisions
+  pub occupants : All (HasOccupant st) st.collisions
   pub records : All IsRec st.records

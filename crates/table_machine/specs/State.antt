@@ -49,7 +49,8 @@ by_number st number = find (λ r. r.number == number) st.records
 
 -- the record is in the new table's bucket, at the slot
 abbrev pub is_new_at : Places → ℕ → ℕ → Rec → Bool
-is_new_at places bucket slot r = list_any (λ b. b == bucket) (buckets_of r) && new_slot places r.peer bucket == slot
+is_new_at places bucket slot r =
+    list_any (λ b. b == bucket) (buckets_of r) && new_slot places r.peer bucket == slot
 
 -- the record at the slot of the new table's bucket
 abbrev pub new_rec_at : State → ℕ → ℕ → Option Rec

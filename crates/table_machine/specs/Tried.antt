@@ -23,7 +23,8 @@ clear_new st bucket (Some occupant) = clear_slot st occupant bucket
 abbrev pub back_to_new : State → Rec → State
 back_to_new st r =
     let bucket = new_bucket st.places r.peer r.source in
-    with_record (clear_new st bucket (new_rec_at st bucket (new_slot st.places r.peer bucket))) (record r { place = New (bucket ∷ []) })
+    with_record (clear_new st bucket (new_rec_at st bucket (new_slot st.places r.peer bucket)))
+    (record r { place = New (bucket ∷ []) })
 
 -- the occupant of a tried slot, if there is one, goes back to the new table
 abbrev pub displace : State → Option Rec → State
@@ -43,7 +44,10 @@ after_success r now = record r { last_success = now; last_try = now; attempts = 
 
 -- a number becomes a collision, unless there are ten already; none is there twice
 abbrev pub wait : State → ℕ → State
-wait st number = if nat_lt (length st.collisions) 10 then record st { collisions = with_bucket number st.collisions } else st
+wait st number =
+    if nat_lt (length st.collisions) 10
+    then record st { collisions = with_bucket number st.collisions }
+    else st
 
 -- A known peer was reached. With testing, its record becomes a collision if its tried slot is
 -- occupied: the occupant is to be tested first.
@@ -55,7 +59,8 @@ good_known st r testing =
 
 abbrev pub good_by : Option Rec → State → ℕ → Bool → After Good
 good_by None st now testing = outcome Unknown st
-good_by (Some r) st now testing = good_known (with_record st (after_success r now)) (after_success r now) testing
+good_by (Some r) st now testing =
+    good_known (with_record st (after_success r now)) (after_success r now) testing
 
 -- a peer was reached; the time of the last success is set for an unknown peer too (`Good_`)
 abbrev pub good : State → ℕ → Peer → Bool → After Good

@@ -1,4 +1,4 @@
-// Tables under the key of zeros, and sums of what they have.
+// Tables under the key of zeros, and a sum over their order.
 use net_addr::NetAddr;
 use peer_rec::{Place, Rec};
 use placing::Placer;
@@ -35,7 +35,7 @@ pub(crate) fn buckets(rec: &Rec) -> &[u16] {
 }
 
 /// Adds a number to a sum by its bytes (FNV-1a of 64 bits).
-pub(crate) fn sum(start: u64, number: u64) -> u64 {
+fn sum(start: u64, number: u64) -> u64 {
     let mut sum = start;
     for byte in number.to_le_bytes() {
         sum = (sum ^ u64::from(byte)).wrapping_mul(0x100_0000_01b3);

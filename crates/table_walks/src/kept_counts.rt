@@ -2,7 +2,6 @@
 ghost use Rattle.std.specs.Prelude.{◌≡◌};
 
 use crate::entries::{Hasher, buckets, open, source};
-use crate::sequences::{NOW, step};
 use net_addr::{Entry, Net, NetAddr, NetSet, Peer};
 use peer_rec::Recs;
 use std::marker::Brand;
@@ -12,8 +11,18 @@ use std::test::Fail;
 use steps::Steps;
 use tables::Tables;
 
+/// When the first call is made, in seconds since 1970.
+const NOW: u32 = 1_700_000_000;
+
 /// Networks, of which each peer below has one.
 const NETS: [Net; 5] = [Net::Ipv4, Net::Ipv6, Net::Onion, Net::I2p, Net::Cjdns];
+
+/// Returns the next of a sequence of numbers.
+fn step(state: u64) -> u64 {
+    state
+        .wrapping_mul(6_364_136_223_846_793_005)
+        .wrapping_add(1_442_695_040_888_963_407)
+}
 
 /// Returns one of 64 peers of each network.
 fn peer_of(word: u64) -> Peer {

@@ -24,5 +24,3 @@ mod orders;
 mod plain;
 #[cfg(test)]
 mod samples;
-#[cfg(test)]
-mod sequences;

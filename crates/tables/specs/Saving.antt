@@ -11,8 +11,10 @@ pair_by numbers bucket (Some r) = (bucket, position_or_len (λ n. n == r.number)
 
 -- what the bucket lists in its first slots
 unfoldable pub bucket_by : State → List ℕ → ℕ → ℕ → List (ℕ × ℕ)
-bucket_by st numbers bucket slots = flat_map (λ slot. pair_by numbers bucket (new_rec_at st bucket slot)) (range_with_len 0 slots)
+bucket_by st numbers bucket slots =
+    flat_map (λ slot. pair_by numbers bucket (new_rec_at st bucket slot)) (range_with_len 0 slots)
 
 -- what the first buckets list
 unfoldable pub buckets_by : State → List ℕ → ℕ → List (ℕ × ℕ)
-buckets_by st numbers buckets = flat_map (λ bucket. bucket_by st numbers bucket 64) (range_with_len 0 buckets)
+buckets_by st numbers buckets =
+    flat_map (λ bucket. bucket_by st numbers bucket 64) (range_with_len 0 buckets)

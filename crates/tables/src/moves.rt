@@ -123,7 +123,7 @@ impl<'a, H: BuildHasher> Store<'a, H> {
         let _ = left.place.bucket_count();
         while let Some(bucket) = first_bucket(&left) {
             let slot = self.placer.new_slot(&left.peer, bucket);
-            self.leave_as(id, &left, bucket, slot, steps);
+            self.leave_slot(id, &left, bucket, slot, steps);
             left = left.without_bucket(bucket);
         }
     }

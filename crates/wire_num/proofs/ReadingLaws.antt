@@ -1,4 +1,5 @@
--- A reading of bytes from the start and the format that it reads: they agree on the value, the rest and the fault.
+-- A reading of bytes from the start and the format that it reads: they agree on the value, the rest
+-- and the fault.
 use Rattle.std.proofs.Common.{◌≡◌, ◌≢◌, ◌⊎◌, ℕ, zero, suc, ◌+◌, ◌<◌, Bool, true, false, cond, List, [], ◌∷◌, ◌++◌, length, get_or, All, Result, Ok, Err, refl, sym, ap, subst, ◌∙◌, append_assoc, inl, inr, lit<}
 use Rattle.std.proofs.lemmas.Bool.{cases_lt}
 use Rattle.std.proofs.lemmas.List.{get_or-append-add, get_or_past, append-nil}

@@ -1,4 +1,5 @@
--- A number in one, three, five or nine bytes (`WriteCompactSize`, `ReadCompactSize` in serialize.h of Bitcoin Core).
+-- A number in one, three, five or nine bytes (`WriteCompactSize`, `ReadCompactSize` in serialize.h
+-- of Bitcoin Core).
 use Rattle.std.specs.Prelude.{◌≡◌, ℕ, ◌<◌, ◌^◌, List, [], ◌∷◌, ◌++◌, length, nat_lt, ◌==◌, if◌then◌else◌, ◌⊎◌}
 use Rattle.std.specs.Int.{Width, w16, w32, w64, to_le_bytes}
 
@@ -12,7 +13,8 @@ compact_size n =
 
 -- the length in bytes of a CompactSize that begins with this byte
 abbrev pub spelling_length : ℕ → ℕ
-spelling_length first = if nat_lt first 253 then 1 else if first == 253 then 3 else if first == 254 then 5 else 9
+spelling_length first =
+    if nat_lt first 253 then 1 else if first == 253 then 3 else if first == 254 then 5 else 9
 
 -- the bytes end before their first CompactSize does
 abbrev pub IsCut : List ℕ → Type 0
@@ -21,8 +23,10 @@ IsCut (first ∷ bytes) = length (first ∷ bytes) < spelling_length first
 
 -- the bytes begin with this first byte and a whole number of the width, which is below `least`
 abbrev pub IsLongIn : Width → ℕ → ℕ → List ℕ → Type 0
-IsLongIn w first least bytes = (n : ℕ) × (rest : List ℕ) × (n < least) × (bytes ≡ first ∷ to_le_bytes w n ++ rest)
+IsLongIn w first least bytes =
+    (n : ℕ) × (rest : List ℕ) × (n < least) × (bytes ≡ first ∷ to_le_bytes w n ++ rest)
 
 -- the bytes begin with a whole CompactSize that has more bytes than its number needs
 abbrev pub IsLong : List ℕ → Type 0
-IsLong bytes = IsLongIn w16 253 253 bytes ⊎ IsLongIn w32 254 (2 ^ 16) bytes ⊎ IsLongIn w64 255 (2 ^ 32) bytes
+IsLong bytes =
+    IsLongIn w16 253 253 bytes ⊎ IsLongIn w32 254 (2 ^ 16) bytes ⊎ IsLongIn w64 255 (2 ^ 32) bytes

@@ -15,7 +15,8 @@ some_bytes n = record {
 
 -- one byte
 unfoldable pub byte : Format WireFault ℕ
-byte = record { spells = λ bytes b. bytes ≡ b ∷ []; shows = λ bytes f. (bytes ≡ []) × (f ≡ Truncated) }
+byte =
+    record { spells = λ bytes b. bytes ≡ b ∷ []; shows = λ bytes f. (bytes ≡ []) × (f ≡ Truncated) }
 
 -- a number of a width, by its bytes
 unfoldable pub number : Width → (ℕ → List ℕ) → Format WireFault ℕ
@@ -39,4 +40,5 @@ CompactFault bytes NonCanonical = IsLong bytes
 
 -- a number below 2 ^ 64 in the fewest bytes that it fits
 unfoldable pub compact : Format WireFault ℕ
-compact = record { spells = λ bytes n. (n < 2 ^ 64) × (bytes ≡ compact_size n); shows = CompactFault }
+compact =
+    record { spells = λ bytes n. (n < 2 ^ 64) × (bytes ≡ compact_size n); shows = CompactFault }

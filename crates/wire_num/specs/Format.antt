@@ -1,13 +1,16 @@
--- The meaning of bytes that are read from the start, field by field: the value that they spell, or their first fault.
+-- The meaning of bytes that are read from the start, field by field: the value that they spell, or
+-- their first fault.
 use Rattle.std.specs.Prelude.{◌≡◌, ◌≢◌, ℕ, zero, suc, ◌+◌, List, [], ◌∷◌, ◌++◌, Bool, true, false, ◌⊎◌}
 
--- which bytes spell a value; and which bytes begin with fields that show no fault, and then a field that shows this one
+-- which bytes spell a value; and which bytes begin with fields that show no fault, and then a field
+-- that shows this one
 pub record Format (F A : Type 0) : Type 1 where
   pub spells : List ℕ → A → Type 0
   pub shows : List ℕ → F → Type 0
 
 -- the bytes begin with a spelling of the value, and have this rest
-pub record Begins {F A : Type 0} (p : Format F A) (bytes : List ℕ) (a : A) (rest : List ℕ) : Type 0 where
+pub record Begins {F A : Type 0} (p : Format F A) (bytes : List ℕ) (a : A)
+    (rest : List ℕ) : Type 0 where
   pub front : List ℕ
   pub joined : bytes ≡ front ++ rest
   pub spelled : p.spells front a
@@ -16,7 +19,8 @@ pub record Begins {F A : Type 0} (p : Format F A) (bytes : List ℕ) (a : A) (re
 unfoldable pub sequence : {F A B : Type 0} → Format F A → (A → Format F B) → Format F B
 sequence p q = record {
   spells = λ bytes b. (a : _) × (rest : List ℕ) × Begins p bytes a rest × (q a).spells rest b;
-  shows = λ bytes f. p.shows bytes f ⊎ ((a : _) × (rest : List ℕ) × Begins p bytes a rest × (q a).shows rest f);
+  shows = λ bytes f. p.shows bytes f
+      ⊎ ((a : _) × (rest : List ℕ) × Begins p bytes a rest × (q a).shows rest f);
 }
 
 infixl 10 ◌>>=◌
@@ -44,15 +48,18 @@ times i (suc n) p = do
 
 -- the same bytes, with a fault under another name
 unfoldable pub under : {E F A : Type 0} → (E → F) → Format E A → Format F A
-under name p = record { spells = p.spells; shows = λ bytes f. (e : _) × p.shows bytes e × (f ≡ name e) }
+under name p =
+    record { spells = p.spells; shows = λ bytes f. (e : _) × p.shows bytes e × (f ≡ name e) }
 
 -- the first fault of bytes that are to spell one value and end there
 abbrev pub HasFault : {F A : Type 0} → Format F A → F → List ℕ → F → Type 0
 HasFault p trailing bytes f =
-    p.shows bytes f ⊎ ((a : _) × (rest : List ℕ) × Begins p bytes a rest × (rest ≢ []) × (f ≡ trailing))
+    p.shows bytes f
+    ⊎ ((a : _) × (rest : List ℕ) × Begins p bytes a rest × (rest ≢ []) × (f ≡ trailing))
 
 -- the bytes spell one value or have one fault, and never both
-pub record HasOneMeaning {F A : Type 0} (p : Format F A) (trailing : F) (bytes : List ℕ) : Type 0 where
+pub record HasOneMeaning {F A : Type 0} (p : Format F A) (trailing : F)
+    (bytes : List ℕ) : Type 0 where
   pub some : ((a : A) × p.spells bytes a) ⊎ ((f : F) × HasFault p trailing bytes f)
   pub one_value : (a b : A) → p.spells bytes a → p.spells bytes b → a ≡ b
   pub one_fault : (f g : F) → HasFault p trailing bytes f → HasFault p trailing bytes g → f ≡ g

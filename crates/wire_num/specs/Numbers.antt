@@ -3,13 +3,25 @@ use Rattle.std.specs.Prelude.{ℕ, List, length, take, drop, Option, Some, None,
 use Rattle.std.specs.Int.{w16, w32, w64, from_le_bytes, from_be_bytes}
 
 abbrev pub le16_at : List ℕ → ℕ → Option ℕ
-le16_at bytes at = if nat_lt (length (drop at bytes)) 2 then None else Some (from_le_bytes w16 (take 2 (drop at bytes)))
+le16_at bytes at =
+    if nat_lt (length (drop at bytes)) 2
+    then None
+    else Some (from_le_bytes w16 (take 2 (drop at bytes)))
 
 abbrev pub le32_at : List ℕ → ℕ → Option ℕ
-le32_at bytes at = if nat_lt (length (drop at bytes)) 4 then None else Some (from_le_bytes w32 (take 4 (drop at bytes)))
+le32_at bytes at =
+    if nat_lt (length (drop at bytes)) 4
+    then None
+    else Some (from_le_bytes w32 (take 4 (drop at bytes)))
 
 abbrev pub le64_at : List ℕ → ℕ → Option ℕ
-le64_at bytes at = if nat_lt (length (drop at bytes)) 8 then None else Some (from_le_bytes w64 (take 8 (drop at bytes)))
+le64_at bytes at =
+    if nat_lt (length (drop at bytes)) 8
+    then None
+    else Some (from_le_bytes w64 (take 8 (drop at bytes)))
 
 abbrev pub be16_at : List ℕ → ℕ → Option ℕ
-be16_at bytes at = if nat_lt (length (drop at bytes)) 2 then None else Some (from_be_bytes w16 (take 2 (drop at bytes)))
+be16_at bytes at =
+    if nat_lt (length (drop at bytes)) 2
+    then None
+    else Some (from_be_bytes w16 (take 2 (drop at bytes)))

@@ -18,13 +18,16 @@ abbrev pub check_at : {F A : Type 0} → Bool → F → A → List ℕ → Resul
 check_at passes fault a bytes = if passes then Ok (a, bytes) else Err fault
 
 -- one reading, and after it another that may depend on its value
-abbrev pub then_at : {F A B : Type 0} → (List ℕ → Result (A × List ℕ) F) → (A → List ℕ → Result (B × List ℕ) F) → List ℕ → Result (B × List ℕ) F
+abbrev pub then_at : {F A B : Type 0} → (List ℕ → Result (A × List ℕ) F)
+    → (A → List ℕ → Result (B × List ℕ) F) → List ℕ → Result (B × List ℕ) F
 then_at r s bytes = r bytes >>= λ x. s x.0 x.1
 
 -- n values, each of the reading of its index: the indexes are i, i + 1, and so on
-unfoldable pub times_at : {F A : Type 0} → ℕ → ℕ → (ℕ → List ℕ → Result (A × List ℕ) F) → List ℕ → Result (List A × List ℕ) F
+unfoldable pub times_at : {F A : Type 0} → ℕ → ℕ → (ℕ → List ℕ → Result (A × List ℕ) F)
+    → List ℕ → Result (List A × List ℕ) F
 times_at i zero r = value_at []
-times_at i (suc n) r = then_at (r i) (λ first. then_at (times_at (i + 1) n r) (λ others. value_at (first ∷ others)))
+times_at i (suc n) r =
+    then_at (r i) (λ first. then_at (times_at (i + 1) n r) (λ others. value_at (first ∷ others)))
 
 -- a value after which nothing may follow
 abbrev pub last : {F A : Type 0} → F → A → List ℕ → Result A F
@@ -41,18 +44,23 @@ fault_as name (Ok x) = Ok x
 fault_as name (Err e) = Err (name e)
 
 -- a reading with its faults under other names
-abbrev pub under_at : {E F A : Type 0} → (E → F) → (List ℕ → Result (A × List ℕ) E) → List ℕ → Result (A × List ℕ) F
+abbrev pub under_at : {E F A : Type 0} → (E → F) → (List ℕ → Result (A × List ℕ) E) → List ℕ
+    → Result (A × List ℕ) F
 under_at name r bytes = fault_as name (r bytes)
 
 abbrev pub bytes_at : ℕ → List ℕ → Result (List ℕ × List ℕ) WireFault
-bytes_at n bytes = if nat_lt (length bytes) n then Err Truncated else Ok (take n bytes, drop n bytes)
+bytes_at n bytes =
+    if nat_lt (length bytes) n then Err Truncated else Ok (take n bytes, drop n bytes)
 
 abbrev pub byte_at : List ℕ → Result (ℕ × List ℕ) WireFault
 byte_at [] = Err Truncated
 byte_at (b ∷ rest) = Ok (b, rest)
 
 abbrev pub number_at : Width → (List ℕ → ℕ) → List ℕ → Result (ℕ × List ℕ) WireFault
-number_at w number_of bytes = if nat_lt (length bytes) (byte_len w) then Err Truncated else Ok (number_of (take (byte_len w) bytes), drop (byte_len w) bytes)
+number_at w number_of bytes =
+    if nat_lt (length bytes) (byte_len w)
+    then Err Truncated
+    else Ok (number_of (take (byte_len w) bytes), drop (byte_len w) bytes)
 
 abbrev pub le_at : Width → List ℕ → Result (ℕ × List ℕ) WireFault
 le_at w bytes = number_at w (from_le_bytes w) bytes

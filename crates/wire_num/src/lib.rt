@@ -1,7 +1,7 @@
 //! Numbers in messages and files: of fixed width, and as CompactSize of the Bitcoin protocol.
 //!
-//! `read_` functions read at an offset. `take_` functions read a field at the start of the bytes, and
-//! return the bytes after it too.
+//! `read_` functions read at an offset. `take_` functions read a field at the start of the bytes,
+//! and return the bytes after it too.
 #![tactic(auto)]
 
 mod compact;

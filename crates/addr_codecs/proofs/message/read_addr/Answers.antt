@@ -3,13 +3,13 @@ use Rattle.addr_codecs.proofs.MessageLaws.{addr_answers}
 use Rattle.addr_codecs.proofs.message.read_addr.Goals as goal
 
 pub returns-clause-found : goal.returns-clause-found
-returns-clause-found c = (addr_answers c.args.bytes.now c.read_message.result (λ i. omega (arith, c.type_inv.bytes i)) c.read_message.ensures.found).found
+returns-clause-found c = (addr_answers c.args.bytes.now c.read_whole.result (λ i. omega (arith, c.type_inv.bytes i)) c.read_whole.ensures.found).found
 
 pub returns-clause-only : goal.returns-clause-only
-returns-clause-only c = (addr_answers c.args.bytes.now c.read_message.result (λ i. omega (arith, c.type_inv.bytes i)) c.read_message.ensures.found).only
+returns-clause-only c = (addr_answers c.args.bytes.now c.read_whole.result (λ i. omega (arith, c.type_inv.bytes i)) c.read_whole.ensures.found).only
 
 pub returns-clause-cause : goal.returns-clause-cause
-returns-clause-cause c = (addr_answers c.args.bytes.now c.read_message.result (λ i. omega (arith, c.type_inv.bytes i)) c.read_message.ensures.found).cause
+returns-clause-cause c = (addr_answers c.args.bytes.now c.read_whole.result (λ i. omega (arith, c.type_inv.bytes i)) c.read_whole.ensures.found).cause
 
 pub returns-clause-first : goal.returns-clause-first
-returns-clause-first c = (addr_answers c.args.bytes.now c.read_message.result (λ i. omega (arith, c.type_inv.bytes i)) c.read_message.ensures.found).first
+returns-clause-first c = (addr_answers c.args.bytes.now c.read_whole.result (λ i. omega (arith, c.type_inv.bytes i)) c.read_whole.ensures.found).first

@@ -1,7 +1,8 @@
 use Rattle.std.proofs.Common.{[], ◌∷◌, refl, sym, subst}
 use Rattle.log_lines.specs.Fields.{TheAddr, TheBytes, TheWords, TheChoice}
 use Rattle.log_lines.specs.Inside.{texts_after}
-use Rattle.addr_limit.specs.Lines.{IsRead, IsRead2, SaysAfter}
+use Rattle.addr_codecs.specs.declared.form.Form.TheVariants.{Addr, Addrv2}
+use Rattle.addr_limit.specs.Lines.{IsRead, SaysAfter}
 use Rattle.addr_limit.specs.declared.request.Request.TheVariants.{Open, Message}
 use Rattle.addr_limit.proofs.read.read_request.Goals as goal
 
@@ -20,7 +21,7 @@ returns-in_ok-read-in-From-clause-found c =
     subst (λ verb. SaysAfter verb (texts_after c.args.rest) fields.number (Message read fields.words)) (sym c.in-From.is) (
       TheBytes fields.payload ∷ TheWords fields.words ∷ [],
       fields.ensures.found,
-      (fields.payload, fields.words, read, refl, subst (λ p. IsRead p read) c.items.ensures c.in_ok-read-in-From.ensures.found, refl),
+      (fields.payload, fields.words, read, refl, subst (λ p. IsRead Addr p read) c.items.ensures c.in_ok-read-in-From.ensures.found, refl),
     )
 
 pub returns-in_ok-read-in-From2-clause-found : goal.returns-in_ok-read-in-From2-clause-found
@@ -30,5 +31,5 @@ returns-in_ok-read-in-From2-clause-found c =
     subst (λ verb. SaysAfter verb (texts_after c.args.rest) fields.number (Message read fields.words)) (sym c.in-From2.is) (
       TheBytes fields.payload ∷ TheWords fields.words ∷ [],
       fields.ensures.found,
-      (fields.payload, fields.words, read, refl, subst (λ p. IsRead2 p read) c.items-in-From2.ensures c.in_ok-read-in-From2.ensures.found, refl),
+      (fields.payload, fields.words, read, refl, subst (λ p. IsRead Addrv2 p read) c.items-in-From2.ensures c.in_ok-read-in-From2.ensures.found, refl),
     )

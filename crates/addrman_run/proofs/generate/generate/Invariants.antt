@@ -1,4 +1,4 @@
-use Rattle.std.proofs.Common.{◌≤◌, ℕ, length}
+use Rattle.std.proofs.Common.{◌≤◌, length}
 use Rattle.gen_load.specs.Log.{log}
 use Rattle.addrman_run.proofs.Generating.{Writing}
 use Rattle.addrman_run.proofs.generate.generate.Given as goal

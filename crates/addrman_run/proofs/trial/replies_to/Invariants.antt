@@ -1,4 +1,4 @@
-use Rattle.std.proofs.Common.{ℕ, length}
+use Rattle.std.proofs.Common.{length}
 use Rattle.addrman_run.proofs.Trials.{Trying}
 use Rattle.addrman_run.proofs.trial.replies_to.Given as goal
 

@@ -6,7 +6,7 @@ use Rattle.net_addr.specs.declared.peer.Peer.{Peer}
 use Rattle.addrman_run.specs.Request.{Asks}
 use Rattle.addrman_run.specs.declared.request.Request.{Request}
 use Rattle.addrman_run.specs.declared.request.Request.TheVariants.{Show}
-use Rattle.addrman_run.specs.declared.request.Request.TheVariants.{Replay, Compile, Check, Lookup}
+use Rattle.addrman_run.specs.declared.request.Request.TheVariants.{Replay, Opener, Compile, Check, Lookup}
 use Rattle.addrman_run.specs.declared.request.Request.TheVariants.{Decompile, Limit}
 use Rattle.addrman_run.specs.declared.request.Request.TheVariants.{Ban, Unban, Banned, Gen, Trial}
 use Rattle.addrman_run.proofs.words.read_lookup.Goals as goal
@@ -15,6 +15,7 @@ use Rattle.addrman_run.proofs.words.read_lookup.Goals as goal
 asks_lookup : (words : List (List ℕ)) (word : List ℕ) → words ≡ word ∷ [] → (request : Request) → Asks (codes "lookup" ∷ words) request →
     (peer : Peer) × IsPeerText word peer × (request ≡ Lookup peer)
 asks_lookup words word one (Replay key chain) asks = absurd (omega (arith, ap (λ ws. get_or (get_or ws 0 []) 0 0) asks.2))
+asks_lookup words word one (Opener key chain) asks = absurd (omega (arith, ap (λ ws. get_or (get_or ws 0 []) 0 0) asks.2))
 asks_lookup words word one Compile asks = absurd (omega (arith, ap (λ ws. get_or (get_or ws 0 []) 0 0) asks))
 asks_lookup words word one (Show chain) asks = absurd (omega (arith, ap (λ ws. get_or (get_or ws 0 []) 0 0) asks.2))
 asks_lookup words word one (Ban subnet now until) asks = absurd (omega (arith, ap (λ ws. get_or (get_or ws 0 []) 0 0) asks.4))

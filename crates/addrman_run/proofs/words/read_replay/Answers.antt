@@ -1,23 +1,20 @@
-use Rattle.std.proofs.Common.{length, string_bytes, ap, sym, ◌∙◌, arith}
-use Rattle.std.proofs.lemmas.Bool.{eqb-false}
-use Rattle.std.proofs.lemmas.List.{length-map}
-use Rattle.addrman_run.proofs.Options.{found_by_key, found_by_net, only_by_key, only_by_net, none_asked}
+use Rattle.std.proofs.Common.{◌≡◌, ℕ, List, Option, Some, None, ap, sym, ◌∙◌}
+use Rattle.std.specs.Prelude.{unwrap_or}
+use Rattle.std.proofs.lemmas.Option.{none-some}
+use Rattle.peers_file.specs.declared.chain.Chain.{Chain}
+use Rattle.addrman_run.specs.declared.request.Request.TheVariants.{Replay}
+use Rattle.addrman_run.proofs.Options.{asks_replay}
 use Rattle.addrman_run.proofs.words.read_replay.Goals as goal
 
-pub returns-in-Some-clause-found : goal.returns-in-Some-clause-found
-returns-in-Some-clause-found c = found_by_key _ _ _ _ c.in-Some.ensures.found c.read_key_then_net.ensures.found
-
-pub returns-in-Some-clause-only : goal.returns-in-Some-clause-only
-returns-in-Some-clause-only c = only_by_key _ _ _ _ c.in-Some.ensures.found c.read_key_then_net.ensures.only
-
-pub returns-in_err-name-clause-only : goal.returns-in_err-name-clause-only
-returns-in_err-name-clause-only c = λ request asks.
-    absurd (none_asked _ request
-    (λ none. omega (arith, eqb-false (length c.args.words.now) 0 (sym c.is_empty.ensures ∙ c.if-is_empty.false), ap length none, length-map c.args.words.now string_bytes))
-    c.in_default.ensures.none c.in_err-name.ensures.none asks)
-
-pub returns-clause-found : goal.returns-clause-found
-returns-clause-found c = found_by_net _ _ _ _ c.in_ok-name.ensures.found c.read_net_then_key.ensures.found
+pub returns-in_err-key-clause-only : goal.returns-in_err-key-clause-only
+returns-in_err-key-clause-only c = λ request asks.
+    let is = asks_replay _ request asks in
+    let none : c.read_opening.result ≡ None = cc in
+    absurd (none-some (is.key, is.chain) (sym none ∙ c.read_opening.ensures.only is.key is.chain is.options))
 
 pub returns-clause-only : goal.returns-clause-only
-returns-clause-only c = only_by_net _ _ _ _ c.in_ok-name.ensures.found c.read_net_then_key.ensures.only
+returns-clause-only c = λ request asks.
+    let is = asks_replay _ request asks in
+    let found = c.read_opening.ensures.only is.key is.chain is.options in
+    let same = ap (λ (o : Option (Option (List ℕ) × Chain)). unwrap_or o (c.in_ok-key.key, c.in_ok-key.chain)) (sym c.in_ok-key.was ∙ found) in
+    ap (λ p. Some (Replay p.0 p.1)) same ∙ ap Some (sym is.is)

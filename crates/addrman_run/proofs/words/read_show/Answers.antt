@@ -4,7 +4,7 @@ use Rattle.peers_file.specs.declared.chain.Chain.{Chain}
 use Rattle.addrman_run.specs.Request.{Asks, IsNet}
 use Rattle.addrman_run.specs.declared.request.Request.{Request}
 use Rattle.addrman_run.specs.declared.request.Request.TheVariants.{Show}
-use Rattle.addrman_run.specs.declared.request.Request.TheVariants.{Replay, Compile, Check, Lookup}
+use Rattle.addrman_run.specs.declared.request.Request.TheVariants.{Replay, Opener, Compile, Check, Lookup}
 use Rattle.addrman_run.specs.declared.request.Request.TheVariants.{Decompile, Limit}
 use Rattle.addrman_run.specs.declared.request.Request.TheVariants.{Ban, Unban, Banned, Gen, Trial}
 use Rattle.addrman_run.proofs.words.read_show.Goals as goal
@@ -12,6 +12,7 @@ use Rattle.addrman_run.proofs.words.read_show.Goals as goal
 -- the words after the command choose the chain that is asked for
 asks_show : (words : List (List ℕ)) (request : Request) → Asks (codes "show" ∷ words) request → (chain : Chain) × IsNet words chain × (request ≡ Show chain)
 asks_show words (Replay key chain) asks = absurd (omega (arith, ap (λ ws. get_or (get_or ws 0 []) 0 0) asks.2))
+asks_show words (Opener key chain) asks = absurd (omega (arith, ap (λ ws. get_or (get_or ws 0 []) 0 0) asks.2))
 asks_show words Compile asks = absurd (omega (arith, ap (λ ws. get_or (get_or ws 0 []) 0 0) asks))
 asks_show words Check asks = absurd (omega (arith, ap (λ ws. get_or (get_or ws 0 []) 0 0) asks))
 asks_show words Decompile asks = absurd (omega (arith, ap (λ ws. get_or (get_or ws 0 []) 0 0) asks))

@@ -6,7 +6,7 @@ use Rattle.ban_list.specs.BanFile.{merged}
 use Rattle.ban_list.proofs.Merging.{IsOwn}
 use Rattle.ban_list.proofs.merge.by_subnet.Given as goal
 
--- what is left makes of the bans so far what all bans make
+-- what is left makes of the bans already merged what all bans make
 abbrev pub invariant-loop-ban : goal.invariant-loop-ban
 invariant-loop-ban l = record {
   own : All IsOwn l.map.entries;

@@ -4,7 +4,7 @@ use Rattle.ban_list.specs.Subnet.{IsProper}
 use Rattle.ban_list.specs.BanFile.{AreElements}
 use Rattle.ban_list.proofs.read_file.counted_of.Given as goal
 
--- the bans of the elements so far
+-- the bans of the elements before this one
 abbrev pub invariant-loop-element : goal.invariant-loop-element
 invariant-loop-element l = record {
   counted : AreElements (map view (take l.element-index l.elements)) l.counted.items;

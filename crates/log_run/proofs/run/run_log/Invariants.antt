@@ -3,7 +3,7 @@ use Rattle.log_run.specs.declared.limits.TheConstants.{MAX_LOG}
 use Rattle.log_run.proofs.Loops.{Looped, left_of}
 use Rattle.log_run.proofs.run.run_log.Given as goal
 
--- the lines so far are answered, and their replies are written
+-- the lines before this one are answered, and their replies are written
 abbrev pub invariant-loop-count : goal.invariant-loop-count
 invariant-loop-count g l = record {
   looped : Looped g.S.LineSteps.step (l.fn.state, l.fn.world) (g.L.Source.left l.fn.log) (g.L.Source.left l.log)

@@ -4,7 +4,7 @@ use Rattle.peers_file.specs.Texts.{bucket_text}
 use Rattle.peers_file.proofs.TextLaws.{pairs_of}
 use Rattle.peers_file.proofs.write.put_buckets.Given as goal
 
--- the buckets so far are written, and what is left has the pairs of the others
+-- the buckets before this one are written, and what is left has the pairs of the others
 abbrev pub invariant-loop-bucket : goal.invariant-loop-bucket
 invariant-loop-bucket l = record {
   text : l.out.items ≡ l.initial.out.items ++ flat_map (bucket_text l.listed) (range_with_len 0 l.bucket);

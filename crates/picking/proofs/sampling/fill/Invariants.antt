@@ -4,7 +4,7 @@ use Rattle.table_machine.specs.Sound.{IsSound}
 use Rattle.picking.proofs.Samples.{sofar}
 use Rattle.picking.proofs.sampling.fill.Given as goal
 
--- the peers so far, and then those of the words that are left, are the sample
+-- the peers already picked, and then those of the words that are left, are the sample
 abbrev pub invariant-loop-position : goal.invariant-loop-position
 invariant-loop-position g l = record {
   rest : sofar l.classes l.now l.limit l.words l.tables l.peers.items l.position ≡ sample_from l.fn.tables l.classes l.now 0 l.limit l.words;

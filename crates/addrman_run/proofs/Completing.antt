@@ -1,0 +1,314 @@
+-- A run in which nothing is wrong and nothing fails is done, or out of memory.
+use Rattle.std.proofs.Common.{◌≡◌, ◌≢◌, ◌≤◌, ◌+◌, ℕ, zero, suc, List, [], ◌∷◌, ◌++◌, length, refl, sym, ap, ◌∙◌, subst, inl, inr, arith}
+use Rattle.std.specs.Prelude.{◌⊎◌, All, IfSome, Option}
+use Rattle.std.proofs.lemmas.Bool.{ne_eqb}
+use Rattle.std.proofs.lemmas.List.Elements.{All-head, All-tail}
+use Rattle.addr_limit.proofs.Meanings.{event_no_fault}
+use Rattle.addr_limit.specs.Lines.{HasFault as LimitFault}
+use Rattle.ban_list.specs.declared.ban.Ban.{Ban}
+use Rattle.host_io.specs.Faults.{Rose}
+use Rattle.host_io.specs.Lines.{lines_of, onto_first}
+use Rattle.host_io.specs.Outside.{Outside}
+use Rattle.host_io.specs.Past.{Past}
+use Rattle.host_io.specs.declared.name.Name.TheVariants as name
+use Rattle.host_io.specs.declared.name.Name.{Name}
+use Rattle.log_lines.proofs.FaultLemmas.{spelled_no_fault}
+use Rattle.log_lines.specs.Spelling.{HasFault}
+use Rattle.log_lines.specs.declared.fault.LineFault.{LineFault}
+use Rattle.log_run.specs.Log.{HasNoFeed}
+use Rattle.log_run.specs.Run.{Ran, Steps, Streams}
+use Rattle.log_run.specs.declared.end.LogEnd.TheVariants as end
+use Rattle.log_run.specs.declared.end.LogEnd.{LogEnd}
+use Rattle.log_run.specs.declared.limits.TheConstants.{MAX_LINE, MAX_LOG}
+use Rattle.opener_lines.proofs.OneMeaning.{asked_no_fault}
+use Rattle.opener_lines.specs.Grammar.{HasFault as OpenerFault}
+use Rattle.peers_file.specs.declared.chain.Chain.{Chain}
+use Rattle.session.specs.History.{RoseBy}
+use Rattle.addrman_run.specs.Bans.{BansEnds, Change, ReportsBans}
+use Rattle.addrman_run.specs.Compile.{CompileEnds}
+use Rattle.addrman_run.specs.Complete.{IsComplete, IsGoodLog, IsLimitLine, IsOpenerLine, IsReplayLine, IsUsable, NoRefusal, NoSaveFails, NothingFails, NothingIsWrong, ReportsOpening}
+use Rattle.addrman_run.specs.FileLine.{FileLineEnds}
+use Rattle.addrman_run.specs.Generate.{GenText}
+use Rattle.addrman_run.specs.Limit.{LimitEnds, Limited}
+use Rattle.addrman_run.specs.Log.{LogOutcome, streams_of}
+use Rattle.addrman_run.specs.Opener.{OpenerEnds, OpenerRan}
+use Rattle.addrman_run.specs.Outcome.{Ends, HasCause}
+use Rattle.addrman_run.specs.Replay.{NotOpened, ReplayEnds, Replayed}
+use Rattle.addrman_run.specs.Tables.{ReportsTable}
+use Rattle.addrman_run.specs.Trial.{TrialText}
+use Rattle.addrman_run.specs.declared.request.Request.TheVariants as request
+use Rattle.addrman_run.specs.declared.request.Request.{Request}
+use Rattle.addrman_run.specs.declared.status.Status.TheVariants.{Done, Usage, LogLine, PeersRefused, AsmapRefused, TableRefused, ReadFault, WriteFault, DiskFault, LogTooLong, NoKey, Memory, LineTooLong, NoFile, TooManyRows, BansRefused}
+use Rattle.addrman_run.specs.declared.status.Status.{Status}
+
+-- done, or out of memory
+abbrev IsDone : Status → Type 0
+IsDone answer = (answer ≡ Done) ⊎ (answer ≡ Memory)
+
+-- ---- a log without errors
+
+-- the length of the first line, 0 if there is none
+abbrev first_length : List (List ℕ) → ℕ
+first_length [] = 0
+first_length (line ∷ lines) = length line
+
+first_onto : (b : ℕ) (lines : List (List ℕ)) → first_length (onto_first b lines) ≡ suc (first_length lines)
+first_onto b [] = refl
+first_onto b (line ∷ lines) = refl
+
+lines_onto : (b : ℕ) (bytes : List ℕ) → (b ≡ 10 → ⊥) → lines_of (b ∷ bytes) ≡ onto_first b (lines_of bytes)
+unfolding lines_of
+lines_onto b bytes h = rw (ne_eqb b 10 h) refl
+
+-- bytes without a line feed are in one line
+one_line : (first more : List ℕ) → HasNoFeed first → length first ≤ first_length (lines_of (first ++ more))
+one_line [] more none = omega arith
+one_line (b ∷ first) more none =
+    let is = ap first_length (lines_onto b (first ++ more) (none 0 0 (omega arith))) ∙ first_onto b (lines_of (first ++ more)) in
+    omega (arith, is, one_line first more (All-tail (λ c. c ≢ 10) b first none))
+
+first_within : (most : ℕ) (lines : List (List ℕ)) → All (λ line. length line ≤ most) lines → first_length lines ≤ most
+first_within most [] all = omega arith
+first_within most (line ∷ lines) all = all 0 [] (omega arith)
+
+all_after : {X : Type 0} (P : X → Type 0) (xs ys : List X) → All P (xs ++ ys) → All P ys
+all_after P [] ys all = all
+all_after P (x ∷ xs) ys all = all_after P xs ys (All-tail P x (xs ++ ys) all)
+
+none_more : (n : ℕ) (more : List ℕ) → n + length more ≤ n → more ≡ []
+none_more n [] few = refl
+none_more n (b ∷ more) few = absurd (omega (arith, few))
+
+module _ {S : Type 0} (step : Steps S) (has_fault : List ℕ → LineFault → Type 0) (begins : S) (IsLine : List ℕ → Type 0)
+    (right : (line : List ℕ) (fault : LineFault) → IsLine line → has_fault line fault → ⊥)
+    (old new : Streams) (good : IsGoodLog IsLine old.left) where
+  same_log : (how : LogEnd) (ran : Ran step has_fault begins old new how) → ran.log ≡ good.log
+  same_log how ran = subst (λ left. IfSome left (λ bytes. ran.log ≡ bytes)) good.known ran.known
+
+  split : (how : LogEnd) (ran : Ran step has_fault begins old new how) → lines_of good.log ≡ ran.answered ++ lines_of ran.next
+  split how ran = ap lines_of (sym (same_log how ran)) ∙ ran.begins.split
+
+  pub no_fault : (n : ℕ) (fault : LineFault) → Ran step has_fault begins old new (end.Fault n fault) → ⊥
+  no_fault n fault ran =
+      let (line, after, next, why, near) = ran.ends.2 in
+      let all = subst (All IsLine) (split _ ran ∙ ap (λ lines. ran.answered ++ lines) next.split) good.right in
+      right line fault (All-head IsLine line (lines_of after) (all_after IsLine ran.answered (line ∷ lines_of after) all)) why
+
+  pub no_long_line : (n : ℕ) → Ran step has_fault begins old new (end.LineTooLong n) → ⊥
+  no_long_line n ran =
+      let (first, more, next, long) = ran.ends.2 in
+      let short = subst (All (λ line. length line ≤ MAX_LINE)) (split _ ran) good.short in
+      let rest = subst (λ bytes. All (λ line. length line ≤ MAX_LINE) (lines_of bytes)) next.whole
+      (all_after (λ line. length line ≤ MAX_LINE) ran.answered (lines_of ran.next) short) in
+      omega (arith, long, one_line first more next.no_feed, first_within MAX_LINE (lines_of (first ++ more)) rest)
+
+  pub no_long_log : Ran step has_fault begins old new end.LogTooLong → ⊥
+  no_long_log ran =
+      let (first, more, next, short, long, some) = ran.ends.1 in
+      some (none_more MAX_LOG more (omega (arith, ap length (same_log _ ran), long, good.within)))
+
+-- ---- each command
+
+replay_line : (line : List ℕ) (fault : LineFault) → IsReplayLine line → HasFault line fault → ⊥
+replay_line line fault (inl passed) why = why.0 passed
+replay_line line fault (inr (command, spells)) why = spelled_no_fault line command fault spells why
+
+opener_line : (line : List ℕ) (fault : LineFault) → IsOpenerLine line → OpenerFault line fault → ⊥
+opener_line line fault (inl passed) why = why.0 passed
+opener_line line fault (inr (asked, asks)) why = asked_no_fault line asked fault asks why
+
+limit_line : (line : List ℕ) (fault : LineFault) → IsLimitLine line → LimitFault line fault → ⊥
+limit_line line fault (event, says) why = event_no_fault line event fault says why
+
+-- the folder did not fail if the log is as it was
+no_disk_fault : (old new : Outside) → HasCause old new DiskFault → NothingFails old new → new.left ≡ old.left → ⊥
+no_disk_fault old new cause calm same = calm.folder same (cause.folder.1 refl)
+
+no_write_fault : (old new : Outside) → HasCause old new WriteFault → NothingFails old new → ⊥
+no_write_fault old new cause calm = calm.out (cause.out.1 refl)
+
+no_read_fault : (old new : Outside) → HasCause old new ReadFault → NothingFails old new → ⊥
+no_read_fault old new cause calm = calm.log (cause.log.1 refl)
+
+-- a command that carries out the lines of a log
+log_done : (Runs : LogEnd → Type 0) (Stops : Status → Type 0) (old new : Outside) (answer : Status) → LogOutcome Runs Stops answer → HasCause old new answer
+    → NothingFails old new → ((n : ℕ) (fault : LineFault) → Runs (end.Fault n fault) → ⊥) → ((n : ℕ) → Runs (end.LineTooLong n) → ⊥)
+    → (Runs end.LogTooLong → ⊥) → (HasCause old new answer → Stops answer → IsDone answer) → IsDone answer
+log_done Runs Stops old new Done ends cause calm fault long whole stops = inl refl
+log_done Runs Stops old new Memory ends cause calm fault long whole stops = inr refl
+log_done Runs Stops old new (LogLine n f) ends cause calm fault long whole stops = absurd (fault n f ends)
+log_done Runs Stops old new (LineTooLong n) ends cause calm fault long whole stops = absurd (long n ends)
+log_done Runs Stops old new LogTooLong ends cause calm fault long whole stops = absurd (whole ends)
+log_done Runs Stops old new ReadFault ends cause calm fault long whole stops = absurd (no_read_fault old new cause calm)
+log_done Runs Stops old new WriteFault ends cause calm fault long whole stops = absurd (no_write_fault old new cause calm)
+log_done Runs Stops old new other ends cause calm fault long whole stops = stops cause ends
+
+-- why no tables were opened
+unopened_done : (key : Option (List ℕ)) (chain : Chain) (old new : Outside) (answer : Status) → NoRefusal (ReportsOpening key chain old.past) → NothingFails old new
+    → HasCause old new answer → NotOpened key chain old new answer → IsDone answer
+unopened_done key chain old new Memory fine calm cause is = inr refl
+unopened_done key chain old new DiskFault fine calm cause is = absurd (no_disk_fault old new cause calm is.1.log.0)
+unopened_done key chain old new (AsmapRefused fault) fine calm cause is = absurd (fine (AsmapRefused fault) is.0)
+unopened_done key chain old new (PeersRefused fault) fine calm cause is = absurd (fine (PeersRefused fault) is.0.1)
+unopened_done key chain old new NoKey fine calm cause is = absurd (fine NoKey is.0.1)
+unopened_done key chain old new other fine calm cause is = absurd is.0
+
+replay_done : (key : Option (List ℕ)) (chain : Chain) (old new : Outside) (answer : Status) → ReplayEnds key chain old new answer → HasCause old new answer
+    → IsGoodLog IsReplayLine old.left × NoRefusal (ReportsOpening key chain old.past) → NothingFails old new → IsDone answer
+replay_done key chain old new answer ends cause fine calm =
+    log_done (Replayed key chain old new) (NotOpened key chain old new) old new answer ends.outcome cause calm
+    (λ n fault run. no_fault _ _ _ IsReplayLine replay_line _ _ fine.0 n fault run.ran)
+    (λ n run. no_long_line _ _ _ IsReplayLine replay_line _ _ fine.0 n run.ran)
+    (λ run. no_long_log _ _ _ IsReplayLine replay_line _ _ fine.0 run.ran)
+    (unopened_done key chain old new answer fine.1 calm)
+
+opener_done : (key : Option (List ℕ)) (chain : Chain) (old new : Outside) (answer : Status) → OpenerEnds key chain old new answer → HasCause old new answer
+    → IsGoodLog IsOpenerLine old.left × NoRefusal (ReportsOpening key chain old.past) → NothingFails old new → IsDone answer
+opener_done key chain old new answer ends cause fine calm =
+    log_done (OpenerRan key chain old new) (NotOpened key chain old new) old new answer ends.outcome cause calm
+    (λ n fault run. no_fault _ _ _ IsOpenerLine opener_line _ _ fine.0 n fault run.ran)
+    (λ n run. no_long_line _ _ _ IsOpenerLine opener_line _ _ fine.0 n run.ran)
+    (λ run. no_long_log _ _ _ IsOpenerLine opener_line _ _ fine.0 run.ran)
+    (unopened_done key chain old new answer fine.1 calm)
+
+limit_done : (old new : Outside) (answer : Status) → LimitEnds old new answer → HasCause old new answer → IsGoodLog IsLimitLine old.left → NothingFails old new → IsDone answer
+limit_done old new answer ends cause fine calm =
+    log_done (Limited (streams_of old) (streams_of new)) (λ other. ⊥) old new answer ends.outcome cause calm
+    (λ n fault run. no_fault _ _ _ IsLimitLine limit_line _ _ fine n fault run.ran)
+    (λ n run. no_long_line _ _ _ IsLimitLine limit_line _ _ fine n run.ran)
+    (λ run. no_long_log _ _ _ IsLimitLine limit_line _ _ fine run.ran)
+    (λ cause none. absurd none)
+
+-- a command that loads one file and writes a line about it
+file_line_done : (name : Name) (IsLine : Option Past → List ℕ → Type 0) (Refuses : Option Past → Status → Type 0) (old new : Outside) (answer : Status)
+    → FileLineEnds name IsLine Refuses old new answer → HasCause old new answer → IsUsable name Refuses old.past → NothingFails old new → IsDone answer
+file_line_done name IsLine Refuses old new Done ends cause fine calm = inl refl
+file_line_done name IsLine Refuses old new Memory ends cause fine calm = inr refl
+file_line_done name IsLine Refuses old new WriteFault ends cause fine calm = absurd (no_write_fault old new cause calm)
+file_line_done name IsLine Refuses old new DiskFault ends cause fine calm = absurd (no_disk_fault old new cause calm ends.left.0)
+file_line_done name IsLine Refuses old new (NoFile file) ends cause fine calm = absurd (fine.0 ends.text.1)
+file_line_done name IsLine Refuses old new (AsmapRefused fault) ends cause fine calm = absurd (fine.1 (AsmapRefused fault) ends.text.0)
+file_line_done name IsLine Refuses old new (PeersRefused fault) ends cause fine calm = absurd (fine.1 (PeersRefused fault) ends.text.0)
+file_line_done name IsLine Refuses old new (TableRefused fault) ends cause fine calm = absurd (fine.1 (TableRefused fault) ends.text.0)
+file_line_done name IsLine Refuses old new (BansRefused fault) ends cause fine calm = absurd (fine.1 (BansRefused fault) ends.text.0)
+file_line_done name IsLine Refuses old new TooManyRows ends cause fine calm = absurd (fine.1 TooManyRows ends.text.0)
+file_line_done name IsLine Refuses old new Usage ends cause fine calm = absurd (fine.1 Usage ends.text.0)
+file_line_done name IsLine Refuses old new (LogLine n fault) ends cause fine calm = absurd (fine.1 (LogLine n fault) ends.text.0)
+file_line_done name IsLine Refuses old new (LineTooLong n) ends cause fine calm = absurd (fine.1 (LineTooLong n) ends.text.0)
+file_line_done name IsLine Refuses old new LogTooLong ends cause fine calm = absurd (fine.1 LogTooLong ends.text.0)
+file_line_done name IsLine Refuses old new ReadFault ends cause fine calm = absurd (fine.1 ReadFault ends.text.0)
+file_line_done name IsLine Refuses old new NoKey ends cause fine calm = absurd (fine.1 NoKey ends.text.0)
+
+compile_done : (old new : Outside) (answer : Status) → CompileEnds old new answer → HasCause old new answer → IsUsable name.Prefixes ReportsTable old.past → NothingFails old new → IsDone answer
+compile_done old new Done ends cause fine calm = inl refl
+compile_done old new Memory ends cause fine calm = inr refl
+compile_done old new WriteFault ends cause fine calm = absurd (no_write_fault old new cause calm)
+compile_done old new DiskFault ends cause fine calm = absurd (no_disk_fault old new cause calm ends.left.0)
+compile_done old new (NoFile file) ends cause fine calm = absurd (fine.0 ends.text.1)
+compile_done old new (AsmapRefused fault) ends cause fine calm = absurd (fine.1 (AsmapRefused fault) ends.text.0)
+compile_done old new (PeersRefused fault) ends cause fine calm = absurd (fine.1 (PeersRefused fault) ends.text.0)
+compile_done old new (TableRefused fault) ends cause fine calm = absurd (fine.1 (TableRefused fault) ends.text.0)
+compile_done old new (BansRefused fault) ends cause fine calm = absurd (fine.1 (BansRefused fault) ends.text.0)
+compile_done old new TooManyRows ends cause fine calm = absurd (fine.1 TooManyRows ends.text.0)
+compile_done old new Usage ends cause fine calm = absurd (fine.1 Usage ends.text.0)
+compile_done old new (LogLine n fault) ends cause fine calm = absurd (fine.1 (LogLine n fault) ends.text.0)
+compile_done old new (LineTooLong n) ends cause fine calm = absurd (fine.1 (LineTooLong n) ends.text.0)
+compile_done old new LogTooLong ends cause fine calm = absurd (fine.1 LogTooLong ends.text.0)
+compile_done old new ReadFault ends cause fine calm = absurd (fine.1 ReadFault ends.text.0)
+compile_done old new NoKey ends cause fine calm = absurd (fine.1 NoKey ends.text.0)
+
+bans_done : (change : List Ban → Change) (old new : Outside) (answer : Status) → BansEnds change old new answer → HasCause old new answer → NoRefusal (ReportsBans old.past) → NothingFails old new → IsDone answer
+bans_done change old new Done ends cause fine calm = inl refl
+bans_done change old new Memory ends cause fine calm = inr refl
+bans_done change old new WriteFault ends cause fine calm = absurd (no_write_fault old new cause calm)
+bans_done change old new DiskFault ends cause fine calm = absurd (no_disk_fault old new cause calm ends.left.0)
+bans_done change old new (NoFile file) ends cause fine calm = absurd (fine (NoFile file) ends.text.0)
+bans_done change old new (AsmapRefused fault) ends cause fine calm = absurd (fine (AsmapRefused fault) ends.text.0)
+bans_done change old new (PeersRefused fault) ends cause fine calm = absurd (fine (PeersRefused fault) ends.text.0)
+bans_done change old new (TableRefused fault) ends cause fine calm = absurd (fine (TableRefused fault) ends.text.0)
+bans_done change old new (BansRefused fault) ends cause fine calm = absurd (fine (BansRefused fault) ends.text.0)
+bans_done change old new TooManyRows ends cause fine calm = absurd (fine TooManyRows ends.text.0)
+bans_done change old new Usage ends cause fine calm = absurd (fine Usage ends.text.0)
+bans_done change old new (LogLine n fault) ends cause fine calm = absurd (fine (LogLine n fault) ends.text.0)
+bans_done change old new (LineTooLong n) ends cause fine calm = absurd (fine (LineTooLong n) ends.text.0)
+bans_done change old new LogTooLong ends cause fine calm = absurd (fine LogTooLong ends.text.0)
+bans_done change old new ReadFault ends cause fine calm = absurd (fine ReadFault ends.text.0)
+bans_done change old new NoKey ends cause fine calm = absurd (fine NoKey ends.text.0)
+
+gen_done : (first count : ℕ) (old new : Outside) (answer : Status) → GenText first count old.written new.written answer → HasCause old new answer → NothingFails old new → IsDone answer
+gen_done first count old new Done text cause calm = inl refl
+gen_done first count old new Memory text cause calm = inr refl
+gen_done first count old new WriteFault text cause calm = absurd (no_write_fault old new cause calm)
+gen_done first count old new DiskFault text cause calm = absurd text
+gen_done first count old new (NoFile file) text cause calm = absurd text
+gen_done first count old new (AsmapRefused fault) text cause calm = absurd text
+gen_done first count old new (PeersRefused fault) text cause calm = absurd text
+gen_done first count old new (TableRefused fault) text cause calm = absurd text
+gen_done first count old new (BansRefused fault) text cause calm = absurd text
+gen_done first count old new TooManyRows text cause calm = absurd text
+gen_done first count old new Usage text cause calm = absurd text
+gen_done first count old new (LogLine n fault) text cause calm = absurd text
+gen_done first count old new (LineTooLong n) text cause calm = absurd text
+gen_done first count old new LogTooLong text cause calm = absurd text
+gen_done first count old new ReadFault text cause calm = absurd text
+gen_done first count old new NoKey text cause calm = absurd text
+
+trial_done : (first count : ℕ) (old new : Outside) (answer : Status) → TrialText first count old.written new.written answer → HasCause old new answer → NothingFails old new → IsDone answer
+trial_done first count old new Done text cause calm = inl refl
+trial_done first count old new Memory text cause calm = inr refl
+trial_done first count old new WriteFault text cause calm = absurd (no_write_fault old new cause calm)
+trial_done first count old new DiskFault text cause calm = absurd text
+trial_done first count old new (NoFile file) text cause calm = absurd text
+trial_done first count old new (AsmapRefused fault) text cause calm = absurd text
+trial_done first count old new (PeersRefused fault) text cause calm = absurd text
+trial_done first count old new (TableRefused fault) text cause calm = absurd text
+trial_done first count old new (BansRefused fault) text cause calm = absurd text
+trial_done first count old new TooManyRows text cause calm = absurd text
+trial_done first count old new Usage text cause calm = absurd text
+trial_done first count old new (LogLine n fault) text cause calm = absurd text
+trial_done first count old new (LineTooLong n) text cause calm = absurd text
+trial_done first count old new LogTooLong text cause calm = absurd text
+trial_done first count old new ReadFault text cause calm = absurd text
+trial_done first count old new NoKey text cause calm = absurd text
+
+-- ---- the saves of a replay
+
+none_failed : (n before after : ℕ) → ¬ Rose before after → RoseBy n before after → n ≡ 0
+none_failed zero before after still rose = refl
+none_failed (suc n) before after still (inl rose) = absurd (still (inl (omega (arith, rose))))
+none_failed (suc n) before after still (inr rose) = absurd (still rose.1)
+
+no_save_fails : (request : Request) (old new : Outside) → NoSaveFails request old new
+no_save_fails (request.Replay key chain) old new = λ still how run. none_failed _ old.folder_faults new.folder_faults still run.failed_saves
+no_save_fails (request.Opener key chain) old new = tt
+no_save_fails request.Compile old new = tt
+no_save_fails request.Check old new = tt
+no_save_fails request.Decompile old new = tt
+no_save_fails request.Limit old new = tt
+no_save_fails (request.Lookup peer) old new = tt
+no_save_fails (request.Show chain) old new = tt
+no_save_fails (request.Ban subnet now until) old new = tt
+no_save_fails (request.Unban subnet) old new = tt
+no_save_fails (request.Banned peer now) old new = tt
+no_save_fails (request.Gen first count) old new = tt
+no_save_fails (request.Trial first count) old new = tt
+
+-- ---- any request
+
+done : (request : Request) (old new : Outside) (answer : Status) → Ends request old new answer → HasCause old new answer → NothingIsWrong request old → NothingFails old new → IsDone answer
+done (request.Replay key chain) old new answer ends cause fine calm = replay_done key chain old new answer ends cause fine calm
+done (request.Opener key chain) old new answer ends cause fine calm = opener_done key chain old new answer ends cause fine calm
+done request.Compile old new answer ends cause fine calm = compile_done old new answer ends cause fine calm
+done request.Check old new answer ends cause fine calm = file_line_done _ _ _ old new answer ends cause fine calm
+done request.Decompile old new answer ends cause fine calm = file_line_done _ _ _ old new answer ends cause fine calm
+done request.Limit old new answer ends cause fine calm = limit_done old new answer ends cause fine calm
+done (request.Lookup peer) old new answer ends cause fine calm = file_line_done _ _ _ old new answer ends cause fine calm
+done (request.Show chain) old new answer ends cause fine calm = file_line_done _ _ _ old new answer ends cause fine calm
+done (request.Ban subnet now until) old new answer ends cause fine calm = bans_done _ old new answer ends cause fine calm
+done (request.Unban subnet) old new answer ends cause fine calm = bans_done _ old new answer ends cause fine calm
+done (request.Banned peer now) old new answer ends cause fine calm = bans_done _ old new answer ends cause fine calm
+done (request.Gen first count) old new answer ends cause fine calm = gen_done first count old new answer ends.text cause calm
+done (request.Trial first count) old new answer ends cause fine calm = trial_done first count old new answer ends.text cause calm
+
+pub complete : (request : Request) (old new : Outside) (answer : Status) → Ends request old new answer → HasCause old new answer → IsComplete request old new answer
+complete request old new answer ends cause = record { done = done request old new answer ends cause; saved = no_save_fails request old new }

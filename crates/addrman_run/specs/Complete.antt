@@ -1,0 +1,111 @@
+-- When a run has to do what it is asked for: nothing is wrong with the log and the files, and
+-- nothing fails.
+use Rattle.std.specs.Prelude.{◌≡◌, ◌⊎◌, ◌≤◌, ℕ, List, All, length, Option, Some, ⊤}
+use Rattle.addr_limit.specs.Lines.{Says}
+use Rattle.addr_limit.specs.declared.event.Event.{Event}
+use Rattle.host_io.specs.Faults.{Rose}
+use Rattle.host_io.specs.Lines.{IsPassedOver, lines_of}
+use Rattle.host_io.specs.Outside.{Outside}
+use Rattle.host_io.specs.Past.{Past}
+use Rattle.host_io.specs.declared.name.Name.{Name}
+use Rattle.host_io.specs.declared.name.Name.TheVariants as name
+use Rattle.log_lines.specs.Spelling.{Spells}
+use Rattle.log_lines.specs.declared.command.Command.{Command}
+use Rattle.log_run.specs.declared.end.LogEnd.{LogEnd}
+use Rattle.log_run.specs.declared.limits.TheConstants.{MAX_LINE, MAX_LOG}
+use Rattle.opener_lines.specs.Grammar.{Asks}
+use Rattle.opener_lines.specs.declared.request.Request as opener
+use Rattle.peers_file.specs.declared.chain.Chain.{Chain}
+use Rattle.session.specs.History.{failed}
+use Rattle.addrman_run.specs.Asmaps.{ReportsAsmap}
+use Rattle.addrman_run.specs.Bans.{ReportsBans}
+use Rattle.addrman_run.specs.Decompile.{ReportsDecompile}
+use Rattle.addrman_run.specs.InFolder.{IsAbsent}
+use Rattle.addrman_run.specs.Opening.{LacksKey, RefusesTables}
+use Rattle.addrman_run.specs.Replay.{Replayed}
+use Rattle.addrman_run.specs.Show.{ReportsPeers}
+use Rattle.addrman_run.specs.Tables.{ReportsTable}
+use Rattle.addrman_run.specs.declared.request.Request.{Request}
+use Rattle.addrman_run.specs.declared.request.Request.TheVariants.{Show}
+use Rattle.addrman_run.specs.declared.request.Request.TheVariants.{Replay, Opener, Compile, Check, Lookup}
+use Rattle.addrman_run.specs.declared.request.Request.TheVariants.{Decompile, Limit}
+use Rattle.addrman_run.specs.declared.request.Request.TheVariants.{Ban, Unban, Banned}
+use Rattle.addrman_run.specs.declared.request.Request.TheVariants.{Gen, Trial}
+use Rattle.addrman_run.specs.declared.status.Status.{Status}
+use Rattle.addrman_run.specs.declared.status.Status.TheVariants.{Done, Memory, PeersRefused, NoKey}
+
+-- THE LOG
+
+-- a line that a replay carries out: it is passed over, or spells a command
+abbrev pub IsReplayLine : List ℕ → Type 0
+IsReplayLine line = IsPassedOver line ⊎ ((command : Command) × Spells line command)
+
+-- a line that an opener carries out
+abbrev pub IsOpenerLine : List ℕ → Type 0
+IsOpenerLine line = IsPassedOver line ⊎ ((asked : opener.Request) × Asks line asked)
+
+-- a line that the limit carries out
+abbrev pub IsLimitLine : List ℕ → Type 0
+IsLimitLine line = (event : Event) × Says line event
+
+-- Contracts know the log. It is within its limit, each of its lines is within the limit of a line,
+-- and each is one that the command carries out.
+pub record IsGoodLog (IsLine : List ℕ → Type 0) (left : Option (List ℕ)) : Type 0 where
+  pub log : List ℕ
+  pub known : left ≡ Some log
+  pub within : length log ≤ MAX_LOG
+  pub short : All (λ line. length line ≤ MAX_LINE) (lines_of log)
+  pub right : All IsLine (lines_of log)
+
+-- THE FILES
+
+-- No status reports a refusal. If contracts don't know the files, a refusal is never ruled out.
+abbrev pub NoRefusal : (Status → Type 0) → Type 0
+NoRefusal Reports = (answer : Status) → ¬ Reports answer
+
+-- the file is there, and no status reports a refusal of it
+abbrev pub IsUsable : Name → (Option Past → Status → Type 0) → Option Past → Type 0
+IsUsable name Reports past = ¬ IsAbsent name past × NoRefusal (Reports past)
+
+-- a status that says why a replay or an opener ends before the log: peers.dat or asmap.dat is refused, or there is
+-- neither a peers.dat nor a key
+abbrev pub ReportsOpening : Option (List ℕ) → Chain → Option Past → Status → Type 0
+ReportsOpening key chain past (PeersRefused fault) = RefusesTables chain past fault
+ReportsOpening key chain past NoKey = LacksKey key past
+ReportsOpening key chain past other = ReportsAsmap past other
+
+-- THE WHOLE
+
+-- Nothing is wrong with what the request reads: the log, if it reads one, and its files.
+abbrev pub NothingIsWrong : Request → Outside → Type 0
+NothingIsWrong (Replay key chain) at = IsGoodLog IsReplayLine at.left × NoRefusal (ReportsOpening key chain at.past)
+NothingIsWrong (Opener key chain) at = IsGoodLog IsOpenerLine at.left × NoRefusal (ReportsOpening key chain at.past)
+NothingIsWrong Compile at = IsUsable name.Prefixes ReportsTable at.past
+NothingIsWrong Check at = IsUsable name.Asmap ReportsAsmap at.past
+NothingIsWrong Decompile at = IsUsable name.Asmap ReportsDecompile at.past
+NothingIsWrong Limit at = IsGoodLog IsLimitLine at.left
+NothingIsWrong (Lookup peer) at = IsUsable name.Asmap ReportsAsmap at.past
+NothingIsWrong (Show chain) at = IsUsable name.Peers (ReportsPeers chain) at.past
+NothingIsWrong (Ban subnet now until) at = NoRefusal (ReportsBans at.past)
+NothingIsWrong (Unban subnet) at = NoRefusal (ReportsBans at.past)
+NothingIsWrong (Banned peer now) at = NoRefusal (ReportsBans at.past)
+NothingIsWrong (Gen start lines) at = ⊤
+NothingIsWrong (Trial start lines) at = ⊤
+
+-- No count of faults rose; that of the folder may have risen after bytes of the log were taken.
+pub record NothingFails (old new : Outside) : Type 0 where
+  pub log : ¬ Rose old.log_faults new.log_faults
+  pub out : ¬ Rose old.out_faults new.out_faults
+  pub folder : new.left ≡ old.left → ¬ Rose old.folder_faults new.folder_faults
+
+-- If the folder's count did not rise at all, no save of a replay failed.
+abbrev pub NoSaveFails : Request → Outside → Outside → Type 0
+NoSaveFails (Replay key chain) old new =
+    ¬ Rose old.folder_faults new.folder_faults →
+    (how : LogEnd) (run : Replayed key chain old new how) → failed run.ran.now.ended ≡ 0
+NoSaveFails other old new = ⊤
+
+-- If nothing is wrong and nothing fails, the run is done, or memory ran out.
+pub record IsComplete (request : Request) (old new : Outside) (answer : Status) : Type 0 where
+  pub done : NothingIsWrong request old → NothingFails old new → (answer ≡ Done) ⊎ (answer ≡ Memory)
+  pub saved : NoSaveFails request old new

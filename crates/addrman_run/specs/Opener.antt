@@ -1,0 +1,53 @@
+-- What an opener writes for the lines of a log, and how it ends.
+use Rattle.std.specs.Prelude.{◌≡◌, ℕ, ◌+◌, List, [], Option}
+use Rattle.host_io.specs.Outside.{Outside}
+use Rattle.host_io.specs.Reading.{TakesAtMost}
+use Rattle.asmap_vm.specs.Asmap.{Asmap}
+use Rattle.log_run.specs.Run.{Ran, Run}
+use Rattle.log_run.specs.declared.end.LogEnd.{LogEnd}
+use Rattle.log_run.specs.declared.limits.TheConstants.{MAX_LOG}
+use Rattle.peer_open.specs.Groups.{AreApart}
+use Rattle.opener_lines.specs.Fair.{IsFair}
+use Rattle.opener_lines.specs.Grammar.{HasFault}
+use Rattle.opener_lines.specs.Lines.{LineStep}
+use Rattle.opener_lines.specs.State as opener
+use Rattle.opener_lines.specs.State.{Answer, Step}
+use Rattle.opener_lines.specs.declared.request.Request.{Request}
+use Rattle.peers_file.specs.declared.chain.Chain.{Chain}
+use Rattle.table_machine.specs.State as tables
+use Rattle.addrman_run.specs.Asmaps.{IsMapIn}
+use Rattle.addrman_run.specs.Log.{LogOutcome, streams_of}
+use Rattle.addrman_run.specs.Opening.{Opens}
+use Rattle.addrman_run.specs.Replay.{NotOpened}
+use Rattle.addrman_run.specs.declared.status.Status.{Status}
+
+-- what an opener begins with: the tables, at the time 0, and no open peers
+abbrev pub opener_start : tables.State → opener.State
+opener_start st = opener.state (record { tables = st; clock = 0 }) []
+
+-- Whatever lines were carried out: no two open peers are in one group, and the peer that the next
+-- request is answered with is taken by the rules.
+pub record KeepsRules (start : opener.State) : Type 0 where
+  pub apart : (lines : List (List ℕ)) (text : List ℕ) (now : opener.State) → Run LineStep start lines text now
+      → AreApart now.open_peers
+  pub fair : (lines : List (List ℕ)) (text : List ℕ) (now : opener.State) → Run LineStep start lines text now
+      → (asked : Request) (answer : Answer) (next : opener.State) → Step now asked answer next → IsFair now asked answer
+
+-- An opener that got past its opening, by the end of its run over the log.
+pub record OpenerRan (key : Option (List ℕ)) (chain : Chain) (old new : Outside) (how : LogEnd) : Type 0 where
+  pub map : Option Asmap
+  pub has_map : IsMapIn old.past map
+  pub tables : tables.State
+  pub opens : Opens key chain old.past map tables
+  pub ran : Ran LineStep HasFault (opener_start tables) (streams_of old) (streams_of new) how
+  pub rules : KeepsRules (opener_start tables)
+
+-- how an opener ends, by its status
+abbrev pub OpenerOutcome : Option (List ℕ) → Chain → Outside → Outside → Status → Type 0
+OpenerOutcome key chain old new = LogOutcome (OpenerRan key chain old new) (NotOpened key chain old new)
+
+-- No file is changed, and at most one byte more than a log may have was read.
+pub record OpenerEnds (key : Option (List ℕ)) (chain : Chain) (old new : Outside) (answer : Status) : Type 0 where
+  pub outcome : OpenerOutcome key chain old new answer
+  pub taken : TakesAtMost old.left new.left (MAX_LOG + 1)
+  pub past : new.past ≡ old.past

@@ -1,0 +1,54 @@
+ghost use Rattle.std.specs.Prelude.{◌≡◌, ◌+◌};
+ghost use Rattle.host_io.specs.Outside.{outside};
+ghost use Rattle.host_io.specs.Reading.{TakesAtMost};
+ghost use Rattle.log_run.specs.declared.limits.TheConstants.{MAX_LOG};
+ghost use Rattle.addrman_run.specs.Opener.{OpenerOutcome};
+ghost use Rattle.addrman_run.specs.Outcome.{IsCounted};
+
+use crate::Status;
+use crate::input::{Input, load_input};
+use crate::log_status::status_of;
+use crate::opener_steps::OpenerSteps;
+use crate::opening::open_folder;
+use host_io::{Folder, Sink, Source};
+use log_run::run_log;
+use manager::Manager;
+use opener_lines::{groups_stay_apart, tries_are_fair};
+use peers_file::Chain;
+use std::alloc::Global;
+use std::hash::BuildHasher;
+
+/// Carries out the lines of an opener's log, from the tables that a replay begins with. No file is
+/// changed.
+pub(crate) fn opener<L: Source, F: Folder, K: Sink, H: BuildHasher + Drop>(
+    alloc: Global,
+    hasher: H,
+    key: Option<[u8; 32]>,
+    chain: Chain,
+    log: &mut L,
+    folder: &mut F,
+    out: &mut K,
+) -> Status
+    ensures outcome { OpenerOutcome key chain
+        (outside L.Source F.Folder K.Sink log.old folder.old out.old)
+        (outside L.Source F.Folder K.Sink log.new folder.new out.new) result }
+    ensures taken { TakesAtMost (L.left log.old) (L.left log.new) (MAX_LOG + 1) }
+    ensures read { IsCounted Status.ReadFault (L.faults log.old) (L.faults log.new) result }
+    ensures write { IsCounted Status.WriteFault (K.faults out.old) (K.faults out.new) result }
+    ensures disk { IsCounted Status.DiskFault (F.faults folder.old) (F.faults folder.new) result }
+    ensures same { F.past folder.new ≡ F.past folder.old }
+{
+    groups_stay_apart();
+    tries_are_fair();
+    let bytes = match load_input(alloc, Input::Asmap, folder) {
+        Ok(bytes) => bytes,
+        Err(status) => return status,
+    };
+    let (tables, placer) = match open_folder(alloc, hasher, key, chain, &bytes, folder) {
+        Ok(opened) => opened,
+        Err(status) => return status,
+    };
+    let mut lines = OpenerSteps::make(Manager::open(tables), placer);
+    let mut world = ();
+    status_of(run_log(alloc, log, &mut lines, &mut world, out))
+}

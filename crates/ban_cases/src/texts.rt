@@ -1,0 +1,57 @@
+use ban_list::{Bans, parse_subnet, put_subnet, read_bans, write_bans};
+use call_rows::{Calls, Unread};
+use std::alloc::Global;
+
+/// The calls on texts, each of which is by itself.
+#[derive(Drop)]
+pub(crate) struct Texts;
+
+impl Calls for Texts {
+    fn start(_: Global) -> Result<Texts, Unread> {
+        Ok(Texts)
+    }
+
+    fn call(&mut self, alloc: Global, name: &str, arguments: &str) -> Result<String, Unread> {
+        match name {
+            "subnet" => subnet(alloc, arguments),
+            "file" => file(alloc, arguments),
+            _ => Err(Unread::Form),
+        }
+    }
+}
+
+/// `subnet TEXT`: the subnet that the text parses as, with its length, or `none`.
+fn subnet(alloc: Global, text: &str) -> Result<String, Unread> {
+    let Some(subnet) = parse_subnet(text.as_bytes()) else {
+        return Ok(String::from_str(alloc, "none")?);
+    };
+    let mut printed = Vec::new(alloc);
+    if put_subnet(&subnet, &mut printed).is_err() {
+        return Err(Unread::Memory);
+    }
+    owned(alloc, printed.as_slice())
+}
+
+/// `file TEXT`: the file of the list that the text reads as, or the fault.
+fn file(alloc: Global, text: &str) -> Result<String, Unread> {
+    match read_bans(alloc, text.as_bytes()) {
+        Ok(bans) => written(alloc, &bans),
+        Err(fault) => Ok(format!(in alloc; "{fault}")?),
+    }
+}
+
+/// Returns the file of a list.
+fn written(alloc: Global, bans: &Bans) -> Result<String, Unread> {
+    match write_bans(alloc, bans) {
+        Ok(bytes) => owned(alloc, bytes.items()),
+        Err(_) => Err(Unread::Memory),
+    }
+}
+
+/// Returns an owned text of these bytes.
+fn owned(alloc: Global, bytes: &[u8]) -> Result<String, Unread> {
+    match str::from_utf8(bytes) {
+        Ok(text) => Ok(String::from_str(alloc, text)?),
+        Err(_) => Err(Unread::Form),
+    }
+}
