@@ -53,7 +53,7 @@ fn ends_so(alloc: Global, length: u64, want: &str) -> Result<bool, Unread> {
         left: length,
         is_new: true,
     });
-    let mut folder = MemFolder::make(alloc, &[])?;
+    let mut folder = MemFolder::make(alloc, case.failing_calls.as_slice())?;
     let mut out = MemSink::make(alloc, &[])?;
     let hasher = BuildHasherDefault::<FoldHasher>::new();
     let arguments = case.arguments.as_slice();

@@ -52,37 +52,6 @@ fn replay(
     Ok(code(&status))
 }
 
-/// Returns the file that is there after so many saves.
-fn file_after(alloc: Global, saves: usize) -> Result<Vec<u8>, Memory> {
-    let mut folder = MemFolder::make(alloc, &[])?;
-    let mut out = MemSink::make(alloc, &[])?;
-    let log = log_of(alloc, saves)?;
-    let _ = replay(alloc, WITH_KEY, log.as_str(), &mut folder, &mut out)?;
-    Ok(folder.get(Name::Peers).unwrap_or(b"").to_vec(alloc)?)
-}
-
-/// Returns the files of the three saves.
-pub(crate) fn files(alloc: Global) -> Result<Saves, Memory> {
-    Ok([
-        file_after(alloc, 1)?,
-        file_after(alloc, 2)?,
-        file_after(alloc, 3)?,
-    ])
-}
-
-/// Returns the digit of a file, `-` for none and `?` for one that none of the saves writes.
-fn digit(saves: &Saves, file: Option<&[u8]>) -> &'static str {
-    let Some(file) = file else {
-        return "-";
-    };
-    for (save, digit) in saves.iter().zip(["1", "2", "3"]) {
-        if save.as_slice() == file {
-            return digit;
-        }
-    }
-    "?"
-}
-
 /// Returns `y` for each reply `saved` and `n` for each `not saved`, `-` if there is none.
 fn outcomes(alloc: Global, replies: &[u8]) -> Result<String, AllocError> {
     let mut text = String::new(alloc);
@@ -99,6 +68,53 @@ fn outcomes(alloc: Global, replies: &[u8]) -> Result<String, AllocError> {
     Ok(text)
 }
 
+/// Replays the lines up to the save of this number in the folder, and returns the exit code and the
+/// outcome of each save.
+fn replay_saves(alloc: Global, saves: usize, folder: &mut MemFolder) -> Result<String, Memory> {
+    let log = log_of(alloc, saves)?;
+    let mut out = MemSink::make(alloc, &[])?;
+    let code = replay(alloc, WITH_KEY, log.as_str(), folder, &mut out)?;
+    let outcomes = outcomes(alloc, out.bytes())?;
+    Ok(format!(in alloc; "code {code}, {}", outcomes.as_str())?)
+}
+
+/// Returns a copy of the file of peers, which is there.
+fn peers_of(alloc: Global, folder: &MemFolder) -> Result<Vec<u8>, Memory> {
+    match folder.get(Name::Peers) {
+        Some(bytes) => Ok(bytes.to_vec(alloc)?),
+        None => Err(Memory),
+    }
+}
+
+/// Returns the file that is there after so many saves, if these calls fail.
+fn file_after(alloc: Global, saves: usize, fails: &[(u64, bool)]) -> Result<Vec<u8>, Memory> {
+    let mut folder = MemFolder::make(alloc, fails)?;
+    let _ = replay_saves(alloc, saves, &mut folder)?;
+    peers_of(alloc, &folder)
+}
+
+/// Returns the files of the three saves.
+pub(crate) fn files(alloc: Global) -> Result<Saves, Memory> {
+    Ok([
+        file_after(alloc, 1, &[])?,
+        file_after(alloc, 2, &[])?,
+        file_after(alloc, 3, &[])?,
+    ])
+}
+
+/// Returns the digit of a file, `-` for none and `?` for one that none of the saves writes.
+fn digit(saves: &Saves, file: Option<&[u8]>) -> &'static str {
+    let Some(file) = file else {
+        return "-";
+    };
+    for (save, digit) in saves.iter().zip(["1", "2", "3"]) {
+        if save.as_slice() == file {
+            return digit;
+        }
+    }
+    "?"
+}
+
 /// Opens the folder without a key and lists its tables. Returns `o` if they have one record, `k` if
 /// there is neither a file nor a key, and `?` for everything else.
 fn opened(alloc: Global, folder: &mut MemFolder) -> Result<&'static str, Memory> {
@@ -110,17 +126,31 @@ fn opened(alloc: Global, folder: &mut MemFolder) -> Result<&'static str, Memory>
     Ok(if code == 11 { "k" } else { "?" })
 }
 
+/// Returns what a crash with this choice leaves of the file, and how that opens.
+fn crash(
+    alloc: Global,
+    saves: &Saves,
+    folder: &MemFolder,
+    choice: u64,
+) -> Result<(&'static str, &'static str), Memory> {
+    let mut image = folder.crash(choice)?;
+    let digit = digit(saves, image.get(Name::Peers));
+    let opened = opened(alloc, &mut image)?;
+    Ok((digit, opened))
+}
+
 /// Returns what crashes with the choices 0 to 15 leave of the file, and how each opens.
 fn crashes(alloc: Global, saves: &Saves, folder: &MemFolder) -> Result<String, Memory> {
     let mut digits = String::new(alloc);
     let mut openings = String::new(alloc);
     for choice in 0..16 {
-        let mut image = folder.crash(choice)?;
-        digits.push_str(digit(saves, image.get(Name::Peers)))?;
-        openings.push_str(opened(alloc, &mut image)?)?;
+        let (digit, opened) = crash(alloc, saves, folder, choice)?;
+        digits.push_str(digit)?;
+        openings.push_str(opened)?;
     }
+    let reads = digit(saves, folder.get(Name::Peers));
     let (digits, openings) = (digits.as_str(), openings.as_str());
-    Ok(format!(in alloc; "crashes {digits}, opened {openings}")?)
+    Ok(format!(in alloc; "reads {reads}, crashes {digits}, opened {openings}")?)
 }
 
 /// Replays a log of so many saves while these calls of the folder fail, and returns how it went.
@@ -131,14 +161,10 @@ fn replay_with(
     fails: &[(u64, bool)],
 ) -> Result<String, Memory> {
     let mut folder = MemFolder::make(alloc, fails)?;
-    let mut out = MemSink::make(alloc, &[])?;
-    let log = log_of(alloc, saves)?;
-    let code = replay(alloc, WITH_KEY, log.as_str(), &mut folder, &mut out)?;
-    let outcomes = outcomes(alloc, out.bytes())?;
-    let reads = digit(files, folder.get(Name::Peers));
+    let outcomes = replay_saves(alloc, saves, &mut folder)?;
     let found = crashes(alloc, files, &folder)?;
     let (outcomes, found) = (outcomes.as_str(), found.as_str());
-    Ok(format!(in alloc; "code {code}, {outcomes}, reads {reads}, {found}")?)
+    Ok(format!(in alloc; "{outcomes}, {found}")?)
 }
 
 /// Replays a log of two saves while all calls fail from one on, and returns the line about it.
