@@ -1,5 +1,5 @@
 -- What an opener writes for the lines of a log, and how it ends.
-use Rattle.std.specs.Prelude.{◌≡◌, ℕ, ◌+◌, List, [], Option}
+use Rattle.std.specs.Prelude.{◌≡◌, ℕ, ◌+◌, ◌≤◌, List, [], length, Option}
 use Rattle.host_io.specs.Outside.{Outside}
 use Rattle.host_io.specs.Reading.{TakesAtMost}
 use Rattle.asmap_vm.specs.Asmap.{Asmap}
@@ -7,6 +7,7 @@ use Rattle.log_run.specs.Run.{Ran, Run}
 use Rattle.log_run.specs.declared.end.LogEnd.{LogEnd}
 use Rattle.log_run.specs.declared.limits.TheConstants.{MAX_LOG}
 use Rattle.peer_open.specs.Groups.{AreApart}
+use Rattle.peer_open.specs.declared.opener.TheConstants.{MAX_OUTBOUND}
 use Rattle.opener_lines.specs.Fair.{IsFair}
 use Rattle.opener_lines.specs.Grammar.{HasFault}
 use Rattle.opener_lines.specs.Lines.{LineStep}
@@ -25,11 +26,13 @@ use Rattle.addrman_run.specs.declared.status.Status.{Status}
 abbrev pub opener_start : tables.State → opener.State
 opener_start st = opener.state (record { tables = st; clock = 0 }) []
 
--- Whatever lines were carried out: no two open peers are in one group, and the peer that the next
--- request is answered with is taken by the rules.
+-- Whatever lines were carried out: at most ten peers are open, no two of them in one group, and the
+-- peer that the next request is answered with is taken by the rules.
 pub record KeepsRules (start : opener.State) : Type 0 where
   pub apart : (lines : List (List ℕ)) (text : List ℕ) (now : opener.State) → Run LineStep start lines text now
       → AreApart now.open_peers
+  pub few : (lines : List (List ℕ)) (text : List ℕ) (now : opener.State) → Run LineStep start lines text now
+      → length now.open_peers ≤ MAX_OUTBOUND
   pub fair : (lines : List (List ℕ)) (text : List ℕ) (now : opener.State) → Run LineStep start lines text now
       → (asked : Request) (answer : Answer) (next : opener.State) → Step now asked answer next → IsFair now asked answer
 

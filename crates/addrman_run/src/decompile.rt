@@ -3,7 +3,7 @@ ghost use Rattle.asmap_back.specs.Back.{rows_back};
 ghost use Rattle.asmap_vm.specs.Held.{tree_held};
 ghost use Rattle.prefix_table.specs.Print.{table_text};
 ghost use Rattle.prefix_table.specs.declared.row.TheConstants.{MAX_ROWS};
-ghost use Rattle.addrman_run.specs.Decompile.{IsDecompiled, ReportsDecompile};
+ghost use Rattle.addrman_run.specs.Decompile.{IsDecompiled, MeanTheSame, ReportsDecompile};
 ghost use Rattle.addrman_run.specs.declared.input.Input.TheVariants as input;
 
 use crate::file_line::{FileLine, Refusal};
@@ -45,6 +45,8 @@ impl FileLine for Decompile {
 fn rows_text(alloc: Global, asmap: &Sane<'_>) -> Result<Vec<u8>, BackFault>
     ensures text { IfOk result (λ text. text.items ≡ table_text (rows_back (tree_held asmap.now))) }
     ensures few { IfOk result (λ _. length (rows_back (tree_held asmap.now)) ≤ MAX_ROWS) }
+    ensures same { IfOk result (λ _.
+        MeanTheSame (rows_back (tree_held asmap.now)) (tree_held asmap.now)) }
     ensures cause { (rows : ℕ) → result ≡ Err (BackFault.TooMany rows) →
         MAX_ROWS < length (rows_back (tree_held asmap.now)) }
 {

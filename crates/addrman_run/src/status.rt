@@ -7,7 +7,7 @@ use log_lines::LineFault;
 /// How a run of the program ended.
 #[derive(Clone, Copy, Debug, PartialEq, Eq)]
 pub enum Status {
-    /// Everything was written. A replay has read its log to the end.
+    /// Everything was written, and a log that the command carries out was read to its end.
     Done,
     /// The arguments are not those of a command.
     Usage,

@@ -29,7 +29,7 @@ use std::hash::BuildHasher;
 /// `replay --key HEX64 --net CHAIN` carries out the lines of the log and writes the reply to each,
 /// from the tables of the folder's peers.dat, or if it is absent, from empty ones with that key, and
 /// with the folder's asmap.dat, if there is one. `opener --key HEX64 --net CHAIN` does the same for a
-/// log that also opens, tests and closes outbound connections, and changes no file. `compile` compiles the folder's
+/// log whose lines open, test and close outbound connections in place of saving, and changes no file. `compile` compiles the folder's
 /// prefixes.txt into asmap.dat, `check` checks asmap.dat, `decompile` writes the table of prefixes
 /// that it stands for, and `lookup PEER` writes the AS number and the group that it gives the peer's
 /// address. `limit` carries out the lines of the log under the limit on received addresses, and

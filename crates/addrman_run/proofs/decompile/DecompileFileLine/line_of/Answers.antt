@@ -8,6 +8,7 @@ returns-in-Ok-rows_text-clause-line c = λ past loaded. (
   asmap_of c.in-Ok.asmap,
   checked past c.in-Ok.asmap c.args.bytes.now loaded c.in-Ok.ensures.sane,
   c.in-Ok-rows_text.ensures.few,
+  c.in-Ok-rows_text.ensures.same,
   c.in-Ok-rows_text.ensures.text,
 )
 
