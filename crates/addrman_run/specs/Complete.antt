@@ -98,7 +98,7 @@ pub record NothingFails (old new : Outside) : Type 0 where
   pub out : ¬ Rose old.out_faults new.out_faults
   pub folder : new.left ≡ old.left → ¬ Rose old.folder_faults new.folder_faults
 
--- If the folder's count did not rise at all, no save of a replay failed.
+-- No save of a replay failed, unless the folder's count rose.
 abbrev pub NoSaveFails : Request → Outside → Outside → Type 0
 NoSaveFails (Replay key chain) old new =
     ¬ Rose old.folder_faults new.folder_faults →
