@@ -59,7 +59,7 @@ fn ends_so(alloc: Global, length: u64, want: &str) -> Result<bool, Unread> {
     let arguments = case.arguments.as_slice();
     let status = run(alloc, hasher, arguments, &mut log, &mut folder, &mut out);
     let end = end_of(alloc, &status)?;
-    Ok(end.as_str() == want && out.bytes() == b"size new 0 tried 0 clashes 0\n")
+    Ok(end.as_str() == want && out.bytes() == b"size new 0 tried 0 clashes 0\n".as_slice())
 }
 
 /// Checks replays of logs of the largest size and of one byte more.
