@@ -1,12 +1,13 @@
 -- Whether a node connects to the peer of a try (`CConnman::ThreadOpenConnections` in net.cpp of
--- Bitcoin Core). Times are in seconds since 1970; tries are numbered from 1.
+-- Bitcoin Core; the number of tries that rule out a recently tried peer, thirty, is our own). Times
+-- are in seconds since 1970; tries are numbered from 1.
 use Rattle.std.specs.Prelude.{ℕ, ◌-◌, ◌<◌, ◌≤◌, List, Bool, ◌&&◌, nat_lt, nat_le, if◌then◌else◌}
 use Rattle.peer_open.specs.Groups.{Outbound, has_group}
 use Rattle.peer_open.specs.declared.verdict.Verdict.{Verdict}
 use Rattle.peer_open.specs.declared.verdict.Verdict.TheVariants.{Take, SameGroup, Recent}
 
--- a try of less than ten minutes ago rules a peer out for the first thirty tries; one that is ahead
--- of the clock counts as now
+-- in the first thirty tries, a peer is ruled out if it was last tried less than ten minutes ago; a
+-- last try ahead of the clock counts as one of now
 abbrev pub is_recent : ℕ → ℕ → ℕ → Bool
 is_recent last_try now tries = nat_lt (now - last_try) 600 && nat_le tries 30
 

@@ -9,18 +9,18 @@ use arrayvec::ArrayVec;
 use net_addr::Peer;
 use std::marker::Model;
 
-/// The most outbound peers at a time: eight that relay everything and two that relay blocks alone
-/// (`MAX_OUTBOUND_FULL_RELAY_CONNECTIONS` and `MAX_BLOCK_RELAY_ONLY_CONNECTIONS` in net.h of
-/// Bitcoin Core).
+/// The maximum number of outbound peers at a time: eight that relay everything and two that relay
+/// only blocks (`MAX_OUTBOUND_FULL_RELAY_CONNECTIONS` and `MAX_BLOCK_RELAY_ONLY_CONNECTIONS` in
+/// net.h of Bitcoin Core).
 pub const MAX_OUTBOUND: usize = 10;
 
-/// The most tries for one connection (`CConnman::ThreadOpenConnections` in net.cpp).
+/// The maximum number of tries for one connection (`CConnman::ThreadOpenConnections` in net.cpp).
 pub const MAX_TRIES: u32 = 100;
 
 /// Seconds for which a try of a peer is recent.
 const RECENT_SECONDS: u32 = 600;
 
-/// The last try that does not take a peer that was tried recently.
+/// The last try that does not take a peer that was tried recently. This number is our own.
 const LAST_STRICT_TRY: u32 = 30;
 
 /// The open outbound peers with their network groups, in the order in which they were opened. No
@@ -90,8 +90,7 @@ impl Opener {
         }
     }
 
-    /// Adds a peer that was opened, the last in the order. There must be room for it, and no open
-    /// peer in its group.
+    /// Appends a peer that was opened. There must be room for it, and no open peer in its group.
     pub fn add_peer(&mut self, peer: Peer, group: ArrayVec<u8, 11>)
         requires room { length self.old < MAX_OUTBOUND }
         requires group { ¬ Contains (groups self.old) group.items }
