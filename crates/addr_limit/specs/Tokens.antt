@@ -3,8 +3,9 @@
 use Rattle.std.specs.Prelude.{ℕ, ◌+◌, ◌-◌, ◌*◌, ◌/◌, ◌^◌, min, List, [], ◌∷◌, Bool, true, ◌||◌, nat_lt, nat_le, if◌then◌else◌}
 use Rattle.addr_limit.specs.declared.conn.Conn.{Conn}
 
--- A tenth for each second since the connection's last message, up to a thousand tokens. A
--- connection that has more keeps them. A clock that went back adds nothing.
+-- A tenth for each second since the connection's last message that was neither refused nor short,
+-- or since it was opened, up to a thousand tokens. A connection that has more keeps them. A clock
+-- that went back adds nothing.
 abbrev pub refill : ℕ → Conn → Conn
 refill now c = record c {
   tenths = if nat_lt c.tenths 10000 then min 10000 (c.tenths + (now - c.moment)) else c.tenths;

@@ -11,9 +11,9 @@ ghost use Rattle.addr_limit.specs.declared.request.Request.TheVariants.{Open, Cl
 ghost use Rattle.log_lines.specs.declared.fault.LineFault.{LineFault};
 ghost use Rattle.addr_limit.specs.Apart.{IsLastOutput};
 
-/// A law of whole logs: the output line of a line that names a number is the last one that the
-/// lines of that number and the `now` lines up to it have by themselves. No other connection can
-/// slow one down or help it.
+/// A law of whole logs: a line that names a number has the output line that it would have if the
+/// log had only the lines of that number and the `now` lines. No other connection can slow one down
+/// or help it.
 pub fn connections_are_apart()
     ensures { (number : ℕ) → number < 2 ^ 32 → IsLastOutput LimitStep start (is_about number) }
 {}
@@ -34,14 +34,14 @@ pub fn calls_are_events()
         ≡ (after st (Of number (Message (Ok entries) words))).conns }
 {}
 
-/// A law of the state: whatever a line says, no connection has more than 2,000 tokens afterwards,
-/// or 1,000 if it was not sent getaddr, if that held before.
+/// A law of the state: no connection has more than 2,000 tokens, or 1,000 before it was sent
+/// getaddr. Whatever a line says, this holds after it if it held before.
 pub fn tokens_are_bounded()
     ensures { (st : State) → (event : Event) → AreBounded st.conns →
         AreBounded (after st event).conns }
 {}
 
-/// A line says exactly one event or has exactly one fault, and never both.
+/// No line says two events, has two faults, or says an event and has a fault.
 pub fn lines_have_one_meaning()
     ensures event { (line : List ℕ) (a b : Event) → Says line a → Says line b → a ≡ b }
     ensures fault { (line : List ℕ) (f g : LineFault) → HasFault line f → HasFault line g → f ≡ g }
