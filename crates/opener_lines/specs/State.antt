@@ -23,7 +23,7 @@ abbrev pub state : Machine → List Outbound → State
 state machine open_peers = record { machine = machine; open_peers = open_peers }
 
 -- What a request is answered: there are ten peers already; what the tries of a connection came to,
--- with the group of a peer that was opened; whether a peer was open; or the address manager's reply.
+-- with the group of a peer that was opened; whether a peer was open; or the machine's reply.
 pub data Answer : Type 0 where
   Full : Answer
   Opened : (peer : Peer) (group : List ℕ) (tries : ℕ) → Answer

@@ -1,5 +1,5 @@
--- The tries of a connection (`CConnman::ThreadOpenConnections` in net.cpp of Bitcoin Core). Each try
--- picks a peer by random words of its own, and the first one that decides counts.
+-- The tries of a connection (`CConnman::ThreadOpenConnections` in net.cpp of Bitcoin Core). Each
+-- try picks a peer by random words of its own, and the first one that decides counts.
 use Rattle.std.specs.Prelude.{◌≡◌, ℕ, suc, ◌+◌, ◌<◌, ◌≤◌, List, Bool, true, false, ◌==◌, Option, Some, None, if◌then◌else◌}
 use Rattle.net_addr.specs.NetSet.{all}
 use Rattle.net_addr.specs.declared.peer.Peer.{Peer}
@@ -32,7 +32,7 @@ try_words seed i = seeded_words (seed + i) TRY_WORDS
 abbrev pub pick_of_try : Machine → Bool → ℕ → ℕ → Picked
 pick_of_try m new_only seed i = select m.tables new_only all (try_words seed i) m.clock
 
--- the same of a feeler, whose first try takes the occupant that a collision waits for, if there is one
+-- the same of a feeler, whose first try picks the occupant of a collision's slot, if one was found
 abbrev pub pick_of_feeler : Machine → Option (Peer × ℕ) → ℕ → ℕ → Picked
 pick_of_feeler m None seed i = pick_of_try m true seed i
 pick_of_feeler m (Some occupant) seed i =

@@ -15,8 +15,8 @@ ghost use Rattle.opener_lines.specs.declared.request.Request.{Request};
 ghost use Rattle.opener_lines.specs.declared.tries.Outcome.{Outcome};
 ghost use Rattle.opener_lines.specs.declared.tries.Try.{Try};
 
-/// A line of an opener's log is passed over, asks for exactly one thing or has exactly one fault,
-/// and never two of these.
+/// No line of an opener's log asks for two things, has two faults, or asks for something and has a
+/// fault; and a line that is passed over asks for nothing.
 pub fn opener_lines_have_one_meaning()
     ensures request { (line : List ℕ) (a b : Request) → Asks line a → Asks line b → a ≡ b }
     ensures fault { (line : List ℕ) (f g : LineFault) → HasFault line f → HasFault line g → f ≡ g }

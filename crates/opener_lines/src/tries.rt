@@ -22,7 +22,7 @@ pub enum Try {
     Take(Peer),
     /// There is no peer to take.
     Nothing,
-    /// The next try decides.
+    /// The try does not decide, and the next one is made.
     Next,
 }
 

@@ -8,7 +8,7 @@ use crate::print::put_number;
 use log_lines::{MAX_LINE, MAX_SEEDED, Words, read_words};
 use std::alloc::Global;
 
-/// The random words of a try.
+/// The number of random words of a try.
 pub const TRY_WORDS: u64 = 10_000;
 
 /// Returns the first words of the generator with a seed, as a field `@S:N` of a line gives them.
