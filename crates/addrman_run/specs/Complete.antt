@@ -36,7 +36,7 @@ use Rattle.addrman_run.specs.declared.status.Status.TheVariants.{Done, Memory, P
 
 -- THE LOG
 
--- a line that a replay carries out: it is passed over, or spells a command
+-- a line that a replay carries out: it is passed over, or parses as a command
 abbrev pub IsReplayLine : List ℕ → Type 0
 IsReplayLine line = IsPassedOver line ⊎ ((command : Command) × Spells line command)
 
@@ -67,8 +67,8 @@ NoRefusal Reports = (answer : Status) → ¬ Reports answer
 abbrev pub IsUsable : Name → (Option Past → Status → Type 0) → Option Past → Type 0
 IsUsable name Reports past = ¬ IsAbsent name past × NoRefusal (Reports past)
 
--- a status that says why a replay or an opener ends before the log: peers.dat or asmap.dat is refused, or there is
--- neither a peers.dat nor a key
+-- a status that says why a replay or an opener ends before the log: peers.dat or asmap.dat is
+-- refused, or there is neither a peers.dat nor a key
 abbrev pub ReportsOpening : Option (List ℕ) → Chain → Option Past → Status → Type 0
 ReportsOpening key chain past (PeersRefused fault) = RefusesTables chain past fault
 ReportsOpening key chain past NoKey = LacksKey key past

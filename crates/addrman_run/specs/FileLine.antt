@@ -1,4 +1,4 @@
--- How a command ends that loads one file and writes one line about it.
+-- How a command ends that loads one file and writes a text about it: a line, or several.
 use Rattle.std.specs.Prelude.{◌≡◌, ℕ, List, Option}
 use Rattle.host_io.specs.Past.{Past}
 use Rattle.host_io.specs.Outside.{Outside}
@@ -9,7 +9,8 @@ use Rattle.addrman_run.specs.Log.{SameLog}
 use Rattle.addrman_run.specs.declared.status.Status.{Status}
 use Rattle.addrman_run.specs.declared.status.Status.TheVariants.{Done, WriteFault, DiskFault, Memory, NoFile}
 
--- What is written for each status. IsLine says which text is a line about the file, and Refuses why the file is refused.
+-- What is written for each status. IsLine says which text is one about the file, and Refuses why
+-- the file is refused.
 abbrev pub FileLineText : Name → (Option Past → List ℕ → Type 0) → (Option Past → Status → Type 0) → Option Past → Option (List ℕ) → Option (List ℕ) → Status → Type 0
 FileLineText name IsLine Refuses past old new Done = (line : List ℕ) × IsLine past line × Appended old new line
 FileLineText name IsLine Refuses past old new WriteFault = (line : List ℕ) × IsLine past line × AppendedPart old new line

@@ -145,7 +145,8 @@ IsNotCompiled text status =
     (status ≡ Memory) ⊎ ((fault : TablesFault) × (status ≡ TableRefused fault)
     × ((past : Option Past) → IsLoaded input.Prefixes past text → RefusesTable past fault))
 
--- how the saving of a file and the line about it end: the folder failed, or the file is in its place and the line ends
+-- how saving a file and then writing the line about it ends: the folder failed, or the file is in
+-- its place, and the line was written, or a part of it
 abbrev pub SaveEnds : Name → List ℕ → List ℕ → Option Past → Option (List ℕ) → Option (List ℕ) → Status → Type 0
 SaveEnds name file line past old new status =
     ((status ≡ DiskFault) × (new ≡ old)) ⊎ (IsInPlace name file past × LineEnds line old new status)
@@ -160,7 +161,7 @@ status_of end.ReadFault = ReadFault
 status_of end.WriteFault = WriteFault
 status_of end.Memory = Memory
 
--- What a line does to a session and a folder, told by the folder's past and its count of faults.
+-- What a line does to a session and a folder, by the folder's past and its count of faults.
 abbrev pub SessionStep : {F : Type 0} → (F → Option Past) → (F → ℕ) → StepsIn session.State F
 SessionStep past faults old before line text new after =
     Turn old line text new (past before) (past after) (faults before) (faults after)
@@ -185,7 +186,7 @@ IsProperRequest (request.Ban subnet now until) = IsProper subnet
 IsProperRequest (request.Unban subnet) = IsProper subnet
 IsProperRequest other = ⊤
 
--- the same of what is asked of the list of bans
+-- the same of a command on the list of bans
 abbrev pub IsProperOrder : BanOrder → Type 0
 IsProperOrder (order.Ban subnet now until) = IsProper subnet
 IsProperOrder (order.Unban subnet) = IsProper subnet

@@ -12,7 +12,8 @@ use Rattle.log_run.specs.declared.limits.TheConstants.{MAX_LOG}
 use Rattle.addrman_run.specs.Log.{LogOutcome, streams_of}
 use Rattle.addrman_run.specs.declared.status.Status.{Status}
 
--- The output of each chosen line is the last output of the chosen lines up to it by themselves.
+-- Each chosen line has the output that it would have among the chosen lines only: the last output
+-- of a run over the chosen lines up to it.
 abbrev pub AreApart : (List ℕ → Bool) → List (List ℕ) → List (List ℕ) → Type 0
 AreApart about lines outs =
     (before : List (List ℕ)) (line : List ℕ) (after : List (List ℕ)) → lines ≡ before ++ line ∷ after → about line ≡ true →

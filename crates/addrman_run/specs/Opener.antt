@@ -26,8 +26,8 @@ use Rattle.addrman_run.specs.declared.status.Status.{Status}
 abbrev pub opener_start : tables.State → opener.State
 opener_start st = opener.state (record { tables = st; clock = 0 }) []
 
--- Whatever lines were carried out: at most ten peers are open, no two of them in one group, and the
--- peer that the next request is answered with is taken by the rules.
+-- Whatever lines were carried out: at most ten peers are open, no two of them in one group, and a
+-- peer that answers the next request was taken by the rules.
 pub record KeepsRules (start : opener.State) : Type 0 where
   pub apart : (lines : List (List ℕ)) (text : List ℕ) (now : opener.State) → Run LineStep start lines text now
       → AreApart now.open_peers

@@ -1,4 +1,5 @@
--- How a replay opens the tables: from the folder's peers.dat, or empty under the key of its arguments.
+-- How a replay opens the tables: from the folder's peers.dat, or empty under the key of its
+-- arguments.
 use Rattle.std.specs.Prelude.{◌≡◌, ◌⊎◌, ℕ, List, Option, Some, None, ⊤}
 use Rattle.host_io.specs.Past.{Past}
 use Rattle.host_io.specs.declared.name.Name.TheVariants as name
@@ -24,14 +25,14 @@ places_of key map = record { key = key; map = map }
 abbrev pub tables_of : Snapshot → Option Asmap → State
 tables_of snap map = restored snap (places_of snap.key map)
 
--- The tables that a replay begins with: those of the folder's peers.dat, whose records are of different peers, and if
--- there is no such file, empty ones under the key of the arguments.
+-- The tables that a replay begins with: those of the folder's peers.dat, no two valid records of
+-- which have one peer, or if there is no such file, empty ones under the key of the arguments.
 pub data Opens (key : Option (List ℕ)) (chain : Chain) (past : Option Past) (map : Option Asmap) (st : State) : Type 0 where
   from_file : (snap : Snapshot) → IsSnapshotIn chain past snap → duplicate snap ≡ None → st ≡ tables_of snap map → Opens key chain past map st
   from_key : (given : List ℕ) → IsAbsent name.Peers past → key ≡ Some given → st ≡ empty_state (places_of given map) → Opens key chain past map st
 
--- why the folder's peers.dat does not open the tables: its first fault as a file, or the first of its valid records that
--- has the peer of an earlier one
+-- why the folder's peers.dat does not open the tables: its first fault as a file, or the first of
+-- its valid records that has the peer of an earlier one
 abbrev pub RefusesTables : Chain → Option Past → PeersFault → Type 0
 RefusesTables chain past (File fault) = RefusesPeers chain past fault
 RefusesTables chain past (Duplicate index) = (snap : Snapshot) × IsSnapshotIn chain past snap × (duplicate snap ≡ Some index)
@@ -54,7 +55,8 @@ IsUnopened key chain past status.DiskFault = ⊤
 IsUnopened key chain past status.Memory = ⊤
 IsUnopened key chain past other = ⊥
 
--- A folder opens in one way: with some tables, or not, since its peers.dat is refused or a key is missing.
+-- A folder opens in one way: with some tables, or not, since its peers.dat is refused or a key is
+-- missing.
 pub record OpensOnce (key : Option (List ℕ)) (chain : Chain) (past : Option Past) (map : Option Asmap) : Type 0 where
   pub some : ((st : State) × Opens key chain past map st) ⊎ (((fault : PeersFault) × RefusesTables chain past fault) ⊎ LacksKey key past)
   pub one_state : (a b : State) → Opens key chain past map a → Opens key chain past map b → a ≡ b

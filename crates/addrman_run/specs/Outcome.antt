@@ -23,6 +23,7 @@ use Rattle.addrman_run.specs.declared.request.Request.TheVariants.{Gen, Trial}
 use Rattle.addrman_run.specs.declared.status.Status.{Status}
 use Rattle.addrman_run.specs.declared.status.Status.TheVariants as status
 
+-- how a request ends, from the outside before and after the run and the status
 abbrev pub Ends : Request → Outside → Outside → Status → Type 0
 Ends (Replay key chain) old new answer = ReplayEnds key chain old new answer
 Ends (Opener key chain) old new answer = OpenerEnds key chain old new answer

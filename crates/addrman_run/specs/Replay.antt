@@ -60,11 +60,11 @@ pending other next = []
 -- accepted, and the tables are open. The replies to the first lines of the log were written, and of
 -- the next one perhaps a part. No other history has these replies. A crash now, or at any moment
 -- since the start, leaves at peers.dat the file of a save of this run or what it could leave at the
--- start; now not one from before the last save whose reply is `saved`. No more saves have failed
--- than the folder. After each line the tables are sound, each bucket that a record is in has a
--- cause, sources of one group reach few buckets, and a tried record leaves only for another one of
--- its slot. A file that was saved opens again, with the same asmap, as the tables of its line after
--- a restart.
+-- start; a crash now leaves nothing older than the last save whose reply is `saved`. No more saves
+-- have failed than the folder's count of faults rose by. After each line the tables are sound,
+-- each bucket that a record is in has a cause, sources of one group reach few buckets, and a tried
+-- record leaves only for another one of its slot. The file of the tables after any line opens
+-- again, with the same asmap, as these tables after a restart.
 pub record Replayed (key : Option (List ℕ)) (chain : Chain) (old new : Outside) (how : LogEnd) : Type 0 where
   pub map : Option Asmap
   pub has_map : IsMapIn old.past map

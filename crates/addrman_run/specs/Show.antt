@@ -16,7 +16,8 @@ use Rattle.addrman_run.specs.declared.status.Status.TheVariants.{PeersRefused}
 abbrev pub IsShowText : Chain → Option Past → List ℕ → Type 0
 IsShowText chain past text = (snap : Snapshot) × IsSnapshotIn chain past snap × (text ≡ snapshot_text snap)
 
--- a status that says that peers.dat is refused, with the reason; never that two records have the same peer
+-- a status that says that peers.dat is refused, with the reason; never that two records have the
+-- same peer
 abbrev pub ReportsPeers : Chain → Option Past → Status → Type 0
 ReportsPeers chain past (PeersRefused (File fault)) = RefusesPeers chain past fault
 ReportsPeers chain past other = ⊥

@@ -1,7 +1,7 @@
 use ban_list::Subnet;
 use net_addr::NetAddr;
 
-/// What is asked of the list of bans.
+/// A command on the list of bans.
 #[derive(Clone, Copy, Debug)]
 pub(crate) enum BanOrder {
     /// Ban a subnet from `now` until a later time.

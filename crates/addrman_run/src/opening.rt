@@ -27,7 +27,7 @@ use std::sync::ledger::{Blank, Ledger};
 use steps::Steps;
 use tables::{RestoreFault, Tables};
 
-/// The most records that a file of peers has.
+/// The maximum number of records of a file of peers.
 const MAX_RECORDS: u64 = 81_920;
 
 /// Reads the bytes of peers.dat.

@@ -159,7 +159,7 @@ fn joined(alloc: Global, first: &[u8], second: &[u8]) -> Result<Vec<u8>, AllocEr
     Ok(text)
 }
 
-/// Returns the message for a malformed line of the log.
+/// Returns the message for a line of the log that has an error.
 fn log_line(alloc: Global, line: u64, fault: &LineFault) -> Result<Vec<u8>, AllocError>
     ensures { IfOk result (λ text. text.items ≡ codes "log line " ++ decimal line ++ codes ": " ++ line_fault_text fault.now) }
 {
@@ -188,7 +188,7 @@ fn table_refused(alloc: Global, fault: &TablesFault) -> Result<Vec<u8>, AllocErr
     joined(alloc, b"prefixes.txt refused: ", fault.as_slice())
 }
 
-/// Returns the reason for `status`, which stands between the program's name and the line feed.
+/// Returns the reason for `status`, which goes between the program's name and the line feed.
 fn reason(alloc: Global, status: &Status) -> Result<Vec<u8>, AllocError>
     ensures { IfOk result (λ text. text.items ≡ reason_of status.now) }
 {

@@ -22,7 +22,7 @@ pub enum Request {
     Compile,
     /// `check`: say whether asmap.dat is sane.
     Check,
-    /// `decompile`: write the table of prefixes that asmap.dat stands for.
+    /// `decompile`: write the table of prefixes that asmap.dat encodes.
     Decompile,
     /// `limit`: limit the addresses that each connection may send, and write the log that is left.
     Limit,
@@ -35,7 +35,7 @@ pub enum Request {
         chain: Chain,
     },
     /// `ban SUBNET NOW UNTIL`: drop the bans of banlist.json that are over, and ban the subnet until
-    /// a later time, unless it is banned as long or the list is full.
+    /// a later time, unless it is banned until then or later already, or the list is full.
     Ban {
         subnet: Subnet,
         now: u32,

@@ -11,14 +11,15 @@ pub enum Status {
     Done,
     /// The arguments are not those of a command.
     Usage,
-    /// A line of the log is malformed; lines are counted from 1. The replies to those before it are
+    /// A line of the log has an error; lines are counted from 1. The replies to those before it are
     /// written.
     LogLine { line: u64, fault: LineFault },
     /// peers.dat is too large, or no file of the chain, or two of its valid records have one peer.
     PeersRefused(PeersFault),
     /// asmap.dat is too large, or no file of a sane tree.
     AsmapRefused(CodeFault),
-    /// prefixes.txt is too large or malformed, or is not compiled.
+    /// prefixes.txt is too large, is not the text of a table, or is that of a table that cannot be
+    /// compiled.
     TableRefused(TablesFault),
     /// The log cannot be read. The replies to the lines that end in the bytes read are written.
     ReadFault,

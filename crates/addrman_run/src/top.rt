@@ -28,15 +28,16 @@ use std::hash::BuildHasher;
 ///
 /// `replay --key HEX64 --net CHAIN` carries out the lines of the log and writes the reply to each,
 /// from the tables of the folder's peers.dat, or if it is absent, from empty ones with that key, and
-/// with the folder's asmap.dat, if there is one. `opener --key HEX64 --net CHAIN` does the same for a
-/// log whose lines open, test and close outbound connections in place of saving, and changes no file. `compile` compiles the folder's
-/// prefixes.txt into asmap.dat, `check` checks asmap.dat, `decompile` writes the table of prefixes
-/// that it stands for, and `lookup PEER` writes the AS number and the group that it gives the peer's
-/// address. `limit` carries out the lines of the log under the limit on received addresses, and
-/// writes the log that is left. `show` lists what peers.dat has. `ban SUBNET NOW UNTIL` and `unban SUBNET` change the
-/// list of bans in banlist.json, and `banned PEER NOW` writes which ban covers the peer's address.
-/// `gen START LINES` writes a generated log, and `trial START LINES` carries it out from empty tables
-/// and writes one line about the replies.
+/// with the folder's asmap.dat, if there is one. `opener --key HEX64 --net CHAIN` does the same for
+/// a log whose lines open, test and close outbound connections in place of saving, and changes no
+/// file. `compile` compiles the folder's prefixes.txt into asmap.dat, `check` checks asmap.dat,
+/// `decompile` writes the table of prefixes that it encodes, and `lookup PEER` writes the AS number
+/// and the group that it gives the peer's address. `limit` carries out the lines of the log under
+/// the limit on received addresses, and writes the log that is left. `show --net CHAIN` lists what
+/// peers.dat has. `ban SUBNET NOW UNTIL` and `unban SUBNET` change the list of bans in
+/// banlist.json, and `banned PEER NOW` writes which ban covers the peer's address. `gen START LINES`
+/// writes a generated log, and `trial START LINES` carries it out from empty tables and writes one
+/// line about the replies.
 pub fn run<L: Source, F: Folder, K: Sink, H: BuildHasher + Drop>(
     alloc: Global,
     hasher: H,

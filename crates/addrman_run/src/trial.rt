@@ -28,8 +28,8 @@ pub(crate) struct Replies {
     sum: [u8; 32],
 }
 
-/// Carries out a line of a generated log, and appends its reply. Such a line spells a command, so
-/// that it has no fault.
+/// Carries out a line of a generated log, and appends its reply. Such a line parses as a command,
+/// so it has no fault.
 fn reply_to<H: BuildHasher + Drop>(
     alloc: Global,
     session: &mut Session<'_, H>,
