@@ -60,8 +60,8 @@ outcome_by None new bans =
     if nat_le MAX_BANS (length bans) then record { reply = Full; bans = bans }
     else record { reply = Added; bans = put new bans }
 
--- a ban on top of those that are not over: it is `Kept` if its subnet is listed for as long, `Full`
--- if it is not listed and there is no room
+-- a ban besides those that are not over: the answer is `Kept` if its subnet is listed until that
+-- time or later, and `Full` if it is not listed and there is no room
 abbrev pub outcome : Ban → List Ban → Outcome
 outcome new bans = outcome_by (listed new.subnet bans) new bans
 

@@ -8,7 +8,7 @@ use net_addr::NetAddr;
 use std::alloc::Global;
 use std::marker::Model;
 
-/// The most bans of a list. This limit is our own.
+/// The maximum number of bans of a list. This limit is our own.
 pub const MAX_BANS: usize = 100_000;
 
 /// What became of a ban.
@@ -16,7 +16,7 @@ pub const MAX_BANS: usize = 100_000;
 pub enum BanReply {
     /// The subnet is banned until the new time.
     Added,
-    /// The subnet was banned for as long already.
+    /// The subnet was banned until that time or later already.
     Kept,
     /// The list has no room.
     Full,

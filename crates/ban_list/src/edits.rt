@@ -23,7 +23,8 @@ pub(crate) fn drop_subnet(bans: &mut Vec<Ban>, subnet: &Subnet)
     bans.retain(|ban| !ban.is_of(subnet));
 }
 
-/// Bans a subnet, if it is not banned for as long already and there is room.
+/// Bans a subnet, unless it is banned until that time or later already, or is not listed and there
+/// is no room.
 pub(crate) fn put_longer(bans: &mut Vec<Ban>, ban: Ban) -> BanReply
     requires { vec_len bans.old < vec_capacity bans.old }
     ensures reply { result ≡ (outcome ban bans.old.items).reply }

@@ -11,8 +11,8 @@ pub fn texts_have_one_meaning()
     ensures proper { (text : List ℕ) (s : Subnet) → IsSubnetText text s → IsProper s }
 {}
 
-/// A list of bytes is the file of exactly one list of bans or has exactly one fault, and never
-/// both.
+/// Bytes are the file of at most one list of bans and have at most one fault, never both. It is
+/// impossible that they are no such file and have no fault.
 pub fn files_have_one_meaning()
     ensures { (bytes : List ℕ) → HasOneMeaning bytes }
 {}
