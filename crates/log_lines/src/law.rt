@@ -9,8 +9,8 @@ ghost use Rattle.log_lines.specs.declared.read.TheConstants.{MAX_LINE};
 
 use crate::{MAX_LINE, MAX_SEEDED};
 
-/// A line is passed over, spells exactly one command or has exactly one fault, and never two of
-/// these.
+/// No line parses as two commands, has two faults, or parses as a command and has a fault; and a
+/// line that is passed over parses as no command.
 pub fn lines_have_one_meaning()
     ensures command { (line : List ℕ) (a b : Command) → Spells line a → Spells line b → a ≡ b }
     ensures fault { (line : List ℕ) (f g : LineFault) → HasFault line f → HasFault line g → f ≡ g }
@@ -19,7 +19,7 @@ pub fn lines_have_one_meaning()
     ensures passed { (line : List ℕ) (a : Command) → IsPassedOver line → ¬ Spells line a }
 {}
 
-/// A field has at most one value, and a text that is not of its kind has exactly one fault.
+/// A field has at most one value, and a text that is not of its kind has at most one fault.
 pub fn fields_have_one_value()
     ensures value { (kind : Kind) (text : List ℕ) (v w : Value) → IsDefinite kind →
         Means kind text v → Means kind text w → v ≡ w }
