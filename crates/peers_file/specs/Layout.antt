@@ -103,13 +103,13 @@ either false p q = q
 abbrev pub record_in : ℕ → ℕ → Format FileFault FileRec
 record_in format i = either (nat_lt format 3) (old_record_of i) (record_of i)
 
--- a number of records, at most so many: a negative one is above
+-- a number of records, at most so many; a negative one counts as above the limit
 unfoldable pub count_field : Which → ℕ → Format FileFault ℕ
 count_field kind limit = do
   n ← field (le w32)
   check (nat_le n limit) (Count kind (cast_signed w32 n)) n
 
--- the number of buckets, with its bit 30 turned: a negative one is above
+-- the number of buckets, with its bit 30 flipped; a negative one counts as above the limit
 unfoldable pub buckets_field : Format FileFault ℕ
 buckets_field = do
   coded ← field (le w32)
@@ -145,8 +145,8 @@ head_with format key new_count tried_count bucket_count = record {
   bucket_count = bucket_count;
 }
 
--- the format, the least format that a program has to know of which reads the file, plus 32, the
--- key, and the counts
+-- the format; 32 plus the least format that a reader of the file has to know; the key; and the
+-- counts
 unfoldable pub head : Format FileFault Head
 head = do
   format ← field byte
