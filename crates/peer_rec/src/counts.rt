@@ -1,5 +1,5 @@
 /// How many records are in the new and in the tried table, and how many collisions there are:
-/// records of the new table whose slot in the tried table is occupied.
+/// records that were reached while their slot in the tried table was occupied.
 #[derive(Clone, Copy, Debug, PartialEq, Eq)]
 pub struct Counts {
     pub new_count: u32,
