@@ -1,4 +1,4 @@
--- What it means that a log can be replayed: what each of its lines spells.
+-- What it means that a log can be replayed: what each of its lines parses as.
 use Rattle.std.specs.Prelude.{◌≡◌, ◌≢◌, ℕ, ◌-◌, ◌≤◌, List, [], ◌∷◌, ◌++◌, length, take, All, true, Contains, Option, Some, ⊤}
 use Rattle.net_addr.specs.Ranges.{is_routable}
 use Rattle.net_addr.specs.declared.entry.Entry.{Entry}
@@ -27,7 +27,7 @@ IsDrawn (command.Clash word) = ⊤
 IsDrawn command.Resolve = ⊤
 IsDrawn other = ⊥
 
--- a line, which ends with its only line feed, is short, and spells exactly one command
+-- a line, which ends with its only line feed, is short, and parses as exactly one command
 pub record IsLine (line : List ℕ) : Type 0 where
   pub text : List ℕ
   pub whole : line ≡ text ++ 10 ∷ []

@@ -5,8 +5,9 @@ ghost use Rattle.gen_load.specs.Log.{log};
 ghost use Rattle.gen_load.specs.Spelling.{AreLines, without_feed};
 ghost use Rattle.gen_load.specs.declared.generated.TheConstants.{MAX_LENGTH, MAX_LINES};
 
-/// Each line of a log spells exactly one command, which saves nothing and is about routable peers
-/// only, so that a log can be replayed. The lines are short, and the log's bytes are cut into them.
+/// Each line of a log parses as exactly one command, which saves nothing and is about routable
+/// peers only, so that a log can be replayed. The lines are short, and the log's bytes are cut into
+/// them.
 pub fn lines_spell_commands()
     ensures lines { (start lines : ℕ) → lines ≤ MAX_LINES → AreLines (log start lines) }
     ensures short { (start lines : ℕ) → lines ≤ MAX_LINES →
