@@ -52,7 +52,7 @@ CommandStep old (command.SaveStep n) answer new ended = JobStep old (command.Sav
 CommandStep old command.SaveEnd answer new ended = JobStep old command.SaveEnd answer new ended
 CommandStep old other answer new ended = MachineStep old other answer new ended
 
--- a line that is passed over has no reply; one that spells a command has that of the command's step
+-- a line that is passed over has no reply; one that parses as a command has that of its step
 abbrev pub LineStep : State → List ℕ → List ℕ → State → Option Ended → Type 0
 LineStep old line text new ended =
     (IsPassedOver line × (text ≡ []) × (new ≡ old) × (ended ≡ None))
