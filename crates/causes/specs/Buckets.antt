@@ -50,7 +50,7 @@ abbrev pub reach : Places → List (List ℕ) → List ℕ
 reach places groups = flat_map (source_buckets places) groups
 
 -- A bucket by a source is among the 64 of the source's group. So sources of some groups, however
--- many they are and whatever else the node is told between, have put records into 64 buckets a
+-- many they are and whatever other lines come between, have put records into 64 buckets a
 -- group at most. The tried records of one group are in 8 buckets at most.
 pub record IsBounded (Accepted : Peer → Address → Type 0) (st : State) : Type 0 where
   pub new_source : (r : Rec) → Contains st.records r → (bucket : ℕ)
