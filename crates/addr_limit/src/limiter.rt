@@ -123,8 +123,9 @@ impl Limiter {
 
     /// Takes a message of this many entries from the number's connection, at the time `now` in
     /// seconds since 1970: adds the tokens of the time that passed, and spends one for each entry
-    /// that is admitted. Returns how many are admitted, which are the first ones, or `None` if the
-    /// number has no connection.
+    /// while there is one. Returns how many entries are admitted, the first ones: all of an
+    /// unlimited connection, else those with a token. Returns `None` if the number has no
+    /// connection.
     pub fn admit(&mut self, number: u32, count: u32, now: u32) -> Option<u32>
         requires { count ≤ 1000 }
         ensures answer { result ≡ option_map (λ c. intake_count (refill now c) count)
