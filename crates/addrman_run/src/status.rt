@@ -27,8 +27,7 @@ pub enum Status {
     WriteFault,
     /// The folder failed.
     DiskFault,
-    /// The log has more than 2^30 bytes. The replies to the lines that end in the first of them
-    /// are written.
+    /// The log has more than 2^30 bytes. Each line whose end is among the first 2^30 is answered.
     LogTooLong,
     /// There is neither a peers.dat nor a key.
     NoKey,
