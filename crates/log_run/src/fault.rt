@@ -5,7 +5,7 @@ pub enum LogFault {
     Failed,
     /// The next line has more bytes than `MAX_LINE`.
     LineTooLong,
-    /// The log has more bytes than `MAX_LOG`, and no line is left in the first of them.
+    /// The log has more bytes than `MAX_LOG`, and no line is left that ends within that many.
     LogTooLong,
     /// Out of memory.
     Memory,
