@@ -2,9 +2,10 @@ ghost use Rattle.std.specs.Prelude.{◌≡◌, ◌++◌, ℕ, List};
 ghost use Rattle.log_run.specs.Run.{Run};
 ghost use Rattle.session.specs.History.{History, Step};
 
-/// The text of a run fixes its history, since each reply to a save shows whether it was done. Two
-/// lines, or runs over the same lines, that start alike and whose texts begin alike have one text
-/// and one history. A run over more lines is that over the first of them, continued.
+/// The text of a run fixes its history, since each reply to a save shows whether it was done. Take
+/// two steps by one line, or two runs over the same lines, from one history: if the text of one
+/// begins with that of the other, they have one text and end in one history. If the second run has
+/// more lines, it is the first one, continued.
 pub fn text_fixes_the_history()
     ensures step { (old a b : History) (line t u x y : List ℕ) → Step old line t a →
         Step old line u b → t ++ x ≡ u ++ y → (t ≡ u) × (a ≡ b) }
