@@ -1,4 +1,4 @@
--- Which line spells which command, and what is wrong in a line that spells none.
+-- Which line parses as which command, and what is wrong in a line that parses as none.
 use Rattle.std.specs.Prelude.{◌≡◌, ◌≢◌, ◌⊎◌, ◌^◌, ◌-◌, ℕ, List, [], ◌∷◌, codes}
 use Rattle.log_lines.specs.Fields.{Kind, Number, OfAddr, OfPeer, Hex, Random, Either, Nets, Classes, Value, TheNumber, TheAddr, ThePeer, TheBytes, TheWords, TheChoice, TheNets, fields_of, AllMean, AreAtFault}
 use Rattle.host_io.specs.Lines.{IsPassedOver}
@@ -58,7 +58,7 @@ kinds_of v.SaveBegin = []
 kinds_of v.SaveStep = Number 1 (2 ^ 32 - 1) ∷ []
 kinds_of v.SaveEnd = []
 
--- the first word of the lines that spell a command
+-- the first word of the lines that parse as a command
 abbrev pub verb_of : Command → Verb
 verb_of (c.Now time) = v.Now
 verb_of (c.Addr source payload words) = v.Addr
@@ -101,19 +101,19 @@ values_of c.SaveBegin = []
 values_of (c.SaveStep count) = TheNumber count ∷ []
 values_of c.SaveEnd = []
 
--- the fields after this word spell the command
+-- the fields after this word parse as the command
 abbrev pub SpellsAfter : Verb → List (List ℕ) → Command → Type 0
 SpellsAfter verb texts command =
     (verb ≡ verb_of command) × AllMean (kinds_of verb) texts (values_of command)
 
--- the line spells the command
+-- the line parses as the command
 abbrev pub Spells : List ℕ → Command → Type 0
 Spells line command =
     (verb : Verb) × (texts : List (List ℕ)) × (fields_of line ≡ word_of verb ∷ texts)
     × SpellsAfter verb texts command
 
 -- what is wrong in a line that is not passed over: its first word is that of no command, or else
--- one of its other fields is malformed, or there are too few or too many
+-- there are too few or too many other fields, or else one of them is not of its kind
 abbrev pub HasFault : List ℕ → LineFault → Type 0
 HasFault line f =
     ¬ IsPassedOver line

@@ -1,7 +1,7 @@
 use thiserror::Error;
 
-/// Why a line is refused: an unknown keyword, a wrong number of fields, or the first malformed
-/// field.
+/// Why a line is refused: an unknown keyword, a wrong number of fields, or the first field with an
+/// error.
 #[derive(Clone, Copy, Debug, PartialEq, Eq, Error)]
 pub enum LineFault {
     /// The keyword of the line is unknown, or a field is none of its keywords or names.
@@ -13,13 +13,13 @@ pub enum LineFault {
     /// A number is not decimal or out of range.
     #[error("number")]
     Number,
-    /// An address or a peer is malformed.
+    /// A field is not an address or not a peer.
     #[error("peer")]
     Peer,
     /// Bytes are not in hexadecimal digits.
     #[error("hex")]
     Hex,
-    /// The random words are malformed.
+    /// A field is no list of random words.
     #[error("words")]
     Words,
     /// Out of memory.

@@ -9,7 +9,7 @@ use host_io::Bytes;
 use net_addr::{NetAddr, Peer, parse_addr, parse_number, parse_peer};
 use std::alloc::Global;
 
-/// Reads a number in decimal digits, or returns `None` if the text is malformed or the number is
+/// Reads a number in decimal digits, or returns `None` if the text is no number or the number is
 /// above `most`. A sign or a leading zero is refused.
 pub fn read_decimal(text: &[u8], most: u64) -> Option<u64>
     ensures found { IfSome result (λ n. (n ≤ most) × (text.now ≡ decimal n)) }
