@@ -5,7 +5,7 @@ use log_lines::LineFault;
 pub enum LogEnd {
     /// The log was read to its end, and all replies are written.
     Done,
-    /// A line is malformed.
+    /// A line has an error.
     Fault { line: u64, fault: LineFault },
     /// A line has more bytes than `MAX_LINE`.
     LineTooLong { line: u64 },
