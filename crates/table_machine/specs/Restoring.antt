@@ -60,7 +60,7 @@ abbrev pub give_if_empty : State → Rec → ℕ → State → State
 give_if_empty st r bucket other =
     give_or st r bucket (new_rec_at st bucket (new_slot st.places r.peer bucket)) other
 
--- The turn of a record that a bucket of the file lists. It gets that bucket if the file's buckets
+-- A record that a bucket of the file lists is placed. It gets that bucket if the file's buckets
 -- are used and its slot there is empty. If not, it gets its source's bucket, if its slot in that
 -- one is empty. Nothing changes if its address is not valid, or if eight buckets list it.
 abbrev pub place_record : Bool → State → ℕ → Option Rec → State
@@ -71,7 +71,7 @@ place_record same st bucket (Some r) =
     let by_source = give_if_empty st r (new_bucket st.places r.peer r.source) st in
     if same then give_if_empty st r bucket by_source else by_source)
 
--- the turn of a bucket and of the index of a new record, which is its number
+-- the same of a pair: a bucket, and the index of a new record, which is its number
 abbrev pub place_pair : Bool → State → ℕ × ℕ → State
 place_pair same st pair = place_record same st pair.0 (by_number st pair.1)
 
