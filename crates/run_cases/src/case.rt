@@ -41,6 +41,8 @@ pub(crate) struct Case {
     pub end: String,
     /// The names that are not to be as before, and what is to be there.
     pub left: Vec<Left>,
+    /// The folder's calls, if they are to be compared.
+    pub calls: Option<String>,
 }
 
 /// The files that a folder may have.
@@ -142,6 +144,7 @@ impl Case {
             replies: Vec::new(alloc),
             end: String::from_str(alloc, "0")?,
             left: Vec::new(alloc),
+            calls: None,
         })
     }
 
@@ -197,6 +200,10 @@ impl Case {
             "file" | "file-text" | "file-fill" => self.file(what, rest),
             "file-cut" => self.cut(rest),
             "left" => self.leave(rest),
+            "calls" => {
+                self.calls = Some(String::from_str(self.alloc, rest)?);
+                Ok(())
+            }
             "log" | "text" | "log-fill" | "then" => self.bytes_of_log(what, rest),
             _ => self.count(what, number(rest)?),
         }

@@ -72,7 +72,7 @@ fn explain(
         case.end.as_str()
     )?;
     if !ran.is_steady {
-        eprintln!(rt; "  the files are not as wanted, or memory ran out")?;
+        eprintln!(rt; "  the files or the calls are not as wanted, or memory ran out")?;
     }
     Ok(())
 }

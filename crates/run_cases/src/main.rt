@@ -3,6 +3,7 @@
 //! `tools/fill_cases` for the form of the files.
 #![tactic(auto)]
 
+mod calls;
 mod case;
 mod cases;
 mod drawn;

@@ -1,5 +1,6 @@
 ghost use Rattle.std.specs.Prelude.{◌≡◌, true, string_bytes};
 
+use crate::calls::calls_of;
 use crate::case::{Case, Left, NAMES};
 use crate::unread::Unread;
 use addrman_run::{Status, code, run, status_line};
@@ -13,7 +14,7 @@ pub(crate) struct Ran {
     /// The exit code, and after a space the text of the status.
     pub end: String,
     pub written: Vec<u8>,
-    /// The folder has the files that the case wants, and no call ran out of memory.
+    /// The folder has the files and was asked for what the case wants, and no call ran out of memory.
     pub is_steady: bool,
 }
 
@@ -93,6 +94,14 @@ fn is_as_wanted(folder: &MemFolder, case: &Case) -> bool {
     true
 }
 
+/// Whether the folder's calls are those that the case wants, if it says which.
+fn has_calls(alloc: Global, folder: &MemFolder, case: &Case) -> Result<bool, Unread> {
+    let Some(calls) = &case.calls else {
+        return Ok(true);
+    };
+    Ok(calls_of(alloc, folder.history())? == *calls)
+}
+
 /// Returns the folder of the case.
 fn folder_of(alloc: Global, case: &Case) -> Result<MemFolder, Unread> {
     let mut folder = MemFolder::make(alloc, case.failing_calls.as_slice())?;
@@ -111,7 +120,9 @@ pub(crate) fn run_case(alloc: Global, case: &Case) -> Result<Ran, Unread> {
     let hasher = BuildHasherDefault::<FoldHasher>::new();
     let arguments = case.arguments.as_slice();
     let status = run(alloc, hasher, arguments, &mut log, &mut folder, &mut out);
-    let is_steady = is_as_wanted(&folder, case) && out.starved() == 0 && folder.starved() == 0;
+    let has_calls = has_calls(alloc, &folder, case)?;
+    let has_files = is_as_wanted(&folder, case);
+    let is_steady = has_calls && has_files && out.starved() == 0 && folder.starved() == 0;
     Ok(Ran {
         end: end_of(alloc, &status)?,
         written: Vec::from_slice(alloc, out.bytes())?,
