@@ -4,20 +4,20 @@ use std::rt::Files;
 
 /// A call of a folder.
 #[derive(Clone, Copy, Debug)]
-pub(crate) enum FolderCall {
+pub(crate) enum FolderCall<'a> {
     Size(Name),
     /// The first bytes from the offset on, at most eight.
     Read(Name, u64),
     Create(Name),
-    Append(Name, &'static str),
+    Append(Name, &'a str),
     Sync(Name),
     Rename(Name, Name),
     SyncDir,
 }
 
-/// Calls of a folder that has `bitcoin` in asmap.dat, a folder as banlist.json, and as banlist.tmp a
-/// link to asmap.dat.
-pub(crate) const CALLS: [FolderCall; 38] = [
+/// Calls of a folder that has `bitcoin` in asmap.dat, a folder as banlist.json, as banlist.tmp a link
+/// to asmap.dat, and as prefixes.txt a link to itself.
+pub(crate) const CALLS: [FolderCall<'static>; 44] = [
     // No call but `create` makes a file.
     FolderCall::Size(Name::Peers),
     FolderCall::Read(Name::Peers, 0),
@@ -47,10 +47,14 @@ pub(crate) const CALLS: [FolderCall; 38] = [
     FolderCall::Read(Name::Asmap, 4),
     FolderCall::Size(Name::AsmapTemp),
     FolderCall::Read(Name::Asmap, 1),
+    // A file that was renamed is no longer written under its old name.
+    FolderCall::Append(Name::AsmapTemp, "bit"),
+    FolderCall::Sync(Name::AsmapTemp),
     // Bytes go to the end of a file that is there, and `create` empties it.
     FolderCall::Append(Name::Asmap, "wise"),
     FolderCall::Size(Name::Asmap),
     FolderCall::Read(Name::Asmap, 0),
+    FolderCall::Read(Name::Peers, 0),
     FolderCall::Create(Name::Peers),
     FolderCall::Size(Name::Peers),
     // Only a regular file is read or written.
@@ -58,6 +62,9 @@ pub(crate) const CALLS: [FolderCall; 38] = [
     FolderCall::Create(Name::Bans),
     FolderCall::Create(Name::BansTemp),
     FolderCall::Append(Name::BansTemp, "bit"),
+    FolderCall::Size(Name::Prefixes),
+    FolderCall::Read(Name::Prefixes, 0),
+    FolderCall::Create(Name::Prefixes),
     FolderCall::Rename(Name::Asmap, Name::Bans),
     FolderCall::Size(Name::Asmap),
     FolderCall::Read(Name::Asmap, 5),
@@ -99,7 +106,7 @@ fn read_text<R: Files + Alloc>(
 pub(crate) fn answer<R: Files + Alloc>(
     alloc: Global,
     folder: &mut DirFolder<'_, R>,
-    call: FolderCall,
+    call: FolderCall<'_>,
 ) -> Result<String, AllocError> {
     match call {
         FolderCall::Size(name) => size_text(alloc, folder.size(name)),

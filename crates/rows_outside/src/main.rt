@@ -1,10 +1,13 @@
-//! Calls of the current folder of the system, and of sources and sinks over readers and writers.
-//! Each call is printed with its answer, and the output is compared with the answers that are right.
+//! Calls of the current folder of the system, also while its system calls fail, and of sources and
+//! sinks over readers and writers. Each call is printed with its answer, and the output is compared
+//! with the answers that are right.
 #![tactic(auto)]
 
 mod folder_call;
 mod saves;
 mod sources;
+mod watch;
+mod watched;
 mod writers;
 
 use crate::folder_call::{CALLS, answer};
@@ -14,10 +17,11 @@ use std::process::ExitCode;
 use std::rt::Files;
 use std::{fs, io};
 
-/// Makes a folder and a link under the names of files.
+/// Makes a folder, a link and a link to itself under the names of files.
 fn prepare<R: Files + AllocGlobal>(rt: &R) -> io::Result<()> {
     fs::create_dir(rt, "banlist.json")?;
-    symlink(rt, "asmap.dat", "banlist.tmp")
+    symlink(rt, "asmap.dat", "banlist.tmp")?;
+    symlink(rt, "prefixes.txt", "prefixes.txt")
 }
 
 /// Makes the calls of the folder, and prints their answers.
@@ -36,7 +40,8 @@ fn print_all<R: Files + Print + AllocGlobal>(rt: &R) -> io::Result<()> {
     writers::print_counts(rt)?;
     prepare(rt)?;
     print_calls(rt)?;
-    saves::print_saves(rt)
+    saves::print_saves(rt)?;
+    watched::print_watched(rt)
 }
 
 fn main(rt: HostRuntime) -> ExitCode {

@@ -21,14 +21,13 @@ fn save_in_pieces<R: Files + Alloc>(
     job.end(folder, Name::Peers)
 }
 
-/// Prints the outcome of a save, and what is loaded after it, up to six bytes.
-fn print_saved<R: Files + Print + AllocGlobal>(
+/// Prints what is loaded of peers.dat, up to `limit` bytes.
+pub(crate) fn print_loaded<R: Print + AllocGlobal, F: Files + Alloc>(
     rt: &R,
-    folder: &mut DirFolder<'_, R>,
-    saved: Result<(), Failed>,
+    folder: &mut DirFolder<'_, F>,
+    limit: u64,
 ) -> io::Result<()> {
-    println!(rt; "saved: {saved:?}")?;
-    match load(rt.alloc(), folder, Name::Peers, 6) {
+    match load(rt.alloc(), folder, Name::Peers, limit) {
         Ok(Some(bytes)) => {
             println!(rt;
                 "loaded: {:?}",
@@ -40,7 +39,38 @@ fn print_saved<R: Files + Print + AllocGlobal>(
     }
 }
 
-/// Saves a file at once, in pieces, and at once again with more bytes than are loaded.
+/// Prints the outcome of a save, and what is loaded after it, up to six bytes.
+fn print_saved<R: Files + Print + AllocGlobal>(
+    rt: &R,
+    folder: &mut DirFolder<'_, R>,
+    saved: Result<(), Failed>,
+) -> io::Result<()> {
+    println!(rt; "saved: {saved:?}")?;
+    print_loaded(rt, folder, 6)
+}
+
+/// Saves a file of many pieces of a read, and prints whether the same bytes are loaded.
+fn print_long<R: Files + Print + AllocGlobal>(
+    rt: &R,
+    folder: &mut DirFolder<'_, R>,
+) -> io::Result<()> {
+    let mut bytes = Vec::new(rt.alloc());
+    for index in 0..70_000u32 {
+        bytes.push((index % 251) as u8)?;
+    }
+    let saved = save_whole(folder, bytes.as_slice());
+    println!(rt; "saved: {saved:?}")?;
+    match load(rt.alloc(), folder, Name::Peers, 70_000) {
+        Ok(Some(loaded)) => {
+            let same = loaded.items() == bytes.as_slice();
+            println!(rt; "loaded the same: {same}")
+        }
+        Ok(None) => println!(rt; "loaded: absent"),
+        Err(fault) => println!(rt; "loaded: {fault:?}"),
+    }
+}
+
+/// Saves a file at once, in pieces, at once again with more bytes than are loaded, and a long one.
 pub(crate) fn print_saves<R: Files + Print + AllocGlobal>(rt: &R) -> io::Result<()> {
     let mut folder = DirFolder::make(rt);
     let saved = save_whole(&mut folder, b"first");
@@ -49,5 +79,6 @@ pub(crate) fn print_saves<R: Files + Print + AllocGlobal>(rt: &R) -> io::Result<
     let saved = save_in_pieces(&mut folder, second);
     print_saved(rt, &mut folder, saved)?;
     let saved = save_whole(&mut folder, b"too long");
-    print_saved(rt, &mut folder, saved)
+    print_saved(rt, &mut folder, saved)?;
+    print_long(rt, &mut folder)
 }

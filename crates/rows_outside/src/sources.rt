@@ -1,15 +1,32 @@
 // A source over a reader gives its pieces, and each error of the reader is a fault.
-use host_io::{Failed, Source, StdSource};
+use host_io::{Failed, Source, StdSource, read_to_end};
 use std::io;
 use std::io::{ErrorKind, Read};
 
-/// A reader whose reads fail.
+/// A reader whose first read fails.
 #[derive(Drop)]
-struct BrokenReader;
+struct FitfulReader<'a> {
+    bytes: &'a [u8],
+    is_new: bool,
+}
 
-impl Read for BrokenReader {
-    fn read(&mut self, _buf: &mut [u8]) -> io::Result<usize> {
-        Err(io::Error::from(ErrorKind::Other))
+impl<'a> FitfulReader<'a> {
+    /// Makes a reader of the bytes.
+    fn of(bytes: &'a [u8]) -> FitfulReader<'a> {
+        FitfulReader {
+            bytes,
+            is_new: true,
+        }
+    }
+}
+
+impl<'a> Read for FitfulReader<'a> {
+    fn read(&mut self, buf: &mut [u8]) -> io::Result<usize> {
+        if self.is_new {
+            self.is_new = false;
+            return Err(io::Error::from(ErrorKind::Interrupted));
+        }
+        self.bytes.read(buf)
     }
 }
 
@@ -25,11 +42,40 @@ fn print_piece<R: Print + AllocGlobal, S: Source>(rt: &R, source: &mut S) -> io:
     }
 }
 
-/// Reads a text to its end, and from a reader that fails.
-pub(crate) fn print_pieces<R: Print + AllocGlobal>(rt: &R) -> io::Result<()> {
+/// Reads to the end, up to `limit` bytes, and prints what came.
+fn print_rest<R: Print + AllocGlobal, S: Source>(
+    rt: &R,
+    source: &mut S,
+    limit: u64,
+) -> io::Result<()> {
+    match read_to_end(rt.alloc(), source, limit) {
+        Ok(bytes) => println!(rt;
+            "to the end: {:?}",
+            str::from_utf8(bytes.items()).unwrap_or("no text")
+        ),
+        Err(fault) => println!(rt; "to the end: {fault:?}"),
+    }
+}
+
+/// Reads a text in pieces, from a reader and from one that fails once.
+fn print_texts<R: Print + AllocGlobal>(rt: &R) -> io::Result<()> {
     let mut source = StdSource::make(b"bitcoin".as_slice());
     for _ in 0..3 {
         print_piece(rt, &mut source)?;
     }
-    print_piece(rt, &mut StdSource::make(BrokenReader))
+    let mut source = StdSource::make(FitfulReader::of(b"bitcoin"));
+    for _ in 0..4 {
+        print_piece(rt, &mut source)?;
+    }
+    Ok(())
+}
+
+/// Reads a text in pieces and to its end, also from a reader that fails once.
+pub(crate) fn print_pieces<R: Print + AllocGlobal>(rt: &R) -> io::Result<()> {
+    print_texts(rt)?;
+    print_rest(rt, &mut StdSource::make(b"bitcoin".as_slice()), 7)?;
+    print_rest(rt, &mut StdSource::make(b"bitcoin".as_slice()), 6)?;
+    let mut source = StdSource::make(FitfulReader::of(b"bitcoin"));
+    print_rest(rt, &mut source, 7)?;
+    print_rest(rt, &mut source, 7)
 }
