@@ -45,7 +45,7 @@ fn a_file_is_read_number_by_number(rt: HostRuntime) -> Result<(), Fail> {
     Ok(())
 }
 
-/// Bits are doubled until they fill more than a megabyte.
+/// Bits are doubled until they fill more than a megabyte, and a number is written after them.
 #[test]
 #[tactic(auto, unfolding(bit_code::specs::Coder::sizes, bit_code::specs::Coder::values_of))]
 fn many_bits_are_written(rt: HostRuntime) -> Result<(), Fail> {
@@ -57,8 +57,9 @@ fn many_bits_are_written(rt: HostRuntime) -> Result<(), Fail> {
         twice.put_out(&out).ok().ok_or("no memory")?;
         out = twice;
     }
-    assert_eq!(rt; out.len(), 16 << 20);
+    put(&mut out, Coder::Asn, 1)?;
+    assert_eq!(rt; out.len(), (16 << 20) + 16);
     let file = out.into_bytes();
-    assert_eq!(rt; file.len(), 2 << 20);
+    assert_eq!(rt; file.len(), (2 << 20) + 2);
     Ok(())
 }

@@ -3,7 +3,7 @@ use asmap_back::{BackFault, decompile};
 use asmap_compile::{CompileFault, Compiled, compile};
 use asmap_vm::check;
 use net_addr::put_ipv6;
-use prefix_table::{MAX_TEXT, Table, TableFault, read_table};
+use prefix_table::{MAX_TEXT, Table, TableFault, put_table, read_table};
 use std::alloc::Global;
 use std::test::Fail;
 
@@ -70,6 +70,9 @@ fn two_million_rows_fill_the_largest_file_and_come_back(rt: HostRuntime) -> Resu
     assert_eq!(rt; map.asn(3 << 107), 491_522);
     let back = decompile(rt.alloc(), &map)?;
     assert!(rt; back.rows() == table.rows());
+    let mut printed = Vec::new(rt.alloc());
+    put_table(&back, &mut printed).ok().ok_or("no memory")?;
+    assert!(rt; printed.as_slice() == text.as_slice());
     Ok(())
 }
 
