@@ -305,6 +305,7 @@ impl Folder for MemFolder {
             n ≡ min (length buf.old) (length (drop at bytes)))) }
         ensures copied { IfOk result (λ n. IfSome (under (files_in self.old) name) (λ bytes.
             buf.new ≡ take n (drop at bytes) ++ drop n buf.old)) }
+        ensures kept { OnErr result (buf.new ≡ buf.old) }
         ensures after { OnOk result (self.new ≡ folder_after_call self.old (Action.Read name at)) }
         ensures err { OnErr result (FailsWithoutChange self.old (Action.Read name at) self.new) }
         ensures same { self.new.log ≡ self.old.log }
