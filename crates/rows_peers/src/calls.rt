@@ -16,8 +16,9 @@ impl Calls for FileCalls {
     }
 
     /// `fault CHAIN FILE` answers with the word of the file's first fault and the fault, `rewrite
-    /// CHAIN FILE OTHER` with whether what the file has is written as the other file, and `line N
-    /// CHAIN FILE` with a line of the file's list; and the calls of damaged files.
+    /// CHAIN FILE OTHER` with whether what the file has is written as the other file, `line N CHAIN
+    /// FILE` with a line of the file's list, and `memory-fault` with the word of the fault that no
+    /// file has; and the calls of damaged files.
     fn call(&mut self, alloc: Global, name: &str, arguments: &str) -> Result<String, Unread> {
         let mut fields = Fields::of(arguments);
         match name {
@@ -34,6 +35,7 @@ impl Calls for FileCalls {
                 let read = read_next(alloc, &mut fields)?;
                 line_of(alloc, number, &read)
             }
+            "memory-fault" => Ok(format!(in alloc; "{}", FileFault::Memory)?),
             "flips" => flips(alloc, &mut fields),
             "cuts" => cuts(alloc, &mut fields),
             _ => Err(Unread::Form),
