@@ -1,5 +1,6 @@
-use ban_list::{Bans, parse_subnet, put_subnet, read_bans, write_bans};
-use call_rows::{Calls, Unread};
+use crate::many::many;
+use ban_list::{BanFault, Bans, parse_subnet, put_subnet, read_bans, write_bans};
+use call_rows::{Calls, Fields, Unread};
 use std::alloc::Global;
 
 /// The calls on texts, each of which is by itself.
@@ -15,6 +16,8 @@ impl Calls for Texts {
         match name {
             "subnet" => subnet(alloc, arguments),
             "file" => file(alloc, arguments),
+            "many" => many(alloc, Fields::of(arguments).number()?),
+            "other-faults" => other_faults(alloc),
             _ => Err(Unread::Form),
         }
     }
@@ -38,6 +41,12 @@ fn file(alloc: Global, text: &str) -> Result<String, Unread> {
         Ok(bans) => written(alloc, &bans),
         Err(fault) => Ok(format!(in alloc; "{fault}")?),
     }
+}
+
+/// `other-faults`: the texts of the faults that no bytes have.
+fn other_faults(alloc: Global) -> Result<String, Unread> {
+    let (large, memory) = (BanFault::TooLarge { size: 1 }, BanFault::Memory);
+    Ok(format!(in alloc; "{large}, {memory}")?)
 }
 
 /// Returns the file of a list.
