@@ -1,6 +1,6 @@
 use crate::text::{bytes_of, hex_text, owned, text_of};
-use call_rows::Unread;
-use log_lines::{Command, read_line, read_words, split_line};
+use call_rows::{Fields, Unread};
+use log_lines::{Command, MAX_LINE, read_line, read_words, split_line};
 use net_addr::put_peer;
 use std::alloc::Global;
 
@@ -31,7 +31,7 @@ fn command_text(alloc: Global, command: &Command) -> Result<String, Unread> {
 
 /// Returns the command of the line, its fault, or that it is passed over.
 fn line_text(alloc: Global, line: &[u8]) -> Result<String, Unread> {
-    if line.len() > 16_000_000 {
+    if line.len() > MAX_LINE {
         return Err(Unread::Unmet);
     }
     match read_line(alloc, line) {
@@ -47,6 +47,30 @@ fn long_number(alloc: Global) -> Result<String, Unread> {
     line.extend_from_slice(b"now ")?;
     line.extend_from_slice(vec![in alloc; b'9'; 1_000_000]?.as_slice())?;
     line_text(alloc, line.as_slice())
+}
+
+/// `long-payload COUNT`: the length of the payload of a line that has this many bytes in
+/// hexadecimal.
+fn long_payload(alloc: Global, count: u64) -> Result<String, Unread> {
+    let mut line = Vec::new(alloc);
+    line.extend_from_slice(b"addr 1.2.3.44 ")?;
+    for _ in 0..count {
+        line.extend_from_slice(b"00")?;
+    }
+    line.extend_from_slice(b" -")?;
+    if line.len() > MAX_LINE {
+        return Err(Unread::Unmet);
+    }
+    let Ok(read) = read_line(alloc, line.as_slice()) else {
+        return Err(Unread::Memory);
+    };
+    match &read {
+        Some(Command::Addr { payload, .. }) => {
+            let length = payload.items().len();
+            Ok(format!(in alloc; "{length}")?)
+        }
+        _ => Err(Unread::Form),
+    }
 }
 
 /// `words TEXT`: the random words. `ends-of-words TEXT`: their number, the first and the last.
@@ -82,6 +106,7 @@ pub(crate) fn answer(alloc: Global, name: &str, arguments: &str) -> Result<Strin
         "line" => line_text(alloc, arguments.as_bytes()),
         "line-hex" => line_text(alloc, bytes_of(alloc, arguments)?.as_slice()),
         "long-number" => long_number(alloc),
+        "long-payload" => long_payload(alloc, Fields::of(arguments).number()?),
         "split" => split(alloc, arguments),
         _ => words(alloc, name, arguments),
     }

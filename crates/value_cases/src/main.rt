@@ -35,9 +35,13 @@ impl Calls for Values {
                 messages::answer(alloc, name, arguments)
             }
             "number" | "le32" | "le64" | "be16" => numbers::answer(alloc, name, arguments),
-            "line" | "line-hex" | "long-number" | "words" | "ends-of-words" | "split" => {
-                lines::answer(alloc, name, arguments)
-            }
+            "line"
+            | "line-hex"
+            | "long-number"
+            | "long-payload"
+            | "words"
+            | "ends-of-words"
+            | "split" => lines::answer(alloc, name, arguments),
             "chance" | "terrible" => records::answer(alloc, name, arguments),
             "written" => written::answer(alloc, arguments),
             "replies" => replies::replies(alloc),

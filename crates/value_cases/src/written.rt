@@ -5,6 +5,7 @@ use crate::replies::two_buckets;
 use crate::text::{bytes_of, hex_text};
 use addr_codecs::{MsgFault, write_addr, write_addrv2};
 use call_rows::Unread;
+use log_lines::LineFault;
 use net_addr::{Entry, Net, NetAddr, Peer};
 use peer_rec::{Buckets, Counts, Good, Peers, Picked, Place, Rec, Recs, Resolved};
 use std::alloc::Global;
@@ -132,6 +133,12 @@ fn are_counted() -> bool {
         && (resolved.erased, resolved.moved, resolved.kept) == (1, 2, 3)
 }
 
+/// `written memory-faults`: the texts of the faults for which no bytes are to blame.
+fn memory_faults(alloc: Global) -> Result<String, Unread> {
+    let (message, line) = (MsgFault::Memory, LineFault::Memory);
+    Ok(format!(in alloc; "{message}, {line}")?)
+}
+
 /// `written WHAT`.
 pub(crate) fn answer(alloc: Global, what: &str) -> Result<String, Unread> {
     match what {
@@ -142,7 +149,7 @@ pub(crate) fn answer(alloc: Global, what: &str) -> Result<String, Unread> {
         "lists" => Ok(format!(in alloc; "{}", are_listed(alloc)?)?),
         "answers" => Ok(format!(in alloc; "{}", are_compared()?)?),
         "counts" => Ok(format!(in alloc; "{}", are_counted())?),
-        "memory-fault" => Ok(format!(in alloc; "{}", MsgFault::Memory)?),
+        "memory-faults" => memory_faults(alloc),
         _ => Err(Unread::Form),
     }
 }
