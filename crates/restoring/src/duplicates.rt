@@ -1,4 +1,4 @@
-ghost use Rattle.std.specs.Prelude.{◌≡◌, ◌<◌, ◌≤◌, ◌+◌, ◌^◌, ◌++◌, ◌∷◌, [], length, List, All, None, IfOk, OnOk, false};
+ghost use Rattle.std.specs.Prelude.{◌≡◌, ◌<◌, ◌≤◌, ◌+◌, ◌*◌, ◌^◌, ◌++◌, ◌∷◌, [], length, List, All, None, IfOk, OnOk, false};
 ghost use Rattle.peer_rec.specs.Snapshot.{IsFileRec};
 ghost use Rattle.peer_rec.specs.declared.file_rec.FileRec.{FileRec};
 ghost use Rattle.table_machine.specs.Restoring.{duplicate, duplicate_from, is_repeated};
@@ -23,6 +23,8 @@ pub(crate) fn duplicate<H: BuildHasher, L: Ledger>(
     requires { index.old ≡ [] }
     ensures found { IfOk result (λ at. at ≡ duplicate snap.now) }
     ensures fit { IfOk result (λ at. at ≡ None → AreFileRecs snap.now) }
+    ensures steps { steps.new
+        ≤ steps.old + 2 * length snap.now.new_recs + 2 * length snap.now.tried_recs }
 {
     let new_recs = snap.new_recs();
     let count = new_recs.len() as u32;
@@ -50,6 +52,7 @@ fn duplicate_from<H: BuildHasher, L: Ledger>(
         → IfOk result (λ at. at ≡ None → AreIn (earlier ++ recs.now) index.new) }
     ensures fit { IfOk result (λ at. at ≡ None → All IsFileRec recs.now) }
     ensures room { OnOk result (length index.new ≤ length index.old + length recs.now) }
+    ensures steps { steps.new ≤ steps.old + 2 * length recs.now }
 {
     let mut at = start;
     for rec in recs {
@@ -77,6 +80,7 @@ fn is_repeated<H: BuildHasher, L: Ledger>(
         → AreIn (earlier ++ rec.now ∷ []) index.new) }
     ensures fit { IsFileRec rec.now }
     ensures room { length index.new ≤ length index.old + 1 }
+    ensures steps { steps.new ≤ steps.old + 2 }
 {
     check_fields(rec);
     if !rec.peer.addr.is_valid() {

@@ -1,4 +1,4 @@
-ghost use Rattle.std.specs.Prelude.{◌≡◌, ◌<◌, ◌^◌, All, IfOk, [], length, vec_len};
+ghost use Rattle.std.specs.Prelude.{◌≡◌, ◌<◌, ◌≤◌, ◌+◌, ◌^◌, All, IfOk, [], length, vec_len};
 ghost use Rattle.peer_index.specs.Order.{IsOrder};
 ghost use Rattle.restoring.specs.Filled.{HasApart, filled};
 
@@ -25,6 +25,7 @@ pub(crate) fn fill<H: BuildHasher, L: Ledger>(
     requires few { length order.now < 2 ^ 31 }
     ensures filled { IfOk result (λ ids. index.new ≡ filled ids.items recs.now order.now) }
     ensures order { IfOk result (λ ids. IsOrder index.new) }
+    ensures steps { steps.new ≤ steps.old + length order.now }
 {
     let mut ids = zeros(alloc, recs.len())?;
     for number in order {

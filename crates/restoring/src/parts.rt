@@ -1,4 +1,4 @@
-ghost use Rattle.std.specs.Prelude.{◌≡◌, IfOk, IfErr, None, []};
+ghost use Rattle.std.specs.Prelude.{◌≡◌, ◌+◌, ◌*◌, ◌≤◌, length, IfOk, IfErr, None, []};
 ghost use Rattle.table_machine.specs.Restoring.{duplicate, restored};
 ghost use Rattle.table_machine.specs.Sound.{IsSound};
 ghost use Rattle.restoring.specs.Planned.{IsPlanned, settled};
@@ -40,6 +40,8 @@ pub fn restore<'a, H: BuildHasher + Drop, L: Ledger>(
         parts.placer parts.grid parts.index parts.next_number) }
     ensures no_duplicate { IfOk result (λ parts. duplicate snap.now ≡ None) }
     ensures cause { IfErr result (IsCause snap.now) }
+    ensures steps { steps.new ≤ steps.old + 2 * length snap.now.new_recs
+        + 4 * length snap.now.tried_recs + 4 * length snap.now.listed + 81920 }
 {
     // Their clauses on the key say what holds of every placer and snapshot.
     let _ = placer.key();
@@ -66,8 +68,9 @@ fn settle<'a, H: BuildHasher + Drop, L: Ledger>(
     requires plan { IsPlanned plan }
     requires sound { IsSound (settled plan) }
     requires empty { index ≡ [] }
-    ensures { IfOk result (λ parts. ArePartsOf (settled plan.entry)
+    ensures parts { IfOk result (λ parts. ArePartsOf (settled plan.entry)
         parts.placer parts.grid parts.index parts.next_number) }
+    ensures steps { steps.new ≤ steps.old + 81920 }
 {
     let order = plan.order(alloc)?;
     let mut index = index;

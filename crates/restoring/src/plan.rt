@@ -29,7 +29,7 @@ pub(crate) struct Plan<'a> {
 }
 
 impl<'a> Plan<'a> {
-    ghost use Rattle.std.specs.Prelude.{All, ◌≡◌, ◌≢◌, ℕ, ◌+◌, ◌<◌, ◌≤◌, ◌^◌, Bool, true, false, [], length, slice_get, Some, IfOk, OnOk, IsSomeAnd, Contains, vec_len};
+    ghost use Rattle.std.specs.Prelude.{All, ◌≡◌, ◌≢◌, ℕ, ◌+◌, ◌*◌, ◌<◌, ◌≤◌, ◌^◌, Bool, true, false, [], length, slice_get, Some, IfOk, OnOk, IsSomeAnd, Contains, vec_len};
     ghost use Rattle.peer_rec.specs.Rec.{buckets_of};
     ghost use Rattle.peer_rec.specs.declared.rec.Rec.{Rec};
     ghost use Rattle.table_machine.specs.State.{State, by_number, empty_state};
@@ -65,6 +65,8 @@ impl<'a> Plan<'a> {
         ensures state { IfOk result (λ p. state_by p ≡ placed snap.now placer.entry) }
         ensures placer { IfOk result (λ p. p.placer ≡ placer.entry) }
         ensures news { IfOk result (λ p. p.news ≡ length snap.now.new_recs) }
+        ensures steps { steps.new
+            ≤ steps.old + 2 * length snap.now.tried_recs + 4 * length snap.now.listed }
     {
         let are_used = uses_buckets(snap, &placer);
         let mut plan = Plan::empty(alloc, placer)?;
@@ -104,6 +106,7 @@ impl<'a> Plan<'a> {
         ensures placer { self.new.placer ≡ self.old.placer }
         ensures news { self.new.news ≡ self.old.news }
         ensures longer { length self.old.recs.items ≤ length self.new.recs.items }
+        ensures steps { steps.new ≤ steps.old + 2 }
     {
         if !rec.peer.addr.is_valid() {
             return Ok(());
@@ -149,6 +152,7 @@ impl<'a> Plan<'a> {
             ≡ with_all_tried (state_by self.old) recs.now) }
         ensures placer { self.new.placer ≡ self.old.placer }
         ensures news { self.new.news ≡ self.old.news }
+        ensures steps { steps.new ≤ steps.old + 2 * length recs.now }
     {
         let mut rest = recs;
         while let [rec, after @ ..] = rest {
@@ -172,6 +176,7 @@ impl<'a> Plan<'a> {
         ensures state { state_by self.new ≡ place_all are_used (state_by self.old) listed.now }
         ensures placer { self.new.placer ≡ self.old.placer }
         ensures news { self.new.news ≡ self.old.news }
+        ensures steps { steps.new ≤ steps.old + 4 * length listed.now }
     {
         let mut rest = listed;
         while let [pair, after @ ..] = rest {
@@ -228,6 +233,7 @@ impl<'a> Plan<'a> {
         ensures placer { self.new.placer ≡ self.old.placer }
         ensures news { self.new.news ≡ self.old.news }
         ensures length { length self.new.recs.items ≡ length self.old.recs.items }
+        ensures steps { steps.new ≤ steps.old + 2 }
     {
         let rec = &self.recs[index];
         let slot = self.placer.new_slot(&rec.peer, bucket);
@@ -263,6 +269,7 @@ impl<'a> Plan<'a> {
         ensures placer { self.new.placer ≡ self.old.placer }
         ensures news { self.new.news ≡ self.old.news }
         ensures length { length self.new.recs.items ≡ length self.old.recs.items }
+        ensures steps { steps.new ≤ steps.old + 2 }
     {
         if !are_used {
             return false;
@@ -289,6 +296,7 @@ impl<'a> Plan<'a> {
         ensures placer { self.new.placer ≡ self.old.placer }
         ensures news { self.new.news ≡ self.old.news }
         ensures length { length self.new.recs.items ≡ length self.old.recs.items }
+        ensures steps { steps.new ≤ steps.old + 4 }
     {
         let index = index as usize;
         let rec = &self.recs[index];

@@ -11,6 +11,7 @@ loop-rec-init g c = record {
   fit = λ k d within. absurd (omega arith);
   room = omega arith;
   few = omega arith;
+  steps = omega arith;
 }
 
 pub returns-then-branch-clause-found : goal.returns-then-branch-clause-found
@@ -35,6 +36,7 @@ loop-rec-preserved g c =
       fit = All-more IsFileRec c.args.recs.now l.rec-index r within l.invariant.fit (subst IsFileRec c.rec-item.is c.in_ok-is_repeated.ensures.fit);
       room = omega (arith, l.invariant.room, c.in_ok-is_repeated.ensures.room);
       few = omega (arith, l.invariant.few);
+      steps = omega (arith, l.invariant.steps, c.is_repeated.ensures.steps);
     }
 
 pub returns-clause-found : goal.returns-clause-found

@@ -1,4 +1,4 @@
-use Rattle.std.proofs.Common.{All, ◌≡◌, ◌+◌, ◌≤◌, List, length, take}
+use Rattle.std.proofs.Common.{All, ◌≡◌, ◌+◌, ◌*◌, ◌≤◌, List, length, take}
 use Rattle.peer_rec.specs.Snapshot.{IsFileRec}
 use Rattle.peer_rec.specs.declared.file_rec.FileRec.{FileRec}
 use Rattle.restoring.specs.Duplicates.{AreIn}
@@ -11,4 +11,5 @@ invariant-loop-rec g l = record {
   fit : All IsFileRec (take l.rec-index l.recs);
   room : length l.index ≤ length l.initial.index + l.rec-index;
   few : l.at ≡ l.start + l.rec-index;
+  steps : l.steps ≤ l.fn.steps + 2 * l.rec-index;
 }

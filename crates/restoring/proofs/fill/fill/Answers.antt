@@ -1,4 +1,4 @@
-use Rattle.std.proofs.Common.{rules, ◌≡◌, ◌∙◌, ◌<◌, sym, subst, get_or, length}
+use Rattle.std.proofs.Common.{rules, ◌≡◌, ◌∙◌, ◌<◌, sym, subst, get_or, length, arith}
 use Rattle.std.proofs.lemmas.List.{get_or_default, get_or_read, length-set}
 use Rattle.peer_index.specs.Order.{id_of, with_last}
 use Rattle.restoring.specs.Filled.{blank, rec_at}
@@ -35,4 +35,5 @@ loop-number-preserved g c =
           ∙ sym (filled-more l.ids.items recs order c.requires.apart k n within is c.in_ok-id.id (subst (λ m. n < m) (sym l.invariant.long) low));
       long = length-set l.ids.items n c.in_ok-id.id ∙ l.invariant.long;
       order = c.add.ensures.order;
+      steps = omega (arith, l.invariant.steps, c.add.ensures.steps);
     }

@@ -1,4 +1,4 @@
-use Rattle.std.proofs.Common.{◌≡◌, length, take}
+use Rattle.std.proofs.Common.{◌≡◌, ◌+◌, ◌≤◌, length, take}
 use Rattle.peer_index.specs.Order.{IsOrder}
 use Rattle.restoring.specs.Filled.{filled}
 use Rattle.restoring.proofs.fill.fill.Given as goal
@@ -8,4 +8,5 @@ invariant-loop-number g l = record {
   filled : l.index ≡ filled l.ids.items l.recs (take l.number-index l.order);
   long : length l.ids.items ≡ length l.recs;
   order : IsOrder l.index;
+  steps : l.steps ≤ l.fn.steps + l.number-index;
 }

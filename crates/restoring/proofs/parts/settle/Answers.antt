@@ -32,8 +32,8 @@ fill-requires-clause-few g c =
     let low = few p.placer p.recs.items p.news p.grid c.requires.plan c.numbers.result.now sound in
     omega (arith, low)
 
-pub returns : goal.returns
-returns g c =
+pub returns-clause-parts : goal.returns-clause-parts
+returns-clause-parts g c =
     let p = c.args.plan in
     let ns = c.numbers.result.now in
     let after = drop_all (state_of p.placer p.recs.items) (range_with_len 0 p.news) in
@@ -47,3 +47,17 @@ returns g c =
     (subst (λ (o : Order). ArePartsOf after p.placer c.renumber.new.self o (length p.recs.items)) (sym index)
     (subst (λ (st : State). ArePartsOf st p.placer c.renumber.new.self (filled c.in_ok-ids.ids.items p.recs.items ns) (length p.recs.items))
     (ap (dropping p.placer p.recs.items p.news) c.numbers.ensures.numbers ∙ c.in_ok-order.ensures.order) parts))
+
+pub returns-in_err-ids-clause-steps : goal.returns-in_err-ids-clause-steps
+returns-in_err-ids-clause-steps g c =
+    let p = c.args.plan in
+    let sound = sound-left p.placer p.recs.items p.news c.in_ok-order.order c.numbers.result.now (drop_all (state_of p.placer p.recs.items) (range_with_len 0 p.news)) c.in_ok-order.ensures.order c.numbers.ensures.numbers c.requires.sound in
+    let low = few p.placer p.recs.items p.news p.grid c.requires.plan c.numbers.result.now sound in
+    omega (arith, low, c.fill.ensures.steps)
+
+pub returns-clause-steps : goal.returns-clause-steps
+returns-clause-steps g c =
+    let p = c.args.plan in
+    let sound = sound-left p.placer p.recs.items p.news c.in_ok-order.order c.numbers.result.now (drop_all (state_of p.placer p.recs.items) (range_with_len 0 p.news)) c.in_ok-order.ensures.order c.numbers.ensures.numbers c.requires.sound in
+    let low = few p.placer p.recs.items p.news p.grid c.requires.plan c.numbers.result.now sound in
+    omega (arith, low, c.fill.ensures.steps)

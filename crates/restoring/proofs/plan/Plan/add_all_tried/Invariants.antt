@@ -1,4 +1,4 @@
-use Rattle.std.proofs.Common.{◌≡◌, length}
+use Rattle.std.proofs.Common.{◌≡◌, ◌+◌, ◌*◌, ◌≤◌, length}
 use Rattle.table_machine.specs.Restoring.{with_all_tried}
 use Rattle.restoring.specs.Planned.{IsPlan, state_of}
 use Rattle.restoring.proofs.plan.Plan.add_all_tried.Given as goal
@@ -10,6 +10,7 @@ invariant-loop-rest g l = record {
   state : with_all_tried (state_of l.self.placer l.self.recs.items) l.rest ≡ with_all_tried (state_of l.initial.self.placer l.initial.self.recs.items) l.recs;
   placer : l.self.placer ≡ l.initial.self.placer;
   news : l.self.news ≡ l.initial.self.news;
+  steps : l.steps + 2 * length l.rest ≤ l.fn.steps + 2 * length l.recs;
 }
 
 abbrev pub decreases-loop-rest : goal.decreases-loop-rest

@@ -1,4 +1,4 @@
-use Rattle.std.proofs.Common.{All, ◌≡◌, ◌<◌, length, true}
+use Rattle.std.proofs.Common.{All, ◌≡◌, ◌+◌, ◌*◌, ◌<◌, ◌≤◌, length, true}
 use Rattle.table_machine.specs.Restoring.{place_all}
 use Rattle.restoring.specs.Planned.{IsPlan, state_of}
 use Rattle.restoring.proofs.plan.Plan.place_all.Given as goal
@@ -12,6 +12,7 @@ invariant-loop-rest g l = record {
   indexes : All (λ pair. pair.1 < l.self.news) l.rest;
   placer : l.self.placer ≡ l.initial.self.placer;
   news : l.self.news ≡ l.initial.self.news;
+  steps : l.steps + 4 * length l.rest ≤ l.fn.steps + 4 * length l.listed;
 }
 
 abbrev pub decreases-loop-rest : goal.decreases-loop-rest
