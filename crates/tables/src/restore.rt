@@ -10,7 +10,7 @@ use std::sync::ledger::Ledger;
 use steps::Steps;
 
 impl<'a, H: BuildHasher + Drop> Tables<'a, H> {
-    ghost use Rattle.std.specs.Prelude.{◌≡◌, IfOk, IfErr, None};
+    ghost use Rattle.std.specs.Prelude.{◌≡◌, ◌+◌, ◌*◌, ◌≤◌, length, IfOk, IfErr, None};
     ghost use Rattle.table_machine.specs.Restoring.{duplicate, restored};
     ghost use Rattle.table_machine.specs.Sound.{IsSound};
     ghost use Rattle.restoring.specs.Restored.{IsCause};
@@ -30,6 +30,8 @@ impl<'a, H: BuildHasher + Drop> Tables<'a, H> {
         ensures sound { IfOk result IsSound }
         ensures no_duplicate { IfOk result (λ t. duplicate snap.now ≡ None) }
         ensures cause { IfErr result (IsCause snap.now) }
+        ensures steps { steps.new ≤ steps.old + 2 * length snap.now.new_recs
+            + 4 * length snap.now.tried_recs + 4 * length snap.now.listed + 81920 }
     {
         let parts = restore(alloc, snap, placer, hasher, steps)?;
         let store = Store {

@@ -11,7 +11,7 @@ pub(crate) const NEW_BUCKETS: u16 = 1024;
 const SLOTS: u8 = 64;
 
 impl<'a, H: BuildHasher> Tables<'a, H> {
-    ghost use Rattle.std.specs.Prelude.{◌≡◌, ◌<◌, ◌++◌, ◌^◌, IfOk, OnOk, length};
+    ghost use Rattle.std.specs.Prelude.{◌≡◌, ◌+◌, ◌<◌, ◌≤◌, ◌++◌, ◌^◌, IfOk, OnOk, length};
     ghost use Rattle.std.specs.List.Sorted.{IsStrictlyIncreasing};
     ghost use Rattle.tables.specs.Saving.{bucket_by, buckets_by};
 
@@ -26,8 +26,9 @@ impl<'a, H: BuildHasher> Tables<'a, H> {
         requires bucket { bucket < 1024 }
         requires rising { IsStrictlyIncreasing numbers.now }
         requires few { length numbers.now < 2 ^ 32 }
-        ensures { OnOk result (listed.new.items
+        ensures added { OnOk result (listed.new.items
             ≡ listed.old.items ++ bucket_by self.now numbers.now bucket 64) }
+        ensures steps { steps.new ≤ steps.old + 128 }
     {
         for slot in 0..SLOTS {
             let rec = self.new_rec_at(bucket, slot, steps);
@@ -46,7 +47,8 @@ impl<'a, H: BuildHasher> Tables<'a, H> {
     ) -> Result<Vec<(u32, u32)>, Memory>
         requires rising { IsStrictlyIncreasing numbers.now }
         requires few { length numbers.now < 2 ^ 32 }
-        ensures { IfOk result (λ v. v.items ≡ buckets_by self.now numbers.now 1024) }
+        ensures found { IfOk result (λ v. v.items ≡ buckets_by self.now numbers.now 1024) }
+        ensures steps { steps.new ≤ steps.old + 131072 }
     {
         let mut listed = Vec::new(alloc);
         for bucket in 0..NEW_BUCKETS {

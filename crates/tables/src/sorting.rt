@@ -5,7 +5,7 @@ use std::sync::ledger::Ledger;
 use steps::Steps;
 
 impl<'a, H: BuildHasher> Store<'a, H> {
-    ghost use Rattle.std.specs.Prelude.{◌≡◌, ◌<◌, Some, length, slice_get, IfOk};
+    ghost use Rattle.std.specs.Prelude.{◌≡◌, ◌+◌, ◌*◌, ◌<◌, ◌≤◌, Some, length, slice_get, IfOk};
     ghost use Rattle.std.specs.List.Sorted.{IsPermutation, IsNonDecreasingBy};
     ghost use Rattle.peer_index.specs.Order.{records};
     ghost use Rattle.table_machine.specs.Picks.{order_swap};
@@ -14,7 +14,8 @@ impl<'a, H: BuildHasher> Store<'a, H> {
     /// Returns the record at a position of the order.
     fn record_at<L: Ledger>(&self, position: usize, steps: &mut Steps<L>) -> &Rec
         requires { position < length self.now.index }
-        ensures { slice_get (records self.now.index) position ≡ Some result.now }
+        ensures found { slice_get (records self.now.index) position ≡ Some result.now }
+        ensures steps { steps.new ≤ steps.old + 2 }
     {
         let id = self.index.at(position, steps);
         self.index.get(id, steps)
@@ -22,7 +23,8 @@ impl<'a, H: BuildHasher> Store<'a, H> {
 
     /// Returns copies of the records in their order.
     fn copies<L: Ledger>(&self, steps: &mut Steps<L>) -> Result<Vec<Rec>, Memory>
-        ensures { IfOk result (λ v. v.items ≡ records self.now.index) }
+        ensures copied { IfOk result (λ v. v.items ≡ records self.now.index) }
+        ensures steps { steps.new ≤ steps.old + 2 * length self.now.index }
     {
         let mut copies = Vec::new(self.alloc);
         for position in 0..self.index.len() {
@@ -35,6 +37,7 @@ impl<'a, H: BuildHasher> Store<'a, H> {
     pub(crate) fn sorted<L: Ledger>(&self, steps: &mut Steps<L>) -> Result<Vec<Rec>, Memory>
         ensures moved { IfOk result (λ v. IsPermutation (records self.now.index) v.items) }
         ensures sorted { IfOk result (λ v. IsNonDecreasingBy (λ r. r.number) v.items) }
+        ensures steps { steps.new ≤ steps.old + 2 * length self.now.index }
     {
         let mut copies = self.copies(steps)?;
         copies.sort_unstable_by_key(|rec| rec.number);
@@ -49,6 +52,7 @@ impl<'a, H: BuildHasher> Store<'a, H> {
         ensures stored { IsStore self.new }
         ensures state { state_of self.new ≡ order_swap (state_of self.old) i j }
         ensures rest { SameRest self.old self.new }
+        ensures steps { steps.new ≤ steps.old + 1 }
     {
         self.index.swap(i, j, steps);
     }

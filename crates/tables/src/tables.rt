@@ -71,7 +71,7 @@ impl<'a, H: BuildHasher + Drop> Tables<'a, H> {
 }
 
 impl<'a, H: BuildHasher> Tables<'a, H> {
-    ghost use Rattle.std.specs.Prelude.{◌≡◌, ◌+◌, ◌<◌, ◌^◌, length, None, Some, IfOk, OnOk, OnErr, option_map, slice_get, ◌≤◌, map, count_by, sum_by, not, Contains, IsPermutation};
+    ghost use Rattle.std.specs.Prelude.{◌≡◌, ◌+◌, ◌*◌, ◌<◌, ◌^◌, length, None, Some, IfOk, OnOk, OnErr, option_map, slice_get, ◌≤◌, map, count_by, sum_by, not, Contains, IsPermutation};
     ghost use Rattle.peer_rec.specs.Rec.{buckets_of, is_tried};
     ghost use Rattle.peer_index.specs.Order.{Order, IsOrder, records};
     ghost use Rattle.slot_grid.specs.Masks.{IsMask};
@@ -153,6 +153,7 @@ impl<'a, H: BuildHasher> Tables<'a, H> {
         ensures answer { result ≡ (attempt self.old now peer.now counted).answer }
         ensures state { self.new ≡ (attempt self.old now peer.now counted).state }
         ensures sound { IsSound self.new }
+        ensures steps { steps.new ≤ steps.old + 3 }
     {
         match self.store.index.find(peer, steps) {
             Some(id) => {
@@ -175,6 +176,7 @@ impl<'a, H: BuildHasher> Tables<'a, H> {
         ensures answer { result ≡ (connected self.old now peer.now).answer }
         ensures state { self.new ≡ (connected self.old now peer.now).state }
         ensures sound { IsSound self.new }
+        ensures steps { steps.new ≤ steps.old + 3 }
     {
         match self.store.index.find(peer, steps) {
             Some(id) => {
@@ -192,6 +194,7 @@ impl<'a, H: BuildHasher> Tables<'a, H> {
         ensures answer { result ≡ (set_services self.old peer.now services).answer }
         ensures state { self.new ≡ (set_services self.old peer.now services).state }
         ensures sound { IsSound self.new }
+        ensures steps { steps.new ≤ steps.old + 3 }
     {
         match self.store.index.find(peer, steps) {
             Some(id) => {
@@ -205,7 +208,8 @@ impl<'a, H: BuildHasher> Tables<'a, H> {
 
     /// Returns the record of `peer`, or `None` if there is none.
     pub fn find<L: Ledger>(&self, peer: &Peer, steps: &mut Steps<L>) -> Option<&Rec>
-        ensures { option_map (λ r. r.now) result ≡ find_peer self.now peer.now }
+        ensures found { option_map (λ r. r.now) result ≡ find_peer self.now peer.now }
+        ensures steps { steps.new ≤ steps.old + 2 }
     {
         match self.store.index.find(peer, steps) {
             Some(id) => Some(self.store.index.get(id, steps)),
@@ -225,6 +229,7 @@ impl<'a, H: BuildHasher> Tables<'a, H> {
         requires { position < length self.now.order }
         ensures number { slice_get self.now.order position ≡ Some result.now.number }
         ensures found { by_number self.now result.now.number ≡ Some result.now }
+        ensures steps { steps.new ≤ steps.old + 2 }
     {
         let id = self.store.index.at(position, steps);
         self.store.index.get(id, steps)
@@ -331,6 +336,7 @@ impl<'a, H: BuildHasher> Tables<'a, H> {
         requires second { j < length self.old.order }
         ensures state { self.new ≡ order_swap self.old i j }
         ensures sound { IsSound self.new }
+        ensures steps { steps.new ≤ steps.old + 1 }
     {
         self.store.swap(i, j, steps);
     }
@@ -367,7 +373,8 @@ impl<'a, H: BuildHasher> Tables<'a, H> {
 
     /// Returns all records in increasing order of their numbers.
     pub fn recs<L: Ledger>(&self, steps: &mut Steps<L>) -> Result<Recs, Memory>
-        ensures { IfOk result (λ recs. recs ≡ self.now.records) }
+        ensures found { IfOk result (λ recs. recs ≡ self.now.records) }
+        ensures steps { steps.new ≤ steps.old + 2 * length self.now.order }
     {
         Ok(Recs::of(self.store.sorted(steps)?))
     }
@@ -378,6 +385,7 @@ impl<'a, H: BuildHasher> Tables<'a, H> {
         ensures found { IfOk result (λ snap. snap ≡ snapshot_of self.now) }
         ensures restart { IfOk result (λ snap. restored snap self.now.places ≡ restart self.now) }
         ensures no_duplicate { IfOk result (λ snap. duplicate snap ≡ None) }
+        ensures steps { steps.new ≤ steps.old + 2 * length self.now.order + 131072 }
     {
         let recs = self.recs(steps)?;
         let alloc = self.store.alloc;

@@ -19,50 +19,50 @@ pub listed-requires-clause-rising : goal.listed-requires-clause-rising
 listed-requires-clause-rising g c =
     let st : State = c.args.self.now in
     let sound : IsSound st = subst IsSound c.self.view_is c.self.invariant.sound in
-    let numbers : c.as_slice.result.now ≡ map (λ r. r.number) (new_records st) = c.as_slice.ensures.value ∙ c.in_ok-numbers.ensures ∙ ap (λ rs. map (λ r. r.number) (filter (λ r. not (is_tried r)) rs)) (c.items.ensures ∙ c.in_ok-recs.ensures) in
+    let numbers : c.as_slice.result.now ≡ map (λ r. r.number) (new_records st) = c.as_slice.ensures.value ∙ c.in_ok-numbers.ensures ∙ ap (λ rs. map (λ r. r.number) (filter (λ r. not (is_tried r)) rs)) (c.items.ensures ∙ c.in_ok-recs.ensures.found) in
     subst IsStrictlyIncreasing (sym numbers) (new-rising st sound)
 
 pub listed-requires-clause-few : goal.listed-requires-clause-few
 listed-requires-clause-few g c =
     let st : State = c.args.self.now in
     let sound : IsSound st = subst IsSound c.self.view_is c.self.invariant.sound in
-    let numbers : c.as_slice.result.now ≡ map (λ r. r.number) (new_records st) = c.as_slice.ensures.value ∙ c.in_ok-numbers.ensures ∙ ap (λ rs. map (λ r. r.number) (filter (λ r. not (is_tried r)) rs)) (c.items.ensures ∙ c.in_ok-recs.ensures) in
+    let numbers : c.as_slice.result.now ≡ map (λ r. r.number) (new_records st) = c.as_slice.ensures.value ∙ c.in_ok-numbers.ensures ∙ ap (λ rs. map (λ r. r.number) (filter (λ r. not (is_tried r)) rs)) (c.items.ensures ∙ c.in_ok-recs.ensures.found) in
     omega (arith, ap length numbers, new-few st sound)
 
 pub make-requires-clause-few_new : goal.make-requires-clause-few_new
 make-requires-clause-few_new g c =
     let st : State = c.args.self.now in
     let sound : IsSound st = subst IsSound c.self.view_is c.self.invariant.sound in
-    let news : c.of-new_recs.result ≡ map file_rec (new_records st) = c.of-new_recs.ensures ∙ c.in_ok-new_recs.ensures ∙ ap (λ rs. map file_rec (filter (λ r. not (is_tried r)) rs)) (c.items-2.ensures ∙ c.in_ok-recs.ensures) in
+    let news : c.of-new_recs.result ≡ map file_rec (new_records st) = c.of-new_recs.ensures ∙ c.in_ok-new_recs.ensures ∙ ap (λ rs. map file_rec (filter (λ r. not (is_tried r)) rs)) (c.items-2.ensures ∙ c.in_ok-recs.ensures.found) in
     subst (λ (rs : List FileRec). length rs ≤ 65536) (sym news) (snapshot_fits st sound).few_new
 
 pub make-requires-clause-few_tried : goal.make-requires-clause-few_tried
 make-requires-clause-few_tried g c =
     let st : State = c.args.self.now in
     let sound : IsSound st = subst IsSound c.self.view_is c.self.invariant.sound in
-    let trieds : c.of-tried_recs.result ≡ map file_rec (tried_records st) = c.of-tried_recs.ensures ∙ c.in_ok-tried_recs.ensures ∙ ap (λ rs. map file_rec (filter is_tried rs)) (c.items-3.ensures ∙ c.in_ok-recs.ensures) in
+    let trieds : c.of-tried_recs.result ≡ map file_rec (tried_records st) = c.of-tried_recs.ensures ∙ c.in_ok-tried_recs.ensures ∙ ap (λ rs. map file_rec (filter is_tried rs)) (c.items-3.ensures ∙ c.in_ok-recs.ensures.found) in
     subst (λ (rs : List FileRec). length rs ≤ 16384) (sym trieds) (snapshot_fits st sound).few_tried
 
 pub make-requires-clause-new_attempts : goal.make-requires-clause-new_attempts
 make-requires-clause-new_attempts g c =
     let st : State = c.args.self.now in
     let sound : IsSound st = subst IsSound c.self.view_is c.self.invariant.sound in
-    let news : c.of-new_recs.result ≡ map file_rec (new_records st) = c.of-new_recs.ensures ∙ c.in_ok-new_recs.ensures ∙ ap (λ rs. map file_rec (filter (λ r. not (is_tried r)) rs)) (c.items-2.ensures ∙ c.in_ok-recs.ensures) in
+    let news : c.of-new_recs.result ≡ map file_rec (new_records st) = c.of-new_recs.ensures ∙ c.in_ok-new_recs.ensures ∙ ap (λ rs. map file_rec (filter (λ r. not (is_tried r)) rs)) (c.items-2.ensures ∙ c.in_ok-recs.ensures.found) in
     subst (All (λ (r : FileRec). r.attempts ≤ 2147483647)) (sym news) (snapshot_fits st sound).new_attempts
 
 pub make-requires-clause-tried_attempts : goal.make-requires-clause-tried_attempts
 make-requires-clause-tried_attempts g c =
     let st : State = c.args.self.now in
     let sound : IsSound st = subst IsSound c.self.view_is c.self.invariant.sound in
-    let trieds : c.of-tried_recs.result ≡ map file_rec (tried_records st) = c.of-tried_recs.ensures ∙ c.in_ok-tried_recs.ensures ∙ ap (λ rs. map file_rec (filter is_tried rs)) (c.items-3.ensures ∙ c.in_ok-recs.ensures) in
+    let trieds : c.of-tried_recs.result ≡ map file_rec (tried_records st) = c.of-tried_recs.ensures ∙ c.in_ok-tried_recs.ensures ∙ ap (λ rs. map file_rec (filter is_tried rs)) (c.items-3.ensures ∙ c.in_ok-recs.ensures.found) in
     subst (All (λ (r : FileRec). r.attempts ≤ 2147483647)) (sym trieds) (snapshot_fits st sound).tried_attempts
 
 pub make-requires-clause-buckets : goal.make-requires-clause-buckets
 make-requires-clause-buckets g c =
     let st : State = c.args.self.now in
     let sound : IsSound st = subst IsSound c.self.view_is c.self.invariant.sound in
-    let numbers : c.as_slice.result.now ≡ map (λ r. r.number) (new_records st) = c.as_slice.ensures.value ∙ c.in_ok-numbers.ensures ∙ ap (λ rs. map (λ r. r.number) (filter (λ r. not (is_tried r)) rs)) (c.items.ensures ∙ c.in_ok-recs.ensures) in
-    let listed : c.of-listed.result ≡ listed_of st = c.of-listed.ensures ∙ c.in_ok-listed.ensures ∙ ap (λ ns. buckets_by st ns 1024) numbers ∙ listed-is st in
+    let numbers : c.as_slice.result.now ≡ map (λ r. r.number) (new_records st) = c.as_slice.ensures.value ∙ c.in_ok-numbers.ensures ∙ ap (λ rs. map (λ r. r.number) (filter (λ r. not (is_tried r)) rs)) (c.items.ensures ∙ c.in_ok-recs.ensures.found) in
+    let listed : c.of-listed.result ≡ listed_of st = c.of-listed.ensures ∙ c.in_ok-listed.ensures.found ∙ ap (λ ns. buckets_by st ns 1024) numbers ∙ listed-is st in
     let count : c.from.result ≡ 1024 = search rules in
     subst (λ n. All (λ (p : ℕ × ℕ). p.0 < n) c.of-listed.result) (sym count)
     (subst (All (λ (p : ℕ × ℕ). p.0 < 1024)) (sym listed) (snapshot_fits st sound).buckets)
@@ -71,9 +71,9 @@ pub make-requires-clause-indexes : goal.make-requires-clause-indexes
 make-requires-clause-indexes g c =
     let st : State = c.args.self.now in
     let sound : IsSound st = subst IsSound c.self.view_is c.self.invariant.sound in
-    let numbers : c.as_slice.result.now ≡ map (λ r. r.number) (new_records st) = c.as_slice.ensures.value ∙ c.in_ok-numbers.ensures ∙ ap (λ rs. map (λ r. r.number) (filter (λ r. not (is_tried r)) rs)) (c.items.ensures ∙ c.in_ok-recs.ensures) in
-    let news : c.of-new_recs.result ≡ map file_rec (new_records st) = c.of-new_recs.ensures ∙ c.in_ok-new_recs.ensures ∙ ap (λ rs. map file_rec (filter (λ r. not (is_tried r)) rs)) (c.items-2.ensures ∙ c.in_ok-recs.ensures) in
-    let listed : c.of-listed.result ≡ listed_of st = c.of-listed.ensures ∙ c.in_ok-listed.ensures ∙ ap (λ ns. buckets_by st ns 1024) numbers ∙ listed-is st in
+    let numbers : c.as_slice.result.now ≡ map (λ r. r.number) (new_records st) = c.as_slice.ensures.value ∙ c.in_ok-numbers.ensures ∙ ap (λ rs. map (λ r. r.number) (filter (λ r. not (is_tried r)) rs)) (c.items.ensures ∙ c.in_ok-recs.ensures.found) in
+    let news : c.of-new_recs.result ≡ map file_rec (new_records st) = c.of-new_recs.ensures ∙ c.in_ok-new_recs.ensures ∙ ap (λ rs. map file_rec (filter (λ r. not (is_tried r)) rs)) (c.items-2.ensures ∙ c.in_ok-recs.ensures.found) in
+    let listed : c.of-listed.result ≡ listed_of st = c.of-listed.ensures ∙ c.in_ok-listed.ensures.found ∙ ap (λ ns. buckets_by st ns 1024) numbers ∙ listed-is st in
     subst (λ (rs : List FileRec). All (λ (p : ℕ × ℕ). p.1 < length rs) c.of-listed.result) (sym news)
     (subst (All (λ (p : ℕ × ℕ). p.1 < length (map file_rec (new_records st)))) (sym listed) (snapshot_fits st sound).indexes)
 
@@ -81,17 +81,17 @@ pub make-requires-clause-rising : goal.make-requires-clause-rising
 make-requires-clause-rising g c =
     let st : State = c.args.self.now in
     let sound : IsSound st = subst IsSound c.self.view_is c.self.invariant.sound in
-    let numbers : c.as_slice.result.now ≡ map (λ r. r.number) (new_records st) = c.as_slice.ensures.value ∙ c.in_ok-numbers.ensures ∙ ap (λ rs. map (λ r. r.number) (filter (λ r. not (is_tried r)) rs)) (c.items.ensures ∙ c.in_ok-recs.ensures) in
-    let listed : c.of-listed.result ≡ listed_of st = c.of-listed.ensures ∙ c.in_ok-listed.ensures ∙ ap (λ ns. buckets_by st ns 1024) numbers ∙ listed-is st in
+    let numbers : c.as_slice.result.now ≡ map (λ r. r.number) (new_records st) = c.as_slice.ensures.value ∙ c.in_ok-numbers.ensures ∙ ap (λ rs. map (λ r. r.number) (filter (λ r. not (is_tried r)) rs)) (c.items.ensures ∙ c.in_ok-recs.ensures.found) in
+    let listed : c.of-listed.result ≡ listed_of st = c.of-listed.ensures ∙ c.in_ok-listed.ensures.found ∙ ap (λ ns. buckets_by st ns 1024) numbers ∙ listed-is st in
     subst (AllPairs (λ (p : ℕ × ℕ) (q : ℕ × ℕ). p.0 ≤ q.0)) (sym listed) (snapshot_fits st sound).rising
 
 pub returns-clause-found : goal.returns-clause-found
 returns-clause-found g c =
     let st : State = c.args.self.now in
-    let numbers : c.as_slice.result.now ≡ map (λ r. r.number) (new_records st) = c.as_slice.ensures.value ∙ c.in_ok-numbers.ensures ∙ ap (λ rs. map (λ r. r.number) (filter (λ r. not (is_tried r)) rs)) (c.items.ensures ∙ c.in_ok-recs.ensures) in
-    let news : c.of-new_recs.result ≡ map file_rec (new_records st) = c.of-new_recs.ensures ∙ c.in_ok-new_recs.ensures ∙ ap (λ rs. map file_rec (filter (λ r. not (is_tried r)) rs)) (c.items-2.ensures ∙ c.in_ok-recs.ensures) in
-    let trieds : c.of-tried_recs.result ≡ map file_rec (tried_records st) = c.of-tried_recs.ensures ∙ c.in_ok-tried_recs.ensures ∙ ap (λ rs. map file_rec (filter is_tried rs)) (c.items-3.ensures ∙ c.in_ok-recs.ensures) in
-    let listed : c.of-listed.result ≡ listed_of st = c.of-listed.ensures ∙ c.in_ok-listed.ensures ∙ ap (λ ns. buckets_by st ns 1024) numbers ∙ listed-is st in
+    let numbers : c.as_slice.result.now ≡ map (λ r. r.number) (new_records st) = c.as_slice.ensures.value ∙ c.in_ok-numbers.ensures ∙ ap (λ rs. map (λ r. r.number) (filter (λ r. not (is_tried r)) rs)) (c.items.ensures ∙ c.in_ok-recs.ensures.found) in
+    let news : c.of-new_recs.result ≡ map file_rec (new_records st) = c.of-new_recs.ensures ∙ c.in_ok-new_recs.ensures ∙ ap (λ rs. map file_rec (filter (λ r. not (is_tried r)) rs)) (c.items-2.ensures ∙ c.in_ok-recs.ensures.found) in
+    let trieds : c.of-tried_recs.result ≡ map file_rec (tried_records st) = c.of-tried_recs.ensures ∙ c.in_ok-tried_recs.ensures ∙ ap (λ rs. map file_rec (filter is_tried rs)) (c.items-3.ensures ∙ c.in_ok-recs.ensures.found) in
+    let listed : c.of-listed.result ≡ listed_of st = c.of-listed.ensures ∙ c.in_ok-listed.ensures.found ∙ ap (λ ns. buckets_by st ns 1024) numbers ∙ listed-is st in
     let count : c.from.result ≡ 1024 = search rules in
     let key : c.key-key.result ≡ st.places.key = c.key-key.ensures.value ∙ ap (λ (t : State). t.places.key) c.self.view_is in
     let sum : c.sum-sum.result ≡ sum_of st.places.map = c.sum-sum.ensures ∙ ap (λ (t : State). sum_of t.places.map) c.self.view_is in
