@@ -3,7 +3,7 @@ ghost use Rattle.std.specs.Prelude.{◌≡◌, IfOk};
 use crate::records::record;
 use crate::replies::two_buckets;
 use crate::text::{bytes_of, hex_text};
-use addr_codecs::{MsgFault, write_addr, write_addrv2};
+use addr_codecs::{AddressFault, MsgFault, write_addr, write_addrv2};
 use call_rows::Unread;
 use log_lines::LineFault;
 use net_addr::{Entry, Net, NetAddr, Peer};
@@ -74,6 +74,13 @@ fn four_addrv2(alloc: Global) -> Result<String, Unread> {
         Ok(four) => Ok(hex_text(alloc, four.items())?),
         Err(_) => Err(Unread::Memory),
     }
+}
+
+/// `written address-faults`: the text of each fault of an address.
+fn address_faults(alloc: Global) -> Result<String, Unread> {
+    let (truncated, non_canonical) = (AddressFault::Truncated, AddressFault::NonCanonical);
+    let (too_long, bad_length) = (AddressFault::TooLong, AddressFault::BadLength);
+    Ok(format!(in alloc; "{truncated} {non_canonical} {too_long} {bad_length}")?)
 }
 
 /// Whether the numbers of the record are those of `record`.
@@ -150,6 +157,7 @@ pub(crate) fn answer(alloc: Global, what: &str) -> Result<String, Unread> {
         "answers" => Ok(format!(in alloc; "{}", are_compared()?)?),
         "counts" => Ok(format!(in alloc; "{}", are_counted())?),
         "memory-faults" => memory_faults(alloc),
+        "address-faults" => address_faults(alloc),
         _ => Err(Unread::Form),
     }
 }
