@@ -5,4 +5,3 @@ pub mod Outcomes
 pub mod Done
 pub mod Fairness
 pub mod Results
-pub mod FieldCounts

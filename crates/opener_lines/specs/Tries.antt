@@ -32,7 +32,7 @@ try_words seed i = seeded_words (seed + i) TRY_WORDS
 abbrev pub pick_of_try : Machine → Bool → ℕ → ℕ → Picked
 pick_of_try m new_only seed i = select m.tables new_only all (try_words seed i) m.clock
 
--- the same of a feeler, whose first try picks the occupant of a collision's slot, if one was found
+-- the same of a feeler, whose first try picks the occupant of a collision's slot, if there is one
 abbrev pub pick_of_feeler : Machine → Option (Peer × ℕ) → ℕ → ℕ → Picked
 pick_of_feeler m None seed i = pick_of_try m true seed i
 pick_of_feeler m (Some occupant) seed i =

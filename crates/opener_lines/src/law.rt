@@ -14,9 +14,12 @@ ghost use Rattle.opener_lines.specs.Tries.{HasOutcome};
 ghost use Rattle.opener_lines.specs.declared.request.Request.{Request};
 ghost use Rattle.opener_lines.specs.declared.tries.Outcome.{Outcome};
 ghost use Rattle.opener_lines.specs.declared.tries.Try.{Try};
+ghost use Rattle.opener_lines.specs.declared.words.TheConstants.{TRY_WORDS};
 
-/// No line of an opener's log asks for two things, has two faults, or asks for something and has a
-/// fault; and a line that is passed over asks for nothing.
+use crate::TRY_WORDS;
+
+/// A line of an opener's log that is passed over asks for nothing and has no fault. Any other asks
+/// for at most one thing or has at most one fault, and never both.
 pub fn opener_lines_have_one_meaning()
     ensures request { (line : List ℕ) (a b : Request) → Asks line a → Asks line b → a ≡ b }
     ensures fault { (line : List ℕ) (f g : LineFault) → HasFault line f → HasFault line g → f ≡ g }
@@ -50,4 +53,9 @@ pub fn first_words_decide()
     ensures { (st : tables.State) (new_only : Bool) (nets xs ys : List ℕ) (now : ℕ) →
         select st new_only nets xs now ≢ Exhausted →
         select st new_only nets (xs ++ ys) now ≡ select st new_only nets xs now }
+{}
+
+/// The number of random words of a try.
+pub fn limits()
+    ensures words { TRY_WORDS ≡ 10000 }
 {}

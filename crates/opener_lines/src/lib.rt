@@ -17,7 +17,7 @@ mod words;
 
 pub use aim::Aim;
 pub use law::{
-    first_words_decide, groups_stay_apart, opener_lines_have_one_meaning, tries_are_fair,
+    first_words_decide, groups_stay_apart, limits, opener_lines_have_one_meaning, tries_are_fair,
     tries_end_once,
 };
 pub use line::opener_line;

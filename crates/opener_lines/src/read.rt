@@ -1,6 +1,6 @@
-ghost use Rattle.std.specs.Prelude.{◌≡◌, ◌≢◌, ◌-◌, ◌^◌, ◌≤◌, ◌⊎◌, [], ◌∷◌, length, IfOk, IfSome, IfNone, None, Ok, Err, IsTrue};
+ghost use Rattle.std.specs.Prelude.{◌≡◌, ◌≢◌, ◌-◌, ◌^◌, ◌≤◌, ◌⊎◌, length, IfOk, IfSome, IfNone, None, Ok, Err};
 ghost use Rattle.host_io.specs.Lines.{IsPassedOver};
-ghost use Rattle.log_lines.specs.Fields.{Number, OfPeer, TheNumber, ThePeer, Means, AreAtFault, IsFieldFault, fields_of};
+ghost use Rattle.log_lines.specs.Fields.{Number, OfPeer, TheNumber, ThePeer, Means, AreAtFault, IsFieldFault};
 ghost use Rattle.log_lines.specs.Inside.{texts_after};
 ghost use Rattle.log_lines.specs.Spelling as machine;
 ghost use Rattle.opener_lines.specs.Grammar.{Asks, AsksAfter, HasFault, IsOwnWord, IsSaveWord, Saves, kinds_of, word_of};
@@ -9,7 +9,9 @@ ghost use Rattle.opener_lines.specs.declared.verb.Verb.{Verb};
 
 use crate::{Request, Verb};
 use host_io::is_passed_over;
-use log_lines::{Command, LineFault, MAX_LINE, cut_field, read_line, read_u32};
+use log_lines::{
+    Command, LineFault, MAX_LINE, cut_field, one_field, read_line, read_u32, two_fields,
+};
 use net_addr::{Peer, parse_number, parse_peer};
 use std::alloc::Global;
 
@@ -132,34 +134,6 @@ fn read_close(rest: Option<&[u8]>) -> Result<Request, LineFault>
     let peer = one_field(rest).ok_or(LineFault::Fields)?;
     let peer = read_peer(peer)?;
     Ok(Request::Close { peer })
-}
-
-/// Returns the field if there is only one.
-fn one_field(rest: Option<&[u8]>) -> Option<&[u8]>
-    ensures found { IfSome result (λ a. texts_after rest.entry ≡ a.now ∷ []) }
-    ensures none { IfNone result (length (texts_after rest.entry) ≢ 1) }
-{
-    match rest {
-        None => None,
-        Some(text) => {
-            let (field, after) = cut_field(text);
-            match after {
-                None => Some(field),
-                Some(_) => None,
-            }
-        }
-    }
-}
-
-/// Returns the fields if there are two.
-fn two_fields(rest: Option<&[u8]>) -> Option<(&[u8], &[u8])>
-    ensures found { IfSome result (λ fields. texts_after rest.entry
-        ≡ fields.0.now ∷ fields.1.now ∷ []) }
-    ensures none { IfNone result (length (texts_after rest.entry) ≢ 2) }
-{
-    let (a, rest) = cut_field(rest?);
-    let b = one_field(rest)?;
-    Some((a, b))
 }
 
 /// Reads a number of 64 bits.
