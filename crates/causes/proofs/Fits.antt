@@ -1,9 +1,8 @@
 -- What a line spells fits its fields: times have 32 bits, services 64, and a message is of at most
 -- 1000 entries that fit theirs.
-use Rattle.std.proofs.Common.{◌≡◌, ℕ, ◌<◌, ◌≤◌, ◌^◌, List, [], ◌∷◌, length, Contains, Option, Some, refl, sym, ap, subst, arith, lit<, ⊎_elim}
+use Rattle.std.proofs.Common.{◌≡◌, ℕ, ◌<◌, ◌≤◌, ◌^◌, List, [], ◌∷◌, length, Contains, Option, Some, refl, sym, ap, subst, arith}
 use Rattle.std.specs.Bool.{⊤}
 use Rattle.std.specs.Int.{w32, w128, to_be_bytes}
-use Rattle.hex.proofs.HexLemmas.{decode_of-ok}
 use Rattle.net_addr.specs.Address.{Address, IsAddress}
 use Rattle.net_addr.specs.Text.{IsAddrText}
 use Rattle.net_addr.specs.Text.IsAddrText.{bracketed, cjdns, dotted, i2p, internal, onion}
@@ -15,10 +14,11 @@ use Rattle.net_addr.proofs.Words.{AllBytes-high_first}
 use Rattle.wire_num.proofs.ReadingLaws.{AreBytes}
 use Rattle.addr_codecs.specs.Entries.{IsEntry}
 use Rattle.addr_codecs.specs.Layout.{IsAddrMessage, IsAddrv2Message}
-use Rattle.log_lines.specs.Fields.{AllMean, Hex, IsHex, Kind, Means, OfAddr, OfPeer, Random, TheAddr, TheBytes, TheNumber, Value, ThePeer, TheWords}
+use Rattle.log_lines.specs.Fields.{AllMean, Hex, Kind, Means, OfAddr, OfPeer, Random, TheAddr, TheBytes, TheNumber, Value, ThePeer, TheWords}
 use Rattle.log_lines.specs.Spelling.{Spells, kinds_of, u32_field, u64_field, values_of, verb_of}
 use Rattle.log_lines.specs.declared.command.Command.{Command}
 use Rattle.log_lines.specs.declared.command.Command.TheVariants as command
+use Rattle.session.proofs.OneHistory.{bytes_in, hex_bytes}
 use Rattle.causes.proofs.Bytes.{addr_message-fits, addrv2_message-fits}
 
 -- the source is an address, and a message of the payload has few entries, which fit
@@ -42,9 +42,6 @@ addressed text a (i2p h) = IsAddress-hex I2p h.digits a (λ e. cc) (λ e. cc) h.
 addressed text a (cjdns h) = IsAddress-hex Cjdns h.digits a (λ e. cc) (λ e. cc) h.hex
 addressed text a (internal h) = IsAddress-hex Internal h.digits a (λ e. cc) (λ e. cc) h.hex
 
-hex-bytes : (text bytes : List ℕ) → IsHex text bytes → AreBytes bytes
-hex-bytes text bytes = ⊎_elim (λ none. subst AreBytes (sym none.1) (λ i. lit< tt)) (λ some. (decode_of-ok text bytes some.1).3)
-
 -- what a value has
 abbrev number_in : Value → ℕ
 number_in (TheNumber n) = n
@@ -53,10 +50,6 @@ number_in other = 0
 abbrev address_in : Value → Address
 address_in (TheAddr a) = a
 address_in other = record { net = Unroutable; bytes = [] }
-
-abbrev bytes_in : Value → List ℕ
-bytes_in (TheBytes bytes) = bytes
-bytes_in other = []
 
 -- the first text of several, and the others
 cut : (kind : Kind) (kinds : List Kind) (texts : List (List ℕ)) (v : Value) (vs : List Value) → AllMean (kind ∷ kinds) texts (v ∷ vs)
@@ -73,7 +66,7 @@ module _ (IsMessage : List ℕ → List (Option Entry) → Type 0)
       let two = cut Hex (Random ∷ []) one.1 (TheBytes payload) (TheWords words ∷ []) one.3 in
       let from : source ≡ one.2.0 = ap address_in one.2.1 in
       let own : payload ≡ two.2.0 = ap bytes_in two.2.1 in
-      let bytes = subst AreBytes (sym own) (hex-bytes two.0 two.2.0 two.2.2) in
+      let bytes = subst AreBytes (sym own) (hex_bytes two.0 two.2.0 two.2.2) in
       (subst IsAddress (sym from) (addressed one.0 one.2.0 one.2.2), λ entries is. fits payload entries bytes is)
 
 means-fit : (asked : Command) (texts : List (List ℕ)) → AllMean (kinds_of (verb_of asked)) texts (values_of asked) → IsFit asked

@@ -32,11 +32,11 @@ use Rattle.session.specs.State.{CommandStep, JobStep, LineStep, MachineStep, Sta
 
 -- ---- the payload of a message
 
-hex_bytes : (text bytes : List ℕ) → IsHex text bytes → AreBytes bytes
+pub hex_bytes : (text bytes : List ℕ) → IsHex text bytes → AreBytes bytes
 hex_bytes text bytes (inl none) = subst AreBytes (sym none.1) (λ i. lit< tt)
 hex_bytes text bytes (inr some) = (decode_of-ok text bytes some.1).3
 
-abbrev bytes_in : Value → List ℕ
+abbrev pub bytes_in : Value → List ℕ
 bytes_in (TheBytes bytes) = bytes
 bytes_in other = []
 
