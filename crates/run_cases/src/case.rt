@@ -28,6 +28,8 @@ pub(crate) struct Case {
     after: Vec<u8>,
     /// How many bytes a read of the log gives at most.
     pub piece: usize,
+    /// How many bytes of the log the run is to leave, if the case says so.
+    pub unread: Option<u64>,
     pub files: Vec<File>,
     /// The numbers of the reads of the log that fail.
     pub failing_reads: Vec<u64>,
@@ -137,6 +139,7 @@ impl Case {
             log: Vec::new(alloc),
             after: Vec::new(alloc),
             piece: 65_536,
+            unread: None,
             files: Vec::new(alloc),
             failing_reads: Vec::new(alloc),
             failing_writes: Vec::new(alloc),
@@ -222,10 +225,11 @@ impl Case {
         Ok(())
     }
 
-    /// Takes the length of a piece, or the number of a call that fails.
+    /// Takes the length of a piece, how many bytes are left, or the number of a call that fails.
     fn count(&mut self, what: &str, number: u64) -> Result<(), Unread> {
         match what {
             "piece" => self.piece = number as usize,
+            "unread" => self.unread = Some(number),
             "fail-read" => self.failing_reads.push(number)?,
             "fail-write" => self.failing_writes.push(number)?,
             "fail-call" => self.failing_calls.push((number, false))?,

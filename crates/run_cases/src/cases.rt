@@ -72,7 +72,9 @@ fn explain(
         case.end.as_str()
     )?;
     if !ran.is_steady {
-        eprintln!(rt; "  the files or the calls are not as wanted, or memory ran out")?;
+        eprintln!(rt;
+            "  the files, the folder's calls or the rest of the log are not as wanted, or memory ran out"
+        )?;
     }
     Ok(())
 }

@@ -4,7 +4,7 @@ use crate::calls::calls_of;
 use crate::case::{Case, Left, NAMES};
 use crate::unread::Unread;
 use addrman_run::{Status, code, run, status_line};
-use host_io::{MemFolder, MemSink, MemSource, Name};
+use host_io::{MemFolder, MemSink, MemSource, Name, Source};
 use std::alloc::Global;
 use std::hash::{BuildHasherDefault, FoldHasher};
 
@@ -14,7 +14,8 @@ pub(crate) struct Ran {
     /// The exit code, and after a space the text of the status.
     pub end: String,
     pub written: Vec<u8>,
-    /// The folder has the files and was asked for what the case wants, and no call ran out of memory.
+    /// The folder has the files and the log the bytes that the case wants, the folder's calls are
+    /// those that it wants, and no call ran out of memory.
     pub is_steady: bool,
 }
 
@@ -111,6 +112,26 @@ fn folder_of(alloc: Global, case: &Case) -> Result<MemFolder, Unread> {
     Ok(folder)
 }
 
+/// Reads what is left of a log that had this many bytes, and returns how many bytes that is.
+fn unread(log: &mut MemSource, length: usize) -> u64 {
+    let mut left = 0u64;
+    let mut byte = [0u8; 1];
+    for _ in 0..length {
+        if let Ok(count) = log.read(&mut byte) {
+            left = left.saturating_add(count as u64);
+        }
+    }
+    left
+}
+
+/// Whether as many bytes are left of the log as the case wants.
+fn is_read_as_wanted(log: &mut MemSource, case: &Case) -> bool {
+    match case.unread {
+        Some(count) => unread(log, case.log.len()) == count,
+        None => true,
+    }
+}
+
 /// Runs the program on what the case gives.
 pub(crate) fn run_case(alloc: Global, case: &Case) -> Result<Ran, Unread> {
     let log = case.log.as_slice();
@@ -121,8 +142,9 @@ pub(crate) fn run_case(alloc: Global, case: &Case) -> Result<Ran, Unread> {
     let arguments = case.arguments.as_slice();
     let status = run(alloc, hasher, arguments, &mut log, &mut folder, &mut out);
     let has_calls = has_calls(alloc, &folder, case)?;
+    let has_room = out.starved() == 0 && folder.starved() == 0;
     let has_files = is_as_wanted(&folder, case);
-    let is_steady = has_calls && has_files && out.starved() == 0 && folder.starved() == 0;
+    let is_steady = has_calls && has_files && is_read_as_wanted(&mut log, case) && has_room;
     Ok(Ran {
         end: end_of(alloc, &status)?,
         written: Vec::from_slice(alloc, out.bytes())?,
