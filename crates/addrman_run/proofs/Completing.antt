@@ -96,7 +96,7 @@ module _ {S : Type 0} (step : Steps S) (has_fault : List ℕ → LineFault → T
 
   pub no_long_line : (n : ℕ) → Ran step has_fault begins old new (end.LineTooLong n) → ⊥
   no_long_line n ran =
-      let (first, more, next, long) = ran.ends.2 in
+      let (first, more, next, long, near) = ran.ends.2 in
       let short = subst (All (λ line. length line ≤ MAX_LINE)) (split _ ran) good.short in
       let rest = subst (λ bytes. All (λ line. length line ≤ MAX_LINE) (lines_of bytes)) next.whole
       (all_after (λ line. length line ≤ MAX_LINE) ran.answered (lines_of ran.next) short) in
@@ -104,7 +104,7 @@ module _ {S : Type 0} (step : Steps S) (has_fault : List ℕ → LineFault → T
 
   pub no_long_log : Ran step has_fault begins old new end.LogTooLong → ⊥
   no_long_log ran =
-      let (first, more, next, short, long, some) = ran.ends.1 in
+      let (first, more, next, short, long, some, left) = ran.ends.1 in
       some (none_more MAX_LOG more (omega (arith, ap length (same_log _ ran), long, good.within)))
 
 -- ---- each command

@@ -1,5 +1,5 @@
 -- What a replay has done, from what its run over the log says.
-use Rattle.std.proofs.Common.{◌≡◌, ◌≤◌, ℕ, List, [], ◌∷◌, refl, sym, ap, ◌∙◌, subst, inl, inr, arith}
+use Rattle.std.proofs.Common.{◌≡◌, ◌≤◌, ℕ, List, [], ◌∷◌, ◌++◌, refl, sym, ap, ◌∙◌, subst, inl, inr, arith}
 use Rattle.std.specs.Prelude.{Option, Some, None}
 use Rattle.host_io.specs.Disk.{Disk}
 use Rattle.host_io.specs.Lines.{lines_of}
@@ -10,7 +10,7 @@ use Rattle.host_io.specs.Reading.{TakesAtMost}
 use Rattle.asmap_vm.specs.Asmap.{Asmap}
 use Rattle.log_lines.specs.Spelling.{HasFault}
 use Rattle.log_run.specs.Run.{EndsBy, Run, Streams}
-use Rattle.log_run.specs.Worlds.{RanIn, WorldEnds, both}
+use Rattle.log_run.specs.Worlds.{RanIn, WorldEnds, both, world_after}
 use Rattle.log_run.specs.declared.end.LogEnd.{LogEnd}
 use Rattle.log_run.specs.declared.end.LogEnd.TheVariants as end
 use Rattle.peers_file.specs.declared.chain.Chain.{Chain}
@@ -19,6 +19,7 @@ use Rattle.session.specs.Folders.{IsOpen}
 use Rattle.session.specs.History.{AtExit, History, Now, RoseBy, SinceEntry, Step, failed, fresh, onto}
 use Rattle.session.specs.State as session
 use Rattle.session.proofs.OneHistory.{one_run}
+use Rattle.session.proofs.Files.{next_failed, still_failed}
 use Rattle.session.proofs.Promise.{IsCut, IsKept, cut_line, cut_memory, history, kept_line, kept_start}
 use Rattle.table_machine.specs.State.{State}
 use Rattle.addrman_run.specs.Asmaps.{IsMapIn}
@@ -33,7 +34,7 @@ use Rattle.placing.specs.Places.{Places}
 use Rattle.table_machine.specs.Sound.{IsSound}
 use Rattle.manager.specs.Machine.{Machine}
 use Rattle.addrman_run.specs.Log.{streams_of}
-use Rattle.addrman_run.specs.Replay.{IsBetweenLines, IsOpenedFrom, IsUntouched, Replayed, at_start, pending}
+use Rattle.addrman_run.specs.Replay.{IsBetweenLines, IsOpenedFrom, IsUntouched, Replayed, at_start, ended_after, pending}
 
 -- the history of a run, and what it keeps
 pub record Followed (start : History) (lines : List (List ℕ)) (text : List ℕ) (last : session.State) (old now : Option Past) (f g : ℕ) : Type 0 where
@@ -121,74 +122,94 @@ always_before h rest old now always =
     (λ start d e since same. subst (SinceEntry h rest start) (sym same) (since_before h rest start d since))
 
 -- what stands of the folder at the end of the run
-pub record Finished (h : History) (rest : List (List ℕ)) (old now : Option Past) (f g : ℕ) (how : LogEnd) : Type 0 where
+pub record Finished (h : History) (rest : List (List ℕ)) (old now : Option Past) (how : LogEnd) : Type 0 where
   pub exit : Now (AtExit h rest) old now
   pub since : Always old now (SinceEntry h rest)
-  pub failures : RoseBy (failed h.ended) f g
   pub pieces : IsBetweenLines how → IsOpen h.now.job now
 
 between : (s : session.State) (ended : List Ended) (old now : Option Past) (f g : ℕ) (how : LogEnd) → IsKept s ended old now f g
-    → Finished (history s ended) [] old now f g how
+    → Finished (history s ended) [] old now how
 between s ended old now f g how k = record {
   exit = k.exit;
   since = k.since;
-  failures = k.failures;
   pieces = λ _. k.is_open;
 }
 
 -- the same, where the next lines may be told too
 before_next : (s : session.State) (ended : List Ended) (rest : List (List ℕ)) (old now : Option Past) (f g : ℕ) (how : LogEnd) → IsKept s ended old now f g
-    → Finished (history s ended) rest old now f g how
+    → Finished (history s ended) rest old now how
 before_next s ended rest old now f g how k = record {
   exit = now_weaker (AtExit (history s ended) []) (AtExit (history s ended) rest) old now (exit_before (history s ended) rest) k.exit;
   since = always_before (history s ended) rest old now k.since;
-  failures = k.failures;
   pieces = λ _. k.is_open;
 }
 
 within : (s : session.State) (ended : List Ended) (line : List ℕ) (after rest : List (List ℕ)) (old now : Option Past) (f g : ℕ) (how : LogEnd)
-    → rest ≡ line ∷ after → (IsBetweenLines how → ⊥) → IsCut s ended (line ∷ after) old now f g → Finished (history s ended) rest old now f g how
+    → rest ≡ line ∷ after → (IsBetweenLines how → ⊥) → IsCut s ended (line ∷ after) old now f g → Finished (history s ended) rest old now how
 within s ended line after rest old now f g how is not_between c = record {
   exit = subst (λ r. Now (AtExit (history s ended) r) old now) (sym is) c.exit;
   since = subst (λ r. Always old now (SinceEntry (history s ended) r)) (sym is) c.since;
-  failures = c.failures;
   pieces = λ is_between. absurd (not_between is_between);
 }
 
 module _ {F : Type 0} (past : F → Option Past) (faults : F → ℕ) where
-  same_world : (s : session.State) (ended : List Ended) (old : Option Past) (f : ℕ) (how : LogEnd) (w v : F) → v ≡ w
-      → IsKept s ended old (past w) f (faults w) → Finished (history s ended) [] old (past v) f (faults v) how
-  same_world s ended old f how w v same k =
-      subst (λ x. Finished (history s ended) [] old (past x) f (faults x) how) (sym same) (between s ended old (past w) f (faults w) how k)
+  -- how a run of a session and a folder ends, and what the folder is then
+  abbrev Ends : List ℕ → List (List ℕ) → List ℕ → session.State × F → List ℕ → Streams → Streams → LogEnd → Type 0
+  Ends = EndsBy (both (SessionStep past faults)) HasFault
 
-  finish : (s : session.State) (ended : List Ended) (next : List ℕ) (old : Option Past) (f : ℕ) (how : LogEnd) (w v : F) → IsKept s ended old (past w) f (faults w)
-      → WorldEnds (SessionStep past faults) (StoppedStep past faults) (s, w) next v how → Finished (history s ended) (pending how next) old (past v) f (faults v) how
-  finish s ended next old f end.Done w v k same = same_world s ended old f end.Done w v same k
-  finish s ended next old f (end.Fault n fault) w v k same = same_world s ended old f (end.Fault n fault) w v same k
-  finish s ended next old f (end.LineTooLong n) w v k same = same_world s ended old f (end.LineTooLong n) w v same k
-  finish s ended next old f end.LogTooLong w v k same = same_world s ended old f end.LogTooLong w v same k
-  finish s ended next old f end.ReadFault w v k same = same_world s ended old f end.ReadFault w v same k
-  finish s ended next old f end.WriteFault w v k (line, after, text, later, is, (turn, is_open, le)) =
-      within s ended line (lines_of after) (lines_of next) old (past v) f (faults v) end.WriteFault is (λ b. b)
-      (cut_line s later ended line text (lines_of after) old (past w) (past v) f (faults w) (faults v) k turn le)
-  finish s ended next old f end.Memory w v k (inl same) =
-      subst (λ x. Finished (history s ended) (lines_of next) old (past x) f (faults x) end.Memory) (sym same)
+  abbrev Folders : (log : List ℕ) (answered : List (List ℕ)) (next : List ℕ) (now : session.State × F) (part : List ℕ) (old new : Streams) (how : LogEnd)
+      → Ends log answered next now part old new how → F → Type 0
+  Folders log answered next now part old new how is v =
+      WorldEnds (StoppedStep past faults) now next (world_after (SessionStep past faults) HasFault log answered next now part old new how is) v how
+
+  same_world : (s : session.State) (ended : List Ended) (old : Option Past) (f : ℕ) (how : LogEnd) (w v : F) → v ≡ w
+      → IsKept s ended old (past w) f (faults w) → Finished (history s ended) [] old (past v) how
+  same_world s ended old f how w v same k =
+      subst (λ x. Finished (history s ended) [] old (past x) how) (sym same) (between s ended old (past w) f (faults w) how k)
+
+  finish : (log : List ℕ) (answered : List (List ℕ)) (next : List ℕ) (s : session.State) (w : F) (ended : List Ended) (part : List ℕ) (a b : Streams) (old : Option Past) (f : ℕ) (how : LogEnd) (v : F)
+      → IsKept s ended old (past w) f (faults w) → (is : Ends log answered next (s, w) part a b how) → Folders log answered next (s, w) part a b how is v
+      → Finished (history s ended) (pending how next) old (past v) how
+  finish log answered next s w ended part a b old f end.Done v k is same = same_world s ended old f end.Done w v same k
+  finish log answered next s w ended part a b old f (end.Fault n fault) v k is same = same_world s ended old f (end.Fault n fault) w v same k
+  finish log answered next s w ended part a b old f (end.LineTooLong n) v k is same = same_world s ended old f (end.LineTooLong n) w v same k
+  finish log answered next s w ended part a b old f end.LogTooLong v k is same = same_world s ended old f end.LogTooLong w v same k
+  finish log answered next s w ended part a b old f end.ReadFault v k is same = same_world s ended old f end.ReadFault w v same k
+  finish log answered next s w ended part a b old f end.WriteFault v k (line, after, rest, later, next_line, (turn, is_open, le), some, near) same =
+      subst (λ x. Finished (history s ended) (lines_of next) old (past x) end.WriteFault) (sym same)
+      (within s ended line (lines_of after) (lines_of next) old (past later.1) f (faults later.1) end.WriteFault next_line.split (λ b. b)
+      (cut_line s later.0 ended line (part ++ rest) (lines_of after) old (past w) (past later.1) f (faults w) (faults later.1) k turn le))
+  finish log answered next s w ended part a b old f end.Memory v k is (inl same) =
+      subst (λ x. Finished (history s ended) (lines_of next) old (past x) end.Memory) (sym same)
       (before_next s ended (lines_of next) old (past w) f (faults w) end.Memory k)
-  finish s ended next old f end.Memory w v k (inr (line, after, is, (may, le))) =
-      within s ended line (lines_of after) (lines_of next) old (past v) f (faults v) end.Memory is (λ b. b)
+  finish log answered next s w ended part a b old f end.Memory v k is (inr (line, after, cut, (may, le))) =
+      within s ended line (lines_of after) (lines_of next) old (past v) f (faults v) end.Memory cut (λ b. b)
       (cut_memory s ended line (lines_of after) old (past w) (past v) f (faults w) (faults v) k may le)
 
-  -- how the run ends, told of its history
-  ends_by : (log : List ℕ) (answered : List (List ℕ)) (next : List ℕ) (s : session.State) (w : F) (ended : List Ended) (part : List ℕ) (old new : Streams) (how : LogEnd)
-      → EndsBy (both (SessionStep past faults)) HasFault log answered next (s, w) part old new how → EndsBy Step HasFault log answered next (history s ended) part old new how
-  ends_by log answered next s w ended part old new end.Done is = is
-  ends_by log answered next s w ended part old new (end.Fault n fault) is = is
-  ends_by log answered next s w ended part old new (end.LineTooLong n) is = is
-  ends_by log answered next s w ended part old new end.LogTooLong is = is
-  ends_by log answered next s w ended part old new end.ReadFault is = is
-  ends_by log answered next s w ended part old new end.WriteFault (line, after, rest, later, next_line, (turn, is_open, le), some, near) =
-      (line, after, rest, history later.0 (onto turn.ended ended), next_line, (turn.ended, turn.step, refl), some, near)
-  ends_by log answered next s w ended part old new end.Memory is = is
+  -- how the run ends, told of its history, and that no more saves have failed than the folder
+  abbrev EndsFor : (log : List ℕ) (answered : List (List ℕ)) (next : List ℕ) (now : History) (part : List ℕ) (a b : Streams) (how : LogEnd) (f g : ℕ) → Type 0
+  EndsFor log answered next now part a b how f g =
+      (ends : EndsBy Step HasFault log answered next now part a b how) × RoseBy (failed (ended_after log answered next now part a b how ends)) f g
+
+  still : (s : session.State) (ended : List Ended) (old : Option Past) (f : ℕ) (w v : F) → v ≡ w → IsKept s ended old (past w) f (faults w) → RoseBy (failed ended) f (faults v)
+  still s ended old f w v same k = subst (λ x. RoseBy (failed ended) f (faults x)) (sym same) k.failures
+
+  ends_for : (log : List ℕ) (answered : List (List ℕ)) (next : List ℕ) (s : session.State) (w : F) (ended : List Ended) (part : List ℕ) (a b : Streams) (old : Option Past) (f : ℕ) (how : LogEnd) (v : F)
+      → IsKept s ended old (past w) f (faults w) → (is : Ends log answered next (s, w) part a b how) → Folders log answered next (s, w) part a b how is v
+      → EndsFor log answered next (history s ended) part a b how f (faults v)
+  ends_for log answered next s w ended part a b old f end.Done v k is same = (is, still s ended old f w v same k)
+  ends_for log answered next s w ended part a b old f (end.Fault n fault) v k is same = (is, still s ended old f w v same k)
+  ends_for log answered next s w ended part a b old f (end.LineTooLong n) v k is same = (is, still s ended old f w v same k)
+  ends_for log answered next s w ended part a b old f end.LogTooLong v k is same = (is, still s ended old f w v same k)
+  ends_for log answered next s w ended part a b old f end.ReadFault v k is same = (is, still s ended old f w v same k)
+  ends_for log answered next s w ended part a b old f end.WriteFault v k (line, after, rest, later, next_line, (turn, is_open, le), some, near) same = (
+    (line, after, rest, history later.0 (onto turn.ended ended), next_line, (turn.ended, turn.step, refl), some, near),
+    subst (λ x. RoseBy (failed (onto turn.ended ended)) f (faults x)) (sym same)
+        (next_failed turn.ended ended f (faults w) (faults later.1) (past later.1) turn.has k.rises le k.failures),
+  )
+  ends_for log answered next s w ended part a b old f end.Memory v k is (inl same) = (is, still s ended old f w v same k)
+  ends_for log answered next s w ended part a b old f end.Memory v k is (inr (line, after, cut, (may, le))) =
+      (is, still_failed (failed ended) f (faults w) (faults v) k.rises le k.failures)
 
   later_rose : (n f g h : ℕ) → f ≤ g → RoseBy n g h → RoseBy n f h
   later_rose n f g h le (inl r) = inl (omega (arith, le, r))
@@ -205,7 +226,11 @@ module _ {F : Type 0} (past : F → Option Past) (faults : F → ℕ) where
       let o = opened_with key chain old.past map tables open_tables sound few in
       let h = follow past faults r.ran.answered r.ran.replies start r.ran.now.0 w r.ran.now.1 [] (past w) (faults w) r.ran.runs
       (kept_start start (past w) (faults w) (ap (λ s. s.job) begins)) in
-      let f = finish r.ran.now.0 h.ended r.ran.next (past w) (faults w) how r.ran.now.1 v h.kept r.world_ends in
+      let f = finish r.ran.log r.ran.answered r.ran.next r.ran.now.0 r.ran.now.1 h.ended r.ran.part (streams_of old) (streams_of new) (past w) (faults w) how v
+      h.kept r.ran.ends r.world_ends in
+      let e = ends_for r.ran.log r.ran.answered r.ran.next r.ran.now.0 r.ran.now.1 h.ended r.ran.part (streams_of old) (streams_of new) (past w) (faults w) how v
+      h.kept r.ran.ends r.world_ends in
+      let saves = ended_after r.ran.log r.ran.answered r.ran.next (history r.ran.now.0 h.ended) r.ran.part (streams_of old) (streams_of new) how e.0 in
       let runs = subst (λ s. Run Step (fresh s) r.ran.answered r.ran.replies (history r.ran.now.0 h.ended)) begins h.runs in
       record {
         map = map;
@@ -223,7 +248,7 @@ module _ {F : Type 0} (past : F → Option Past) (faults : F → ℕ) where
           runs = runs;
           part = r.ran.part;
           written = r.ran.written;
-          ends = ends_by r.ran.log r.ran.answered r.ran.next r.ran.now.0 r.ran.now.1 h.ended r.ran.part (streams_of old) (streams_of new) how r.ran.ends;
+          ends = e.0;
         };
         fixed = λ other its_runs.
             (one_run (fresh (at_start chain tables)) other (history r.ran.now.0 h.ended) r.ran.answered r.ran.replies r.ran.replies [] [] its_runs runs refl).1;
@@ -231,7 +256,7 @@ module _ {F : Type 0} (past : F → Option Past) (faults : F → ℕ) where
             (subst (Now (AtExit (history r.ran.now.0 h.ended) (pending how r.ran.next)) (past w)) (sym ends_past) f.exit);
         since_entry = subst (λ p. Always p new.past (SinceEntry (history r.ran.now.0 h.ended) (pending how r.ran.next))) same_past
             (subst (λ p. Always (past w) p (SinceEntry (history r.ran.now.0 h.ended) (pending how r.ran.next))) (sym ends_past) f.since);
-        failed_saves = subst (RoseBy (failed h.ended) old.folder_faults) (sym ends_faults) (later_rose (failed h.ended) old.folder_faults (faults w) (faults v) earlier f.failures);
+        failed_saves = subst (RoseBy (failed saves) old.folder_faults) (sym ends_faults) (later_rose (failed saves) old.folder_faults (faults w) (faults v) earlier e.1);
         pieces = λ b. subst (IsOpen r.ran.now.0.job) (sym ends_past) (f.pieces b);
         file = o.file;
         opened_from = o.opened_from;
@@ -246,21 +271,27 @@ module _ {F : Type 0} (past : F → Option Past) (faults : F → ℕ) where
   rises_by [] text s t w v run = omega (arith, ap (λ p. faults p.1) run.1)
   rises_by (line ∷ lines) text s t w v run = omega (arith, run.4.2, rises_by lines run.1 run.2.0 t run.2.1 v run.5)
 
-  rises_last : (s : session.State) (next : List ℕ) (how : LogEnd) (w v : F) → WorldEnds (SessionStep past faults) (StoppedStep past faults) (s, w) next v how → faults w ≤ faults v
-  rises_last s next end.Done w v same = omega (arith, ap faults same)
-  rises_last s next (end.Fault n fault) w v same = omega (arith, ap faults same)
-  rises_last s next (end.LineTooLong n) w v same = omega (arith, ap faults same)
-  rises_last s next end.LogTooLong w v same = omega (arith, ap faults same)
-  rises_last s next end.ReadFault w v same = omega (arith, ap faults same)
-  rises_last s next end.WriteFault w v (line, after, text, later, is, (turn, is_open, le)) = le
-  rises_last s next end.Memory w v (inl same) = omega (arith, ap faults same)
-  rises_last s next end.Memory w v (inr (line, after, is, (may, le))) = le
+  rises_last : (log : List ℕ) (answered : List (List ℕ)) (next : List ℕ) (s : session.State) (w : F) (part : List ℕ) (a b : Streams) (how : LogEnd) (v : F)
+      → (is : Ends log answered next (s, w) part a b how) → Folders log answered next (s, w) part a b how is v → faults w ≤ faults v
+  rises_last log answered next s w part a b end.Done v is same = omega (arith, ap faults same)
+  rises_last log answered next s w part a b (end.Fault n fault) v is same = omega (arith, ap faults same)
+  rises_last log answered next s w part a b (end.LineTooLong n) v is same = omega (arith, ap faults same)
+  rises_last log answered next s w part a b end.LogTooLong v is same = omega (arith, ap faults same)
+  rises_last log answered next s w part a b end.ReadFault v is same = omega (arith, ap faults same)
+  rises_last log answered next s w part a b end.WriteFault v (line, after, rest, later, next_line, (turn, is_open, le), some, near) same =
+      omega (arith, le, ap faults same)
+  rises_last log answered next s w part a b end.Memory v is (inl same) = omega (arith, ap faults same)
+  rises_last log answered next s w part a b end.Memory v is (inr (line, after, cut, (may, le))) = le
 
   -- the folder's count of faults does not fall
   pub rises : (start : session.State) (old new : Streams) (w v : F) (how : LogEnd)
       → RanIn (SessionStep past faults) (StoppedStep past faults) HasFault (start, w) old new v how → faults w ≤ faults v
   rises start old new w v how r =
-      omega (arith, rises_by r.ran.answered r.ran.replies start r.ran.now.0 w r.ran.now.1 r.ran.runs, rises_last r.ran.now.0 r.ran.next how r.ran.now.1 v r.world_ends)
+      omega (
+        arith,
+        rises_by r.ran.answered r.ran.replies start r.ran.now.0 w r.ran.now.1 r.ran.runs,
+        rises_last r.ran.log r.ran.answered r.ran.next r.ran.now.0 r.ran.now.1 r.ran.part old new how v r.ran.ends r.world_ends,
+      )
 
 pub untouched : (old new : Outside) → new.written ≡ old.written → new.left ≡ old.left → new.log_faults ≡ old.log_faults → new.past ≡ old.past → IsUntouched old new
 untouched old new written left log past = record { written = written; log = (left, log); past = past }

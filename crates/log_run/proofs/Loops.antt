@@ -10,7 +10,7 @@ use Rattle.log_run.specs.Log.{IsAtEnd}
 use Rattle.log_run.specs.Reading.{HasMore, HasNoLine, HasRead, IsLine, IsLong, Reading}
 use Rattle.log_run.specs.Reading.IsNext.{fed, last}
 use Rattle.log_run.specs.Run.{EndsBy, NextLine, Run, Steps, Streams}
-use Rattle.log_run.specs.Worlds.{RanIn, StepsIn, WorldEnds, both}
+use Rattle.log_run.specs.Worlds.{RanIn, StepsIn, WorldEnds, both, world_after}
 use Rattle.log_run.specs.declared.end.LogEnd.{LogEnd}
 use Rattle.log_run.specs.declared.end.LogEnd.TheVariants.{Done, Fault, LineTooLong, LogTooLong, ReadFault, WriteFault, Memory}
 use Rattle.log_run.specs.declared.steps.Stop.{Stop}
@@ -96,8 +96,9 @@ pub record NextRead (reader next : Reading) (mid after : Option (List ℕ)) : Ty
 ends_with : {S W : Type 0} (step : StepsIn S W) (stopped : S → W → List ℕ → W → Type 0) (has_fault : List ℕ → LineFault → Type 0) (start : S × W)
     (left mid after : Option (List ℕ)) (out written new : Option (List ℕ)) (reader next : Reading) (state : S) (world later : W) (line : ℕ) (rest part : List ℕ) (end : LogEnd)
     (l : Looped step start left mid out written reader state world line) → Read reader next mid after rest → Appended out new (l.replies ++ part)
-    → EndsBy (both step) has_fault (log_of l.given next rest) l.answered (next.waiting ++ rest) (state, world) part (streams left out) (streams after new) end
-    → WorldEnds step stopped (state, world) (next.waiting ++ rest) later end
+    → (ends : EndsBy (both step) has_fault (log_of l.given next rest) l.answered (next.waiting ++ rest) (state, world) part (streams left out) (streams after new) end)
+    → WorldEnds stopped (state, world) (next.waiting ++ rest)
+    (world_after step has_fault (log_of l.given next rest) l.answered (next.waiting ++ rest) (state, world) part (streams left out) (streams after new) end ends) later end
     → RanIn step stopped has_fault start (streams left out) (streams after new) later end
 ends_with step stopped has_fault start left mid after out written new reader next state world later line rest part end l r whole ends world_ends = record {
   ran = record {
@@ -207,8 +208,12 @@ pub at_long : {S W : Type 0} (step : StepsIn S W) (stopped : S → W → List �
 at_long step stopped has_fault start left mid after out written reader next state world line l n moved long =
     let r = as_read step start left mid after out written reader next state world line l n moved in
     ends_with step stopped has_fault start left mid after out written written reader next state world world line (rest_of after) [] (LineTooLong (line + 1)) l
-    r (append_none out written l.replies l.appended)
-    (refl, ap (λ k. k + 1) l.counted, long_line left mid after reader next l.answered l.given (rest_of after) l.kept r long) refl
+    r (append_none out written l.replies l.appended) (
+      refl,
+      ap (λ k. k + 1) l.counted,
+      long_line left mid after reader next l.answered l.given (rest_of after) l.kept r long
+          (left_is left mid after reader next l.answered l.given l.kept moved),
+    ) refl
 
 -- out of memory before the next line
 pub at_memory : {S W : Type 0} (step : StepsIn S W) (stopped : S → W → List ℕ → W → Type 0) (has_fault : List ℕ → LineFault → Type 0) (start : S × W)
@@ -266,6 +271,7 @@ at_too_long step stopped has_fault start left mid after out written reader next 
         more.0.1,
         omega (arith, log_length l.given next m.0, taken_all left mid after reader next l.answered l.given m.0 l.kept r, more.1),
         m.1,
+        known_more left mid after reader l.answered l.given m.0 l.kept m.3,
       ),
     ) refl
 
@@ -349,8 +355,7 @@ at_write_fault step stopped has_fault start left mid after out written new reade
       subst (λ t. step state world (take count next.waiting) t new_state later) (sym (take-append-drop p.0 text)) one,
       more_left out p.0 text p.2,
       is_near left mid after reader next l.answered l.given (rest_of after) count l.kept r is (left_is left mid after reader next l.answered l.given l.kept moved),
-    )
-    (take count next.waiting, drop (count + 1) next.waiting ++ rest_of after, text, new_state, next_is.split, one)
+    ) refl
 
 -- a line waits
 pub some_waits : (next : Reading) (count : ℕ) → IsLine next count → 0 < length next.waiting

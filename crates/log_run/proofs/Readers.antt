@@ -2,7 +2,7 @@
 use Rattle.std.proofs.Common.{◌≡◌, ◌≢◌, ℕ, zero, suc, ◌+◌, ◌-◌, ◌≤◌, ◌<◌, List, [], ◌∷◌, ◌++◌, length, take, drop, refl, sym, ap, ◌∙◌, subst, append_assoc, arith}
 use Rattle.std.specs.Prelude.{All, Bool, true, false, IsTrue, IfNone, Option, Some, None, ◌==◌}
 use Rattle.std.proofs.lemmas.Bool.{eqb-true}
-use Rattle.std.proofs.lemmas.List.{append-nil, length-append, length-take, get_or-take, take-append-drop, take_all}
+use Rattle.std.proofs.lemmas.List.{append-nil, length-append, length-drop, length-take, get_or-take, take-append-drop, take_all}
 use Rattle.std.proofs.lemmas.List.Elements.{All-append}
 use Rattle.std.proofs.Math.Seq.{take-add, take-append_seam}
 use Rattle.log_run.specs.Inside.{IsReader}
@@ -31,6 +31,7 @@ fresh waiting none = record {
   bound = omega arith;
   no_feed = λ k d below. omega (arith, below, length-take 0 waiting);
   recent = λ line after is. omega (arith, ap length (sym none ∙ is), length-append line (10 ∷ after));
+  few = omega (arith, ap length none);
   ended = λ is. absurd (untrue is);
 }
 
@@ -51,6 +52,7 @@ advanced waiting searched taken is_ended n r = record {
   bound = r.bound;
   no_feed = λ k d below. omega (arith, below, length-take 0 (drop n waiting));
   recent = λ line after is. r.recent (take n waiting ++ line) after (sym (take-append-drop n waiting) ∙ later (take n waiting) (drop n waiting) line after is);
+  few = omega (arith, r.few, length-drop n waiting);
   ended = λ is. none_dropped n waiting (r.ended is);
 }
 
@@ -66,14 +68,15 @@ in_piece (b ∷ bytes) piece (l ∷ line) after none is =
     in_piece bytes piece line after (λ k d below. none (suc k) d (omega (arith, below))) (ap (drop 1) is)
 
 -- a piece was read
-pub grown : (old new : List ℕ) (searched taken n most : ℕ) (is_ended : Bool) → IsReader old searched taken is_ended → HasNoFeed old
+pub grown : (old new : List ℕ) (searched taken n most : ℕ) (is_ended : Bool) → IsReader old searched taken is_ended → HasNoFeed old → length old ≤ MAX_LINE
     → (piece : List ℕ) × (new ≡ old ++ piece) × (length piece ≡ n) → n ≤ most → most ≤ MAX_READ → taken + most ≤ MAX_LOG
     → IsReader new (length old) (taken + n) (n == 0)
-grown old new searched taken n most is_ended r none (piece, is, long) le one bound = record {
+grown old new searched taken n most is_ended r none short (piece, is, long) le one bound = record {
   within = omega (arith, ap length is, length-append old piece);
   bound = omega (arith, le, bound);
   no_feed = subst HasNoFeed (sym (ap (take (length old)) is ∙ take-append_seam old piece)) none;
   recent = λ line after cut. omega (arith, in_piece old piece line after none (sym is ∙ cut), long, le, one);
+  few = omega (arith, ap length is, length-append old piece, short, long, le, one);
   ended = λ none_read. subst HasNoFeed (sym (is ∙ ap (λ xs. old ++ xs) (no_length piece (long ∙ eqb-true n 0 none_read)) ∙ append-nil old)) none;
 }
   where
@@ -99,15 +102,16 @@ fed_line now bytes buffer n same is short recent none cut going =
 
 -- more bytes than a line may have
 pub long_line : (now : Reading) (bytes : List ℕ) (n : ℕ) → bytes ≡ now.waiting → MAX_LINE < n → n ≤ length bytes
-    → HasNoFeed (take n bytes) → IsLong now
-long_line now bytes n is over within none =
-    subst (λ w. HasNoFeed (take (MAX_LINE + 1) w) × (MAX_LINE < length w)) is
-    (shorter bytes (MAX_LINE + 1) n (omega (arith, over)) none, omega (arith, over, within))
+    → HasNoFeed (take n bytes) → length bytes ≤ MAX_LINE + MAX_READ → IsLong now
+long_line now bytes n is over within none few =
+    subst (λ w. HasNoFeed (take (MAX_LINE + 1) w) × (MAX_LINE < length w) × (length w ≤ MAX_LINE + MAX_READ)) is
+    (shorter bytes (MAX_LINE + 1) n (omega (arith, over)) none, omega (arith, over, within), few)
 
-pub long_rest : (now : Reading) (bytes : List ℕ) → bytes ≡ now.waiting → MAX_LINE < length bytes → HasNoFeed bytes → IsLong now
-long_rest now bytes is over none =
+pub long_rest : (now : Reading) (bytes : List ℕ) → bytes ≡ now.waiting → MAX_LINE < length bytes → HasNoFeed bytes
+    → length bytes ≤ MAX_LINE + MAX_READ → IsLong now
+long_rest now bytes is over none few =
     long_line now bytes (length bytes) is over (omega arith)
-    (subst HasNoFeed (sym (take_all (length bytes) bytes (omega arith))) none)
+    (subst HasNoFeed (sym (take_all (length bytes) bytes (omega arith))) none) few
 
 -- the last line
 pub last_line : (now : Reading) (n : ℕ) → length now.waiting ≡ n → 0 < n → n ≤ MAX_LINE → IsTrue now.is_ended → HasNoFeed now.waiting → IsLine now n

@@ -137,11 +137,18 @@ no_line start before after reader next answered given rest k r none = record {
   within = omega (arith, log_length given next rest, taken_all start before after reader next answered given rest k r, r.within);
 }
 
+-- some bytes were taken of those after a line, fewer than one read may take
+near_by : (start after : Option (List ℕ)) (bytes rest : List ℕ) → length bytes < MAX_READ → IfSome start (λ _. after ≡ Some rest)
+    → IsNear (bytes ++ rest) start after
+near_by None after bytes rest few left = tt
+near_by (Some all) after bytes rest few left = (length bytes, few, left ∙ ap Some (sym (drop-append_seam bytes rest)))
+
 -- the next line is too long
 pub long_line : (start before after : Option (List ℕ)) (reader next : Reading) (answered : List (List ℕ)) (given rest : List ℕ)
-    → Kept start before reader answered given → Read reader next before after rest → IsLong next
+    → Kept start before reader answered given → Read reader next before after rest → IsLong next → IfSome start (λ _. after ≡ Some rest)
     → (first : List ℕ) × (more : List ℕ) × NoLine (log_of given next rest) (next.waiting ++ rest) first more × (length first ≡ MAX_LINE + 1)
-long_line start before after reader next answered given rest k r (none, long) =
+    × IsNear more start after
+long_line start before after reader next answered given rest k r (none, long, few) left =
     let first = take (MAX_LINE + 1) next.waiting in
     let more = drop (MAX_LINE + 1) next.waiting in (
       first,
@@ -160,6 +167,7 @@ long_line start before after reader next answered given rest k r (none, long) =
         );
       },
       omega (arith, long, length-take (MAX_LINE + 1) next.waiting),
+      near_by start after more rest (omega (arith, few, length-drop (MAX_LINE + 1) next.waiting)) left,
     )
 
 -- the bytes up to the end of the next line
@@ -271,10 +279,8 @@ next_line start before after reader next answered given rest n k r line =
 pub is_near : (start before after : Option (List ℕ)) (reader next : Reading) (answered : List (List ℕ)) (given rest : List ℕ) (n : ℕ)
     → Kept start before reader answered given → Read reader next before after rest → IsLine next n → IfSome start (λ _. after ≡ Some rest)
     → IsNear (drop (n + 1) next.waiting ++ rest) start after
-is_near None before after reader next answered given rest n k r line left = tt
-is_near (Some all) before after reader next answered given rest n k r line left =
-    let cut = cut_line (Some all) before after reader next answered given rest n k r line in
-    (length (drop (n + 1) next.waiting), cut.recent, left ∙ ap Some (sym (drop-append_seam (drop (n + 1) next.waiting) rest)))
+is_near start before after reader next answered given rest n k r line left =
+    near_by start after (drop (n + 1) next.waiting) rest (cut_line start before after reader next answered given rest n k r line).recent left
 
 -- what is left now is what comes after
 pub left_is : (start before after : Option (List ℕ)) (reader next : Reading) (answered : List (List ℕ)) (given : List ℕ)

@@ -16,7 +16,7 @@ pub record BeginsWith (log : List ℕ) (lines : List (List ℕ)) (rest : List �
   pub within : length bytes ≤ MAX_LOG
   pub short : All (λ line. length line ≤ MAX_LINE) lines
 
--- Fewer bytes than one read may take were taken after the end of a line, from the bytes after it.
+-- Of these bytes, fewer were taken than one read may take.
 abbrev pub IsNear : List ℕ → Option (List ℕ) → Option (List ℕ) → Type 0
 IsNear after old new = IfSome old (λ _. (n : ℕ) × (n < MAX_READ) × (new ≡ Some (drop n after)))
 

@@ -33,9 +33,12 @@ IsLine now n = (n ≤ MAX_LINE) × HasNoFeed (take n now.waiting) × IsNext now 
 abbrev pub HasNoLine : Reading → Type 0
 HasNoLine now = HasNoFeed now.waiting × (length now.waiting ≤ MAX_LINE)
 
--- more bytes wait than a line may have, before the end of the next line
+-- More bytes wait than a line may have, before the end of the next line, and no more than a line and
+-- one read.
 abbrev pub IsLong : Reading → Type 0
-IsLong now = HasNoFeed (take (MAX_LINE + 1) now.waiting) × (MAX_LINE < length now.waiting)
+IsLong now =
+    HasNoFeed (take (MAX_LINE + 1) now.waiting) × (MAX_LINE < length now.waiting)
+    × (length now.waiting ≤ MAX_LINE + MAX_READ)
 
 -- The first `MAX_LOG` bytes were taken, and there is one more.
 abbrev pub HasMore : Reading → Reading → Option (List ℕ) → Option (List ℕ) → Type 0

@@ -1,6 +1,6 @@
 -- A run over the lines of a log, one step a line, and how it ends. A step leads from a state, by a
 -- line, to the text of the reply and the next state.
-use Rattle.std.specs.Prelude.{◌≡◌, ◌≢◌, ℕ, ◌+◌, ◌≤◌, List, [], ◌∷◌, ◌++◌, length, Option, Some, IfSome}
+use Rattle.std.specs.Prelude.{◌≡◌, ◌≢◌, ℕ, ◌+◌, ◌≤◌, List, [], ◌∷◌, ◌++◌, length, drop, Option, Some, IfSome}
 use Rattle.host_io.specs.Lines.{lines_of}
 use Rattle.host_io.specs.Writing.{Appended}
 use Rattle.log_lines.specs.declared.fault.LineFault.{LineFault}
@@ -51,10 +51,12 @@ EndsBy step has_fault log answered next now part old new (Fault n fault) =
     × NextLine log answered next line after × has_fault line fault × IsNear after old.left new.left)
 EndsBy step has_fault log answered next now part old new (LineTooLong n) =
     (part ≡ []) × (n ≡ length answered + 1) × ((first : List ℕ) × (more : List ℕ)
-    × NoLine log next first more × (length first ≡ MAX_LINE + 1))
+    × NoLine log next first more × (length first ≡ MAX_LINE + 1)
+    × IsNear more old.left new.left)
 EndsBy step has_fault log answered next now part old new LogTooLong =
     (part ≡ []) × ((first : List ℕ) × (more : List ℕ) × NoLine log next first more
-    × (length first ≤ MAX_LINE) × (length log ≡ MAX_LOG + length more) × (more ≢ []))
+    × (length first ≤ MAX_LINE) × (length log ≡ MAX_LOG + length more) × (more ≢ [])
+    × IfSome old.left (λ _. new.left ≡ Some (drop 1 more)))
 EndsBy step has_fault log answered next now part old new ReadFault =
     (part ≡ []) × ((first : List ℕ) × (more : List ℕ) × NoLine log next first more
     × (length first ≤ MAX_LINE) × IfSome old.left (λ _. new.left ≡ Some more))

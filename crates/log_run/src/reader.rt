@@ -69,6 +69,7 @@ impl LogReader {
     fn read_more<L: Source>(&mut self, source: &mut L) -> Result<(), LogFault>
         requires goes_on { self.old.is_ended ≡ false }
         requires none { HasNoFeed self.old.waiting }
+        requires few { length self.old.waiting ≤ MAX_LINE }
         ensures read { OnOk result ((piece : List ℕ) × HasRead piece self.old self.new
             × (self.new.is_ended ≡ false → 0 < length piece)) }
         ensures moved { OnOk result (MovesBytes (L.left source.old) (L.left source.new)

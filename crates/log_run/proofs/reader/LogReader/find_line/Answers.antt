@@ -11,9 +11,9 @@ returns-then-count-le-MAX_LINE-clause-found c =
 pub returns-in-Some-clause-long : goal.returns-in-Some-clause-long
 returns-in-Some-clause-long c =
     long_line c.args.self.now c.bytes.result.now c.in-Some.count (c.bytes.ensures ∙ ap (λ r. r.waiting) c.self.view_is)
-    (omega arith) (omega (arith, c.in-Some.ensures.found.0)) c.in-Some.ensures.first
+    (omega arith) (omega (arith, c.in-Some.ensures.found.0)) c.in-Some.ensures.first (omega (arith, c.self.invariant.few, ap length c.bytes.ensures))
 
 pub returns-clause-long : goal.returns-clause-long
 returns-clause-long c =
     long_rest (record { waiting = c.self.inside.buffer; taken = 0; is_ended = false }) c.self.inside.buffer refl
-    (omega (arith, ap length c.bytes-count.ensures)) (subst HasNoFeed c.bytes.ensures c.in_default.ensures.none)
+    (omega (arith, ap length c.bytes-count.ensures)) (subst HasNoFeed c.bytes.ensures c.in_default.ensures.none) c.self.invariant.few
