@@ -70,7 +70,7 @@ pub none_loaded : (old new : Option Past) (written : Option (List ℕ)) (status 
     IsNotLoaded input.Prefixes old status → CompileText old new written written status
 none_loaded old new written status same why =
     not_loaded (CompileText old new written written) input.Prefixes old status why
-    (λ absent. (refl, absent, same, refl)) refl (same, refl) (λ size is. (is, same, refl))
+    (λ absent. (refl, absent, same, refl)) (inl same, refl) (same, refl) (λ size is. (is, same, refl))
 
 -- its table was not compiled
 pub none_compiled : (old new : Option Past) (text : List ℕ) (written : Option (List ℕ)) (status : Status) → new ≡ old →
@@ -84,7 +84,7 @@ none_compiled old new text written status same loaded why = elim why [
 pub saved : (old new : Option Past) (file line : List ℕ) (before after : Option (List ℕ)) (status : Status) → IsNewAsmap old file line →
     SaveEnds name.Asmap file line new before after status → CompileText old new before after status
 saved old new file line before after status is ends = elim ends [
-  | inl failed ↦ subst (CompileText old new before after) (sym failed.0) failed.1
+  | inl failed ↦ subst (CompileText old new before after) (sym failed.0) (inr (is.0, file, is.1), failed.1)
   | inr done ↦ elim done.1 [
     | inl whole ↦ subst (CompileText old new before after) (sym whole.0) (is.0, file, is.1, done.0, subst (Appended before after) is.2 whole.1)
     | inr part ↦ subst (CompileText old new before after) (sym part.0) (is.0, file, is.1, done.0, subst (AppendedPart before after) is.2 part.1)

@@ -52,6 +52,10 @@ SavesTable Writes old new before after =
     (rows : List Row) × (file : List ℕ) × IsCompiled old rows file × IsInPlace name.Asmap file new
     × Writes before after (compile_text rows file)
 
+-- the folder was not changed, or there is a table to be compiled
+abbrev pub SavesOnlyTable : Option Past → Option Past → Type 0
+SavesOnlyTable old new = (new ≡ old) ⊎ ((rows : List Row) × (file : List ℕ) × IsCompiled old rows file)
+
 -- What is saved and written for each status, from the past of the folder at the start and at the
 -- end, and what the output had before and after.
 abbrev pub CompileText : Option Past → Option Past → Option (List ℕ) → Option (List ℕ) →
@@ -60,7 +64,7 @@ CompileText old new before after Done = SavesTable Appended old new before after
 CompileText old new before after WriteFault = SavesTable AppendedPart old new before after
 CompileText old new before after (NoFile n) =
     (n ≡ name.Prefixes) × IsAbsent name.Prefixes old × (new ≡ old) × (after ≡ before)
-CompileText old new before after DiskFault = after ≡ before
+CompileText old new before after DiskFault = SavesOnlyTable old new × (after ≡ before)
 CompileText old new before after Memory = (new ≡ old) × (after ≡ before)
 CompileText old new before after other =
     ReportsTable old other × (new ≡ old) × (after ≡ before)

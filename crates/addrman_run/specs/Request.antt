@@ -1,5 +1,5 @@
 -- What the arguments ask for.
-use Rattle.std.specs.Prelude.{◌≡◌, ◌⊎◌, ◌<◌, ◌≤◌, ℕ, ◌^◌, List, [], ◌∷◌, ◌++◌, length, Option, Some, None, Ok, codes, decimal}
+use Rattle.std.specs.Prelude.{◌≡◌, ◌⊎◌, ◌<◌, ◌≤◌, ℕ, ◌^◌, List, [], ◌∷◌, ◌++◌, length, Option, Some, None, Ok, codes, decimal, ⊤}
 use Rattle.ban_list.specs.BanFile.{max_time}
 use Rattle.ban_list.specs.SubnetText.{IsSubnetText}
 use Rattle.gen_load.specs.declared.generated.TheConstants.{MAX_LINES}
@@ -69,3 +69,17 @@ Asks words (Gen start lines) =
 Asks words (Trial start lines) =
     (start < 2 ^ 64) × (0 < lines) × (lines ≤ MAX_LINES)
     × (words ≡ codes "trial" ∷ decimal start ∷ decimal lines ∷ [])
+
+-- the commands that read no log
+abbrev pub ReadsNoLog : Request → Type 0
+ReadsNoLog (Replay key chain) = ⊥
+ReadsNoLog (Opener key chain) = ⊥
+ReadsNoLog Limit = ⊥
+ReadsNoLog other = ⊤
+
+-- the commands that ask the folder for nothing
+abbrev pub AsksNoFolder : Request → Type 0
+AsksNoFolder Limit = ⊤
+AsksNoFolder (Gen start lines) = ⊤
+AsksNoFolder (Trial start lines) = ⊤
+AsksNoFolder other = ⊥

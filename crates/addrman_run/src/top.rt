@@ -1,6 +1,6 @@
 ghost use Rattle.std.specs.Prelude.{◌≡◌, ◌≢◌, map, string_bytes};
 ghost use Rattle.host_io.specs.Outside.{outside};
-ghost use Rattle.addrman_run.specs.Request.{Asks};
+ghost use Rattle.addrman_run.specs.Request.{Asks, AsksNoFolder, ReadsNoLog};
 ghost use Rattle.addrman_run.specs.Complete.{IsComplete};
 ghost use Rattle.addrman_run.specs.Outcome.{Ends, HasCause};
 ghost use Rattle.addrman_run.specs.declared.request.Request.{Request};
@@ -48,7 +48,9 @@ pub fn run<L: Source, F: Folder, K: Sink, H: BuildHasher + Drop>(
 ) -> Status
     ensures usage { result ≡ Status.Usage → (request : Request) → ¬ Asks (map string_bytes words.now) request }
     ensures asked { result ≢ Status.Usage → (request : Request) × Asks (map string_bytes words.now) request }
-    ensures untouched { result ≡ Status.Usage → outside L.Source F.Folder K.Sink log.new folder.new out.new ≡ outside L.Source F.Folder K.Sink log.old folder.old out.old }
+    ensures untouched { result ≡ Status.Usage → (log.new ≡ log.old) × (folder.new ≡ folder.old) × (out.new ≡ out.old) }
+    ensures no_log { (request : Request) → Asks (map string_bytes words.now) request → ReadsNoLog request → log.new ≡ log.old }
+    ensures no_folder { (request : Request) → Asks (map string_bytes words.now) request → AsksNoFolder request → folder.new ≡ folder.old }
     ensures cause { HasCause (outside L.Source F.Folder K.Sink log.old folder.old out.old) (outside L.Source F.Folder K.Sink log.new folder.new out.new) result }
     ensures outcome { (request : Request) → Asks (map string_bytes words.now) request →
         Ends request (outside L.Source F.Folder K.Sink log.old folder.old out.old) (outside L.Source F.Folder K.Sink log.new folder.new out.new) result }
