@@ -1,8 +1,9 @@
 //! Calls of the current folder of the system, also while its system calls fail, and of sources and
 //! sinks over readers and writers. Each call is printed with its answer, and the output is compared
-//! with the answers that are right.
+//! with the answers that are right. So is what crashes leave of a folder in memory.
 #![tactic(auto)]
 
+mod crashes;
 mod folder_call;
 mod saves;
 mod sources;
@@ -41,7 +42,8 @@ fn print_all<R: Files + Print + AllocGlobal>(rt: &R) -> io::Result<()> {
     prepare(rt)?;
     print_calls(rt)?;
     saves::print_saves(rt)?;
-    watched::print_watched(rt)
+    watched::print_watched(rt)?;
+    crashes::print_crashes(rt)
 }
 
 fn main(rt: HostRuntime) -> ExitCode {

@@ -49,7 +49,7 @@ fn print_saved<R: Files + Print + AllocGlobal>(
     print_loaded(rt, folder, 6)
 }
 
-/// Saves a file of many pieces of a read, and prints whether the same bytes are loaded.
+/// Saves a file that takes more than one read, and prints whether the same bytes are loaded.
 fn print_long<R: Files + Print + AllocGlobal>(
     rt: &R,
     folder: &mut DirFolder<'_, R>,
