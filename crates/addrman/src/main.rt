@@ -2,10 +2,9 @@
 //! prefixes, checks asmaps and looks addresses up in them.
 #![tactic(auto)]
 
-use addrman_main::run_program;
-use std::process::ExitCode;
+use addrman_main::{Ended, run_program};
 
-/// Runs the program, which prints on standard error why it did not end well.
-fn main(rt: HostRuntime) -> ExitCode {
-    run_program(&rt, &rt)
+/// Runs the program. Standard error gets the reason if it did not end well.
+fn main(rt: HostRuntime) -> Ended {
+    run_program(&rt)
 }

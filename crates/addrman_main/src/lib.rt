@@ -1,12 +1,14 @@
 //! What the program does: the arguments, the standard streams and the current folder go in, an exit
-//! code comes out.
+//! code and a line for standard error come out.
 #![tactic(auto)]
 
-use addrman_run::{Status, code, run, status_line};
+mod ended;
+
+use addrman_run::run;
+pub use ended::Ended;
 use host_io::{DirFolder, StdSink, StdSource};
 use std::fs::File;
 use std::hash::RandomState;
-use std::process::ExitCode;
 use std::rt::{Env, Files};
 use std::{env, io};
 
@@ -29,30 +31,17 @@ fn open_closed_streams<R: Files>(rt: &R) -> io::Result<(R::File, R::File, R::Fil
     Ok((first, second, third))
 }
 
-/// Prints the line that says how the run ended, unless it is done.
-fn report<E: Eprint>(rt: &impl AllocGlobal, errors: &E, status: &Status) {
-    let mut line = Vec::new(rt.alloc());
-    if status_line(status, &mut line).is_ok() {
-        if let Ok(line) = String::from_utf8(line) {
-            let _ = errors.eprint(line);
-        }
-    }
-}
-
-/// Runs the program and returns its exit code. It reads standard input, writes standard output, and
-/// prints on `errors` why it did not end well.
-pub fn run_program<E: Eprint>(rt: &HostRuntime, errors: &E) -> ExitCode {
+/// Runs the program, which reads standard input and writes standard output, and returns how it
+/// ended.
+pub fn run_program(rt: &HostRuntime) -> Ended {
     let Ok(_streams) = open_closed_streams(rt) else {
-        let _ = errors.eprint("addrman: the standard streams cannot be opened\n");
-        return ExitCode::FAILURE;
+        return Ended::before_the_run("addrman: the standard streams cannot be opened\n");
     };
     let Ok(words) = arguments_of(rt) else {
-        let _ = errors.eprint("addrman: the arguments cannot be read\n");
-        return ExitCode::FAILURE;
+        return Ended::before_the_run("addrman: the arguments cannot be read\n");
     };
     let Ok(hasher) = RandomState::new(rt) else {
-        let _ = errors.eprint("addrman: the system gives no random numbers\n");
-        return ExitCode::FAILURE;
+        return Ended::before_the_run("addrman: the system gives no random numbers\n");
     };
     let mut log = StdSource::make(rt.reader());
     let mut out = StdSink::make(io::writer(rt));
@@ -65,6 +54,5 @@ pub fn run_program<E: Eprint>(rt: &HostRuntime, errors: &E) -> ExitCode {
         &mut folder,
         &mut out,
     );
-    report(rt, errors, &status);
-    ExitCode::from(code(&status))
+    Ended::with(rt.alloc(), &status)
 }

@@ -5,7 +5,7 @@
 use addrman_main::run_program;
 use std::fmt::Display;
 use std::io;
-use std::process::ExitCode;
+use std::process::{ExitCode, Termination};
 
 /// Standard output in the place of standard error.
 #[derive(Drop)]
@@ -23,5 +23,5 @@ impl Eprint for OnStdout<'_> {
 
 /// Runs the program.
 fn main(rt: HostRuntime) -> ExitCode {
-    run_program(&rt, &OnStdout(&rt))
+    run_program(&rt).report(&OnStdout(&rt))
 }

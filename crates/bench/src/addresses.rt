@@ -7,7 +7,7 @@ use net_addr::{NetAddr, Peer};
 const STEP: u64 = 0x9E37_79B9_7F4A_7C15;
 
 /// Addresses to look up, made of the words of SplitMix64 by Steele, Lea and Flood.
-#[derive(Debug, Drop)]
+#[derive(Drop)]
 pub(crate) struct Addresses {
     state: u64,
 }

@@ -9,7 +9,7 @@ use std::alloc::Global;
 const MOST_ASMAP_BYTES: u64 = 8_388_608;
 
 /// What is done over asmap.dat, and how often.
-#[derive(Clone, Copy, Debug, PartialEq, Eq)]
+#[derive(Clone, Copy)]
 pub(crate) enum AsmapWork {
     /// The file is checked once, and this many addresses are looked up.
     Lookups(u64),

@@ -13,7 +13,7 @@ use std::alloc::Global;
 const ENTRIES: u32 = 1000;
 
 /// A kind of work on messages.
-#[derive(Clone, Copy, Debug, PartialEq, Eq)]
+#[derive(Clone, Copy)]
 pub(crate) enum Kind {
     /// An `addr` message is read.
     ReadAddr,
@@ -28,7 +28,7 @@ pub(crate) enum Kind {
 }
 
 /// Work on a message of 1000 entries, and how often it is done.
-#[derive(Clone, Copy, Debug, PartialEq, Eq)]
+#[derive(Clone, Copy)]
 pub(crate) struct CodecsWork {
     pub kind: Kind,
     pub times: u64,

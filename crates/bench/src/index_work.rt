@@ -21,7 +21,7 @@ const MOST_RECORDS: usize = 10_000_000;
 const STEP: u64 = 7_919;
 
 /// A kind of work on an index.
-#[derive(Clone, Copy, Debug, PartialEq, Eq)]
+#[derive(Clone, Copy)]
 pub(crate) enum Kind {
     /// An index is made and filled this many times.
     Adds,
@@ -36,7 +36,7 @@ pub(crate) enum Kind {
 
 /// Work on an index: how many records it has, how many of them are found or removed, and how often
 /// the work is done.
-#[derive(Clone, Copy, Debug, PartialEq, Eq)]
+#[derive(Clone, Copy)]
 pub(crate) struct IndexWork {
     pub kind: Kind,
     pub records: u32,

@@ -9,7 +9,7 @@ const LOG_BYTES: usize = 16_777_216;
 
 /// A log of comment lines of `length` bytes each, with their line feeds, is split into its lines
 /// `times` times.
-#[derive(Clone, Copy, Debug, PartialEq, Eq)]
+#[derive(Clone, Copy)]
 pub(crate) struct LinesWork {
     pub length: u32,
     pub times: u64,

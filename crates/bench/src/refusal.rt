@@ -1,5 +1,5 @@
 /// Why nothing was measured.
-#[derive(Clone, Copy, Debug, PartialEq, Eq)]
+#[derive(Clone, Copy)]
 pub(crate) enum Refusal {
     /// The arguments of the command line could not be read.
     NoWords,

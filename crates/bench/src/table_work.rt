@@ -7,7 +7,7 @@ use save_store::load;
 use std::alloc::Global;
 
 /// What is done over prefixes.txt, and how often.
-#[derive(Clone, Copy, Debug, PartialEq, Eq)]
+#[derive(Clone, Copy)]
 pub(crate) enum TableWork {
     /// The text is read this many times.
     Reads(u64),

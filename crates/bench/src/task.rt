@@ -6,7 +6,7 @@ use crate::refusal::Refusal;
 use crate::table_work::TableWork;
 
 /// What the arguments ask for.
-#[derive(Clone, Copy, Debug, PartialEq, Eq)]
+#[derive(Clone, Copy)]
 pub(crate) enum Task {
     /// Work over asmap.dat.
     Asmap(AsmapWork),

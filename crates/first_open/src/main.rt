@@ -22,6 +22,9 @@ use try_open::try_open;
 /// The time, in seconds since 1970.
 const NOW: u32 = 1_700_000_000;
 
+/// The node's secret key.
+const KEY: [u8; 32] = [0; 32];
+
 /// The peers that are known. The first two are in one network group.
 const KNOWN: [[u8; 4]; 3] = [[8, 8, 8, 8], [8, 8, 4, 4], [9, 9, 9, 9]];
 
@@ -42,8 +45,48 @@ fn put_opened(opened: &Option<Peer>, text: &mut Vec<u8>) -> Result<(), Memory> {
     }
 }
 
+/// Opens tables that have the known peers.
+fn known_tables<H: BuildHasher + Drop, L: Ledger>(
+    alloc: Global,
+    hasher: H,
+    steps: &mut Steps<L>,
+) -> Result<Tables<'static, H>, Memory> {
+    let mut tables = Tables::open(alloc, Placer::make(KEY, None), hasher)?;
+    for octets in KNOWN {
+        learn(&mut tables, octets, NOW, steps)?;
+    }
+    Ok(tables)
+}
+
+/// Makes a try by these words, and appends what it came to, and a line feed.
+fn put_try<H: BuildHasher, L: Ledger>(
+    tables: &Tables<'_, H>,
+    opener: &mut Opener,
+    words: &[u64],
+    text: &mut Vec<u8>,
+    steps: &mut Steps<L>,
+) -> Result<(), Memory> {
+    let placer = Placer::make(KEY, None);
+    let opened = try_open(tables, &placer, opener, words, NOW, 1, steps);
+    put_opened(&opened, text)
+}
+
 /// Makes a try for each known peer, closes the first one, and makes a try for the second one again.
-/// Returns what the tries came to, a line for each.
+/// Appends what the tries came to, a line for each.
+fn put_tries<H: BuildHasher, L: Ledger>(
+    tables: &Tables<'_, H>,
+    text: &mut Vec<u8>,
+    steps: &mut Steps<L>,
+) -> Result<(), Memory> {
+    let mut opener = Opener::make();
+    for words in &WORDS {
+        put_try(tables, &mut opener, words, text, steps)?;
+    }
+    opener.close_peer(&learn::peer(KNOWN[0]));
+    put_try(tables, &mut opener, &WORDS[1], text, steps)
+}
+
+/// Returns what the tries come to.
 fn open_some<H: BuildHasher + Drop, L: Ledger>(
     alloc: Global,
     hasher: H,
@@ -54,21 +97,9 @@ fn open_some<H: BuildHasher + Drop, L: Ledger>(
     requires one { blank.parts ≡ 1 }
 {
     let mut steps = Steps::<L>::none(blank);
-    let key = [0; 32];
-    let mut tables = Tables::open(alloc, Placer::make(key, None), hasher)?;
-    for octets in KNOWN {
-        learn(&mut tables, octets, NOW, &mut steps)?;
-    }
-    let placer = Placer::make(key, None);
-    let mut opener = Opener::make();
+    let tables = known_tables(alloc, hasher, &mut steps)?;
     let mut text = Vec::new(alloc);
-    for words in &WORDS {
-        let opened = try_open(&tables, &placer, &mut opener, words, NOW, 1, &mut steps);
-        put_opened(&opened, &mut text)?;
-    }
-    opener.close_peer(&learn::peer(KNOWN[0]));
-    let opened = try_open(&tables, &placer, &mut opener, &WORDS[1], NOW, 1, &mut steps);
-    put_opened(&opened, &mut text)?;
+    put_tries(&tables, &mut text, &mut steps)?;
     Ok(text)
 }
 

@@ -2,6 +2,7 @@ ghost use Rattle.std.specs.Prelude.{◌≡◌};
 
 use crate::table_calls;
 use call_rows::{Calls, Fields, Unread};
+use peer_rec::Snapshot;
 use peers_file::{Chain, read_file};
 use placing::Placer;
 use std::alloc::Global;
@@ -87,24 +88,40 @@ fn add_zeros(count: u32, bytes: &mut Vec<u8>) -> Result<(), Unread> {
     Ok(())
 }
 
-/// `restore`: reads the file and restores its tables, without an asmap.
+/// Restores the tables of a snapshot, without an asmap, and keeps them in the place of others.
+fn keep_restored<L: Ledger>(
+    alloc: Global,
+    snap: &Snapshot,
+    kept: &mut Option<Tabled>,
+    steps: &mut Steps<L>,
+) -> Result<(), RestoreFault> {
+    let placer = Placer::make(snap.key(), None);
+    let tables = Tables::restore(alloc, snap, placer, BuildHasherDefault::new(), steps)?;
+    *kept = Some(tables);
+    Ok(())
+}
+
+/// Returns the answer to `restore`.
+fn restored_text(alloc: Global, restored: Result<(), RestoreFault>) -> Result<String, Unread> {
+    match restored {
+        Ok(()) => done(alloc, "restored"),
+        Err(RestoreFault::Duplicate { index }) => Ok(format!(in alloc; "duplicate {index}")?),
+        Err(RestoreFault::Memory) => Err(Unread::Memory),
+    }
+}
+
+/// `restore`: reads the file and restores its tables.
 fn restore<L: Ledger>(alloc: Global, state: &mut State, blank: Blank) -> Result<String, Unread>
     requires name { blank.name ≡ L.name }
     requires parts { blank.parts ≡ L.parts }
     requires one { blank.parts ≡ 1 }
 {
     let mut steps = Steps::<L>::none(blank);
-    let snap = match read_file(alloc, state.bytes.as_slice(), Chain::Main) {
-        Ok(snap) => snap,
-        Err(fault) => return Ok(format!(in alloc; "{fault:?}")?),
-    };
-    let placer = Placer::make(snap.key(), None);
-    match Tables::restore(alloc, &snap, placer, BuildHasherDefault::new(), &mut steps) {
-        Ok(tables) => {
-            state.tables = Some(tables);
-            done(alloc, "restored")
+    match read_file(alloc, state.bytes.as_slice(), Chain::Main) {
+        Ok(snap) => {
+            let restored = keep_restored(alloc, &snap, &mut state.tables, &mut steps);
+            restored_text(alloc, restored)
         }
-        Err(RestoreFault::Duplicate { index }) => Ok(format!(in alloc; "duplicate {index}")?),
-        Err(RestoreFault::Memory) => Err(Unread::Memory),
+        Err(fault) => Ok(format!(in alloc; "{fault:?}")?),
     }
 }

@@ -1,5 +1,6 @@
 use host_io::{DirFolder, Failed, Folder, Name};
 use std::alloc::{AllocError, Global};
+use std::io;
 use std::rt::Files;
 
 /// A call of a folder.
@@ -118,4 +119,14 @@ pub(crate) fn answer<R: Files + Alloc>(
         FolderCall::Rename(..) => String::from_str(alloc, "not called"),
         FolderCall::SyncDir => done_text(alloc, folder.sync_dir()),
     }
+}
+
+/// Makes the call, and prints it with its answer.
+pub(crate) fn print_answer<R: Print + AllocGlobal, F: Files + Alloc>(
+    rt: &R,
+    folder: &mut DirFolder<'_, F>,
+    call: FolderCall<'_>,
+) -> io::Result<()> {
+    let answer = answer(rt.alloc(), folder, call)?;
+    println!(rt; "{call:?}: {}", answer.as_str())
 }

@@ -1,9 +1,8 @@
 //! Calls of the current folder of the system, also while its system calls fail, and of sources and
 //! sinks over readers and writers. Each call is printed with its answer, and the output is compared
-//! with the answers that are right. So is what crashes leave of a folder in memory.
+//! with the answers that are right.
 #![tactic(auto)]
 
-mod crashes;
 mod folder_call;
 mod saves;
 mod sources;
@@ -11,7 +10,7 @@ mod watch;
 mod watched;
 mod writers;
 
-use crate::folder_call::{CALLS, answer};
+use crate::folder_call::{CALLS, print_answer};
 use host_io::DirFolder;
 use std::os::unix::fs::symlink;
 use std::process::ExitCode;
@@ -29,8 +28,7 @@ fn prepare<R: Files + AllocGlobal>(rt: &R) -> io::Result<()> {
 fn print_calls<R: Files + Print + AllocGlobal>(rt: &R) -> io::Result<()> {
     let mut folder = DirFolder::make(rt);
     for call in CALLS {
-        let answer = answer(rt.alloc(), &mut folder, call)?;
-        println!(rt; "{call:?}: {}", answer.as_str())?;
+        print_answer(rt, &mut folder, call)?;
     }
     Ok(())
 }
@@ -42,8 +40,7 @@ fn print_all<R: Files + Print + AllocGlobal>(rt: &R) -> io::Result<()> {
     prepare(rt)?;
     print_calls(rt)?;
     saves::print_saves(rt)?;
-    watched::print_watched(rt)?;
-    crashes::print_crashes(rt)
+    watched::print_watched(rt)
 }
 
 fn main(rt: HostRuntime) -> ExitCode {

@@ -1,6 +1,6 @@
 // The system calls that the calls of a folder make, what they answer if one of those fails once, and
 // what is loaded of a file that has another length than it said.
-use crate::folder_call::{FolderCall, answer};
+use crate::folder_call::{FolderCall, answer, print_answer};
 use crate::saves::print_loaded;
 use crate::watch::{Plan, SystemCall, Watch};
 use host_io::{DirFolder, Name};
@@ -69,10 +69,25 @@ fn print_system_calls<R: Files + Print + AllocGlobal>(rt: &R) -> io::Result<()> 
     let watch = Watch { rt, plan: &plan };
     let mut folder = DirFolder::make(&watch);
     for call in CALLS {
-        let answer = answer(rt.alloc(), &mut folder, call)?;
-        println!(rt; "{call:?}: {}", answer.as_str())?;
+        print_answer(rt, &mut folder, call)?;
     }
     Ok(())
+}
+
+/// Prints the answers of a call while a system call fails, and afterwards.
+fn print_fault<R: Print + AllocGlobal, F: Files + Alloc>(
+    rt: &R,
+    folder: &mut DirFolder<'_, F>,
+    fault: SystemCall,
+    call: FolderCall<'_>,
+) -> io::Result<()> {
+    let first = answer(rt.alloc(), folder, call)?;
+    let second = answer(rt.alloc(), folder, call)?;
+    println!(rt;
+        "{fault:?} fails, {call:?}: {}, {}",
+        first.as_str(),
+        second.as_str()
+    )
 }
 
 /// Prints the answers of each call while a system call fails, and afterwards.
@@ -86,13 +101,7 @@ fn print_faults<R: Files + Print + AllocGlobal>(rt: &R) -> io::Result<()> {
     let mut folder = DirFolder::make(&watch);
     for (fault, call) in FAULTS {
         plan.fails.set(Some(fault));
-        let first = answer(rt.alloc(), &mut folder, call)?;
-        let second = answer(rt.alloc(), &mut folder, call)?;
-        println!(rt;
-            "{fault:?} fails, {call:?}: {}, {}",
-            first.as_str(),
-            second.as_str()
-        )?;
+        print_fault(rt, &mut folder, fault, call)?;
     }
     Ok(())
 }

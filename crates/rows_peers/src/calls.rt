@@ -65,20 +65,35 @@ pub(crate) fn fault_of(
     }
 }
 
+/// Whether the file of the snapshot is the wanted one.
+fn is_written_as(
+    alloc: Global,
+    snap: &Snapshot,
+    chain: Chain,
+    wanted: &[u8],
+) -> Result<bool, Unread> {
+    if snap.bucket_count() != 1024 || snap.listed().len() > 65_536 {
+        return Err(Unread::Unmet);
+    }
+    match write_file(alloc, snap, chain) {
+        Ok(written) => Ok(written.items() == wanted),
+        Err(_) => Err(Unread::Memory),
+    }
+}
+
+/// Whether what the first file has is written as the second one.
+fn is_rewritten(alloc: Global, chain: Chain, bytes: &[u8], wanted: &[u8]) -> Result<bool, Unread> {
+    match read_file(alloc, bytes, chain) {
+        Ok(snap) => is_written_as(alloc, &snap, chain, wanted),
+        Err(_) => Err(Unread::Unmet),
+    }
+}
+
 /// Returns whether what the file of the next field has is written as the file of the field after it.
 fn rewritten(alloc: Global, chain: Chain, fields: &mut Fields<'_>) -> Result<String, Unread> {
     let bytes = bytes_of(alloc, fields.word())?;
     let wanted = bytes_of(alloc, fields.word())?;
-    let Ok(snap) = read_file(alloc, bytes.as_slice(), chain) else {
-        return Err(Unread::Unmet);
-    };
-    if snap.bucket_count() != 1024 || snap.listed().len() > 65_536 {
-        return Err(Unread::Unmet);
-    }
-    let Ok(written) = write_file(alloc, &snap, chain) else {
-        return Err(Unread::Memory);
-    };
-    let answer = if written.items() == wanted.as_slice() {
+    let answer = if is_rewritten(alloc, chain, bytes.as_slice(), wanted.as_slice())? {
         "same"
     } else {
         "other"

@@ -1,4 +1,6 @@
+use crate::images::{Images, Mark};
 use crate::unread::Unread;
+use gen_load::{Gen, MAX_LINES};
 use host_io::Name;
 use std::alloc::{AllocError, Global};
 
@@ -45,6 +47,15 @@ pub(crate) struct Case {
     pub left: Vec<Left>,
     /// The folder's calls, if they are to be compared.
     pub calls: Option<String>,
+    /// The files that have a mark.
+    pub marks: Vec<Mark>,
+    /// What crashes are to leave, if it is to be compared.
+    pub images: Option<Images>,
+    /// The SHA-256 in hexadecimal of what is to be written, in place of the text.
+    pub sum: Option<String>,
+    /// The SHA-256 in hexadecimal of what a replay of `dump` writes in the folder that is left, if
+    /// it is to be compared.
+    pub dump_sum: Option<String>,
 }
 
 /// The files that a folder may have.
@@ -148,6 +159,10 @@ impl Case {
             end: String::from_str(alloc, "0")?,
             left: Vec::new(alloc),
             calls: None,
+            marks: Vec::new(alloc),
+            images: None,
+            sum: None,
+            dump_sum: None,
         })
     }
 
@@ -203,13 +218,51 @@ impl Case {
             "file" | "file-text" | "file-fill" => self.file(what, rest),
             "file-cut" => self.cut(rest),
             "left" => self.leave(rest),
-            "calls" => {
-                self.calls = Some(String::from_str(self.alloc, rest)?);
-                Ok(())
-            }
+            "mark" | "images" => self.image(what, rest),
+            "calls" | "sum" | "dump-sum" => self.text(what, rest),
+            "generated" => self.generate(rest),
             "log" | "text" | "log-fill" | "then" => self.bytes_of_log(what, rest),
             _ => self.count(what, number(rest)?),
         }
+    }
+
+    /// Takes the calls of the folder, or the sum of a text.
+    fn text(&mut self, what: &str, rest: &str) -> Result<(), Unread> {
+        let text = Some(String::from_str(self.alloc, rest)?);
+        match what {
+            "calls" => self.calls = text,
+            "sum" => self.sum = text,
+            _ => self.dump_sum = text,
+        }
+        Ok(())
+    }
+
+    /// Takes the mark of a file, `MARK HEX`, or what crashes are to leave, `NAME MARKS`.
+    fn image(&mut self, what: &str, rest: &str) -> Result<(), Unread> {
+        let (word, rest) = first_word(rest);
+        if what == "mark" {
+            self.marks.push(Mark {
+                text: String::from_str(self.alloc, word)?,
+                bytes: bytes(self.alloc, rest)?,
+            })?;
+        } else {
+            self.images = Some(Images {
+                name: name_of(word)?,
+                marks: String::from_str(self.alloc, rest)?,
+            });
+        }
+        Ok(())
+    }
+
+    /// Appends a generated log, `START LINES`, to the log.
+    fn generate(&mut self, rest: &str) -> Result<(), Unread> {
+        let (start, lines) = first_word(rest);
+        let lines = number(lines)?.min(MAX_LINES as u64) as u32;
+        let mut log = Gen::make(number(start)?, lines);
+        for _ in 0..lines {
+            log.next(&mut self.log)?;
+        }
+        Ok(())
     }
 
     /// Takes the arguments, and after ` -> ` the line that they give.
@@ -234,7 +287,16 @@ impl Case {
             "fail-write" => self.failing_writes.push(number)?,
             "fail-call" => self.failing_calls.push((number, false))?,
             "fail-after-call" => self.failing_calls.push((number, true))?,
+            "fail-from" => self.fail_from(number)?,
             _ => return Err(Unread::Form),
+        }
+        Ok(())
+    }
+
+    /// Lets the folder's calls fail from one on, sixteen of them, so that none changes it.
+    fn fail_from(&mut self, call: u64) -> Result<(), AllocError> {
+        for more in 0..16u64 {
+            self.failing_calls.push((call.saturating_add(more), false))?;
         }
         Ok(())
     }

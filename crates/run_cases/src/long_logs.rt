@@ -1,12 +1,10 @@
 // A log of the largest size, and one of a byte more. No case has so many bytes.
 use crate::case::Case;
 use crate::cases::Tally;
-use crate::ran::end_of;
+use crate::ran::{end_of, status_of};
 use crate::unread::Unread;
-use addrman_run::run;
-use host_io::{MemFolder, MemSink, StdSource};
+use host_io::{MemSink, StdSource, SureFolder};
 use std::alloc::Global;
-use std::hash::{BuildHasherDefault, FoldHasher};
 use std::io;
 use std::io::Read;
 
@@ -53,11 +51,9 @@ fn ends_so(alloc: Global, length: u64, want: &str) -> Result<bool, Unread> {
         left: length,
         is_new: true,
     });
-    let mut folder = MemFolder::make(alloc, case.failing_calls.as_slice())?;
+    let mut folder = SureFolder::make();
     let mut out = MemSink::make(alloc, &[])?;
-    let hasher = BuildHasherDefault::<FoldHasher>::new();
-    let arguments = case.arguments.as_slice();
-    let status = run(alloc, hasher, arguments, &mut log, &mut folder, &mut out);
+    let status = status_of(alloc, &case, &mut log, &mut folder, &mut out);
     let end = end_of(alloc, &status)?;
     Ok(end.as_str() == want && out.bytes() == b"size new 0 tried 0 clashes 0\n".as_slice())
 }

@@ -6,14 +6,13 @@
 mod calls;
 mod case;
 mod cases;
-mod drawn;
+mod images;
 mod long_logs;
 mod ran;
 mod statuses;
 mod unread;
 
 use cases::{Tally, check_text};
-use drawn::check_drawn;
 use long_logs::check_long_logs;
 use statuses::{check_statuses, check_surely};
 use std::process::ExitCode;
@@ -43,13 +42,11 @@ fn check_all<R: Env + Files + Print + Eprint + AllocGlobal>(rt: &R) -> io::Resul
     let of_files = check_files(rt)?;
     let statuses = report(rt, "statuses", check_statuses(rt)?)?;
     let surely = report(rt, "a run that nothing can stop", check_surely(rt))?;
-    let drawn = report(rt, "drawn logs", check_drawn(rt)?)?;
     let long = report(rt, "long logs", check_long_logs(rt)?)?;
     Ok(
         of_files
             .saturating_add(statuses)
             .saturating_add(surely)
-            .saturating_add(drawn)
             .saturating_add(long),
     )
 }

@@ -2,10 +2,12 @@ ghost use Rattle.std.specs.Prelude.{◌≡◌, true, string_bytes};
 
 use crate::calls::calls_of;
 use crate::case::{Case, Left, NAMES};
+use crate::images::{has_images, list_tables};
 use crate::unread::Unread;
 use addrman_run::{Status, code, run, status_line};
-use host_io::{MemFolder, MemSink, MemSource, Name, Source};
-use std::alloc::Global;
+use host_io::{Folder, MemFolder, MemSink, MemSource, Name, Sink, Source};
+use sha2::{Digest, Sha256};
+use std::alloc::{AllocError, Global};
 use std::hash::{BuildHasherDefault, FoldHasher};
 
 /// How a case went.
@@ -14,8 +16,8 @@ pub(crate) struct Ran {
     /// The exit code, and after a space the text of the status.
     pub end: String,
     pub written: Vec<u8>,
-    /// The folder has the files and the log the bytes that the case wants, the folder's calls are
-    /// those that it wants, and no call ran out of memory.
+    /// The folder has the files, the calls and the images and the log the bytes that the case wants,
+    /// and no call ran out of memory.
     pub is_steady: bool,
 }
 
@@ -85,10 +87,20 @@ fn wanted_at(case: &Case, name: Name) -> Option<&[u8]> {
     }
 }
 
+/// Whether the name has what the case wants there. If it says what crashes leave, the first image
+/// is the folder as it reads, and temporary files are as they may be.
+fn is_name_as_wanted(folder: &MemFolder, case: &Case, name: Name) -> bool {
+    let is_apart = match &case.images {
+        Some(images) => name == images.name || name.file_name().ends_with(".tmp"),
+        None => false,
+    };
+    is_apart || folder.get(name) == wanted_at(case, name)
+}
+
 /// Whether each name has what the case wants there.
 fn is_as_wanted(folder: &MemFolder, case: &Case) -> bool {
     for name in NAMES {
-        if folder.get(name) != wanted_at(case, name) {
+        if !is_name_as_wanted(folder, case, name) {
             return false;
         }
     }
@@ -103,13 +115,12 @@ fn has_calls(alloc: Global, folder: &MemFolder, case: &Case) -> Result<bool, Unr
     Ok(calls_of(alloc, folder.history())? == *calls)
 }
 
-/// Returns the folder of the case.
-fn folder_of(alloc: Global, case: &Case) -> Result<MemFolder, Unread> {
-    let mut folder = MemFolder::make(alloc, case.failing_calls.as_slice())?;
+/// Puts the files of the case into the folder.
+fn put_files(folder: &mut MemFolder, case: &Case) -> Result<(), Unread> {
     for file in case.files.as_slice() {
         folder.put(file.name, file.bytes.as_slice())?;
     }
-    Ok(folder)
+    Ok(())
 }
 
 /// Reads what is left of a log that had this many bytes, and returns how many bytes that is.
@@ -132,22 +143,99 @@ fn is_read_as_wanted(log: &mut MemSource, case: &Case) -> bool {
     }
 }
 
-/// Runs the program on what the case gives.
+/// Whether the text has the SHA-256 in hexadecimal.
+fn has_sum(alloc: Global, text: &[u8], sum: &str) -> Result<bool, AllocError> {
+    let digest = hex::encode(alloc, Sha256::digest(text).as_slice())?;
+    Ok(digest.as_str() == sum)
+}
+
+/// Whether a replay of `dump` in the folder writes the text that the case wants, if it says which.
+fn has_dump(alloc: Global, folder: &mut MemFolder, case: &Case) -> Result<bool, Unread> {
+    let Some(sum) = &case.dump_sum else {
+        return Ok(true);
+    };
+    let listing = list_tables(alloc, folder)?;
+    let has_sum = has_sum(alloc, listing.text.as_slice(), sum.as_str())?;
+    Ok(listing.status == Status::Done && has_sum)
+}
+
+/// Returns what was written, and nothing if it has the sum that the case wants in its place.
+fn written_of(alloc: Global, text: &[u8], case: &Case) -> Result<Vec<u8>, AllocError> {
+    if let Some(sum) = &case.sum {
+        if has_sum(alloc, text, sum.as_str())? {
+            return Ok(Vec::new(alloc));
+        }
+    }
+    Vec::from_slice(alloc, text)
+}
+
+/// Runs the program with the arguments of the case.
+pub(crate) fn status_of<L: Source, F: Folder, K: Sink>(
+    alloc: Global,
+    case: &Case,
+    log: &mut L,
+    folder: &mut F,
+    out: &mut K,
+) -> Status {
+    let hasher = BuildHasherDefault::<FoldHasher>::new();
+    run(alloc, hasher, case.arguments.as_slice(), log, folder, out)
+}
+
+/// Whether folder and log are left as the case wants, and no call ran out of memory.
+fn is_steady(
+    alloc: Global,
+    case: &Case,
+    log: &mut MemSource,
+    folder: &mut MemFolder,
+    out: &MemSink,
+) -> Result<bool, Unread> {
+    let has_room = out.starved() == 0 && folder.starved() == 0;
+    let has_files = has_calls(alloc, folder, case)? && is_as_wanted(folder, case);
+    let has_images = has_images(alloc, folder, case)?;
+    let is_read = is_read_as_wanted(log, case);
+    Ok(has_room && has_files && has_images && is_read && has_dump(alloc, folder, case)?)
+}
+
+/// Runs the program on the log, the folder and the output.
+fn run_over(
+    alloc: Global,
+    case: &Case,
+    log: &mut MemSource,
+    folder: &mut MemFolder,
+    out: &mut MemSink,
+) -> Result<Ran, Unread> {
+    put_files(folder, case)?;
+    let status = status_of(alloc, case, log, folder, out);
+    let is_steady = is_steady(alloc, case, log, folder, out)?;
+    let written = written_of(alloc, out.bytes(), case)?;
+    Ok(Ran {
+        end: end_of(alloc, &status)?,
+        written,
+        is_steady,
+    })
+}
+
+/// Runs the program on the log and the folder.
+fn run_in(
+    alloc: Global,
+    case: &Case,
+    log: &mut MemSource,
+    folder: &mut MemFolder,
+) -> Result<Ran, Unread> {
+    let mut out = MemSink::make(alloc, case.failing_writes.as_slice())?;
+    run_over(alloc, case, log, folder, &mut out)
+}
+
+/// Runs the program on the log.
+fn run_from(alloc: Global, case: &Case, log: &mut MemSource) -> Result<Ran, Unread> {
+    let mut folder = MemFolder::make(alloc, case.failing_calls.as_slice())?;
+    run_in(alloc, case, log, &mut folder)
+}
+
+/// Runs the program on what the case gives. Each of these functions makes one object, since one that
+/// has more of them takes long to prove.
 pub(crate) fn run_case(alloc: Global, case: &Case) -> Result<Ran, Unread> {
     let log = case.log.as_slice();
     let mut log = MemSource::make(alloc, log, case.piece.max(1), case.failing_reads.as_slice())?;
-    let mut folder = folder_of(alloc, case)?;
-    let mut out = MemSink::make(alloc, case.failing_writes.as_slice())?;
-    let hasher = BuildHasherDefault::<FoldHasher>::new();
-    let arguments = case.arguments.as_slice();
-    let status = run(alloc, hasher, arguments, &mut log, &mut folder, &mut out);
-    let has_calls = has_calls(alloc, &folder, case)?;
-    let has_room = out.starved() == 0 && folder.starved() == 0;
-    let has_files = is_as_wanted(&folder, case);
-    let is_steady = has_calls && has_files && is_read_as_wanted(&mut log, case) && has_room;
-    Ok(Ran {
-        end: end_of(alloc, &status)?,
-        written: Vec::from_slice(alloc, out.bytes())?,
-        is_steady,
-    })
+    run_from(alloc, case, &mut log)
 }

@@ -1,16 +1,15 @@
 use crate::case::Case;
 use crate::cases::Tally;
-use crate::ran::end_of;
+use crate::ran::{end_of, status_of};
 use crate::unread::Unread;
+use addrman_run::Status;
 use addrman_run::TablesFault::{Compile, Rows};
-use addrman_run::{Status, run};
 use asmap_compile::CompileFault;
 use ban_list::BanFault;
 use host_io::{SureFolder, SureSink, SureSource};
 use log_lines::LineFault;
 use prefix_table::TableFault;
 use std::alloc::Global;
-use std::hash::{BuildHasherDefault, FoldHasher};
 use std::io;
 
 /// Statuses that none of the cases ends with, and the exit code and the text of each.
@@ -78,12 +77,10 @@ pub(crate) fn check_statuses(rt: &(impl Eprint + AllocGlobal)) -> io::Result<Tal
 fn is_surely_done(alloc: Global) -> Result<bool, Unread> {
     let mut case = Case::new(alloc)?;
     case.read_lines("now 1700000000")?;
-    let hasher = BuildHasherDefault::<FoldHasher>::new();
-    let arguments = case.arguments.as_slice();
     let mut log = SureSource::make(case.log.as_slice());
     let mut folder = SureFolder::make();
     let mut out = SureSink::make();
-    let status = run(alloc, hasher, arguments, &mut log, &mut folder, &mut out);
+    let status = status_of(alloc, &case, &mut log, &mut folder, &mut out);
     Ok(status == Status::Done)
 }
 

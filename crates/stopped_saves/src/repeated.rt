@@ -1,4 +1,4 @@
-use crate::mark::{SAVES, made_word, marks};
+use crate::mark::{SAVES, push_marks};
 use host_io::{Bytes, Failed, Folder, MemFolder, Memory, Name};
 use save_store::{SaveJob, save};
 use std::alloc::{AllocError, Global};
@@ -20,6 +20,11 @@ impl Way {
             Way::Pieces => "pieces",
         }
     }
+}
+
+/// Returns the words for a call that failed: whether it was made all the same.
+fn made_word(is_made: bool) -> &'static str {
+    if is_made { "made" } else { "not made" }
 }
 
 /// Saves a file by its first byte and the rest.
@@ -63,11 +68,7 @@ fn save_all(
 }
 
 /// Returns the calls from `call` on. The first is made all the same, if `is_made`.
-pub(crate) fn from_call(
-    alloc: Global,
-    call: u64,
-    is_made: bool,
-) -> Result<Vec<(u64, bool)>, AllocError> {
+fn from_call(alloc: Global, call: u64, is_made: bool) -> Result<Vec<(u64, bool)>, AllocError> {
     let mut fails = Vec::new(alloc);
     fails.push((call, is_made))?;
     for more in 1..16u64 {
@@ -76,7 +77,23 @@ pub(crate) fn from_call(
     Ok(fails)
 }
 
-/// Makes saves in a folder in which these calls fail, and returns how they went.
+/// Makes saves in the folder, and returns how they went.
+fn saves_in(
+    alloc: Global,
+    folder: &mut MemFolder,
+    way: Way,
+    count: usize,
+) -> Result<String, Memory> {
+    let mut text = save_all(alloc, folder, way, count)?;
+    text.push_str(", ")?;
+    push_marks(&mut text, folder, Name::Peers)?;
+    text.push_str("; temporary: ")?;
+    push_marks(&mut text, folder, Name::PeersTemp)?;
+    Ok(text)
+}
+
+/// Makes saves in a folder in which these calls fail, and returns how they went. A function that
+/// owns a folder has few ways out, each of which drops it.
 fn saves_with(
     alloc: Global,
     way: Way,
@@ -84,10 +101,7 @@ fn saves_with(
     fails: &[(u64, bool)],
 ) -> Result<String, Memory> {
     let mut folder = MemFolder::make(alloc, fails)?;
-    let done = save_all(alloc, &mut folder, way, count)?;
-    let found = marks(alloc, &folder, Name::Peers)?;
-    let (done, found) = (done.as_str(), found.as_str());
-    Ok(format!(in alloc; "{done}, {found}")?)
+    saves_in(alloc, &mut folder, way, count)
 }
 
 /// Makes two saves while all calls fail from one on, and returns the line about them.

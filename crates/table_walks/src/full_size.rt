@@ -45,6 +45,21 @@ fn assert_found<H: BuildHasher + Drop, L: Ledger>(
     }
 }
 
+/// Fills both, and finds each record by its slot.
+fn fill_and_find<H: BuildHasher + Drop, L: Ledger>(
+    rt: &impl Abort,
+    index: &mut PeerIndex<H>,
+    grid: &mut Grid,
+    steps: &mut Steps<L>,
+) -> Result<(), Fail> {
+    fill(rt, index, grid, steps)?;
+    assert_eq!(rt; index.len(), SLOTS as usize);
+    for number in 0..SLOTS {
+        assert_found(rt, index, grid, number, steps);
+    }
+    Ok(())
+}
+
 #[test]
 fn a_full_index_and_grid_find_each_record(rt: HostRuntime) -> Result<(), Fail> {
     find_each::<HostRuntime, Brand>(&rt, Blank::new(1))
@@ -58,12 +73,7 @@ fn find_each<R: Abort + AllocGlobal, L: Ledger>(rt: &R, blank: Blank) -> Result<
 {
     let mut steps = Steps::<L>::none(blank);
     let hasher: BuildHasherDefault<FoldHasher> = BuildHasherDefault::new();
-    let mut index = PeerIndex::make(rt.alloc(), hasher);
     let mut grid = Grid::make(rt.alloc())?;
-    fill(rt, &mut index, &mut grid, &mut steps)?;
-    assert_eq!(rt; index.len(), SLOTS as usize);
-    for number in 0..SLOTS {
-        assert_found(rt, &index, &grid, number, &mut steps);
-    }
-    Ok(())
+    let mut index = PeerIndex::make(rt.alloc(), hasher);
+    fill_and_find(rt, &mut index, &mut grid, &mut steps)
 }

@@ -132,6 +132,35 @@ fn call<L: Ledger>(
     Ok(())
 }
 
+/// The kept counts and masks are those of the records.
+fn assert_kept<L: Ledger>(
+    rt: &(impl Abort + AllocGlobal),
+    tables: &Tables<'static, Hasher>,
+    steps: &mut Steps<L>,
+) -> Result<(), Fail> {
+    let recs = tables.recs(steps)?;
+    assert_counted(rt, tables, &recs);
+    assert_masks(rt, tables, &recs, steps);
+    Ok(())
+}
+
+/// Makes many random calls, and compares after each fiftieth.
+fn make_calls<L: Ledger>(
+    rt: &(impl Abort + AllocGlobal),
+    tables: &mut Tables<'static, Hasher>,
+    steps: &mut Steps<L>,
+) -> Result<(), Fail> {
+    let mut state = 5;
+    for turn in 0..6000u32 {
+        state = step(state);
+        call(rt, tables, state, NOW + 3600 * turn, steps)?;
+        if turn % 50 == 0 {
+            assert_kept(rt, tables, steps)?;
+        }
+    }
+    Ok(())
+}
+
 /// Entries of five networks are added, evicted as they grow old, moved and displaced.
 #[test]
 fn the_kept_counts_and_masks_are_those_of_the_records(rt: HostRuntime) -> Result<(), Fail> {
@@ -146,15 +175,5 @@ fn count_after_calls<R: Abort + AllocGlobal, L: Ledger>(rt: &R, blank: Blank) ->
 {
     let mut steps = Steps::<L>::none(blank);
     let mut tables = open(rt.alloc())?;
-    let mut state = 5;
-    for turn in 0..6000u32 {
-        state = step(state);
-        call(rt, &mut tables, state, NOW + 3600 * turn, &mut steps)?;
-        if turn % 50 == 0 {
-            let recs = tables.recs(&mut steps)?;
-            assert_counted(rt, &tables, &recs);
-            assert_masks(rt, &tables, &recs, &mut steps);
-        }
-    }
-    Ok(())
+    make_calls(rt, &mut tables, &mut steps)
 }

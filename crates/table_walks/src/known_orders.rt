@@ -81,8 +81,26 @@ fn remove_parts<H: BuildHasher + Drop, L: Ledger>(
     }
 }
 
-/// Ten thousand records under a hasher: some are removed, some change positions, and others come
-/// after them.
+/// Ten thousand records: some are removed, some change positions, and others come after them.
+fn change_ten_thousand<H: BuildHasher + Drop, L: Ledger>(
+    rt: &impl Abort,
+    index: &mut PeerIndex<H>,
+    list: &mut Vec<Item>,
+    steps: &mut Steps<L>,
+) -> Result<(), Fail> {
+    add_all(rt, index, list, (0, 10_000), steps)?;
+    assert_same(rt, index, list.as_slice(), steps);
+    remove_parts(rt, index, list, steps);
+    for pair in [(0, 8_899), (4_450, 4_451), (17, 17)] {
+        swap(rt, index, list, pair, steps);
+        assert_same(rt, index, list.as_slice(), steps);
+    }
+    add_all(rt, index, list, (10_000, 11_100), steps)?;
+    assert_same(rt, index, list.as_slice(), steps);
+    Ok(())
+}
+
+/// The same under a hasher.
 fn ten_thousand<R: Abort + AllocGlobal, H: BuildHasher + Drop>(
     rt: &R,
     hasher: H,
@@ -90,7 +108,7 @@ fn ten_thousand<R: Abort + AllocGlobal, H: BuildHasher + Drop>(
     ten_thousand_counted::<R, H, Brand>(rt, hasher, Blank::new(1))
 }
 
-/// The same with a counter of steps.
+/// The same with a counter of steps too.
 fn ten_thousand_counted<R: Abort + AllocGlobal, H: BuildHasher + Drop, L: Ledger>(
     rt: &R,
     hasher: H,
@@ -101,18 +119,9 @@ fn ten_thousand_counted<R: Abort + AllocGlobal, H: BuildHasher + Drop, L: Ledger
     requires one { blank.parts ≡ 1 }
 {
     let mut steps = Steps::<L>::none(blank);
-    let mut index = PeerIndex::make(rt.alloc(), hasher);
     let mut list = Vec::new(rt.alloc());
-    add_all(rt, &mut index, &mut list, (0, 10_000), &mut steps)?;
-    assert_same(rt, &index, list.as_slice(), &mut steps);
-    remove_parts(rt, &mut index, &mut list, &mut steps);
-    for pair in [(0, 8_899), (4_450, 4_451), (17, 17)] {
-        swap(rt, &mut index, &mut list, pair, &mut steps);
-        assert_same(rt, &index, list.as_slice(), &mut steps);
-    }
-    add_all(rt, &mut index, &mut list, (10_000, 11_100), &mut steps)?;
-    assert_same(rt, &index, list.as_slice(), &mut steps);
-    Ok(())
+    let mut index = PeerIndex::make(rt.alloc(), hasher);
+    change_ten_thousand(rt, &mut index, &mut list, &mut steps)
 }
 
 #[test]

@@ -1,5 +1,5 @@
-// Lookups in compiled tables, beside the longest match of the table.
-use crate::samples::random_table;
+// The longest match in tables, beside lookups in the compiled tables and a walk over all rows.
+use crate::samples::{cut, random_table};
 use asmap_compile::compile;
 use asmap_vm::check;
 use prefix_table::{Row, Table};
@@ -23,7 +23,19 @@ fn edges(row: &Row) -> [u128; 4] {
     ]
 }
 
-/// The compiled table gives each such address the number that the table does.
+/// The number of the longest row that covers the address, by a walk over all rows.
+fn plain_best(rows: &[Row], address: u128) -> u32 {
+    let (mut best, mut len) = (0, 0);
+    for row in rows {
+        if cut(address, row.len) == row.bits && row.len >= len {
+            best = row.asn;
+            len = row.len;
+        }
+    }
+    best
+}
+
+/// The table and the compiled one give each such address the number that the walk does.
 fn assert_same(rt: &impl Abort, alloc: Global, table: &Table) -> Result<(), Fail> {
     let file = compile(alloc, table)?;
     let Ok(map) = check(file.code()) else {
@@ -31,17 +43,18 @@ fn assert_same(rt: &impl Abort, alloc: Global, table: &Table) -> Result<(), Fail
     };
     for row in table.rows() {
         for address in edges(row) {
-            let found = map.asn(address);
-            assert_eq!(rt; found, table.best(address), "at {address}");
+            let want = plain_best(table.rows(), address);
+            assert_eq!(rt; table.best(address), want, "at {address}");
+            assert_eq!(rt; map.asn(address), want, "at {address}");
         }
     }
     Ok(())
 }
 
-/// The compiled asmap and the table agree at the ends of each row and beside them.
+/// They agree at the ends of each row and beside them.
 #[test]
-fn compiled_tables_give_the_numbers_of_their_longest_rows(rt: HostRuntime) -> Result<(), Fail> {
-    for seed in 1..=6u64 {
+fn tables_and_asmaps_give_the_number_of_the_longest_row(rt: HostRuntime) -> Result<(), Fail> {
+    for seed in 1..=8u64 {
         let table = random_table(rt.alloc(), seed, 700)?;
         assert!(rt; table.rows().len() > 500);
         assert_same(&rt, rt.alloc(), &table)?;

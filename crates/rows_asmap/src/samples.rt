@@ -8,7 +8,7 @@ use std::io::Write;
 use std::test::Fail;
 
 /// The bits up to a length, and zeros.
-fn cut(bits: u128, len: u8) -> u128 {
+pub(crate) fn cut(bits: u128, len: u8) -> u128 {
     if len == 0 || len > 128 {
         return 0;
     }

@@ -1,5 +1,5 @@
-// The longest match in a small table, its rows, and the text that is printed of it.
-use prefix_table::{Row, Table, put_table, read_table};
+// The longest match in a small table, its rows, and the texts of tables and of their faults.
+use prefix_table::{Row, Table, TableFault, put_table, read_table};
 use std::test::Fail;
 
 /// Seven rows in no order.
@@ -88,6 +88,25 @@ fn other_rows_are_no_table(rt: HostRuntime) -> Result<(), Fail> {
     for rows in others {
         let made = Table::from_rows(rt.alloc(), &rows).ok().ok_or("no memory")?;
         assert!(rt; made.is_none(), "of {rows:?}");
+    }
+    Ok(())
+}
+
+/// What is shown of a fault.
+#[test]
+fn each_fault_has_its_text(rt: HostRuntime) -> Result<(), Fail> {
+    let cases = [
+        (TableFault::Form { line: 1 }, "form"),
+        (TableFault::Number { line: 1 }, "number"),
+        (TableFault::HostBits { line: 1 }, "host-bits"),
+        (TableFault::Repeated { line: 1 }, "repeated"),
+        (TableFault::TooMany, "too-many"),
+        (TableFault::TooLarge { size: 1 }, "too-large"),
+        (TableFault::Memory, "out of memory"),
+    ];
+    for (fault, text) in cases {
+        let shown = format!(in rt.alloc(); "{fault}")?;
+        assert_eq!(rt; shown.as_str(), text);
     }
     Ok(())
 }
