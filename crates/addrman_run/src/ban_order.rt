@@ -2,7 +2,7 @@ use ban_list::Subnet;
 use net_addr::NetAddr;
 
 /// A command on the list of bans.
-#[derive(Clone, Copy, Debug)]
+#[derive(Clone, Copy)]
 pub(crate) enum BanOrder {
     /// Ban a subnet from `now` until a later time.
     Ban {

@@ -17,7 +17,7 @@ use host_io::{Folder, Sink};
 use std::alloc::Global;
 
 /// Why there is no text about a file.
-#[derive(Clone, Copy, Debug, PartialEq, Eq)]
+#[derive(Clone, Copy)]
 pub(crate) enum Refusal {
     /// It is no asmap.
     Asmap(CodeFault),

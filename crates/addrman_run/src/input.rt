@@ -16,7 +16,7 @@ use save_store::{LoadFault, load};
 use std::alloc::Global;
 
 /// A file that commands load whole.
-#[derive(Clone, Copy, Debug, PartialEq, Eq)]
+#[derive(Clone, Copy)]
 pub(crate) enum Input {
     Asmap,
     Prefixes,

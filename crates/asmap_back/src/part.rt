@@ -6,7 +6,7 @@ use asmap_vm::match_size;
 use prefix_table::Row;
 
 /// A part of the tree that is still to be read.
-#[derive(Clone, Copy, Debug)]
+#[derive(Clone, Copy)]
 pub(crate) struct Part {
     /// The path of the part as the high bits of an address; the others are zero.
     pub bits: u128,

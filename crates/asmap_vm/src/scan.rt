@@ -8,7 +8,7 @@ use crate::stack::{RightPart, RightParts};
 use bit_code::Bits;
 
 /// What is right before the part that is read next, if that forbids some parts.
-#[derive(Clone, Copy, Debug, PartialEq, Eq)]
+#[derive(Clone, Copy)]
 pub(crate) enum Before {
     /// Nothing that matters.
     Nothing,
@@ -41,7 +41,7 @@ pub(crate) struct Scan {
 }
 
 /// What came of reading one instruction.
-#[derive(Clone, Copy, Debug, PartialEq, Eq)]
+#[derive(Clone, Copy)]
 pub(crate) enum Step {
     /// The file goes on.
     More,

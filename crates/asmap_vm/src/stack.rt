@@ -7,7 +7,7 @@ use std::marker::Model;
 pub(crate) const DEPTH: usize = 128;
 
 /// The right part of a jump, which is still to be read.
-#[derive(Clone, Copy, Debug, PartialEq, Eq)]
+#[derive(Clone, Copy)]
 pub(crate) struct RightPart {
     /// The offset at which it begins, and at which the left part has to end.
     pub begins: usize,

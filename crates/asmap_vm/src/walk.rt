@@ -8,7 +8,7 @@ use crate::instruction::{Instruction, match_size, read_instruction};
 use bit_code::Bits;
 
 /// How far an address was followed.
-#[derive(Clone, Copy, Debug)]
+#[derive(Clone, Copy)]
 pub(crate) struct Walk {
     /// The offset of the next instruction.
     pub offset: usize,

@@ -8,7 +8,7 @@ use crate::coder::Coder;
 use crate::reversal::front_digits;
 
 /// A number that some bits begin with.
-#[derive(Clone, Copy, Debug, PartialEq, Eq)]
+#[derive(Clone, Copy)]
 pub(crate) struct Number {
     /// The value.
     pub value: u32,

@@ -6,7 +6,7 @@ use crate::coder::Coder;
 
 /// Classes whose sizes rise by one, of the coders of `DecodeASN`, `DecodeMatch` and `DecodeJump` in
 /// Bitcoin Core's `util/asmap.cpp`.
-#[derive(Clone, Copy, Debug, PartialEq, Eq)]
+#[derive(Clone, Copy)]
 pub(crate) struct Classes {
     /// The value that is spelled first.
     pub least: u32,

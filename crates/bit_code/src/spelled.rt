@@ -9,7 +9,7 @@ use crate::packing::cat_bits;
 use crate::reversal::front_digits;
 
 /// The bits that spell a number.
-#[derive(Clone, Copy, Debug, PartialEq, Eq)]
+#[derive(Clone, Copy)]
 pub(crate) struct Spelled {
     /// The bits, the first as the lowest.
     pub bits: u64,

@@ -2,7 +2,7 @@ ghost use Rattle.std.specs.Prelude.{◌≡◌};
 ghost use Rattle.gen_load.specs.Log.{kind_of};
 
 /// The kinds of lines that are drawn.
-#[derive(Clone, Copy, Debug)]
+#[derive(Clone, Copy)]
 pub enum Kind {
     /// The clock goes on.
     Now,

@@ -13,7 +13,7 @@ const PEERS: u64 = 16_384;
 const DAY: u64 = 86_400;
 
 /// Where a log is: its random words to come, and its clock in seconds since 1970.
-#[derive(Clone, Debug, Drop)]
+#[derive(Clone, Drop)]
 pub struct Position {
     pub generator: Xoshiro256PlusPlus,
     pub time: u32,

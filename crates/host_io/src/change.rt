@@ -2,7 +2,7 @@ use crate::bytes::Bytes;
 use crate::name::Name;
 
 /// A change of a folder in memory: what a call of `Folder` did, or `MemFolder::put`.
-#[derive(Debug, Drop)]
+#[derive(Drop)]
 pub enum Change {
     /// A file was put there, with its bytes and its name safe.
     Put {

@@ -8,7 +8,7 @@ use std::alloc::{AllocError, Global};
 use std::marker::Model;
 
 /// A name of a folder in memory, with all that a crash may leave at it.
-#[derive(Debug, Drop)]
+#[derive(Drop)]
 pub struct Entry {
     file: Option<Bytes>,
     is_torn: bool,

@@ -5,7 +5,7 @@ use crate::bytes::Bytes;
 use std::alloc::{AllocError, Global};
 
 /// What a crash may leave at a name of a folder.
-#[derive(Debug, Drop)]
+#[derive(Drop)]
 pub enum Fate {
     /// No file.
     Absent,

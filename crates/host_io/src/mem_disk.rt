@@ -2,6 +2,7 @@ ghost use Rattle.std.specs.Prelude.{◌≡◌, ◌<◌, [], length, IfOk, OnOk, 
 ghost use Rattle.host_io.specs.Disk.{AllowsOne, IsImage, MayHave, after_sync_dir, files_on, safe};
 ghost use Rattle.host_io.specs.MemFolder.{after_change, disk_of, log_with};
 ghost use Rattle.host_io.specs.PerName.{each, under};
+ghost use Rattle.host_io.specs.declared.change.Change.TheVariants as change;
 
 use crate::bytes::Bytes;
 use crate::change::Change;
@@ -19,7 +20,7 @@ const TORN: &[u8] = b"torn";
 const EMPTY: &[u8] = b"";
 
 /// The disk of a folder in memory: what it had at first, its changes, and what they made of it.
-#[derive(Debug, Drop)]
+#[derive(Drop)]
 pub struct MemDisk {
     alloc: Global,
     first: PerName<Option<Bytes>>,
@@ -71,16 +72,26 @@ impl MemDisk {
         ensures as_read { choice ≡ 0 → IfOk result (λ files.
             files ≡ files_on (disk_of self.now)) }
     {
+        let mut files = PerName::none();
+        self.find_all(choice, &mut files)?;
+        Ok(files)
+    }
+
+    /// Puts the files that a crash leaves under their names. A function that owned them would drop
+    /// them at each way out.
+    fn find_all(&self, choice: u64, files: &mut PerName<Option<Bytes>>) -> Result<(), AllocError>
+        ensures image { OnOk result (IsImage (disk_of self.now) files.new) }
+        ensures as_read { choice ≡ 0 → OnOk result (files.new ≡ files_on (disk_of self.now)) }
+    {
         let mut rest = choice.saturating_sub(3);
-        Ok(PerName {
-            peers: self.found(Name::Peers, choice, &mut rest)?,
-            peers_temp: self.found(Name::PeersTemp, choice, &mut rest)?,
-            asmap: self.found(Name::Asmap, choice, &mut rest)?,
-            asmap_temp: self.found(Name::AsmapTemp, choice, &mut rest)?,
-            prefixes: self.found(Name::Prefixes, choice, &mut rest)?,
-            bans: self.found(Name::Bans, choice, &mut rest)?,
-            bans_temp: self.found(Name::BansTemp, choice, &mut rest)?,
-        })
+        files.peers = self.found(Name::Peers, choice, &mut rest)?;
+        files.peers_temp = self.found(Name::PeersTemp, choice, &mut rest)?;
+        files.asmap = self.found(Name::Asmap, choice, &mut rest)?;
+        files.asmap_temp = self.found(Name::AsmapTemp, choice, &mut rest)?;
+        files.prefixes = self.found(Name::Prefixes, choice, &mut rest)?;
+        files.bans = self.found(Name::Bans, choice, &mut rest)?;
+        files.bans_temp = self.found(Name::BansTemp, choice, &mut rest)?;
+        Ok(())
     }
 
     /// Returns the file that a crash leaves at a name, or none. From choice 3 on, `rest` picks the
@@ -136,15 +147,35 @@ impl MemDisk {
 fn safe_entries(alloc: Global, files: &PerName<Option<Bytes>>) -> Result<PerName<Entry>, AllocError>
     ensures { IfOk result (λ entries. entries ≡ each safe files.now) }
 {
-    Ok(PerName {
-        peers: safe_entry(alloc, &files.peers)?,
-        peers_temp: safe_entry(alloc, &files.peers_temp)?,
-        asmap: safe_entry(alloc, &files.asmap)?,
-        asmap_temp: safe_entry(alloc, &files.asmap_temp)?,
-        prefixes: safe_entry(alloc, &files.prefixes)?,
-        bans: safe_entry(alloc, &files.bans)?,
-        bans_temp: safe_entry(alloc, &files.bans_temp)?,
-    })
+    let mut entries = PerName {
+        peers: Entry::safe(alloc, None),
+        peers_temp: Entry::safe(alloc, None),
+        asmap: Entry::safe(alloc, None),
+        asmap_temp: Entry::safe(alloc, None),
+        prefixes: Entry::safe(alloc, None),
+        bans: Entry::safe(alloc, None),
+        bans_temp: Entry::safe(alloc, None),
+    };
+    copy_files(alloc, files, &mut entries)?;
+    Ok(entries)
+}
+
+/// Puts copies of these files, all of them safe, under their names.
+fn copy_files(
+    alloc: Global,
+    files: &PerName<Option<Bytes>>,
+    entries: &mut PerName<Entry>,
+) -> Result<(), AllocError>
+    ensures { OnOk result (entries.new ≡ each safe files.now) }
+{
+    entries.set(Name::Peers, safe_entry(alloc, &files.peers)?);
+    entries.set(Name::PeersTemp, safe_entry(alloc, &files.peers_temp)?);
+    entries.set(Name::Asmap, safe_entry(alloc, &files.asmap)?);
+    entries.set(Name::AsmapTemp, safe_entry(alloc, &files.asmap_temp)?);
+    entries.set(Name::Prefixes, safe_entry(alloc, &files.prefixes)?);
+    entries.set(Name::Bans, safe_entry(alloc, &files.bans)?);
+    entries.set(Name::BansTemp, safe_entry(alloc, &files.bans_temp)?);
+    Ok(())
 }
 
 /// Makes a name with a copy of this file, or with none, that is safe.
@@ -183,18 +214,29 @@ fn make_change(
             entries.set(*name, entry);
             Ok(())
         }
-        Change::Renamed { from, to } => {
-            let target = entries.get(*to).target(alloc, entries.get(*from))?;
-            let left = entries.get(*from).left(alloc)?;
-            entries.set(*to, target);
-            entries.set(*from, left);
-            Ok(())
-        }
+        Change::Renamed { from, to } => rename(alloc, entries, *from, *to),
         Change::FolderSynced => {
             settle(entries);
             Ok(())
         }
     }
+}
+
+/// Renames a file.
+fn rename(
+    alloc: Global,
+    entries: &mut PerName<Entry>,
+    from: Name,
+    to: Name,
+) -> Result<(), AllocError>
+    ensures ok { OnOk result (entries.new ≡ after_change (change.Renamed from to) entries.old) }
+    ensures err { OnErr result (entries.new ≡ entries.old) }
+{
+    let target = entries.get(to).target(alloc, entries.get(from))?;
+    let left = entries.get(from).left(alloc)?;
+    entries.set(to, target);
+    entries.set(from, left);
+    Ok(())
 }
 
 /// Changes the names to what they are after the folder was synced.

@@ -22,10 +22,10 @@ use std::marker::Model;
 
 /// A folder in memory. It records every call of `Folder`, and fails the calls that its maker chose.
 /// A call also fails if there is no memory for what it keeps.
-#[derive(Debug, Drop)]
+#[derive(Drop)]
 pub struct MemFolder {
     alloc: Global,
-    disk: MemDisk,
+    disk: Box<MemDisk>,
     fails: Vec<(u64, bool)>,
     history: Vec<Call>,
     calls: u64,
@@ -39,7 +39,7 @@ impl Model for MemFolder {
     ghost Value = { FolderState };
 
     ghost view = { λ f. record {
-      log = f.disk;
+      log = f.disk.value;
       fails = f.fails.items;
       history = f.history.items;
       calls = f.calls;
@@ -61,16 +61,7 @@ impl MemFolder {
         ensures faults { IfOk result (λ folder. folder.faults ≡ 0) }
         ensures starved { IfOk result (λ folder. folder.starved ≡ 0) }
     {
-        let first = PerName {
-            peers: None,
-            peers_temp: None,
-            asmap: None,
-            asmap_temp: None,
-            prefixes: None,
-            bans: None,
-            bans_temp: None,
-        };
-        MemFolder::with_files(alloc, first, fails)
+        MemFolder::with_files(alloc, PerName::none(), fails)
     }
 
     /// Makes a folder with these files, all of them safe. The calls in `fails` will fail.
@@ -87,10 +78,12 @@ impl MemFolder {
         ensures faults { IfOk result (λ folder. folder.faults ≡ 0) }
         ensures starved { IfOk result (λ folder. folder.starved ≡ 0) }
     {
+        let fails = fails.to_vec(alloc)?;
+        let disk = boxed(alloc, MemDisk::make(alloc, first)?)?;
         Ok(MemFolder {
             alloc,
-            disk: MemDisk::make(alloc, first)?,
-            fails: fails.to_vec(alloc)?,
+            disk,
+            fails,
             history: Vec::new(alloc),
             calls: 0,
             faults: 0,
@@ -267,6 +260,16 @@ impl MemFolder {
                 Err(fault(&mut self.faults))
             }
         }
+    }
+}
+
+/// Puts the disk into a box, so that a function that owns the folder has little to drop.
+fn boxed(alloc: Global, disk: MemDisk) -> Result<Box<MemDisk>, Memory>
+    ensures { IfOk result (λ made. made.value ≡ disk) }
+{
+    match Box::new(alloc, disk) {
+        Ok(disk) => Ok(disk),
+        Err(_) => Err(Memory),
     }
 }
 

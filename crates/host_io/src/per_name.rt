@@ -12,6 +12,33 @@ pub struct PerName<T> {
     pub bans_temp: T,
 }
 
+impl<T> PerName<Option<T>> {
+    ghost use Rattle.std.specs.Prelude.{◌≡◌, None};
+
+    /// Returns `None` under each name.
+    pub(crate) fn none() -> PerName<Option<T>>
+        ensures { result ≡ record {
+          peers = None;
+          peers_temp = None;
+          asmap = None;
+          asmap_temp = None;
+          prefixes = None;
+          bans = None;
+          bans_temp = None;
+        } }
+    {
+        PerName {
+            peers: None,
+            peers_temp: None,
+            asmap: None,
+            asmap_temp: None,
+            prefixes: None,
+            bans: None,
+            bans_temp: None,
+        }
+    }
+}
+
 impl<T> PerName<T> {
     ghost use Rattle.std.specs.Prelude.{◌≡◌};
     ghost use Rattle.host_io.specs.PerName.{under, with};

@@ -5,7 +5,7 @@ use std::alloc::Global;
 use std::marker::Model;
 
 /// Bytes that were read and are not used yet. Contracts see them as a list.
-#[derive(Debug, Drop)]
+#[derive(Drop)]
 pub struct Buffer {
     /// All of it is in use for bytes or free for them.
     bytes: Vec<u8>,

@@ -1,5 +1,5 @@
 /// Why there is no next line.
-#[derive(Clone, Copy, Debug, PartialEq, Eq)]
+#[derive(Clone, Copy)]
 pub enum LogFault {
     /// A read failed.
     Failed,

@@ -8,7 +8,7 @@ use std::marker::Model;
 
 /// Reads a log in pieces, and gives its lines one after another. Nothing is read while a whole line
 /// waits, and what waits is at most a line and one read.
-#[derive(Debug, Drop)]
+#[derive(Drop)]
 pub struct LogReader {
     buffer: Buffer,
     /// So many of the first bytes that wait have no line feed.

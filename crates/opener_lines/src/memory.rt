@@ -1,7 +1,7 @@
 use std::alloc::AllocError;
 
 /// Out of memory.
-#[derive(Clone, Copy, Debug, PartialEq, Eq)]
+#[derive(Clone, Copy)]
 pub(crate) struct Memory;
 
 impl From<AllocError> for Memory {

@@ -1,12 +1,12 @@
 /// The family of an address in a row's line.
-#[derive(Clone, Copy, Debug, PartialEq, Eq)]
+#[derive(Clone, Copy)]
 pub enum Family {
     Ipv4,
     Ipv6,
 }
 
 /// What a row's line says, before its numbers are tested.
-#[derive(Clone, Copy, Debug)]
+#[derive(Clone, Copy)]
 pub struct Entry {
     /// The family of the address.
     pub family: Family,

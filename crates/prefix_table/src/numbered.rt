@@ -6,7 +6,7 @@ use std::alloc::{AllocError, Global};
 
 /// A row with the number of its line, counted from 1. The order is that of the rows of a table;
 /// rows with the same prefix are in the order of their lines.
-#[derive(Clone, Copy, Debug, PartialEq, Eq, PartialOrd, Ord)]
+#[derive(Clone, Copy, PartialEq, Eq, PartialOrd, Ord)]
 pub(crate) struct NumberedRow {
     /// As in `Row`.
     pub bits: u128,

@@ -1,5 +1,5 @@
 // The longest match in tables, beside lookups in the compiled tables and a walk over all rows.
-use crate::samples::{cut, random_table};
+use crate::samples::{cut, near_table, random_table};
 use asmap_compile::compile;
 use asmap_vm::check;
 use prefix_table::{Row, Table};
@@ -57,6 +57,17 @@ fn tables_and_asmaps_give_the_number_of_the_longest_row(rt: HostRuntime) -> Resu
     for seed in 1..=8u64 {
         let table = random_table(rt.alloc(), seed, 700)?;
         assert!(rt; table.rows().len() > 500);
+        assert_same(&rt, rt.alloc(), &table)?;
+    }
+    Ok(())
+}
+
+/// The same of tables of which many rows lie in each other.
+#[test]
+fn near_rows_give_the_number_of_the_longest(rt: HostRuntime) -> Result<(), Fail> {
+    for seed in 0..8u64 {
+        let table = near_table(rt.alloc(), seed)?;
+        assert!(rt; table.rows().len() > 100);
         assert_same(&rt, rt.alloc(), &table)?;
     }
     Ok(())

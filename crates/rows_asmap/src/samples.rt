@@ -1,9 +1,9 @@
-// Random tables.
+// Random tables of two kinds.
 use net_addr::put_ipv6;
 use prefix_table::{MAX_TEXT, Row, Table, read_table};
 use rand_core::{Rng, SeedableRng};
 use rand_xoshiro::Xoshiro256PlusPlus;
-use std::alloc::Global;
+use std::alloc::{AllocError, Global};
 use std::io::Write;
 use std::test::Fail;
 
@@ -52,6 +52,14 @@ fn put_row(row: Row, out: &mut Vec<u8>) -> Result<(), Fail> {
     Ok(())
 }
 
+/// Reads a text that is within the limit.
+fn read_short(alloc: Global, text: &[u8]) -> Result<Table, Fail> {
+    if text.len() > MAX_TEXT {
+        return Err("too long".into());
+    }
+    Ok(read_table(alloc, text)?)
+}
+
 /// A table of random rows, nested ones and ones with equal numbers among them.
 pub(crate) fn random_table(alloc: Global, seed: u64, count: usize) -> Result<Table, Fail> {
     let mut random = Xoshiro256PlusPlus::seed_from_u64(seed);
@@ -67,8 +75,45 @@ pub(crate) fn random_table(alloc: Global, seed: u64, count: usize) -> Result<Tab
             rows.push(row)?;
         }
     }
-    if text.len() > MAX_TEXT {
-        return Err("too long".into());
+    read_short(alloc, text.as_slice())
+}
+
+/// A prefix near to others, so that many lie in each other.
+fn near_prefix(random: &mut Xoshiro256PlusPlus) -> (u128, u8) {
+    let word = random.next_u64();
+    let len = (word % 129) as u8;
+    let high = u128::from(word / 256 % 4) << 126;
+    let low = u128::from(word / 1024 % 16) << 60;
+    (cut(high | low, len), len)
+}
+
+/// Distinct prefixes of `near_prefix`, in their order.
+fn near_prefixes(
+    alloc: Global,
+    random: &mut Xoshiro256PlusPlus,
+) -> Result<Vec<(u128, u8)>, AllocError> {
+    let mut prefixes = Vec::new(alloc);
+    for _ in 0..500 {
+        prefixes.push(near_prefix(random))?;
     }
-    Ok(read_table(alloc, text.as_slice())?)
+    prefixes.sort_unstable();
+    prefixes.dedup();
+    Ok(prefixes)
+}
+
+/// A table of such prefixes with one of three numbers each, read from a text with the last first.
+pub(crate) fn near_table(alloc: Global, seed: u64) -> Result<Table, Fail> {
+    let mut random = Xoshiro256PlusPlus::seed_from_u64(seed);
+    let prefixes = near_prefixes(alloc, &mut random)?;
+    let mut text = Vec::new(alloc);
+    for (bits, len) in prefixes.iter().rev() {
+        let asn = 1 + (random.next_u64() % 3) as u32;
+        let row = Row {
+            bits: *bits,
+            len: *len,
+            asn,
+        };
+        put_row(row, &mut text)?;
+    }
+    read_short(alloc, text.as_slice())
 }

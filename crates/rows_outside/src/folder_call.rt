@@ -122,11 +122,23 @@ pub(crate) fn answer<R: Files + Alloc>(
 }
 
 /// Makes the call, and prints it with its answer.
-pub(crate) fn print_answer<R: Print + AllocGlobal, F: Files + Alloc>(
+fn print_answer<R: Print + AllocGlobal, F: Files + Alloc>(
     rt: &R,
     folder: &mut DirFolder<'_, F>,
     call: FolderCall<'_>,
 ) -> io::Result<()> {
     let answer = answer(rt.alloc(), folder, call)?;
     println!(rt; "{call:?}: {}", answer.as_str())
+}
+
+/// Makes the calls, and prints each with its answer.
+pub(crate) fn print_answers<R: Print + AllocGlobal, F: Files + Alloc>(
+    rt: &R,
+    folder: &mut DirFolder<'_, F>,
+    calls: &[FolderCall<'_>],
+) -> io::Result<()> {
+    for call in calls {
+        print_answer(rt, folder, *call)?;
+    }
+    Ok(())
 }

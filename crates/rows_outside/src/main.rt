@@ -1,8 +1,9 @@
 //! Calls of the current folder of the system, also while its system calls fail, and of sources and
-//! sinks over readers and writers. Each call is printed with its answer, and the output is compared
-//! with the answers that are right.
+//! sinks over readers and writers, and what crashes leave of a folder in memory. Each call is printed
+//! with its answer, and the output is compared with the answers that are right.
 #![tactic(auto)]
 
+mod crashes;
 mod folder_call;
 mod saves;
 mod sources;
@@ -10,7 +11,7 @@ mod watch;
 mod watched;
 mod writers;
 
-use crate::folder_call::{CALLS, print_answer};
+use crate::folder_call::{CALLS, print_answers};
 use host_io::DirFolder;
 use std::os::unix::fs::symlink;
 use std::process::ExitCode;
@@ -24,23 +25,15 @@ fn prepare<R: Files + AllocGlobal>(rt: &R) -> io::Result<()> {
     symlink(rt, "prefixes.txt", "prefixes.txt")
 }
 
-/// Makes the calls of the folder, and prints their answers.
-fn print_calls<R: Files + Print + AllocGlobal>(rt: &R) -> io::Result<()> {
-    let mut folder = DirFolder::make(rt);
-    for call in CALLS {
-        print_answer(rt, &mut folder, call)?;
-    }
-    Ok(())
-}
-
 /// Prints all answers.
 fn print_all<R: Files + Print + AllocGlobal>(rt: &R) -> io::Result<()> {
     sources::print_pieces(rt)?;
     writers::print_counts(rt)?;
     prepare(rt)?;
-    print_calls(rt)?;
-    saves::print_saves(rt)?;
-    watched::print_watched(rt)
+    print_answers(rt, &mut DirFolder::make(rt), &CALLS)?;
+    saves::print_saves(rt, &mut DirFolder::make(rt))?;
+    watched::print_watched(rt)?;
+    crashes::print_crashes(rt)
 }
 
 fn main(rt: HostRuntime) -> ExitCode {

@@ -1,6 +1,7 @@
 // Saves of peers.dat in the current folder, at once and in pieces, and what is loaded after each.
 use host_io::{Bytes, DirFolder, Failed, Name};
 use save_store::{SaveJob, load, publish, write_temp};
+use std::alloc::{AllocError, Global};
 use std::io;
 use std::rt::Files;
 
@@ -49,20 +50,26 @@ fn print_saved<R: Files + Print + AllocGlobal>(
     print_loaded(rt, folder, 6)
 }
 
-/// Saves a file that takes more than one read, and prints whether the same bytes are loaded.
-fn print_long<R: Files + Print + AllocGlobal>(
-    rt: &R,
-    folder: &mut DirFolder<'_, R>,
-) -> io::Result<()> {
-    let mut bytes = Vec::new(rt.alloc());
+/// Makes a file that takes more than one read.
+fn long_bytes(alloc: Global) -> Result<Vec<u8>, AllocError> {
+    let mut bytes = Vec::new(alloc);
     for index in 0..70_000u32 {
         bytes.push((index % 251) as u8)?;
     }
-    let saved = save_whole(folder, bytes.as_slice());
+    Ok(bytes)
+}
+
+/// Saves a long file, and prints whether the same bytes are loaded.
+fn print_long<R: Files + Print + AllocGlobal>(
+    rt: &R,
+    folder: &mut DirFolder<'_, R>,
+    bytes: &[u8],
+) -> io::Result<()> {
+    let saved = save_whole(folder, bytes);
     println!(rt; "saved: {saved:?}")?;
     match load(rt.alloc(), folder, Name::Peers, 70_000) {
         Ok(Some(loaded)) => {
-            let same = loaded.items() == bytes.as_slice();
+            let same = loaded.items() == bytes;
             println!(rt; "loaded the same: {same}")
         }
         Ok(None) => println!(rt; "loaded: absent"),
@@ -71,14 +78,16 @@ fn print_long<R: Files + Print + AllocGlobal>(
 }
 
 /// Saves a file at once, in pieces, at once again with more bytes than are loaded, and a long one.
-pub(crate) fn print_saves<R: Files + Print + AllocGlobal>(rt: &R) -> io::Result<()> {
-    let mut folder = DirFolder::make(rt);
-    let saved = save_whole(&mut folder, b"first");
-    print_saved(rt, &mut folder, saved)?;
+pub(crate) fn print_saves<R: Files + Print + AllocGlobal>(
+    rt: &R,
+    folder: &mut DirFolder<'_, R>,
+) -> io::Result<()> {
+    let saved = save_whole(folder, b"first");
+    print_saved(rt, folder, saved)?;
     let second = Bytes::of(b"second".to_vec(rt.alloc())?);
-    let saved = save_in_pieces(&mut folder, second);
-    print_saved(rt, &mut folder, saved)?;
-    let saved = save_whole(&mut folder, b"too long");
-    print_saved(rt, &mut folder, saved)?;
-    print_long(rt, &mut folder)
+    let saved = save_in_pieces(folder, second);
+    print_saved(rt, folder, saved)?;
+    let saved = save_whole(folder, b"too long");
+    print_saved(rt, folder, saved)?;
+    print_long(rt, folder, long_bytes(rt.alloc())?.as_slice())
 }

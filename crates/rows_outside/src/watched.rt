@@ -1,6 +1,6 @@
 // The system calls that the calls of a folder make, what they answer if one of those fails once, and
 // what is loaded of a file that has another length than it said.
-use crate::folder_call::{FolderCall, answer, print_answer};
+use crate::folder_call::{FolderCall, answer, print_answers};
 use crate::saves::print_loaded;
 use crate::watch::{Plan, SystemCall, Watch};
 use host_io::{DirFolder, Name};
@@ -59,21 +59,6 @@ const FAULTS: [(SystemCall, FolderCall<'static>); 18] = [
     (SystemCall::OtherKind, FolderCall::Size(Name::Peers)),
 ];
 
-/// Prints the calls with the system calls that they make, and their answers.
-fn print_system_calls<R: Files + Print + AllocGlobal>(rt: &R) -> io::Result<()> {
-    let plan = Plan {
-        fails: Cell::new(None),
-        prints: true,
-        len: None,
-    };
-    let watch = Watch { rt, plan: &plan };
-    let mut folder = DirFolder::make(&watch);
-    for call in CALLS {
-        print_answer(rt, &mut folder, call)?;
-    }
-    Ok(())
-}
-
 /// Prints the answers of a call while a system call fails, and afterwards.
 fn print_fault<R: Print + AllocGlobal, F: Files + Alloc>(
     rt: &R,
@@ -91,36 +76,64 @@ fn print_fault<R: Print + AllocGlobal, F: Files + Alloc>(
 }
 
 /// Prints the answers of each call while a system call fails, and afterwards.
-fn print_faults<R: Files + Print + AllocGlobal>(rt: &R) -> io::Result<()> {
-    let plan = Plan {
-        fails: Cell::new(None),
-        prints: false,
-        len: None,
-    };
-    let watch = Watch { rt, plan: &plan };
-    let mut folder = DirFolder::make(&watch);
-    for (fault, call) in FAULTS {
-        plan.fails.set(Some(fault));
-        print_fault(rt, &mut folder, fault, call)?;
+fn print_faults<R: Print + AllocGlobal, F: Files + Alloc>(
+    rt: &R,
+    plan: &Plan,
+    folder: &mut DirFolder<'_, F>,
+) -> io::Result<()> {
+    for (fault, call) in FAULTS.iter() {
+        plan.fails.set(Some(*fault));
+        print_fault(rt, folder, *fault, *call)?;
     }
     Ok(())
 }
 
-/// Prints what is loaded of peers.dat while it says that it has this length.
-fn print_load<R: Files + Print + AllocGlobal>(rt: &R, len: u64) -> io::Result<()> {
+/// What is printed of a folder that is watched.
+#[derive(Clone, Copy)]
+enum Part {
+    /// Calls, with the system calls that they make and their answers.
+    Calls,
+    /// The answers of calls while a system call fails.
+    Faults,
+    /// What is loaded of peers.dat.
+    Load,
+}
+
+/// Prints a part.
+fn print_part<R: Print + AllocGlobal, F: Files + Alloc>(
+    rt: &R,
+    part: Part,
+    plan: &Plan,
+    folder: &mut DirFolder<'_, F>,
+) -> io::Result<()> {
+    match part {
+        Part::Calls => print_answers(rt, folder, &CALLS),
+        Part::Faults => print_faults(rt, plan, folder),
+        Part::Load => print_loaded(rt, folder, 20),
+    }
+}
+
+/// Prints a part of a folder whose system calls are printed if `prints`, and whose files say that
+/// they have this length.
+fn print_watch<R: Files + Print + AllocGlobal>(
+    rt: &R,
+    part: Part,
+    prints: bool,
+    len: Option<u64>,
+) -> io::Result<()> {
     let plan = Plan {
         fails: Cell::new(None),
-        prints: false,
-        len: Some(len),
+        prints,
+        len,
     };
     let watch = Watch { rt, plan: &plan };
-    print_loaded(rt, &mut DirFolder::make(&watch), 20)
+    print_part(rt, part, &plan, &mut DirFolder::make(&watch))
 }
 
 /// Prints all of these.
 pub(crate) fn print_watched<R: Files + Print + AllocGlobal>(rt: &R) -> io::Result<()> {
-    print_system_calls(rt)?;
-    print_faults(rt)?;
-    print_load(rt, 2)?;
-    print_load(rt, 20)
+    print_watch(rt, Part::Calls, true, None)?;
+    print_watch(rt, Part::Faults, false, None)?;
+    print_watch(rt, Part::Load, false, Some(2))?;
+    print_watch(rt, Part::Load, false, Some(20))
 }

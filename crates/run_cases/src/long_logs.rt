@@ -3,7 +3,7 @@ use crate::case::Case;
 use crate::cases::Tally;
 use crate::ran::{end_of, status_of};
 use crate::unread::Unread;
-use host_io::{MemSink, StdSource, SureFolder};
+use host_io::{MemFolder, MemSink, StdSource};
 use std::alloc::Global;
 use std::io;
 use std::io::Read;
@@ -44,25 +44,31 @@ impl Read for Comments {
     }
 }
 
-/// Whether a replay of a log of this length answers its first line and ends so.
-fn ends_so(alloc: Global, length: u64, want: &str) -> Result<bool, Unread> {
+/// Whether a replay of a log of this length in the folder answers its first line and ends so.
+fn ends_so(alloc: Global, length: u64, want: &str, folder: &mut MemFolder) -> Result<bool, Unread> {
     let case = Case::new(alloc)?;
     let mut log = StdSource::make(Comments {
         left: length,
         is_new: true,
     });
-    let mut folder = SureFolder::make();
     let mut out = MemSink::make(alloc, &[])?;
-    let status = status_of(alloc, &case, &mut log, &mut folder, &mut out);
+    let status = status_of(alloc, &case, &mut log, folder, &mut out);
     let end = end_of(alloc, &status)?;
     Ok(end.as_str() == want && out.bytes() == b"size new 0 tried 0 clashes 0\n".as_slice())
+}
+
+/// Whether the replay ends so in an empty folder, which no call of it finds out of memory.
+fn is_right(alloc: Global, length: u64, want: &str) -> Result<bool, Unread> {
+    let mut folder = MemFolder::make(alloc, &[])?;
+    let is_right = ends_so(alloc, length, want, &mut folder)?;
+    Ok(is_right && folder.starved() == 0)
 }
 
 /// Checks replays of logs of the largest size and of one byte more.
 pub(crate) fn check_long_logs(rt: &(impl Eprint + AllocGlobal)) -> io::Result<Tally> {
     let mut tally = Tally { cases: 0, wrong: 0 };
     for (length, want) in LOGS {
-        let right = match ends_so(rt.alloc(), length, want) {
+        let right = match is_right(rt.alloc(), length, want) {
             Ok(right) => right,
             Err(_) => false,
         };

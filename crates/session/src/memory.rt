@@ -1,5 +1,5 @@
 /// Out of memory.
-#[derive(Clone, Copy, Debug, PartialEq, Eq)]
+#[derive(Clone, Copy)]
 pub(crate) struct Memory;
 
 impl From<tables::Memory> for Memory {

@@ -1,6 +1,6 @@
 ghost use Rattle.std.specs.Prelude.{◌≡◌};
 
-use crate::{index_calls, table_calls};
+use crate::{index_calls, restoring, table_calls};
 use call_rows::{Calls, Fields, Unread};
 use peer_index::PeerIndex;
 use placing::Placer;
@@ -26,10 +26,12 @@ struct Call<'c> {
 pub(crate) struct State {
     tables: Tables<'static, Hasher>,
     index: PeerIndex<Hasher>,
+    /// The bytes of a file of peers so far.
+    bytes: Vec<u8>,
 }
 
 impl Calls for State {
-    /// Tables under the key of zeros and an index, both empty.
+    /// Tables under the key of zeros and an index, both empty, and no bytes.
     fn start(alloc: Global) -> Result<State, Unread> {
         let placer = Placer::make([0; 32], None);
         let Ok(tables) = Tables::open(alloc, placer, BuildHasherDefault::new()) else {
@@ -38,6 +40,7 @@ impl Calls for State {
         Ok(State {
             tables,
             index: PeerIndex::make(alloc, BuildHasherDefault::new()),
+            bytes: Vec::new(alloc),
         })
     }
 
@@ -59,8 +62,15 @@ fn answer<L: Ledger>(
 {
     let mut steps = Steps::<L>::none(blank);
     let mut fields = Fields::of(call.arguments);
-    match call.name.strip_prefix("index-") {
-        Some(name) => index_calls::answer(alloc, &mut state.index, name, &mut fields, &mut steps),
-        None => table_calls::answer(alloc, &mut state.tables, call.name, &mut fields, &mut steps),
+    if let Some(name) = call.name.strip_prefix("index-") {
+        return index_calls::answer(alloc, &mut state.index, name, &mut fields, &mut steps);
+    }
+    let tables = &mut state.tables;
+    match call.name {
+        "bytes" | "zeros" | "restore" => {
+            let bytes = &mut state.bytes;
+            restoring::answer(alloc, bytes, tables, call.name, &mut fields, &mut steps)
+        }
+        name => table_calls::answer(alloc, tables, name, &mut fields, &mut steps),
     }
 }

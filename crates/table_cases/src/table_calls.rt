@@ -1,7 +1,7 @@
 use crate::arguments::{addr, owned, peer, peer_text};
 use crate::state::Hasher;
 use call_rows::{Fields, Unread};
-use net_addr::{Entry, Net, NetSet};
+use net_addr::{Entry, Net, NetSet, Peer};
 use peer_rec::{Good, Place, Rec};
 use std::alloc::Global;
 use std::sync::ledger::Ledger;
@@ -10,9 +10,8 @@ use tables::Tables;
 
 type Tabled = Tables<'static, Hasher>;
 
-/// Returns the number, time, services and buckets of the record.
-fn rec_text(alloc: Global, rec: &Rec) -> Result<String, Unread> {
-    let mut text = format!(in alloc; "{} {} {}", rec.number, rec.time, rec.services)?;
+/// Appends the buckets of the record, or `tried`.
+fn put_place(alloc: Global, rec: &Rec, text: &mut String) -> Result<(), Unread> {
     match &rec.place {
         Place::Tried => text.push_str(" tried")?,
         Place::New(buckets) => {
@@ -21,7 +20,37 @@ fn rec_text(alloc: Global, rec: &Rec) -> Result<String, Unread> {
             }
         }
     }
+    Ok(())
+}
+
+/// Returns the number, time, services and buckets of the record.
+fn rec_text(alloc: Global, rec: &Rec) -> Result<String, Unread> {
+    let mut text = format!(in alloc; "{} {} {}", rec.number, rec.time, rec.services)?;
+    put_place(alloc, rec, &mut text)?;
     Ok(text)
+}
+
+/// Returns the number, time, services, last success, attempts and buckets of the record.
+fn whole_text(alloc: Global, rec: &Rec) -> Result<String, Unread> {
+    let mut text = format!(in alloc; "{} {} {}", rec.number, rec.time, rec.services)?;
+    text.push_str(format!(in alloc; " {} {}", rec.last_success, rec.attempts)?.as_str())?;
+    put_place(alloc, rec, &mut text)?;
+    Ok(text)
+}
+
+/// `find PEER`, `record PEER`: the peer's record, in part and whole.
+fn find<L: Ledger>(
+    alloc: Global,
+    tables: &Tabled,
+    is_whole: bool,
+    peer: &Peer,
+    steps: &mut Steps<L>,
+) -> Result<String, Unread> {
+    match tables.find(peer, steps) {
+        Some(rec) if is_whole => whole_text(alloc, rec),
+        Some(rec) => rec_text(alloc, rec),
+        None => owned(alloc, "none"),
+    }
 }
 
 /// `add PEER SOURCE TIME SERVICES WORD NOW`: whether the entry got a slot; the penalty is 7200
@@ -161,7 +190,7 @@ fn counts(alloc: Global, tables: &Tabled) -> Result<String, Unread> {
     Ok(format!(in alloc; "{new} {tried} {}", counts.clashes)?)
 }
 
-/// Answers the calls above, `find PEER`, and `next`, the next number.
+/// Answers the calls above, and `next`, the next number.
 pub(crate) fn answer<L: Ledger>(
     alloc: Global,
     tables: &mut Tabled,
@@ -172,10 +201,7 @@ pub(crate) fn answer<L: Ledger>(
     match name {
         "add" => add(alloc, tables, fields, steps),
         "good" => good(alloc, tables, fields, steps),
-        "find" => match tables.find(&peer(fields)?, steps) {
-            Some(rec) => rec_text(alloc, rec),
-            None => owned(alloc, "none"),
-        },
+        "find" | "record" => find(alloc, tables, name == "record", &peer(fields)?, steps),
         "order" => order(alloc, tables, steps),
         "next" => Ok(format!(in alloc; "{}", tables.next_number())?),
         "new-at" | "tried-at" => {

@@ -1,14 +1,21 @@
-//! Tests of values as data: numbers, addresses, messages, buckets and slots, records, lines and
-//! replies. Each row of the files that the arguments name is a call and its answer.
+//! Tests of values as data: numbers, addresses, messages, buckets and slots, records, lines,
+//! replies, subnets, lists of bans and files of peers. Each row of the files that the arguments name
+//! is a call and its answer. The answers for bans are those of an independent program; see
+//! `tools/make_peers` for the rows of files of peers.
 #![tactic(auto)]
 
 mod addresses;
+mod bans;
+mod damage;
 mod lines;
+mod many_bans;
 mod messages;
 mod numbers;
+mod peers_files;
 mod places;
 mod records;
 mod replies;
+mod spelled;
 mod text;
 mod written;
 
@@ -42,6 +49,10 @@ impl Calls for Values {
             | "words"
             | "ends-of-words"
             | "split" => lines::answer(alloc, name, arguments),
+            "subnet" | "file" | "many" | "other-faults" => bans::answer(alloc, name, arguments),
+            "fault" | "rewrite" | "listed" | "memory-fault" | "flips" | "cuts" => {
+                peers_files::answer(alloc, name, arguments)
+            }
             "chance" | "terrible" => records::answer(alloc, name, arguments),
             "written" => written::answer(alloc, arguments),
             "replies" => replies::replies(alloc),

@@ -1,4 +1,4 @@
-use crate::calls::fault_of;
+use crate::peers_files::fault_of;
 use crate::spelled::{bytes_of, chain_of};
 use call_rows::{Fields, Unread};
 use peers_file::{Chain, read_file};

@@ -1,25 +1,16 @@
-use crate::many::many;
+use crate::many_bans::many;
 use ban_list::{BanFault, Bans, parse_subnet, put_subnet, read_bans, write_bans};
-use call_rows::{Calls, Fields, Unread};
+use call_rows::{Fields, Unread};
 use std::alloc::Global;
 
-/// The calls on texts, each of which is by itself.
-#[derive(Drop)]
-pub(crate) struct Texts;
-
-impl Calls for Texts {
-    fn start(_: Global) -> Result<Texts, Unread> {
-        Ok(Texts)
-    }
-
-    fn call(&mut self, alloc: Global, name: &str, arguments: &str) -> Result<String, Unread> {
-        match name {
-            "subnet" => subnet(alloc, arguments),
-            "file" => file(alloc, arguments),
-            "many" => many(alloc, Fields::of(arguments).number()?),
-            "other-faults" => other_faults(alloc),
-            _ => Err(Unread::Form),
-        }
+/// Makes a call on the text of a subnet or of a list of bans.
+pub(crate) fn answer(alloc: Global, name: &str, arguments: &str) -> Result<String, Unread> {
+    match name {
+        "subnet" => subnet(alloc, arguments),
+        "file" => file(alloc, arguments),
+        "many" => many(alloc, Fields::of(arguments).number()?),
+        "other-faults" => other_faults(alloc),
+        _ => Err(Unread::Form),
     }
 }
 

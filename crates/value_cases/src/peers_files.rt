@@ -1,45 +1,35 @@
 use crate::damage::{cuts, flips};
 use crate::spelled::{bytes_of, chain_of};
-use call_rows::{Calls, Fields, Unread};
+use call_rows::{Fields, Unread};
 use peer_rec::Snapshot;
 use peers_file::{Chain, FileFault, read_file, write_file};
 use peers_text::put_snapshot;
 use std::alloc::Global;
 
-/// The calls, which need nothing of one another.
-#[derive(Drop)]
-pub(crate) struct FileCalls;
-
-impl Calls for FileCalls {
-    fn start(_alloc: Global) -> Result<FileCalls, Unread> {
-        Ok(FileCalls)
-    }
-
-    /// `fault CHAIN FILE` answers with the word of the file's first fault and the fault, `rewrite
-    /// CHAIN FILE OTHER` with whether what the file has is written as the other file, `line N CHAIN
-    /// FILE` with a line of the file's list, and `memory-fault` with the word of the fault that no
-    /// file has; and the calls of damaged files.
-    fn call(&mut self, alloc: Global, name: &str, arguments: &str) -> Result<String, Unread> {
-        let mut fields = Fields::of(arguments);
-        match name {
-            "fault" => {
-                let read = read_next(alloc, &mut fields)?;
-                fault_of(alloc, &read)
-            }
-            "rewrite" => {
-                let chain = chain_of(fields.word())?;
-                rewritten(alloc, chain, &mut fields)
-            }
-            "line" => {
-                let number = fields.number()?;
-                let read = read_next(alloc, &mut fields)?;
-                line_of(alloc, number, &read)
-            }
-            "memory-fault" => Ok(format!(in alloc; "{}", FileFault::Memory)?),
-            "flips" => flips(alloc, &mut fields),
-            "cuts" => cuts(alloc, &mut fields),
-            _ => Err(Unread::Form),
+/// `fault CHAIN FILE` answers with the word of the file's first fault and the fault, `rewrite
+/// CHAIN FILE OTHER` with whether what the file has is written as the other file, `listed N CHAIN
+/// FILE` with a line of the file's list, and `memory-fault` with the word of the fault that no
+/// file has; and the calls of damaged files.
+pub(crate) fn answer(alloc: Global, name: &str, arguments: &str) -> Result<String, Unread> {
+    let mut fields = Fields::of(arguments);
+    match name {
+        "fault" => {
+            let read = read_next(alloc, &mut fields)?;
+            fault_of(alloc, &read)
         }
+        "rewrite" => {
+            let chain = chain_of(fields.word())?;
+            rewritten(alloc, chain, &mut fields)
+        }
+        "listed" => {
+            let number = fields.number()?;
+            let read = read_next(alloc, &mut fields)?;
+            line_of(alloc, number, &read)
+        }
+        "memory-fault" => Ok(format!(in alloc; "{}", FileFault::Memory)?),
+        "flips" => flips(alloc, &mut fields),
+        "cuts" => cuts(alloc, &mut fields),
+        _ => Err(Unread::Form),
     }
 }
 
