@@ -5,7 +5,7 @@
 
 mod arguments;
 mod index_calls;
-mod restoring;
+mod restores;
 mod state;
 mod table_calls;
 

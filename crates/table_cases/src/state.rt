@@ -1,6 +1,6 @@
 ghost use Rattle.std.specs.Prelude.{◌≡◌};
 
-use crate::{index_calls, restoring, table_calls};
+use crate::{index_calls, restores, table_calls};
 use call_rows::{Calls, Fields, Unread};
 use peer_index::PeerIndex;
 use placing::Placer;
@@ -69,7 +69,7 @@ fn answer<L: Ledger>(
     match call.name {
         "bytes" | "zeros" | "restore" => {
             let bytes = &mut state.bytes;
-            restoring::answer(alloc, bytes, tables, call.name, &mut fields, &mut steps)
+            restores::answer(alloc, bytes, tables, call.name, &mut fields, &mut steps)
         }
         name => table_calls::answer(alloc, tables, name, &mut fields, &mut steps),
     }
