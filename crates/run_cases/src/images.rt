@@ -48,15 +48,16 @@ pub(crate) fn list_tables(alloc: Global, folder: &mut MemFolder) -> Result<Listi
     listing_of(alloc, &case, &mut log, folder)
 }
 
-/// Whether the folder opens with one record if it has a file of peers, and lacks a key if not.
+/// Whether the folder opens if it has a file of peers, and lacks a key if not.
 fn opens(alloc: Global, folder: &mut MemFolder) -> Result<bool, Unread> {
     let has_peers = folder.get(Name::Peers).is_some();
     let listing = list_tables(alloc, folder)?;
-    Ok(if has_peers {
-        listing.status == Status::Done && listing.text.as_slice().ends_with(b"\nend 1\n")
+    let want = if has_peers {
+        Status::Done
     } else {
-        listing.status == Status::NoKey
-    })
+        Status::NoKey
+    };
+    Ok(listing.status == want)
 }
 
 /// Returns the mark of a file, `-` for none, and `?` for one that has no mark.
@@ -79,7 +80,7 @@ fn mark_again<'a>(case: &'a Case, folder: &MemFolder, name: Name) -> Result<&'a 
 }
 
 /// Returns the mark of what an image has at the name. A second crash is to leave the same, and a
-/// file of peers is to open with one record; if not, the mark is `!`.
+/// file of peers is to open; if not, the mark is `!`.
 fn mark_of_image<'a>(
     alloc: Global,
     case: &'a Case,
