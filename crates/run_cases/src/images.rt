@@ -48,16 +48,17 @@ pub(crate) fn list_tables(alloc: Global, folder: &mut MemFolder) -> Result<Listi
     listing_of(alloc, &case, &mut log, folder)
 }
 
-/// Whether the folder opens if it has a file of peers, and lacks a key if not.
-fn opens(alloc: Global, folder: &mut MemFolder) -> Result<bool, Unread> {
+/// Whether the folder opens if it has a file of peers, with one record if the file has a mark, and
+/// lacks a key if not.
+fn opens(alloc: Global, folder: &mut MemFolder, mark: &str) -> Result<bool, Unread> {
     let has_peers = folder.get(Name::Peers).is_some();
     let listing = list_tables(alloc, folder)?;
-    let want = if has_peers {
-        Status::Done
+    Ok(if has_peers {
+        let is_one = listing.text.as_slice().ends_with(b"\nend 1\n");
+        listing.status == Status::Done && (is_one || mark == "?")
     } else {
-        Status::NoKey
-    };
-    Ok(listing.status == want)
+        listing.status == Status::NoKey
+    })
 }
 
 /// Returns the mark of a file, `-` for none, and `?` for one that has no mark.
@@ -80,7 +81,7 @@ fn mark_again<'a>(case: &'a Case, folder: &MemFolder, name: Name) -> Result<&'a 
 }
 
 /// Returns the mark of what an image has at the name. A second crash is to leave the same, and a
-/// file of peers is to open; if not, the mark is `!`.
+/// file of peers is to open, one with a mark with one record; if not, the mark is `!`.
 fn mark_of_image<'a>(
     alloc: Global,
     case: &'a Case,
@@ -91,7 +92,7 @@ fn mark_of_image<'a>(
     if mark_again(case, image, name)? != mark {
         return Ok("!");
     }
-    if name == Name::Peers && !opens(alloc, image)? {
+    if name == Name::Peers && !opens(alloc, image, mark)? {
         return Ok("!");
     }
     Ok(mark)
