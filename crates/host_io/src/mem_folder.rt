@@ -263,12 +263,12 @@ impl MemFolder {
     }
 }
 
-/// Puts the disk into a box, so that a function that owns the folder has little to drop.
-fn boxed(alloc: Global, disk: MemDisk) -> Result<Box<MemDisk>, Memory>
-    ensures { IfOk result (λ made. made.value ≡ disk) }
+/// Puts an object into a box, so that a function that owns it has little to drop.
+fn boxed<T: Drop>(alloc: Global, object: T) -> Result<Box<T>, Memory>
+    ensures { IfOk result (λ made. made.value ≡ object) }
 {
-    match Box::new(alloc, disk) {
-        Ok(disk) => Ok(disk),
+    match Box::new(alloc, object) {
+        Ok(made) => Ok(made),
         Err(_) => Err(Memory),
     }
 }
