@@ -26,8 +26,8 @@ proper law words (Show chain) asks = tt
 proper law words (Ban subnet now until) asks = law asks.0 subnet asks.1
 proper law words (Unban subnet) asks = law asks.0 subnet asks.1
 proper law words (Banned peer now) asks = tt
-proper law words (Gen start lines) asks = tt
-proper law words (Trial start lines) asks = tt
+proper law words (Gen start lines) asks = asks.2
+proper law words (Trial start lines) asks = asks.2
 
 pub proper_asked : ((text : List ℕ) (s : Subnet) → IsSubnetText text s → IsProper s) → (words : List (List ℕ)) (r : Option Request) → IfSome r (λ request. Asks words request) → IfSome r IsProperRequest
 proper_asked law words None asks = tt

@@ -1,5 +1,6 @@
 -- Words of private contracts.
 use Rattle.std.specs.Prelude.{◌≡◌, ◌≢◌, ◌⊎◌, ◌≤◌, ℕ, List, ◌++◌, length, Option, Some, None, ⊤, option_map}
+use Rattle.gen_load.specs.declared.generated.TheConstants.{MAX_LINES}
 use Rattle.host_io.specs.Past.{Always, Past}
 use Rattle.host_io.specs.Writing.{Appended, AppendedPart}
 use Rattle.host_io.specs.declared.name.Name.{Name}
@@ -184,6 +185,8 @@ IsMapOf (Some bytes) None = ⊥
 abbrev pub IsProperRequest : Request → Type 0
 IsProperRequest (request.Ban subnet now until) = IsProper subnet
 IsProperRequest (request.Unban subnet) = IsProper subnet
+IsProperRequest (request.Gen start lines) = lines ≤ MAX_LINES
+IsProperRequest (request.Trial start lines) = lines ≤ MAX_LINES
 IsProperRequest other = ⊤
 
 -- the same of a command on the list of bans

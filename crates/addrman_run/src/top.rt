@@ -2,6 +2,7 @@ ghost use Rattle.std.specs.Prelude.{◌≡◌, ◌≢◌, map, string_bytes};
 ghost use Rattle.host_io.specs.Outside.{outside};
 ghost use Rattle.addrman_run.specs.Request.{Asks, AsksNoFolder, ReadsNoLog};
 ghost use Rattle.addrman_run.specs.Complete.{IsComplete};
+ghost use Rattle.addrman_run.specs.Inside.{IsProperRequest};
 ghost use Rattle.addrman_run.specs.Outcome.{Ends, HasCause};
 ghost use Rattle.addrman_run.specs.declared.request.Request.{Request};
 
@@ -61,6 +62,25 @@ pub fn run<L: Source, F: Folder, K: Sink, H: BuildHasher + Drop>(
     let Some(request) = read_request(words) else {
         return Status::Usage;
     };
+    carry_out(alloc, hasher, request, log, folder, out)
+}
+
+/// Carries out what the arguments ask for.
+fn carry_out<L: Source, F: Folder, K: Sink, H: BuildHasher + Drop>(
+    alloc: Global,
+    hasher: H,
+    request: Request,
+    log: &mut L,
+    folder: &mut F,
+    out: &mut K,
+) -> Status
+    requires { IsProperRequest request }
+    ensures asked { result ≢ Status.Usage }
+    ensures no_log { ReadsNoLog request → log.new ≡ log.old }
+    ensures no_folder { AsksNoFolder request → folder.new ≡ folder.old }
+    ensures cause { HasCause (outside L.Source F.Folder K.Sink log.old folder.old out.old) (outside L.Source F.Folder K.Sink log.new folder.new out.new) result }
+    ensures outcome { Ends request (outside L.Source F.Folder K.Sink log.old folder.old out.old) (outside L.Source F.Folder K.Sink log.new folder.new out.new) result }
+{
     match request {
         Request::Replay { key, chain } => replay(alloc, hasher, key, chain, log, folder, out),
         Request::Opener { key, chain } => opener(alloc, hasher, key, chain, log, folder, out),

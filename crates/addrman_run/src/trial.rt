@@ -5,7 +5,7 @@ ghost use Rattle.gen_load.specs.declared.generated.TheConstants.{MAX_LENGTH, MAX
 ghost use Rattle.session.specs.Folders.{IsOpen};
 ghost use Rattle.addrman_run.specs.Inside.{HasReplies, Replied};
 ghost use Rattle.addrman_run.specs.Outcome.{IsCounted};
-ghost use Rattle.addrman_run.specs.Trial.{IsTrial, TrialText};
+ghost use Rattle.addrman_run.specs.Trial.{IsTrial, TrialText, trial_start};
 
 use crate::output::write_line;
 use crate::trial_line::line_of;
@@ -109,12 +109,26 @@ fn trial_line<H: BuildHasher + Drop>(
     requires { lines ≤ MAX_LINES }
     ensures { IfOk result (λ line. IsTrial start lines line.items) }
 {
-    lines_spell_commands();
     let Ok(tables) = Tables::open(alloc, Placer::make([0; 32], None), hasher) else {
         return Err(Memory);
     };
     let mut session = Session::make(Manager::open(tables), Chain::Main);
-    let replies = replies_to(alloc, &mut session, Gen::make(start, lines))?;
+    line_over(alloc, &mut session, start, lines)
+}
+
+/// Carries out a generated log over a session that owns empty tables, and returns the line about it.
+fn line_over<H: BuildHasher + Drop>(
+    alloc: Global,
+    session: &mut Session<'_, H>,
+    start: u64,
+    lines: u32,
+) -> Result<Vec<u8>, Memory>
+    requires few { lines ≤ MAX_LINES }
+    requires begins { session.old ≡ trial_start }
+    ensures { IfOk result (λ line. IsTrial start lines line.items) }
+{
+    lines_spell_commands();
+    let replies = replies_to(alloc, session, Gen::make(start, lines))?;
     let counts = session.manager().tables().counts();
     line_of(alloc, lines, replies.bytes, counts, &replies.sum)
 }

@@ -1,17 +1,6 @@
-use Rattle.std.proofs.Common.{◌≡◌, ap, ◌∙◌}
-use Rattle.addrman_run.specs.Trial.{IsTrial, sizes_text, with_counts, with_sum}
-use Rattle.addrman_run.proofs.Trials.{begins, few_lines, is_trial, ok_weaker}
+use Rattle.addrman_run.proofs.Trials.{begins}
 use Rattle.addrman_run.proofs.trial.trial_line.Goals as goal
 
-pub replies_to-requires-clause-few : goal.replies_to-requires-clause-few
-replies_to-requires-clause-few g c = few_lines c.args.start c.args.lines c.make-2.result c.make-2.ensures c.requires
-
-pub returns : goal.returns
-returns g c =
-    ok_weaker c.line_of.result (λ line. line.items ≡ with_sum (with_counts (sizes_text c.args.lines c.in_ok-replies.replies.bytes) c.counts-counts.result) c.in_ok-replies.replies.sum)
-    (λ line. IsTrial c.args.start c.args.lines line.items)
-    (λ line is. is_trial c.args.start c.args.lines c.in_ok-replies.replies.bytes c.in_ok-replies.replies.sum line.items c.make-2.result c.make-session.result c.replies_to.new.session c.tables.result.now c.counts-counts.result
-    (begins c.make-session.result c.open-2.result c.in-Ok.tables c.make.result c.make-session.ensures c.open-2.ensures c.in-Ok.ensures.empty c.make.ensures)
-    c.make-2.ensures c.in_ok-replies.ensures (c.lines_spell_commands.ensures.cut c.args.start c.args.lines c.requires) (c.tables.ensures ∙ ap (λ m. m.tables) c.manager.ensures)
-    c.counts-counts.ensures.new c.counts-counts.ensures.tried c.counts-counts.ensures.clashes is)
-    c.line_of.ensures
+pub line_over-requires-clause-begins : goal.line_over-requires-clause-begins
+line_over-requires-clause-begins g c =
+    begins c.make-session.result c.open-2.result c.in-Ok.tables c.make.result c.make-session.ensures c.open-2.ensures c.in-Ok.ensures.empty c.make.ensures
