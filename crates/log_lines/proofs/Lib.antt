@@ -1,4 +1,5 @@
 mod Examples
+pub mod Items
 pub mod Numbers
 pub mod WordLemmas
 pub mod NameLemmas

@@ -1,11 +1,14 @@
 -- A verb is known by its word.
-use Rattle.std.proofs.Common.{◌≡◌, ℕ, ◌<◌, List, [], ◌∷◌, codes, get_or, refl, sym, ap, ◌∙◌, arith}
+use Rattle.std.proofs.Common.{◌≡◌, ◌≢◌, ℕ, zero, suc, ◌<◌, Bool, true, false, cond, List, [], ◌∷◌, codes, length, get_or, slice_index_or, Option, Some, None, IfSome, IfNone, find, Contains, refl, sym, ap, ◌∙◌, arith}
 use Rattle.std.specs.Prelude.{◌==◌, if◌then◌else◌}
 use Rattle.std.specs.List.{join_with_byte}
 use Rattle.std.proofs.lemmas.List.Splits.{join_with_byte-slice_split}
+use Rattle.std.proofs.lemmas.Slice.Eq.{bytes_eq-Decides}
 use Rattle.host_io.specs.Lines.{IsPassedOver}
+use Rattle.log_lines.specs.Inside.{has_word}
 use Rattle.log_lines.specs.Spelling.{word_of, Spells}
 use Rattle.log_lines.specs.declared.command.Command.{Command}
+use Rattle.log_lines.specs.declared.verb.TheConstants.{VERBS}
 use Rattle.log_lines.specs.declared.verb.Verb.{Verb}
 use Rattle.log_lines.specs.declared.verb.Verb.TheVariants as v
 
@@ -55,6 +58,64 @@ verb_back v.SaveEnd = refl
 -- two verbs with the same word are one
 pub same_verb : (a b : Verb) → word_of a ≡ word_of b → a ≡ b
 same_verb a b e = sym (verb_back a) ∙ ap verb_in e ∙ verb_back b
+
+-- what a search finds passes the test
+find_passes : {X : Type 0} (p : X → Bool) (xs : List X) (x : X) → find p xs ≡ Some x → p x ≡ true
+find_passes p [] x is = absurd (cc)
+find_passes {X} p (y ∷ ys) x is = by (p y) refl (find_passes p ys x) is
+  where
+    by : (b : Bool) → p y ≡ b → (find p ys ≡ Some x → p x ≡ true) → cond b (Some y) (find p ys) ≡ Some x → p x ≡ true
+    by true h more found = let same : y ≡ x = cc in cc
+    by false h more found = more found
+
+-- if a search finds nothing, the element at k fails the test
+none_passes : {X : Type 0} (p : X → Bool) (xs : List X) (k : ℕ) (x : X) → find p xs ≡ None → k < length xs → slice_index_or xs k x ≡ x → p x ≡ false
+none_passes p [] k x none low at = absurd (omega (arith, low))
+none_passes {X} p (y ∷ ys) zero x none low at = by (p y) refl none
+  where
+    by : (b : Bool) → p y ≡ b → cond b (Some y) (find p ys) ≡ None → p x ≡ false
+    by true h found = absurd (cc)
+    by false h found = cc
+none_passes {X} p (y ∷ ys) (suc k) x none low at = none_passes p ys k x (by (p y) none) (omega (arith, low)) at
+  where
+    by : (b : Bool) → cond b (Some y) (find p ys) ≡ None → find p ys ≡ None
+    by true found = absurd (cc)
+    by false found = found
+
+-- each verb is listed
+listed : (verb : Verb) → Contains VERBS verb
+listed v.Now = (0, omega arith, refl)
+listed v.Addr = (1, omega arith, refl)
+listed v.Addr2 = (2, omega arith, refl)
+listed v.Good = (3, omega arith, refl)
+listed v.Attempt = (4, omega arith, refl)
+listed v.Connected = (5, omega arith, refl)
+listed v.Services = (6, omega arith, refl)
+listed v.Find = (7, omega arith, refl)
+listed v.Size = (8, omega arith, refl)
+listed v.Select = (9, omega arith, refl)
+listed v.Sample = (10, omega arith, refl)
+listed v.Resolve = (11, omega arith, refl)
+listed v.Clash = (12, omega arith, refl)
+listed v.Dump = (13, omega arith, refl)
+listed v.Save = (14, omega arith, refl)
+listed v.SaveBegin = (15, omega arith, refl)
+listed v.SaveStep = (16, omega arith, refl)
+listed v.SaveEnd = (17, omega arith, refl)
+
+-- the verb that a search by a word finds has this word
+pub found_has_word : (word : List ℕ) (o : Option Verb) → o ≡ find (has_word word) VERBS → IfSome o (λ verb. word ≡ word_of verb)
+found_has_word word None is = tt
+found_has_word word (Some verb) is = sym ((bytes_eq-Decides (word_of verb) word).0 (find_passes (has_word word) VERBS verb (sym is)))
+
+-- if it finds none, no verb has the word
+pub none_has_word : (word : List ℕ) (o : Option Verb) → o ≡ find (has_word word) VERBS → IfNone o ((verb : Verb) → word ≢ word_of verb)
+none_has_word word (Some verb) is = tt
+none_has_word word None is = λ verb e.
+    let c = listed verb in
+    let fails = none_passes (has_word word) VERBS c.0 verb (sym is) c.1 c.2 in
+    let passes = (bytes_eq-Decides (word_of verb) word).1 (sym e) in
+    cc
 
 first_of_join : (c x : ℕ) (xs : List ℕ) (texts : List (List ℕ)) → get_or (join_with_byte c ((x ∷ xs) ∷ texts)) 0 0 ≡ x
 first_of_join c x xs [] = refl

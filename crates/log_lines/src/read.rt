@@ -1,8 +1,8 @@
-ghost use Rattle.std.specs.Prelude.{◌≡◌, ◌≢◌, ◌-◌, ◌^◌, ◌≤◌, ◌↔◌, ◌⊎◌, [], ◌∷◌, length, IfOk, IfSome, IfNone, Some, None, Ok, Err, IsTrue};
+ghost use Rattle.std.specs.Prelude.{◌≡◌, ◌≢◌, ◌-◌, ◌^◌, ◌≤◌, ◌↔◌, ◌⊎◌, [], ◌∷◌, length, IfOk, IfSome, Some, None, Ok, Err};
 ghost use Rattle.host_io.specs.Lines.{IsPassedOver};
 ghost use Rattle.log_lines.specs.Fields.{Number, OfAddr, OfPeer, Hex, Random, Either, TheNumber, TheAddr, ThePeer, TheBytes, TheWords, TheChoice, AllMean, AreAtFault};
 ghost use Rattle.log_lines.specs.Inside.{texts_after};
-ghost use Rattle.log_lines.specs.Spelling.{word_of, kinds_of, values_of, SpellsAfter, Spells, HasFault};
+ghost use Rattle.log_lines.specs.Spelling.{kinds_of, values_of, SpellsAfter, Spells, HasFault};
 ghost use Rattle.log_lines.specs.declared.command.Command.{Command};
 ghost use Rattle.log_lines.specs.declared.verb.Verb.{Verb};
 
@@ -11,6 +11,7 @@ use crate::field::{
 };
 use crate::fields::{cut_field, four_fields, no_fields, one_field, three_fields, two_fields};
 use crate::nets::{read_classes, read_nets};
+use crate::verb::verb_of;
 use crate::{Command, LineFault, Verb, Words};
 use host_io::{Bytes, is_passed_over};
 use net_addr::{NetAddr, Peer};
@@ -48,52 +49,6 @@ fn read_spelled(alloc: Global, line: &[u8]) -> Result<Command, LineFault>
     let (word, rest) = cut_field(line);
     let verb = verb_of(word).ok_or(LineFault::Word)?;
     read_command(alloc, verb, rest)
-}
-
-/// Returns the verb of this keyword.
-fn verb_of(word: &[u8]) -> Option<Verb>
-    ensures found { IfSome result (λ verb. word.now ≡ word_of verb) }
-    ensures none { IfNone result ((verb : Verb) → word.now ≢ word_of verb) }
-{
-    if word == b"now".as_slice() {
-        Some(Verb::Now)
-    } else if word == b"addr".as_slice() {
-        Some(Verb::Addr)
-    } else if word == b"addrv2".as_slice() {
-        Some(Verb::Addr2)
-    } else if word == b"good".as_slice() {
-        Some(Verb::Good)
-    } else if word == b"attempt".as_slice() {
-        Some(Verb::Attempt)
-    } else if word == b"connected".as_slice() {
-        Some(Verb::Connected)
-    } else if word == b"services".as_slice() {
-        Some(Verb::Services)
-    } else if word == b"find".as_slice() {
-        Some(Verb::Find)
-    } else if word == b"size".as_slice() {
-        Some(Verb::Size)
-    } else if word == b"select".as_slice() {
-        Some(Verb::Select)
-    } else if word == b"sample".as_slice() {
-        Some(Verb::Sample)
-    } else if word == b"resolve".as_slice() {
-        Some(Verb::Resolve)
-    } else if word == b"clash".as_slice() {
-        Some(Verb::Clash)
-    } else if word == b"dump".as_slice() {
-        Some(Verb::Dump)
-    } else if word == b"save".as_slice() {
-        Some(Verb::Save)
-    } else if word == b"save-begin".as_slice() {
-        Some(Verb::SaveBegin)
-    } else if word == b"save-step".as_slice() {
-        Some(Verb::SaveStep)
-    } else if word == b"save-end".as_slice() {
-        Some(Verb::SaveEnd)
-    } else {
-        None
-    }
 }
 
 /// Reads the fields after a verb.

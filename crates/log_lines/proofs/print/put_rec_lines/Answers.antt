@@ -1,0 +1,12 @@
+use Rattle.std.proofs.Common.{◌++◌, ◌∙◌, codes, append_assoc, ap}
+use Rattle.log_lines.specs.Replies.{rec_text}
+use Rattle.log_lines.proofs.Items.{one_more}
+use Rattle.log_lines.proofs.print.put_rec_lines.Goals as goal
+
+pub loop-rec-preserved : goal.loop-rec-preserved
+loop-rec-preserved c =
+    let out = c.loop-rec.out.items in
+    let rec = c.rec-item.result in
+    one_more (λ r. rec_text r ++ codes "\n") c.args.out.now.items c.args.recs.now c.loop-rec.rec-index rec out c.put_text.new.out.items
+    c.loop-rec-test.true c.rec-item.is c.loop-rec.invariant
+    (c.in_ok-put_text.ensures ∙ ap (λ t. t ++ codes "\n") c.in_ok-put_rec.ensures ∙ append_assoc out (rec_text rec) (codes "\n"))
