@@ -20,6 +20,7 @@ use Rattle.session.specs.State.{CommandStep, State, file_now, file_of, state}
 use Rattle.log_lines.specs.Spelling.{Spells}
 use Rattle.log_lines.specs.declared.command.Command.{Command}
 use Rattle.manager.specs.Machine.{Machine}
+use Rattle.manager.specs.Step.{Step, SavesNothing}
 use Rattle.peers_file.specs.declared.chain.Chain.{Chain}
 
 IsPeers : Name → Type 0
@@ -170,3 +171,20 @@ pub may_publish : (old : State) (line : List ℕ) (asked : Command) (file : Opti
     → published (file_now old) old.job asked ≡ file → MayPublish old line file
 may_publish old line asked None spelled is = tt
 may_publish old line asked (Some file) spelled is = (asked, spelled, is)
+
+-- a step of the machine is one of the session
+pub machine_step : (chain : Chain) (old new : Machine) (job : Option Job) (asked : Command) (answer : Reply) → Step old asked answer new
+    → CommandStep (state chain old job) asked answer (state chain new job) None
+machine_step chain old new job Save answer step = absurd step
+machine_step chain old new job SaveBegin answer step = absurd step
+machine_step chain old new job (SaveStep n) answer step = absurd step
+machine_step chain old new job SaveEnd answer step = absurd step
+machine_step chain old new job other answer step = (new, step, refl, refl)
+
+-- a command of the machine publishes no file
+pub publishes_none : (file : List ℕ) (job : Option Job) (asked : Command) → SavesNothing asked → published file job asked ≡ None
+publishes_none file job Save none = absurd none
+publishes_none file job SaveBegin none = refl
+publishes_none file job (SaveStep n) none = refl
+publishes_none file job SaveEnd none = absurd none
+publishes_none file job other none = refl

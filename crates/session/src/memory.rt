@@ -8,12 +8,6 @@ impl From<tables::Memory> for Memory {
     }
 }
 
-impl From<addr_codecs::Memory> for Memory {
-    fn from(_: addr_codecs::Memory) -> Memory {
-        Memory
-    }
-}
-
 impl From<manager::Memory> for Memory {
     fn from(_: manager::Memory) -> Memory {
         Memory
