@@ -1,6 +1,6 @@
 -- What a line of a log has done.
 use Rattle.std.proofs.Common.{◌≡◌, ℕ, List, [], ◌++◌, inl, inr, refl, sym, ap, subst, append-nil}
-use Rattle.std.specs.Prelude.{Option, None, Result, Ok, Err}
+use Rattle.std.specs.Prelude.{Option, None, Result, Ok, Err, OnOk}
 use Rattle.host_io.specs.Lines.{IsPassedOver}
 use Rattle.host_io.specs.Past.{Always, Past}
 use Rattle.log_lines.specs.Replies.{reply_text}
@@ -68,3 +68,8 @@ same_fault {A = A} {B = B} e f is = ap fault_of (ap (fault_in e) is)
 
 pub no_fault : {A : Type 0} (x : A) (f : LineFault) → ◌≡◌ {A = Result A LineFault} (Ok x) (Err f) → ⊥
 no_fault x f e = cc e
+
+-- what is known of each line, of one
+pub for_line : {T E A B : Type 0} (result : Result T E) → (A → B) → OnOk result A → OnOk result B
+for_line (Ok x) of told = of told
+for_line (Err e) of told = tt

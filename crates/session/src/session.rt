@@ -2,7 +2,7 @@ ghost use Rattle.std.specs.Prelude.{◌≡◌};
 
 use crate::carry_out::carry_out;
 use host_io::Folder;
-use log_lines::{LineFault, MAX_LINE, put_reply, read_line};
+use log_lines::{Command, LineFault, MAX_LINE, put_reply, read_line};
 use manager::Manager;
 use peers_file::Chain;
 use save_store::SaveJob;
@@ -33,7 +33,8 @@ impl<'a, H: BuildHasher> Model for Session<'a, H> {
 impl<'a, H: BuildHasher> Session<'a, H> {
     ghost use Rattle.std.specs.Prelude.{◌≡◌, ◌≢◌, ◌+◌, ◌≤◌, ◌<◌, ◌^◌, ◌++◌, ◌⊎◌, ℕ, List, length, Option, None, Err, OnOk, OnErr, IsErrOf};
     ghost use Rattle.host_io.specs.Past.{Always};
-    ghost use Rattle.log_lines.specs.Spelling.{HasFault};
+    ghost use Rattle.log_lines.specs.Spelling.{HasFault, Spells};
+    ghost use Rattle.manager.specs.Step.{HasPercent};
     ghost use Rattle.session.specs.Folders.{AtMost, IsEventLine, IsOpen, LeavesPart, MayPublish, Turn};
 
     /// Makes a session in which no save is open.
@@ -85,13 +86,46 @@ impl<'a, H: BuildHasher> Session<'a, H> {
         ensures numbers { self.new.machine.tables.next_number ≤ self.old.machine.tables.next_number + 1000 }
         ensures never_falls { F.faults folder.old ≤ F.faults folder.new }
     {
-        let command = match read_line(alloc, line) {
-            Ok(None) => return Ok(()),
-            Ok(Some(command)) => command,
-            Err(fault) => return Err(fault),
-        };
+        match read_line(alloc, line) {
+            Ok(None) => Ok(()),
+            Ok(Some(command)) => self.command(alloc, &command, folder, out),
+            Err(fault) => Err(fault),
+        }
+    }
+
+    /// Carries out the command of a line, and appends the text of its reply.
+    fn command<F: Folder>(
+        &mut self,
+        alloc: Global,
+        command: &Command,
+        folder: &mut F,
+        out: &mut Vec<u8>,
+    ) -> Result<(), LineFault>
+        requires percent { HasPercent command.now }
+        requires room { self.old.machine.tables.next_number < 2 ^ 62 }
+        requires is_open { IsOpen self.old.job (F.past folder.old) }
+        ensures step { OnOk result ((text : List ℕ)
+            × ((line : List ℕ) → Spells line command.now →
+            Turn self.old line text self.new (F.past folder.old) (F.past folder.new)
+            (F.faults folder.old) (F.faults folder.new))
+            × (out.new.items ≡ out.old.items ++ text)) }
+        ensures any_moment { (line : List ℕ) → Spells line command.now →
+            (file : Option (List ℕ)) × MayPublish self.old line file
+            × Always (F.past folder.old) (F.past folder.new) (AtMost file) }
+        ensures is_open { IsOpen self.new.job (F.past folder.new) }
+        ensures still { (line : List ℕ) → Spells line command.now →
+            ¬ IsEventLine self.old line → folder.new ≡ folder.old }
+        ensures cause { (f : LineFault) → result ≡ Err f → f ≡ LineFault.Memory }
+        ensures memory { IsErrOf result LineFault.Memory →
+            (line : List ℕ) → Spells line command.now → LeavesPart self.old line self.new
+            (F.past folder.new) (F.faults folder.old) (F.faults folder.new) }
+        ensures list { OnErr result (out.new.items ≡ out.old.items) }
+        ensures numbers { self.new.machine.tables.next_number
+            ≤ self.old.machine.tables.next_number + 1000 }
+        ensures never_falls { F.faults folder.old ≤ F.faults folder.new }
+    {
         let (manager, job) = (&mut self.manager, &mut self.job);
-        let Ok(reply) = carry_out(alloc, folder, manager, self.chain, job, &command) else {
+        let Ok(reply) = carry_out(alloc, folder, manager, self.chain, job, command) else {
             return Err(LineFault::Memory);
         };
         match put_reply(&reply, out) {
