@@ -1,4 +1,5 @@
-ghost use Rattle.std.specs.Prelude.{◌≡◌, ◌+◌, ◌*◌, ◌≤◌, length, IfOk, IfErr, None, []};
+ghost use Rattle.std.specs.Prelude.{◌≡◌, ◌+◌, ◌*◌, ◌≤◌, length, IfOk, IfErr, OnOk, None, []};
+ghost use Rattle.placing.specs.Places.{IsPlaces};
 ghost use Rattle.table_machine.specs.Restoring.{duplicate, restored};
 ghost use Rattle.table_machine.specs.Sound.{IsSound};
 ghost use Rattle.restoring.specs.Planned.{IsPlanned, settled};
@@ -43,51 +44,67 @@ pub fn restore<'a, H: BuildHasher + Drop, L: Ledger>(
     ensures steps { steps.new ≤ steps.old + 2 * length snap.now.new_recs
         + 4 * length snap.now.tried_recs + 4 * length snap.now.listed + 81920 }
 {
-    // Their clauses on the key say what holds of every placer and snapshot.
+    // Its clause on the key says what holds of every placer.
     let _ = placer.key();
-    let _ = snap.key();
     let mut index = PeerIndex::make(alloc, hasher);
-    let found = duplicate(snap, &mut index, steps)?;
+    let plan = final_plan(alloc, snap, placer, &mut index, steps)?;
+    let next_number = plan.recs.len() as u64;
+    Ok(Parts {
+        placer: plan.placer,
+        grid: plan.grid,
+        index,
+        next_number,
+    })
+}
+
+/// Makes the plan of a file and settles it, unless two of the file's valid records have one peer.
+/// The index, which is empty, gets the plan's records.
+fn final_plan<'a, H: BuildHasher, L: Ledger>(
+    alloc: Global,
+    snap: &Snapshot,
+    placer: Placer<'a>,
+    index: &mut PeerIndex<H>,
+    steps: &mut Steps<L>,
+) -> Result<Plan<'a>, RestoreFault>
+    requires empty { index.old ≡ [] }
+    requires places { IsPlaces placer }
+    ensures sound { IfOk result (λ plan. IsSound (restored snap.now placer.entry)) }
+    ensures parts { IfOk result (λ plan. ArePartsOf (restored snap.now placer.entry)
+        plan.placer plan.grid index.new (length plan.recs.items)) }
+    ensures no_duplicate { IfOk result (λ plan. duplicate snap.now ≡ None) }
+    ensures cause { IfErr result (IsCause snap.now) }
+    ensures steps { steps.new ≤ steps.old + 2 * length snap.now.new_recs
+        + 4 * length snap.now.tried_recs + 4 * length snap.now.listed + 81920 }
+{
+    // Its clause on the key says what holds of every snapshot.
+    let _ = snap.key();
+    let found = duplicate(snap, index, steps)?;
     if let Some(at) = found {
         return Err(RestoreFault::Duplicate { index: at });
     }
     index.clear();
-    let plan = Plan::of(alloc, snap, placer, steps)?;
-    let parts = settle(alloc, plan, index, steps)?;
-    Ok(parts)
+    let mut plan = Plan::of(alloc, snap, placer, steps)?;
+    settle(alloc, &mut plan, index, steps)?;
+    Ok(plan)
 }
 
 /// Deletes the records of a plan that are in no bucket, fills the index with the others, and puts
 /// their ids into the slots.
-fn settle<'a, H: BuildHasher + Drop, L: Ledger>(
+fn settle<H: BuildHasher, L: Ledger>(
     alloc: Global,
-    plan: Plan<'a>,
-    index: PeerIndex<H>,
+    plan: &mut Plan,
+    index: &mut PeerIndex<H>,
     steps: &mut Steps<L>,
-) -> Result<Parts<'a, H>, Memory>
-    requires plan { IsPlanned plan }
-    requires sound { IsSound (settled plan) }
-    requires empty { index ≡ [] }
-    ensures parts { IfOk result (λ parts. ArePartsOf (settled plan.entry)
-        parts.placer parts.grid parts.index parts.next_number) }
+) -> Result<(), Memory>
+    requires plan { IsPlanned plan.old }
+    requires sound { IsSound (settled plan.old) }
+    requires empty { index.old ≡ [] }
+    ensures parts { OnOk result (ArePartsOf (settled plan.old)
+        plan.new.placer plan.new.grid index.new (length plan.new.recs.items)) }
     ensures steps { steps.new ≤ steps.old + 81920 }
 {
     let order = plan.order(alloc)?;
-    let mut index = index;
-    let ids = fill(
-        alloc,
-        plan.recs.as_slice(),
-        order.numbers(),
-        &mut index,
-        steps,
-    )?;
-    let next_number = plan.recs.len() as u64;
-    let mut grid = plan.grid;
-    grid.renumber(ids.as_slice());
-    Ok(Parts {
-        placer: plan.placer,
-        grid,
-        index,
-        next_number,
-    })
+    let ids = fill(alloc, plan.recs.as_slice(), order.numbers(), index, steps)?;
+    plan.grid.renumber(ids.as_slice());
+    Ok(())
 }
