@@ -1,7 +1,9 @@
 ghost use Rattle.std.specs.Prelude.{◌≡◌, ◌≤◌, ◌^◌, IfOk};
 ghost use Rattle.std.specs.Int.Bits.{bit_xor};
-ghost use Rattle.wire_num.specs.Readings.{Gives};
-ghost use Rattle.peers_file.specs.Readings.{count_at, buckets_at, head_at};
+ghost use Rattle.wire_num.specs.Readings.{Gives, then_at, value_at, bytes_at};
+ghost use Rattle.peers_file.specs.Layout.{head_with};
+ghost use Rattle.peers_file.specs.Readings.{field_at, count_at, buckets_at, head_at};
+ghost use Rattle.peers_file.specs.declared.fault.Which.TheVariants.{New, Tried};
 ghost use Rattle.peer_rec.specs.declared.snapshot.TheConstants.{MAX_NEW, MAX_TRIED, MAX_BUCKETS};
 
 use crate::fault::{FileFault, Which};
@@ -52,6 +54,40 @@ fn take_bucket_count(bytes: &[u8]) -> Result<(u32, &[u8]), FileFault>
     Ok((count, rest))
 }
 
+/// Takes a key or a checksum.
+pub(crate) fn take_32(bytes: &[u8]) -> Result<([u8; 32], &[u8]), FileFault>
+    ensures { Gives (λ x. (x.0, x.1.now)) result (field_at (bytes_at 32) bytes.now) }
+{
+    match bytes.split_first_chunk::<32>() {
+        Some((taken, rest)) => Ok((*taken, rest)),
+        None => Err(FileFault::Truncated),
+    }
+}
+
+/// Takes the numbers of records and of buckets, and makes the head of them and of what is before.
+fn take_counts(format: u8, key: [u8; 32], bytes: &[u8]) -> Result<(Head, &[u8]), FileFault>
+    ensures found { Gives (λ x. (x.0, x.1.now)) result
+        (then_at (count_at New MAX_NEW) (λ new_count.
+        then_at (count_at Tried MAX_TRIED) (λ tried_count.
+        then_at buckets_at (λ bucket_count.
+        value_at (head_with format key new_count tried_count bucket_count)))) bytes.now) }
+    ensures few_new { IfOk result (λ x. x.0.new_count ≤ MAX_NEW) }
+    ensures few_tried { IfOk result (λ x. x.0.tried_count ≤ MAX_TRIED) }
+    ensures few_buckets { IfOk result (λ x. x.0.bucket_count ≤ MAX_BUCKETS) }
+{
+    let (new_count, rest) = take_count(Which::New, MAX_NEW, bytes)?;
+    let (tried_count, rest) = take_count(Which::Tried, MAX_TRIED, rest)?;
+    let (bucket_count, rest) = take_bucket_count(rest)?;
+    let head = Head {
+        format,
+        key,
+        new_count,
+        tried_count,
+        bucket_count,
+    };
+    Ok((head, rest))
+}
+
 /// Takes what comes before the records.
 #[tactic(auto, unfolding(crate::specs::Readings::head_at))]
 pub(crate) fn take_head(bytes: &[u8]) -> Result<(Head, &[u8]), FileFault>
@@ -68,18 +104,6 @@ pub(crate) fn take_head(bytes: &[u8]) -> Result<(Head, &[u8]), FileFault>
     if !(1 <= format && format <= 4) {
         return Err(FileFault::Version { byte: format });
     }
-    let Some((key, rest)) = rest.split_first_chunk::<32>() else {
-        return Err(FileFault::Truncated);
-    };
-    let (new_count, rest) = take_count(Which::New, MAX_NEW, rest)?;
-    let (tried_count, rest) = take_count(Which::Tried, MAX_TRIED, rest)?;
-    let (bucket_count, rest) = take_bucket_count(rest)?;
-    let head = Head {
-        format,
-        key: *key,
-        new_count,
-        tried_count,
-        bucket_count,
-    };
-    Ok((head, rest))
+    let (key, rest) = take_32(rest)?;
+    take_counts(format, key, rest)
 }

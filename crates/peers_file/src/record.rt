@@ -1,8 +1,12 @@
 ghost use Rattle.std.specs.Prelude.{◌≡◌, ◌≤◌, ◌/◌, IfOk};
-ghost use Rattle.wire_num.specs.Readings.{Gives};
+ghost use Rattle.std.specs.Int.{w16};
+ghost use Rattle.net_addr.specs.OldForm.{from_v1};
+ghost use Rattle.wire_num.specs.Readings.{Gives, then_at, value_at, under_at, bytes_at, be_at, compact_at};
+ghost use Rattle.addr_codecs.specs.Readings.{address_at};
 ghost use Rattle.peer_rec.specs.declared.file_rec.TheConstants.{MAX_ATTEMPTS};
-ghost use Rattle.peers_file.specs.Layout.{or_zero};
-ghost use Rattle.peers_file.specs.Readings.{layout_at, success_at, attempts_at, record_at, old_record_at, record_in_at};
+ghost use Rattle.peers_file.specs.Layout.{or_zero, file_rec};
+ghost use Rattle.peers_file.specs.Faults.{of_number, of_address};
+ghost use Rattle.peers_file.specs.Readings.{field_at, layout_at, success_at, attempts_at, record_at, old_record_at, record_in_at};
 
 use crate::fault::{FileFault, RecordCause};
 use addr_codecs::take_address;
@@ -61,6 +65,101 @@ fn or_zero(addr: Option<NetAddr>) -> NetAddr
     }
 }
 
+/// Takes the services of a node as a CompactSize.
+fn take_services(index: u32, bytes: &[u8]) -> Result<(u64, &[u8]), FileFault>
+    ensures { Gives (λ x. (x.0, x.1.now)) result
+        (under_at (of_number index) compact_at bytes.now) }
+{
+    match take_compact(bytes) {
+        Ok(found) => Ok(found),
+        Err(fault) => Err(FileFault::of_number(index, fault)),
+    }
+}
+
+/// Takes an address of `addrv2`, or `None` if a node has no such address.
+fn take_addr(index: u32, bytes: &[u8]) -> Result<(Option<NetAddr>, &[u8]), FileFault>
+    ensures { Gives (λ x. (x.0, x.1.now)) result
+        (under_at (of_address index) address_at bytes.now) }
+{
+    match take_address(bytes) {
+        Ok(found) => Ok(found),
+        Err(fault) => Err(FileFault::of_address(index, fault)),
+    }
+}
+
+/// Takes the sixteen bytes of an address of formats 1 and 2.
+fn take_sixteen(bytes: &[u8]) -> Result<([u8; 16], &[u8]), FileFault>
+    ensures { Gives (λ x. (x.0, x.1.now)) result (field_at (bytes_at 16) bytes.now) }
+{
+    match bytes.split_first_chunk::<16>() {
+        Some((addr, rest)) => Ok((*addr, rest)),
+        None => Err(FileFault::Truncated),
+    }
+}
+
+/// Takes the last two fields of a record, which all formats share, and makes the record of them and
+/// of the fields before.
+fn take_end(
+    index: u32,
+    peer: Peer,
+    source: NetAddr,
+    time: u32,
+    services: u64,
+    bytes: &[u8],
+) -> Result<(FileRec, &[u8]), FileFault>
+    ensures found { Gives (λ x. (x.0, x.1.now)) result
+        (then_at (success_at index) (λ success.
+        then_at (attempts_at index) (λ attempts.
+        value_at (file_rec peer.addr peer.port source time services success attempts)))
+        bytes.now) }
+    ensures attempts { IfOk result (λ x. x.0.attempts ≤ MAX_ATTEMPTS) }
+{
+    let (last_success, rest) = take_success(index, bytes)?;
+    let (attempts, rest) = take_attempts(index, rest)?;
+    let rec = FileRec {
+        peer,
+        source,
+        time,
+        services,
+        last_success,
+        attempts,
+    };
+    Ok((rec, rest))
+}
+
+/// Takes the peer of a record of formats 3 and 4 and what comes after it, and makes the record.
+fn take_new_peer(
+    index: u32,
+    time: u32,
+    services: u64,
+    bytes: &[u8],
+) -> Result<(FileRec, &[u8]), FileFault>
+    ensures found { Gives (λ x. (x.0, x.1.now)) result
+        (then_at (under_at (of_address index) address_at) (λ peer.
+        then_at (field_at (be_at w16)) (λ port.
+        then_at (under_at (of_address index) address_at) (λ source.
+        then_at (success_at index) (λ success.
+        then_at (attempts_at index) (λ attempts.
+        value_at (file_rec (or_zero peer) port (or_zero source) time services success
+        attempts)))))) bytes.now) }
+    ensures attempts { IfOk result (λ x. x.0.attempts ≤ MAX_ATTEMPTS) }
+{
+    let (peer, rest) = match take_addr(index, bytes) {
+        Ok(found) => found,
+        Err(fault) => return Err(fault),
+    };
+    let (port, rest) = take_be16(rest)?;
+    let (source, rest) = match take_addr(index, rest) {
+        Ok(found) => found,
+        Err(fault) => return Err(fault),
+    };
+    let peer = Peer {
+        addr: or_zero(peer),
+        port,
+    };
+    take_end(index, peer, or_zero(source), time, services, rest)
+}
+
 /// Takes a record of formats 3 and 4, with addresses as `addrv2` has them.
 #[tactic(auto, unfolding(crate::specs::Readings::record_at))]
 fn take_new_form(index: u32, bytes: &[u8]) -> Result<(FileRec, &[u8]), FileFault>
@@ -69,34 +168,36 @@ fn take_new_form(index: u32, bytes: &[u8]) -> Result<(FileRec, &[u8]), FileFault
 {
     let (_, rest) = take_layout(index, 1024, bytes)?;
     let (time, rest) = take_le32(rest)?;
-    let (services, rest) = match take_compact(rest) {
-        Ok(found) => found,
-        Err(fault) => return Err(FileFault::of_number(index, fault)),
-    };
-    let (peer, rest) = match take_address(rest) {
-        Ok(found) => found,
-        Err(fault) => return Err(FileFault::of_address(index, fault)),
-    };
+    let (services, rest) = take_services(index, rest)?;
+    take_new_peer(index, time, services, rest)
+}
+
+/// Takes the peer of a record of formats 1 and 2 and what comes after it, and makes the record.
+fn take_old_peer(
+    index: u32,
+    time: u32,
+    services: u64,
+    bytes: &[u8],
+) -> Result<(FileRec, &[u8]), FileFault>
+    ensures found { Gives (λ x. (x.0, x.1.now)) result
+        (then_at (field_at (bytes_at 16)) (λ peer.
+        then_at (field_at (be_at w16)) (λ port.
+        then_at (field_at (bytes_at 16)) (λ source.
+        then_at (success_at index) (λ success.
+        then_at (attempts_at index) (λ attempts.
+        value_at (file_rec (from_v1 peer) port (from_v1 source) time services success
+        attempts)))))) bytes.now) }
+    ensures attempts { IfOk result (λ x. x.0.attempts ≤ MAX_ATTEMPTS) }
+{
+    let (peer, rest) = take_sixteen(bytes)?;
     let (port, rest) = take_be16(rest)?;
-    let (source, rest) = match take_address(rest) {
-        Ok(found) => found,
-        Err(fault) => return Err(FileFault::of_address(index, fault)),
-    };
-    let (last_success, rest) = take_success(index, rest)?;
-    let (attempts, rest) = take_attempts(index, rest)?;
+    let (source, rest) = take_sixteen(rest)?;
     let peer = Peer {
-        addr: or_zero(peer),
+        addr: NetAddr::from_v1(&peer),
         port,
     };
-    let rec = FileRec {
-        peer,
-        source: or_zero(source),
-        time,
-        services,
-        last_success,
-        attempts,
-    };
-    Ok((rec, rest))
+    let source = NetAddr::from_v1(&source);
+    take_end(index, peer, source, time, services, rest)
 }
 
 /// Takes a record of formats 1 and 2, with addresses of sixteen bytes.
@@ -108,28 +209,7 @@ fn take_old_form(index: u32, bytes: &[u8]) -> Result<(FileRec, &[u8]), FileFault
     let (_, rest) = take_layout(index, 0, bytes)?;
     let (time, rest) = take_le32(rest)?;
     let (services, rest) = take_le64(rest)?;
-    let Some((peer, rest)) = rest.split_first_chunk::<16>() else {
-        return Err(FileFault::Truncated);
-    };
-    let (port, rest) = take_be16(rest)?;
-    let Some((source, rest)) = rest.split_first_chunk::<16>() else {
-        return Err(FileFault::Truncated);
-    };
-    let (last_success, rest) = take_success(index, rest)?;
-    let (attempts, rest) = take_attempts(index, rest)?;
-    let peer = Peer {
-        addr: NetAddr::from_v1(peer),
-        port,
-    };
-    let rec = FileRec {
-        peer,
-        source: NetAddr::from_v1(source),
-        time,
-        services,
-        last_success,
-        attempts,
-    };
-    Ok((rec, rest))
+    take_old_peer(index, time, services, rest)
 }
 
 /// Takes a record of a file's format.
