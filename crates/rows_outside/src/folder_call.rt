@@ -18,7 +18,7 @@ pub(crate) enum FolderCall<'a> {
 
 /// Calls of a folder that has `bitcoin` in asmap.dat, a folder as banlist.json, as banlist.tmp a link
 /// to asmap.dat, and as prefixes.txt a link to itself.
-pub(crate) const CALLS: [FolderCall<'static>; 44] = [
+static CALLS: [FolderCall<'static>; 44] = [
     // No call but `create` makes a file.
     FolderCall::Size(Name::Peers),
     FolderCall::Read(Name::Peers, 0),
@@ -141,4 +141,9 @@ pub(crate) fn print_answers<R: Print + AllocGlobal, F: Files + Alloc>(
         print_answer(rt, folder, *call)?;
     }
     Ok(())
+}
+
+/// Makes those calls of the current folder.
+pub(crate) fn print_calls<R: Files + Print + AllocGlobal>(rt: &R) -> io::Result<()> {
+    print_answers(rt, &mut DirFolder::make(rt), &CALLS)
 }

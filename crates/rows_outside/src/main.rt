@@ -1,18 +1,19 @@
 //! Calls of the current folder of the system, also while its system calls fail, and of sources and
-//! sinks over readers and writers, and what crashes leave of a folder in memory. Each call is printed
-//! with its answer, and the output is compared with the answers that are right.
+//! sinks over readers and writers, and what crashes leave of a folder in memory, also after saves that
+//! were stopped. Each call is printed with its answer, and the output is compared with the answers
+//! that are right.
 #![tactic(auto)]
 
 mod crashes;
 mod folder_call;
+mod mark;
+mod repeated;
 mod saves;
 mod sources;
 mod watch;
 mod watched;
 mod writers;
 
-use crate::folder_call::{CALLS, print_answers};
-use host_io::DirFolder;
 use std::os::unix::fs::symlink;
 use std::process::ExitCode;
 use std::rt::Files;
@@ -30,10 +31,11 @@ fn print_all<R: Files + Print + AllocGlobal>(rt: &R) -> io::Result<()> {
     sources::print_pieces(rt)?;
     writers::print_counts(rt)?;
     prepare(rt)?;
-    print_answers(rt, &mut DirFolder::make(rt), &CALLS)?;
-    saves::print_saves(rt, &mut DirFolder::make(rt))?;
+    folder_call::print_calls(rt)?;
+    saves::print_saves(rt)?;
     watched::print_watched(rt)?;
-    crashes::print_crashes(rt)
+    crashes::print_crashes(rt)?;
+    repeated::print_repeated(rt)
 }
 
 fn main(rt: HostRuntime) -> ExitCode {

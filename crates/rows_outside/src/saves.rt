@@ -1,49 +1,50 @@
 // Saves of peers.dat in the current folder, at once and in pieces, and what is loaded after each.
-use host_io::{Bytes, DirFolder, Failed, Name};
-use save_store::{SaveJob, load, publish, write_temp};
+use host_io::{Bytes, DirFolder, Failed, Folder, Name};
+use save_store::{LoadFault, SaveJob, load, publish, write_temp};
 use std::alloc::{AllocError, Global};
 use std::io;
 use std::rt::Files;
 
 /// Saves the bytes at once.
-fn save_whole<R: Files + Alloc>(folder: &mut DirFolder<'_, R>, bytes: &[u8]) -> Result<(), Failed> {
+fn save_whole<F: Folder>(folder: &mut F, bytes: &[u8]) -> Result<(), Failed> {
     write_temp(folder, Name::PeersTemp, bytes)?;
     publish(folder, Name::PeersTemp, Name::Peers)
 }
 
 /// Saves the bytes by a job: the first byte, no byte, and the rest.
-fn save_in_pieces<R: Files + Alloc>(
-    folder: &mut DirFolder<'_, R>,
-    bytes: Bytes,
-) -> Result<(), Failed> {
+fn save_in_pieces<F: Folder>(folder: &mut F, bytes: Bytes) -> Result<(), Failed> {
     let job = SaveJob::begin(folder, Name::PeersTemp, bytes)?;
     let job = job.step(folder, 1)?;
     let job = job.step(folder, 0)?;
     job.end(folder, Name::Peers)
 }
 
-/// Prints what is loaded of peers.dat, up to `limit` bytes.
-pub(crate) fn print_loaded<R: Print + AllocGlobal, F: Files + Alloc>(
-    rt: &R,
-    folder: &mut DirFolder<'_, F>,
-    limit: u64,
-) -> io::Result<()> {
-    match load(rt.alloc(), folder, Name::Peers, limit) {
+/// Prints what was loaded.
+fn print_load<R: Print>(rt: &R, loaded: &Result<Option<Bytes>, LoadFault>) -> io::Result<()> {
+    match loaded {
         Ok(Some(bytes)) => {
-            println!(rt;
-                "loaded: {:?}",
-                str::from_utf8(bytes.items()).unwrap_or("no text")
-            )
+            let text = str::from_utf8(bytes.items()).unwrap_or("no text");
+            println!(rt; "loaded: {text:?}")
         }
         Ok(None) => println!(rt; "loaded: absent"),
         Err(fault) => println!(rt; "loaded: {fault:?}"),
     }
 }
 
-/// Prints the outcome of a save, and what is loaded after it, up to six bytes.
-fn print_saved<R: Files + Print + AllocGlobal>(
+/// Prints what is loaded of peers.dat, up to `limit` bytes.
+pub(crate) fn print_loaded<R: Print + AllocGlobal, F: Folder>(
     rt: &R,
-    folder: &mut DirFolder<'_, R>,
+    folder: &mut F,
+    limit: u64,
+) -> io::Result<()> {
+    let loaded = load(rt.alloc(), folder, Name::Peers, limit);
+    print_load(rt, &loaded)
+}
+
+/// Prints the outcome of a save, and what is loaded after it, up to six bytes.
+fn print_saved<R: Print + AllocGlobal, F: Folder>(
+    rt: &R,
+    folder: &mut F,
     saved: Result<(), Failed>,
 ) -> io::Result<()> {
     println!(rt; "saved: {saved:?}")?;
@@ -59,35 +60,52 @@ fn long_bytes(alloc: Global) -> Result<Vec<u8>, AllocError> {
     Ok(bytes)
 }
 
-/// Saves a long file, and prints whether the same bytes are loaded.
-fn print_long<R: Files + Print + AllocGlobal>(
+/// Prints whether these bytes were loaded, and what was if not.
+fn print_same<R: Print>(
     rt: &R,
-    folder: &mut DirFolder<'_, R>,
+    loaded: &Result<Option<Bytes>, LoadFault>,
     bytes: &[u8],
 ) -> io::Result<()> {
-    let saved = save_whole(folder, bytes);
-    println!(rt; "saved: {saved:?}")?;
-    match load(rt.alloc(), folder, Name::Peers, 70_000) {
+    match loaded {
         Ok(Some(loaded)) => {
             let same = loaded.items() == bytes;
             println!(rt; "loaded the same: {same}")
         }
-        Ok(None) => println!(rt; "loaded: absent"),
-        Err(fault) => println!(rt; "loaded: {fault:?}"),
+        _ => print_load(rt, loaded),
     }
 }
 
-/// Saves a file at once, in pieces, at once again with more bytes than are loaded, and a long one.
-pub(crate) fn print_saves<R: Files + Print + AllocGlobal>(
+/// Saves a long file, and prints whether the same bytes are loaded.
+fn print_long<R: Print + AllocGlobal, F: Folder>(
     rt: &R,
-    folder: &mut DirFolder<'_, R>,
+    folder: &mut F,
+    bytes: &[u8],
+) -> io::Result<()> {
+    let saved = save_whole(folder, bytes);
+    println!(rt; "saved: {saved:?}")?;
+    let loaded = load(rt.alloc(), folder, Name::Peers, 70_000);
+    print_same(rt, &loaded, bytes)
+}
+
+/// Saves a file at once, in pieces, at once again with more bytes than are loaded, and a long one.
+fn print_each<R: Print + AllocGlobal, F: Folder>(
+    rt: &R,
+    folder: &mut F,
+    second: Bytes,
+    long: &[u8],
 ) -> io::Result<()> {
     let saved = save_whole(folder, b"first");
     print_saved(rt, folder, saved)?;
-    let second = Bytes::of(b"second".to_vec(rt.alloc())?);
     let saved = save_in_pieces(folder, second);
     print_saved(rt, folder, saved)?;
     let saved = save_whole(folder, b"too long");
     print_saved(rt, folder, saved)?;
-    print_long(rt, folder, long_bytes(rt.alloc())?.as_slice())
+    print_long(rt, folder, long)
+}
+
+/// Makes these saves in the current folder.
+pub(crate) fn print_saves<R: Files + Print + AllocGlobal>(rt: &R) -> io::Result<()> {
+    let second = Bytes::of(b"second".to_vec(rt.alloc())?);
+    let long = long_bytes(rt.alloc())?;
+    print_each(rt, &mut DirFolder::make(rt), second, long.as_slice())
 }

@@ -9,7 +9,7 @@ use std::io;
 use std::rt::Files;
 
 /// Calls that replace peers.dat and read it.
-const CALLS: [FolderCall<'static>; 7] = [
+static CALLS: [FolderCall<'static>; 7] = [
     FolderCall::Create(Name::PeersTemp),
     FolderCall::Append(Name::PeersTemp, "bitcoin"),
     FolderCall::Sync(Name::PeersTemp),
@@ -20,7 +20,7 @@ const CALLS: [FolderCall<'static>; 7] = [
 ];
 
 /// System calls that fail once, and the call that is made then and once more.
-const FAULTS: [(SystemCall, FolderCall<'static>); 18] = [
+static FAULTS: [(SystemCall, FolderCall<'static>); 18] = [
     (SystemCall::Metadata, FolderCall::Size(Name::Peers)),
     (SystemCall::Open, FolderCall::Size(Name::Peers)),
     (SystemCall::FileMetadata, FolderCall::Size(Name::Peers)),
@@ -81,7 +81,7 @@ fn print_faults<R: Print + AllocGlobal, F: Files + Alloc>(
     plan: &Plan,
     folder: &mut DirFolder<'_, F>,
 ) -> io::Result<()> {
-    for (fault, call) in FAULTS.iter() {
+    for (fault, call) in &FAULTS {
         plan.fails.set(Some(*fault));
         print_fault(rt, folder, *fault, *call)?;
     }
@@ -113,6 +113,16 @@ fn print_part<R: Print + AllocGlobal, F: Files + Alloc>(
     }
 }
 
+/// Prints a part of the folder that these calls of the system reach.
+fn print_over<R: Print + AllocGlobal, F: Files + Alloc>(
+    rt: &R,
+    part: Part,
+    plan: &Plan,
+    files: &F,
+) -> io::Result<()> {
+    print_part(rt, part, plan, &mut DirFolder::make(files))
+}
+
 /// Prints a part of a folder whose system calls are printed if `prints`, and whose files say that
 /// they have this length.
 fn print_watch<R: Files + Print + AllocGlobal>(
@@ -126,8 +136,7 @@ fn print_watch<R: Files + Print + AllocGlobal>(
         prints,
         len,
     };
-    let watch = Watch { rt, plan: &plan };
-    print_part(rt, part, &plan, &mut DirFolder::make(&watch))
+    print_over(rt, part, &plan, &Watch { rt, plan: &plan })
 }
 
 /// Prints all of these.

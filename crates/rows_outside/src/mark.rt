@@ -5,7 +5,7 @@ pub(crate) const SAVES: [&[u8]; 3] = [b"1st", b"2nd", b"3rd"];
 
 /// What a file may have, and the letter or digit of each: what is saved, its first byte, nothing,
 /// and what `MemFolder::crash` puts in the place of bytes that are not synced.
-const MARKS: [(&[u8], &str); 8] = [
+static MARKS: [(&[u8], &str); 8] = [
     (b"1st", "1"),
     (b"2nd", "2"),
     (b"3rd", "3"),
@@ -21,9 +21,9 @@ fn mark(file: Option<&[u8]>) -> &'static str {
     let Some(file) = file else {
         return "-";
     };
-    for (bytes, mark) in MARKS {
-        if file == bytes {
-            return mark;
+    for (bytes, mark) in &MARKS {
+        if file == *bytes {
+            return *mark;
         }
     }
     "?"
