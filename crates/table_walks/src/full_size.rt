@@ -2,7 +2,8 @@
 ghost use Rattle.std.specs.Prelude.{◌≡◌};
 
 use crate::grids::{SLOTS, id_at, put};
-use crate::samples::{peer_of, record};
+use crate::plain::add_new;
+use crate::samples::peer_of;
 use peer_index::PeerIndex;
 use slot_grid::Grid;
 use std::hash::{BuildHasher, BuildHasherDefault, FoldHasher};
@@ -20,28 +21,25 @@ fn fill<H: BuildHasher + Drop, L: Ledger>(
     steps: &mut Steps<L>,
 ) -> Result<(), Fail> {
     for number in 0..SLOTS {
-        let peer = peer_of(number);
-        assert!(rt; index.len() < 100_000 && index.find(&peer, steps).is_none());
-        let id = index.add(record(peer, u64::from(number)), steps)?;
+        let id = add_new(rt, index, number, steps)?;
         put(grid, number, Some(id), steps);
     }
     Ok(())
 }
 
-/// The record of the number is the one whose id is in the number's slot.
-fn assert_found<H: BuildHasher + Drop, L: Ledger>(
-    rt: &impl Abort,
+/// Whether the record of the number is the one whose id is in the number's slot.
+fn is_found<H: BuildHasher + Drop, L: Ledger>(
     index: &PeerIndex<H>,
     grid: &Grid,
     number: u32,
     steps: &mut Steps<L>,
-) {
+) -> bool {
     match index.find(&peer_of(number), steps) {
         Some(id) => {
-            assert_eq!(rt; id_at(grid, number, steps), Some(id), "{number}");
-            assert_eq!(rt; index.get(id, steps).number, u64::from(number));
+            id_at(grid, number, steps) == Some(id)
+                && index.get(id, steps).number == u64::from(number)
         }
-        None => assert!(rt; false, "{number}"),
+        None => false,
     }
 }
 
@@ -53,9 +51,9 @@ fn fill_and_find<H: BuildHasher + Drop, L: Ledger>(
     steps: &mut Steps<L>,
 ) -> Result<(), Fail> {
     fill(rt, index, grid, steps)?;
-    assert_eq!(rt; index.len(), SLOTS as usize);
+    assert!(rt; index.len() == SLOTS as usize);
     for number in 0..SLOTS {
-        assert_found(rt, index, grid, number, steps);
+        assert!(rt; is_found(index, grid, number, steps), "{number}");
     }
     Ok(())
 }

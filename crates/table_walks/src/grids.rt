@@ -80,17 +80,27 @@ fn written(choice: u32) -> u32 {
     }
 }
 
-/// Both have the same in the slot of the number, and the mask has its bit.
-fn assert_same_at<L: Ledger>(
-    rt: &impl Abort,
+/// Whether both have the same in the slot of the number, and the mask has its bit.
+fn is_same_at<L: Ledger>(
     grid: &Grid,
     list: &[Option<usize>],
     number: u32,
     steps: &mut Steps<L>,
-) {
+) -> bool {
     let want = list.get(number as usize).copied().unwrap_or(None);
-    assert_eq!(rt; id_at(grid, number, steps), want, "{number}");
-    assert_eq!(rt; is_in_mask(grid, number, steps), want.is_some(), "{number}");
+    id_at(grid, number, steps) == want && is_in_mask(grid, number, steps) == want.is_some()
+}
+
+/// Both have the same in all slots.
+fn assert_same<L: Ledger>(
+    rt: &impl Abort,
+    grid: &Grid,
+    list: &[Option<usize>],
+    steps: &mut Steps<L>,
+) {
+    for number in 0..SLOTS {
+        assert!(rt; is_same_at(grid, list, number, steps), "{number}");
+    }
 }
 
 /// Both have the same in the slots that are written to.
@@ -101,7 +111,8 @@ fn assert_same_written<L: Ledger>(
     steps: &mut Steps<L>,
 ) {
     for choice in 0..WRITTEN {
-        assert_same_at(rt, grid, list, written(choice), steps);
+        let number = written(choice);
+        assert!(rt; is_same_at(grid, list, number, steps), "{number}");
     }
 }
 
@@ -125,6 +136,22 @@ fn write<L: Ledger>(
     }
 }
 
+/// Makes many writes to a grid and a list that are empty, and compares both after each.
+fn write_all<L: Ledger>(
+    rt: &impl Abort,
+    grid: &mut Grid,
+    list: &mut [Option<usize>],
+    steps: &mut Steps<L>,
+) {
+    let mut words = Xoshiro256PlusPlus::seed_from_u64(3);
+    assert_same(rt, grid, list, steps);
+    for _ in 0..WRITES {
+        write(grid, list, &mut words, steps);
+        assert_same_written(rt, grid, list, steps);
+    }
+    assert_same(rt, grid, list, steps);
+}
+
 /// A grid is empty when it is made.
 #[test]
 fn after_each_write_the_slots_and_masks_are_those_of_a_plain_list(
@@ -140,19 +167,9 @@ fn compare_each<R: Abort + AllocGlobal, L: Ledger>(rt: &R, blank: Blank) -> Resu
     requires one { blank.parts ≡ 1 }
 {
     let mut steps = Steps::<L>::none(blank);
-    let mut words = Xoshiro256PlusPlus::seed_from_u64(3);
-    let mut grid = Grid::make(rt.alloc())?;
     let empty: Option<usize> = None;
     let mut list = vec![in rt.alloc(); empty; SLOTS as usize]?;
-    for number in 0..SLOTS {
-        assert_same_at(rt, &grid, list.as_slice(), number, &mut steps);
-    }
-    for _ in 0..WRITES {
-        write(&mut grid, list.as_mut_slice(), &mut words, &mut steps);
-        assert_same_written(rt, &grid, list.as_slice(), &mut steps);
-    }
-    for number in 0..SLOTS {
-        assert_same_at(rt, &grid, list.as_slice(), number, &mut steps);
-    }
+    let mut grid = Grid::make(rt.alloc())?;
+    write_all(rt, &mut grid, list.as_mut_slice(), &mut steps);
     Ok(())
 }

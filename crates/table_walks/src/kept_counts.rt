@@ -61,18 +61,24 @@ fn count_of(recs: &Recs, net: Net) -> (u32, u32) {
     (new, tried)
 }
 
-/// The kept counts are those of the records.
-fn assert_counted(rt: &impl Abort, tables: &Tables<'static, Hasher>, recs: &Recs) {
+/// The kept counts of each network are those of the records. Returns their sums.
+fn assert_each(rt: &impl Abort, tables: &Tables<'static, Hasher>, recs: &Recs) -> (u32, u32) {
     let (mut new, mut tried) = (0u32, 0u32);
     for net in NETS {
         let count = count_of(recs, net);
-        assert_eq!(rt; tables.wanted(NetSet::none().with(net)), count, "{net:?}");
+        assert!(rt; tables.wanted(NetSet::none().with(net)) == count, "{net:?}");
         new = new.wrapping_add(count.0);
         tried = tried.wrapping_add(count.1);
     }
-    assert_eq!(rt; tables.wanted(NetSet::all()), (new, tried));
+    (new, tried)
+}
+
+/// The kept counts are those of the records.
+fn assert_counted(rt: &impl Abort, tables: &Tables<'static, Hasher>, recs: &Recs) {
+    let sums = assert_each(rt, tables, recs);
     let counts = tables.counts();
-    assert_eq!(rt; (counts.new_count, counts.tried_count), (new, tried));
+    assert!(rt; tables.wanted(NetSet::all()) == sums);
+    assert!(rt; (counts.new_count, counts.tried_count) == sums);
 }
 
 /// Returns how many slots of the new and of the tried table the records have.
@@ -99,7 +105,7 @@ fn assert_masks<L: Ledger>(
     for bucket in 0..256 {
         tried = tried.wrapping_add(tables.tried_mask(bucket, steps).count_ones() as usize);
     }
-    assert_eq!(rt; (new, tried), slots_of(recs));
+    assert!(rt; (new, tried) == slots_of(recs));
 }
 
 /// Some call: an entry is added, or a peer is reached, with a test of its slot or without.

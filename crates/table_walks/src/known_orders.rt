@@ -2,8 +2,8 @@
 ghost use Rattle.std.specs.Prelude.{◌≡◌};
 
 use crate::last_word::LastWord;
-use crate::plain::{Item, assert_same};
-use crate::samples::{peer_of, record};
+use crate::plain::{Item, add_new, assert_same};
+use crate::samples::peer_of;
 use peer_index::PeerIndex;
 use std::hash::{BuildHasher, BuildHasherDefault, FoldHasher};
 use std::marker::Brand;
@@ -21,13 +21,30 @@ fn add_all<H: BuildHasher + Drop, L: Ledger>(
     steps: &mut Steps<L>,
 ) -> Result<(), Fail> {
     for number in first..end {
-        let peer = peer_of(number);
+        let id = add_new(rt, index, number, steps)?;
         let word = u64::from(number);
-        assert!(rt; index.len() < 1_000_000 && index.find(&peer, steps).is_none());
-        let id = index.add(record(peer, word), steps)?;
         list.push(Item { id, number, word })?;
     }
     Ok(())
+}
+
+/// Removes the record at the position, in the list too. Returns whether it was found before, and
+/// not after it.
+fn remove<H: BuildHasher + Drop, L: Ledger>(
+    index: &mut PeerIndex<H>,
+    list: &mut Vec<Item>,
+    position: usize,
+    steps: &mut Steps<L>,
+) -> bool {
+    if position >= list.len() {
+        return false;
+    }
+    let peer = peer_of(list.swap_remove(position).number);
+    if index.find(&peer, steps).is_none() {
+        return false;
+    }
+    index.remove(&peer, steps);
+    index.find(&peer, steps).is_none()
 }
 
 /// Removes as many records at the position, one after another, in the list too.
@@ -39,11 +56,7 @@ fn remove_some<H: BuildHasher + Drop, L: Ledger>(
     steps: &mut Steps<L>,
 ) {
     for _ in 0..count {
-        assert!(rt; position < list.len());
-        let peer = peer_of(list.swap_remove(position).number);
-        assert!(rt; index.find(&peer, steps).is_some());
-        index.remove(&peer, steps);
-        assert!(rt; index.find(&peer, steps).is_none());
+        assert!(rt; remove(index, list, position, steps));
     }
 }
 
@@ -55,9 +68,8 @@ fn swap<H: BuildHasher + Drop, L: Ledger>(
     (i, j): (usize, usize),
     steps: &mut Steps<L>,
 ) {
-    assert!(rt; i < index.len() && j < index.len());
+    assert!(rt; i.max(j) < index.len().min(list.len()));
     index.swap(i, j, steps);
-    assert!(rt; i < list.len() && j < list.len());
     list.as_mut_slice().swap(i, j);
 }
 

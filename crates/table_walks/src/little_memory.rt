@@ -33,9 +33,24 @@ fn add<L: Ledger>(
     match index.add(record(peer, word), steps) {
         Ok(id) => list.push(Item { id, number, word }).is_ok(),
         Err(_) => {
-            assert_eq!(rt; index.find(&peer, steps), None);
+            assert!(rt; index.find(&peer, steps).is_none());
             true
         }
+    }
+}
+
+/// Adds records to both, which are empty, and compares them after each.
+fn add_each<L: Ledger>(
+    rt: &impl Abort,
+    index: &mut PeerIndex<BuildHasherDefault<FourClasses>>,
+    list: &mut Vec<Item>,
+    steps: &mut Steps<L>,
+) {
+    for number in 0..u32::from(COUNT) {
+        if !add(rt, index, list, number, steps) {
+            return;
+        }
+        assert_same(rt, index, list.as_slice(), steps);
     }
 }
 
@@ -51,14 +66,9 @@ fn add_records<R: Abort + AllocGlobal, L: Ledger>(rt: &R, blank: Blank)
     requires one { blank.parts ≡ 1 }
 {
     let mut steps = Steps::<L>::none(blank);
-    let mut index = PeerIndex::make(rt.alloc(), BuildHasherDefault::new());
     let mut list = Vec::new(rt.alloc());
-    for number in 0..u32::from(COUNT) {
-        if !add(rt, &mut index, &mut list, number, &mut steps) {
-            return;
-        }
-        assert_same(rt, &index, list.as_slice(), &mut steps);
-    }
+    let mut index = PeerIndex::make(rt.alloc(), BuildHasherDefault::new());
+    add_each(rt, &mut index, &mut list, &mut steps);
 }
 
 /// Returns the entry of a number: each has a group and so mostly a slot of its own.
@@ -73,27 +83,38 @@ fn entry_of(number: u8) -> Entry {
     }
 }
 
-/// Adds an entry. Without memory, nothing changes.
-fn add_entry<L: Ledger>(
-    rt: &impl Abort,
+/// Adds an entry. Returns whether it has the next number or, without memory, nothing changed.
+fn is_added_or_not<L: Ledger>(
     tables: &mut Tables<'static, Hasher>,
     number: u8,
     steps: &mut Steps<L>,
-) {
-    let before = (tables.len(), sum_of_order(rt, tables, 0, steps));
+) -> bool {
+    let before = (tables.len(), sum_of_order(tables, 0, steps));
     let next = tables.next_number();
-    assert!(rt; next < 1_000);
+    if next >= 1_000 {
+        return false;
+    }
     let entry = entry_of(number);
     if tables
         .add(&entry, &source(1), 7200, 0, 1_700_000_000, steps)
         .is_ok()
     {
-        assert_eq!(rt; tables.next_number(), next + 1);
-        return;
+        return tables.next_number() == next + 1;
     }
-    assert!(rt; tables.find(&entry.peer, steps).is_none());
-    let after = (tables.len(), sum_of_order(rt, tables, 0, steps));
-    assert_eq!(rt; (after, tables.next_number()), (before, next));
+    tables.find(&entry.peer, steps).is_none()
+        && (tables.len(), sum_of_order(tables, 0, steps)) == before
+        && tables.next_number() == next
+}
+
+/// Adds entries, one after another.
+fn add_each_entry<L: Ledger>(
+    rt: &impl Abort,
+    tables: &mut Tables<'static, Hasher>,
+    steps: &mut Steps<L>,
+) {
+    for number in 0..COUNT {
+        assert!(rt; is_added_or_not(tables, number, steps));
+    }
 }
 
 #[test]
@@ -109,8 +130,6 @@ fn add_entries<R: Abort + AllocGlobal, L: Ledger>(rt: &R, blank: Blank)
 {
     let mut steps = Steps::<L>::none(blank);
     if let Ok(mut tables) = open(rt.alloc()) {
-        for number in 0..COUNT {
-            add_entry(rt, &mut tables, number, &mut steps);
-        }
+        add_each_entry(rt, &mut tables, &mut steps);
     }
 }

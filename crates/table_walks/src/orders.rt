@@ -80,7 +80,7 @@ fn swap<H: BuildHasher + Drop, L: Ledger>(
     steps: &mut Steps<L>,
 ) {
     let count = index.len();
-    assert_eq!(rt; list.len(), count);
+    assert!(rt; list.len() == count);
     if count > 0 {
         let i = (word % 1024) as usize % count;
         let j = (word / 1024 % 1024) as usize % count;
@@ -116,13 +116,26 @@ fn assert_absent<H: BuildHasher + Drop, L: Ledger>(
     steps: &mut Steps<L>,
 ) {
     for number in 0..PEERS {
-        let found = index.find(&peer_of(number), steps);
-        assert_eq!(rt;
-            found.is_some(),
-            position_of(list, number).is_some(),
-            "{number}"
-        );
+        let is_found = index.find(&peer_of(number), steps).is_some();
+        assert!(rt; is_found == position_of(list, number).is_some(), "{number}");
     }
+}
+
+/// Makes many calls, and compares both after each.
+fn make_calls<H: BuildHasher + Drop, L: Ledger>(
+    rt: &impl Abort,
+    index: &mut PeerIndex<H>,
+    list: &mut Vec<Item>,
+    seed: u64,
+    steps: &mut Steps<L>,
+) -> Result<(), Fail> {
+    let mut words = Xoshiro256PlusPlus::seed_from_u64(seed);
+    for _ in 0..CALLS {
+        step(rt, &mut words, index, list, steps)?;
+        assert_same(rt, index, list.as_slice(), steps);
+        assert_absent(rt, index, list.as_slice(), steps);
+    }
+    Ok(())
 }
 
 /// Many calls under a hasher.
@@ -146,15 +159,9 @@ fn walk_counted<R: Abort + AllocGlobal, H: BuildHasher + Drop, L: Ledger>(
     requires one { blank.parts ≡ 1 }
 {
     let mut steps = Steps::<L>::none(blank);
-    let mut words = Xoshiro256PlusPlus::seed_from_u64(seed);
-    let mut index = PeerIndex::make(rt.alloc(), hasher);
     let mut list = Vec::new(rt.alloc());
-    for _ in 0..CALLS {
-        step(rt, &mut words, &mut index, &mut list, &mut steps)?;
-        assert_same(rt, &index, list.as_slice(), &mut steps);
-        assert_absent(rt, &index, list.as_slice(), &mut steps);
-    }
-    Ok(())
+    let mut index = PeerIndex::make(rt.alloc(), hasher);
+    make_calls(rt, &mut index, &mut list, seed, &mut steps)
 }
 
 #[test]
