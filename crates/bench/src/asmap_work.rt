@@ -1,7 +1,7 @@
 use crate::numbers::{Numbers, sum_of};
 use crate::refusal::Refusal;
 use asmap_vm::{Sane, check};
-use host_io::{Bytes, Folder, Name};
+use host_io::{Folder, Name};
 use save_store::load;
 use std::alloc::Global;
 
@@ -34,10 +34,14 @@ impl AsmapWork {
     }
 }
 
-/// Loads asmap.dat and returns its bytes.
-pub(crate) fn load_asmap<F: Folder>(alloc: Global, folder: &mut F) -> Result<Bytes, Refusal> {
+/// Loads asmap.dat and does the work over it.
+pub(crate) fn run_on_asmap<F: Folder>(
+    alloc: Global,
+    folder: &mut F,
+    work: AsmapWork,
+) -> Result<u64, Refusal> {
     match load(alloc, folder, Name::Asmap, MOST_ASMAP_BYTES) {
-        Ok(Some(bytes)) => Ok(bytes),
+        Ok(Some(bytes)) => work.run(bytes.items()),
         Ok(None) => Err(Refusal::NoAsmap),
         Err(_) => Err(Refusal::NotLoaded),
     }

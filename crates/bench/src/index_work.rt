@@ -122,14 +122,20 @@ impl IndexWork {
         Ok(sum)
     }
 
+    /// Adds some records.
+    fn add_some<L: Ledger>(self, index: &mut Index, steps: &mut Steps<L>) -> Result<(), Refusal> {
+        for turn in 0..self.some {
+            add(index, number_at(turn, self.records), steps)?;
+        }
+        Ok(())
+    }
+
     /// Removes some records and adds them again, `times` times. Returns the size of the index.
     fn turn_often<L: Ledger>(self, alloc: Global, steps: &mut Steps<L>) -> Result<u64, Refusal> {
         let mut index = filled(alloc, self.records, steps)?;
         for _ in 0..self.times {
             self.remove_some(&mut index, steps);
-            for turn in 0..self.some {
-                add(&mut index, number_at(turn, self.records), steps)?;
-            }
+            self.add_some(&mut index, steps)?;
         }
         Ok(index.len() as u64)
     }

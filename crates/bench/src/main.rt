@@ -14,7 +14,7 @@ mod table_work;
 mod tables_work;
 mod task;
 
-use asmap_work::{AsmapWork, load_asmap};
+use asmap_work::run_on_asmap;
 use host_io::DirFolder;
 use refusal::Refusal;
 use std::process::ExitCode;
@@ -33,29 +33,30 @@ fn words_of(rt: &(impl Env + AllocGlobal)) -> io::Result<Vec<String>> {
     Ok(words)
 }
 
-/// Does the work over asmap.dat, and prints its line.
-fn measure_asmap<R: Files + Print + AllocGlobal>(rt: &R, work: AsmapWork) -> Result<(), Refusal> {
-    let bytes = load_asmap(rt.alloc(), &mut DirFolder::make(rt))?;
-    let sum = work.run(bytes.items())?;
-    let printed = match work {
-        AsmapWork::Lookups(_) => println!(rt; "sum {sum}"),
-        AsmapWork::Checks(_) => println!(rt; "checked {sum}"),
-    };
-    printed.map_err(|_| Refusal::NotPrinted)
+/// Returns the task that the arguments name.
+fn task_of(rt: &(impl Env + AllocGlobal)) -> Result<Task, Refusal> {
+    let words = words_of(rt).map_err(|_| Refusal::NoWords)?;
+    Task::of(words.as_slice())
+}
+
+/// Does the task, and returns its sum.
+fn sum_of<R: Files + AllocGlobal>(rt: &R, task: Task) -> Result<u64, Refusal> {
+    match task {
+        Task::Asmap(work) => run_on_asmap(rt.alloc(), &mut DirFolder::make(rt), work),
+        Task::Table(work) => run_on_text(rt.alloc(), &mut DirFolder::make(rt), work),
+        Task::Codecs(work) => work.run(rt.alloc()),
+        Task::Index(work) => work.run(rt.alloc()),
+        Task::Lines(work) => work.run(rt.alloc()),
+        Task::Tables(records) => fill_tables(rt.alloc(), records),
+    }
 }
 
 /// Does the task that the arguments name, and prints its line.
 fn measure<R: Env + Files + Print + AllocGlobal>(rt: &R) -> Result<(), Refusal> {
-    let words = words_of(rt).map_err(|_| Refusal::NoWords)?;
-    let sum = match Task::of(words.as_slice())? {
-        Task::Asmap(work) => return measure_asmap(rt, work),
-        Task::Table(work) => run_on_text(rt.alloc(), &mut DirFolder::make(rt), work)?,
-        Task::Codecs(work) => work.run(rt.alloc())?,
-        Task::Index(work) => work.run(rt.alloc())?,
-        Task::Lines(work) => work.run(rt.alloc())?,
-        Task::Tables(records) => fill_tables(rt.alloc(), records)?,
-    };
-    println!(rt; "sum {sum}").map_err(|_| Refusal::NotPrinted)
+    let task = task_of(rt)?;
+    let sum = sum_of(rt, task)?;
+    let word = task.word();
+    println!(rt; "{word} {sum}").map_err(|_| Refusal::NotPrinted)
 }
 
 fn main(rt: HostRuntime) -> ExitCode {

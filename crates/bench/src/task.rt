@@ -51,44 +51,72 @@ impl Task {
     /// `index-turns N SOME TIMES`.
     pub fn of(words: &[String]) -> Result<Task, Refusal> {
         match words {
-            [command, count] => match command.as_str() {
-                "asmap" => Ok(Task::Asmap(AsmapWork::Lookups(number(count)?))),
-                "check" => Ok(Task::Asmap(AsmapWork::Checks(number(count)?))),
-                "table" => Ok(Task::Table(TableWork::Reads(number(count)?))),
-                "matches" => Ok(Task::Table(TableWork::Matches(number(count)?))),
-                "compile" => Ok(Task::Table(TableWork::Compiles(number(count)?))),
-                "tables" => Ok(Task::Tables(records_of(count)?)),
-                _ => Err(Refusal::Usage),
-            },
-            [command, length, times] if command.as_str() == "lines" => Ok(Task::Lines(LinesWork {
-                length: records_of(length)?,
-                times: number(times)?,
-            })),
-            [command, kind, times] if command.as_str() == "codecs" => {
-                let kind = codecs_kind(kind)?;
-                let times = number(times)?;
-                Ok(Task::Codecs(CodecsWork { kind, times }))
-            }
-            [command, records, times] => {
-                let records = records_of(records)?;
-                let kind = match command.as_str() {
-                    "index-adds" => Kind::Adds,
-                    "index-removes" => Kind::Removes,
-                    _ => return Err(Refusal::Usage),
-                };
-                Ok(Task::on_index(kind, records, records, number(times)?))
-            }
+            [command, count] => Task::of_count(command.as_str(), count),
+            [command, what, times] => Task::of_times(command.as_str(), what, times),
             [command, records, some, times] => {
-                let kind = match command.as_str() {
-                    "index-finds" => Kind::Finds,
-                    "index-turns" => Kind::Turns,
-                    _ => return Err(Refusal::Usage),
-                };
-                let records = records_of(records)?;
-                let some = records_of(some)?;
-                Ok(Task::on_index(kind, records, some, number(times)?))
+                Task::of_some(command.as_str(), records, some, times)
             }
             _ => Err(Refusal::Usage),
+        }
+    }
+
+    /// Returns the task of a command with one number.
+    fn of_count(command: &str, count: &String) -> Result<Task, Refusal> {
+        if command == "tables" {
+            return Ok(Task::Tables(records_of(count)?));
+        }
+        let count = number(count)?;
+        match command {
+            "asmap" => Ok(Task::Asmap(AsmapWork::Lookups(count))),
+            "check" => Ok(Task::Asmap(AsmapWork::Checks(count))),
+            "table" => Ok(Task::Table(TableWork::Reads(count))),
+            "matches" => Ok(Task::Table(TableWork::Matches(count))),
+            "compile" => Ok(Task::Table(TableWork::Compiles(count))),
+            _ => Err(Refusal::Usage),
+        }
+    }
+
+    /// Returns the task of a command with a length, a kind or a number of records, which is done
+    /// that many times.
+    fn of_times(command: &str, what: &String, times: &String) -> Result<Task, Refusal> {
+        let times = number(times)?;
+        if command == "codecs" {
+            let kind = codecs_kind(what)?;
+            return Ok(Task::Codecs(CodecsWork { kind, times }));
+        }
+        let count = records_of(what)?;
+        match command {
+            "lines" => Ok(Task::Lines(LinesWork {
+                length: count,
+                times,
+            })),
+            "index-adds" => Ok(Task::on_index(Kind::Adds, count, count, times)),
+            "index-removes" => Ok(Task::on_index(Kind::Removes, count, count, times)),
+            _ => Err(Refusal::Usage),
+        }
+    }
+
+    /// Returns the task of a command over some of the records of an index.
+    fn of_some(
+        command: &str,
+        records: &String,
+        some: &String,
+        times: &String,
+    ) -> Result<Task, Refusal> {
+        let kind = match command {
+            "index-finds" => Kind::Finds,
+            "index-turns" => Kind::Turns,
+            _ => return Err(Refusal::Usage),
+        };
+        let (records, some) = (records_of(records)?, records_of(some)?);
+        Ok(Task::on_index(kind, records, some, number(times)?))
+    }
+
+    /// Returns the word that is printed before the sum of the task.
+    pub fn word(self) -> &'static str {
+        match self {
+            Task::Asmap(AsmapWork::Checks(_)) => "checked",
+            _ => "sum",
         }
     }
 
