@@ -46,22 +46,38 @@ fn fault_at(
     }
 }
 
+/// Returns the first fault that is another one, and its position.
+fn other_fault(
+    alloc: Global,
+    damage: Damage,
+    bytes: &mut Vec<u8>,
+    (from, to): (u64, u64),
+    chain: Chain,
+    first: &str,
+) -> Result<Option<String>, Unread> {
+    for at in from..to {
+        let fault = fault_at(alloc, damage, bytes, at as usize, chain)?;
+        if fault.as_str() != first {
+            return Ok(Some(format!(in alloc; "{} at {at}", fault.as_str())?));
+        }
+    }
+    Ok(None)
+}
+
 /// Returns the fault of the file of the last two fields, its chain and its bytes, for damage at each
 /// position from one number up to another, or the first fault that differs and its position.
 fn each_fault(alloc: Global, damage: Damage, fields: &mut Fields<'_>) -> Result<String, Unread> {
     let (from, to) = (fields.number()?, fields.number()?);
     let chain = chain_of(fields.word())?;
     let mut bytes = bytes_of(alloc, fields.word())?;
-    let mut first = String::new(alloc);
-    for at in from..to {
-        let fault = fault_at(alloc, damage, &mut bytes, at as usize, chain)?;
-        if at == from {
-            first = fault;
-        } else if fault != first {
-            return Ok(format!(in alloc; "{} at {at}", fault.as_str())?);
-        }
+    if from >= to {
+        return Ok(String::new(alloc));
     }
-    Ok(first)
+    let first = fault_at(alloc, damage, &mut bytes, from as usize, chain)?;
+    match other_fault(alloc, damage, &mut bytes, (from, to), chain, first.as_str())? {
+        Some(other) => Ok(other),
+        None => Ok(first),
+    }
 }
 
 /// `flips BITS FROM TO CHAIN FILE`: the fault of each file in which these bits of one byte, from

@@ -1,30 +1,41 @@
 use crate::text::{bytes_of, hex_text, owned, text_of};
 use call_rows::{Fields, Unread};
 use log_lines::{Command, MAX_LINE, read_line, read_words, split_line};
-use net_addr::put_peer;
-use std::alloc::Global;
+use net_addr::{NetAddr, Peer, put_peer};
+use std::alloc::{AllocError, Global};
+
+/// Returns the peer that is to be found.
+fn find_text(alloc: Global, peer: &Peer) -> Result<String, Unread> {
+    let mut text = Vec::new(alloc);
+    text.extend_from_slice(b"find ")?;
+    if put_peer(peer, &mut text).is_err() {
+        return Err(Unread::Memory);
+    }
+    text_of(text)
+}
+
+/// Returns the source, the payload and the random words of a message.
+fn addr_text(
+    alloc: Global,
+    source: &NetAddr,
+    payload: &[u8],
+    words: &[u64],
+) -> Result<String, Unread> {
+    let bytes = hex_text(alloc, payload)?;
+    let source = hex_text(alloc, source.bytes())?;
+    Ok(format!(in alloc; "addr {source} {bytes} {words:?}")?)
+}
 
 /// Returns the command's number or peer, or that the line is parsed.
 fn command_text(alloc: Global, command: &Command) -> Result<String, Unread> {
     match command {
         Command::Now { time } => Ok(format!(in alloc; "now {time}")?),
-        Command::Find { peer } => {
-            let mut text = Vec::new(alloc);
-            text.extend_from_slice(b"find ")?;
-            if put_peer(peer, &mut text).is_err() {
-                return Err(Unread::Memory);
-            }
-            text_of(text)
-        }
+        Command::Find { peer } => find_text(alloc, peer),
         Command::Addr {
             source,
             payload,
             words,
-        } => {
-            let bytes = hex_text(alloc, payload.items())?;
-            let source = hex_text(alloc, source.bytes())?;
-            Ok(format!(in alloc; "addr {source} {bytes} {:?}", words.items())?)
-        }
+        } => addr_text(alloc, source, payload.items(), words.items()),
         _ => Ok(owned(alloc, "parsed")?),
     }
 }
@@ -49,28 +60,44 @@ fn long_number(alloc: Global) -> Result<String, Unread> {
     line_text(alloc, line.as_slice())
 }
 
-/// `long-payload COUNT`: the length of the payload of a line that has this many bytes in
-/// hexadecimal.
-fn long_payload(alloc: Global, count: u64) -> Result<String, Unread> {
+/// Returns a line of a message of this many bytes, all 0.
+fn payload_line(alloc: Global, count: u64) -> Result<Vec<u8>, AllocError> {
     let mut line = Vec::new(alloc);
     line.extend_from_slice(b"addr 1.2.3.44 ")?;
     for _ in 0..count {
         line.extend_from_slice(b"00")?;
     }
     line.extend_from_slice(b" -")?;
-    if line.len() > MAX_LINE {
-        return Err(Unread::Unmet);
-    }
-    let Ok(read) = read_line(alloc, line.as_slice()) else {
-        return Err(Unread::Memory);
-    };
-    match &read {
+    Ok(line)
+}
+
+/// Returns the length of the payload of the command.
+fn length_text(alloc: Global, command: &Option<Command>) -> Result<String, Unread> {
+    match command {
         Some(Command::Addr { payload, .. }) => {
             let length = payload.items().len();
             Ok(format!(in alloc; "{length}")?)
         }
         _ => Err(Unread::Form),
     }
+}
+
+/// Returns the length of the payload of the line.
+fn payload_length(alloc: Global, line: &[u8]) -> Result<String, Unread> {
+    if line.len() > MAX_LINE {
+        return Err(Unread::Unmet);
+    }
+    match read_line(alloc, line) {
+        Ok(command) => length_text(alloc, &command),
+        Err(_) => Err(Unread::Memory),
+    }
+}
+
+/// `long-payload COUNT`: the length of the payload of a line that has this many bytes in
+/// hexadecimal.
+fn long_payload(alloc: Global, count: u64) -> Result<String, Unread> {
+    let line = payload_line(alloc, count)?;
+    payload_length(alloc, line.as_slice())
 }
 
 /// `words TEXT`: the random words. `ends-of-words TEXT`: their number, the first and the last.

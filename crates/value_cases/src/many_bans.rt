@@ -20,12 +20,17 @@ fn text_of(alloc: Global, count: u64) -> Result<String, AllocError> {
         if number > 0 {
             text.push_str(",")?;
         }
-        text.push_str("{\"address\":\"")?;
-        text.push_str(address_of(alloc, number)?.as_str())?;
-        text.push_str("\",\"ban_created\":0,\"banned_until\":9,\"version\":1}")?;
+        push_ban(alloc, number, &mut text)?;
     }
     text.push_str("]}")?;
     Ok(text)
+}
+
+/// Appends the ban of the address of a number.
+fn push_ban(alloc: Global, number: u64, text: &mut String) -> Result<(), AllocError> {
+    text.push_str("{\"address\":\"")?;
+    text.push_str(address_of(alloc, number)?.as_str())?;
+    text.push_str("\",\"ban_created\":0,\"banned_until\":9,\"version\":1}")
 }
 
 /// Returns the address of a number below 2^24.

@@ -13,19 +13,9 @@ use std::alloc::Global;
 pub(crate) fn answer(alloc: Global, name: &str, arguments: &str) -> Result<String, Unread> {
     let mut fields = Fields::of(arguments);
     match name {
-        "fault" => {
-            let read = read_next(alloc, &mut fields)?;
-            fault_of(alloc, &read)
-        }
-        "rewrite" => {
-            let chain = chain_of(fields.word())?;
-            rewritten(alloc, chain, &mut fields)
-        }
-        "listed" => {
-            let number = fields.number()?;
-            let read = read_next(alloc, &mut fields)?;
-            line_of(alloc, number, &read)
-        }
+        "fault" => fault(alloc, &mut fields),
+        "rewrite" => rewritten(alloc, &mut fields),
+        "listed" => listed(alloc, &mut fields),
         "memory-fault" => Ok(format!(in alloc; "{}", FileFault::Memory)?),
         "flips" => flips(alloc, &mut fields),
         "cuts" => cuts(alloc, &mut fields),
@@ -41,6 +31,19 @@ fn read_next(
     let chain = chain_of(fields.word())?;
     let bytes = bytes_of(alloc, fields.word())?;
     Ok(read_file(alloc, bytes.as_slice(), chain))
+}
+
+/// Returns the word of the fault of the file of the next two fields, and the fault.
+fn fault(alloc: Global, fields: &mut Fields<'_>) -> Result<String, Unread> {
+    let read = read_next(alloc, fields)?;
+    fault_of(alloc, &read)
+}
+
+/// Returns the line of the number of the next field, of the list of the file of the two after it.
+fn listed(alloc: Global, fields: &mut Fields<'_>) -> Result<String, Unread> {
+    let number = fields.number()?;
+    let read = read_next(alloc, fields)?;
+    line_of(alloc, number, &read)
 }
 
 /// Returns the word of the fault, and the fault.
@@ -79,8 +82,10 @@ fn is_rewritten(alloc: Global, chain: Chain, bytes: &[u8], wanted: &[u8]) -> Res
     }
 }
 
-/// Returns whether what the file of the next field has is written as the file of the field after it.
-fn rewritten(alloc: Global, chain: Chain, fields: &mut Fields<'_>) -> Result<String, Unread> {
+/// Returns whether what the file of the next field but one has, of the chain of the next one, is
+/// written as the file of the field after it.
+fn rewritten(alloc: Global, fields: &mut Fields<'_>) -> Result<String, Unread> {
+    let chain = chain_of(fields.word())?;
     let bytes = bytes_of(alloc, fields.word())?;
     let wanted = bytes_of(alloc, fields.word())?;
     let answer = if is_rewritten(alloc, chain, bytes.as_slice(), wanted.as_slice())? {

@@ -67,6 +67,11 @@ fn group(alloc: Global, placer: &Placer<'_>, text: &str) -> Result<String, Unrea
     Ok(format!(in alloc; "{} {group}", placer.asn(&addr))?)
 }
 
+/// `group ADDRESS`: the same under the key of zeros and no asmap.
+fn group_by_zero(alloc: Global, text: &str) -> Result<String, Unread> {
+    group(alloc, &Placer::make([0; 32], None), text)
+}
+
 /// `mapped-group ADDRESS`: the number and the group under the asmap. `asmap-sum`: the sum of the
 /// asmap that the placer has.
 fn mapped(alloc: Global, name: &str, text: &str) -> Result<String, Unread> {
@@ -143,25 +148,26 @@ fn next_port(alloc: Global, arguments: &str) -> Result<String, Unread> {
     Ok(owned(alloc, "none")?)
 }
 
-/// Answers the calls above, `hash HEX` and `cheap HEX`.
+/// `hash HEX`: SHA-256 of SHA-256 of the bytes. `cheap HEX`: its first eight bytes as a number.
+fn hash(alloc: Global, name: &str, bytes: &[u8]) -> Result<String, Unread> {
+    if name == "hash" {
+        return Ok(hex_text(alloc, hashed_twice(bytes).as_slice())?);
+    }
+    Ok(format!(in alloc; "{:x}", cheap(bytes))?)
+}
+
+/// Answers the calls above.
 pub(crate) fn answer(alloc: Global, name: &str, arguments: &str) -> Result<String, Unread> {
     match name {
         "places" => both_places(alloc, arguments),
-        "group" => group(alloc, &Placer::make([0; 32], None), arguments),
+        "group" => group_by_zero(alloc, arguments),
         "mapped-group" | "asmap-sum" => mapped(alloc, name, arguments),
         "key" => key(alloc),
         "source-buckets" | "group-buckets" => buckets(alloc, name, arguments),
         "choice" => choice(alloc, arguments),
         "new-slot" => new_slot(alloc, arguments),
         "next-port" => next_port(alloc, arguments),
-        "hash" => {
-            let bytes = bytes_of(alloc, arguments)?;
-            Ok(hex_text(alloc, hashed_twice(bytes.as_slice()).as_slice())?)
-        }
-        "cheap" => {
-            let bytes = bytes_of(alloc, arguments)?;
-            Ok(format!(in alloc; "{:x}", cheap(bytes.as_slice()))?)
-        }
+        "hash" | "cheap" => hash(alloc, name, bytes_of(alloc, arguments)?.as_slice()),
         _ => Err(Unread::Form),
     }
 }

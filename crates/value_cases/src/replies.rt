@@ -79,15 +79,20 @@ fn reply_text(alloc: Global, reply: &Reply) -> Result<String, Unread> {
     text_of(text)
 }
 
-/// `replies`: `right`, or the first reply without a peer that has another line.
-pub(crate) fn replies(alloc: Global) -> Result<String, Unread> {
-    for (reply, line) in &REPLIES {
+/// Returns `right`, or the first reply that has another line.
+fn first_other(alloc: Global, replies: &[(Reply, &str)]) -> Result<String, Unread> {
+    for (reply, line) in replies {
         let text = reply_text(alloc, reply)?;
         if text.strip_suffix("|") != Some(*line) {
             return Ok(text);
         }
     }
     Ok(owned(alloc, "right")?)
+}
+
+/// `replies`: `right`, or the first reply without a peer that has another line.
+fn replies(alloc: Global) -> Result<String, Unread> {
+    first_other(alloc, &REPLIES)
 }
 
 /// Returns two buckets of the new table.
@@ -114,6 +119,14 @@ fn reply_of(alloc: Global, name: &str) -> Result<Reply, Unread> {
 }
 
 /// `reply NAME`: the text of the reply, with `|` for each line feed.
-pub(crate) fn reply(alloc: Global, name: &str) -> Result<String, Unread> {
+fn reply(alloc: Global, name: &str) -> Result<String, Unread> {
     reply_text(alloc, &reply_of(alloc, name)?)
+}
+
+/// Answers the calls above.
+pub(crate) fn answer(alloc: Global, name: &str, arguments: &str) -> Result<String, Unread> {
+    match name {
+        "replies" => replies(alloc),
+        _ => reply(alloc, arguments),
+    }
 }

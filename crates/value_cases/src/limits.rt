@@ -1,29 +1,30 @@
 use crate::limiter_calls::limiter_call;
 use addr_limit::{LimitLog, Limiter};
-use call_rows::{Calls, Unread};
+use call_rows::Unread;
 use log_lines::{LineFault, MAX_LINE};
 use std::alloc::Global;
 
 /// A log of events, and connections.
 #[derive(Drop)]
-pub(crate) struct LimitCalls {
+pub(crate) struct Limits {
     log: LimitLog,
     limiter: Limiter,
 }
 
-impl Calls for LimitCalls {
-    fn start(alloc: Global) -> Result<LimitCalls, Unread> {
-        Ok(LimitCalls {
+impl Limits {
+    /// Returns a log without lines, and no connections.
+    pub fn make(alloc: Global) -> Limits {
+        Limits {
             log: LimitLog::make(alloc),
             limiter: Limiter::make(alloc),
-        })
+        }
     }
 
-    /// `line LINE` answers with the output line, or `fault`, the fault, and how many bytes were
+    /// `event LINE` answers with the output line, or `fault`, the fault, and how many bytes were
     /// appended. The other calls are those of `Limiter`.
-    fn call(&mut self, alloc: Global, name: &str, arguments: &str) -> Result<String, Unread> {
+    pub fn answer(&mut self, alloc: Global, name: &str, arguments: &str) -> Result<String, Unread> {
         match name {
-            "line" => output_of(alloc, &mut self.log, arguments.as_bytes()),
+            "event" => output_of(alloc, &mut self.log, arguments.as_bytes()),
             _ => limiter_call(alloc, &mut self.limiter, name, arguments),
         }
     }

@@ -17,14 +17,8 @@ pub(crate) fn limiter_call(
     let mut fields = Fields::of(arguments);
     match name {
         "add" => add(alloc, limiter, &mut fields),
-        "close" => {
-            let closed = limiter.close_conn(fields.small()?);
-            Ok(format!(in alloc; "{closed}")?)
-        }
-        "getaddr" => {
-            let asked = limiter.getaddr(fields.small()?);
-            Ok(format!(in alloc; "{asked:?}")?)
-        }
+        "close" => close(alloc, limiter, fields.small()?),
+        "getaddr" => getaddr(alloc, limiter, fields.small()?),
         "admit" => admit(alloc, limiter, 1, &mut fields),
         "repeat" => {
             let times = fields.small()?;
@@ -33,6 +27,18 @@ pub(crate) fn limiter_call(
         "find" => find_text(alloc, limiter.find(fields.small()?)),
         _ => Err(Unread::Form),
     }
+}
+
+/// Closes a connection.
+fn close(alloc: Global, limiter: &mut Limiter, number: u32) -> Result<String, Unread> {
+    let closed = limiter.close_conn(number);
+    Ok(format!(in alloc; "{closed}")?)
+}
+
+/// Notes that getaddr was sent.
+fn getaddr(alloc: Global, limiter: &mut Limiter, number: u32) -> Result<String, Unread> {
+    let asked = limiter.getaddr(number);
+    Ok(format!(in alloc; "{asked:?}")?)
 }
 
 /// Opens a connection.
