@@ -5,6 +5,7 @@ use asmap_vm::check;
 use net_addr::put_ipv6;
 use prefix_table::{MAX_TEXT, Table, TableFault, put_table, read_table};
 use std::alloc::Global;
+use std::process::Abort;
 use std::test::Fail;
 
 /// The most rows of a table.
@@ -57,23 +58,42 @@ fn full(alloc: Global, large: u32) -> Result<Result<Compiled, CompileFault>, Fai
     Ok(compile(alloc, &table))
 }
 
+/// The text of the table is this one.
+fn assert_printed(rt: &(impl Abort + AllocGlobal), table: &Table, text: &[u8]) -> Result<(), Fail> {
+    let mut printed = Vec::new(rt.alloc());
+    put_table(table, &mut printed).ok().ok_or("no memory")?;
+    assert!(rt; printed.as_slice() == text);
+    Ok(())
+}
+
+/// The table and its text come back from the file, whose third row has a large number.
+fn assert_back(
+    rt: &(impl Abort + AllocGlobal),
+    code: &[u8],
+    table: &Table,
+    text: &[u8],
+) -> Result<(), Fail> {
+    let Ok(map) = check(code) else {
+        return Err("not sane".into());
+    };
+    assert!(rt; map.asn(3 << 107) == 491_522);
+    let back = decompile(rt.alloc(), &map)?;
+    assert!(rt; back.rows() == table.rows());
+    assert_printed(rt, &back, text)
+}
+
+/// The table of the text fills the largest file, and comes back.
+fn assert_full(rt: &(impl Abort + AllocGlobal), table: &Table, text: &[u8]) -> Result<(), Fail> {
+    let file = compile(rt.alloc(), table)?;
+    assert!(rt; (file.bits(), file.code().len()) == (67_108_864, 8_388_608));
+    assert_back(rt, file.code(), table, text)
+}
+
 #[test]
 fn two_million_rows_fill_the_largest_file_and_come_back(rt: HostRuntime) -> Result<(), Fail> {
     let text = text_of(rt.alloc(), MOST, LARGE)?;
     let table = read(rt.alloc(), text.as_slice())?;
-    let file = compile(rt.alloc(), &table)?;
-    assert_eq!(rt; file.bits(), 67_108_864);
-    assert_eq!(rt; file.code().len(), 8_388_608);
-    let Ok(map) = check(file.code()) else {
-        return Err("not sane".into());
-    };
-    assert_eq!(rt; map.asn(3 << 107), 491_522);
-    let back = decompile(rt.alloc(), &map)?;
-    assert!(rt; back.rows() == table.rows());
-    let mut printed = Vec::new(rt.alloc());
-    put_table(&back, &mut printed).ok().ok_or("no memory")?;
-    assert!(rt; printed.as_slice() == text.as_slice());
-    Ok(())
+    assert_full(&rt, &table, text.as_slice())
 }
 
 #[test]
@@ -102,25 +122,36 @@ fn one_row_more_is_too_many(rt: HostRuntime) -> Result<(), Fail> {
     }
 }
 
-/// Half of the addresses below each path of 20 bits have the number of the row above them all, so
-/// that about twice as many rows come back.
-#[test]
-fn an_asmap_of_more_rows_than_a_table_has_does_not_come_back(rt: HostRuntime) -> Result<(), Fail> {
-    let mut text = b"::/0 AS1\n".to_vec(rt.alloc())?;
+/// The text of a row above all and of a row below each path of 20 bits.
+fn half_text(alloc: Global) -> Result<Vec<u8>, Fail> {
+    let mut text = b"::/0 AS1\n".to_vec(alloc)?;
     for path in 0..1 << 20 {
         put_row(&mut text, 2 * path, 2)?;
     }
-    let table = read(rt.alloc(), text.as_slice())?;
-    assert_eq!(rt; table.rows().len(), 1_048_577);
-    let file = compile(rt.alloc(), &table)?;
-    let Ok(map) = check(file.code()) else {
+    Ok(text)
+}
+
+/// The file has more rows than a table.
+fn assert_too_many(rt: &(impl Abort + AllocGlobal), code: &[u8]) -> Result<(), Fail> {
+    let Ok(map) = check(code) else {
         return Err("not sane".into());
     };
     match decompile(rt.alloc(), &map) {
         Ok(_) => Err("decompiled".into()),
         Err(fault) => {
-            assert_eq!(rt; fault, BackFault::TooMany { rows: 2_000_001 });
+            assert!(rt; fault == BackFault::TooMany { rows: 2_000_001 });
             Ok(())
         }
     }
+}
+
+/// Half of the addresses below each path of 20 bits have the number of the row above them all, so
+/// that about twice as many rows come back.
+#[test]
+fn an_asmap_of_more_rows_than_a_table_has_does_not_come_back(rt: HostRuntime) -> Result<(), Fail> {
+    let text = half_text(rt.alloc())?;
+    let table = read(rt.alloc(), text.as_slice())?;
+    assert!(rt; table.rows().len() == 1_048_577);
+    let file = compile(rt.alloc(), &table)?;
+    assert_too_many(&rt, file.code())
 }
