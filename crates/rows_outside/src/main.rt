@@ -1,7 +1,7 @@
 //! Calls of the current folder of the system, also while its system calls fail, and of sources and
-//! sinks over readers and writers, and what crashes leave of a folder in memory, also after saves that
-//! were stopped. Each call is printed with its answer, and the output is compared with the answers
-//! that are right.
+//! sinks over readers and writers, and what crashes leave of a folder in memory, also after saves
+//! that were stopped. Each call is printed with its answer, and the output is compared with the
+//! answers that are right.
 #![tactic(auto)]
 
 mod crashes;
