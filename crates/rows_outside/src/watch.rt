@@ -157,46 +157,52 @@ impl<'a, R: Files + Print> Files for Watch<'a, R> {
         self.rt.remove_dir_all(alloc, path)
     }
 
-    // A method that std's trait has a body for costs ten times as much to prove if it is left out.
-    fn canonicalize<B: Allocator>(&self, alloc: B, path: &str) -> io::Result<PathBuf<B>> {
-        self.rt.canonicalize(alloc, path)
+    // The bodies are those that std's trait has. Left out, such a method costs five times as much to
+    // prove.
+    fn canonicalize<B: Allocator>(&self, _alloc: B, _path: &str) -> io::Result<PathBuf<B>> {
+        unsupported()
     }
 
-    fn read_link<B: Allocator>(&self, alloc: B, path: &str) -> io::Result<PathBuf<B>> {
-        self.rt.read_link(alloc, path)
+    fn read_link<B: Allocator>(&self, _alloc: B, _path: &str) -> io::Result<PathBuf<B>> {
+        unsupported()
     }
 
-    fn hard_link(&self, original: &str, link: &str) -> io::Result<()> {
-        self.rt.hard_link(original, link)
+    fn hard_link(&self, _original: &str, _link: &str) -> io::Result<()> {
+        unsupported()
     }
 
-    fn set_permissions(&self, path: &str, permissions: Permissions) -> io::Result<()> {
-        self.rt.set_permissions(path, permissions)
+    fn set_permissions(&self, _path: &str, _permissions: Permissions) -> io::Result<()> {
+        unsupported()
     }
 
-    fn symlink(&self, original: &str, link: &str) -> io::Result<()> {
-        self.rt.symlink(original, link)
+    fn symlink(&self, _original: &str, _link: &str) -> io::Result<()> {
+        unsupported()
     }
 
     fn pipe(&self) -> io::Result<(PipeReader, PipeWriter)> {
-        self.rt.pipe()
+        unsupported()
     }
 
-    fn chown(&self, path: &str, user: Option<u32>, group: Option<u32>) -> io::Result<()> {
-        self.rt.chown(path, user, group)
+    fn chown(&self, _path: &str, _user: Option<u32>, _group: Option<u32>) -> io::Result<()> {
+        unsupported()
     }
 
-    fn lchown(&self, path: &str, user: Option<u32>, group: Option<u32>) -> io::Result<()> {
-        self.rt.lchown(path, user, group)
+    fn lchown(&self, _path: &str, _user: Option<u32>, _group: Option<u32>) -> io::Result<()> {
+        unsupported()
     }
 
-    fn create_dir_with_mode(&self, path: &str, mode: u32) -> io::Result<()> {
-        self.rt.create_dir_with_mode(path, mode)
+    fn create_dir_with_mode(&self, _path: &str, _mode: u32) -> io::Result<()> {
+        unsupported()
     }
 
-    fn bind_unix(&self, socket: BorrowedFd<'_>, address: &SocketAddr) -> io::Result<()> {
-        self.rt.bind_unix(socket, address)
+    fn bind_unix(&self, _socket: BorrowedFd<'_>, _address: &SocketAddr) -> io::Result<()> {
+        unsupported()
     }
+}
+
+/// Returns the error of a call that is not made.
+fn unsupported<T>() -> io::Result<T> {
+    Err(io::Error::from(ErrorKind::Unsupported))
 }
 
 impl<'a, R: Files + Print> Read for WatchedFile<'a, R> {
