@@ -1,4 +1,4 @@
-use crate::bytes::Bytes;
+use crate::list::Bytes;
 use crate::name::Name;
 
 /// A change of a folder in memory: what a call of `Folder` did, or `MemFolder::put`.

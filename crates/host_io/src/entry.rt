@@ -2,7 +2,7 @@ ghost use Rattle.std.specs.Prelude.{◌≡◌, ◌<◌, ◌≤◌, [], ◌++◌,
 ghost use Rattle.std.specs.Option.{option_map};
 ghost use Rattle.host_io.specs.Disk.{MayHave, appended, created, exactly, fates, file_fates, left, safe, settled, synced, target};
 
-use crate::bytes::Bytes;
+use crate::list::Bytes;
 use crate::fate::Fate;
 use std::alloc::{AllocError, Global};
 use std::marker::Model;

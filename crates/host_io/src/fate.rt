@@ -1,7 +1,7 @@
 ghost use Rattle.std.specs.Prelude.{◌≡◌, IfOk};
 ghost use Rattle.host_io.specs.Disk.{Allows};
 
-use crate::bytes::Bytes;
+use crate::list::Bytes;
 use std::alloc::{AllocError, Global};
 
 /// What a crash may leave at a name of a folder.

@@ -4,7 +4,6 @@
 //! a caller can prove that a fault that it reports had a cause outside.
 #![tactic(auto)]
 
-mod bytes;
 mod call;
 mod change;
 mod chosen;
@@ -14,6 +13,7 @@ mod failed;
 mod fate;
 mod folder;
 mod lines;
+mod list;
 mod mem_disk;
 mod mem_folder;
 mod mem_sink;
@@ -33,12 +33,12 @@ mod sure_sink;
 mod sure_source;
 mod to_end_fault;
 
-pub use bytes::Bytes;
 pub use call::{Action, Call};
 pub use dir_folder::DirFolder;
 pub use failed::{Failed, still_count_has_not_risen};
 pub use folder::Folder;
 pub use lines::{LINE_FEED, is_passed_over, split_line};
+pub use list::{Bytes, ListOf};
 pub use mem_folder::MemFolder;
 pub use mem_sink::MemSink;
 pub use mem_source::MemSource;

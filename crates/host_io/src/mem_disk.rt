@@ -4,7 +4,7 @@ ghost use Rattle.host_io.specs.MemFolder.{after_change, disk_of, log_with};
 ghost use Rattle.host_io.specs.PerName.{each, under};
 ghost use Rattle.host_io.specs.declared.change.Change.TheVariants as change;
 
-use crate::bytes::Bytes;
+use crate::list::Bytes;
 use crate::change::Change;
 use crate::entry::{Entry, copy_file};
 use crate::fate::Fate;

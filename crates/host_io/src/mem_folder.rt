@@ -8,7 +8,7 @@ ghost use Rattle.host_io.specs.PerName.{under};
 ghost use Rattle.host_io.specs.declared.change.Change.TheVariants as change;
 ghost use Rattle.host_io.specs.declared.name.Name.{Name};
 
-use crate::bytes::Bytes;
+use crate::list::Bytes;
 use crate::call::{Action, Call};
 use crate::change::Change;
 use crate::failed::{Failed, fault};

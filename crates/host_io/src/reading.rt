@@ -2,7 +2,7 @@ ghost use Rattle.std.specs.Prelude.{◌≡◌, ℕ, ◌+◌, ◌<◌, ◌≤◌,
 ghost use Rattle.host_io.specs.Faults.{Rose};
 ghost use Rattle.host_io.specs.Reading.{MovesBytes, TakesAtMost};
 
-use crate::bytes::Bytes;
+use crate::list::Bytes;
 use crate::next_bytes::{NextBytes, OfSource};
 use crate::read_fault::ReadFault;
 use crate::source::Source;

@@ -1,5 +1,5 @@
 use crate::FileRec;
-use lists::ListOf;
+use host_io::ListOf;
 
 /// The records of a file in their order.
 pub type FileRecs = ListOf<FileRec>;

@@ -1,4 +1,4 @@
-use lists::ListOf;
+use host_io::ListOf;
 use net_addr::Peer;
 
 /// A list of peers.

@@ -1,5 +1,5 @@
 use crate::Rec;
-use lists::ListOf;
+use host_io::ListOf;
 
 /// A list of records.
 pub type Recs = ListOf<Rec>;

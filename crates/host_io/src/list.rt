@@ -1,6 +1,3 @@
-//! Lists that contracts see as their items alone.
-#![tactic(auto)]
-
 ghost use Rattle.std.specs.Prelude.{◌≡◌};
 
 use std::marker::Model;
@@ -11,6 +8,9 @@ use std::marker::Model;
 pub struct ListOf<T> {
     items: Vec<T>,
 }
+
+/// A list of bytes.
+pub type Bytes = ListOf<u8>;
 
 impl<T> Model for ListOf<T> {
     ghost use Rattle.std.specs.Prelude.{List};

@@ -1,4 +1,0 @@
-use lists::ListOf;
-
-/// A list of bytes.
-pub type Bytes = ListOf<u8>;
