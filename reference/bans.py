@@ -1,0 +1,144 @@
+"""The file banlist.json."""
+
+from typing import NamedTuple
+
+from addresses import (
+    CJDNS, I2P, INTERNAL, IPV4, IPV6, ONION, Address, address_text, from_sixteen, ipv4_text,
+    ipv6_text, read_address, read_ipv4, read_ipv6,
+)
+from json_text import JsonFault, read_json
+from text import read_number
+
+MAXIMUM_BYTES = 33_554_432
+MAXIMUM_BANS = 100_000
+LARGEST_TIME = 4294967295
+LEAST_INTEGER, LARGEST_INTEGER = -(1 << 63), (1 << 64) - 1
+
+
+class Subnet(NamedTuple):
+    """A network, the first address of a subnet, and the number of its leading bits."""
+
+    network: str
+    data: bytes
+    length: int
+
+    def covers(self, address: Address) -> bool:
+        """Whether the subnet has an address."""
+        return address.network == self.network and cleared(address.data, self.length) == self.data
+
+
+class Ban(NamedTuple):
+    """The time when a ban was made, and that when it is over."""
+
+    made: int
+    until: int
+
+
+class ListFault(Exception):
+    """The file is refused."""
+
+
+def cleared(data: bytes, length: int) -> bytes:
+    """The bytes with only their first bits left."""
+    shift = 8 * len(data) - length
+    return (int.from_bytes(data, "big") >> shift << shift).to_bytes(len(data), "big")
+
+
+def read_subnet(written: bytes) -> Subnet | None:
+    """The subnet that a text writes."""
+    address = read_address(written)
+    if address is not None and address.network in (ONION, I2P, CJDNS):
+        return Subnet(address.network, address.data, 8 * len(address.data))
+    host, slash, length_text = written.partition(b"/")
+    data = read_ipv4(host)
+    if data is not None:
+        network = IPV4
+    else:
+        data = read_ipv6(host)
+        if data is None:
+            return None
+        network, data = from_sixteen(data)
+        if network != IPV6:
+            return None
+    length = read_number(length_text, 8 * len(data)) if slash else 8 * len(data)
+    if length is None:
+        return None
+    data = cleared(data, length)
+    if network == IPV6 and from_sixteen(data).network == INTERNAL:
+        return None
+    return Subnet(network, data, length)
+
+
+def subnet_text(subnet: Subnet) -> str:
+    """A subnet as it is printed."""
+    if subnet.network == IPV4:
+        return f"{ipv4_text(subnet.data)}/{subnet.length}"
+    if subnet.network == IPV6:
+        return f"{ipv6_text(subnet.data)}/{subnet.length}"
+    return address_text(Address(subnet.network, subnet.data))
+
+
+def integer(value) -> int | None:
+    """A value that is an integer of 64 bits."""
+    if type(value) is not int or not LEAST_INTEGER <= value <= LARGEST_INTEGER:
+        return None
+    return value
+
+
+def read_element(element) -> tuple[Subnet, Ban] | None:
+    """The subnet and the ban of an element that counts."""
+    if type(element) is not dict or integer(element.get("version")) != 1:
+        return None
+    address = element.get("address")
+    times = [integer(element.get("ban_created")), integer(element.get("banned_until"))]
+    if type(address) is not str or None in times:
+        return None
+    subnet = read_subnet(address.encode("utf-8", "surrogatepass"))
+    if subnet is None:
+        return None
+    return subnet, Ban(*(min(max(time, 0), LARGEST_TIME) for time in times))
+
+
+def read_list(data: bytes) -> dict[Subnet, Ban]:
+    """The bans of a file, in its order; raises ListFault."""
+    try:
+        value = read_json(data)
+    except JsonFault:
+        raise ListFault("json")
+    elements = value.get("banned_nets") if type(value) is dict else None
+    if type(elements) is not list:
+        raise ListFault("form")
+    pairs = [pair for element in elements if (pair := read_element(element)) is not None]
+    if len(pairs) > MAXIMUM_BANS:
+        raise ListFault("too-many")
+    return dict(pairs)
+
+
+def written_list(bans: dict[Subnet, Ban]) -> bytes:
+    """The file of a list."""
+    elements = [
+        f'{{"address":"{subnet_text(subnet)}","ban_created":{ban.made}'
+        f',"banned_until":{ban.until},"version":1}}'
+        for subnet, ban in bans.items()
+    ]
+    return f'{{"banned_nets":[{",".join(elements)}]}}'.encode()
+
+
+def ban(bans: dict[Subnet, Ban], subnet: Subnet, now: int, until: int) -> str:
+    """Bans a subnet; the answer, after which the list is only valid if it is `ban added`."""
+    for own in [own for own, old in bans.items() if old.until <= now]:
+        del bans[own]
+    if subnet in bans and bans[subnet].until >= until:
+        return "ban kept"
+    if subnet not in bans and len(bans) >= MAXIMUM_BANS:
+        return "ban full"
+    bans[subnet] = Ban(now, until)
+    return "ban added"
+
+
+def banned(bans: dict[Subnet, Ban], address: Address, now: int) -> str:
+    """The first ban that covers an address and ends after a time."""
+    for subnet, own in bans.items():
+        if subnet.covers(address) and own.until > now:
+            return f"banned {subnet_text(subnet)} {own.until}"
+    return "free"

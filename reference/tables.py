@@ -1,0 +1,416 @@
+"""The tables of peers."""
+
+from typing import Iterator, NamedTuple
+
+import places
+from addresses import Address, Peer, class_of, routable, valid
+from asmap import Asmap
+from messages import Entry
+from text import Words
+
+MINUTE, HOUR, DAY = 60, 3600, 86400
+MAXIMUM_BUCKETS_OF_A_RECORD = 8
+MAXIMUM_COLLISIONS = 10
+MAXIMUM_FAILURES = 2147483647
+ONE = 1 << 30
+LARGEST_FACTOR = 1 << 60
+ALL = "all"
+
+
+class Record:
+    """What is known of a peer."""
+
+    def __init__(self, number: int, peer: Peer, source: Address, time: int, services: int):
+        self.number = number
+        self.peer = peer
+        self.source = source
+        self.time = time
+        self.services = services
+        self.success = 0
+        self.last_try = 0
+        self.last_counted_try = 0
+        self.failures = 0
+        self.buckets: set[int] = set()
+        self.tried = False
+
+
+class Kept(NamedTuple):
+    """A record as a file has it."""
+
+    peer: Peer
+    source: Address
+    time: int
+    services: int
+    success: int
+    failures: int
+
+
+def terrible(record: Record, now: int) -> bool:
+    """Whether a record is terrible."""
+    if now - record.last_try <= MINUTE:
+        return False
+    return (
+        record.time > now + 10 * MINUTE
+        or now - record.time > 30 * DAY
+        or record.failures >= 3 and record.success == 0
+        or record.failures >= 10 and now - record.success > 7 * DAY
+    )
+
+
+def chance(record: Record, now: int) -> int:
+    """The chance of a record, of 2^30."""
+    power = min(record.failures, 8)
+    number = ONE * 33 ** power // 50 ** power
+    return number // 100 if now - record.last_try < 10 * MINUTE else number
+
+
+def clamped(time: int, now: int) -> int:
+    """The time of an entry as it is taken."""
+    return max(0, now - 5 * DAY) if time <= 100_000_000 or time > now + 10 * MINUTE else time
+
+
+class Tables:
+    """The new and the tried table, with the order of the records and the collisions."""
+
+    def __init__(self, key: bytes, asmap: Asmap):
+        self.key = key
+        self.asmap = asmap
+        self.records: dict[int, Record] = {}
+        self.numbers: dict[Peer, int] = {}
+        self.order: list[int] = []
+        self.position: dict[int, int] = {}
+        self.new: dict[int, dict[int, int]] = {}
+        self.tried: dict[int, dict[int, int]] = {}
+        self.collisions: set[int] = set()
+        self.next_number = 0
+        self.last_good = 1
+
+    # Records.
+
+    def find(self, peer: Peer) -> Record | None:
+        """The record of a peer."""
+        number = self.numbers.get(peer)
+        return None if number is None else self.records[number]
+
+    def create(self, peer: Peer, source: Address, time: int, services: int) -> Record:
+        """A record with the next number, put last in the order."""
+        record = Record(self.next_number, peer, source, time, services)
+        self.next_number += 1
+        self.records[record.number] = record
+        self.numbers[peer] = record.number
+        self.position[record.number] = len(self.order)
+        self.order.append(record.number)
+        return record
+
+    def exchange(self, first: int, second: int):
+        """Exchanges the records at two positions of the order."""
+        order = self.order
+        order[first], order[second] = order[second], order[first]
+        self.position[order[first]] = first
+        self.position[order[second]] = second
+
+    def delete(self, record: Record):
+        """Deletes a record; the last one in the order moves to its position."""
+        self.exchange(self.position[record.number], len(self.order) - 1)
+        self.order.pop()
+        del self.position[record.number]
+        del self.records[record.number]
+        del self.numbers[record.peer]
+
+    def counts(self) -> tuple[int, int]:
+        """The numbers of records in the new and in the tried table."""
+        tried = sum(record.tried for record in self.records.values())
+        return len(self.records) - tried, tried
+
+    # Slots.
+
+    def new_bucket(self, record: Record, source: Address) -> int:
+        """The bucket of the new table for a record that comes from a source."""
+        return places.new_bucket(self.key, self.asmap, record.peer, source)
+
+    def new_slot(self, record: Record, bucket: int) -> int:
+        """The slot of a record in a bucket of the new table."""
+        return places.new_slot(self.key, bucket, record.peer)
+
+    def tried_place(self, record: Record) -> tuple[int, int]:
+        """The bucket and the slot of a record in the tried table."""
+        bucket = places.tried_bucket(self.key, self.asmap, record.peer)
+        return bucket, places.tried_slot(self.key, bucket, record.peer)
+
+    def occupant(self, table: dict[int, dict[int, int]], bucket: int, slot: int) -> Record | None:
+        """The record at a slot."""
+        number = table.get(bucket, {}).get(slot)
+        return None if number is None else self.records[number]
+
+    def occupy(self, record: Record, bucket: int, slot: int):
+        """Gives a record a slot of the new table."""
+        self.new.setdefault(bucket, {})[slot] = record.number
+        record.buckets.add(bucket)
+
+    def clear(self, bucket: int, slot: int):
+        """Takes its slot of the new table from the occupant, and deletes it if it has no other."""
+        occupant = self.occupant(self.new, bucket, slot)
+        if occupant is None:
+            return
+        del self.new[bucket][slot]
+        occupant.buckets.remove(bucket)
+        if not occupant.buckets:
+            self.delete(occupant)
+
+    # News of peers.
+
+    def add(self, now: int, entry: Entry, source: Address, word: int) -> bool:
+        """Takes an entry of a message; whether it got a slot."""
+        if entry.address is None or not routable(entry.address):
+            return False
+        time = clamped(entry.time, now)
+        penalty = 0 if entry.address == source else 2 * HOUR
+        record = self.find(entry.peer())
+        if record is None:
+            record = self.create(entry.peer(), source, max(0, time - penalty), entry.services)
+        elif not self.refreshed(record, now, time, entry.services, penalty, word):
+            return False
+        bucket = self.new_bucket(record, source)
+        slot = self.new_slot(record, bucket)
+        occupant = self.occupant(self.new, bucket, slot)
+        if occupant is record:
+            return False
+        if occupant is not None and not self.makes_room(occupant, record, now):
+            if not record.buckets:
+                self.delete(record)
+            return False
+        self.clear(bucket, slot)
+        self.occupy(record, bucket, slot)
+        return True
+
+    def refreshed(
+        self, record: Record, now: int, time: int, services: int, penalty: int, word: int
+    ) -> bool:
+        """Refreshes the record of a known peer; whether it requests another slot."""
+        interval = HOUR if now - time < DAY else DAY
+        if time > record.time + interval + penalty:
+            record.time = time - penalty
+        record.services |= services
+        return (
+            time > record.time
+            and not record.tried
+            and len(record.buckets) < MAXIMUM_BUCKETS_OF_A_RECORD
+            and word % 2 ** len(record.buckets) == 0
+        )
+
+    def makes_room(self, occupant: Record, record: Record, now: int) -> bool:
+        """Whether the occupant of a slot gives way to a record."""
+        return terrible(occupant, now) or len(occupant.buckets) > 1 and not record.buckets
+
+    def good(self, now: int, peer: Peer, test: bool) -> str:
+        """The peer was reached."""
+        self.last_good = now
+        record = self.find(peer)
+        return "unknown" if record is None else self.succeeded(now, record, test)
+
+    def succeeded(self, now: int, record: Record, test: bool) -> str:
+        """The peer of a record was reached."""
+        record.success = now
+        record.last_try = now
+        record.failures = 0
+        if record.tried:
+            return "already"
+        bucket, slot = self.tried_place(record)
+        if test and self.occupant(self.tried, bucket, slot) is not None:
+            if len(self.collisions) < MAXIMUM_COLLISIONS:
+                self.collisions.add(record.number)
+            return "clash"
+        self.move(record, bucket, slot)
+        return "moved"
+
+    def move(self, record: Record, bucket: int, slot: int):
+        """Moves a record of the new table to its slot of the tried one."""
+        for own in record.buckets:
+            del self.new[own][self.new_slot(record, own)]
+        record.buckets = set()
+        occupant = self.occupant(self.tried, bucket, slot)
+        if occupant is not None:
+            occupant.tried = False
+            own = self.new_bucket(occupant, occupant.source)
+            self.clear(own, self.new_slot(occupant, own))
+            self.occupy(occupant, own, self.new_slot(occupant, own))
+        record.tried = True
+        self.tried.setdefault(bucket, {})[slot] = record.number
+
+    def attempt(self, now: int, peer: Peer, count: bool) -> bool:
+        """A connection to the peer was tried; whether it has a record."""
+        record = self.find(peer)
+        if record is None:
+            return False
+        record.last_try = now
+        if count and record.last_counted_try < self.last_good:
+            record.last_counted_try = now
+            record.failures = min(record.failures + 1, MAXIMUM_FAILURES)
+        return True
+
+    def connected(self, now: int, peer: Peer) -> bool:
+        """The peer is still connected; whether it has a record."""
+        record = self.find(peer)
+        if record is None:
+            return False
+        if now - record.time > 20 * MINUTE:
+            record.time = now
+        return True
+
+    def set_services(self, peer: Peer, services: int) -> bool:
+        """The peer announced its services; whether it has a record."""
+        record = self.find(peer)
+        if record is None:
+            return False
+        record.services = services
+        return True
+
+    # Collisions.
+
+    def resolve(self, now: int) -> tuple[int, int, int]:
+        """Decides on the collisions; how many were erased, moved and kept."""
+        counts = {"erased": 0, "moved": 0, "kept": 0}
+        for number in sorted(self.collisions):
+            decision = self.decision(now, self.records.get(number))
+            counts[decision] += 1
+            if decision != "kept":
+                self.collisions.remove(number)
+            if decision == "moved":
+                self.last_good = now
+                self.succeeded(now, self.records[number], test=False)
+        return counts["erased"], counts["moved"], counts["kept"]
+
+    def decision(self, now: int, newcomer: Record | None) -> str:
+        """What becomes of a collision."""
+        if newcomer is None:
+            return "erased"
+        occupant = self.occupant(self.tried, *self.tried_place(newcomer))
+        if now - occupant.success < 4 * HOUR:
+            return "erased"
+        if now - occupant.last_try < 4 * HOUR:
+            return "moved" if now - occupant.last_try > MINUTE else "kept"
+        return "moved" if now - newcomer.success > 40 * MINUTE else "kept"
+
+    def clash(self, number: int) -> Record | None:
+        """Picks a collision; the occupant of the newcomer's slot."""
+        if not self.collisions:
+            return None
+        picked = sorted(self.collisions)[number % len(self.collisions)]
+        newcomer = self.records.get(picked)
+        if newcomer is None:
+            self.collisions.remove(picked)
+            return None
+        return self.occupant(self.tried, *self.tried_place(newcomer))
+
+    # Picks.
+
+    def select(self, now: int, only_new: bool, networks, words: Words) -> Record | str:
+        """Picks a peer to connect to: its record, `nothing` or `exhausted`."""
+
+        def candidate(record: Record) -> bool:
+            address = record.peer.address
+            return networks == ALL or routable(address) and address.network in networks
+
+        candidates = [record for record in self.records.values() if candidate(record)]
+        some_tried = any(record.tried for record in candidates) and not only_new
+        some_new = any(not record.tried for record in candidates)
+        if not some_tried and not some_new:
+            return "nothing"
+        try:
+            return self.search(now, candidate, some_new, some_tried, iter(words))
+        except StopIteration:
+            return "exhausted"
+
+    def search(
+        self, now: int, candidate, some_new: bool, some_tried: bool, words: Iterator[int]
+    ) -> Record:
+        """The rounds of a search; raises StopIteration if it needs more words."""
+        in_tried = some_tried and (not some_new or next(words) % 2 == 1)
+        table = self.tried if in_tried else self.new
+        buckets = places.TRIED_BUCKETS if in_tried else places.NEW_BUCKETS
+        factor = ONE
+        while True:
+            slots = table.get(next(words) % buckets, {})
+            start = next(words) % places.SLOTS
+            found = (
+                self.records[slots[(start + step) % places.SLOTS]]
+                for step in range(places.SLOTS if slots else 0)
+                if (start + step) % places.SLOTS in slots
+            )
+            first = None
+            for record in found:
+                if candidate(record):
+                    first = record
+                    break
+            if first is None:
+                continue
+            if next(words) % ONE * ONE < chance(first, now) * factor:
+                return first
+            factor = min(factor + factor // 5, LARGEST_FACTOR)
+
+    def sample(self, now: int, maximum: int, percent: int, classes, words: Words) -> list[Peer]:
+        """Picks peers to send to another node; there are as many words as records."""
+        count = len(self.order)
+        limit = count
+        if percent:
+            limit = percent * count // 100
+        if maximum:
+            limit = min(limit, maximum)
+        peers: list[Peer] = []
+        source = iter(words)
+        for position in range(count):
+            if len(peers) >= limit:
+                break
+            self.exchange(position, position + next(source) % (count - position))
+            record = self.records[self.order[position]]
+            wanted = classes == ALL or class_of(record.peer.address) in classes
+            if wanted and not terrible(record, now):
+                peers.append(record.peer)
+        return peers
+
+    # What a file has.
+
+    def restore(self, new: list[Kept], tried: list[Kept], buckets: list[list[int]], same: bool):
+        """Fills empty tables with the records of a file.
+
+        `buckets` lists the new records by bucket; these buckets are used if they are the `same`,
+        that is, if their number and the asmap are.
+        """
+        made = [self.keep(kept) if valid(kept.peer.address) else None for kept in new]
+        for kept in tried:
+            if valid(kept.peer.address):
+                self.keep_tried(kept)
+        for bucket, indices in enumerate(buckets):
+            for index in indices:
+                if made[index] is not None:
+                    self.replace(made[index], bucket, same)
+        for record in made:
+            if record is not None and not record.buckets:
+                self.delete(record)
+
+    def keep(self, kept: Kept) -> Record:
+        """A record of a file."""
+        record = self.create(kept.peer, kept.source, kept.time, kept.services)
+        record.success = kept.success
+        record.failures = kept.failures
+        return record
+
+    def keep_tried(self, kept: Kept):
+        """A record of a file's tried table, if its slot is empty."""
+        record = self.keep(kept)
+        bucket, slot = self.tried_place(record)
+        if self.occupant(self.tried, bucket, slot) is not None:
+            self.delete(record)
+            return
+        record.tried = True
+        self.tried.setdefault(bucket, {})[slot] = record.number
+
+    def replace(self, record: Record, bucket: int, same: bool):
+        """Gives a record its slot in a bucket of a file, or else in that of its own source."""
+        if len(record.buckets) >= MAXIMUM_BUCKETS_OF_A_RECORD:
+            return
+        if not same or self.occupant(self.new, bucket, self.new_slot(record, bucket)) is not None:
+            bucket = self.new_bucket(record, record.source)
+        slot = self.new_slot(record, bucket)
+        if self.occupant(self.new, bucket, slot) is None:
+            self.occupy(record, bucket, slot)

@@ -1,0 +1,112 @@
+"""Numbers, hexadecimal digits and random words, as they are written."""
+
+from typing import Iterator, NamedTuple
+
+MASK = (1 << 64) - 1
+MAXIMUM_SEEDED_WORDS = 1_000_000
+HEXADECIMAL = frozenset(b"0123456789abcdefABCDEF")
+DECIMAL = frozenset(b"0123456789")
+
+
+def read_number(text: bytes, maximum: int) -> int | None:
+    """The number that the text writes, if it is one and is at most the maximum."""
+    if not text or not DECIMAL.issuperset(text):
+        return None
+    if len(text) > 1 and text.startswith(b"0"):
+        return None
+    if len(text) > 20:
+        return None
+    number = int(text)
+    return number if number <= maximum else None
+
+
+def read_digits(text: bytes, length: int) -> bytes | None:
+    """The bytes that the text writes, if it has two hexadecimal digits for each of them."""
+    if len(text) != 2 * length or not HEXADECIMAL.issuperset(text):
+        return None
+    return bytes.fromhex(text.decode())
+
+
+def read_hexadecimal(text: bytes) -> bytes | None:
+    """The bytes that a field HEX writes."""
+    if text == b"-":
+        return b""
+    if not text or len(text) % 2:
+        return None
+    return read_digits(text, len(text) // 2)
+
+
+def hexadecimal(data: bytes) -> str:
+    """The bytes as a field HEX."""
+    return data.hex() if data else "-"
+
+
+class Xoshiro:
+    """Xoshiro256++, with the state that `seed_from_u64` of `rand_xoshiro` gives it."""
+
+    def __init__(self, seed: int):
+        state = seed
+        words = []
+        for _ in range(4):
+            state = state + 0x9E3779B97F4A7C15 & MASK
+            word = state
+            word = (word ^ word >> 30) * 0xBF58476D1CE4E5B9 & MASK
+            word = (word ^ word >> 27) * 0x94D049BB133111EB & MASK
+            words.append(word ^ word >> 31)
+        self.state = tuple(words)
+
+    def next(self) -> int:
+        """The next word of 64 bits."""
+        first, second, third, fourth = self.state
+        sum_of_ends = first + fourth & MASK
+        word = ((sum_of_ends << 23 | sum_of_ends >> 41) + first) & MASK
+        shifted = second << 17 & MASK
+        third ^= first
+        fourth ^= second
+        second ^= third
+        first ^= fourth
+        third ^= shifted
+        fourth = (fourth << 45 | fourth >> 19) & MASK
+        self.state = (first, second, third, fourth)
+        return word
+
+
+class Words(NamedTuple):
+    """A list of random words: those that are given, or the first ones of a seed."""
+
+    given: tuple[int, ...]
+    seed: int
+    count: int
+
+    def __iter__(self) -> Iterator[int]:
+        if self.given:
+            yield from self.given
+            return
+        source = Xoshiro(self.seed)
+        for _ in range(self.count):
+            yield source.next()
+
+
+def given_words(words) -> Words:
+    """The list of these words."""
+    return Words(tuple(words), 0, len(words))
+
+
+def seeded_words(seed: int, count: int) -> Words:
+    """The list of the first `count` words of a seed."""
+    return Words((), seed, count)
+
+
+def read_words(text: bytes) -> Words | None:
+    """The random words that a field W writes."""
+    if text == b"-":
+        return given_words(())
+    if text.startswith(b"@"):
+        seed_text, colon, count_text = text[1:].partition(b":")
+        seed = read_number(seed_text, MASK)
+        count = read_number(count_text, MAXIMUM_SEEDED_WORDS)
+        if not colon or seed is None or count is None:
+            return None
+        return seeded_words(seed, count)
+    words = [read_number(word, MASK) for word in text.split(b",")]
+    return None if None in words else given_words(words)
