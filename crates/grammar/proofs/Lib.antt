@@ -1,0 +1,5 @@
+pub mod WordLemmas
+pub mod NameLemmas
+pub mod Values
+pub mod TableLemmas
+pub mod ReadingLemmas

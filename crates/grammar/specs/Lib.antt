@@ -1,0 +1,6 @@
+pub mod Random
+pub mod Words
+pub mod Fields
+pub mod Table
+pub mod Reading
+pub mod Inside

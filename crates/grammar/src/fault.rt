@@ -1,0 +1,28 @@
+use thiserror::Error;
+
+/// Why a line is refused: an unknown keyword, a wrong number of fields, or the first field with an
+/// error.
+#[derive(Clone, Copy, Debug, PartialEq, Eq, Error)]
+pub enum LineFault {
+    /// The keyword of the line is unknown, or a field is none of its keywords or names.
+    #[error("word")]
+    Word,
+    /// The line has too few or too many fields.
+    #[error("fields")]
+    Fields,
+    /// A number is not decimal or out of range.
+    #[error("number")]
+    Number,
+    /// A field is not an address or not a peer.
+    #[error("peer")]
+    Peer,
+    /// Bytes are not in hexadecimal digits.
+    #[error("hex")]
+    Hex,
+    /// A field is no list of random words.
+    #[error("words")]
+    Words,
+    /// Out of memory.
+    #[error("out of memory")]
+    Memory,
+}

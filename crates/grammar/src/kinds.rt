@@ -1,0 +1,145 @@
+ghost use Rattle.std.specs.Prelude.{⊤};
+ghost use Rattle.grammar.specs.Fields.{Number, OfAddr, OfPeer, Hex, Random, TheNumber, TheAddr, ThePeer, Nets, Classes, TheBytes, TheWords, TheNets};
+
+use crate::field::{read_addr, read_number, read_payload, read_peer, read_random, read_u32};
+use crate::nets::{read_classes, read_nets};
+use crate::{Field, LineFault, Words};
+use host_io::Bytes;
+use net_addr::{NetAddr, NetSet, Peer};
+use std::alloc::Global;
+
+/// A number of 32 bits between two bounds.
+pub struct Between<const LEAST: u32, const MOST: u32>;
+
+impl<const LEAST: u32, const MOST: u32> Field for Between<LEAST, MOST> {
+    type Out = u32;
+
+    ghost kind = { Number LEAST MOST };
+
+    ghost value = { λ n. TheNumber n };
+
+    ghost may_stop = { ⊥ };
+
+    fn read(alloc: Global, text: &[u8]) -> Result<u32, LineFault> {
+        read_u32(text, LEAST, MOST)
+    }
+}
+
+/// A number of 64 bits between two bounds.
+pub struct LongBetween<const LEAST: u64, const MOST: u64>;
+
+impl<const LEAST: u64, const MOST: u64> Field for LongBetween<LEAST, MOST> {
+    type Out = u64;
+
+    ghost kind = { Number LEAST MOST };
+
+    ghost value = { λ n. TheNumber n };
+
+    ghost may_stop = { ⊥ };
+
+    fn read(alloc: Global, text: &[u8]) -> Result<u64, LineFault> {
+        read_number(text, LEAST, MOST)
+    }
+}
+
+/// An address.
+pub struct Source;
+
+impl Field for Source {
+    type Out = NetAddr;
+
+    ghost kind = { OfAddr };
+
+    ghost value = { λ a. TheAddr a };
+
+    ghost may_stop = { ⊥ };
+
+    fn read(alloc: Global, text: &[u8]) -> Result<NetAddr, LineFault> {
+        read_addr(text)
+    }
+}
+
+/// A peer.
+pub struct OnePeer;
+
+impl Field for OnePeer {
+    type Out = Peer;
+
+    ghost kind = { OfPeer };
+
+    ghost value = { λ p. ThePeer p };
+
+    ghost may_stop = { ⊥ };
+
+    fn read(alloc: Global, text: &[u8]) -> Result<Peer, LineFault> {
+        read_peer(text)
+    }
+}
+
+/// Bytes in hexadecimal digits.
+pub struct Payload;
+
+impl Field for Payload {
+    type Out = Bytes;
+
+    ghost kind = { Hex };
+
+    ghost value = { λ bytes. TheBytes bytes };
+
+    ghost may_stop = { ⊤ };
+
+    fn read(alloc: Global, text: &[u8]) -> Result<Bytes, LineFault> {
+        read_payload(alloc, text)
+    }
+}
+
+/// Random words.
+pub struct Random;
+
+impl Field for Random {
+    type Out = Words;
+
+    ghost kind = { Random };
+
+    ghost value = { λ words. TheWords words };
+
+    ghost may_stop = { ⊤ };
+
+    fn read(alloc: Global, text: &[u8]) -> Result<Words, LineFault> {
+        read_random(alloc, text)
+    }
+}
+
+/// A set of networks: `all`, or their names with commas between them.
+pub struct Networks;
+
+impl Field for Networks {
+    type Out = NetSet;
+
+    ghost kind = { Nets };
+
+    ghost value = { λ nets. TheNets nets };
+
+    ghost may_stop = { ⊥ };
+
+    fn read(alloc: Global, text: &[u8]) -> Result<NetSet, LineFault> {
+        read_nets(text)
+    }
+}
+
+/// A set of classes of addresses: `all`, or their names, with `unroutable` among them.
+pub struct AddrClasses;
+
+impl Field for AddrClasses {
+    type Out = NetSet;
+
+    ghost kind = { Classes };
+
+    ghost value = { λ nets. TheNets nets };
+
+    ghost may_stop = { ⊥ };
+
+    fn read(alloc: Global, text: &[u8]) -> Result<NetSet, LineFault> {
+        read_classes(text)
+    }
+}
