@@ -1,0 +1,27 @@
+# Completion of addrman's commands and options for bash.
+
+_addrman() {
+    local word=${COMP_WORDS[COMP_CWORD]} before=${COMP_WORDS[COMP_CWORD - 1]}
+    local commands="replay opener limit show compile decompile check lookup ban unban banned gen trial"
+    local chains="main test signet regtest"
+    if ((COMP_CWORD == 1)); then
+        mapfile -t COMPREPLY < <(compgen -W "$commands" -- "$word")
+        return
+    fi
+    # Bash splits --net=main at the equals sign.
+    if [[ $word == = ]]; then
+        word=
+    elif [[ $before == = ]]; then
+        before=${COMP_WORDS[COMP_CWORD - 2]}
+    fi
+    if [[ $before == --net ]]; then
+        mapfile -t COMPREPLY < <(compgen -W "$chains" -- "$word")
+        return
+    fi
+    case ${COMP_WORDS[1]} in
+        replay | opener) mapfile -t COMPREPLY < <(compgen -W "--key --net" -- "$word") ;;
+        show) mapfile -t COMPREPLY < <(compgen -W "--net" -- "$word") ;;
+    esac
+}
+
+complete -F _addrman addrman
