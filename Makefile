@@ -3,6 +3,7 @@
 # make demo       runs the built program on the files of examples/
 # make test       the gate: proves everything, tries wrong bodies, runs the tests
 # make examples   compares what README.md and docs/FORMATS.md show with what the built program prints
+# make flood      an attack on the tables, hour by hour, as the page bin/flood.html
 # make endings    tries the exit codes of the built program and their texts
 # make figures    prints lines, words and the like, and checks the names that docs/DEFINITIONS.md lists
 # make install    copies program, manual page and completion below $(DESTDIR)$(PREFIX)
@@ -13,7 +14,7 @@ VERSION := 0.1.0
 ZERO_KEY := 0000000000000000000000000000000000000000000000000000000000000000
 DIST := addrman-$(VERSION)-x86_64-linux
 
-.PHONY: all try demo examples endings test figures install dist
+.PHONY: all try demo examples flood endings test figures install dist
 
 all:
 	mkdir -p bin
@@ -43,6 +44,9 @@ demo: all
 
 examples: all
 	tools/examples
+
+flood: all
+	tools/flood bin/addrman bin/flood.html
 
 endings: all
 	bench/endings
