@@ -4,20 +4,28 @@ import os
 import sys
 
 import command
+from folder import MAXIMUM_PIECE, Folder
 
-PIECE = 1 << 16
+
+def write_all(descriptor: int, data: bytes):
+    """Writes all bytes to a descriptor."""
+    while data:
+        data = data[os.write(descriptor, data):]
 
 
 def main() -> int:
-    """Runs the command of the arguments."""
+    """Runs the command of the arguments.
+
+    A standard stream that is closed is a folder from then on, so no file is opened as one.
+    """
+    for _ in range(3):
+        os.open("/", os.O_RDONLY)
     code, text = command.run(
-        sys.argv[1:],
-        lambda: os.read(0, PIECE),
-        lambda data: command.write_all(1, data),
+        sys.argv[1:], lambda: os.read(0, MAXIMUM_PIECE), lambda data: write_all(1, data), Folder()
     )
     if text:
         try:
-            command.write_all(2, f"addrman: {text}\n".encode())
+            write_all(2, f"addrman: {text}\n".encode())
         except OSError:
             pass
     return code

@@ -6,8 +6,8 @@ import text
 
 IPV4, IPV6, ONION, I2P, CJDNS, INTERNAL = "ipv4", "ipv6", "onion", "i2p", "cjdns", "internal"
 UNROUTABLE = "unroutable"
-NETWORKS = (IPV4, IPV6, ONION, I2P, CJDNS, INTERNAL)
 LENGTHS = {IPV4: 4, IPV6: 16, ONION: 32, I2P: 32, CJDNS: 16, INTERNAL: 10}
+NETWORKS = tuple(LENGTHS)
 LABELLED = (ONION, I2P, CJDNS, INTERNAL)
 
 IPV4_IN_IPV6 = bytes.fromhex("00000000000000000000ffff")
@@ -182,9 +182,12 @@ LOCAL_OR_RESERVED = {
         read_ipv6, "::1/128", "fe80::/64", "fc00::/7", "2001:10::/28", "2001:20::/28"
     ),
 }
-CARRIES_AT_THE_END = ranges(read_ipv6, "64:ff9b::/96", "::ffff:0:0:0/96")
-CARRIES_AFTER_TWO_BYTES = ranges(read_ipv6, "2002::/16")
-CARRIES_THE_COMPLEMENT = ranges(read_ipv6, "2001::/32")
+# The prefixes, the bytes that carry the IPv4 address, and the bits in which they differ from it.
+CARRIERS = (
+    (ranges(read_ipv6, "64:ff9b::/96", "::ffff:0:0:0/96"), slice(12, 16), 0),
+    (ranges(read_ipv6, "2002::/16"), slice(2, 6), 0),
+    (ranges(read_ipv6, "2001::/32"), slice(12, 16), 255),
+)
 
 
 def valid(address: Address) -> bool:
@@ -212,12 +215,9 @@ def carried_ipv4(address: Address) -> bytes | None:
         return data
     if address.network != IPV6:
         return None
-    if within(data, CARRIES_AT_THE_END):
-        return data[12:]
-    if within(data, CARRIES_AFTER_TWO_BYTES):
-        return data[2:6]
-    if within(data, CARRIES_THE_COMPLEMENT):
-        return bytes(255 - byte for byte in data[12:])
+    for prefixes, part, mask in CARRIERS:
+        if within(data, prefixes):
+            return bytes(byte ^ mask for byte in data[part])
     return None
 
 

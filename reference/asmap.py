@@ -1,8 +1,13 @@
-"""The file asmap.dat: its tree, the numbers of addresses, and its rows."""
+"""The file asmap.dat: its tree, the numbers of addresses, and its rows.
+
+A tree is ("return", number), ("jump", left part, right part), ("match", bits, tree) or
+("default", number, tree).
+"""
 
 from typing import NamedTuple
 
 from addresses import IPV4, IPV4_IN_IPV6, IPV6, Address, carried_ipv4, class_of
+from text import Fault
 
 MAXIMUM_BYTES = 8_388_608
 ADDRESS_BITS = 128
@@ -11,43 +16,12 @@ FIRST_MATCH, MATCH_DIGITS = 2, tuple(range(1, 9))
 FIRST_JUMP, JUMP_DIGITS = 17, tuple(range(5, 31))
 
 
-class Return(NamedTuple):
-    """The answer."""
-
-    number: int
-
-
-class Jump(NamedTuple):
-    """The next address bit chooses a part."""
-
-    left: tuple
-    right: tuple
-
-
-class Match(NamedTuple):
-    """If the next address bits are not these ones, the answer is the default."""
-
-    bits: str
-    tree: tuple
-
-
-class Default(NamedTuple):
-    """The default of the tree."""
-
-    number: int
-    tree: tuple
-
-
 class Row(NamedTuple):
     """The number of all addresses that begin with certain bits, the others being zero."""
 
     bits: int
     length: int
     number: int
-
-
-class Insane(Exception):
-    """The bytes are not those of a sane tree."""
 
 
 class Code:
@@ -60,7 +34,7 @@ class Code:
     def bit(self) -> int:
         """The next bit."""
         if self.position >= 8 * len(self.data):
-            raise Insane
+            raise Fault("insane")
         bit = self.data[self.position // 8] >> self.position % 8 & 1
         self.position += 1
         return bit
@@ -79,65 +53,63 @@ class Code:
         return first + value
 
 
-def read_tree(code: Code, left: int, before=None):
+def read_tree(code: Code, left: int, before: tuple = ("",)) -> tuple:
     """The tree that the code goes on with.
 
     `left` is how many address bits it may use, `before` the instruction directly before.
     """
     if code.bit() == 0:
-        if isinstance(before, Default):
-            raise Insane
-        return Return(code.number(FIRST_NUMBER, NUMBER_DIGITS))
+        if before[0] == "default":
+            raise Fault("insane")
+        return ("return", code.number(FIRST_NUMBER, NUMBER_DIGITS))
     if code.bit() == 0:
         length = code.number(FIRST_JUMP, JUMP_DIGITS)
         end = code.position + length
         if left == 0:
-            raise Insane
+            raise Fault("insane")
         left_part = read_tree(code, left - 1)
         if code.position != end:
-            raise Insane
-        return Jump(left_part, read_tree(code, left - 1))
+            raise Fault("insane")
+        return ("jump", left_part, read_tree(code, left - 1))
     if code.bit() == 0:
         bits = f"{code.number(FIRST_MATCH, MATCH_DIGITS):b}"[1:]
-        match = Match(bits, ())
-        short = len(bits) < 8
-        if len(bits) > left or short and isinstance(before, Match) and len(before.bits) < 8:
-            raise Insane
-        return Match(bits, read_tree(code, left - len(bits), match))
-    if isinstance(before, Default):
-        raise Insane
-    default = Default(code.number(FIRST_NUMBER, NUMBER_DIGITS), ())
-    return Default(default.number, read_tree(code, left, default))
+        two_short = before[0] == "match" and len(before[1]) < 8 and len(bits) < 8
+        if len(bits) > left or two_short:
+            raise Fault("insane")
+        return ("match", bits, read_tree(code, left - len(bits), ("match", bits)))
+    if before[0] == "default":
+        raise Fault("insane")
+    number = code.number(FIRST_NUMBER, NUMBER_DIGITS)
+    return ("default", number, read_tree(code, left, ("default", number)))
 
 
-def read_asmap(data: bytes):
-    """The tree of a file; raises Insane."""
+def read_asmap(data: bytes) -> tuple:
+    """The tree of a file; raises Fault."""
     code = Code(data)
     tree = read_tree(code, ADDRESS_BITS)
     if 8 * len(data) - code.position > 7:
-        raise Insane
+        raise Fault("insane")
     while code.position < 8 * len(data):
         if code.bit():
-            raise Insane
+            raise Fault("insane")
     return tree
 
 
-def walk(tree, bits: str) -> int:
+def walk(tree: tuple, bits: str) -> int:
     """The answer of a tree for address bits."""
     default = 0
-    while not isinstance(tree, Return):
-        if isinstance(tree, Jump):
-            tree = tree.right if bits[0] == "1" else tree.left
+    while tree[0] != "return":
+        if tree[0] == "jump":
+            tree = tree[1 + int(bits[0])]
             bits = bits[1:]
-        elif isinstance(tree, Match):
-            if not bits.startswith(tree.bits):
-                return default
-            bits = bits[len(tree.bits):]
-            tree = tree.tree
+        elif tree[0] == "default":
+            _, default, tree = tree
+        elif bits.startswith(tree[1]):
+            bits = bits[len(tree[1]):]
+            tree = tree[2]
         else:
-            default = tree.number
-            tree = tree.tree
-    return tree.number
+            return default
+    return tree[1]
 
 
 class Asmap:
@@ -171,7 +143,7 @@ class Asmap:
 NO_ASMAP = Asmap(None)
 
 
-def rows_of(tree) -> list[Row]:
+def rows_of(tree: tuple) -> list[Row]:
     """The rows of a tree."""
     rows: list[Row] = []
 
@@ -181,16 +153,16 @@ def rows_of(tree) -> list[Row]:
             rows.append(Row(int(path.ljust(ADDRESS_BITS, "0"), 2), len(path), number))
         return number
 
-    def go(part, path: str, default: int, above: int):
-        if isinstance(part, Return):
-            give(path, part.number, above)
-        elif isinstance(part, Default):
-            go(part.tree, path, part.number, above)
-        elif isinstance(part, Match):
-            go(part.tree, path + part.bits, default, give(path, default, above))
+    def go(tree: tuple, path: str, default: int, above: int):
+        if tree[0] == "return":
+            give(path, tree[1], above)
+        elif tree[0] == "default":
+            go(tree[2], path, tree[1], above)
+        elif tree[0] == "match":
+            go(tree[2], path + tree[1], default, give(path, default, above))
         else:
-            go(part.left, path + "0", default, above)
-            go(part.right, path + "1", default, above)
+            go(tree[1], path + "0", default, above)
+            go(tree[2], path + "1", default, above)
 
     go(tree, "", 0, 0)
     return rows
@@ -209,27 +181,12 @@ def number_code(number: int, first: int, digits: tuple[int, ...]) -> str:
     return mark + f"{number - first:0{digits[ones]}b}"
 
 
-def return_code(number: int) -> str:
-    """A return."""
-    return "0" + number_code(number, FIRST_NUMBER, NUMBER_DIGITS)
-
-
-def default_code(number: int) -> str:
-    """A default."""
-    return "111" + number_code(number, FIRST_NUMBER, NUMBER_DIGITS)
-
-
 def matches_code(bits: str) -> str:
     """Matches of the bits, eight at a time and the remaining ones last."""
     parts = [bits[at:at + 8] for at in range(0, len(bits), 8)]
     return "".join(
         "110" + number_code(int("1" + part, 2), FIRST_MATCH, MATCH_DIGITS) for part in parts
     )
-
-
-def bits_between(bits: int, start: int, end: int) -> str:
-    """The address bits from one position to another."""
-    return f"{bits:0128b}"[start:end]
 
 
 def path_code(rows: list[Row], length: int, number: int, default: int) -> str:
@@ -242,7 +199,7 @@ def path_code(rows: list[Row], length: int, number: int, default: int) -> str:
         number = rows[0].number
         rows = rows[1:]
     if not rows:
-        return return_code(number)
+        return "0" + number_code(number, FIRST_NUMBER, NUMBER_DIGITS)
     zeros = [row for row in rows if not row.bits >> 127 - length & 1]
     ones = rows[len(zeros):]
     if zeros and ones:
@@ -251,10 +208,10 @@ def path_code(rows: list[Row], length: int, number: int, default: int) -> str:
         return "10" + number_code(len(left), FIRST_JUMP, JUMP_DIGITS) + left + right
     code = ""
     if number != default:
-        code = default_code(number)
+        code = "111" + number_code(number, FIRST_NUMBER, NUMBER_DIGITS)
     different = rows[0].bits ^ rows[-1].bits
     stop = min(rows[0].length, ADDRESS_BITS - different.bit_length())
-    code += matches_code(bits_between(rows[0].bits, length, stop))
+    code += matches_code(f"{rows[0].bits:0128b}"[length:stop])
     return code + path_code(rows, stop, number, number)
 
 

@@ -6,13 +6,12 @@ from addresses import (
     CJDNS, I2P, INTERNAL, IPV4, IPV6, ONION, Address, address_text, from_sixteen, ipv4_text,
     ipv6_text, read_address, read_ipv4, read_ipv6,
 )
-from json_text import JsonFault, read_json
-from text import read_number
+from json_text import read_json
+from text import Fault, read_number
 
 MAXIMUM_BYTES = 33_554_432
 MAXIMUM_BANS = 100_000
 LARGEST_TIME = 4294967295
-LEAST_INTEGER, LARGEST_INTEGER = -(1 << 63), (1 << 64) - 1
 
 
 class Subnet(NamedTuple):
@@ -32,10 +31,6 @@ class Ban(NamedTuple):
 
     made: int
     until: int
-
-
-class ListFault(Exception):
-    """The file is refused."""
 
 
 def cleared(data: bytes, length: int) -> bytes:
@@ -78,39 +73,31 @@ def subnet_text(subnet: Subnet) -> str:
     return address_text(Address(subnet.network, subnet.data))
 
 
-def integer(value) -> int | None:
-    """A value that is an integer of 64 bits."""
-    if type(value) is not int or not LEAST_INTEGER <= value <= LARGEST_INTEGER:
-        return None
-    return value
-
-
 def read_element(element) -> tuple[Subnet, Ban] | None:
     """The subnet and the ban of an element that counts."""
-    if type(element) is not dict or integer(element.get("version")) != 1:
+    if not isinstance(element, dict):
         return None
-    address = element.get("address")
-    times = [integer(element.get("ban_created")), integer(element.get("banned_until"))]
-    if type(address) is not str or None in times:
+    version, address = element.get("version"), element.get("address")
+    times = [element.get("ban_created"), element.get("banned_until")]
+    if type(version) is not int or version != 1 or type(address) is not str:
         return None
-    subnet = read_subnet(address.encode("utf-8", "surrogatepass"))
+    if any(type(time) is not int for time in times):
+        return None
+    subnet = read_subnet(address.encode())
     if subnet is None:
         return None
     return subnet, Ban(*(min(max(time, 0), LARGEST_TIME) for time in times))
 
 
 def read_list(data: bytes) -> dict[Subnet, Ban]:
-    """The bans of a file, in its order; raises ListFault."""
-    try:
-        value = read_json(data)
-    except JsonFault:
-        raise ListFault("json")
-    elements = value.get("banned_nets") if type(value) is dict else None
+    """The bans of a file, in its order; raises Fault."""
+    value = read_json(data)
+    elements = value.get("banned_nets") if isinstance(value, dict) else None
     if type(elements) is not list:
-        raise ListFault("form")
+        raise Fault("form")
     pairs = [pair for element in elements if (pair := read_element(element)) is not None]
     if len(pairs) > MAXIMUM_BANS:
-        raise ListFault("too-many")
+        raise Fault("too-many")
     return dict(pairs)
 
 

@@ -1,7 +1,11 @@
-"""Files of the current folder, and the ends of a run."""
+"""Files of a folder, and the ends of a run."""
 
 import os
 import stat
+
+from text import Fault
+
+MAXIMUM_PIECE = 65_536
 
 
 class Stop(Exception):
@@ -9,106 +13,104 @@ class Stop(Exception):
 
     def __init__(self, code: int, text: str):
         super().__init__(text)
-        self.code = code
-        self.text = text
+        self.code, self.text = code, text
 
 
-class TooLarge(Exception):
-    """A file has more bytes than it may have."""
+class Failed(Exception):
+    """A call of the folder failed."""
 
 
-class FolderFailed(Exception):
-    """A file could not be written."""
+class Folder:
+    """The current folder."""
 
+    def __init__(self):
+        self.descriptor = -1
 
-def failed() -> Stop:
-    """The end of a run whose folder failed."""
-    return Stop(9, "folder failed")
-
-
-def read_file(name: str, maximum: int) -> bytes | None:
-    """The bytes of a file, None if there is none; raises TooLarge."""
-    try:
-        descriptor = os.open(name, os.O_RDONLY | os.O_NONBLOCK | os.O_CLOEXEC)
-    except FileNotFoundError:
-        return None
-    except OSError:
-        raise failed()
-    try:
-        status = os.fstat(descriptor)
-        if not stat.S_ISREG(status.st_mode):
-            raise failed()
-        if status.st_size > maximum:
-            raise TooLarge
-        data = b""
-        while len(data) < status.st_size:
-            piece = os.read(descriptor, status.st_size - len(data))
-            if not piece:
-                break
-            data += piece
-        return data
-    except OSError:
-        raise failed()
-    finally:
-        os.close(descriptor)
-
-
-def synced_folder():
-    """Syncs the current folder."""
-    descriptor = os.open(".", os.O_RDONLY | os.O_DIRECTORY | os.O_CLOEXEC)
-    try:
-        os.fsync(descriptor)
-    finally:
-        os.close(descriptor)
-
-
-class Save:
-    """A file that is written in pieces, and then put in its place."""
-
-    def __init__(self, temporary: str, name: str, data: bytes):
-        self.temporary = temporary
-        self.name = name
-        self.left = data
+    def opened(self, name: str, flags: int) -> int:
+        """Opens a regular file, and closes the one before."""
+        self.close()
         try:
-            self.descriptor = os.open(
-                temporary,
-                os.O_WRONLY | os.O_CREAT | os.O_NOFOLLOW | os.O_NONBLOCK | os.O_CLOEXEC,
-                0o666,
-            )
-        except OSError:
-            raise FolderFailed
-        try:
+            self.descriptor = os.open(name, flags | os.O_NONBLOCK | os.O_CLOEXEC, 0o666)
             if not stat.S_ISREG(os.fstat(self.descriptor).st_mode):
-                raise FolderFailed
-            os.ftruncate(self.descriptor, 0)
-        except (OSError, FolderFailed):
-            os.close(self.descriptor)
-            raise FolderFailed
-
-    def step(self, count: int):
-        """Writes the next bytes."""
-        piece, self.left = self.left[:count], self.left[count:]
-        try:
-            while piece:
-                piece = piece[os.write(self.descriptor, piece):]
+                raise Failed
+        except FileNotFoundError:
+            raise
         except OSError:
+            raise Failed
+        return self.descriptor
+
+    def close(self):
+        """Closes the open file, if there is one."""
+        if self.descriptor >= 0:
             os.close(self.descriptor)
-            raise FolderFailed
+        self.descriptor = -1
 
-    def end(self):
-        """Writes the rest, and puts the file in its place."""
-        self.step(len(self.left))
+    def size(self, name: str) -> int | None:
+        """The length of a file, None if there is none. It is open then."""
         try:
-            try:
-                os.fsync(self.descriptor)
-            finally:
-                os.close(self.descriptor)
-            os.rename(self.temporary, self.name)
-            synced_folder()
+            return os.fstat(self.opened(name, os.O_RDONLY)).st_size
+        except FileNotFoundError:
+            return None
+
+    def read(self, _name: str, offset: int, most: int) -> bytes:
+        """Bytes of the file whose length was asked last."""
+        return self.call(os.pread, self.descriptor, most, offset)
+
+    def create(self, name: str):
+        """Makes a file, or empties it; a link is not followed. It is open then."""
+        flags = os.O_WRONLY | os.O_CREAT | os.O_NOFOLLOW
+        self.call(os.ftruncate, self.opened(name, flags), 0)
+
+    def append(self, _name: str, data: bytes):
+        """Writes bytes to the file that was created last."""
+        while data:
+            data = data[self.call(os.write, self.descriptor, data):]
+
+    def sync(self, _name: str):
+        """Syncs the file that was created last."""
+        self.call(os.fsync, self.descriptor)
+
+    def rename(self, source: str, target: str):
+        """Renames a file."""
+        self.call(os.rename, source, target)
+
+    def sync_folder(self):
+        """Syncs the folder itself."""
+        self.close()
+        self.descriptor = self.call(os.open, ".", os.O_RDONLY | os.O_CLOEXEC)
+        self.call(os.fsync, self.descriptor)
+        self.close()
+
+    def call(self, function, *arguments):
+        """Calls the system; raises Failed."""
+        try:
+            return function(*arguments)
         except OSError:
-            raise FolderFailed
+            raise Failed
 
 
-def write_file(temporary: str, name: str, data: bytes):
-    """Puts a file in its place; raises FolderFailed."""
-    Save(temporary, name, data).end()
+def read_file(folder: Folder, name: str, maximum: int) -> bytes | None:
+    """The bytes of a file, None if there is none; raises Fault and Failed."""
+    size = folder.size(name)
+    if size is None:
+        return None
+    if size > maximum:
+        raise Fault("too-large")
+    data = bytearray()
+    while piece := folder.read(name, len(data), MAXIMUM_PIECE):
+        data += piece
+    return bytes(data)
+
+
+def publish(folder: Folder, temporary: str, name: str):
+    """Puts a file that is written in its place; raises Failed."""
+    folder.sync(temporary)
+    folder.rename(temporary, name)
+    folder.sync_folder()
+
+
+def write_file(folder: Folder, temporary: str, name: str, data: bytes):
+    """Writes a file and puts it in its place; raises Failed."""
+    folder.create(temporary)
+    folder.append(temporary, data)
+    publish(folder, temporary, name)

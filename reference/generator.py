@@ -39,6 +39,10 @@ class Generator:
             payload += to_sixteen(address) + port.to_bytes(2, "big")
         return f"addr {address_text(source)} {payload.hex()} @{self.draw(WORD)}:{count}"
 
+    def peer(self) -> str:
+        """A peer."""
+        return peer_text(peer(self.draw(PEERS)))
+
     def line(self) -> str:
         """The next line."""
         kind = self.draw(16)
@@ -48,21 +52,15 @@ class Generator:
         if kind <= 8:
             return self.message()
         if kind <= 10:
-            return f"good {peer_text(peer(self.draw(PEERS)))} test"
-        if kind == 11:
-            return f"attempt {peer_text(peer(self.draw(PEERS)))} count"
-        if kind == 12:
-            return f"connected {peer_text(peer(self.draw(PEERS)))}"
+            return f"good {self.peer()} test"
+        if kind <= 12:
+            return f"attempt {self.peer()} count" if kind == 11 else f"connected {self.peer()}"
         if kind == 13:
             return f"select any all @{self.draw(WORD)}:300"
-        if kind == 14:
-            return f"clash {self.draw(WORD)}"
-        return "resolve"
+        return f"clash {self.draw(WORD)}" if kind == 14 else "resolve"
 
 
 def generated(start: int, count: int) -> Iterator[str]:
     """The lines of a log."""
-    generator = Generator(start)
-    yield f"now {START_TIME}"
-    for _ in range(count - 1):
-        yield generator.line()
+    line = Generator(start).line
+    return (line() if number else f"now {START_TIME}" for number in range(count))

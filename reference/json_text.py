@@ -1,40 +1,65 @@
 """JSON texts (RFC 8259), nested at most 127 deep."""
 
 import json
+import math
+
+from text import Fault
 
 MAXIMUM_DEPTH = 127
-LONGEST_INTEGER = 25
+LEAST_INTEGER, LARGEST_INTEGER = -(1 << 63), (1 << 64) - 1
+LONGEST_INTEGER = 20
 
 
-class JsonFault(Exception):
-    """The bytes are no JSON text."""
+class Members(dict):
+    """The members of an object, the last one of each name; `every` has all names and values."""
+
+    def __init__(self, pairs: list[tuple]):
+        super().__init__(pairs)
+        self.every = [part for pair in pairs for part in pair]
 
 
 def refuse(_name: str):
     """Refuses the names of numbers that JSON does not have."""
-    raise JsonFault
+    raise Fault("json")
+
+
+def number(digits: str) -> float:
+    """A number that is no integer of 64 bits."""
+    value = float(digits)
+    if math.isinf(value):
+        raise Fault("json")
+    return value
 
 
 def integer(digits: str) -> int | float:
-    """An integer; one that is far out of 64 bits is not read."""
-    return int(digits) if len(digits) <= LONGEST_INTEGER else 0.5
+    """A number without fraction and exponent, an int if it is an integer of 64 bits."""
+    if len(digits) > LONGEST_INTEGER or digits == "-0":
+        return number(digits)
+    value = int(digits)
+    return value if LEAST_INTEGER <= value <= LARGEST_INTEGER else number(digits)
 
 
 def depth(value) -> int:
-    """How deep objects and arrays are nested in a value."""
-    if isinstance(value, dict):
-        value = list(value.values())
+    """How deep objects and arrays are nested in a value; raises Fault for half surrogates."""
+    if isinstance(value, str):
+        try:
+            value.encode()
+        except UnicodeEncodeError:
+            raise Fault("json")
+    if isinstance(value, Members):
+        value = value.every
     return 1 + max(map(depth, value), default=0) if isinstance(value, list) else 0
 
 
 def read_json(data: bytes):
-    """The value of a JSON text; raises JsonFault."""
+    """The value of a JSON text; raises Fault."""
     try:
         value = json.loads(
-            data.decode("utf-8"), parse_constant=refuse, parse_int=integer, parse_float=lambda _: 0.5
+            data.decode("utf-8"), parse_constant=refuse, parse_int=integer, parse_float=number,
+            object_pairs_hook=Members,
         )
         if depth(value) > MAXIMUM_DEPTH:
-            raise JsonFault
+            raise Fault("json")
     except (ValueError, RecursionError):
-        raise JsonFault
+        raise Fault("json")
     return value

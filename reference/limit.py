@@ -1,9 +1,9 @@
 """A log of events, and the log that is left of it."""
 
 import lines
-from addresses import Address, address_text
-from log import Refused, read_entries
-from messages import listed, message_of
+from addresses import INTERNAL, Address, address_text
+from log import read_entries
+from messages import message_of
 from text import Words, hexadecimal
 
 TENTHS_OF_A_TOKEN = 10
@@ -25,13 +25,10 @@ class Connection:
     """An open connection."""
 
     def __init__(self, address: Address, limited: bool, now: int):
-        self.address = address
-        self.limited = limited
-        self.refilled = now
-        self.tenths = TENTHS_OF_A_TOKEN
+        self.address, self.limited = address, limited
+        self.refilled, self.tenths = now, TENTHS_OF_A_TOKEN
         self.asked = False
-        self.processed = 0
-        self.dropped = 0
+        self.processed = self.dropped = 0
 
     def refill(self, now: int):
         """Gives the tokens for the seconds since the last message."""
@@ -59,63 +56,51 @@ class Limit:
         self.open: dict[int, Connection] = {}
 
     def output(self, line: bytes) -> bytes:
-        """Takes a line; the output line. Raises LineFault."""
-        keyword = line.split(b" ")[0]
-        if keyword.decode("latin-1") not in KINDS:
+        """Takes a line; the output line. Raises Fault."""
+        keyword = line.split(b" ")[0].decode("latin-1")
+        if keyword not in KINDS:
             return line
         name, values = lines.read_line(line, KINDS)
         if name == "now":
             self.now = values[0]
             return line
-        number, *others = values
-        if name == "open":
-            return self.opened(number, *others).encode()
+        return self.answer("from" if name == "from2" else name, name == "from2", *values).encode()
+
+    def answer(self, name: str, second: bool, number: int, *values) -> str:
+        """What comes of a line of a connection."""
         connection = self.open.get(number)
-        name = "from" if name == "from2" else name
-        if connection is None:
-            return f"# {name} {number} unknown".encode()
-        if name == "from":
-            return self.message(number, connection, keyword == b"from2", *others).encode()
-        return getattr(self, name)(number, connection).encode()
-
-    def opened(self, number: int, address: Address, mode: str) -> str:
-        """Opens a connection."""
-        if number in self.open:
-            return f"# open {number} already"
-        self.open[number] = Connection(address, mode == "limited", self.now)
-        return f"# open {number}"
-
-    def close(self, number: int, _connection: Connection) -> str:
-        """Closes a connection."""
-        del self.open[number]
-        return f"# close {number}"
-
-    def getaddr(self, number: int, connection: Connection) -> str:
-        """A connection was asked for addresses."""
-        if connection.asked:
+        if name == "open":
+            if connection is not None:
+                return f"# open {number} already"
+            address, mode = values
+            self.open[number] = Connection(address, mode == "limited", self.now)
+        elif connection is None:
+            return f"# {name} {number} unknown"
+        elif name == "from":
+            return self.message(number, connection, second, *values)
+        elif name == "close":
+            del self.open[number]
+        elif name == "stat":
+            counts = f"processed {connection.processed} limited {connection.dropped}"
+            return f"# stat {number} {counts} tenths {connection.tenths}"
+        elif connection.asked:
             return f"# getaddr {number} already"
-        connection.asked = True
-        connection.tenths += FULL
-        return f"# getaddr {number}"
-
-    def stat(self, number: int, connection: Connection) -> str:
-        """Asks for the counts of a connection."""
-        return (
-            f"# stat {number} processed {connection.processed} limited {connection.dropped}"
-            f" tenths {connection.tenths}"
-        )
+        else:
+            connection.asked = True
+            connection.tenths += FULL
+        return f"# {name} {number}"
 
     def message(
         self, number: int, connection: Connection, second: bool, payload: bytes, words: Words
     ) -> str:
         """A connection sent a message."""
-        try:
-            entries = read_entries(payload, second, words)
-        except Refused as refused:
-            return f"# from {number} {refused}"
+        entries = read_entries(payload, second, words)
+        if isinstance(entries, str):
+            return f"# from {number} {entries}"
         connection.refill(self.now)
         passed = [
-            (entry, word) for entry, word in entries if connection.admits() and listed(entry)
+            (entry, word) for entry, word in entries
+            if connection.admits() and entry.address and entry.address.network != INTERNAL
         ]
         if not passed:
             return f"# from {number} none"

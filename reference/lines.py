@@ -7,11 +7,6 @@ from folder import Stop
 MAXIMUM_LINE = 2_000_000
 MAXIMUM_LOG = 1 << 30
 LARGEST_TIME = 4294967295
-CLASSES = (*addresses.NETWORKS, addresses.UNROUTABLE)
-
-
-class LineFault(Exception):
-    """The error of a line."""
 
 
 def read_lines(read):
@@ -46,77 +41,55 @@ def checked(count: int, line: bytes) -> bytes:
     return line
 
 
-def passed_over(line: bytes) -> bool:
-    """Whether a line is empty or a comment."""
-    return not line or line.startswith(b"#")
+def reader(read, fault: str):
+    """The reader of a field: what `read` gives of it, or the fault if that is None."""
 
+    def read_or_fail(field: bytes):
+        value = read(field)
+        if value is None:
+            raise text.Fault(fault)
+        return value
 
-def needed(value, fault: str):
-    """A value that was read; raises LineFault if there is none."""
-    if value is None:
-        raise LineFault(fault)
-    return value
+    return read_or_fail
 
 
 def number(maximum: int, minimum: int = 0):
     """The reader of a field that is a number."""
 
-    def read(field: bytes) -> int:
-        value = needed(text.read_number(field, maximum), "number")
-        return needed(value if value >= minimum else None, "number")
+    def read(field: bytes) -> int | None:
+        value = text.read_number(field, maximum)
+        return None if value is None or value < minimum else value
 
-    return read
+    return reader(read, "number")
 
 
 def one_of(*names: str):
     """The reader of a field that is one of some names."""
-
-    def read(field: bytes) -> str:
-        return needed(next((name for name in names if name.encode() == field), None), "word")
-
-    return read
+    return reader({name.encode(): name for name in names}.get, "word")
 
 
 def some_of(*names: str):
-    """The reader of a field that is `all` or has some names."""
+    """The reader of a field that is `all`, or some names with commas between them."""
 
     def read(field: bytes):
-        if field == b"all":
-            return "all"
         found = [one_of(*names)(part) for part in field.split(b",")]
-        return needed(found if len(set(found)) == len(found) else None, "word")
+        return found if len(set(found)) == len(found) else None
 
-    return read
-
-
-def address(field: bytes) -> addresses.Address:
-    """Reads a field ADDR."""
-    return needed(addresses.read_address(field), "peer")
+    return lambda field: "all" if field == b"all" else reader(read, "word")(field)
 
 
-def peer(field: bytes) -> addresses.Peer:
-    """Reads a field PEER."""
-    return needed(addresses.read_peer(field), "peer")
-
-
-def payload(field: bytes) -> bytes:
-    """Reads a field HEX."""
-    return needed(text.read_hexadecimal(field), "hex")
-
-
-def words(field: bytes) -> text.Words:
-    """Reads a field W."""
-    return needed(text.read_words(field), "words")
-
-
+address = reader(addresses.read_address, "peer")
+peer = reader(addresses.read_peer, "peer")
+payload = reader(text.read_hexadecimal, "hex")
+words = reader(text.read_words, "words")
 time = number(LARGEST_TIME)
 wide = number(text.MASK)
 networks = some_of(*addresses.NETWORKS)
-classes = some_of(*CLASSES)
+classes = some_of(*addresses.NETWORKS, addresses.UNROUTABLE)
 
 
 def read_line(line: bytes, kinds: dict[str, tuple]) -> tuple[str, list]:
-    """The keyword of a line and the values of its fields; raises LineFault.
+    """The keyword of a line and the values of its fields; raises Fault.
 
     `kinds` has the readers of the fields of each keyword.
     """
@@ -124,5 +97,5 @@ def read_line(line: bytes, kinds: dict[str, tuple]) -> tuple[str, list]:
     name = one_of(*kinds)(keyword)
     readers = kinds[name]
     if len(fields) != len(readers):
-        raise LineFault("fields")
+        raise text.Fault("fields")
     return name, [read(field) for read, field in zip(readers, fields)]

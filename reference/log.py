@@ -1,13 +1,12 @@
 """A log: its lines and their replies."""
 
 import lines
-from addresses import Peer, address_text, peer_text
-from folder import FolderFailed, Save
-from lines import LineFault
-from messages import Entry, Fault, read_message
+from addresses import Address, Peer, address_text, peer_text
+from folder import Failed, Folder, publish, write_file
+from messages import Entry, read_message
 from peers_file import written_file
 from tables import Record, Tables
-from text import Words
+from text import Fault, Words
 
 TABLE_LINES = {
     "now": (lines.time,),
@@ -31,43 +30,32 @@ SAVE_LINES = {
     "save-step": (lines.number(4294967295, 1),),
     "save-end": (),
 }
+TEMPORARY, NAME = "peers.tmp", "peers.dat"
 
 
-class Refused(Exception):
-    """A message is refused, or has too few random words; the text says why."""
-
-
-def read_entries(payload: bytes, second: bool, words: Words) -> list[tuple[Entry, int]]:
-    """The entries of a message with their random words; raises Refused."""
+def read_entries(payload: bytes, second: bool, words: Words) -> list[tuple[Entry, int]] | str:
+    """The entries of a message with their random words, or why it is not taken."""
     try:
         entries = read_message(payload, second)
     except Fault as fault:
-        raise Refused(f"refused {fault}")
+        return f"refused {fault}"
     if words.count < len(entries):
-        raise Refused(f"short {len(entries)} {words.count}")
-    return list(zip(entries, words))
+        return f"short {len(entries)} {words.count}"
+    return list(zip(entries, words.source))
 
 
 def record_text(record: Record) -> str:
     """A record as it is printed."""
-    if record.tried:
-        place = "tried"
-    else:
-        place = "new " + ",".join(str(bucket) for bucket in sorted(record.buckets))
+    buckets = ",".join(str(bucket) for bucket in sorted(record.buckets))
     return (
         f"peer {peer_text(record.peer)} source {address_text(record.source)} time {record.time}"
         f" services {record.services} success {record.success} try {record.last_try}"
-        f" attempts {record.failures} {place}"
+        f" attempts {record.failures} {'tried' if record.tried else 'new ' + buckets}"
     )
 
 
-def known(found: bool) -> str:
-    """The reply to news of a peer."""
-    return "ok" if found else "unknown"
-
-
 class TableLog:
-    """The lines that a replay and an opener have in common."""
+    """The lines that a replay and an opener have in common, each by the method of its keyword."""
 
     kinds: dict[str, tuple] = TABLE_LINES
 
@@ -75,68 +63,62 @@ class TableLog:
         self.tables = tables
         self.now = 0
 
+    def answer(self, line: bytes) -> str | None:
+        """Carries out a line; its reply, None if it is passed over. Raises Fault."""
+        return None if not line or line.startswith(b"#") else self.reply(line)
+
     def reply(self, line: bytes) -> str:
-        """Carries out a line; its reply. Raises LineFault."""
+        """Carries out a line that is not passed over; its reply."""
         name, values = lines.read_line(line, self.kinds)
         return getattr(self, "line_" + name.replace("-", "_"))(*values)
 
     def line_now(self, time: int) -> str:
-        """Sets the clock."""
         self.now = time
         return f"now {time}"
 
-    def message(self, source, payload: bytes, words: Words, second: bool) -> str:
-        """Takes a message."""
-        try:
-            entries = read_entries(payload, second, words)
-        except Refused as refused:
-            return str(refused)
+    def line_addr(self, source: Address, payload: bytes, words: Words, second=False) -> str:
+        entries = read_entries(payload, second, words)
+        if isinstance(entries, str):
+            return entries
         added = sum(self.tables.add(self.now, entry, source, word) for entry, word in entries)
         return f"added {added} of {len(entries)}"
 
-    def line_addr(self, source, payload: bytes, words: Words) -> str:
-        """Takes an `addr` message."""
-        return self.message(source, payload, words, second=False)
-
-    def line_addrv2(self, source, payload: bytes, words: Words) -> str:
-        """Takes an `addrv2` message."""
-        return self.message(source, payload, words, second=True)
+    def line_addrv2(self, source: Address, payload: bytes, words: Words) -> str:
+        return self.line_addr(source, payload, words, second=True)
 
     def line_find(self, peer: Peer) -> str:
-        """Asks for a record."""
         record = self.tables.find(peer)
         return "unknown" if record is None else record_text(record)
 
     def line_good(self, peer: Peer, mode: str) -> str:
-        """The peer was reached."""
         return self.tables.good(self.now, peer, mode == "test")
 
     def line_attempt(self, peer: Peer, mode: str) -> str:
-        """A connection was tried."""
-        return known(self.tables.attempt(self.now, peer, mode == "count"))
+        if record := self.tables.find(peer):
+            record.attempt(self.now, mode == "count", self.tables.last_good)
+        return "ok" if record else "unknown"
 
     def line_connected(self, peer: Peer) -> str:
-        """The peer is still connected."""
-        return known(self.tables.connected(self.now, peer))
+        if record := self.tables.find(peer):
+            record.connected(self.now)
+        return "ok" if record else "unknown"
 
     def line_services(self, peer: Peer, services: int) -> str:
-        """The peer announced its services."""
-        return known(self.tables.set_services(peer, services))
+        if record := self.tables.find(peer):
+            record.services = services
+        return "ok" if record else "unknown"
 
     def line_size(self) -> str:
-        """Counts the records."""
         new, tried = self.tables.counts()
         return f"size new {new} tried {tried} clashes {len(self.tables.collisions)}"
 
     def line_select(self, table: str, networks, words: Words) -> str:
-        """Picks a peer to connect to."""
         picked = self.tables.select(self.now, table == "new", networks, words)
         if isinstance(picked, str):
             return picked
         return f"one {peer_text(picked.peer)} {picked.last_try}"
 
     def line_sample(self, maximum: int, percent: int, classes, words: Words) -> str:
-        """Picks peers to send to another node."""
         count = len(self.tables.order)
         if words.count < count:
             return f"short {count} {words.count}"
@@ -144,76 +126,60 @@ class TableLog:
         return " ".join(["sample", str(len(peers)), *map(peer_text, peers)])
 
     def line_resolve(self) -> str:
-        """Decides on the collisions."""
-        erased, moved, kept = self.tables.resolve(self.now)
-        return f"resolved erased {erased} moved {moved} kept {kept}"
+        return "resolved erased {} moved {} kept {}".format(*self.tables.resolve(self.now))
 
     def line_clash(self, number: int) -> str:
-        """Picks a collision."""
         occupant = self.tables.clash(number)
-        if occupant is None:
-            return "none"
-        return f"clash {peer_text(occupant.peer)} {occupant.last_try}"
+        return f"clash {peer_text(occupant.peer)} {occupant.last_try}" if occupant else "none"
 
     def line_dump(self) -> str:
-        """Asks for all records."""
         records = self.tables.records
         texts = [record_text(records[number]) for number in sorted(records)]
         return "\n".join([*texts, f"end {len(texts)}"])
 
 
 class ReplayLog(TableLog):
-    """The lines of a replay."""
+    """The lines of a replay. `left` is what an open save has not written yet."""
 
     kinds = TABLE_LINES | SAVE_LINES
 
-    def __init__(self, tables: Tables, chain: str):
+    def __init__(self, tables: Tables, chain: str, folder: Folder):
         super().__init__(tables)
-        self.chain = chain
-        self.save: Save | None = None
+        self.chain, self.folder = chain, folder
+        self.left: bytes | None = None
 
-    def begun(self) -> Save:
-        """A save of the tables as they are."""
-        return Save("peers.tmp", "peers.dat", written_file(self.tables, self.chain))
+    def reply(self, line: bytes) -> str:
+        """Carries out a line that is not passed over; its reply."""
+        try:
+            return super().reply(line)
+        except (Failed, FileNotFoundError):
+            self.left = None
+            return "not saved"
 
     def line_save(self) -> str:
-        """Saves the tables."""
-        if self.save is not None:
+        if self.left is not None:
             return "busy"
-        try:
-            self.begun().end()
-        except FolderFailed:
-            return "not saved"
+        write_file(self.folder, TEMPORARY, NAME, written_file(self.tables, self.chain))
         return "saved"
 
     def line_save_begin(self) -> str:
-        """Begins to save the tables."""
-        if self.save is not None:
+        if self.left is not None:
             return "busy"
-        try:
-            self.save = self.begun()
-        except FolderFailed:
-            return "not saved"
-        return f"begun {len(self.save.left)}"
+        self.folder.create(TEMPORARY)
+        self.left = written_file(self.tables, self.chain)
+        return f"begun {len(self.left)}"
 
     def line_save_step(self, count: int) -> str:
-        """Writes the next bytes."""
-        if self.save is None:
+        if self.left is None:
             return "no save"
-        try:
-            self.save.step(count)
-        except FolderFailed:
-            self.save = None
-            return "not saved"
-        return f"stepped {len(self.save.left)}"
+        self.folder.append(TEMPORARY, self.left[:count])
+        self.left = self.left[count:]
+        return f"stepped {len(self.left)}"
 
     def line_save_end(self) -> str:
-        """Writes the rest, and puts the file in its place."""
-        if self.save is None:
+        if self.left is None:
             return "no save"
-        save, self.save = self.save, None
-        try:
-            save.end()
-        except FolderFailed:
-            return "not saved"
+        self.folder.append(TEMPORARY, self.left)
+        publish(self.folder, TEMPORARY, NAME)
+        self.left = None
         return "saved"

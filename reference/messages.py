@@ -3,18 +3,15 @@
 from typing import NamedTuple
 
 from addresses import (
-    CJDNS, I2P, INTERNAL, IPV4, IPV4_IN_IPV6, IPV6, LENGTHS, ONION, TOR_V2_IN_IPV6, Address, Peer,
+    CJDNS, I2P, INTERNAL, IPV4, IPV4_IN_IPV6, IPV6, LENGTHS, ONION, TOR_V2_IN_IPV6, Address,
     from_sixteen,
 )
+from text import Fault
 
 MAXIMUM_ENTRIES = 1000
 MAXIMUM_ADDRESS_BYTES = 512
 NETWORK_BYTES = {1: IPV4, 2: IPV6, 4: ONION, 5: I2P, 6: CJDNS}
 BYTE_OF_NETWORK = {network: byte for byte, network in NETWORK_BYTES.items()}
-
-
-class Fault(Exception):
-    """The bytes are no message, or not what a file has to hold."""
 
 
 class Entry(NamedTuple):
@@ -24,10 +21,6 @@ class Entry(NamedTuple):
     services: int
     address: Address | None
     port: int
-
-    def peer(self) -> Peer:
-        """The peer of an entry that is not skipped."""
-        return Peer(self.address, self.port)
 
 
 class Reader:
@@ -84,20 +77,13 @@ class Reader:
             return from_sixteen(data)
         return Address(network, data)
 
-    def old_address(self) -> Address:
-        """An address of sixteen bytes."""
-        return from_sixteen(self.take(16))
-
 
 def compact_size(number: int) -> bytes:
     """A number as a CompactSize."""
     if number < 253:
         return bytes([number])
-    if number < 1 << 16:
-        return b"\xfd" + number.to_bytes(2, "little")
-    if number < 1 << 32:
-        return b"\xfe" + number.to_bytes(4, "little")
-    return b"\xff" + number.to_bytes(8, "little")
+    mark, count = (253, 2) if number < 1 << 16 else (254, 4) if number < 1 << 32 else (255, 8)
+    return bytes([mark]) + number.to_bytes(count, "little")
 
 
 def read_message(payload: bytes, second: bool) -> list[Entry]:
@@ -110,7 +96,7 @@ def read_message(payload: bytes, second: bool) -> list[Entry]:
     for _ in range(count):
         time = reader.number(4)
         services = reader.compact_size() if second else reader.number(8)
-        address = reader.address() if second else reader.old_address()
+        address = reader.address() if second else from_sixteen(reader.take(16))
         entries.append(Entry(time, services, address, reader.port()))
     if reader.left():
         raise Fault("trailing")
@@ -131,8 +117,3 @@ def message_of(entries: list[Entry]) -> bytes:
         payload += entry.time.to_bytes(4, "little") + compact_size(entry.services)
         payload += address_bytes(entry.address) + entry.port.to_bytes(2, "big")
     return payload
-
-
-def listed(entry: Entry) -> bool:
-    """Whether an entry is one that `limit` may pass on."""
-    return entry.address is not None and entry.address.network != INTERNAL

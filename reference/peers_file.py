@@ -4,19 +4,17 @@ from typing import NamedTuple
 
 import places
 from addresses import (
-    INTERNAL, IPV6, UNSPECIFIED, Address, Peer, address_text, peer_text, to_sixteen, valid,
+    INTERNAL, IPV6, UNSPECIFIED, Address, Peer, address_text, from_sixteen, peer_text,
+    to_sixteen, valid,
 )
 from asmap import Asmap
-from messages import Fault, Reader, address_bytes, compact_size
-from tables import Kept, Record, Tables
+from messages import Reader, address_bytes, compact_size
+from tables import Record, Tables
+from text import Fault
 
 MAXIMUM_BYTES = 33_554_432
-CHAINS = {
-    "main": bytes.fromhex("f9beb4d9"),
-    "test": bytes.fromhex("0b110907"),
-    "signet": bytes.fromhex("0a03cf40"),
-    "regtest": bytes.fromhex("fabfb5da"),
-}
+STARTS = {"main": "f9beb4d9", "test": "0b110907", "signet": "0a03cf40", "regtest": "fabfb5da"}
+CHAINS = {chain: bytes.fromhex(start) for chain, start in STARTS.items()}
 WRITTEN_FORMAT = 4
 LEAST_COMPATIBLE, LARGEST_COMPATIBLE = 32, 36
 MAXIMUM_NEW, MAXIMUM_TRIED, MAXIMUM_BUCKETS = 65_536, 16_384, 65_536
@@ -30,73 +28,48 @@ class PeersFile(NamedTuple):
     """What a file has."""
 
     key: bytes
-    new: list[Kept]
-    tried: list[Kept]
+    new: list[Record]
+    tried: list[Record]
     buckets: list[list[int]]
     sum: bytes
 
 
-def record_address(reader: Reader, format_number: int) -> Address:
+def read_address(reader: Reader, is_old: bool) -> Address:
     """An address of a record."""
-    if format_number < 3:
-        return reader.old_address()
-    try:
-        address = reader.address()
-    except Fault as fault:
-        raise fault if fault.args[0] == "truncated" else Fault("record")
-    return UNSPECIFIED if address is None else address
+    return from_sixteen(reader.take(16)) if is_old else reader.address() or UNSPECIFIED
 
 
-def read_services(reader: Reader, format_number: int) -> int:
-    """The services of a record."""
-    if format_number < 3:
-        return reader.number(8)
-    try:
-        return reader.compact_size()
-    except Fault as fault:
-        raise fault if fault.args[0] == "truncated" else Fault("record")
-
-
-def read_record(reader: Reader, format_number: int) -> Kept:
-    """A record."""
-    if reader.number(4) & HIGH_BITS != (0 if format_number < 3 else RECORD_FORMAT):
+def read_record(reader: Reader, is_old: bool) -> Record:
+    """A record; an old one is that of formats 1 and 2."""
+    if reader.number(4) & HIGH_BITS != (0 if is_old else RECORD_FORMAT):
         raise Fault("record")
     time = reader.number(4)
-    services = read_services(reader, format_number)
-    address = record_address(reader, format_number)
-    peer = Peer(address, reader.port())
-    source = record_address(reader, format_number)
+    try:
+        services = reader.number(8) if is_old else reader.compact_size()
+        peer = Peer(read_address(reader, is_old), reader.port())
+        source = read_address(reader, is_old)
+    except Fault as fault:
+        raise fault if str(fault) == "truncated" else Fault("record")
     success = reader.number(8, signed=True)
     if not 0 <= success <= 4294967295:
         raise Fault("time")
     failures = reader.number(4, signed=True)
     if failures < 0:
         raise Fault("attempts")
-    return Kept(peer, source, time, services, success, failures)
-
-
-def read_count(reader: Reader, maximum: int) -> int:
-    """A number of records."""
-    count = reader.number(4, signed=True)
-    if not 0 <= count <= maximum:
-        raise Fault("count")
-    return count
+    record = Record(peer, source, time, services)
+    record.success, record.failures = success, failures
+    return record
 
 
 def read_bucket(reader: Reader, new_count: int) -> list[int]:
     """The indices of a bucket."""
-    indices = []
-    for _ in range(max(0, reader.number(4, signed=True))):
-        index = reader.number(4)
-        if index < new_count:
-            indices.append(index)
-    return indices
+    count = max(0, reader.number(4, signed=True))
+    indices = [reader.number(4) for _ in range(count)]
+    return [index for index in indices if index < new_count]
 
 
-def read_file(data: bytes, chain: str) -> PeersFile:
+def read_peers(data: bytes, chain: str) -> PeersFile:
     """What a file of a chain has; raises Fault."""
-    if len(data) > MAXIMUM_BYTES:
-        raise Fault("too-large")
     if len(data) < 36:
         raise Fault("truncated")
     if data[:4] != CHAINS[chain]:
@@ -105,21 +78,23 @@ def read_file(data: bytes, chain: str) -> PeersFile:
         raise Fault("bad-sum")
     reader = Reader(data[4:-32])
     format_number = reader.number(1)
-    if not 1 <= format_number <= WRITTEN_FORMAT:
-        raise Fault("version")
     if not LEAST_COMPATIBLE <= reader.number(1) <= LARGEST_COMPATIBLE:
         raise Fault("compat")
+    if not 1 <= format_number <= WRITTEN_FORMAT:
+        raise Fault("version")
     key = reader.take(32)
-    new_count = read_count(reader, MAXIMUM_NEW)
-    tried_count = read_count(reader, MAXIMUM_TRIED)
-    bucket_count = int.from_bytes(
-        (reader.number(4) ^ FLIPPED_BIT).to_bytes(4, "little"), "little", signed=True
-    )
+    counts = []
+    for most in (MAXIMUM_NEW, MAXIMUM_TRIED):
+        counts.append(reader.number(4, signed=True))
+        if not 0 <= counts[-1] <= most:
+            raise Fault("count")
+    bucket_count = reader.number(4, signed=True) ^ FLIPPED_BIT
     if not 0 <= bucket_count <= MAXIMUM_BUCKETS:
         raise Fault("buckets")
-    new = [read_record(reader, format_number) for _ in range(new_count)]
-    tried = [read_record(reader, format_number) for _ in range(tried_count)]
-    buckets = [read_bucket(reader, new_count) for _ in range(bucket_count)]
+    is_old = format_number < 3
+    new = [read_record(reader, is_old) for _ in range(counts[0])]
+    tried = [read_record(reader, is_old) for _ in range(counts[1])]
+    buckets = [read_bucket(reader, counts[0]) for _ in range(bucket_count)]
     asmap_sum = NO_SUM if format_number == 1 else reader.take(32)
     if reader.left():
         raise Fault("trailing")
@@ -133,7 +108,7 @@ def asmap_sum_of(asmap: Asmap) -> bytes:
 
 def restored(file: PeersFile, asmap: Asmap) -> Tables:
     """The tables of a file; raises Fault."""
-    peers = [kept.peer for kept in file.new + file.tried if valid(kept.peer.address)]
+    peers = [one.peer for one in file.new + file.tried if valid(one.peer.address)]
     if len(set(peers)) < len(peers):
         raise Fault("duplicate")
     same = len(file.buckets) == places.NEW_BUCKETS and file.sum == asmap_sum_of(asmap)
@@ -188,10 +163,10 @@ def shown(file: PeersFile) -> list[str]:
         f" key {file.key.hex()} sum {file.sum.hex()}"
     ]
     for table, records in (("new", file.new), ("tried", file.tried)):
-        for index, kept in enumerate(records):
+        for index, record in enumerate(records):
             lines.append(
-                f"{table} {index} {peer_text(kept.peer)} source {address_text(kept.source)}"
-                f" time {kept.time} services {kept.services} success {kept.success}"
-                f" attempts {kept.failures}"
+                f"{table} {index} {peer_text(record.peer)} source {address_text(record.source)}"
+                f" time {record.time} services {record.services} success {record.success}"
+                f" attempts {record.failures}"
             )
     return lines

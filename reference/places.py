@@ -11,6 +11,7 @@ from asmap import NO_ASMAP, Asmap
 NEW_BUCKETS, TRIED_BUCKETS, SLOTS = 1024, 256, 64
 NEW_BUCKETS_OF_A_SOURCE, TRIED_BUCKETS_OF_A_GROUP = 64, 8
 CLASS_BYTES = {UNROUTABLE: 0, IPV4: 1, IPV6: 2, ONION: 3, I2P: 4, CJDNS: 5, INTERNAL: 6}
+GROUP_BITS = {UNROUTABLE: 0, IPV4: 16, IPV6: 32, ONION: 4, I2P: 4, CJDNS: 12, INTERNAL: 80}
 LONG_GROUPS = ranges(read_ipv6, "2001:470::/32")
 
 
@@ -28,19 +29,9 @@ def group(address: Address, asmap: Asmap = NO_ASMAP) -> bytes:
     if number:
         return b"\x02" + number.to_bytes(4, "little")
     own_class = class_of(address)
-    if own_class == UNROUTABLE:
-        part = b""
-    elif own_class == IPV4:
-        part = carried_ipv4(address)[:2]
-    elif own_class == IPV6:
-        part = first_bits(address.data, 36 if within(address.data, LONG_GROUPS) else 32)
-    elif own_class == CJDNS:
-        part = first_bits(address.data, 12)
-    elif own_class == INTERNAL:
-        part = address.data
-    else:
-        part = first_bits(address.data, 4)
-    return bytes([CLASS_BYTES[own_class]]) + part
+    data = carried_ipv4(address) or address.data
+    count = 36 if own_class == IPV6 and within(data, LONG_GROUPS) else GROUP_BITS[own_class]
+    return bytes([CLASS_BYTES[own_class]]) + first_bits(data, count)
 
 
 def double_sha256(data: bytes) -> bytes:

@@ -2,7 +2,7 @@
 
 from addresses import IPV4_IN_IPV6, ipv4_text, ipv6_text, read_ipv4, read_ipv6
 from asmap import ADDRESS_BITS, Row
-from text import read_number
+from text import Fault, read_number
 
 MAXIMUM_BYTES = 134_217_728
 MAXIMUM_ROWS = 2_000_000
@@ -11,12 +11,8 @@ LARGEST_NUMBER = 33_521_664
 IPV4_LENGTH = 96
 
 
-class TableFault(Exception):
-    """The file is refused."""
-
-
 def read_row(line: bytes) -> Row:
-    """The row of a line; raises TableFault without the number of the line."""
+    """The row of a line; raises Fault without the number of the line."""
     prefix, _, number_text = line.partition(b" AS")
     address_text, slash, length_text = prefix.partition(b"/")
     number = read_number(number_text, 9_999_999_999)
@@ -24,19 +20,19 @@ def read_row(line: bytes) -> Row:
     four = read_ipv4(address_text)
     data = read_ipv6(address_text) if four is None else IPV4_IN_IPV6 + four
     if not slash or number is None or length is None or data is None:
-        raise TableFault("form")
+        raise Fault("form")
     if four is not None:
         length += IPV4_LENGTH
     if length > ADDRESS_BITS or not 1 <= number <= LARGEST_NUMBER:
-        raise TableFault("number")
+        raise Fault("number")
     bits = int.from_bytes(data, "big")
     if bits & (1 << ADDRESS_BITS - length) - 1:
-        raise TableFault("host-bits")
+        raise Fault("host-bits")
     return Row(bits, length, number)
 
 
 def read_rows(data: bytes) -> list[Row]:
-    """The rows of a file; raises TableFault."""
+    """The rows of a file; raises Fault."""
     rows: list[Row] = []
     prefixes: set[tuple[int, int]] = set()
     for count, line in enumerate(data.split(b"\n"), 1):
@@ -45,15 +41,15 @@ def read_rows(data: bytes) -> list[Row]:
         try:
             row = read_row(line)
             if (row.bits, row.length) in prefixes:
-                raise TableFault("repeated")
-        except TableFault as fault:
-            raise TableFault(f"{fault} at line {count}")
+                raise Fault("repeated")
+        except Fault as fault:
+            raise Fault(f"{fault} at line {count}")
         if len(rows) == MAXIMUM_ROWS:
-            raise TableFault("too-many")
+            raise Fault("too-many")
         prefixes.add((row.bits, row.length))
         rows.append(row)
     if not rows:
-        raise TableFault("empty")
+        raise Fault("empty")
     return rows
 
 

@@ -1,6 +1,6 @@
 """The tables of peers."""
 
-from typing import Iterator, NamedTuple
+from typing import Iterator
 
 import places
 from addresses import Address, Peer, class_of, routable, valid
@@ -18,31 +18,26 @@ ALL = "all"
 
 
 class Record:
-    """What is known of a peer."""
+    """What is known of a peer. It has a number once it is in the tables."""
 
-    def __init__(self, number: int, peer: Peer, source: Address, time: int, services: int):
-        self.number = number
-        self.peer = peer
-        self.source = source
-        self.time = time
-        self.services = services
-        self.success = 0
-        self.last_try = 0
-        self.last_counted_try = 0
-        self.failures = 0
+    def __init__(self, peer: Peer, source: Address, time: int, services: int):
+        self.peer, self.source, self.time, self.services = peer, source, time, services
+        self.success = self.last_try = self.last_counted_try = self.failures = 0
         self.buckets: set[int] = set()
         self.tried = False
+        self.number = -1
 
+    def attempt(self, now: int, counts: bool, last_good: int):
+        """A connection to the peer was tried."""
+        self.last_try = now
+        if counts and self.last_counted_try < last_good:
+            self.last_counted_try = now
+            self.failures = min(self.failures + 1, MAXIMUM_FAILURES)
 
-class Kept(NamedTuple):
-    """A record as a file has it."""
-
-    peer: Peer
-    source: Address
-    time: int
-    services: int
-    success: int
-    failures: int
+    def connected(self, now: int):
+        """The peer is still connected."""
+        if now - self.time > 20 * MINUTE:
+            self.time = now
 
 
 def terrible(record: Record, now: int) -> bool:
@@ -92,15 +87,14 @@ class Tables:
         number = self.numbers.get(peer)
         return None if number is None else self.records[number]
 
-    def create(self, peer: Peer, source: Address, time: int, services: int) -> Record:
-        """A record with the next number, put last in the order."""
-        record = Record(self.next_number, peer, source, time, services)
+    def append(self, record: Record):
+        """Gives a record the next number, and puts it last in the order."""
+        record.number = self.next_number
         self.next_number += 1
         self.records[record.number] = record
-        self.numbers[peer] = record.number
+        self.numbers[record.peer] = record.number
         self.position[record.number] = len(self.order)
         self.order.append(record.number)
-        return record
 
     def exchange(self, first: int, second: int):
         """Exchanges the records at two positions of the order."""
@@ -115,7 +109,7 @@ class Tables:
         self.order.pop()
         del self.position[record.number]
         del self.records[record.number]
-        del self.numbers[record.peer]
+        self.numbers.pop(record.peer, None)
 
     def counts(self) -> tuple[int, int]:
         """The numbers of records in the new and in the tried table."""
@@ -165,9 +159,11 @@ class Tables:
             return False
         time = clamped(entry.time, now)
         penalty = 0 if entry.address == source else 2 * HOUR
-        record = self.find(entry.peer())
+        peer = Peer(entry.address, entry.port)
+        record = self.find(peer)
         if record is None:
-            record = self.create(entry.peer(), source, max(0, time - penalty), entry.services)
+            record = Record(peer, source, max(0, time - penalty), entry.services)
+            self.append(record)
         elif not self.refreshed(record, now, time, entry.services, penalty, word):
             return False
         bucket = self.new_bucket(record, source)
@@ -175,10 +171,11 @@ class Tables:
         occupant = self.occupant(self.new, bucket, slot)
         if occupant is record:
             return False
-        if occupant is not None and not self.makes_room(occupant, record, now):
-            if not record.buckets:
-                self.delete(record)
-            return False
+        if occupant is not None and not terrible(occupant, now):
+            if record.buckets or len(occupant.buckets) == 1:
+                if not record.buckets:
+                    self.delete(record)
+                return False
         self.clear(bucket, slot)
         self.occupy(record, bucket, slot)
         return True
@@ -197,10 +194,6 @@ class Tables:
             and len(record.buckets) < MAXIMUM_BUCKETS_OF_A_RECORD
             and word % 2 ** len(record.buckets) == 0
         )
-
-    def makes_room(self, occupant: Record, record: Record, now: int) -> bool:
-        """Whether the occupant of a slot gives way to a record."""
-        return terrible(occupant, now) or len(occupant.buckets) > 1 and not record.buckets
 
     def good(self, now: int, peer: Peer, test: bool) -> str:
         """The peer was reached."""
@@ -236,34 +229,6 @@ class Tables:
             self.occupy(occupant, own, self.new_slot(occupant, own))
         record.tried = True
         self.tried.setdefault(bucket, {})[slot] = record.number
-
-    def attempt(self, now: int, peer: Peer, count: bool) -> bool:
-        """A connection to the peer was tried; whether it has a record."""
-        record = self.find(peer)
-        if record is None:
-            return False
-        record.last_try = now
-        if count and record.last_counted_try < self.last_good:
-            record.last_counted_try = now
-            record.failures = min(record.failures + 1, MAXIMUM_FAILURES)
-        return True
-
-    def connected(self, now: int, peer: Peer) -> bool:
-        """The peer is still connected; whether it has a record."""
-        record = self.find(peer)
-        if record is None:
-            return False
-        if now - record.time > 20 * MINUTE:
-            record.time = now
-        return True
-
-    def set_services(self, peer: Peer, services: int) -> bool:
-        """The peer announced its services; whether it has a record."""
-        record = self.find(peer)
-        if record is None:
-            return False
-        record.services = services
-        return True
 
     # Collisions.
 
@@ -317,7 +282,7 @@ class Tables:
         if not some_tried and not some_new:
             return "nothing"
         try:
-            return self.search(now, candidate, some_new, some_tried, iter(words))
+            return self.search(now, candidate, some_new, some_tried, words.source)
         except StopIteration:
             return "exhausted"
 
@@ -332,16 +297,9 @@ class Tables:
         while True:
             slots = table.get(next(words) % buckets, {})
             start = next(words) % places.SLOTS
-            found = (
-                self.records[slots[(start + step) % places.SLOTS]]
-                for step in range(places.SLOTS if slots else 0)
-                if (start + step) % places.SLOTS in slots
-            )
-            first = None
-            for record in found:
-                if candidate(record):
-                    first = record
-                    break
+            in_turn = sorted(slots, key=lambda slot: (slot - start) % places.SLOTS)
+            found = (self.records[slots[slot]] for slot in in_turn)
+            first = next((record for record in found if candidate(record)), None)
             if first is None:
                 continue
             if next(words) % ONE * ONE < chance(first, now) * factor:
@@ -357,11 +315,10 @@ class Tables:
         if maximum:
             limit = min(limit, maximum)
         peers: list[Peer] = []
-        source = iter(words)
         for position in range(count):
             if len(peers) >= limit:
                 break
-            self.exchange(position, position + next(source) % (count - position))
+            self.exchange(position, position + next(words.source) % (count - position))
             record = self.records[self.order[position]]
             wanted = classes == ALL or class_of(record.peer.address) in classes
             if wanted and not terrible(record, now):
@@ -370,44 +327,30 @@ class Tables:
 
     # What a file has.
 
-    def restore(self, new: list[Kept], tried: list[Kept], buckets: list[list[int]], same: bool):
+    def restore(self, new: list[Record], tried: list[Record], buckets: list[list[int]], same: bool):
         """Fills empty tables with the records of a file.
 
         `buckets` lists the new records by bucket; these buckets are used if they are the `same`,
         that is, if their number and the asmap are.
         """
-        made = [self.keep(kept) if valid(kept.peer.address) else None for kept in new]
-        for kept in tried:
-            if valid(kept.peer.address):
-                self.keep_tried(kept)
+        for record in new:
+            self.append(record)
+        for record in tried:
+            bucket, slot = self.tried_place(record)
+            if valid(record.peer.address) and self.occupant(self.tried, bucket, slot) is None:
+                self.append(record)
+                record.tried = True
+                self.tried.setdefault(bucket, {})[slot] = record.number
         for bucket, indices in enumerate(buckets):
             for index in indices:
-                if made[index] is not None:
-                    self.replace(made[index], bucket, same)
-        for record in made:
-            if record is not None and not record.buckets:
+                self.replace(new[index], bucket, same)
+        for record in new:
+            if not record.buckets:
                 self.delete(record)
-
-    def keep(self, kept: Kept) -> Record:
-        """A record of a file."""
-        record = self.create(kept.peer, kept.source, kept.time, kept.services)
-        record.success = kept.success
-        record.failures = kept.failures
-        return record
-
-    def keep_tried(self, kept: Kept):
-        """A record of a file's tried table, if its slot is empty."""
-        record = self.keep(kept)
-        bucket, slot = self.tried_place(record)
-        if self.occupant(self.tried, bucket, slot) is not None:
-            self.delete(record)
-            return
-        record.tried = True
-        self.tried.setdefault(bucket, {})[slot] = record.number
 
     def replace(self, record: Record, bucket: int, same: bool):
         """Gives a record its slot in a bucket of a file, or else in that of its own source."""
-        if len(record.buckets) >= MAXIMUM_BUCKETS_OF_A_RECORD:
+        if not valid(record.peer.address) or len(record.buckets) == MAXIMUM_BUCKETS_OF_A_RECORD:
             return
         if not same or self.occupant(self.new, bucket, self.new_slot(record, bucket)) is not None:
             bucket = self.new_bucket(record, record.source)

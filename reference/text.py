@@ -1,5 +1,6 @@
 """Numbers, hexadecimal digits and random words, as they are written."""
 
+from itertools import islice
 from typing import Iterator, NamedTuple
 
 MASK = (1 << 64) - 1
@@ -10,11 +11,9 @@ DECIMAL = frozenset(b"0123456789")
 
 def read_number(text: bytes, maximum: int) -> int | None:
     """The number that the text writes, if it is one and is at most the maximum."""
-    if not text or not DECIMAL.issuperset(text):
+    if not 1 <= len(text) <= 20 or not DECIMAL.issuperset(text):
         return None
     if len(text) > 1 and text.startswith(b"0"):
-        return None
-    if len(text) > 20:
         return None
     number = int(text)
     return number if number <= maximum else None
@@ -29,16 +28,16 @@ def read_digits(text: bytes, length: int) -> bytes | None:
 
 def read_hexadecimal(text: bytes) -> bytes | None:
     """The bytes that a field HEX writes."""
-    if text == b"-":
-        return b""
-    if not text or len(text) % 2:
-        return None
-    return read_digits(text, len(text) // 2)
+    return b"" if text == b"-" else read_digits(text, len(text) // 2) if text else None
 
 
 def hexadecimal(data: bytes) -> str:
     """The bytes as a field HEX."""
     return data.hex() if data else "-"
+
+
+class Fault(Exception):
+    """What is read is refused; the text says why."""
 
 
 class Xoshiro:
@@ -72,35 +71,21 @@ class Xoshiro:
 
 
 class Words(NamedTuple):
-    """A list of random words: those that are given, or the first ones of a seed."""
+    """A list of random words, whose items are taken once."""
 
-    given: tuple[int, ...]
-    seed: int
     count: int
-
-    def __iter__(self) -> Iterator[int]:
-        if self.given:
-            yield from self.given
-            return
-        source = Xoshiro(self.seed)
-        for _ in range(self.count):
-            yield source.next()
-
-
-def given_words(words) -> Words:
-    """The list of these words."""
-    return Words(tuple(words), 0, len(words))
+    source: Iterator[int]
 
 
 def seeded_words(seed: int, count: int) -> Words:
-    """The list of the first `count` words of a seed."""
-    return Words((), seed, count)
+    """The first `count` words of a seed."""
+    return Words(count, islice(iter(Xoshiro(seed).next, None), count))
 
 
 def read_words(text: bytes) -> Words | None:
     """The random words that a field W writes."""
     if text == b"-":
-        return given_words(())
+        return Words(0, iter(()))
     if text.startswith(b"@"):
         seed_text, colon, count_text = text[1:].partition(b":")
         seed = read_number(seed_text, MASK)
@@ -109,4 +94,4 @@ def read_words(text: bytes) -> Words | None:
             return None
         return seeded_words(seed, count)
     words = [read_number(word, MASK) for word in text.split(b",")]
-    return None if None in words else given_words(words)
+    return None if None in words else Words(len(words), iter(words))
