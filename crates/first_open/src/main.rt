@@ -1,7 +1,9 @@
-//! An example for authors of nodes: opens outbound connections, no two of them in one network group.
+//! Two examples for authors of nodes: a pick of a peer, and outbound connections, no two of them in
+//! one network group.
 #![tactic(auto)]
 
 mod learn;
+mod pick;
 mod try_open;
 
 ghost use Rattle.std.specs.Prelude.{◌≡◌};
@@ -9,6 +11,8 @@ ghost use Rattle.std.specs.Prelude.{◌≡◌};
 use learn::learn;
 use net_addr::{Peer, put_peer};
 use peer_open::Opener;
+use pick::first_pick;
+use picking::Picked;
 use placing::Placer;
 use std::alloc::Global;
 use std::hash::{BuildHasher, RandomState};
@@ -32,9 +36,9 @@ const KNOWN: [[u8; 4]; 3] = [[8, 8, 8, 8], [8, 8, 4, 4], [9, 9, 9, 9]];
 /// accept it.
 const WORDS: [[u64; 3]; 3] = [[87, 37, 0], [87, 6, 0], [947, 1, 0]];
 
-/// Appends the peer that was opened, or `none`, and a line feed.
-fn put_opened(opened: &Option<Peer>, text: &mut Vec<u8>) -> Result<(), Memory> {
-    let done = match opened {
+/// Appends the peer, or `none`, and a line feed.
+fn put_found(found: &Option<Peer>, text: &mut Vec<u8>) -> Result<(), Memory> {
+    let done = match found {
         Some(peer) => put_peer(peer, text).is_ok(),
         None => text.extend_from_slice(b"none").is_ok(),
     };
@@ -68,7 +72,7 @@ fn put_try<H: BuildHasher, L: Ledger>(
 ) -> Result<(), Memory> {
     let placer = Placer::make(KEY, None);
     let opened = try_open(tables, &placer, opener, words, NOW, 1, steps);
-    put_opened(&opened, text)
+    put_found(&opened, text)
 }
 
 /// Makes a try for each known peer, closes the first one, and makes a try for the second one again.
@@ -86,29 +90,57 @@ fn put_tries<H: BuildHasher, L: Ledger>(
     put_try(tables, &mut opener, &WORDS[1], text, steps)
 }
 
-/// Returns what the tries come to.
-fn open_some<H: BuildHasher + Drop, L: Ledger>(
+/// Appends the peer that the words of the first known peer pick, and a line feed.
+fn put_pick<H: BuildHasher + Drop, L: Ledger>(
     alloc: Global,
     hasher: H,
+    text: &mut Vec<u8>,
     blank: Blank,
-) -> Result<Vec<u8>, Memory>
+) -> Result<(), Memory>
+    requires name { blank.name ≡ L.name }
+    requires parts { blank.parts ≡ L.parts }
+    requires one { blank.parts ≡ 1 }
+{
+    match first_pick::<H, L>(alloc, hasher, KEY, &WORDS[0], NOW, blank)? {
+        Picked::One(peer, _) => put_found(&Some(peer), text),
+        Picked::Nothing | Picked::Exhausted => put_found(&None, text),
+    }
+}
+
+/// Appends what the tries come to, a line for each.
+fn put_opened<H: BuildHasher + Drop, L: Ledger>(
+    alloc: Global,
+    hasher: H,
+    text: &mut Vec<u8>,
+    blank: Blank,
+) -> Result<(), Memory>
     requires name { blank.name ≡ L.name }
     requires parts { blank.parts ≡ L.parts }
     requires one { blank.parts ≡ 1 }
 {
     let mut steps = Steps::<L>::none(blank);
     let tables = known_tables(alloc, hasher, &mut steps)?;
+    put_tries(&tables, text, &mut steps)
+}
+
+/// Returns the text of both examples.
+fn both_examples(
+    alloc: Global,
+    first: RandomState,
+    second: RandomState,
+) -> Result<Vec<u8>, Memory> {
     let mut text = Vec::new(alloc);
-    put_tries(&tables, &mut text, &mut steps)?;
+    put_pick::<RandomState, Brand>(alloc, first, &mut text, Blank::new(1))?;
+    put_opened::<RandomState, Brand>(alloc, second, &mut text, Blank::new(1))?;
     Ok(text)
 }
 
-/// Prints which peers are opened.
+/// Prints the peer that is picked, and which peers are opened.
 fn main(rt: HostRuntime) -> ExitCode {
-    let Ok(hasher) = RandomState::new(&rt) else {
+    let (Ok(first), Ok(second)) = (RandomState::new(&rt), RandomState::new(&rt)) else {
         return ExitCode::FAILURE;
     };
-    let Ok(text) = open_some::<RandomState, Brand>(rt.alloc(), hasher, Blank::new(1)) else {
+    let Ok(text) = both_examples(rt.alloc(), first, second) else {
         return ExitCode::FAILURE;
     };
     match String::from_utf8(text) {
