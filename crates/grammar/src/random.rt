@@ -95,8 +95,8 @@ fn read_seeded(alloc: Global, text: &[u8]) -> Result<Words, LineFault>
     }
 }
 
-/// Returns the first words of the generator with this seed.
-fn seeded_words(alloc: Global, seed: u64, count: u64) -> Result<Words, AllocError>
+/// Returns the first words of the generator with this seed, as a field `@S:N` of a line gives them.
+pub fn seeded_words(alloc: Global, seed: u64, count: u64) -> Result<Words, AllocError>
     requires { count ≤ MAX_SEEDED }
     ensures { IfOk result (λ words. words ≡ seeded_words seed count) }
 {

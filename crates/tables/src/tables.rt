@@ -95,6 +95,13 @@ impl<'a, H: BuildHasher> Tables<'a, H> {
         self.store.next_number
     }
 
+    /// Returns what computes the places of records from their key and asmap.
+    pub fn placer(&self) -> &Placer<'a>
+        ensures { result.now ≡ self.now.places }
+    {
+        &self.store.placer
+    }
+
     /// Adds an entry that `source` announced, with a penalty in seconds and a random word, at a
     /// time in seconds since 1970. Returns `true` if the entry's peer gets a slot. If memory runs
     /// out, nothing changes (`AddrManImpl::AddSingle` in addrman.cpp of Bitcoin Core).
