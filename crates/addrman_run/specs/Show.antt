@@ -5,7 +5,7 @@ use Rattle.host_io.specs.Outside.{Outside}
 use Rattle.host_io.specs.declared.name.Name.TheVariants as name
 use Rattle.peer_rec.specs.Snapshot.{Snapshot}
 use Rattle.peers_file.specs.declared.chain.Chain.{Chain}
-use Rattle.peers_text.specs.Text.{snapshot_text}
+use Rattle.peers_file.specs.Listing.{snapshot_text}
 use Rattle.addrman_run.specs.FileLine.{FileLineEnds}
 use Rattle.addrman_run.specs.Peers.{IsSnapshotIn, RefusesPeers}
 use Rattle.addrman_run.specs.declared.peers_fault.PeersFault.TheVariants.{File}

@@ -4,8 +4,7 @@ ghost use Rattle.addrman_run.specs.declared.input.Input.TheVariants as input;
 use crate::PeersFault;
 use crate::file_line::{FileLine, Refusal};
 use crate::input::Input;
-use peers_file::{Chain, FileFault, read_file};
-use peers_text::snapshot_text;
+use peers_file::{Chain, FileFault, read_file, snapshot_text};
 use std::alloc::Global;
 
 /// The command that lists what peers.dat has. It does not restore the tables, so two records may

@@ -5,3 +5,5 @@ pub mod WholeLaws
 mod BucketLaws
 mod WriteLaws
 mod Examples
+pub mod Lines
+mod ListingExamples

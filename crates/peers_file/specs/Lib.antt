@@ -3,3 +3,4 @@ pub mod Layout
 pub mod Readings
 pub mod Texts
 pub mod Inside
+pub mod Listing

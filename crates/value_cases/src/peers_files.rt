@@ -2,8 +2,7 @@ use crate::damage::{cuts, flips};
 use crate::spelled::{bytes_of, chain_of};
 use call_rows::{Fields, Unread};
 use peer_rec::Snapshot;
-use peers_file::{Chain, FileFault, read_file, write_file};
-use peers_text::put_snapshot;
+use peers_file::{Chain, FileFault, read_file, snapshot_text, write_file};
 use std::alloc::Global;
 
 /// `fault CHAIN FILE` answers with the word of the file's first fault and the fault, `rewrite
@@ -105,11 +104,9 @@ fn line_of(
     let Ok(snap) = read else {
         return Err(Unread::Unmet);
     };
-    let mut text = Vec::new(alloc);
-    text.extend_from_slice(b"before ")?;
-    if put_snapshot(snap, &mut text).is_err() {
+    let Ok(text) = snapshot_text(alloc, snap) else {
         return Err(Unread::Memory);
-    }
+    };
     let Ok(text) = str::from_utf8(text.as_slice()) else {
         return Err(Unread::Form);
     };

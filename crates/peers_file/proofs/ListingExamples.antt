@@ -1,4 +1,4 @@
--- Worked examples, computed over the definitions, with the texts that an independent program
+-- Worked examples of the list, computed over the definitions, with the texts that an independent program
 -- prints.
 use Rattle.std.proofs.Common.{◌≡◌, [], ◌∷◌, ◌++◌, refl}
 use Rattle.std.specs.Prelude.{codes, replicate}
@@ -9,7 +9,7 @@ use Rattle.net_addr.specs.OldForm.{address}
 use Rattle.net_addr.specs.declared.net.Net.TheVariants.{Ipv4, Ipv6}
 use Rattle.peer_rec.specs.declared.file_rec.FileRec.{FileRec}
 use Rattle.peer_rec.specs.Snapshot.{snapshot}
-use Rattle.peers_text.specs.Text.{snapshot_text}
+use Rattle.peers_file.specs.Listing.{snapshot_text}
 
 -- 8.8.8.8:8333 from 1.2.3.4
 abbrev first : FileRec

@@ -1,4 +1,4 @@
--- The text that lists what a file of peers has, a line each. Key and checksum are in the order of
+-- The text that lists what a file has, a line each. Key and checksum are in the order of
 -- the file's bytes.
 use Rattle.std.specs.Prelude.{ℕ, List, ◌++◌, length, codes, decimal}
 use Rattle.std.specs.List.{flat_map, enumerate_from}
@@ -13,33 +13,33 @@ origin_text r = codes " " ++ peer_text r.peer ++ codes " source " ++ addr_text r
 
 -- when its peer was last seen, which services it offers, when it was last reached, and how often it
 -- failed since
-abbrev pub marks_text : FileRec → List ℕ
-marks_text r =
+abbrev pub history_text : FileRec → List ℕ
+history_text r =
     codes " time " ++ decimal r.time ++ codes " services " ++ decimal r.services
     ++ codes " success " ++ decimal r.last_success
     ++ codes " attempts " ++ decimal r.attempts
 
 -- a record of a table, and its index
-abbrev pub record_text : List ℕ → ℕ → FileRec → List ℕ
-record_text table i r = table ++ decimal i ++ origin_text r ++ marks_text r ++ codes "\n"
+abbrev pub record_line : List ℕ → ℕ → FileRec → List ℕ
+record_line table i r = table ++ decimal i ++ origin_text r ++ history_text r ++ codes "\n"
 
 -- the records of a table, counted from 0
-abbrev pub records_text : List ℕ → List FileRec → List ℕ
-records_text table recs = flat_map (λ p. record_text table p.0 p.1) (enumerate_from 0 recs)
+abbrev pub record_lines : List ℕ → List FileRec → List ℕ
+record_lines table recs = flat_map (λ p. record_line table p.0 p.1) (enumerate_from 0 recs)
 
 -- how many records of each table and how many buckets there are
-abbrev pub counts_text : Snapshot → List ℕ
-counts_text snap =
+abbrev pub totals_text : Snapshot → List ℕ
+totals_text snap =
     codes "file new " ++ decimal (length snap.new_recs) ++ codes " tried "
     ++ decimal (length snap.tried_recs) ++ codes " buckets " ++ decimal snap.bucket_count
 
 -- the first line
-abbrev pub head_text : Snapshot → List ℕ
-head_text snap =
-    counts_text snap ++ codes " key " ++ encode_lower snap.key ++ codes " sum "
+abbrev pub summary_line : Snapshot → List ℕ
+summary_line snap =
+    totals_text snap ++ codes " key " ++ encode_lower snap.key ++ codes " sum "
     ++ encode_lower snap.sum ++ codes "\n"
 
 unfoldable pub snapshot_text : Snapshot → List ℕ
 snapshot_text snap =
-    head_text snap ++ records_text (codes "new ") snap.new_recs
-    ++ records_text (codes "tried ") snap.tried_recs
+    summary_line snap ++ record_lines (codes "new ") snap.new_recs
+    ++ record_lines (codes "tried ") snap.tried_recs

@@ -1,0 +1,110 @@
+ghost use Rattle.std.specs.Prelude.{◌≡◌, ◌++◌, decimal, IfOk, OnOk};
+ghost use Rattle.hex.specs.Hex.{encode_lower};
+ghost use Rattle.peers_file.specs.Listing.{totals_text, summary_line, origin_text, history_text, record_line, record_lines, snapshot_text};
+
+use itoa::Buffer;
+use net_addr::{Memory, put_addr, put_peer};
+use peer_rec::{FileRec, Snapshot};
+use std::alloc::Global;
+
+/// Returns the text that lists a snapshot: a line with its counts, key and checksum, then one for
+/// each record. The new records come first; each table counts its own from 0.
+///
+/// Key and checksum are in hexadecimal, in the order of the file's bytes. Bitcoin Core prints such
+/// numbers with the last byte first.
+#[tactic(auto, unfolding(crate::specs::Listing::snapshot_text))]
+pub fn snapshot_text(alloc: Global, snap: &Snapshot) -> Result<Vec<u8>, Memory>
+    ensures { IfOk result (λ text. text.items ≡ snapshot_text snap.now) }
+{
+    let mut text = Vec::new(alloc);
+    put_summary(snap, &mut text)?;
+    put_lines(b"new ", snap.new_recs(), &mut text)?;
+    put_lines(b"tried ", snap.tried_recs(), &mut text)?;
+    Ok(text)
+}
+
+/// Appends the first line: the counts, the key and the checksum.
+fn put_summary(snap: &Snapshot, out: &mut Vec<u8>) -> Result<(), Memory>
+    ensures { OnOk result (out.new.items ≡ out.old.items ++ summary_line snap.now) }
+{
+    put_totals(snap, out)?;
+    put_hex(b" key ", &snap.key(), out)?;
+    put_hex(b" sum ", &snap.sum(), out)?;
+    put_text(b"\n", out)
+}
+
+/// Appends the numbers of records and of buckets.
+fn put_totals(snap: &Snapshot, out: &mut Vec<u8>) -> Result<(), Memory>
+    ensures { OnOk result (out.new.items ≡ out.old.items ++ totals_text snap.now) }
+{
+    put_field(b"file new ", snap.new_recs().len() as u64, out)?;
+    put_field(b" tried ", snap.tried_recs().len() as u64, out)?;
+    put_field(b" buckets ", u64::from(snap.bucket_count()), out)
+}
+
+/// Appends the records of a table, a line each, counted from 0.
+fn put_lines(table: &[u8], recs: &[FileRec], out: &mut Vec<u8>) -> Result<(), Memory>
+    ensures { OnOk result (out.new.items ≡ out.old.items ++ record_lines table.now recs.now) }
+{
+    for (index, rec) in recs.iter().enumerate() {
+        put_line(table, index as u64, rec, out)?;
+    }
+    Ok(())
+}
+
+/// Appends a record, on one line: its table and index, and what the file has of it.
+fn put_line(table: &[u8], index: u64, rec: &FileRec, out: &mut Vec<u8>) -> Result<(), Memory>
+    ensures { OnOk result (out.new.items ≡ out.old.items ++ record_line table.now index rec.now) }
+{
+    put_field(table, index, out)?;
+    put_origin(rec, out)?;
+    put_history(rec, out)?;
+    put_text(b"\n", out)
+}
+
+/// Appends a record's peer and its source.
+fn put_origin(rec: &FileRec, out: &mut Vec<u8>) -> Result<(), Memory>
+    ensures { OnOk result (out.new.items ≡ out.old.items ++ origin_text rec.now) }
+{
+    put_text(b" ", out)?;
+    put_peer(&rec.peer, out)?;
+    put_text(b" source ", out)?;
+    put_addr(&rec.source, out)?;
+    Ok(())
+}
+
+/// Appends when a record's peer was last seen and last reached, in seconds since 1970, its
+/// services, and how often it failed since.
+fn put_history(rec: &FileRec, out: &mut Vec<u8>) -> Result<(), Memory>
+    ensures { OnOk result (out.new.items ≡ out.old.items ++ history_text rec.now) }
+{
+    put_field(b" time ", u64::from(rec.time), out)?;
+    put_field(b" services ", rec.services, out)?;
+    put_field(b" success ", u64::from(rec.last_success), out)?;
+    put_field(b" attempts ", u64::from(rec.attempts), out)
+}
+
+/// Appends a text and 32 bytes in hexadecimal after it.
+fn put_hex(word: &[u8], bytes: &[u8; 32], out: &mut Vec<u8>) -> Result<(), Memory>
+    ensures { OnOk result (out.new.items ≡ out.old.items ++ word.now ++ encode_lower bytes.now) }
+{
+    put_text(word, out)?;
+    let digits = hex::encode(*out.allocator(), bytes.as_slice())?;
+    put_text(digits.as_bytes(), out)
+}
+
+/// Appends a text and a number after it.
+fn put_field(word: &[u8], number: u64, out: &mut Vec<u8>) -> Result<(), Memory>
+    ensures { OnOk result (out.new.items ≡ out.old.items ++ word.now ++ decimal number) }
+{
+    put_text(word, out)?;
+    put_text(Buffer::new().format(number).as_bytes(), out)
+}
+
+/// Appends the bytes.
+fn put_text(text: &[u8], out: &mut Vec<u8>) -> Result<(), Memory>
+    ensures { OnOk result (out.new.items ≡ out.old.items ++ text.now) }
+{
+    out.extend_from_slice(text)?;
+    Ok(())
+}
