@@ -49,7 +49,7 @@ flood: all
 	tools/flood bin/addrman bin/flood.html
 
 endings: all
-	bench/endings
+	tools/endings
 
 test:
 	rt ci
