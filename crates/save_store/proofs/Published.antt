@@ -4,8 +4,8 @@ use Rattle.std.specs.Prelude.{Option, Some, None, IfSome, ◌≢◌, ◌⊎◌, 
 use Rattle.host_io.specs.Disk.{Disk, Entry, Allows, AllowsOne, MayHave, Partly, after_rename, after_sync_dir, exactly, fates, file_fates, left, onto_if, settled, target}
 use Rattle.host_io.specs.Past.{Past, AfterFault, Always, after}
 use Rattle.host_io.specs.PerName.{under, with}
-use Rattle.host_io.specs.declared.fate.Fate.{Fate}
-use Rattle.host_io.specs.declared.fate.Fate.TheVariants.{Absent, AnyBytes}
+use Rattle.host_io.specs.declared.entry.Fate.{Fate}
+use Rattle.host_io.specs.declared.entry.Fate.TheVariants.{Absent, AnyBytes}
 use Rattle.host_io.specs.declared.name.Name.{Name}
 use Rattle.host_io.proofs.Moments.{begun, broke, broke_first, joined, went, went_first}
 use Rattle.host_io.proofs.Names.{under_each, under_other, under_same}

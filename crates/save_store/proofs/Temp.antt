@@ -2,13 +2,13 @@
 use Rattle.std.proofs.Common.{◌≡◌, ℕ, List, [], ◌∷◌, ◌++◌, refl, sym, ap, ◌∙◌, subst, inl, inr, length, take, arith}
 use Rattle.std.specs.Prelude.{Option, Some, None, IfSome, IsSome, true, false, Bool}
 use Rattle.std.specs.Option.{option_map}
-use Rattle.host_io.specs.declared.fate.Fate.TheVariants.{AnyBytes}
+use Rattle.host_io.specs.declared.entry.Fate.TheVariants.{AnyBytes}
 use Rattle.host_io.specs.Disk.{Disk, Entry, AllowsOne, MayHave, Partly, PartlyAppended, after_append, after_create, after_sync, appended, created, exactly, onto_if, synced}
 use Rattle.host_io.specs.Files.{IsThere}
 use Rattle.host_io.specs.Past.{Past, AfterFault, Always, after, files_of}
 use Rattle.host_io.specs.PerName.{under, with}
 use Rattle.host_io.specs.declared.name.Name.{Name}
-use Rattle.host_io.specs.declared.fate.Fate.{Fate}
+use Rattle.host_io.specs.declared.entry.Fate.{Fate}
 use Rattle.host_io.proofs.Moments.{begun, broke, went}
 use Rattle.host_io.proofs.Names.{under_each, under_other, under_same}
 use Rattle.save_store.specs.Job.{Reads}
@@ -164,15 +164,9 @@ pub safe_is_synced : (name : Name) (bytes : List ℕ) (past : Option Past)
 safe_is_synced name bytes None safe = tt
 safe_is_synced name bytes (Some p) safe = synced_of name bytes p.now safe
 
-pub some_synced : (name : Name) (past : Option Past)
-    → IfSome past (λ p. (bytes : List ℕ) × IsSafe name bytes p.now)
-    → IfSome past (λ p. (bytes : List ℕ) × IsSynced name bytes p.now)
-some_synced name None safe = tt
-some_synced name (Some p) safe = (safe.0, synced_of name safe.0 p.now safe.1)
-
 -- what a file that was written gives to `publish`
-pub some_safe : (name : Name) (bytes : List ℕ) (past : Option Past)
+pub some_synced : (name : Name) (bytes : List ℕ) (past : Option Past)
     → IfSome past (λ p. IsSafe name bytes p.now)
-    → IfSome past (λ p. (bytes : List ℕ) × IsSafe name bytes p.now)
-some_safe name bytes None safe = tt
-some_safe name bytes (Some p) safe = (bytes, safe)
+    → IfSome past (λ p. (bytes : List ℕ) × IsSynced name bytes p.now)
+some_synced name bytes None safe = tt
+some_synced name bytes (Some p) safe = (bytes, synced_of name bytes p.now safe)

@@ -2,12 +2,10 @@
 //! or the new one, at once or in pieces.
 #![tactic(auto)]
 
-mod load_fault;
 mod loading;
 mod save_job;
 mod saving;
 
-pub use load_fault::LoadFault;
-pub use loading::load;
+pub use loading::{LoadFault, load};
 pub use save_job::SaveJob;
 pub use saving::{publish, save, write_temp};

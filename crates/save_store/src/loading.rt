@@ -1,3 +1,5 @@
+ghost use Rattle.host_io.specs.declared.failed.ReadFault.TheVariants as read;
+ghost use Rattle.save_store.specs.declared.loading.LoadFault.TheVariants as fault;
 ghost use Rattle.std.specs.Prelude.{◌≡◌, ℕ, ◌<◌, ◌≤◌, ◌⊎◌, length, IfOk, IfSome, IsErrOf};
 ghost use Rattle.std.specs.Option.{option_map};
 ghost use Rattle.host_io.specs.Faults.{Rose};
@@ -5,9 +7,42 @@ ghost use Rattle.host_io.specs.Files.{known_bytes};
 ghost use Rattle.host_io.specs.Past.{files_of};
 ghost use Rattle.host_io.specs.PerName.{under};
 
-use crate::load_fault::LoadFault;
-use host_io::{Bytes, Folder, Name, OfFile, read_past};
+use host_io::{Bytes, Failed, Folder, Name, ReadFault, read_past};
 use std::alloc::Global;
+
+/// Why a file is not loaded.
+#[derive(Clone, Copy, PartialEq, Eq, Debug)]
+pub enum LoadFault {
+    /// The folder failed.
+    Disk,
+    /// The file has more bytes than the limit.
+    TooLarge {
+        /// The length of the file in bytes.
+        size: u64,
+    },
+    /// There is no memory for the bytes.
+    Memory,
+}
+
+impl From<Failed> for LoadFault {
+    ghost from_gives = { λ _ e. e ≡ fault.Disk };
+
+    fn from(_: Failed) -> LoadFault {
+        LoadFault::Disk
+    }
+}
+
+impl From<ReadFault> for LoadFault {
+    ghost from_gives = { λ why e.
+        (why ≡ read.Failed → e ≡ fault.Disk) × (why ≡ read.Memory → e ≡ fault.Memory) };
+
+    fn from(fault: ReadFault) -> LoadFault {
+        match fault {
+            ReadFault::Failed => LoadFault::Disk,
+            ReadFault::Memory => LoadFault::Memory,
+        }
+    }
+}
 
 /// Returns the bytes of a file as it was when its size was asked, or `None` if it is absent. If the
 /// size is above `limit`, no byte is read. Otherwise the file is read at least once. A folder whose
@@ -41,7 +76,7 @@ pub fn load<F: Folder>(
     if limit < size {
         return Err(LoadFault::TooLarge { size });
     }
-    let mut bytes = read_past(alloc, &OfFile { name }, folder, size)?;
+    let mut bytes = read_past(alloc, folder, name, size)?;
     bytes.truncate(size as usize);
     Ok(Some(Bytes::of(bytes)))
 }

@@ -4,7 +4,7 @@ ghost use Rattle.host_io.specs.Past.{Always};
 ghost use Rattle.save_store.specs.Job.{Reads, whole};
 ghost use Rattle.save_store.specs.Saves.{KeepsOthers, PublishesOrNot, IsSynced, IsStored};
 
-use crate::saving::put_in_place;
+use crate::saving::publish;
 use host_io::{Bytes, Failed, Folder, Name};
 use std::marker::Model;
 
@@ -158,5 +158,5 @@ fn finish<F: Folder>(folder: &mut F, temp: Name, name: Name, bytes: &[u8]) -> Re
     ensures never_falls { F.faults folder.old ≤ F.faults folder.new }
 {
     write_rest(folder, temp, bytes)?;
-    put_in_place(folder, temp, name)
+    publish(folder, temp, name)
 }

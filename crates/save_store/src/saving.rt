@@ -18,9 +18,11 @@ pub fn write_temp<F: Folder>(folder: &mut F, temp: Name, bytes: &[u8]) -> Result
     folder.sync(temp)
 }
 
-/// Puts the temporary file in the place of another, and makes the names safe.
+/// Puts a temporary file that is synced in the place of the file that it is for, and makes the names
+/// safe. Until `Ok`, a crash leaves the file as it was or the new one; afterwards always the new
+/// one.
 #[tactic(auto, using(crate::proofs::Published::moved_and_synced, crate::proofs::Published::moved_only, crate::proofs::Published::not_renamed, crate::proofs::Published::stored, crate::proofs::Temp::synced_there))]
-pub(crate) fn put_in_place<F: Folder>(folder: &mut F, temp: Name, name: Name) -> Result<(), Failed>
+pub fn publish<F: Folder>(folder: &mut F, temp: Name, name: Name) -> Result<(), Failed>
     requires apart { temp ≢ name }
     requires synced { IfSome (F.past folder.old) (λ p.
         (bytes : List ℕ) × IsSynced temp bytes p.now) }
@@ -34,32 +36,13 @@ pub(crate) fn put_in_place<F: Folder>(folder: &mut F, temp: Name, name: Name) ->
     ensures never_falls { F.faults folder.old ≤ F.faults folder.new }
 {
     folder.rename(temp, name)?;
-    folder.sync_dir()?;
-    Ok(())
-}
-
-/// Puts a temporary file whose bytes are safe in the place of the file that it is for, and makes
-/// the names safe. Until `Ok`, a crash leaves the file as it was or the new one; afterwards always
-/// the new one.
-pub fn publish<F: Folder>(folder: &mut F, temp: Name, name: Name) -> Result<(), Failed>
-    requires apart { temp ≢ name }
-    requires safe { IfSome (F.past folder.old) (λ p. (bytes : List ℕ) × IsSafe temp bytes p.now) }
-    ensures any_moment { (bytes : List ℕ) →
-        IfSome (F.past folder.old) (λ p. IsSafe temp bytes p.now) →
-        Always (F.past folder.old) (F.past folder.new) (PublishesOrNot temp name bytes) }
-    ensures stored { (bytes : List ℕ) →
-        IfSome (F.past folder.old) (λ p. IsSafe temp bytes p.now) →
-        OnOk result (IfSome (F.past folder.new) (λ p. IsStored name bytes p.now)) }
-    ensures cause { OnErr result (Rose (F.faults folder.old) (F.faults folder.new)) }
-    ensures never_falls { F.faults folder.old ≤ F.faults folder.new }
-{
-    put_in_place(folder, temp, name)
+    folder.sync_dir()
 }
 
 /// Puts a file with these bytes in the place of another: writes it under its temporary name, makes
 /// it safe, and renames it. Until `Ok`, a crash leaves the file as it was or the new one;
 /// afterwards always the new one.
-#[tactic(auto, using(crate::proofs::Published::not_written, crate::proofs::Published::written_first, crate::proofs::Temp::some_safe))]
+#[tactic(auto, using(crate::proofs::Published::not_written, crate::proofs::Published::written_first, crate::proofs::Temp::safe_is_synced, crate::proofs::Temp::some_synced))]
 pub fn save<F: Folder>(folder: &mut F, temp: Name, name: Name, bytes: &[u8]) -> Result<(), Failed>
     requires apart { temp ≢ name }
     ensures any_moment { Always (F.past folder.old) (F.past folder.new)

@@ -13,10 +13,10 @@ returns-clause-any_moment g c written reads =
     let P = g.F.Folder.past in
     let bytes = written ++ c.args.bytes.now in
     written_first c.args.temp c.args.name bytes (P c.args.folder.now) (P c.write_rest.new.folder)
-    (P c.put_in_place.new.folder) c.requires.apart c.write_rest.ensures.any_moment
-    (c.put_in_place.ensures.any_moment bytes (c.in_ok-write_rest.ensures.synced written reads))
+    (P c.publish.new.folder) c.requires.apart c.write_rest.ensures.any_moment
+    (c.publish.ensures.any_moment bytes (c.in_ok-write_rest.ensures.synced written reads))
 
 pub returns-clause-stored : goal.returns-clause-stored
 returns-clause-stored g c written reads =
-    c.put_in_place.ensures.stored (written ++ c.args.bytes.now)
+    c.publish.ensures.stored (written ++ c.args.bytes.now)
     (c.in_ok-write_rest.ensures.synced written reads)
