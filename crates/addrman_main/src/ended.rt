@@ -16,6 +16,9 @@ enum Reason {
     Line(String),
 }
 
+/// What is printed after the line of a folder that failed because it was in use.
+const IN_USE: &str = "addrman: the folder is in use: another program is saving there\n";
+
 /// How the program ended: an exit code, which contracts see, and what is printed on standard error.
 /// Only `run_program` makes one, so a `main` that returns an `Ended` has run the program, and ends
 /// the process with the code of its run.
@@ -23,6 +26,8 @@ enum Reason {
 pub struct Ended {
     code: u8,
     reason: Reason,
+    /// What is printed after the reason.
+    note: &'static str,
 }
 
 impl Model for Ended {
@@ -47,13 +52,16 @@ fn reason_of(alloc: Global, status: &Status) -> Reason {
 }
 
 impl Ended {
-    /// A run that ended with this status.
-    pub(crate) fn with(alloc: Global, status: &Status) -> Ended
+    /// A run that ended with this status. If the folder failed, `is_in_use` says whether another
+    /// program was saving in it.
+    pub(crate) fn with(alloc: Global, status: &Status, is_in_use: bool) -> Ended
         ensures code { result ≡ code_of status.now }
     {
+        let is_told = is_in_use && *status == Status::DiskFault;
         Ended {
             code: code(status),
             reason: reason_of(alloc, status),
+            note: if is_told { IN_USE } else { "" },
         }
     }
 
@@ -64,6 +72,7 @@ impl Ended {
         Ended {
             code: 1,
             reason: Reason::Fixed(reason),
+            note: "",
         }
     }
 }
@@ -78,6 +87,7 @@ impl Termination for Ended {
             Reason::Fixed(text) => errors.eprint(text),
             Reason::Line(line) => errors.eprint(line),
         };
+        let _ = errors.eprint(self.note);
         ExitCode::from(code)
     }
 }

@@ -54,5 +54,5 @@ pub fn run_program(rt: &HostRuntime) -> Ended {
         &mut folder,
         &mut out,
     );
-    Ended::with(rt.alloc(), &status)
+    Ended::with(rt.alloc(), &status, folder.is_in_use())
 }

@@ -15,7 +15,7 @@ mod tables_work;
 mod task;
 
 use asmap_work::run_on_asmap;
-use host_io::DirFolder;
+use host_io::{DirFolder, Lock};
 use refusal::Refusal;
 use std::process::ExitCode;
 use std::rt::{Env, Files};
@@ -40,7 +40,10 @@ fn task_of(rt: &(impl Env + AllocGlobal)) -> Result<Task, Refusal> {
 }
 
 /// Does the task, and returns its sum.
-fn sum_of<R: Files + AllocGlobal>(rt: &R, task: Task) -> Result<u64, Refusal> {
+fn sum_of<R: Files + AllocGlobal>(rt: &R, task: Task) -> Result<u64, Refusal>
+where
+    R::File: Lock,
+{
     match task {
         Task::Asmap(work) => run_on_asmap(rt.alloc(), &mut DirFolder::make(rt), work),
         Task::Table(work) => run_on_text(rt.alloc(), &mut DirFolder::make(rt), work),
@@ -52,7 +55,10 @@ fn sum_of<R: Files + AllocGlobal>(rt: &R, task: Task) -> Result<u64, Refusal> {
 }
 
 /// Does the task that the arguments name, and prints its line.
-fn measure<R: Env + Files + Print + AllocGlobal>(rt: &R) -> Result<(), Refusal> {
+fn measure<R: Env + Files + Print + AllocGlobal>(rt: &R) -> Result<(), Refusal>
+where
+    R::File: Lock,
+{
     let task = task_of(rt)?;
     let sum = sum_of(rt, task)?;
     let word = task.word();

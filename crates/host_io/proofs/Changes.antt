@@ -4,7 +4,7 @@ use Rattle.host_io.specs.Disk.{Disk, IsBetween, Partly}
 use Rattle.host_io.specs.Files.{Files}
 use Rattle.host_io.specs.MemFolder.{after_change, past_after, past_of, disk_of, log_with, DiskLog}
 use Rattle.host_io.specs.Past.{Past, later, after, AfterFault}
-use Rattle.host_io.specs.declared.change.Change.{Change}
+use Rattle.host_io.specs.declared.call.Change.{Change}
 
 past_after-append : (past : Past) (changes : List Change) (change : Change)
     → past_after past (changes ++ change ∷ [])

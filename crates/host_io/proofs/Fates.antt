@@ -4,7 +4,7 @@ use Rattle.host_io.specs.Disk.{Allows, AllowsOne, Disk, Entry, IsImage, MayHave,
 use Rattle.host_io.specs.Files.{Files}
 use Rattle.host_io.specs.PerName.{under}
 use Rattle.host_io.specs.declared.name.Name.TheVariants.{Peers, PeersTemp, Asmap, AsmapTemp, Prefixes, Bans, BansTemp}
-use Rattle.host_io.specs.declared.fate.Fate.{Fate}
+use Rattle.host_io.specs.declared.entry.Fate.{Fate}
 
 pub allows_at : (fates : List Fate) (index : ℕ) (other : Fate) (found : Option (List ℕ))
     → index < length fates → Allows (get_or fates index other) found → AllowsOne fates found

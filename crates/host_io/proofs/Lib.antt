@@ -2,8 +2,8 @@ pub mod Changes
 mod DiskExamples
 mod Examples
 pub mod Fates
+mod FirstBytes
 mod LineLaws
 pub mod Moments
 pub mod Names
-mod Taken
 mod Written

@@ -4,7 +4,7 @@ use Rattle.std.specs.Prelude.{◌≢◌}
 use Rattle.host_io.specs.PerName.{each, under, with}
 use Rattle.host_io.specs.declared.name.Name.{Name}
 use Rattle.host_io.specs.declared.name.Name.TheVariants.{Peers, PeersTemp, Asmap, AsmapTemp, Prefixes, Bans, BansTemp}
-use Rattle.host_io.specs.declared.per_name.PerName.{PerName}
+use Rattle.host_io.specs.declared.name.PerName.{PerName}
 
 pub under_same : {T : Type 0} (all : PerName T) (name : Name) (value : T)
     → under (with all name value) name ≡ value

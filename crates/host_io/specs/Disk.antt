@@ -8,10 +8,10 @@ use Rattle.std.specs.Prelude.{◌≡◌, ◌⊎◌, ℕ, Bool, true, false, List
 use Rattle.std.specs.Option.{option_map}
 use Rattle.host_io.specs.Files.{Files}
 use Rattle.host_io.specs.PerName.{under, with, each}
-use Rattle.host_io.specs.declared.fate.Fate.{Fate}
-use Rattle.host_io.specs.declared.fate.Fate.TheVariants.{Absent, Exactly, AnyBytes}
+use Rattle.host_io.specs.declared.entry.Fate.{Fate}
+use Rattle.host_io.specs.declared.entry.Fate.TheVariants.{Absent, Exactly, AnyBytes}
 use Rattle.host_io.specs.declared.name.Name.{Name}
-use Rattle.host_io.specs.declared.per_name.PerName.{PerName}
+use Rattle.host_io.specs.declared.name.PerName.{PerName}
 
 -- One name of a folder: the file as it reads; whether it was created or appended to since its last
 -- `sync`; whether it was created since the last `sync_dir`; and what else renames since then may

@@ -2,7 +2,7 @@
 use Rattle.std.specs.Prelude.{ℕ, List, Option, None, Some, IsSome, IfSome}
 use Rattle.host_io.specs.PerName.{under}
 use Rattle.host_io.specs.declared.name.Name.{Name}
-use Rattle.host_io.specs.declared.per_name.PerName.{PerName}
+use Rattle.host_io.specs.declared.name.PerName.{PerName}
 
 -- The bytes of each file, or None if it is absent.
 abbrev pub Files : Type 0

@@ -9,5 +9,4 @@ pub mod Name
 pub mod Outside
 pub mod Past
 pub mod PerName
-pub mod Reading
 pub mod Writing

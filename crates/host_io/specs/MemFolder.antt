@@ -8,8 +8,8 @@ use Rattle.host_io.specs.Past.{Past, later}
 use Rattle.host_io.specs.PerName.{each, with}
 use Rattle.host_io.specs.declared.call.Action.{Action}
 use Rattle.host_io.specs.declared.call.Call.{Call}
-use Rattle.host_io.specs.declared.change.Change.{Change}
-use Rattle.host_io.specs.declared.change.Change.TheVariants.{Put, Created, Appended, Synced, Renamed, FolderSynced}
+use Rattle.host_io.specs.declared.call.Change.{Change}
+use Rattle.host_io.specs.declared.call.Change.TheVariants.{Put, Created, Appended, Synced, Renamed, FolderSynced}
 
 -- The disk after a change.
 abbrev pub after_change : Change → Disk → Disk

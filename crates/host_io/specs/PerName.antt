@@ -1,7 +1,7 @@
 -- One value for each name of a file.
 use Rattle.host_io.specs.declared.name.Name.{Name}
 use Rattle.host_io.specs.declared.name.Name.TheVariants.{Peers, PeersTemp, Asmap, AsmapTemp, Prefixes, Bans, BansTemp}
-use Rattle.host_io.specs.declared.per_name.PerName.{PerName}
+use Rattle.host_io.specs.declared.name.PerName.{PerName}
 
 -- The value of a name.
 abbrev pub under : {T : Type 0} → PerName T → Name → T

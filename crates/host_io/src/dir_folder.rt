@@ -5,17 +5,37 @@ ghost use Rattle.host_io.specs.Faults.{Rose, raised};
 use crate::failed::{Failed, fault};
 use crate::folder::Folder;
 use crate::name::Name;
-use std::fs::{OpenFile, OpenOptions};
+use std::fs::{File, OpenFile, OpenOptions};
 use std::io::{ErrorKind, Read, Seek, SeekFrom, Write};
 use std::marker::Model;
+use std::os::unix::fs::OpenOptionsExt;
 use std::rt::Files;
 use std::{fs, io};
+
+/// An open file, or folder, that a program can have for itself.
+pub trait Lock {
+    /// Takes the lock, which lasts until the file is closed. If another open file of the same name
+    /// has it, the call fails at once, with `WouldBlock`.
+    fn lock(&self) -> io::Result<()>;
+}
+
+impl Lock for File {
+    /// Calls `flock`.
+    fn lock(&self) -> io::Result<()> {
+        self.try_lock()?;
+        Ok(())
+    }
+}
 
 /// The current folder of the process. Contracts do not know its files.
 ///
 /// The file whose size was asked last stays open until the next reading call on another name, so
-/// that it is read as it was then, even if it is replaced meanwhile. The file that was created last
-/// stays open until it is renamed or another is written, so that its pieces go to one open file.
+/// that it is read as it was then, even if it is replaced meanwhile.
+///
+/// A save has the folder for itself. `create` locks the folder, and `sync_dir` or a fault of the
+/// save unlocks it; so does the end of the process. `create` removes what has the name and makes a
+/// file that no other name has, and only that file is written, synced and renamed.
+///
 /// Each error is a fault, and so is an interrupted call. What closing a file answers is not known.
 #[derive(Drop)]
 pub struct DirFolder<'a, R: Files> {
@@ -24,6 +44,10 @@ pub struct DirFolder<'a, R: Files> {
     open: Option<Open<R::File>>,
     /// The file that is written.
     written: Option<Open<R::File>>,
+    /// The folder, as long as it is locked.
+    lock: Option<R::File>,
+    /// Whether another program had the lock when `create` was called last.
+    is_in_use: bool,
     faults: u64,
 }
 
@@ -49,8 +73,15 @@ impl<'a, R: Files + Alloc> DirFolder<'a, R> {
             rt,
             open: None,
             written: None,
+            lock: None,
+            is_in_use: false,
             faults: 0,
         }
+    }
+
+    /// Returns whether the last `create` failed because another program was saving in the folder.
+    pub fn is_in_use(&self) -> bool {
+        self.is_in_use
     }
 
     /// Closes the open file and opens this one. Returns its size in bytes, or `None` if it is
@@ -69,63 +100,6 @@ impl<'a, R: Files + Alloc> DirFolder<'a, R> {
         }
     }
 
-    /// Creates or empties a file and keeps it open.
-    fn create_open(&mut self, name: Name) -> io::Result<()>
-        ensures { self.new ≡ self.old }
-    {
-        self.written = None;
-        let file = create_regular(self.rt, name.file_name())?;
-        self.written = Some(Open { name, file });
-        Ok(())
-    }
-
-    /// Opens a file to write at its end, unless it is open.
-    fn open_to_write(&mut self, name: Name) -> io::Result<()>
-        ensures { self.new ≡ self.old }
-    {
-        if !self.written.as_ref().is_some_and(|open| open.name == name) {
-            self.written = None;
-            let file = append_regular(self.rt, name.file_name())?;
-            self.written = Some(Open { name, file });
-        }
-        Ok(())
-    }
-
-    /// Writes at the end of a file. Opens it unless it is open.
-    fn append_open(&mut self, name: Name, bytes: &[u8]) -> io::Result<()>
-        ensures { self.new ≡ self.old }
-    {
-        self.open_to_write(name)?;
-        match &mut self.written {
-            Some(open) => write_whole(&mut open.file, bytes),
-            None => Err(io::Error::from(ErrorKind::NotFound)),
-        }
-    }
-
-    /// Syncs a file. Opens it unless it is open.
-    fn sync_open(&mut self, name: Name) -> io::Result<()>
-        ensures { self.new ≡ self.old }
-    {
-        self.open_to_write(name)?;
-        match &self.written {
-            Some(open) => open.file.sync_all(),
-            None => Err(io::Error::from(ErrorKind::NotFound)),
-        }
-    }
-
-    /// Counts a fault if a call failed.
-    fn counted(&mut self, outcome: io::Result<()>) -> Result<(), Failed>
-        ensures steady { OnOk result (self.new ≡ self.old) }
-        ensures counted { OnErr result (self.new ≡ raised self.old) }
-        ensures cause { OnErr result (Rose self.old self.new) }
-        ensures never_falls { self.old ≤ self.new }
-    {
-        match outcome {
-            Ok(()) => Ok(()),
-            Err(_) => Err(fault(&mut self.faults)),
-        }
-    }
-
     /// Reads once from the file, from offset `at` on. Opens it unless it is open.
     fn read_open(&mut self, name: Name, at: u64, buf: &mut [u8]) -> io::Result<usize>
         ensures within { IfOk result (λ n. n ≤ length buf.old) }
@@ -139,9 +113,102 @@ impl<'a, R: Files + Alloc> DirFolder<'a, R> {
             None => Err(io::Error::from(ErrorKind::NotFound)),
         }
     }
+
+    /// Writes at the end of the file that was created last, which has to have this name.
+    fn append_own(&mut self, name: Name, bytes: &[u8]) -> io::Result<()>
+        ensures { self.new ≡ self.old }
+    {
+        match &mut self.written {
+            Some(own) if own.name == name => write_whole(&mut own.file, bytes),
+            _ => Err(io::Error::from(ErrorKind::NotFound)),
+        }
+    }
+
+    /// Syncs the file that was created last, which has to have this name.
+    fn sync_own(&mut self, name: Name) -> io::Result<()>
+        ensures { self.new ≡ self.old }
+    {
+        match &self.written {
+            Some(own) if own.name == name => own.file.sync_all(),
+            _ => Err(io::Error::from(ErrorKind::NotFound)),
+        }
+    }
+
+    /// Closes the file that was created last, which has to have the name `from`, and renames it.
+    fn rename_own(&mut self, from: Name, to: Name) -> io::Result<()>
+        ensures { self.new ≡ self.old }
+    {
+        match self.written.take() {
+            Some(own) if own.name == from => {}
+            _ => return Err(io::Error::from(ErrorKind::NotFound)),
+        }
+        fs::rename(self.rt, from.file_name(), to.file_name())
+    }
+
+    /// Syncs the folder, and unlocks it.
+    fn sync_folder(&mut self) -> io::Result<()>
+        ensures { self.new ≡ self.old }
+    {
+        match self.lock.take() {
+            Some(folder) => folder.sync_all(),
+            None => fs::open(self.rt, ".")?.sync_all(),
+        }
+    }
+
+    /// Counts a fault if a call failed, which ends a save.
+    fn counted(&mut self, outcome: io::Result<()>) -> Result<(), Failed>
+        ensures steady { OnOk result (self.new ≡ self.old) }
+        ensures counted { OnErr result (self.new ≡ raised self.old) }
+        ensures cause { OnErr result (Rose self.old self.new) }
+        ensures never_falls { self.old ≤ self.new }
+    {
+        match outcome {
+            Ok(()) => Ok(()),
+            Err(_) => {
+                self.written = None;
+                self.lock = None;
+                Err(fault(&mut self.faults))
+            }
+        }
+    }
 }
 
-impl<'a, R: Files + Alloc> Folder for DirFolder<'a, R> {
+impl<'a, R: Files> DirFolder<'a, R>
+where
+    R::File: Lock,
+{
+    /// Locks the folder, unless it is locked.
+    fn lock_folder(&mut self) -> io::Result<()>
+        ensures { self.new ≡ self.old }
+    {
+        if self.lock.is_none() {
+            let folder = fs::open(self.rt, ".")?;
+            if let Err(error) = folder.lock() {
+                self.is_in_use = error.kind() == ErrorKind::WouldBlock;
+                return Err(error);
+            }
+            self.lock = Some(folder);
+        }
+        Ok(())
+    }
+
+    /// Locks the folder, makes a new file there and keeps it open.
+    fn create_own(&mut self, name: Name) -> io::Result<()>
+        ensures { self.new ≡ self.old }
+    {
+        self.written = None;
+        self.is_in_use = false;
+        self.lock_folder()?;
+        let file = create_new(self.rt, name)?;
+        self.written = Some(Open { name, file });
+        Ok(())
+    }
+}
+
+impl<'a, R: Files + Alloc> Folder for DirFolder<'a, R>
+where
+    R::File: Lock,
+{
     ghost past = { λ _. None };
 
     ghost faults = { λ f. f };
@@ -175,41 +242,44 @@ impl<'a, R: Files + Alloc> Folder for DirFolder<'a, R> {
         }
     }
 
-    /// Empties the file or makes it, and keeps it open.
+    /// Locks the folder, removes what has the name, and makes a new file, which stays open. A
+    /// folder of this name is not removed, and is a fault.
     fn create(&mut self, name: Name) -> Result<(), Failed>
         ensures steady { OnOk result (self.new ≡ self.old) }
         ensures counted { OnErr result (self.new ≡ raised self.old) }
         ensures cause { OnErr result (Rose self.old self.new) }
         ensures never_falls { self.old ≤ self.new }
     {
-        let outcome = self.create_open(name);
+        let outcome = self.create_own(name);
         self.counted(outcome)
     }
 
-    /// Writes to the open file, or to one that is opened for this, until all of `bytes` is written.
+    /// Writes to the file that was created last, until all of `bytes` is written. It is a fault if
+    /// that file has another name or was renamed.
     fn append(&mut self, name: Name, bytes: &[u8]) -> Result<(), Failed>
         ensures steady { OnOk result (self.new ≡ self.old) }
         ensures counted { OnErr result (self.new ≡ raised self.old) }
         ensures cause { OnErr result (Rose self.old self.new) }
         ensures never_falls { self.old ≤ self.new }
     {
-        let outcome = self.append_open(name, bytes);
+        let outcome = self.append_own(name, bytes);
         self.counted(outcome)
     }
 
-    /// Asks the system to write the open file, or one that is opened for this, to the disk
-    /// (`fsync`).
+    /// Asks the system to write the file that was created last to the disk (`fsync`). It is a fault
+    /// if that file has another name or was renamed.
     fn sync(&mut self, name: Name) -> Result<(), Failed>
         ensures steady { OnOk result (self.new ≡ self.old) }
         ensures counted { OnErr result (self.new ≡ raised self.old) }
         ensures cause { OnErr result (Rose self.old self.new) }
         ensures never_falls { self.old ≤ self.new }
     {
-        let outcome = self.sync_open(name);
+        let outcome = self.sync_own(name);
         self.counted(outcome)
     }
 
-    /// Closes the file that is written, and renames.
+    /// Closes the file that was created last, and renames it. It is a fault if that file has another
+    /// name than `from` or was renamed.
     fn rename(&mut self, from: Name, to: Name) -> Result<(), Failed>
         requires { from ≢ to }
         ensures steady { OnOk result (self.new ≡ self.old) }
@@ -217,32 +287,34 @@ impl<'a, R: Files + Alloc> Folder for DirFolder<'a, R> {
         ensures cause { OnErr result (Rose self.old self.new) }
         ensures never_falls { self.old ≤ self.new }
     {
-        self.written = None;
-        let outcome = fs::rename(self.rt, from.file_name(), to.file_name());
+        let outcome = self.rename_own(from, to);
         self.counted(outcome)
     }
 
-    /// Asks the system to write the folder itself to the disk (`fsync`).
+    /// Asks the system to write the folder itself to the disk (`fsync`), and unlocks it.
     fn sync_dir(&mut self) -> Result<(), Failed>
         ensures steady { OnOk result (self.new ≡ self.old) }
         ensures counted { OnErr result (self.new ≡ raised self.old) }
         ensures cause { OnErr result (Rose self.old self.new) }
         ensures never_falls { self.old ≤ self.new }
     {
-        let outcome = sync_folder(self.rt);
+        let outcome = self.sync_folder();
         self.counted(outcome)
     }
 }
 
 /// Opens a regular file, and returns it with its size in bytes. Nothing else is opened, since
-/// opening a pipe may wait.
+/// opening a pipe may wait; what took the name just before it was opened is not read.
 fn open_regular<R: Files>(rt: &R, path: &str) -> io::Result<(R::File, u64)> {
     if !rt.metadata(path)?.is_file() {
         return Err(io::Error::from(ErrorKind::InvalidInput));
     }
     let file = fs::open(rt, path)?;
-    let size = file.metadata()?.len();
-    Ok((file, size))
+    let found = file.metadata()?;
+    if !found.is_file() {
+        return Err(io::Error::from(ErrorKind::InvalidInput));
+    }
+    Ok((file, found.len()))
 }
 
 /// Reads once from an open file, from offset `at` on.
@@ -253,31 +325,27 @@ fn read_at<T: Read + Seek>(file: &mut T, at: u64, buf: &mut [u8]) -> io::Result<
     file.read(buf)
 }
 
-/// Empties a regular file, or makes one. A link, a pipe or a device of this name is refused; `std`
-/// has no way to refuse a link that takes the name just before the file is opened.
-fn create_regular<R: Files>(rt: &R, path: &str) -> io::Result<R::File> {
-    match rt.symlink_metadata(path) {
-        Ok(found) if found.is_file() => OpenOptions::new()
-            .write(true)
-            .truncate(true)
-            .open(rt, path),
-        Ok(_) => Err(io::Error::from(ErrorKind::InvalidInput)),
-        Err(error) if error.kind() == ErrorKind::NotFound => {
-            OpenOptions::new()
-                .write(true)
-                .create_new(true)
-                .open(rt, path)
-        }
-        Err(error) => Err(error),
+/// Removes what has the name, and makes a new file, which is opened to be written. Nothing that is
+/// there is opened, so neither a link is followed nor a pipe waited for.
+fn create_new<R: Files>(rt: &R, name: Name) -> io::Result<R::File> {
+    match fs::remove_file(rt, name.file_name()) {
+        Err(error) if error.kind() != ErrorKind::NotFound => return Err(error),
+        _ => {}
     }
+    OpenOptions::new()
+        .write(true)
+        .create_new(true)
+        .mode(mode_of(name))
+        .open(rt, name.file_name())
 }
 
-/// Opens a regular file to write at its end.
-fn append_regular<R: Files>(rt: &R, path: &str) -> io::Result<R::File> {
-    if !rt.symlink_metadata(path)?.is_file() {
-        return Err(io::Error::from(ErrorKind::InvalidInput));
+/// Returns the permission bits of a new file, of which the umask takes some: `peers.dat` has the
+/// node's secret key, and is its owner's only.
+fn mode_of(name: Name) -> u32 {
+    match name {
+        Name::Peers | Name::PeersTemp => 0o600,
+        _ => 0o666,
     }
-    OpenOptions::new().append(true).open(rt, path)
 }
 
 /// Writes all of `bytes`, in as many writes as it takes.
@@ -291,9 +359,4 @@ fn write_whole<T: Write>(file: &mut T, bytes: &[u8]) -> io::Result<()> {
         done += count;
     }
     Ok(())
-}
-
-/// Asks the system to write the current folder to the disk.
-fn sync_folder<R: Files>(rt: &R) -> io::Result<()> {
-    fs::open(rt, ".")?.sync_all()
 }

@@ -1,5 +1,8 @@
-ghost use Rattle.std.specs.Prelude.{◌≡◌, ◌≤◌};
+ghost use Rattle.host_io.specs.declared.failed.ReadFault.TheVariants as fault;
+ghost use Rattle.std.specs.Prelude.{◌≡◌, ◌≤◌, ◌↔◌, Contains, IsErr, IfOk, OnOk, OnErr};
 ghost use Rattle.host_io.specs.Faults.{Rose, StillCountHasNotRisen, raised};
+
+use std::alloc::{AllocError, Global};
 
 /// The outside failed a call. The object's count of faults rose in it.
 #[derive(Clone, Copy, PartialEq, Eq, Debug)]
@@ -19,3 +22,83 @@ pub(crate) fn fault(faults: &mut u64) -> Failed
 pub fn still_count_has_not_risen()
     ensures { StillCountHasNotRisen }
 {}
+
+/// Out of memory.
+#[derive(Clone, Copy, PartialEq, Eq, Debug)]
+pub struct Memory;
+
+impl From<AllocError> for Memory {
+    fn from(_: AllocError) -> Memory {
+        Memory
+    }
+}
+
+/// Why bytes are not read.
+#[derive(Clone, Copy, PartialEq, Eq, Debug)]
+pub enum ReadFault {
+    /// A read failed.
+    Failed,
+    /// There is no memory for the bytes.
+    Memory,
+}
+
+impl From<Failed> for ReadFault {
+    ghost from_gives = { λ _ e. e ≡ fault.Failed };
+
+    fn from(_: Failed) -> ReadFault {
+        ReadFault::Failed
+    }
+}
+
+impl From<AllocError> for ReadFault {
+    ghost from_gives = { λ _ e. e ≡ fault.Memory };
+
+    fn from(_: AllocError) -> ReadFault {
+        ReadFault::Memory
+    }
+}
+
+/// The calls of a source or a sink in memory, some of which its maker chose to fail.
+#[derive(Debug, Drop)]
+pub struct Chosen {
+    /// The numbers, from 0, of the calls that fail.
+    pub fails: Vec<u64>,
+    /// How many calls there were; the count stops at 2^64 - 1.
+    pub calls: u64,
+    /// How many calls failed; the count stops at 2^64 - 1.
+    pub faults: u64,
+}
+
+impl Chosen {
+    /// Makes the record of no calls. The calls whose numbers are in `fails` will fail.
+    pub fn make(alloc: Global, fails: &[u64]) -> Result<Chosen, Memory>
+        ensures fails { IfOk result (λ chosen. chosen.fails.items ≡ fails.now) }
+        ensures calls { IfOk result (λ chosen. chosen.calls ≡ 0) }
+        ensures faults { IfOk result (λ chosen. chosen.faults ≡ 0) }
+    {
+        Ok(Chosen {
+            fails: fails.to_vec(alloc)?,
+            calls: 0,
+            faults: 0,
+        })
+    }
+
+    /// Counts a call. Fails if the call was chosen to.
+    pub fn begin(&mut self) -> Result<(), Failed>
+        ensures chosen { IsErr result ↔ Contains self.old.fails.items self.old.calls }
+        ensures ok { OnOk result (self.new ≡ record self.old { calls = raised self.old.calls }) }
+        ensures err { OnErr result (self.new ≡ record self.old {
+          calls = raised self.old.calls;
+          faults = raised self.old.faults;
+        }) }
+        ensures cause { OnErr result (Rose self.old.faults self.new.faults) }
+        ensures never_falls { self.old.faults ≤ self.new.faults }
+    {
+        let chosen = self.fails.contains(&self.calls);
+        self.calls = self.calls.saturating_add(1);
+        if chosen {
+            return Err(fault(&mut self.faults));
+        }
+        Ok(())
+    }
+}

@@ -2,14 +2,12 @@ ghost use Rattle.std.specs.Prelude.{◌≡◌, ◌<◌, [], length, IfOk, OnOk, 
 ghost use Rattle.host_io.specs.Disk.{AllowsOne, IsImage, MayHave, after_sync_dir, files_on, safe};
 ghost use Rattle.host_io.specs.MemFolder.{after_change, disk_of, log_with};
 ghost use Rattle.host_io.specs.PerName.{each, under};
-ghost use Rattle.host_io.specs.declared.change.Change.TheVariants as change;
+ghost use Rattle.host_io.specs.declared.call.Change.TheVariants as change;
 
+use crate::call::Change;
+use crate::entry::{Entry, Fate, copy_file};
 use crate::list::Bytes;
-use crate::change::Change;
-use crate::entry::{Entry, copy_file};
-use crate::fate::Fate;
-use crate::name::Name;
-use crate::per_name::PerName;
+use crate::name::{Name, PerName};
 use std::alloc::{AllocError, Global};
 use std::marker::Model;
 

@@ -5,18 +5,15 @@ ghost use Rattle.host_io.specs.Faults.{Rose};
 ghost use Rattle.host_io.specs.MemFolder.{FailsToChange, FailsWithoutChange, after_change, disk_of, files_in, folder_after_call, folder_after_change, folder_after_no_memory, log_with, next_fault, past_of};
 ghost use Rattle.host_io.specs.Past.{after, AfterFault};
 ghost use Rattle.host_io.specs.PerName.{under};
-ghost use Rattle.host_io.specs.declared.change.Change.TheVariants as change;
+ghost use Rattle.host_io.specs.declared.call.Change.TheVariants as change;
 ghost use Rattle.host_io.specs.declared.name.Name.{Name};
 
-use crate::list::Bytes;
-use crate::call::{Action, Call};
-use crate::change::Change;
-use crate::failed::{Failed, fault};
+use crate::call::{Action, Call, Change};
+use crate::failed::{Failed, Memory, fault};
 use crate::folder::Folder;
+use crate::list::Bytes;
 use crate::mem_disk::MemDisk;
-use crate::memory::Memory;
-use crate::name::Name;
-use crate::per_name::PerName;
+use crate::name::{Name, PerName};
 use std::alloc::Global;
 use std::marker::Model;
 

@@ -30,3 +30,79 @@ impl Name {
         }
     }
 }
+
+/// One value for each name.
+#[derive(Debug, Drop)]
+pub struct PerName<T> {
+    pub peers: T,
+    pub peers_temp: T,
+    pub asmap: T,
+    pub asmap_temp: T,
+    pub prefixes: T,
+    pub bans: T,
+    pub bans_temp: T,
+}
+
+impl<T> PerName<Option<T>> {
+    ghost use Rattle.std.specs.Prelude.{◌≡◌, None};
+
+    /// Returns `None` under each name.
+    pub(crate) fn none() -> PerName<Option<T>>
+        ensures { result ≡ record {
+          peers = None;
+          peers_temp = None;
+          asmap = None;
+          asmap_temp = None;
+          prefixes = None;
+          bans = None;
+          bans_temp = None;
+        } }
+    {
+        PerName {
+            peers: None,
+            peers_temp: None,
+            asmap: None,
+            asmap_temp: None,
+            prefixes: None,
+            bans: None,
+            bans_temp: None,
+        }
+    }
+}
+
+impl<T> PerName<T> {
+    ghost use Rattle.std.specs.Prelude.{◌≡◌};
+    ghost use Rattle.host_io.specs.PerName.{under, with};
+
+    /// Returns the value of `name`.
+    pub fn get(&self, name: Name) -> &T
+        ensures { result.now ≡ under self.now name }
+    {
+        match name {
+            Name::Peers => &self.peers,
+            Name::PeersTemp => &self.peers_temp,
+            Name::Asmap => &self.asmap,
+            Name::AsmapTemp => &self.asmap_temp,
+            Name::Prefixes => &self.prefixes,
+            Name::Bans => &self.bans,
+            Name::BansTemp => &self.bans_temp,
+        }
+    }
+
+    /// Puts `value` under `name`.
+    pub fn set(&mut self, name: Name, value: T)
+    where
+        T: Drop,
+        ensures { self.new ≡ with self.old name value }
+    {
+        match name {
+            Name::Peers => self.peers = value,
+            Name::PeersTemp => self.peers_temp = value,
+            Name::Asmap => self.asmap = value,
+            Name::AsmapTemp => self.asmap_temp = value,
+            Name::Prefixes => self.prefixes = value,
+            Name::Bans => self.bans = value,
+            Name::BansTemp => self.bans_temp = value,
+        }
+    }
+}

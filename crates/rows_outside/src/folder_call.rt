@@ -1,4 +1,4 @@
-use host_io::{DirFolder, Failed, Folder, Name};
+use host_io::{DirFolder, Failed, Folder, Lock, Name};
 use std::alloc::{AllocError, Global};
 use std::io;
 use std::rt::Files;
@@ -17,8 +17,8 @@ pub(crate) enum FolderCall<'a> {
 }
 
 /// Calls of a folder that has `bitcoin` in asmap.dat, a folder as banlist.json, as banlist.tmp a link
-/// to asmap.dat, and as prefixes.txt a link to itself.
-static CALLS: [FolderCall<'static>; 44] = [
+/// to asmap.dat, as asmap.tmp another name of that file, and as prefixes.txt a link to itself.
+static CALLS: [FolderCall<'static>; 47] = [
     // No call but `create` makes a file.
     FolderCall::Size(Name::Peers),
     FolderCall::Read(Name::Peers, 0),
@@ -38,7 +38,7 @@ static CALLS: [FolderCall<'static>; 44] = [
     FolderCall::Size(Name::Peers),
     FolderCall::Read(Name::Peers, 3),
     FolderCall::Read(Name::Peers, 7),
-    // A file is renamed over another, which is read to its end.
+    // A file has no other name, and is renamed over another, which is read to its end.
     FolderCall::Size(Name::Asmap),
     FolderCall::Create(Name::AsmapTemp),
     FolderCall::Append(Name::AsmapTemp, "other"),
@@ -48,27 +48,30 @@ static CALLS: [FolderCall<'static>; 44] = [
     FolderCall::Read(Name::Asmap, 4),
     FolderCall::Size(Name::AsmapTemp),
     FolderCall::Read(Name::Asmap, 1),
-    // A file that was renamed is no longer written under its old name.
+    // Only the file that was created last is written and renamed, and only until a call fails.
     FolderCall::Append(Name::AsmapTemp, "bit"),
-    FolderCall::Sync(Name::AsmapTemp),
-    // Bytes go to the end of a file that is there, and `create` empties it.
-    FolderCall::Append(Name::Asmap, "wise"),
-    FolderCall::Size(Name::Asmap),
-    FolderCall::Read(Name::Asmap, 0),
-    FolderCall::Read(Name::Peers, 0),
+    FolderCall::Append(Name::Asmap, "bit"),
+    FolderCall::Sync(Name::Asmap),
+    FolderCall::Rename(Name::Asmap, Name::Peers),
+    FolderCall::Create(Name::PeersTemp),
+    FolderCall::Append(Name::AsmapTemp, "bit"),
+    FolderCall::Append(Name::PeersTemp, "bit"),
+    FolderCall::Rename(Name::PeersTemp, Name::Peers),
+    // A file that is there is created anew.
+    FolderCall::Size(Name::PeersTemp),
     FolderCall::Create(Name::Peers),
     FolderCall::Size(Name::Peers),
-    // Only a regular file is read or written.
+    // Only a regular file is read, and all but a folder is replaced.
     FolderCall::Size(Name::Bans),
     FolderCall::Create(Name::Bans),
     FolderCall::Create(Name::BansTemp),
-    FolderCall::Append(Name::BansTemp, "bit"),
+    FolderCall::Rename(Name::BansTemp, Name::Bans),
+    FolderCall::Size(Name::BansTemp),
     FolderCall::Size(Name::Prefixes),
     FolderCall::Read(Name::Prefixes, 0),
     FolderCall::Create(Name::Prefixes),
-    FolderCall::Rename(Name::Asmap, Name::Bans),
+    FolderCall::Size(Name::Prefixes),
     FolderCall::Size(Name::Asmap),
-    FolderCall::Read(Name::Asmap, 5),
 ];
 
 /// Returns `ok` or `failed`.
@@ -94,7 +97,10 @@ fn read_text<R: Files + Alloc>(
     folder: &mut DirFolder<'_, R>,
     name: Name,
     at: u64,
-) -> Result<String, AllocError> {
+) -> Result<String, AllocError>
+where
+    R::File: Lock,
+{
     let mut buf = [0u8; 8];
     let text = match folder.read(name, at, &mut buf) {
         Ok(count) => str::from_utf8(&buf[..count]).unwrap_or("no text"),
@@ -108,7 +114,10 @@ pub(crate) fn answer<R: Files + Alloc>(
     alloc: Global,
     folder: &mut DirFolder<'_, R>,
     call: FolderCall<'_>,
-) -> Result<String, AllocError> {
+) -> Result<String, AllocError>
+where
+    R::File: Lock,
+{
     match call {
         FolderCall::Size(name) => size_text(alloc, folder.size(name)),
         FolderCall::Read(name, at) => read_text(alloc, folder, name, at),
@@ -126,7 +135,10 @@ fn print_answer<R: Print + AllocGlobal, F: Files + Alloc>(
     rt: &R,
     folder: &mut DirFolder<'_, F>,
     call: FolderCall<'_>,
-) -> io::Result<()> {
+) -> io::Result<()>
+where
+    F::File: Lock,
+{
     let answer = answer(rt.alloc(), folder, call)?;
     println!(rt; "{call:?}: {}", answer.as_str())
 }
@@ -136,7 +148,10 @@ pub(crate) fn print_answers<R: Print + AllocGlobal, F: Files + Alloc>(
     rt: &R,
     folder: &mut DirFolder<'_, F>,
     calls: &[FolderCall<'_>],
-) -> io::Result<()> {
+) -> io::Result<()>
+where
+    F::File: Lock,
+{
     for call in calls {
         print_answer(rt, folder, *call)?;
     }
@@ -144,6 +159,37 @@ pub(crate) fn print_answers<R: Print + AllocGlobal, F: Files + Alloc>(
 }
 
 /// Makes those calls of the current folder.
-pub(crate) fn print_calls<R: Files + Print + AllocGlobal>(rt: &R) -> io::Result<()> {
+pub(crate) fn print_calls<R: Files + Print + AllocGlobal>(rt: &R) -> io::Result<()>
+where
+    R::File: Lock,
+{
     print_answers(rt, &mut DirFolder::make(rt), &CALLS)
+}
+
+/// Calls of two programs in one folder, each with whether it is the second one's.
+static TURNS: [(bool, FolderCall<'static>); 9] = [
+    (false, FolderCall::Create(Name::PeersTemp)),
+    (true, FolderCall::Create(Name::AsmapTemp)),
+    (true, FolderCall::Size(Name::Peers)),
+    (false, FolderCall::Rename(Name::PeersTemp, Name::Peers)),
+    (true, FolderCall::Create(Name::PeersTemp)),
+    (false, FolderCall::SyncDir),
+    (true, FolderCall::Create(Name::PeersTemp)),
+    (false, FolderCall::Create(Name::PeersTemp)),
+    (true, FolderCall::Append(Name::PeersTemp, "bit")),
+];
+
+/// Makes those calls, and prints each with its answer, and whether the folder was in use.
+pub(crate) fn print_turns<R: Files + Print + AllocGlobal>(rt: &R) -> io::Result<()>
+where
+    R::File: Lock,
+{
+    let mut first = DirFolder::make(rt);
+    let mut second = DirFolder::make(rt);
+    for (is_second, call) in &TURNS {
+        let folder = if *is_second { &mut second } else { &mut first };
+        print_answer(rt, folder, *call)?;
+        println!(rt; "in use: {}", folder.is_in_use())?;
+    }
+    Ok(())
 }

@@ -14,24 +14,31 @@ mod watch;
 mod watched;
 mod writers;
 
+use host_io::Lock;
 use std::os::unix::fs::symlink;
 use std::process::ExitCode;
 use std::rt::Files;
 use std::{fs, io};
 
-/// Makes a folder, a link and a link to itself under the names of files.
+/// Makes a folder, a file with another name, a link and a link to itself under the names of files.
 fn prepare<R: Files + AllocGlobal>(rt: &R) -> io::Result<()> {
     fs::create_dir(rt, "banlist.json")?;
+    fs::write(rt, "asmap.dat", "bitcoin")?;
+    fs::hard_link(rt, "asmap.dat", "asmap.tmp")?;
     symlink(rt, "asmap.dat", "banlist.tmp")?;
     symlink(rt, "prefixes.txt", "prefixes.txt")
 }
 
 /// Prints all answers.
-fn print_all<R: Files + Print + AllocGlobal>(rt: &R) -> io::Result<()> {
+fn print_all<R: Files + Print + AllocGlobal>(rt: &R) -> io::Result<()>
+where
+    R::File: Lock,
+{
     sources::print_pieces(rt)?;
     writers::print_counts(rt)?;
     prepare(rt)?;
     folder_call::print_calls(rt)?;
+    folder_call::print_turns(rt)?;
     saves::print_saves(rt)?;
     watched::print_watched(rt)?;
     crashes::print_crashes(rt)?;

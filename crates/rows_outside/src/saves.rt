@@ -1,15 +1,9 @@
 // Saves of peers.dat in the current folder, at once and in pieces, and what is loaded after each.
-use host_io::{Bytes, DirFolder, Failed, Folder, Name};
-use save_store::{LoadFault, SaveJob, load, publish, write_temp};
+use host_io::{Bytes, DirFolder, Failed, Folder, Lock, Name};
+use save_store::{LoadFault, SaveJob, load, save};
 use std::alloc::{AllocError, Global};
 use std::io;
 use std::rt::Files;
-
-/// Saves the bytes at once.
-fn save_whole<F: Folder>(folder: &mut F, bytes: &[u8]) -> Result<(), Failed> {
-    write_temp(folder, Name::PeersTemp, bytes)?;
-    publish(folder, Name::PeersTemp, Name::Peers)
-}
 
 /// Saves the bytes by a job: the first byte, no byte, and the rest.
 fn save_in_pieces<F: Folder>(folder: &mut F, bytes: Bytes) -> Result<(), Failed> {
@@ -81,7 +75,7 @@ fn print_long<R: Print + AllocGlobal, F: Folder>(
     folder: &mut F,
     bytes: &[u8],
 ) -> io::Result<()> {
-    let saved = save_whole(folder, bytes);
+    let saved = save(folder, Name::PeersTemp, Name::Peers, bytes);
     println!(rt; "saved: {saved:?}")?;
     let loaded = load(rt.alloc(), folder, Name::Peers, 70_000);
     print_same(rt, &loaded, bytes)
@@ -94,17 +88,20 @@ fn print_each<R: Print + AllocGlobal, F: Folder>(
     second: Bytes,
     long: &[u8],
 ) -> io::Result<()> {
-    let saved = save_whole(folder, b"first");
+    let saved = save(folder, Name::PeersTemp, Name::Peers, b"first");
     print_saved(rt, folder, saved)?;
     let saved = save_in_pieces(folder, second);
     print_saved(rt, folder, saved)?;
-    let saved = save_whole(folder, b"too long");
+    let saved = save(folder, Name::PeersTemp, Name::Peers, b"too long");
     print_saved(rt, folder, saved)?;
     print_long(rt, folder, long)
 }
 
 /// Makes these saves in the current folder.
-pub(crate) fn print_saves<R: Files + Print + AllocGlobal>(rt: &R) -> io::Result<()> {
+pub(crate) fn print_saves<R: Files + Print + AllocGlobal>(rt: &R) -> io::Result<()>
+where
+    R::File: Lock,
+{
     let second = Bytes::of(b"second".to_vec(rt.alloc())?);
     let long = long_bytes(rt.alloc())?;
     print_each(rt, &mut DirFolder::make(rt), second, long.as_slice())

@@ -1,5 +1,5 @@
 // A source over a reader gives its pieces, and each error of the reader is a fault.
-use host_io::{Failed, Source, StdSource, read_to_end};
+use host_io::{Failed, Source, StdSource};
 use std::io;
 use std::io::{ErrorKind, Read};
 
@@ -42,23 +42,8 @@ fn print_piece<R: Print + AllocGlobal, S: Source>(rt: &R, source: &mut S) -> io:
     }
 }
 
-/// Reads to the end, up to `limit` bytes, and prints what came.
-fn print_rest<R: Print + AllocGlobal, S: Source>(
-    rt: &R,
-    source: &mut S,
-    limit: u64,
-) -> io::Result<()> {
-    match read_to_end(rt.alloc(), source, limit) {
-        Ok(bytes) => println!(rt;
-            "to the end: {:?}",
-            str::from_utf8(bytes.items()).unwrap_or("no text")
-        ),
-        Err(fault) => println!(rt; "to the end: {fault:?}"),
-    }
-}
-
 /// Reads a text in pieces, from a reader and from one that fails once.
-fn print_texts<R: Print + AllocGlobal>(rt: &R) -> io::Result<()> {
+pub(crate) fn print_pieces<R: Print + AllocGlobal>(rt: &R) -> io::Result<()> {
     let mut source = StdSource::make(b"bitcoin".as_slice());
     for _ in 0..3 {
         print_piece(rt, &mut source)?;
@@ -68,14 +53,4 @@ fn print_texts<R: Print + AllocGlobal>(rt: &R) -> io::Result<()> {
         print_piece(rt, &mut source)?;
     }
     Ok(())
-}
-
-/// Reads a text in pieces and to its end, also from a reader that fails once.
-pub(crate) fn print_pieces<R: Print + AllocGlobal>(rt: &R) -> io::Result<()> {
-    print_texts(rt)?;
-    print_rest(rt, &mut StdSource::make(b"bitcoin".as_slice()), 7)?;
-    print_rest(rt, &mut StdSource::make(b"bitcoin".as_slice()), 6)?;
-    let mut source = StdSource::make(FitfulReader::of(b"bitcoin"));
-    print_rest(rt, &mut source, 7)?;
-    print_rest(rt, &mut source, 7)
 }

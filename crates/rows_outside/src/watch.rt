@@ -1,5 +1,7 @@
+use host_io::Lock;
 use std::alloc::Allocator;
 use std::cell::Cell;
+use std::fmt::Debug;
 use std::fs::{Metadata, OpenFile, OpenOptions, Permissions};
 use std::io;
 use std::io::{ErrorKind, PipeReader, PipeWriter, Read, Seek, SeekFrom, Write};
@@ -8,29 +10,22 @@ use std::os::unix::net::SocketAddr;
 use std::path::PathBuf;
 use std::rt::Files;
 
-/// A call of the system.
-#[derive(Clone, Copy, PartialEq, Eq, Debug)]
-pub(crate) enum SystemCall {
-    Metadata,
-    LinkMetadata,
-    Open,
-    Rename,
-    FileMetadata,
-    Seek,
-    Read,
-    Write,
-    /// A write that takes no byte.
-    WriteNothing,
-    Sync,
-    /// The metadata of a name that is no regular file.
-    OtherKind,
+/// What happens to a call of the system.
+#[derive(Clone, Copy, Debug)]
+pub(crate) enum Fault {
+    /// It fails.
+    Error(ErrorKind),
+    /// A write takes no byte, and metadata is that of a device. Another call is made.
+    Odd,
 }
 
 /// What happens to the calls of the system.
 #[derive(Drop)]
 pub(crate) struct Plan {
-    /// The call that fails once.
-    pub fails: Cell<Option<SystemCall>>,
+    /// How many calls there were.
+    pub calls: Cell<u32>,
+    /// The number of a call, from 0, and what happens to it.
+    pub fault: Option<(u32, Fault)>,
     /// Whether each call is printed.
     pub prints: bool,
     /// What an open file says is its length.
@@ -54,37 +49,26 @@ pub(crate) struct WatchedFile<'a, R: Files> {
 }
 
 impl Plan {
-    /// Whether the call is to fail, which it does once.
-    fn is_failing(&self, call: SystemCall) -> bool {
-        if self.fails.get() == Some(call) {
-            self.fails.set(None);
-            return true;
-        }
-        false
-    }
-
-    /// Fails if the call is to fail.
-    fn check(&self, call: SystemCall) -> io::Result<()> {
-        if self.is_failing(call) {
-            return Err(io::Error::from(ErrorKind::Interrupted));
-        }
-        Ok(())
-    }
-
-    /// Prints the call of a path, unless it is to fail.
-    fn on_path(&self, rt: &impl Print, call: SystemCall, path: &str) -> io::Result<()> {
-        self.check(call)?;
+    /// Prints a call, if calls are printed, and counts it. Fails if it is to fail, and returns
+    /// whether it is odd.
+    fn begin(&self, rt: &impl Print, call: &str) -> io::Result<bool> {
+        let number = self.calls.get();
+        self.calls.set(number.saturating_add(1));
         if self.prints {
-            println!(rt; "  {call:?} {path}")?;
+            println!(rt; "  {number} {call}")?;
         }
-        Ok(())
+        match self.fault {
+            Some((other, _)) if other != number => Ok(false),
+            Some((_, Fault::Error(kind))) => Err(io::Error::from(kind)),
+            Some((_, Fault::Odd)) => Ok(true),
+            None => Ok(false),
+        }
     }
 
-    /// Prints the call of an open file, unless it is to fail.
-    fn on_file(&self, rt: &impl Print, call: SystemCall) -> io::Result<()> {
-        self.check(call)?;
+    /// Prints a path, or how it is opened, if calls are printed.
+    fn print_more(&self, rt: &impl Print, text: &impl Debug) -> io::Result<()> {
         if self.prints {
-            println!(rt; "  {call:?}")?;
+            println!(rt; "    {text:?}")?;
         }
         Ok(())
     }
@@ -104,7 +88,9 @@ impl<'a, R: Files + Print> Files for Watch<'a, R> {
     type Dir = R::Dir;
 
     fn open_file(&self, how: &OpenOptions, path: &str) -> io::Result<WatchedFile<'a, R>> {
-        self.plan.on_path(self.rt, SystemCall::Open, path)?;
+        self.plan.begin(self.rt, "open")?;
+        self.plan.print_more(self.rt, &path)?;
+        self.plan.print_more(self.rt, how)?;
         Ok(WatchedFile {
             rt: self.rt,
             plan: self.plan,
@@ -117,18 +103,11 @@ impl<'a, R: Files + Print> Files for Watch<'a, R> {
     }
 
     fn metadata(&self, path: &str) -> io::Result<Metadata> {
-        self.plan.on_path(self.rt, SystemCall::Metadata, path)?;
-        if self.plan.is_failing(SystemCall::OtherKind) {
-            return Ok(Metadata::of_symlink(0));
-        }
-        self.rt.metadata(path)
+        let is_odd = self.plan.begin(self.rt, "metadata")?;
+        self.rt.metadata(if is_odd { "/dev/null" } else { path })
     }
 
     fn symlink_metadata(&self, path: &str) -> io::Result<Metadata> {
-        self.plan.on_path(self.rt, SystemCall::LinkMetadata, path)?;
-        if self.plan.is_failing(SystemCall::OtherKind) {
-            return Ok(Metadata::of_dir());
-        }
         self.rt.symlink_metadata(path)
     }
 
@@ -137,11 +116,14 @@ impl<'a, R: Files + Print> Files for Watch<'a, R> {
     }
 
     fn rename(&self, from: &str, to: &str) -> io::Result<()> {
-        self.plan.on_path(self.rt, SystemCall::Rename, from)?;
+        self.plan.begin(self.rt, "rename")?;
+        self.plan.print_more(self.rt, &from)?;
         self.rt.rename(from, to)
     }
 
     fn remove_file(&self, path: &str) -> io::Result<()> {
+        self.plan.begin(self.rt, "remove")?;
+        self.plan.print_more(self.rt, &path)?;
         self.rt.remove_file(path)
     }
 
@@ -207,7 +189,7 @@ fn unsupported<T>() -> io::Result<T> {
 
 impl<'a, R: Files + Print> Read for WatchedFile<'a, R> {
     fn read(&mut self, buf: &mut [u8]) -> io::Result<usize> {
-        self.plan.on_file(self.rt, SystemCall::Read)?;
+        self.plan.begin(self.rt, "read")?;
         let most = buf.len().min(3);
         self.file.read(&mut buf[..most])
     }
@@ -215,12 +197,12 @@ impl<'a, R: Files + Print> Read for WatchedFile<'a, R> {
 
 impl<'a, R: Files + Print> Write for WatchedFile<'a, R> {
     fn write(&mut self, buf: &[u8]) -> io::Result<usize> {
-        self.plan.on_file(self.rt, SystemCall::Write)?;
-        if self.plan.is_failing(SystemCall::WriteNothing) {
-            return Ok(0);
-        }
-        let most = buf.len().min(3);
-        self.file.write(&buf[..most])
+        let most = if self.plan.begin(self.rt, "write")? {
+            0
+        } else {
+            3
+        };
+        self.file.write(&buf[..buf.len().min(most)])
     }
 
     fn flush(&mut self) -> io::Result<()> {
@@ -230,14 +212,16 @@ impl<'a, R: Files + Print> Write for WatchedFile<'a, R> {
 
 impl<'a, R: Files + Print> Seek for WatchedFile<'a, R> {
     fn seek(&mut self, to: SeekFrom) -> io::Result<u64> {
-        self.plan.on_file(self.rt, SystemCall::Seek)?;
+        self.plan.begin(self.rt, "seek")?;
         self.file.seek(to)
     }
 }
 
 impl<'a, R: Files + Print> OpenFile for WatchedFile<'a, R> {
     fn metadata(&self) -> io::Result<Metadata> {
-        self.plan.on_file(self.rt, SystemCall::FileMetadata)?;
+        if self.plan.begin(self.rt, "metadata of the file")? {
+            return self.rt.metadata("/dev/null");
+        }
         match self.plan.len {
             Some(len) => Ok(Metadata::of_file(len)),
             None => self.file.metadata(),
@@ -249,11 +233,21 @@ impl<'a, R: Files + Print> OpenFile for WatchedFile<'a, R> {
     }
 
     fn sync_all(&self) -> io::Result<()> {
-        self.plan.on_file(self.rt, SystemCall::Sync)?;
+        self.plan.begin(self.rt, "sync")?;
         self.file.sync_all()
     }
 
     fn sync_data(&self) -> io::Result<()> {
         self.file.sync_data()
+    }
+}
+
+impl<'a, R: Files + Print> Lock for WatchedFile<'a, R>
+where
+    R::File: Lock,
+{
+    fn lock(&self) -> io::Result<()> {
+        self.plan.begin(self.rt, "lock")?;
+        self.file.lock()
     }
 }

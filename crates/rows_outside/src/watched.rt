@@ -1,11 +1,12 @@
-// The system calls that the calls of a folder make, what they answer if one of those fails once, and
-// what is loaded of a file that has another length than it said.
+// The system calls that the calls of a folder make, what they answer if one of those fails or is odd,
+// and what is loaded of a file that has another length than it said.
 use crate::folder_call::{FolderCall, answer, print_answers};
 use crate::saves::print_loaded;
-use crate::watch::{Plan, SystemCall, Watch};
-use host_io::{DirFolder, Name};
+use crate::watch::{Fault, Plan, Watch};
+use host_io::{DirFolder, Lock, Name};
 use std::cell::Cell;
 use std::io;
+use std::io::ErrorKind;
 use std::rt::Files;
 
 /// Calls that replace peers.dat and read it.
@@ -19,130 +20,104 @@ static CALLS: [FolderCall<'static>; 7] = [
     FolderCall::Read(Name::Peers, 3),
 ];
 
-/// System calls that fail once, and the call that is made then and once more.
-static FAULTS: [(SystemCall, FolderCall<'static>); 18] = [
-    (SystemCall::Metadata, FolderCall::Size(Name::Peers)),
-    (SystemCall::Open, FolderCall::Size(Name::Peers)),
-    (SystemCall::FileMetadata, FolderCall::Size(Name::Peers)),
-    (SystemCall::Seek, FolderCall::Read(Name::Peers, 3)),
-    (SystemCall::Read, FolderCall::Read(Name::Peers, 3)),
-    (SystemCall::Metadata, FolderCall::Read(Name::Asmap, 3)),
-    (
-        SystemCall::LinkMetadata,
-        FolderCall::Create(Name::PeersTemp),
-    ),
-    (SystemCall::Open, FolderCall::Create(Name::PeersTemp)),
-    (
-        SystemCall::Write,
-        FolderCall::Append(Name::PeersTemp, "bit"),
-    ),
-    (
-        SystemCall::WriteNothing,
-        FolderCall::Append(Name::PeersTemp, "bit"),
-    ),
-    (SystemCall::Sync, FolderCall::Sync(Name::PeersTemp)),
-    (
-        SystemCall::Rename,
-        FolderCall::Rename(Name::PeersTemp, Name::Peers),
-    ),
-    (SystemCall::Open, FolderCall::SyncDir),
-    (SystemCall::Sync, FolderCall::SyncDir),
-    (
-        SystemCall::LinkMetadata,
-        FolderCall::Append(Name::Peers, "coin"),
-    ),
-    (SystemCall::OtherKind, FolderCall::Create(Name::PeersTemp)),
-    (
-        SystemCall::OtherKind,
-        FolderCall::Append(Name::Peers, "wise"),
-    ),
-    (SystemCall::OtherKind, FolderCall::Size(Name::Peers)),
+/// How many calls of the system those make.
+const SYSTEM_CALLS: u32 = 15;
+
+/// What happens to one of the calls.
+static FAULTS: [Fault; 7] = [
+    Fault::Error(ErrorKind::NotFound),
+    Fault::Error(ErrorKind::PermissionDenied),
+    Fault::Error(ErrorKind::Interrupted),
+    Fault::Error(ErrorKind::StorageFull),
+    Fault::Error(ErrorKind::NotADirectory),
+    Fault::Error(ErrorKind::WouldBlock),
+    Fault::Odd,
 ];
-
-/// Prints the answers of a call while a system call fails, and afterwards.
-fn print_fault<R: Print + AllocGlobal, F: Files + Alloc>(
-    rt: &R,
-    folder: &mut DirFolder<'_, F>,
-    fault: SystemCall,
-    call: FolderCall<'_>,
-) -> io::Result<()> {
-    let first = answer(rt.alloc(), folder, call)?;
-    let second = answer(rt.alloc(), folder, call)?;
-    println!(rt;
-        "{fault:?} fails, {call:?}: {}, {}",
-        first.as_str(),
-        second.as_str()
-    )
-}
-
-/// Prints the answers of each call while a system call fails, and afterwards.
-fn print_faults<R: Print + AllocGlobal, F: Files + Alloc>(
-    rt: &R,
-    plan: &Plan,
-    folder: &mut DirFolder<'_, F>,
-) -> io::Result<()> {
-    for (fault, call) in &FAULTS {
-        plan.fails.set(Some(*fault));
-        print_fault(rt, folder, *fault, *call)?;
-    }
-    Ok(())
-}
 
 /// What is printed of a folder that is watched.
 #[derive(Clone, Copy)]
 enum Part {
-    /// Calls, with the system calls that they make and their answers.
+    /// The calls, with the system calls that they make and their answers.
     Calls,
-    /// The answers of calls while a system call fails.
-    Faults,
+    /// The answers of the calls.
+    Answers,
     /// What is loaded of peers.dat.
     Load,
 }
 
-/// Prints a part.
-fn print_part<R: Print + AllocGlobal, F: Files + Alloc>(
+/// Prints the answers of the calls in a line.
+fn print_line<R: Print + AllocGlobal, F: Files + Alloc>(
     rt: &R,
-    part: Part,
-    plan: &Plan,
     folder: &mut DirFolder<'_, F>,
-) -> io::Result<()> {
-    match part {
-        Part::Calls => print_answers(rt, folder, &CALLS),
-        Part::Faults => print_faults(rt, plan, folder),
-        Part::Load => print_loaded(rt, folder, 20),
+) -> io::Result<()>
+where
+    F::File: Lock,
+{
+    for call in &CALLS {
+        let answer = answer(rt.alloc(), folder, *call)?;
+        print!(rt; " {}", answer.as_str())?;
     }
+    println!(rt; ", in use: {}", folder.is_in_use())
 }
 
 /// Prints a part of the folder that these calls of the system reach.
-fn print_over<R: Print + AllocGlobal, F: Files + Alloc>(
+fn print_part<R: Print + AllocGlobal, F: Files + Alloc>(
     rt: &R,
     part: Part,
-    plan: &Plan,
     files: &F,
-) -> io::Result<()> {
-    print_part(rt, part, plan, &mut DirFolder::make(files))
+) -> io::Result<()>
+where
+    F::File: Lock,
+{
+    let mut folder = DirFolder::make(files);
+    match part {
+        Part::Calls => print_answers(rt, &mut folder, &CALLS),
+        Part::Answers => print_line(rt, &mut folder),
+        Part::Load => print_loaded(rt, &mut folder, 20),
+    }
 }
 
-/// Prints a part of a folder whose system calls are printed if `prints`, and whose files say that
-/// they have this length.
+/// Prints a part of a folder to one of whose system calls this happens, and whose files say that they
+/// have this length.
 fn print_watch<R: Files + Print + AllocGlobal>(
     rt: &R,
     part: Part,
-    prints: bool,
+    fault: Option<(u32, Fault)>,
     len: Option<u64>,
-) -> io::Result<()> {
+) -> io::Result<()>
+where
+    R::File: Lock,
+{
     let plan = Plan {
-        fails: Cell::new(None),
-        prints,
+        calls: Cell::new(0),
+        fault,
+        prints: matches!(part, Part::Calls),
         len,
     };
-    print_over(rt, part, &plan, &Watch { rt, plan: &plan })
+    print_part(rt, part, &Watch { rt, plan: &plan })
+}
+
+/// Prints the answers of the calls while each of these happens to each system call.
+fn print_faults<R: Files + Print + AllocGlobal>(rt: &R) -> io::Result<()>
+where
+    R::File: Lock,
+{
+    for number in 0..SYSTEM_CALLS {
+        for fault in &FAULTS {
+            print!(rt; "{number} {fault:?}:")?;
+            print_watch(rt, Part::Answers, Some((number, *fault)), None)?;
+        }
+    }
+    Ok(())
 }
 
 /// Prints all of these.
-pub(crate) fn print_watched<R: Files + Print + AllocGlobal>(rt: &R) -> io::Result<()> {
-    print_watch(rt, Part::Calls, true, None)?;
-    print_watch(rt, Part::Faults, false, None)?;
-    print_watch(rt, Part::Load, false, Some(2))?;
-    print_watch(rt, Part::Load, false, Some(20))
+pub(crate) fn print_watched<R: Files + Print + AllocGlobal>(rt: &R) -> io::Result<()>
+where
+    R::File: Lock,
+{
+    print_watch(rt, Part::Calls, None, None)?;
+    print_faults(rt)?;
+    print_watch(rt, Part::Load, None, Some(2))?;
+    print_watch(rt, Part::Load, None, Some(20))
 }

@@ -42,7 +42,6 @@ pub fn publish<F: Folder>(folder: &mut F, temp: Name, name: Name) -> Result<(), 
 /// Puts a file with these bytes in the place of another: writes it under its temporary name, makes
 /// it safe, and renames it. Until `Ok`, a crash leaves the file as it was or the new one;
 /// afterwards always the new one.
-#[tactic(auto, using(crate::proofs::Published::not_written, crate::proofs::Published::written_first, crate::proofs::Temp::safe_is_synced, crate::proofs::Temp::some_synced))]
 pub fn save<F: Folder>(folder: &mut F, temp: Name, name: Name, bytes: &[u8]) -> Result<(), Failed>
     requires apart { temp ≢ name }
     ensures any_moment { Always (F.past folder.old) (F.past folder.new)

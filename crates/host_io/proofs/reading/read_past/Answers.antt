@@ -1,11 +1,14 @@
-use Rattle.std.proofs.Common.{arith, rules, length, take, ◌+◌, vec_len}
+use Rattle.std.proofs.Common.{◌∙◌, arith}
 use Rattle.std.proofs.lemmas.Grind.{common_steps}
-use Rattle.host_io.proofs.Taken.{take_on}
+use Rattle.host_io.proofs.FirstBytes.{one_more}
 use Rattle.host_io.proofs.reading.read_past.Goals as goal
 
-pub returns-in_err-count-clause-err : goal.returns-in_err-count-clause-err
-returns-in_err-count-clause-err g c =
-    let taken = take_on (g.W.NextBytes.rest c.args.way.now c.args.object.now 0) (g.W.NextBytes.rest c.args.way.now c.loop-text.object (vec_len c.loop-text.text))
-    (λ n. g.W.NextBytes.rest c.args.way.now c.read_piece.new.object n) c.loop-text.text.items (vec_len c.loop-text.text) (length (take c.min-wanted.result c.deref_mut.result.now)) (c.args.limit + 1)
-    c.loop-text.invariant.moved (search rules) c.read_piece.ensures.taken (grind (arith, common_steps)) in
-    search (rules, taken)
+pub loop-name-preserved : goal.loop-name-preserved
+loop-name-preserved g c = record {
+  room = c.loop-name.invariant.room;
+  within = grind (arith, common_steps, c.in_ok-count.ensures.grown, c.in_ok-count.ensures.within);
+  same = c.read_piece.ensures.same ∙ c.loop-name.invariant.same;
+  never_falls = omega (arith, c.read_piece.ensures.never_falls, c.loop-name.invariant.never_falls);
+  found = one_more c.args.name _ _ _ _ _ _ _ c.loop-name.invariant.same c.loop-name.invariant.found
+      c.in_ok-count.ensures.appended c.in_ok-count.ensures.grown;
+}

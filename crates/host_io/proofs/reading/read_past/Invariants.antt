@@ -1,18 +1,18 @@
-use Rattle.std.proofs.Common.{◌≡◌, ◌+◌, ◌-◌, ◌≤◌, vec_len, [], IfNone, None}
-use Rattle.host_io.specs.Reading.{MovesBytes}
+use Rattle.std.proofs.Common.{◌≡◌, ◌+◌, ◌-◌, ◌≤◌, vec_len, take, IfSome}
+use Rattle.host_io.specs.Files.{known_bytes}
+use Rattle.host_io.specs.Past.{files_of}
 use Rattle.host_io.proofs.reading.read_past.Given as goal
 
--- what was read and what is left are the bytes at the start
-abbrev pub invariant-loop-text : goal.invariant-loop-text
-invariant-loop-text g l = record {
+-- the text has the first bytes of the file
+abbrev pub invariant-loop-name : goal.invariant-loop-name
+invariant-loop-name g l = record {
   room : vec_len l.piece ≡ 65536;
   within : vec_len l.text ≤ l.limit + 1;
-  there : g.W.NextBytes.can_read l.way l.object;
-  same : g.W.NextBytes.past l.object ≡ g.W.NextBytes.past l.fn.object;
-  never_falls : g.W.NextBytes.faults l.fn.object ≤ g.W.NextBytes.faults l.object;
-  moved : MovesBytes (g.W.NextBytes.rest l.way l.fn.object 0) (g.W.NextBytes.rest l.way l.object (vec_len l.text)) [] l.text.items;
-  unknown : IfNone (g.W.NextBytes.rest l.way l.fn.object 0) (g.W.NextBytes.rest l.way l.object (vec_len l.text) ≡ None);
+  same : g.F.Folder.past l.folder ≡ g.F.Folder.past l.fn.folder;
+  never_falls : g.F.Folder.faults l.fn.folder ≤ g.F.Folder.faults l.folder;
+  found : IfSome (known_bytes (files_of (g.F.Folder.past l.fn.folder)) l.name) (λ bytes.
+      l.text.items ≡ take (vec_len l.text) bytes);
 }
 
-abbrev pub decreases-loop-text : goal.decreases-loop-text
-decreases-loop-text g l = (l.limit + 1) - vec_len l.text
+abbrev pub decreases-loop-name : goal.decreases-loop-name
+decreases-loop-name g l = (l.limit + 1) - vec_len l.text
