@@ -3,8 +3,8 @@ use Rattle.std.proofs.Common.{◌≡◌, ◌≢◌, ℕ, ◌<◌, ◌^◌, List,
 use Rattle.std.proofs.lemmas.Bool.{eqb-true, eqb-false}
 use Rattle.std.proofs.lemmas.Fmt.{decimal_injective}
 use Rattle.std.proofs.lemmas.Slice.Eq.{bytes_eq-Decides}
-use Rattle.log_lines.specs.Fields.{Value, TheNumber, AllMean, fields_of}
-use Rattle.log_lines.specs.Spelling.{u32_field}
+use Rattle.grammar.specs.Fields.{Value, TheNumber, AllMean, u32_field}
+use Rattle.grammar.specs.Words.{fields_of}
 use Rattle.addr_limit.specs.State.{State}
 use Rattle.addr_limit.specs.Steps.{after}
 use Rattle.addr_limit.specs.declared.event.Event.{Event}

@@ -2,10 +2,10 @@
 use Rattle.std.proofs.Common.{◌≡◌, ◌≢◌, ◌⊎◌, ℕ, Bool, List, [], ◌∷◌, codes, get_or, refl, sym, ap, subst, ◌∙◌, arith, inl, inr}
 use Rattle.std.specs.Prelude.{◌==◌, if◌then◌else◌}
 use Rattle.net_addr.specs.Address.{Address}
-use Rattle.log_lines.specs.Fields.{Hex, Random, Value, TheNumber, TheAddr, TheBytes, TheWords, TheChoice, fields_of, Means, AllMean, AreAtFault}
-use Rattle.log_lines.specs.Spelling.{u32_field}
-use Rattle.log_lines.specs.declared.fault.LineFault.{LineFault}
-use Rattle.log_lines.specs.declared.fault.LineFault.TheVariants as fault
+use Rattle.grammar.specs.Fields.{Hex, Random, Value, TheNumber, TheAddr, TheBytes, TheWords, TheChoice, Means, AllMean, AreAtFault, u32_field}
+use Rattle.grammar.specs.Words.{fields_of}
+use Rattle.grammar.specs.declared.fault.LineFault.{LineFault}
+use Rattle.grammar.specs.declared.fault.LineFault.TheVariants as fault
 use Rattle.log_lines.proofs.Readings.{AreDefinite, one_list}
 use Rattle.log_lines.proofs.FaultLemmas.{no_fault, same_fault, same_heads, same_tails}
 use Rattle.addr_limit.specs.declared.verb.Verb.{Verb}

@@ -13,7 +13,7 @@ use Rattle.addr_codecs.specs.Inside.{message_at, addr_entry_at, addrv2_entry_at}
 use Rattle.addr_codecs.specs.declared.fault.MsgFault.{MsgFault}
 use Rattle.addr_codecs.specs.declared.fault.MsgFault.TheVariants.{Trailing}
 use Rattle.addr_codecs.proofs.MessageLaws.{Reads-message, Reads-addr_entry, Reads-addrv2_entry}
-use Rattle.log_lines.specs.Fields.{IsHex}
+use Rattle.grammar.specs.Fields.{IsHex}
 use Rattle.addr_limit.specs.Lines.{IsRead}
 
 -- ---- decoded bytes are bytes

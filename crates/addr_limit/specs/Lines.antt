@@ -6,9 +6,9 @@ use Rattle.addr_codecs.specs.Layout.{IsMessage, HasMessageFault}
 use Rattle.addr_codecs.specs.declared.form.Form.{Form}
 use Rattle.addr_codecs.specs.declared.form.Form.TheVariants.{Addr, Addrv2}
 use Rattle.addr_codecs.specs.declared.fault.MsgFault.{MsgFault}
-use Rattle.log_lines.specs.Fields.{Kind, OfAddr, Hex, Random, Either, Value, TheNumber, TheAddr, TheBytes, TheWords, TheChoice, fields_of, AllMean, AreAtFault}
-use Rattle.log_lines.specs.Spelling.{u32_field}
-use Rattle.log_lines.specs.declared.fault.LineFault.{LineFault}
+use Rattle.grammar.specs.Fields.{Kind, OfAddr, Hex, Random, Either, Value, TheNumber, TheAddr, TheBytes, TheWords, TheChoice, AllMean, AreAtFault, u32_field}
+use Rattle.grammar.specs.Words.{fields_of}
+use Rattle.grammar.specs.declared.fault.LineFault.{LineFault}
 use Rattle.addr_limit.specs.State.{State}
 use Rattle.addr_limit.specs.Steps.{after, output}
 use Rattle.addr_limit.specs.declared.event.Event.{Event}

@@ -8,7 +8,7 @@ ghost use Rattle.addr_limit.specs.Lines.{LimitStep, Says, HasFault, is_about};
 ghost use Rattle.addr_limit.specs.declared.event.Event.{Event};
 ghost use Rattle.addr_limit.specs.declared.event.Event.TheVariants.{Of};
 ghost use Rattle.addr_limit.specs.declared.request.Request.TheVariants.{Open, Close, GetAddr, Message};
-ghost use Rattle.log_lines.specs.declared.fault.LineFault.{LineFault};
+ghost use Rattle.grammar.specs.declared.fault.LineFault.{LineFault};
 ghost use Rattle.addr_limit.specs.Apart.{IsLastOutput};
 
 /// A law of whole logs: a line that names a number has the output line that it would have if the

@@ -1,7 +1,6 @@
 ghost use Rattle.std.specs.Prelude.{◌≡◌, ◌≢◌, ◌-◌, ◌^◌, ◌≤◌, ◌⊎◌, [], ◌∷◌, codes, length, IfOk, IfSome, IfNone, Ok, Err};
-ghost use Rattle.log_lines.specs.Fields.{OfAddr, Hex, Random, Either, TheNumber, TheAddr, TheBytes, TheWords, TheChoice, AllMean, AreAtFault};
-ghost use Rattle.log_lines.specs.Inside.{texts_after};
-ghost use Rattle.log_lines.specs.Spelling.{u32_field};
+ghost use Rattle.grammar.specs.Fields.{OfAddr, Hex, Random, Either, TheNumber, TheAddr, TheBytes, TheWords, TheChoice, AllMean, AreAtFault, u32_field};
+ghost use Rattle.grammar.specs.Words.{texts_after};
 ghost use Rattle.log_lines.specs.declared.read.TheConstants.{MAX_LINE};
 ghost use Rattle.addr_limit.specs.Lines.{word_of, kinds_of, SaysAfter, Says, HasFault};
 ghost use Rattle.addr_limit.specs.Inside.{IsShort, IsShortEvent};

@@ -14,7 +14,7 @@ use Rattle.host_io.specs.declared.name.Name.TheVariants as name
 use Rattle.host_io.specs.declared.name.Name.{Name}
 use Rattle.log_lines.proofs.FaultLemmas.{spelled_no_fault}
 use Rattle.log_lines.specs.Spelling.{HasFault}
-use Rattle.log_lines.specs.declared.fault.LineFault.{LineFault}
+use Rattle.grammar.specs.declared.fault.LineFault.{LineFault}
 use Rattle.log_run.specs.Log.{HasNoFeed}
 use Rattle.log_run.specs.Run.{Ran, Steps, Streams}
 use Rattle.log_run.specs.declared.end.LogEnd.TheVariants as end

@@ -7,8 +7,8 @@ use Rattle.prefix_table.specs.declared.fault.TableFault.{TableFault}
 use Rattle.prefix_table.specs.declared.fault.TableFault.TheVariants as table
 use Rattle.asmap_compile.specs.declared.fault.CompileFault.{CompileFault}
 use Rattle.asmap_compile.specs.declared.fault.CompileFault.TheVariants as compile
-use Rattle.log_lines.specs.declared.fault.LineFault.{LineFault}
-use Rattle.log_lines.specs.declared.fault.LineFault.TheVariants as line
+use Rattle.grammar.specs.declared.fault.LineFault.{LineFault}
+use Rattle.grammar.specs.declared.fault.LineFault.TheVariants as line
 use Rattle.ban_list.specs.declared.fault.BanFault.{BanFault}
 use Rattle.ban_list.specs.declared.fault.BanFault.TheVariants as ban
 use Rattle.peers_file.specs.declared.fault.FileFault.{FileFault}

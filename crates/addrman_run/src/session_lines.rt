@@ -1,5 +1,5 @@
 ghost use Rattle.std.specs.Prelude.{◌≡◌, ◌≢◌};
-ghost use Rattle.log_lines.specs.declared.fault.LineFault.{LineFault};
+ghost use Rattle.grammar.specs.declared.fault.LineFault.{LineFault};
 
 use host_io::Folder;
 use log_lines::LineFault;

@@ -14,8 +14,8 @@ use Rattle.net_addr.proofs.Words.{AllBytes-high_first}
 use Rattle.wire_num.proofs.ReadingLaws.{AreBytes}
 use Rattle.addr_codecs.specs.Entries.{IsEntry}
 use Rattle.addr_codecs.specs.Layout.{IsAddrMessage, IsAddrv2Message}
-use Rattle.log_lines.specs.Fields.{AllMean, Hex, Kind, Means, OfAddr, OfPeer, Random, TheAddr, TheBytes, TheNumber, Value, ThePeer, TheWords}
-use Rattle.log_lines.specs.Spelling.{Spells, kinds_of, u32_field, u64_field, values_of, verb_of}
+use Rattle.grammar.specs.Fields.{AllMean, Hex, Kind, Means, OfAddr, OfPeer, Random, TheAddr, TheBytes, TheNumber, Value, ThePeer, TheWords, u32_field, u64_field}
+use Rattle.log_lines.specs.Spelling.{Spells, kinds_of, values_of, verb_of}
 use Rattle.log_lines.specs.declared.command.Command.{Command}
 use Rattle.log_lines.specs.declared.command.Command.TheVariants as command
 use Rattle.session.proofs.OneHistory.{bytes_in, hex_bytes}

@@ -8,7 +8,7 @@ use Rattle.std.proofs.lemmas.List.Sums.{AllPass-from_list_all}
 use Rattle.std.proofs.lemmas.List.Elements.{All-append, All-cons, All-head, All-nil, All-tail}
 use Rattle.host_io.specs.Lines.{lines_of}
 use Rattle.net_addr.specs.NetBits.{each_below}
-use Rattle.log_lines.proofs.WordLemmas.{decimal-lacks}
+use Rattle.grammar.proofs.WordLemmas.{decimal-lacks}
 use Rattle.std.proofs.lemmas.Fmt.{length-decimal-le}
 use Rattle.std.proofs.lemmas.List.{length-append}
 use Rattle.hex.specs.Hex.{encode_lower, encode_with, lower_digits}

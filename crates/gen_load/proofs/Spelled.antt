@@ -27,13 +27,13 @@ use Rattle.addr_codecs.specs.declared.fault.MsgFault.TheVariants.{Trailing}
 use Rattle.addr_codecs.proofs.MessageLaws.{Reads-addr_entry, Reads-message}
 use Rattle.addr_codecs.proofs.TextLaws.{FitsAddr, of_addr_entry, of_message}
 use Rattle.wire_num.proofs.ReadingLaws.{AreBytes-all, one_meaning}
-use Rattle.log_lines.specs.Fields.{AreWords}
-use Rattle.log_lines.specs.Random.{seeded_words}
+use Rattle.grammar.specs.Fields.{AreWords}
+use Rattle.grammar.specs.Random.{seeded_words}
 use Rattle.log_lines.specs.Spelling.{Spells}
 use Rattle.log_lines.specs.declared.command.Command.{Command}
 use Rattle.log_lines.specs.declared.command.Command.TheVariants as command
 use Rattle.log_lines.specs.declared.verb.Verb.TheVariants as verb
-use Rattle.log_lines.proofs.WordLemmas.{decimal-lacks}
+use Rattle.grammar.proofs.WordLemmas.{decimal-lacks}
 use Rattle.gen_load.specs.declared.position.Position.{Position}
 use Rattle.gen_load.specs.declared.kind.Kind.{Kind}
 use Rattle.gen_load.specs.declared.kind.Kind.TheVariants as kind

@@ -129,3 +129,11 @@ letter_first (row ∷ rows) word kinds letters found = by (bytes_eq row.0 word) 
     by : (b : Bool) → bytes_eq row.0 word ≡ b → (kinds_after rows word ≡ Some kinds → 96 < get_or word 0 0) → cond b (Some row.1) (kinds_after rows word) ≡ Some kinds → 96 < get_or word 0 0
     by true same more e = subst (λ w. 96 < get_or w 0 0) ((bytes_eq-Decides row.0 word).0 same) (ltb-true 96 (get_or row.0 0 0) (and_parts (ltb 96 (get_or row.0 0 0)) (begin_with_letters rows) letters).0)
     by false same more e = more e
+
+-- and so does a word with values after it
+pub letter_of_values : (table : Table) (word : List ℕ) (texts : List (List ℕ)) (values : List Value) → begin_with_letters table ≡ true → ValuesAfter (kinds_after table word) texts values → 96 < get_or word 0 0
+letter_of_values table word texts values letters h = by (kinds_after table word) refl h
+  where
+    by : (after : Option (List Kind)) → kinds_after table word ≡ after → ValuesAfter after texts values → 96 < get_or word 0 0
+    by None none v = absurd v
+    by (Some kinds) found v = letter_first table word kinds letters found

@@ -28,6 +28,7 @@ pub use grammar::Grammar;
 pub use keyword::{Keyword, find_keyword};
 pub use kinds::{AddrClasses, Between, LongBetween, Networks, OnePeer, Payload, Random, Source};
 pub use law::{fields_have_one_value, word_limits};
+pub use nets::{read_classes, read_nets};
 pub use random::{MAX_SEEDED, MAX_WORDS_TEXT, read_words, seeded_words};
 pub use read::{read_line, read_said, read_texts};
 pub use texts::{Texts, cut_field};

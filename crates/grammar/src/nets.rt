@@ -7,7 +7,7 @@ use crate::pieces::cut_piece;
 use net_addr::{Net, NetSet};
 
 /// Reads a set of classes of addresses: `all`, or their names.
-pub(crate) fn read_classes(text: &[u8]) -> Result<NetSet, LineFault>
+pub fn read_classes(text: &[u8]) -> Result<NetSet, LineFault>
     ensures found { IfOk result (λ set. Means Classes text.now (TheNets set)) }
     ensures fault { (f : LineFault) → result ≡ Err f → IsFieldFault Classes text.now f }
 {
@@ -21,7 +21,7 @@ pub(crate) fn read_classes(text: &[u8]) -> Result<NetSet, LineFault>
 }
 
 /// Reads a set of networks: `all`, or their names, of which `unroutable` is none.
-pub(crate) fn read_nets(text: &[u8]) -> Result<NetSet, LineFault>
+pub fn read_nets(text: &[u8]) -> Result<NetSet, LineFault>
     ensures found { IfOk result (λ set. Means Nets text.now (TheNets set)) }
     ensures fault { (f : LineFault) → result ≡ Err f → IsFieldFault Nets text.now f }
 {

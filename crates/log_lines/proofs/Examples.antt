@@ -7,11 +7,11 @@ use Rattle.net_addr.specs.declared.net.Net.TheVariants.{Ipv4}
 use Rattle.peer_rec.specs.Blank.{blank_record}
 use Rattle.peer_rec.specs.declared.rec.Rec.{Rec}
 use Rattle.peer_rec.specs.declared.place.Place.TheVariants.{New, Tried}
-use Rattle.log_lines.specs.Fields.{AreAtFault, AreSeeded}
-use Rattle.log_lines.specs.Random.{seeded_words}
+use Rattle.grammar.specs.Fields.{AreAtFault, AreSeeded}
+use Rattle.grammar.specs.Random.{seeded_words}
 use Rattle.log_lines.specs.Spelling.{kinds_of, SpellsAfter}
 use Rattle.log_lines.specs.declared.command.Command.TheVariants as c
-use Rattle.log_lines.specs.declared.fault.LineFault.TheVariants as fault
+use Rattle.grammar.specs.declared.fault.LineFault.TheVariants as fault
 use Rattle.log_lines.specs.declared.verb.Verb.TheVariants as v
 use Rattle.log_lines.specs.Replies.{reply_text, place_text, numbers_text}
 use Rattle.log_lines.specs.declared.reply.Reply.TheVariants.{Now, Added, Found, Dump, Sample}

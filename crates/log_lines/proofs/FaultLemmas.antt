@@ -1,10 +1,11 @@
 -- Texts at fault have no values, and have one fault; so has a line.
 use Rattle.std.proofs.Common.{◌≡◌, ◌≢◌, ◌⊎◌, ℕ, List, [], ◌∷◌, length, get_or, drop, refl, sym, ap, subst, ◌∙◌, inl, inr, arith}
-use Rattle.log_lines.specs.Fields.{Kind, Value, AllMean, IsFirstFault, AreAtFault, fields_of}
+use Rattle.grammar.specs.Fields.{Kind, Value, AllMean, IsFirstFault, AreAtFault}
+use Rattle.grammar.specs.Words.{fields_of}
 use Rattle.log_lines.specs.Spelling.{word_of, kinds_of, values_of, Spells, HasFault}
 use Rattle.log_lines.specs.declared.command.Command.{Command}
-use Rattle.log_lines.specs.declared.fault.LineFault.{LineFault}
-use Rattle.log_lines.specs.declared.fault.LineFault.TheVariants as fault
+use Rattle.grammar.specs.declared.fault.LineFault.{LineFault}
+use Rattle.grammar.specs.declared.fault.LineFault.TheVariants as fault
 use Rattle.log_lines.specs.declared.verb.Verb.{Verb}
 use Rattle.log_lines.proofs.VerbLemmas.{same_verb}
 

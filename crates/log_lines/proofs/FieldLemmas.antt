@@ -1,8 +1,8 @@
 -- The first fault of some fields, by the field that it is in.
 use Rattle.std.proofs.Common.{◌≡◌, ℕ, List, [], ◌∷◌, Result, Ok, Err, refl, inl, inr, subst, sym, ap, ◌∙◌}
-use Rattle.log_lines.specs.Fields.{Kind, Value, Means, IsFieldFault, AreAtFault}
-use Rattle.log_lines.specs.declared.fault.LineFault.{LineFault}
-use Rattle.log_lines.specs.declared.fault.LineFault.TheVariants as fault
+use Rattle.grammar.specs.Fields.{Kind, Value, Means, IsFieldFault, AreAtFault}
+use Rattle.grammar.specs.declared.fault.LineFault.{LineFault}
+use Rattle.grammar.specs.declared.fault.LineFault.TheVariants as fault
 
 pub second_of_two : (k l : Kind) (texts : List (List ℕ)) (a b : List ℕ) (v : Value) (f : LineFault) → texts ≡ a ∷ b ∷ [] →
     Means k a v → IsFieldFault l b f → AreAtFault (k ∷ l ∷ []) texts f

@@ -1,8 +1,6 @@
 mod Examples
 pub mod Items
 pub mod Numbers
-pub mod WordLemmas
-pub mod NameLemmas
 pub mod FieldLemmas
 pub mod VerbLemmas
 pub mod FaultLemmas

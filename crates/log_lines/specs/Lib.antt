@@ -1,5 +1,3 @@
-pub mod Random
-pub mod Fields
 pub mod Spelling
 pub mod Replies
 pub mod Inside

@@ -1,11 +1,12 @@
 -- Which line parses as which command, and what is wrong in a line that parses as none.
 use Rattle.std.specs.Prelude.{◌≡◌, ◌≢◌, ◌⊎◌, ◌^◌, ◌-◌, ℕ, List, [], ◌∷◌, codes}
-use Rattle.log_lines.specs.Fields.{Kind, Number, OfAddr, OfPeer, Hex, Random, Either, Nets, Classes, Value, TheNumber, TheAddr, ThePeer, TheBytes, TheWords, TheChoice, TheNets, fields_of, AllMean, AreAtFault}
+use Rattle.grammar.specs.Fields.{u32_field, u64_field, Kind, Number, OfAddr, OfPeer, Hex, Random, Either, Nets, Classes, Value, TheNumber, TheAddr, ThePeer, TheBytes, TheWords, TheChoice, TheNets, AllMean, AreAtFault}
+use Rattle.grammar.specs.Words.{fields_of}
 use Rattle.host_io.specs.Lines.{IsPassedOver}
 use Rattle.log_lines.specs.declared.command.Command.{Command}
 use Rattle.log_lines.specs.declared.command.Command.TheVariants as c
-use Rattle.log_lines.specs.declared.fault.LineFault.{LineFault}
-use Rattle.log_lines.specs.declared.fault.LineFault.TheVariants as fault
+use Rattle.grammar.specs.declared.fault.LineFault.{LineFault}
+use Rattle.grammar.specs.declared.fault.LineFault.TheVariants as fault
 use Rattle.log_lines.specs.declared.verb.Verb.{Verb}
 use Rattle.log_lines.specs.declared.verb.Verb.TheVariants as v
 
@@ -29,13 +30,6 @@ word_of v.Save = codes "save"
 word_of v.SaveBegin = codes "save-begin"
 word_of v.SaveStep = codes "save-step"
 word_of v.SaveEnd = codes "save-end"
-
--- the numbers of 32 and of 64 bits
-abbrev pub u32_field : Kind
-u32_field = Number 0 (2 ^ 32 - 1)
-
-abbrev pub u64_field : Kind
-u64_field = Number 0 (2 ^ 64 - 1)
 
 -- the kinds of the fields after the first word
 abbrev pub kinds_of : Verb → List Kind

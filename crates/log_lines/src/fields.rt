@@ -1,17 +1,7 @@
 ghost use Rattle.std.specs.Prelude.{◌≡◌, ◌≢◌, ◌<◌, ◌≤◌, ◌↔◌, [], ◌∷◌, length, IfSome, IfNone, IsTrue};
-ghost use Rattle.log_lines.specs.Fields.{fields_of};
-ghost use Rattle.log_lines.specs.Inside.{texts_after};
+ghost use Rattle.grammar.specs.Words.{fields_of, texts_after};
 
-use crate::pieces::cut_piece;
-
-/// Returns the first field of the text, and the text after the space that ends it, if there is one.
-pub fn cut_field(text: &[u8]) -> (&[u8], Option<&[u8]>)
-    ensures cut { fields_of text.now ≡ result.0.now ∷ texts_after result.1 }
-    ensures short { length result.0.now ≤ length text.now }
-    ensures rest_short { IfSome result.1 (λ rest. length rest.now < length text.now) }
-{
-    cut_piece(text, b' ')
-}
+use grammar::cut_field;
 
 /// Returns `true` if there are no fields.
 pub(crate) fn no_fields(rest: Option<&[u8]>) -> bool

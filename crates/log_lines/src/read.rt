@@ -1,18 +1,18 @@
 ghost use Rattle.std.specs.Prelude.{◌≡◌, ◌≢◌, ◌-◌, ◌^◌, ◌≤◌, ◌↔◌, ◌⊎◌, [], ◌∷◌, length, IfOk, IfSome, Some, None, Ok, Err};
 ghost use Rattle.host_io.specs.Lines.{IsPassedOver};
-ghost use Rattle.log_lines.specs.Fields.{Number, OfAddr, OfPeer, Hex, Random, Either, TheNumber, TheAddr, ThePeer, TheBytes, TheWords, TheChoice, AllMean, AreAtFault};
-ghost use Rattle.log_lines.specs.Inside.{texts_after};
+ghost use Rattle.grammar.specs.Fields.{Number, OfAddr, OfPeer, Hex, Random, Either, TheNumber, TheAddr, ThePeer, TheBytes, TheWords, TheChoice, AllMean, AreAtFault};
+ghost use Rattle.grammar.specs.Words.{texts_after};
 ghost use Rattle.log_lines.specs.Spelling.{kinds_of, values_of, SpellsAfter, Spells, HasFault};
 ghost use Rattle.log_lines.specs.declared.command.Command.{Command};
 ghost use Rattle.log_lines.specs.declared.verb.Verb.{Verb};
 
-use crate::field::{
-    read_addr, read_either, read_number, read_payload, read_peer, read_random, read_u32,
-};
-use crate::fields::{cut_field, four_fields, no_fields, one_field, three_fields, two_fields};
-use crate::nets::{read_classes, read_nets};
+use crate::fields::{four_fields, no_fields, one_field, three_fields, two_fields};
 use crate::verb::verb_of;
 use crate::{Command, LineFault, Verb, Words};
+use grammar::{
+    cut_field, read_addr, read_classes, read_either, read_nets, read_number, read_payload,
+    read_peer, read_random, read_u32,
+};
 use host_io::{Bytes, is_passed_over};
 use net_addr::{NetAddr, Peer};
 use std::alloc::Global;

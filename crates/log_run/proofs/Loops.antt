@@ -5,7 +5,7 @@ use Rattle.std.proofs.lemmas.List.{append-nil, length-append, length-drop, take-
 use Rattle.std.proofs.Math.Seq.{drop-append-add}
 use Rattle.host_io.specs.Reading.{MovesBytes, TakesAtMost}
 use Rattle.host_io.specs.Writing.{Appended, AppendedPart}
-use Rattle.log_lines.specs.declared.fault.LineFault.{LineFault}
+use Rattle.grammar.specs.declared.fault.LineFault.{LineFault}
 use Rattle.log_run.specs.Log.{IsAtEnd}
 use Rattle.log_run.specs.Reading.{HasMore, HasNoLine, HasRead, IsLine, IsLong, Reading}
 use Rattle.log_run.specs.Reading.IsNext.{fed, last}

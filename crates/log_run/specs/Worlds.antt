@@ -1,7 +1,7 @@
 -- A run beside a world that its lines may change.
 use Rattle.std.specs.Prelude.{◌≡◌, ◌⊎◌, ℕ, List, ◌∷◌}
 use Rattle.host_io.specs.Lines.{lines_of}
-use Rattle.log_lines.specs.declared.fault.LineFault.{LineFault}
+use Rattle.grammar.specs.declared.fault.LineFault.{LineFault}
 use Rattle.log_run.specs.Run.{EndsBy, Ran, Steps, Streams}
 use Rattle.log_run.specs.declared.end.LogEnd.{LogEnd}
 use Rattle.log_run.specs.declared.end.LogEnd.TheVariants.{WriteFault, Memory}

@@ -3,7 +3,7 @@ use Rattle.std.proofs.Common.{◌≡◌, ◌⊎◌, ℕ, ◌<◌, ◌≤◌, Lis
 use Rattle.host_io.specs.Lines.{IsPassedOver}
 use Rattle.net_addr.specs.declared.peer.Peer.{Peer}
 use Rattle.table_machine.specs.Clashes.{clash_pick}
-use Rattle.log_lines.specs.Fields.{AllMean, Value, TheNumber, TheAddr, ThePeer, TheBytes, TheWords, TheChoice, TheNets}
+use Rattle.grammar.specs.Fields.{AllMean, Value, TheNumber, TheAddr, ThePeer, TheBytes, TheWords, TheChoice, TheNets}
 use Rattle.log_lines.specs.Spelling.{kinds_of, values_of, verb_of}
 use Rattle.log_lines.specs.declared.command.Command.{Command}
 use Rattle.log_lines.specs.declared.command.Command.TheVariants as c

@@ -4,7 +4,7 @@ use Rattle.std.specs.List.{join_with_byte}
 use Rattle.std.proofs.lemmas.List.Splits.{join_with_byte-slice_split}
 use Rattle.std.proofs.lemmas.Option.{none-some}
 use Rattle.host_io.specs.Lines.{IsPassedOver}
-use Rattle.log_lines.specs.Fields.{fields_of}
+use Rattle.grammar.specs.Words.{fields_of}
 use Rattle.log_lines.specs.Spelling as machine
 use Rattle.log_lines.specs.declared.command.Command.{Command}
 use Rattle.log_lines.specs.declared.command.Command.TheVariants as c

@@ -2,16 +2,17 @@
 use Rattle.std.proofs.Common.{◌≡◌, ◌≢◌, ◌⊎◌, ℕ, List, [], ◌∷◌, inl, inr, refl, sym, ap, subst, ◌∙◌, arith}
 use Rattle.host_io.specs.Lines.{IsPassedOver}
 use Rattle.net_addr.specs.declared.peer.Peer.{Peer}
-use Rattle.log_lines.specs.Fields.{Kind, OfPeer, Value, TheNumber, TheAddr, ThePeer, TheBytes, TheWords, TheChoice, TheNets, AllMean, AreAtFault, IsFirstFault, fields_of}
+use Rattle.grammar.specs.Fields.{Kind, OfPeer, Value, TheNumber, TheAddr, ThePeer, TheBytes, TheWords, TheChoice, TheNets, AllMean, AreAtFault, IsFirstFault, u32_field, u64_field}
+use Rattle.grammar.specs.Words.{fields_of}
 use Rattle.log_lines.specs.Spelling as machine
-use Rattle.log_lines.specs.Spelling.{u32_field, u64_field}
 use Rattle.log_lines.specs.declared.command.Command.{Command}
-use Rattle.log_lines.specs.declared.fault.LineFault.{LineFault}
-use Rattle.log_lines.specs.declared.fault.LineFault.TheVariants as fault
+use Rattle.grammar.specs.declared.fault.LineFault.{LineFault}
+use Rattle.grammar.specs.declared.fault.LineFault.TheVariants as fault
 use Rattle.log_lines.specs.declared.verb.Verb as machine_verb
 use Rattle.log_lines.proofs.FaultLemmas.{same_heads, same_tails, no_fault}
 use Rattle.log_lines.proofs.FaultLemmas as machine_faults
-use Rattle.log_lines.proofs.Readings.{one_command, one_value}
+use Rattle.log_lines.proofs.Readings.{one_command}
+use Rattle.grammar.proofs.Values.{one_value}
 use Rattle.log_lines.proofs.VerbLemmas.{passed_spells_none, same_verb}
 use Rattle.opener_lines.specs.Grammar.{Asks, AsksAfter, AsksOwn, HasFault, HasFaultAfter, IsOwnWord, IsSaveWord, Saves, kinds_of, word_of}
 use Rattle.opener_lines.specs.declared.request.Request.{Request}

@@ -2,7 +2,7 @@
 use Rattle.std.proofs.Common.{◌≡◌, ◌≢◌, ℕ, zero, suc, ◌%◌, ◌≤◌, arith, List, [], ◌∷◌, ◌++◌, Bool, true, false, ◌&&◌, ◌||◌, ◌==◌, Option, None, Some, if◌then◌else◌, refl, ap, ◌∙◌, sym}
 use Rattle.rand_xoshiro.specs.Xoshiro256.{plus_plus, of_seed}
 use Rattle.rand_xoshiro.specs.SplitMix64.{splitmix_seed}
-use Rattle.log_lines.specs.Random.{outputs, seeded_words}
+use Rattle.grammar.specs.Random.{outputs, seeded_words}
 use Rattle.net_addr.specs.declared.peer.Peer.{Peer}
 use Rattle.peer_rec.specs.declared.picked.Picked.{Picked}
 use Rattle.peer_rec.specs.declared.picked.Picked.TheVariants.{One, Nothing, Exhausted}

@@ -1,6 +1,6 @@
 -- Facts on results, whatever they hold.
 use Rattle.std.proofs.Common.{◌≡◌, Result, Ok, Err, ap}
-use Rattle.log_lines.specs.declared.fault.LineFault.{LineFault}
+use Rattle.grammar.specs.declared.fault.LineFault.{LineFault}
 
 fault_in : {T : Type 0} → LineFault → Result T LineFault → LineFault
 fault_in fault (Ok x) = fault

@@ -1,11 +1,11 @@
 -- Which line of an opener's log asks for what, and what is wrong in a line that asks for nothing.
 use Rattle.std.specs.Prelude.{◌≡◌, ◌⊎◌, ℕ, List, [], ◌∷◌, codes, ⊤}
 use Rattle.host_io.specs.Lines.{IsPassedOver}
-use Rattle.log_lines.specs.Fields.{Kind, OfPeer, Value, TheNumber, ThePeer, fields_of, AllMean, AreAtFault}
+use Rattle.grammar.specs.Fields.{Kind, OfPeer, Value, TheNumber, ThePeer, AllMean, AreAtFault, u32_field, u64_field}
+use Rattle.grammar.specs.Words.{fields_of}
 use Rattle.log_lines.specs.Spelling as machine
-use Rattle.log_lines.specs.Spelling.{u32_field, u64_field}
-use Rattle.log_lines.specs.declared.fault.LineFault.{LineFault}
-use Rattle.log_lines.specs.declared.fault.LineFault.TheVariants as fault
+use Rattle.grammar.specs.declared.fault.LineFault.{LineFault}
+use Rattle.grammar.specs.declared.fault.LineFault.TheVariants as fault
 use Rattle.log_lines.specs.declared.verb.Verb as machine_verb
 use Rattle.log_lines.specs.declared.verb.Verb.TheVariants as v
 use Rattle.manager.specs.Step.{SavesNothing}

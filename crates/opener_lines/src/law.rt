@@ -1,7 +1,7 @@
 ghost use Rattle.std.specs.Prelude.{◌≡◌, ◌≢◌, ℕ, ◌+◌, ◌≤◌, ◌++◌, Bool, List, codes, decimal};
 ghost use Rattle.host_io.specs.Lines.{IsPassedOver};
-ghost use Rattle.log_lines.specs.Fields.{AreWords};
-ghost use Rattle.log_lines.specs.declared.fault.LineFault.{LineFault};
+ghost use Rattle.grammar.specs.Fields.{AreWords};
+ghost use Rattle.grammar.specs.declared.fault.LineFault.{LineFault};
 ghost use Rattle.peer_open.specs.Groups.{AreApart};
 ghost use Rattle.peer_rec.specs.declared.picked.Picked.TheVariants.{Exhausted};
 ghost use Rattle.table_machine.specs.Picks.{select};

@@ -1,5 +1,5 @@
 ghost use Rattle.std.specs.Prelude.{◌≡◌, ◌≢◌, ◌+◌, ◌≤◌, ◌<◌, ◌^◌, ◌++◌, ◌⊎◌, ℕ, List, length, Err, OnOk, OnErr, IsErrOf};
-ghost use Rattle.log_lines.specs.declared.fault.LineFault.{LineFault};
+ghost use Rattle.grammar.specs.declared.fault.LineFault.{LineFault};
 ghost use Rattle.peer_open.specs.Groups.{AreApart};
 ghost use Rattle.opener_lines.specs.Grammar.{HasFault};
 ghost use Rattle.opener_lines.specs.Lines.{LeavesPart, LineStep};

@@ -1,6 +1,6 @@
 ghost use Rattle.std.specs.Prelude.{◌≡◌, ◌≢◌, ◌+◌, ◌≤◌, ◌<◌, ◌^◌, IfOk};
-ghost use Rattle.log_lines.specs.Random.{seeded_words};
-ghost use Rattle.log_lines.specs.declared.random.TheConstants.{MAX_SEEDED};
+ghost use Rattle.grammar.specs.Random.{seeded_words};
+ghost use Rattle.grammar.specs.declared.random.TheConstants.{MAX_SEEDED};
 ghost use Rattle.net_addr.specs.NetSet.{all};
 ghost use Rattle.table_machine.specs.Picks.{select};
 ghost use Rattle.opener_lines.specs.Tries.{pick_by, pick_of_feeler, pick_of_try};

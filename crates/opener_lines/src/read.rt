@@ -1,7 +1,7 @@
 ghost use Rattle.std.specs.Prelude.{◌≡◌, ◌≢◌, ◌-◌, ◌^◌, ◌≤◌, ◌⊎◌, length, IfOk, IfSome, IfNone, None, Ok, Err};
 ghost use Rattle.host_io.specs.Lines.{IsPassedOver};
-ghost use Rattle.log_lines.specs.Fields.{Number, OfPeer, TheNumber, ThePeer, Means, AreAtFault, IsFieldFault};
-ghost use Rattle.log_lines.specs.Inside.{texts_after};
+ghost use Rattle.grammar.specs.Fields.{Number, OfPeer, TheNumber, ThePeer, Means, AreAtFault, IsFieldFault};
+ghost use Rattle.grammar.specs.Words.{texts_after};
 ghost use Rattle.log_lines.specs.Spelling as machine;
 ghost use Rattle.opener_lines.specs.Grammar.{Asks, AsksAfter, HasFault, IsOwnWord, IsSaveWord, Saves, kinds_of, word_of};
 ghost use Rattle.opener_lines.specs.declared.request.Request.{Request};

@@ -1,6 +1,6 @@
 ghost use Rattle.std.specs.Prelude.{◌≡◌, ◌≤◌, ◌++◌, codes, decimal, vec_len, IfOk};
-ghost use Rattle.log_lines.specs.Random.{seeded_words};
-ghost use Rattle.log_lines.specs.declared.random.TheConstants.{MAX_SEEDED};
+ghost use Rattle.grammar.specs.Random.{seeded_words};
+ghost use Rattle.grammar.specs.declared.random.TheConstants.{MAX_SEEDED};
 ghost use Rattle.log_lines.specs.declared.read.TheConstants.{MAX_LINE};
 
 use crate::memory::Memory;

@@ -6,7 +6,7 @@ use Rattle.host_io.specs.Past.{Always, Past}
 use Rattle.log_lines.specs.Replies.{reply_text}
 use Rattle.log_lines.specs.Spelling.{Spells}
 use Rattle.log_lines.specs.declared.command.Command.{Command}
-use Rattle.log_lines.specs.declared.fault.LineFault.{LineFault}
+use Rattle.grammar.specs.declared.fault.LineFault.{LineFault}
 use Rattle.log_lines.specs.declared.reply.Reply.{Reply}
 use Rattle.session.specs.Folders.{AtMost, IsEvent, IsEventLine, LeavesPart, MayPublish, Turn, published}
 use Rattle.session.specs.Inside.{Carried}

@@ -13,7 +13,7 @@ use Rattle.addr_codecs.specs.Layout.{addr_entry, addrv2_entry, message}
 use Rattle.addr_codecs.specs.declared.fault.MsgFault.{MsgFault}
 use Rattle.addr_codecs.specs.declared.fault.MsgFault.TheVariants.{Trailing}
 use Rattle.addr_codecs.proofs.MessageLaws.{Reads-addr_entry, Reads-addrv2_entry, Reads-message}
-use Rattle.log_lines.specs.Fields.{AllMean, Hex, IsHex, OfAddr, Random, TheAddr, TheBytes, TheWords, Value}
+use Rattle.grammar.specs.Fields.{AllMean, Hex, IsHex, OfAddr, Random, TheAddr, TheBytes, TheWords, Value}
 use Rattle.log_lines.specs.Replies.{reply_text}
 use Rattle.log_lines.specs.Spelling.{Spells, kinds_of, values_of, verb_of}
 use Rattle.log_lines.specs.declared.command.Command.{Command}

@@ -1,8 +1,7 @@
 use Rattle.std.proofs.Common.{Err, ap}
 use Rattle.std.proofs.lemmas.Result.{err_from_is_err_and}
-use Rattle.log_lines.specs.Fields.{Hex, Random, TheNumber, TheBytes}
-use Rattle.log_lines.specs.Spelling.{u32_field}
-use Rattle.log_lines.specs.Inside.{texts_after}
+use Rattle.grammar.specs.Fields.{Hex, Random, TheNumber, TheBytes, u32_field}
+use Rattle.grammar.specs.Words.{texts_after}
 use Rattle.log_lines.proofs.FieldLemmas.{handed_on, second_of_three, third_of_three}
 use Rattle.addr_limit.proofs.read.message_fields.Goals as goal
 

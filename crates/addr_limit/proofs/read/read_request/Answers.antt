@@ -1,6 +1,6 @@
 use Rattle.std.proofs.Common.{[], ◌∷◌, refl, sym, subst}
-use Rattle.log_lines.specs.Fields.{TheAddr, TheBytes, TheWords, TheChoice}
-use Rattle.log_lines.specs.Inside.{texts_after}
+use Rattle.grammar.specs.Fields.{TheAddr, TheBytes, TheWords, TheChoice}
+use Rattle.grammar.specs.Words.{texts_after}
 use Rattle.addr_codecs.specs.declared.form.Form.TheVariants.{Addr, Addrv2}
 use Rattle.addr_limit.specs.Lines.{IsRead, SaysAfter}
 use Rattle.addr_limit.specs.declared.request.Request.TheVariants.{Open, Message}

@@ -1,7 +1,7 @@
 use Rattle.std.proofs.Common.{◌≡◌, ℕ, List, length, Option, Some, Bor, ap, arith}
 use Rattle.std.specs.Prelude.{◌==◌}
 use Rattle.std.proofs.lemmas.List.Splits.{length-slice_split}
-use Rattle.log_lines.specs.Inside.{texts_after}
+use Rattle.grammar.specs.Words.{texts_after}
 use Rattle.log_lines.proofs.fields.no_fields.Goals as goal
 
 -- a text after a space has a field

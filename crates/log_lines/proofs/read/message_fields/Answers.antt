@@ -1,7 +1,7 @@
 use Rattle.std.proofs.Common.{Err, ap}
 use Rattle.std.proofs.lemmas.Result.{err_from_is_err_and}
-use Rattle.log_lines.specs.Fields.{OfAddr, Hex, Random, TheAddr, TheBytes}
-use Rattle.log_lines.specs.Inside.{texts_after}
+use Rattle.grammar.specs.Fields.{OfAddr, Hex, Random, TheAddr, TheBytes}
+use Rattle.grammar.specs.Words.{texts_after}
 use Rattle.log_lines.proofs.FieldLemmas.{handed_on, second_of_three, third_of_three}
 use Rattle.log_lines.proofs.read.message_fields.Goals as goal
 

@@ -1,7 +1,7 @@
 use Rattle.std.proofs.Common.{◌-◌, ◌^◌, Err, ap}
 use Rattle.std.proofs.lemmas.Result.{err_from_is_err_and}
-use Rattle.log_lines.specs.Fields.{Number, Classes, Random, TheNumber, TheNets}
-use Rattle.log_lines.specs.Inside.{texts_after}
+use Rattle.grammar.specs.Fields.{Number, Classes, Random, TheNumber, TheNets}
+use Rattle.grammar.specs.Words.{texts_after}
 use Rattle.log_lines.proofs.FieldLemmas.{handed_on, second_of_four, third_of_four, fourth_of_four}
 use Rattle.log_lines.proofs.read.read_sample.Goals as goal
 

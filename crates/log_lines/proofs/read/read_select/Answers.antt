@@ -1,7 +1,7 @@
 use Rattle.std.proofs.Common.{Err, codes, ap}
 use Rattle.std.proofs.lemmas.Result.{err_from_is_err_and}
-use Rattle.log_lines.specs.Fields.{Either, Nets, Random, TheChoice, TheNets}
-use Rattle.log_lines.specs.Inside.{texts_after}
+use Rattle.grammar.specs.Fields.{Either, Nets, Random, TheChoice, TheNets}
+use Rattle.grammar.specs.Words.{texts_after}
 use Rattle.log_lines.proofs.FieldLemmas.{handed_on, second_of_three, third_of_three}
 use Rattle.log_lines.proofs.read.read_select.Goals as goal
 

@@ -1,7 +1,7 @@
 use Rattle.std.proofs.Common.{◌≡◌, ◌+◌, IfOk, rules, subst}
 use Rattle.net_addr.specs.NetSet.{all}
 use Rattle.table_machine.specs.Picks.{select}
-use Rattle.log_lines.specs.Random.{seeded_words}
+use Rattle.grammar.specs.Random.{seeded_words}
 use Rattle.opener_lines.specs.Tries.{pick_of_try}
 use Rattle.opener_lines.specs.declared.words.TheConstants.{TRY_WORDS}
 use Rattle.opener_lines.proofs.pick.pick_of_try.Goals as goal

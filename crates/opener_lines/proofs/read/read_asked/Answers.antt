@@ -1,5 +1,5 @@
 use Rattle.std.proofs.Common.{inl, inr, rules}
-use Rattle.log_lines.specs.Inside.{texts_after}
+use Rattle.grammar.specs.Words.{texts_after}
 use Rattle.opener_lines.proofs.Results.{same_fault}
 use Rattle.opener_lines.proofs.read.read_asked.Goals as goal
 

@@ -1,7 +1,7 @@
 use Rattle.std.proofs.Common.{◌-◌, ◌^◌, Err, ap}
 use Rattle.std.proofs.lemmas.Result.{err_from_is_err_and}
-use Rattle.log_lines.specs.Fields.{Number, TheNumber}
-use Rattle.log_lines.specs.Inside.{texts_after}
+use Rattle.grammar.specs.Fields.{Number, TheNumber}
+use Rattle.grammar.specs.Words.{texts_after}
 use Rattle.log_lines.proofs.FieldLemmas.{handed_on, second_of_two}
 use Rattle.opener_lines.proofs.read.read_feeler.Goals as goal
 

@@ -1,7 +1,7 @@
 use Rattle.std.proofs.Common.{◌∙◌, refl, inl, inr, arith}
-use Rattle.log_lines.specs.Random.{seeded_words}
+use Rattle.grammar.specs.Random.{seeded_words}
 use Rattle.opener_lines.proofs.Results.{no_fault, same_value}
-use Rattle.log_lines.specs.declared.fault.LineFault.TheVariants as fault
+use Rattle.grammar.specs.declared.fault.LineFault.TheVariants as fault
 use Rattle.opener_lines.proofs.words.seeded_words.Goals as goal
 
 pub returns-in-Ok : goal.returns-in-Ok

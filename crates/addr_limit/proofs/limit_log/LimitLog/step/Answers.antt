@@ -1,5 +1,5 @@
 use Rattle.std.proofs.Common.{◌≡◌, Err, refl, ap, inl, inr}
-use Rattle.log_lines.specs.declared.fault.LineFault.{LineFault}
+use Rattle.grammar.specs.declared.fault.LineFault.{LineFault}
 use Rattle.addr_limit.proofs.Meanings.{event_no_fault, only_that_fault}
 use Rattle.addr_limit.proofs.limit_log.LimitLog.step.Goals as goal
 
