@@ -46,7 +46,7 @@ examples: all
 	tools/examples
 
 flood: all
-	tools/flood bin/addrman bin/flood.html
+	tools/flood --still bin/flood.svg bin/addrman bin/flood.html
 
 endings: all
 	tools/endings
