@@ -5,7 +5,7 @@ from addresses import Address, Peer, address_text, peer_text
 from folder import Failed, Folder, publish, write_file
 from messages import Entry, read_message
 from peers_file import written_file
-from tables import Record, Tables
+from tables import Record, Tables, clamped
 from text import Fault, Words
 
 TABLE_LINES = {
@@ -80,7 +80,8 @@ class TableLog:
         entries = read_entries(payload, second, words)
         if isinstance(entries, str):
             return entries
-        added = sum(self.tables.add(self.now, entry, source, word) for entry, word in entries)
+        now, add = self.now, self.tables.add
+        added = sum(add(now, clamped(entry, now), source, word) for entry, word in entries)
         return f"added {added} of {len(entries)}"
 
     def line_addrv2(self, source: Address, payload: bytes, words: Words) -> str:

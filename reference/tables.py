@@ -59,9 +59,10 @@ def chance(record: Record, now: int) -> int:
     return number // 100 if now - record.last_try < 10 * MINUTE else number
 
 
-def clamped(time: int, now: int) -> int:
-    """The time of an entry as it is taken."""
-    return max(0, now - 5 * DAY) if time <= 100_000_000 or time > now + 10 * MINUTE else time
+def clamped(entry: Entry, now: int) -> Entry:
+    """An entry with its time as it is taken."""
+    fits = 100_000_000 < entry.time <= now + 10 * MINUTE
+    return entry if fits else entry._replace(time=max(0, now - 5 * DAY))
 
 
 class Tables:
@@ -154,10 +155,10 @@ class Tables:
     # News of peers.
 
     def add(self, now: int, entry: Entry, source: Address, word: int) -> bool:
-        """Takes an entry of a message; whether it got a slot."""
+        """Takes an entry of a message, with its time clamped; whether it got a slot."""
         if entry.address is None or not routable(entry.address):
             return False
-        time = clamped(entry.time, now)
+        time = entry.time
         penalty = 0 if entry.address == source else 2 * HOUR
         peer = Peer(entry.address, entry.port)
         record = self.find(peer)
@@ -171,11 +172,11 @@ class Tables:
         occupant = self.occupant(self.new, bucket, slot)
         if occupant is record:
             return False
-        if occupant is not None and not terrible(occupant, now):
-            if record.buckets or len(occupant.buckets) == 1:
-                if not record.buckets:
-                    self.delete(record)
-                return False
+        stays = occupant is not None and not terrible(occupant, now)
+        if stays and (record.buckets or len(occupant.buckets) == 1):
+            if not record.buckets:
+                self.delete(record)
+            return False
         self.clear(bucket, slot)
         self.occupy(record, bucket, slot)
         return True
@@ -309,11 +310,8 @@ class Tables:
     def sample(self, now: int, maximum: int, percent: int, classes, words: Words) -> list[Peer]:
         """Picks peers to send to another node; there are as many words as records."""
         count = len(self.order)
-        limit = count
-        if percent:
-            limit = percent * count // 100
-        if maximum:
-            limit = min(limit, maximum)
+        limit = percent * count // 100 if percent else count
+        limit = min(limit, maximum or limit)
         peers: list[Peer] = []
         for position in range(count):
             if len(peers) >= limit:
