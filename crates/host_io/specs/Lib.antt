@@ -9,4 +9,5 @@ pub mod Name
 pub mod Outside
 pub mod Past
 pub mod PerName
+pub mod Reading
 pub mod Writing
