@@ -5,6 +5,7 @@ use Rattle.net_addr.specs.Address.{IsAddress}
 use Rattle.net_addr.specs.Ranges.{is_routable}
 use Rattle.net_addr.specs.declared.net.Net.{Net}
 use Rattle.net_addr.specs.declared.net.Net.TheVariants.{Unroutable}
+use Rattle.peer_rec.specs.declared.file_rec.TheConstants.{MAX_ATTEMPTS}
 use Rattle.peer_rec.specs.declared.rec.Rec.{Rec}
 use Rattle.peer_rec.specs.declared.place.Place.{Place}
 use Rattle.peer_rec.specs.declared.place.Place.TheVariants.{New, Tried}
@@ -49,7 +50,7 @@ pub record IsRec (r : Rec) : Type 0 where
   pub last_success : r.last_success < 2 ^ 32
   pub last_try : r.last_try < 2 ^ 32
   pub last_count : r.last_count < 2 ^ 32
-  pub attempts : r.attempts ≤ 2147483647
+  pub attempts : r.attempts ≤ MAX_ATTEMPTS
   pub place : IsPlace r.place
 
 -- A record that is not worth keeping (`AddrInfo::IsTerrible`): never one tried in the last minute

@@ -1,3 +1,4 @@
+use host_io::ListOf;
 use net_addr::{NetAddr, Peer};
 
 /// Tries since the last success of a record in a file, at most.
@@ -17,3 +18,6 @@ pub struct FileRec {
     /// Tries since the last success.
     pub attempts: u32,
 }
+
+/// The records of a file in their order.
+pub type FileRecs = ListOf<FileRec>;

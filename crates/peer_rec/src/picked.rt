@@ -1,3 +1,4 @@
+use host_io::ListOf;
 use net_addr::Peer;
 
 /// What a pick from the tables gives (`AddrManImpl::Select_` in addrman.cpp of Bitcoin Core).
@@ -10,3 +11,6 @@ pub enum Picked {
     /// The random words were used up before a record was taken.
     Exhausted,
 }
+
+/// A list of peers.
+pub type Peers = ListOf<Peer>;

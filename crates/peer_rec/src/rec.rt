@@ -1,6 +1,7 @@
 ghost use Rattle.std.specs.Prelude.{◌≡◌, ◌*◌, ◌/◌, ◌^◌, min};
 
 use crate::Place;
+use host_io::ListOf;
 use net_addr::{Net, NetAddr, Peer};
 
 /// Seconds for which a record stays after it was tried.
@@ -149,3 +150,6 @@ fn parts_after(attempts: u32) -> u64
         _ => 38_659_065,
     }
 }
+
+/// A list of records.
+pub type Recs = ListOf<Rec>;

@@ -2,7 +2,8 @@ ghost use Rattle.std.specs.Prelude.{◌≡◌, ◌≤◌, ◌<◌, length, All, 
 ghost use Rattle.peer_rec.specs.declared.file_rec.TheConstants.{MAX_ATTEMPTS};
 ghost use Rattle.peer_rec.specs.declared.snapshot.TheConstants.{MAX_NEW, MAX_TRIED, MAX_BUCKETS};
 
-use crate::{FileRec, FileRecs, Pairs};
+use crate::{FileRec, FileRecs};
+use host_io::ListOf;
 use std::marker::Model;
 
 /// New records of a file, at most.
@@ -50,11 +51,11 @@ impl Snapshot {
         listed: Pairs,
         sum: [u8; 32],
     ) -> Snapshot
-        requires few_new { length new_recs ≤ MAX_NEW }
-        requires few_tried { length tried_recs ≤ MAX_TRIED }
-        requires new_attempts { All (λ r. r.attempts ≤ MAX_ATTEMPTS) new_recs }
+        requires few_new { length new_recs ≤ 65536 }
+        requires few_tried { length tried_recs ≤ 16384 }
+        requires new_attempts { All (λ r. r.attempts ≤ 2147483647) new_recs }
         requires tried_attempts { All (λ r. r.attempts ≤ MAX_ATTEMPTS) tried_recs }
-        requires few_buckets { bucket_count ≤ MAX_BUCKETS }
+        requires few_buckets { bucket_count ≤ 65536 }
         requires buckets { All (λ pair. pair.0 < bucket_count) listed }
         requires indexes { All (λ pair. pair.1 < length new_recs) listed }
         requires rising { AllPairs (λ pair later. pair.0 ≤ later.0) listed }
@@ -81,8 +82,8 @@ impl Snapshot {
     /// Returns the new records.
     pub fn new_recs(&self) -> &[FileRec]
         ensures found { result.now ≡ self.now.new_recs }
-        ensures few { length result.now ≤ 65536 }
-        ensures attempts { All (λ r. r.attempts ≤ 2147483647) result.now }
+        ensures few { length result.now ≤ MAX_NEW }
+        ensures attempts { All (λ r. r.attempts ≤ MAX_ATTEMPTS) result.now }
     {
         self.new_recs.items()
     }
@@ -90,7 +91,7 @@ impl Snapshot {
     /// Returns the tried records.
     pub fn tried_recs(&self) -> &[FileRec]
         ensures found { result.now ≡ self.now.tried_recs }
-        ensures few { length result.now ≤ 16384 }
+        ensures few { length result.now ≤ MAX_TRIED }
         ensures attempts { All (λ r. r.attempts ≤ MAX_ATTEMPTS) result.now }
     {
         self.tried_recs.items()
@@ -99,7 +100,7 @@ impl Snapshot {
     /// Returns how many buckets the new table has.
     pub fn bucket_count(&self) -> u32
         ensures found { result ≡ self.now.bucket_count }
-        ensures few { result ≤ 65536 }
+        ensures few { result ≤ MAX_BUCKETS }
     {
         self.bucket_count
     }
@@ -122,3 +123,6 @@ impl Snapshot {
         self.sum
     }
 }
+
+/// Buckets of the new table, each with the index of a new record that it lists.
+pub type Pairs = ListOf<(u32, u32)>;

@@ -1,5 +1,0 @@
-use crate::Rec;
-use host_io::ListOf;
-
-/// A list of records.
-pub type Recs = ListOf<Rec>;
