@@ -15,7 +15,7 @@ use std::marker::Model;
 pub struct BitFront {
     /// The whole bytes, the last first.
     bytes: Vec<u8>,
-    /// The bits before them, the first as the lowest.
+    /// The bits before those of the whole bytes; the first is the lowest.
     rest: u8,
     /// The number of bits in `rest`, 0 to 7.
     rest_len: u32,

@@ -1,30 +1,28 @@
 ghost use Rattle.bit_code.specs.Coder.{HasValue};
 
-use bit_code::{BitOut, Bits, Coder, read_number};
+use bit_code::{BitFront, Bits, Coder, read_number};
 use std::test::Fail;
 
-/// Appends the spelling of a value of the coder.
-fn put(out: &mut BitOut, coder: Coder, value: u32) -> Result<(), Fail>
+/// Puts the spelling of a value of the coder before the bits that are there.
+fn put(out: &mut BitFront, coder: Coder, value: u32) -> Result<(), Fail>
     requires { HasValue coder value }
 {
-    out.put_number(coder, value).ok().ok_or("no memory")?;
+    out.put_number_front(coder, value).ok().ok_or("no memory")?;
     Ok(())
 }
 
 /// A jump over a return of 1 and then a return of 2: the file of `::/1 AS1` and `8000::/1 AS2`.
 #[test]
 #[tactic(auto, unfolding(bit_code::specs::Coder::sizes, bit_code::specs::Coder::values_of))]
-fn a_file_is_written_number_by_number(rt: HostRuntime) -> Result<(), Fail> {
-    let mut left = BitOut::make(rt.alloc());
-    put(&mut left, Coder::Kind, 0)?;
-    put(&mut left, Coder::Asn, 1)?;
-    assert_eq!(rt; left.len(), 17);
-    let mut out = BitOut::make(rt.alloc());
-    put(&mut out, Coder::Kind, 1)?;
-    put(&mut out, Coder::Jump, 17)?;
-    out.put_out(&left).ok().ok_or("no memory")?;
-    put(&mut out, Coder::Kind, 0)?;
+fn a_file_is_written_from_its_end(rt: HostRuntime) -> Result<(), Fail> {
+    let mut out = BitFront::make(rt.alloc());
     put(&mut out, Coder::Asn, 2)?;
+    put(&mut out, Coder::Kind, 0)?;
+    put(&mut out, Coder::Asn, 1)?;
+    put(&mut out, Coder::Kind, 0)?;
+    assert_eq!(rt; out.len(), 34);
+    put(&mut out, Coder::Jump, 17)?;
+    put(&mut out, Coder::Kind, 1)?;
     assert_eq!(rt; out.len(), 42);
     let file = out.into_bytes();
     assert_eq!(rt; file.as_slice(), [0x01, 0, 0, 0, 0, 0x02].as_slice());
@@ -45,21 +43,16 @@ fn a_file_is_read_number_by_number(rt: HostRuntime) -> Result<(), Fail> {
     Ok(())
 }
 
-/// Bits are doubled until they fill more than a megabyte, and a number is written after them.
+/// Numbers of 16 bits fill more than a megabyte.
 #[test]
 #[tactic(auto, unfolding(bit_code::specs::Coder::sizes, bit_code::specs::Coder::values_of))]
 fn many_bits_are_written(rt: HostRuntime) -> Result<(), Fail> {
-    let mut out = BitOut::make(rt.alloc());
-    put(&mut out, Coder::Asn, 1)?;
-    for _ in 0..20 {
-        let mut twice = BitOut::make(rt.alloc());
-        twice.put_out(&out).ok().ok_or("no memory")?;
-        twice.put_out(&out).ok().ok_or("no memory")?;
-        out = twice;
+    let mut out = BitFront::make(rt.alloc());
+    for _ in 0..600_000 {
+        put(&mut out, Coder::Asn, 1)?;
     }
-    put(&mut out, Coder::Asn, 1)?;
-    assert_eq!(rt; out.len(), (16 << 20) + 16);
+    assert_eq!(rt; out.len(), 9_600_000);
     let file = out.into_bytes();
-    assert_eq!(rt; file.len(), (2 << 20) + 2);
+    assert_eq!(rt; file.len(), 1_200_000);
     Ok(())
 }
