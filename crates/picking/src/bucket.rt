@@ -1,17 +1,31 @@
-ghost use Rattle.std.specs.Prelude.{◌≡◌, ◌+◌, ◌*◌, ◌-◌, ◌<◌, ◌≤◌, Some, IsSome, option_map};
+ghost use Rattle.std.specs.Prelude.{◌≡◌, ℕ, ◌<◌, ◌≤◌, IfSome, IfNone, ◌+◌, ◌*◌, ◌-◌, Some, IsSome, option_map};
+ghost use Rattle.std.specs.Int.{bit_at};
 ghost use Rattle.table_machine.specs.Picks.{bucket_count, first_candidate, occupant_at};
 ghost use Rattle.picking.specs.Inside.{candidate_in, IsMask};
+ghost use Rattle.slot_grid.specs.declared.sizes.TheConstants.{SLOTS};
 
-use crate::mask::next_set;
 use net_addr::NetSet;
 use peer_rec::Rec;
+use slot_grid::SLOTS;
 use std::hash::BuildHasher;
 use std::sync::ledger::Ledger;
 use steps::Steps;
 use tables::{Tables, is_wanted};
 
-/// The slots of a bucket (`ADDRMAN_BUCKET_SIZE` in addrman_impl.h of Bitcoin Core).
-pub(crate) const SLOT_COUNT: u8 = 64;
+/// Returns the first set bit of a mask in `from..to`, or `None` if no bit there is set.
+fn next_set(mask: u64, from: u8, to: u8) -> Option<u8>
+    requires { to ≤ 64 }
+    ensures within { IfSome result (λ at. (from ≤ at) × (at < to)) }
+    ensures set { IfSome result (λ at. bit_at mask at ≡ 1) }
+    ensures first { IfSome result (λ at. (i : ℕ) → from ≤ i → i < at → bit_at mask i ≡ 0) }
+    ensures none { IfNone result ((i : ℕ) → from ≤ i → i < to → bit_at mask i ≡ 0) }
+{
+    if from >= to {
+        return None;
+    }
+    let at = from + (mask >> from).trailing_zeros() as u8;
+    if at < to { Some(at) } else { None }
+}
 
 /// Returns which slots of a bucket are occupied, of the new table or of the tried table.
 fn mask_of<H: BuildHasher, L: Ledger>(
@@ -40,7 +54,7 @@ fn occupant<'t, H: BuildHasher, L: Ledger>(
     steps: &mut Steps<L>,
 ) -> &'t Rec
     requires bucket { bucket < bucket_count in_new }
-    requires slot { slot < 64 }
+    requires slot { slot < SLOTS }
     requires occupied { IsSome (occupant_at tables.now in_new bucket slot) }
     ensures record { occupant_at tables.now in_new bucket slot ≡ Some result.now }
     ensures steps { steps.new ≤ steps.old + 2 }
@@ -68,7 +82,7 @@ fn candidate_in<'t, H: BuildHasher, L: Ledger>(
     requires bucket { bucket < bucket_count in_new }
     requires mask { IsMask (occupant_at tables.now in_new bucket) mask }
     requires order { from ≤ to }
-    requires slots { to ≤ 64 }
+    requires slots { to ≤ SLOTS }
     ensures found { option_map (λ r. r.now) result
         ≡ candidate_in tables.now in_new nets bucket from (to - from) }
     ensures steps { steps.new ≤ steps.old + 2 * (to - from) }
@@ -94,13 +108,13 @@ pub(crate) fn first_candidate<'t, H: BuildHasher, L: Ledger>(
     steps: &mut Steps<L>,
 ) -> Option<&'t Rec>
     requires bucket { bucket < bucket_count in_new }
-    requires slot { start < 64 }
+    requires slot { start < SLOTS }
     ensures found { option_map (λ r. r.now) result
         ≡ first_candidate tables.now in_new nets bucket start }
     ensures steps { steps.new ≤ steps.old + 129 }
 {
     let mask = mask_of(tables, in_new, bucket, steps);
-    match candidate_in(tables, in_new, nets, bucket, mask, start, SLOT_COUNT, steps) {
+    match candidate_in(tables, in_new, nets, bucket, mask, start, SLOTS, steps) {
         Some(rec) => Some(rec),
         None => candidate_in(tables, in_new, nets, bucket, mask, 0, start, steps),
     }

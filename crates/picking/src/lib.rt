@@ -3,16 +3,9 @@
 #![tactic(auto)]
 
 mod bucket;
-mod eligible;
-mod fault;
-mod limit;
-mod mask;
-mod position;
 mod sampling;
 mod search;
-mod selection;
 
-pub use fault::SampleFault;
 pub use peer_rec::{Peers, Picked};
-pub use sampling::sample;
-pub use selection::select;
+pub use sampling::{SampleFault, sample};
+pub use search::select;

@@ -1,16 +1,92 @@
-ghost use Rattle.std.specs.Prelude.{◌≡◌, ◌<◌, ◌≤◌, ◌^◌, ℕ, length, Err, IfOk, OnOk, OnErr, vec_len, vec_capacity};
-ghost use Rattle.table_machine.specs.Picks.{sample, sample_from};
+ghost use Rattle.std.specs.Prelude.{◌≡◌, ◌≤◌, length, ◌+◌, ◌-◌, ◌%◌, ◌<◌, option_to_list, ◌^◌, ℕ, Err, IfOk, OnOk, OnErr, vec_len, vec_capacity};
+ghost use Rattle.picking.specs.declared.sampling.SampleFault.{SampleFault};
+ghost use Rattle.table_machine.specs.Picks.{is_eligible, sample_limit, eligible_at, order_swap, sample, sample_from};
 ghost use Rattle.table_machine.specs.Sound.{IsSound};
 
-use crate::limit::{count_of, sample_limit};
-use crate::position::select_at;
-use crate::{Peers, SampleFault};
+use crate::Peers;
 use net_addr::{NetSet, Peer};
-use std::alloc::Global;
+use peer_rec::Rec;
+use std::alloc::{AllocError, Global};
 use std::hash::BuildHasher;
 use std::sync::ledger::Ledger;
 use steps::Steps;
 use tables::Tables;
+
+/// Why there is no sample.
+#[derive(Clone, Copy, Debug, PartialEq, Eq)]
+pub enum SampleFault {
+    /// There are fewer random words than records: how many records there are (`need`), and how
+    /// many words (`have`).
+    ShortWords { need: u32, have: u32 },
+    /// Out of memory.
+    Memory,
+}
+
+impl From<AllocError> for SampleFault {
+    ghost from_gives = { λ _ fault. fault ≡ SampleFault.Memory };
+
+    fn from(_error: AllocError) -> SampleFault {
+        SampleFault::Memory
+    }
+}
+
+/// Returns `true` if a record may be announced, at a time in seconds since 1970: its class is in
+/// the set, and it is not terrible.
+fn is_eligible(classes: NetSet, now: u32, rec: &Rec) -> bool
+    ensures { result ≡ is_eligible classes now rec.now }
+{
+    classes.has(rec.peer.addr.net_class()) && !rec.terrible(now)
+}
+
+/// Returns the number of records.
+fn count_of<H: BuildHasher>(tables: &Tables<'_, H>) -> u32
+    ensures count { result ≡ length tables.now.order }
+    ensures sound { IsSound tables.now }
+{
+    let counts = tables.counts();
+    counts.new_count + counts.tried_count
+}
+
+/// Returns how many peers a sample of `count` records may have: at most `most`, and at most
+/// `percent` percent of the records. For both, 0 is no limit.
+fn sample_limit(count: u32, most: u32, percent: u32) -> u32
+    requires percent { percent ≤ 100 }
+    ensures limit { result ≡ sample_limit count most percent }
+    ensures few { result ≤ count }
+{
+    let part = if percent == 0 {
+        count
+    } else {
+        (u64::from(percent) * u64::from(count) / 100) as u32
+    };
+    if most == 0 { part } else { most.min(part) }
+}
+
+/// Exchanges a position of the order with one that the random word selects, itself or a later one.
+/// Returns the peer that is there then, if its record is eligible.
+fn select_at<H: BuildHasher, L: Ledger>(
+    tables: &mut Tables<'_, H>,
+    classes: NetSet,
+    now: u32,
+    position: usize,
+    word: u64,
+    steps: &mut Steps<L>,
+) -> Option<Peer>
+    requires { position < length tables.old.order }
+    ensures state { tables.new ≡ order_swap tables.old position
+        (position + word % (length tables.old.order - position)) }
+    ensures eligible { option_to_list result ≡ eligible_at tables.new classes now position }
+    ensures sound { IsSound tables.new }
+{
+    let left = (tables.len() - position) as u64;
+    tables.order_swap(position, position + (word % left) as usize, steps);
+    let rec = tables.order_at(position, steps);
+    if is_eligible(classes, now, rec) {
+        Some(rec.peer)
+    } else {
+        None
+    }
+}
 
 /// Appends the peers that the random words select, from the first position of the order on, until
 /// there are `limit`. The list has room for them.

@@ -1,18 +1,16 @@
-ghost use Rattle.std.specs.Prelude.{◌≡◌, ◌+◌, ◌*◌, ◌≤◌, ◌^◌, length, option_map};
-ghost use Rattle.table_machine.specs.Picks.{candidate, candidates, first_accepted, first_factor, is_accepted, next_factor};
+ghost use Rattle.std.specs.Prelude.{◌≡◌, ◌+◌, ◌*◌, ◌≤◌, ◌^◌, length, option_map, ◌/◌};
+ghost use Rattle.table_machine.specs.Picks.{candidate, candidates, first_accepted, first_factor, is_accepted, next_factor, candidates_of, candidates_of_either, select};
+ghost use Rattle.peer_rec.specs.declared.picked.Picked.TheVariants.{Exhausted};
 
-use crate::bucket::{SLOT_COUNT, first_candidate};
+use crate::bucket::first_candidate;
 use net_addr::NetSet;
 use peer_rec::{Picked, Rec};
+use slot_grid::{NEW_BUCKETS, SLOTS, TRIED_BUCKETS};
 use std::hash::BuildHasher;
 use std::sync::ledger::Ledger;
 use steps::Steps;
 use tables::Tables;
 
-/// The buckets of the new table (`ADDRMAN_NEW_BUCKET_COUNT` in addrman_impl.h of Bitcoin Core).
-const NEW_BUCKETS: u64 = 1024;
-/// The buckets of the tried table (`ADDRMAN_TRIED_BUCKET_COUNT`).
-const TRIED_BUCKETS: u64 = 256;
 /// Chances and factors are in parts of this number.
 const PARTS: u64 = 1 << 30;
 /// The maximum of the factor.
@@ -32,8 +30,15 @@ fn candidate<'t, H: BuildHasher, L: Ledger>(
     ensures steps { steps.new ≤ steps.old + 129 }
 {
     let buckets = if in_new { NEW_BUCKETS } else { TRIED_BUCKETS };
-    let slot = (start % u64::from(SLOT_COUNT)) as u8;
-    first_candidate(tables, in_new, nets, (bucket % buckets) as u16, slot, steps)
+    let slot = (start % u64::from(SLOTS)) as u8;
+    first_candidate(
+        tables,
+        in_new,
+        nets,
+        (bucket % u64::from(buckets)) as u16,
+        slot,
+        steps,
+    )
 }
 
 /// Returns `true` if a random word accepts a record, by its chance times the factor.
@@ -55,7 +60,7 @@ fn next_factor(factor: u64) -> u64
 
 /// Searches one table, at a time in seconds since 1970. Each round selects a bucket and a slot by
 /// two random words. If it has a candidate, a third word accepts or refuses it.
-pub(crate) fn search<H: BuildHasher, L: Ledger>(
+fn search<H: BuildHasher, L: Ledger>(
     tables: &Tables<'_, H>,
     in_new: bool,
     nets: NetSet,
@@ -83,4 +88,54 @@ pub(crate) fn search<H: BuildHasher, L: Ledger>(
         }
     }
     Picked::Exhausted
+}
+
+/// Searches the new table if the first random word is even, and else the tried table.
+fn search_either<H: BuildHasher, L: Ledger>(
+    tables: &Tables<'_, H>,
+    nets: NetSet,
+    words: &[u64],
+    now: u32,
+    steps: &mut Steps<L>,
+) -> Picked
+    ensures picked { result
+        ≡ first_accepted now first_factor (candidates_of_either tables.now nets words.now) }
+    ensures steps { steps.new ≤ steps.old + 65 * length words.now }
+{
+    match words {
+        [] => Picked::Exhausted,
+        [word, rest @ ..] => search(tables, word % 2 == 0, nets, rest, now, steps),
+    }
+}
+
+/// Returns a peer to connect to whose network is in a set, at a time in seconds since 1970; with
+/// `new_only`, one of the new table. Random words select the table, if both have wanted records,
+/// and then buckets and slots, and they accept a record by its chance (`AddrManImpl::Select_` in
+/// addrman.cpp of Bitcoin Core). A record whose address is not routable counts for
+/// `Net::Unroutable`. `Nothing` comes if no record is wanted, and `Exhausted` if the words run out.
+#[tactic(auto, using(table_machine::proofs::Refusals::few_refusals))]
+pub fn select<H: BuildHasher, L: Ledger>(
+    tables: &Tables<'_, H>,
+    new_only: bool,
+    nets: NetSet,
+    words: &[u64],
+    now: u32,
+    steps: &mut Steps<L>,
+) -> Picked
+    ensures picked { result ≡ select tables.now new_only nets words.now now }
+    ensures few { result ≡ Exhausted
+        → length (candidates_of tables.now new_only nets words.now) ≤ 44 }
+    ensures steps { steps.new ≤ steps.old + 4 + 130 * (length words.now / 2 + 1) }
+{
+    let (new, tried) = tables.wanted(nets);
+    if new_only || tried == 0 {
+        if new == 0 {
+            return Picked::Nothing;
+        }
+        return search(tables, true, nets, words, now, steps);
+    }
+    if new == 0 {
+        return search(tables, false, nets, words, now, steps);
+    }
+    search_either(tables, nets, words, now, steps)
 }

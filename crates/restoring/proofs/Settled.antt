@@ -154,20 +154,22 @@ module _ (places : Places) (recs : List Rec) (news : ℕ) (slots : Slots) (plan 
       next = refl;
       nothing_waits = refl;
       last_good = refl;
-      index = is-order;
-      recs =
-          subst (IsPermutation (filter (stays news) recs)) (sym (records-are order))
-          (subst (λ rs. IsPermutation rs (map (rec_at recs) order)) (by-numbers (filter (stays news) recs) (λ r c. (Contains-from_filter (stays news) recs r c).0))
-          (IsPermutation-map (rec_at recs) (map (λ (r : Rec). r.number) (filter (stays news) recs)) order sound.order));
-      numbers = ap (map (λ (r : Rec). r.number)) (records-are order) ∙ numbers-of order (λ n c. c);
-      new = λ b s low small. ap (rec_by (filled ids recs order)) (news_are b s)
-          ∙ slot-is (is_new_at places b s) (new_id slots b s) (plan.new b s low small) (sound.new_slots b s) (new-stays b s);
-      new_none = λ b s low small none. news_are b s
-          ∙ slot-none (is_new_at places b s) (new_id slots b s) (plan.new b s low small) (sound.new_slots b s) (new-stays b s) none;
-      tried = λ b s low small. ap (rec_by (filled ids recs order)) (trieds_are b s)
-          ∙ slot-is (is_tried_at places b s) (tried_id slots b s) (plan.tried b s low small) (sound.tried_slots b s) (tried-stays b s);
-      tried_none = λ b s low small none. trieds_are b s
-          ∙ slot-none (is_tried_at places b s) (tried_id slots b s) (plan.tried b s low small) (sound.tried_slots b s) (tried-stays b s) none;
+      belong = record {
+        index = is-order;
+        recs =
+            subst (IsPermutation (filter (stays news) recs)) (sym (records-are order))
+            (subst (λ rs. IsPermutation rs (map (rec_at recs) order)) (by-numbers (filter (stays news) recs) (λ r c. (Contains-from_filter (stays news) recs r c).0))
+            (IsPermutation-map (rec_at recs) (map (λ (r : Rec). r.number) (filter (stays news) recs)) order sound.order));
+        numbers = ap (map (λ (r : Rec). r.number)) (records-are order) ∙ numbers-of order (λ n c. c);
+        new = λ b s low small. ap (rec_by (filled ids recs order)) (news_are b s)
+            ∙ slot-is (is_new_at places b s) (new_id slots b s) (plan.new b s low small) (sound.new_slots b s) (new-stays b s);
+        new_none = λ b s low small none. news_are b s
+            ∙ slot-none (is_new_at places b s) (new_id slots b s) (plan.new b s low small) (sound.new_slots b s) (new-stays b s) none;
+        tried = λ b s low small. ap (rec_by (filled ids recs order)) (trieds_are b s)
+            ∙ slot-is (is_tried_at places b s) (tried_id slots b s) (plan.tried b s low small) (sound.tried_slots b s) (tried-stays b s);
+        tried_none = λ b s low small none. trieds_are b s
+            ∙ slot-none (is_tried_at places b s) (tried_id slots b s) (plan.tried b s low small) (sound.tried_slots b s) (tried-stays b s) none;
+      };
     }
 
 -- the state when all turns are over, by the order that is left

@@ -10,6 +10,7 @@ use Rattle.slot_grid.specs.Slots.{Slots, new_id, tried_id}
 use Rattle.table_machine.specs.State.{State, is_new_at, is_tried_at}
 use Rattle.table_machine.specs.Restoring.{appended, drop_all, give_if_empty, place_all, uses_buckets}
 use Rattle.restoring.specs.declared.plan.Plan.{Plan}
+use Rattle.slot_grid.specs.declared.sizes.TheConstants.{NEW_BUCKETS, TRIED_BUCKETS, SLOTS}
 
 -- the state of some records in the order of their numbers
 abbrev pub state_of : Places → List Rec → State
@@ -26,10 +27,10 @@ state_of places recs = record {
 -- whose number is below `news` are not in the tried table.
 pub record IsPlan (places : Places) (recs : List Rec) (news : ℕ) (slots : Slots) : Type 0 where
   pub numbers : map (λ r. r.number) recs ≡ range_with_len 0 (length recs)
-  pub new : (bucket slot : ℕ) → bucket < 1024 → slot < 64
+  pub new : (bucket slot : ℕ) → bucket < NEW_BUCKETS → slot < SLOTS
       → new_id slots bucket slot
       ≡ option_map (λ r. r.number) (find (is_new_at places bucket slot) recs)
-  pub tried : (bucket slot : ℕ) → bucket < 256 → slot < 64
+  pub tried : (bucket slot : ℕ) → bucket < TRIED_BUCKETS → slot < SLOTS
       → tried_id slots bucket slot
       ≡ option_map (λ r. r.number) (find (is_tried_at places bucket slot) recs)
   pub most : news ≤ length recs

@@ -2,15 +2,12 @@
 #![tactic(auto)]
 
 mod duplicates;
-mod fill;
-mod memory;
 mod number_order;
 mod parts;
 mod plan;
 mod restore_fault;
 
-pub use memory::Memory;
 pub(crate) use number_order::NumberOrder;
 pub use parts::{Parts, restore};
 pub(crate) use plan::Plan;
-pub use restore_fault::RestoreFault;
+pub use restore_fault::{Memory, RestoreFault};

@@ -1,15 +1,17 @@
-ghost use Rattle.std.specs.Prelude.{◌≡◌, ◌+◌, ◌*◌, ◌≤◌, length, IfOk, IfErr, OnOk, None, []};
+ghost use Rattle.std.specs.Prelude.{◌≡◌, ◌+◌, ◌*◌, ◌≤◌, length, IfOk, IfErr, OnOk, None, [], ◌<◌, ◌^◌, All, vec_len};
 ghost use Rattle.placing.specs.Places.{IsPlaces};
 ghost use Rattle.table_machine.specs.Restoring.{duplicate, restored};
 ghost use Rattle.table_machine.specs.Sound.{IsSound};
 ghost use Rattle.restoring.specs.Planned.{IsPlanned, settled};
 ghost use Rattle.restoring.specs.Restored.{ArePartsOf, IsCause};
+ghost use Rattle.slot_grid.specs.declared.sizes.TheConstants.{ALL_SLOTS};
+ghost use Rattle.peer_index.specs.Order.{IsOrder};
+ghost use Rattle.restoring.specs.Filled.{HasApart, filled};
 
 use crate::duplicates::duplicate;
-use crate::fill::fill;
 use crate::{Memory, Plan, RestoreFault};
 use peer_index::PeerIndex;
-use peer_rec::Snapshot;
+use peer_rec::{Rec, Snapshot};
 use placing::Placer;
 use slot_grid::Grid;
 use std::alloc::Global;
@@ -42,7 +44,7 @@ pub fn restore<'a, H: BuildHasher + Drop, L: Ledger>(
     ensures no_duplicate { IfOk result (λ parts. duplicate snap.now ≡ None) }
     ensures cause { IfErr result (IsCause snap.now) }
     ensures steps { steps.new ≤ steps.old + 2 * length snap.now.new_recs
-        + 4 * length snap.now.tried_recs + 4 * length snap.now.listed + 81920 }
+        + 4 * length snap.now.tried_recs + 4 * length snap.now.listed + 2 * ALL_SLOTS }
 {
     // Its clause on the key says what holds of every placer.
     let _ = placer.key();
@@ -74,7 +76,7 @@ fn final_plan<'a, H: BuildHasher, L: Ledger>(
     ensures no_duplicate { IfOk result (λ plan. duplicate snap.now ≡ None) }
     ensures cause { IfErr result (IsCause snap.now) }
     ensures steps { steps.new ≤ steps.old + 2 * length snap.now.new_recs
-        + 4 * length snap.now.tried_recs + 4 * length snap.now.listed + 81920 }
+        + 4 * length snap.now.tried_recs + 4 * length snap.now.listed + 2 * ALL_SLOTS }
 {
     // Its clause on the key says what holds of every snapshot.
     let _ = snap.key();
@@ -101,10 +103,42 @@ fn settle<H: BuildHasher, L: Ledger>(
     requires empty { index.old ≡ [] }
     ensures parts { OnOk result (ArePartsOf (settled plan.old)
         plan.new.placer plan.new.grid index.new (length plan.new.recs.items)) }
-    ensures steps { steps.new ≤ steps.old + 81920 }
+    ensures steps { steps.new ≤ steps.old + 2 * ALL_SLOTS }
 {
     let order = plan.order(alloc)?;
     let ids = fill(alloc, plan.recs.as_slice(), order.numbers(), index, steps)?;
-    plan.grid.renumber(ids.as_slice());
+    plan.grid.renumber(ids.as_slice(), steps);
     Ok(())
+}
+
+/// Adds the records of an order of numbers to an empty index, where a record's number is its
+/// position in the list. Returns their ids by number.
+fn fill<H: BuildHasher, L: Ledger>(
+    alloc: Global,
+    recs: &[Rec],
+    order: &[usize],
+    index: &mut PeerIndex<H>,
+    steps: &mut Steps<L>,
+) -> Result<Vec<usize>, Memory>
+    requires empty { index.old ≡ [] }
+    requires within { All (λ n. n < length recs.now) order.now }
+    requires apart { HasApart recs.now order.now }
+    requires few { length order.now < 2 ^ 31 }
+    ensures filled { IfOk result (λ ids. index.new ≡ filled ids.items recs.now order.now) }
+    ensures order { IfOk result (λ ids. IsOrder index.new) }
+    ensures steps { steps.new ≤ steps.old + length order.now }
+{
+    let mut ids = zeros(alloc, recs.len())?;
+    for number in order {
+        let id = index.add(recs[*number].copy(), steps)?;
+        ids[*number] = id;
+    }
+    Ok(ids)
+}
+
+/// Returns a list of zeros.
+fn zeros(alloc: Global, count: usize) -> Result<Vec<usize>, Memory>
+    ensures { IfOk result (λ v. vec_len v ≡ count) }
+{
+    Ok(vec![in alloc; 0usize; count]?)
 }

@@ -2,11 +2,12 @@ ghost use Rattle.std.specs.Prelude.{◌≡◌, ◌<◌, ◌==◌, ◌||◌, leng
 ghost use Rattle.net_addr.specs.Ranges.{is_valid};
 ghost use Rattle.peer_rec.specs.Rec.{buckets_of};
 ghost use Rattle.table_machine.specs.Restoring.{record_of, uses_buckets};
+ghost use Rattle.slot_grid.specs.declared.sizes.TheConstants.{NEW_BUCKETS};
 
 use crate::{Memory, NumberOrder};
 use peer_rec::{Buckets, FileRec, Place, Rec, Snapshot};
 use placing::Placer;
-use slot_grid::Grid;
+use slot_grid::{Grid, NEW_BUCKETS};
 use std::alloc::Global;
 use std::sync::ledger::Ledger;
 use steps::Steps;
@@ -14,8 +15,6 @@ use steps::Steps;
 /// The buckets that list a record, at most (`ADDRMAN_NEW_BUCKETS_PER_ADDRESS` in addrman_impl.h of
 /// Bitcoin Core).
 const MAX_LISTS: usize = 8;
-/// The buckets of the new table (`ADDRMAN_NEW_BUCKET_COUNT` in addrman_impl.h of Bitcoin Core).
-const NEW_BUCKETS: u32 = 1024;
 
 /// Tables that are being restored, from which no record is deleted yet. The number of a record is
 /// its position, and each slot has the number of the record in it.
@@ -170,7 +169,7 @@ impl<'a> Plan<'a> {
         steps: &mut Steps<L>,
     )
         requires plan { IsPlanned self.old }
-        requires buckets { are_used ≡ true → All (λ pair. pair.0 < 1024) listed.now }
+        requires buckets { are_used ≡ true → All (λ pair. pair.0 < NEW_BUCKETS) listed.now }
         requires indexes { All (λ pair. pair.1 < self.old.news) listed.now }
         ensures plan { IsPlanned self.new }
         ensures state { state_by self.new ≡ place_all are_used (state_by self.old) listed.now }
@@ -218,7 +217,7 @@ impl<'a> Plan<'a> {
     /// Gives the record at an index a bucket if the slot there is empty, and returns whether it is.
     fn give_if_empty<L: Ledger>(&mut self, index: usize, bucket: u16, steps: &mut Steps<L>) -> bool
         requires plan { IsPlanned self.old }
-        requires bucket { bucket < 1024 }
+        requires bucket { bucket < NEW_BUCKETS }
         requires room { IsSomeAnd (slice_get self.old.recs.items index) HasSpace }
         ensures plan { IsPlanned self.new }
         ensures given { (r : Rec) (other : State) → slice_get self.old.recs.items index ≡ Some r
@@ -256,7 +255,7 @@ impl<'a> Plan<'a> {
         steps: &mut Steps<L>,
     ) -> bool
         requires plan { IsPlanned self.old }
-        requires bucket { are_used ≡ true → bucket < 1024 }
+        requires bucket { are_used ≡ true → bucket < NEW_BUCKETS }
         requires room { IsSomeAnd (slice_get self.old.recs.items index) HasSpace }
         ensures plan { IsPlanned self.new }
         ensures given { (r : Rec) (other : State) → slice_get self.old.recs.items index ≡ Some r
@@ -288,7 +287,7 @@ impl<'a> Plan<'a> {
         steps: &mut Steps<L>,
     )
         requires plan { IsPlanned self.old }
-        requires bucket { are_used ≡ true → bucket < 1024 }
+        requires bucket { are_used ≡ true → bucket < NEW_BUCKETS }
         requires index { index < self.old.news }
         ensures plan { IsPlanned self.new }
         ensures state { state_by self.new
@@ -316,9 +315,9 @@ impl<'a> Plan<'a> {
 /// asmap is the same.
 fn uses_buckets(snap: &Snapshot, placer: &Placer) -> bool
     ensures used { result ≡ uses_buckets snap.now placer.now }
-    ensures buckets { result ≡ true → snap.now.bucket_count ≡ 1024 }
+    ensures buckets { result ≡ true → snap.now.bucket_count ≡ NEW_BUCKETS }
 {
-    snap.bucket_count() == NEW_BUCKETS && snap.sum() == placer.sum()
+    snap.bucket_count() == u32::from(NEW_BUCKETS) && snap.sum() == placer.sum()
 }
 
 /// Returns `true` if a record's address is valid and fewer than eight buckets list it.

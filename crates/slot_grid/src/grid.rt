@@ -2,19 +2,23 @@ ghost use Rattle.std.specs.Prelude.{◌≡◌, ◌≢◌, ℕ, ◌<◌, ◌+◌,
 ghost use Rattle.std.specs.Int.{bit_at};
 ghost use Rattle.slot_grid.specs.Masks.{AreMasks, bit_of};
 ghost use Rattle.slot_grid.specs.Slots.{renumbered};
+ghost use Rattle.slot_grid.specs.declared.sizes.TheConstants.{NEW_BUCKETS, TRIED_BUCKETS, SLOTS, BUCKETS, ALL_SLOTS};
 
-use crate::Memory;
+use crate::{ALL_SLOTS, BUCKETS, NEW_BUCKETS, SLOTS};
 use std::alloc::{AllocError, Global};
 use std::marker::Model;
 use std::sync::ledger::Ledger;
 use steps::Steps;
 
-/// The buckets of the new table (`ADDRMAN_NEW_BUCKET_COUNT` in addrman_impl.h of Bitcoin Core).
-const NEW_BUCKETS: usize = 1024;
-/// The buckets of both tables, those of the tried table (`ADDRMAN_TRIED_BUCKET_COUNT`) last.
-const BUCKETS: usize = NEW_BUCKETS + 256;
-/// The slots of a bucket (`ADDRMAN_BUCKET_SIZE`).
-const SLOTS: usize = 64;
+/// Out of memory.
+#[derive(Clone, Copy, Debug, PartialEq, Eq)]
+pub struct Memory;
+
+impl From<AllocError> for Memory {
+    fn from(_: AllocError) -> Memory {
+        Memory
+    }
+}
 
 /// The slots of the new and of the tried table: which record, by its id, is in each. An id is
 /// any number. Only `make` takes memory.
@@ -45,16 +49,15 @@ impl Grid {
     pub fn make(alloc: Global) -> Result<Grid, Memory>
         ensures { IfOk result AreEmpty }
     {
-        let ids = empty_slots(alloc, BUCKETS * SLOTS)?;
+        let ids = empty_slots(alloc, ALL_SLOTS)?;
         let masks = empty_masks(alloc, BUCKETS)?;
         Ok(Grid { ids, masks })
     }
 
-    /// Returns the record in a slot of the new table, or `None` if it is empty. The bucket is below
-    /// 1024 and the slot below 64.
+    /// Returns the record in a slot of the new table, or `None` if it is empty.
     pub fn new_at<L: Ledger>(&self, bucket: u16, slot: u8, steps: &mut Steps<L>) -> Option<usize>
-        requires bucket { bucket < 1024 }
-        requires slot { slot < 64 }
+        requires bucket { bucket < NEW_BUCKETS }
+        requires slot { slot < SLOTS }
         ensures id { result ≡ new_id self.now bucket slot }
         ensures steps { steps.new ≡ steps.old + 1 }
     {
@@ -70,8 +73,8 @@ impl Grid {
         id: Option<usize>,
         steps: &mut Steps<L>,
     )
-        requires bucket { bucket < 1024 }
-        requires slot { slot < 64 }
+        requires bucket { bucket < NEW_BUCKETS }
+        requires slot { slot < SLOTS }
         ensures written { new_id self.new bucket slot ≡ id }
         ensures others { SameOtherNew self.old self.new bucket slot }
         ensures tried { SameTried self.old self.new }
@@ -87,16 +90,15 @@ impl Grid {
         );
     }
 
-    /// Returns the record in a slot of the tried table, or `None` if it is empty. The bucket is
-    /// below 256 and the slot below 64.
+    /// Returns the record in a slot of the tried table, or `None` if it is empty.
     pub fn tried_at<L: Ledger>(&self, bucket: u16, slot: u8, steps: &mut Steps<L>) -> Option<usize>
-        requires bucket { bucket < 256 }
-        requires slot { slot < 64 }
+        requires bucket { bucket < TRIED_BUCKETS }
+        requires slot { slot < SLOTS }
         ensures id { result ≡ tried_id self.now bucket slot }
         ensures steps { steps.new ≡ steps.old + 1 }
     {
         steps.tick();
-        self.ids[index_of(NEW_BUCKETS + usize::from(bucket), slot)]
+        self.ids[index_of(usize::from(NEW_BUCKETS + bucket), slot)]
     }
 
     /// Puts a record into a slot of the tried table, or with `None` empties it.
@@ -107,8 +109,8 @@ impl Grid {
         id: Option<usize>,
         steps: &mut Steps<L>,
     )
-        requires bucket { bucket < 256 }
-        requires slot { slot < 64 }
+        requires bucket { bucket < TRIED_BUCKETS }
+        requires slot { slot < SLOTS }
         ensures written { tried_id self.new bucket slot ≡ id }
         ensures others { SameOtherTried self.old self.new bucket slot }
         ensures new { SameNew self.old self.new }
@@ -118,27 +120,28 @@ impl Grid {
         put(
             &mut self.ids,
             &mut self.masks,
-            NEW_BUCKETS + usize::from(bucket),
+            usize::from(NEW_BUCKETS + bucket),
             slot,
             id,
         );
     }
 
     /// Replaces each id by the one that `ids` has at its position. An id past the end of `ids`
-    /// stays.
-    pub fn renumber(&mut self, ids: &[usize])
+    /// stays. Counts a step for each slot of either table.
+    pub fn renumber<L: Ledger>(&mut self, ids: &[usize], steps: &mut Steps<L>)
         ensures new { (bucket slot : ℕ) → new_id self.new bucket slot
             ≡ renumbered ids.now (new_id self.old bucket slot) }
         ensures tried { (bucket slot : ℕ) → tried_id self.new bucket slot
             ≡ renumbered ids.now (tried_id self.old bucket slot) }
+        ensures steps { steps.new ≡ steps.old + ALL_SLOTS }
     {
-        renumber(&mut self.ids, ids);
+        renumber(&mut self.ids, ids, steps);
     }
 
     /// Returns which slots of a bucket of the new table are occupied: bit `s` is set exactly when
-    /// slot `s` is. The bucket is below 1024.
+    /// slot `s` is.
     pub fn new_mask<L: Ledger>(&self, bucket: u16, steps: &mut Steps<L>) -> u64
-        requires { bucket < 1024 }
+        requires { bucket < NEW_BUCKETS }
         ensures mask { IsMask (new_id self.now bucket) result }
         ensures steps { steps.new ≡ steps.old + 1 }
     {
@@ -147,23 +150,23 @@ impl Grid {
     }
 
     /// Returns which slots of a bucket of the tried table are occupied: bit `s` is set exactly when
-    /// slot `s` is. The bucket is below 256.
+    /// slot `s` is.
     pub fn tried_mask<L: Ledger>(&self, bucket: u16, steps: &mut Steps<L>) -> u64
-        requires { bucket < 256 }
+        requires { bucket < TRIED_BUCKETS }
         ensures mask { IsMask (tried_id self.now bucket) result }
         ensures steps { steps.new ≡ steps.old + 1 }
     {
         steps.tick();
-        self.masks[NEW_BUCKETS + usize::from(bucket)]
+        self.masks[usize::from(NEW_BUCKETS + bucket)]
     }
 }
 
 /// Returns the index of a slot among all slots, by its bucket among the buckets of both tables.
 fn index_of(bucket: usize, slot: u8) -> usize
-    requires { bucket < 1280 }
-    ensures { result ≡ 64 * bucket + slot }
+    requires { bucket < BUCKETS }
+    ensures { result ≡ SLOTS * bucket + slot }
 {
-    bucket * SLOTS + usize::from(slot)
+    bucket * usize::from(SLOTS) + usize::from(slot)
 }
 
 /// Makes `count` empty slots.
@@ -191,9 +194,9 @@ fn put(
     id: Option<usize>,
 )
     requires masks { AreMasks ids.old.items masks.old.items }
-    requires bucket { bucket < 1280 }
-    requires slot { slot < 64 }
-    ensures ids { ids.new.items ≡ set ids.old.items (64 * bucket + slot) id }
+    requires bucket { bucket < BUCKETS }
+    requires slot { slot < SLOTS }
+    ensures ids { ids.new.items ≡ set ids.old.items (SLOTS * bucket + slot) id }
     ensures masks { AreMasks ids.new.items masks.new.items }
 {
     let mask = with_bit(masks[bucket], slot, id.is_some());
@@ -201,11 +204,13 @@ fn put(
     masks[bucket] = mask;
 }
 
-/// Replaces each id in a list of slots.
-fn renumber(slots: &mut Vec<Option<usize>>, ids: &[usize])
-    ensures { slots.new.items ≡ map (renumbered ids.now) slots.old.items }
+/// Replaces each id in a list of slots. Counts a step for each.
+fn renumber<L: Ledger>(slots: &mut Vec<Option<usize>>, ids: &[usize], steps: &mut Steps<L>)
+    ensures renumbered { slots.new.items ≡ map (renumbered ids.now) slots.old.items }
+    ensures steps { steps.new ≡ steps.old + vec_len slots.old }
 {
     for index in 0..slots.len() {
+        steps.tick();
         slots[index] = renumbered(slots[index], ids);
     }
 }
@@ -228,9 +233,9 @@ fn renumbered(slot: Option<usize>, ids: &[usize]) -> Option<usize>
 
 /// Returns the mask with a bit set or cleared.
 fn with_bit(mask: u64, slot: u8, is_set: bool) -> u64
-    requires { slot < 64 }
+    requires { slot < SLOTS }
     ensures bit { bit_at result slot ≡ bit_of is_set }
-    ensures others { (i : ℕ) → i < 64 → i ≢ slot → bit_at result i ≡ bit_at mask i }
+    ensures others { (i : ℕ) → i < SLOTS → i ≢ slot → bit_at result i ≡ bit_at mask i }
 {
     if is_set {
         mask | 1 << slot

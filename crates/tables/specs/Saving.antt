@@ -2,6 +2,7 @@
 use Rattle.std.specs.Prelude.{ℕ, ◌==◌, List, [], ◌∷◌, flat_map, Option, Some, None}
 use Rattle.std.specs.List.{position_or_len, range_with_len}
 use Rattle.peer_rec.specs.declared.rec.Rec.{Rec}
+use Rattle.slot_grid.specs.declared.sizes.TheConstants.{SLOTS}
 use Rattle.table_machine.specs.State.{State, new_rec_at}
 
 -- a bucket and the index of the record in a slot, nothing if the slot is empty
@@ -17,4 +18,4 @@ bucket_by st numbers bucket slots =
 -- what the first buckets list
 unfoldable pub buckets_by : State → List ℕ → ℕ → List (ℕ × ℕ)
 buckets_by st numbers buckets =
-    flat_map (λ bucket. bucket_by st numbers bucket 64) (range_with_len 0 buckets)
+    flat_map (λ bucket. bucket_by st numbers bucket SLOTS) (range_with_len 0 buckets)

@@ -1,8 +1,9 @@
 ghost use Rattle.std.specs.Prelude.{◌≡◌, slice_get};
 ghost use Rattle.peer_rec.specs.Rec.{buckets_of};
+ghost use Rattle.slot_grid.specs.declared.sizes.TheConstants.{NEW_BUCKETS, TRIED_BUCKETS, SLOTS};
 
 use crate::Store;
-use crate::marks::after_success;
+use crate::known::after_success;
 use net_addr::Peer;
 use peer_rec::{Buckets, Good, Place, Rec};
 use std::hash::BuildHasher;
@@ -94,8 +95,8 @@ impl<'a, H: BuildHasher> Store<'a, H> {
         requires movable { IsSomeAnd (rec_of self.old.index id) IsMovable }
         requires own { IsSomeAnd (rec_of self.old.index id)
             (λ r. IsOwnTried self.old.placer bucket slot r.peer) }
-        requires bucket { bucket < 256 }
-        requires slot { slot < 64 }
+        requires bucket { bucket < TRIED_BUCKETS }
+        requires slot { slot < SLOTS }
         ensures stored { IsStore self.new }
         ensures state { (r : Rec) → rec_of self.old.index id ≡ Some r
             → state_of self.new ≡ move_to_tried (state_of self.old) r }
@@ -131,8 +132,8 @@ impl<'a, H: BuildHasher> Store<'a, H> {
     /// Empties a slot of the tried table. Its occupant goes back to the new table.
     fn displace<L: Ledger>(&mut self, bucket: u16, slot: u8, steps: &mut Steps<L>)
         requires stored { IsStore self.old }
-        requires bucket { bucket < 256 }
-        requires slot { slot < 64 }
+        requires bucket { bucket < TRIED_BUCKETS }
+        requires slot { slot < SLOTS }
         ensures stored { IsStore self.new }
         ensures state { state_of self.new
             ≡ displace (state_of self.old) (tried_rec_at (state_of self.old) bucket slot) }
@@ -156,8 +157,8 @@ impl<'a, H: BuildHasher> Store<'a, H> {
         steps: &mut Steps<L>,
     )
         requires stored { IsStore self.old }
-        requires tried_bucket { tried_bucket < 256 }
-        requires tried_slot { tried_slot < 64 }
+        requires tried_bucket { tried_bucket < TRIED_BUCKETS }
+        requires tried_slot { tried_slot < SLOTS }
         requires at { tried_id self.old.grid tried_bucket tried_slot ≡ Some id }
         ensures stored { IsStore self.new }
         ensures state { (r : Rec) → rec_of self.old.index id ≡ Some r
@@ -178,8 +179,8 @@ impl<'a, H: BuildHasher> Store<'a, H> {
     /// Empties a slot of the new table if it has an occupant (`AddrManImpl::ClearNew`).
     fn clear_new<L: Ledger>(&mut self, bucket: u16, slot: u8, steps: &mut Steps<L>)
         requires stored { IsStore self.old }
-        requires bucket { bucket < 1024 }
-        requires slot { slot < 64 }
+        requires bucket { bucket < NEW_BUCKETS }
+        requires slot { slot < SLOTS }
         ensures stored { IsStore self.new }
         ensures state { state_of self.new
             ≡ clear_new (state_of self.old) bucket (new_rec_at (state_of self.old) bucket slot) }
@@ -205,11 +206,11 @@ impl<'a, H: BuildHasher> Store<'a, H> {
         steps: &mut Steps<L>,
     )
         requires stored { IsStore self.old }
-        requires tried_bucket { tried_bucket < 256 }
-        requires tried_slot { tried_slot < 64 }
+        requires tried_bucket { tried_bucket < TRIED_BUCKETS }
+        requires tried_slot { tried_slot < SLOTS }
         requires at { tried_id self.old.grid tried_bucket tried_slot ≡ Some id }
-        requires bucket { bucket < 1024 }
-        requires slot { slot < 64 }
+        requires bucket { bucket < NEW_BUCKETS }
+        requires slot { slot < SLOTS }
         requires empty { new_id self.old.grid bucket slot ≡ None }
         requires own { IsSomeAnd (rec_of self.old.index id)
             (λ r. new_slot self.old.placer r.peer bucket ≡ slot) }
@@ -235,8 +236,8 @@ impl<'a, H: BuildHasher> Store<'a, H> {
     /// peer's.
     fn take_tried<L: Ledger>(&mut self, id: usize, bucket: u16, slot: u8, steps: &mut Steps<L>)
         requires stored { IsStore self.old }
-        requires bucket { bucket < 256 }
-        requires slot { slot < 64 }
+        requires bucket { bucket < TRIED_BUCKETS }
+        requires slot { slot < SLOTS }
         requires empty { tried_id self.old.grid bucket slot ≡ None }
         requires can { IsSomeAnd (rec_of self.old.index id) (CanTry self.old.placer bucket slot) }
         ensures stored { IsStore self.new }

@@ -14,6 +14,7 @@ impl<'a, H: BuildHasher + Drop> Tables<'a, H> {
     ghost use Rattle.table_machine.specs.Restoring.{duplicate, restored};
     ghost use Rattle.table_machine.specs.Sound.{IsSound};
     ghost use Rattle.restoring.specs.Restored.{IsCause};
+    ghost use Rattle.slot_grid.specs.declared.sizes.TheConstants.{ALL_SLOTS};
 
     /// Makes the tables that a file of peers keeps, by a placer with the key of the file. Tables
     /// with another asmap place the records anew. `Duplicate` is returned if two valid records have
@@ -31,7 +32,7 @@ impl<'a, H: BuildHasher + Drop> Tables<'a, H> {
         ensures no_duplicate { IfOk result (λ t. duplicate snap.now ≡ None) }
         ensures cause { IfErr result (IsCause snap.now) }
         ensures steps { steps.new ≤ steps.old + 2 * length snap.now.new_recs
-            + 4 * length snap.now.tried_recs + 4 * length snap.now.listed + 81920 }
+            + 4 * length snap.now.tried_recs + 4 * length snap.now.listed + 2 * ALL_SLOTS }
     {
         let parts = restore(alloc, snap, placer, hasher, steps)?;
         let store = Store {

@@ -4,10 +4,15 @@ ghost use Rattle.std.specs.List.Sorted.{IsStrictlyIncreasing};
 ghost use Rattle.peer_rec.specs.Rec.{is_tried};
 ghost use Rattle.table_machine.specs.Snapshot.{file_rec};
 ghost use Rattle.tables.specs.Saving.{pair_by};
+ghost use Rattle.slot_grid.specs.declared.sizes.TheConstants.{NEW_BUCKETS, SLOTS};
 
-use crate::Memory;
+use crate::{Memory, Tables};
 use peer_rec::{FileRec, Rec};
+use slot_grid::{NEW_BUCKETS, SLOTS};
 use std::alloc::{AllocError, Global};
+use std::hash::BuildHasher;
+use std::sync::ledger::Ledger;
+use steps::Steps;
 
 /// Returns what a file has of a record.
 fn file_rec(rec: &Rec) -> FileRec
@@ -69,7 +74,7 @@ fn position_of(numbers: &[u64], number: u64) -> usize
 
 /// Appends a bucket and the index of the record in one of its slots, by the numbers of the records
 /// of the new table. Appends nothing if the slot is empty.
-pub(crate) fn add_pair(
+fn add_pair(
     bucket: u16,
     rec: Option<&Rec>,
     numbers: &[u64],
@@ -86,4 +91,52 @@ pub(crate) fn add_pair(
     let index = position_of(numbers, rec.number);
     listed.push((u32::from(bucket), index as u32))?;
     Ok(())
+}
+
+impl<'a, H: BuildHasher> Tables<'a, H> {
+    ghost use Rattle.std.specs.Prelude.{◌≡◌, ◌+◌, ◌<◌, ◌≤◌, ◌++◌, ◌^◌, IfOk, OnOk, length};
+    ghost use Rattle.std.specs.List.Sorted.{IsStrictlyIncreasing};
+    ghost use Rattle.tables.specs.Saving.{bucket_by, buckets_by};
+
+    /// Appends what a bucket of the new table lists, by rising slot.
+    fn add_listed<L: Ledger>(
+        &self,
+        bucket: u16,
+        numbers: &[u64],
+        listed: &mut Vec<(u32, u32)>,
+        steps: &mut Steps<L>,
+    ) -> Result<(), Memory>
+        requires bucket { bucket < NEW_BUCKETS }
+        requires rising { IsStrictlyIncreasing numbers.now }
+        requires few { length numbers.now < 2 ^ 32 }
+        ensures added { OnOk result (listed.new.items
+            ≡ listed.old.items ++ bucket_by self.now numbers.now bucket SLOTS) }
+        ensures steps { steps.new ≤ steps.old + 128 }
+    {
+        for slot in 0..SLOTS {
+            let rec = self.new_rec_at(bucket, slot, steps);
+            add_pair(bucket, rec, numbers, listed)?;
+        }
+        Ok(())
+    }
+
+    /// Returns what each bucket of the new table lists, by rising slot: the bucket, and the index
+    /// of the record among those of the new table.
+    pub(crate) fn listed<L: Ledger>(
+        &self,
+        alloc: Global,
+        numbers: &[u64],
+        steps: &mut Steps<L>,
+    ) -> Result<Vec<(u32, u32)>, Memory>
+        requires rising { IsStrictlyIncreasing numbers.now }
+        requires few { length numbers.now < 2 ^ 32 }
+        ensures found { IfOk result (λ v. v.items ≡ buckets_by self.now numbers.now NEW_BUCKETS) }
+        ensures steps { steps.new ≤ steps.old + 131072 }
+    {
+        let mut listed = Vec::new(alloc);
+        for bucket in 0..NEW_BUCKETS {
+            self.add_listed(bucket, numbers, &mut listed, steps)?;
+        }
+        Ok(listed)
+    }
 }

@@ -1,15 +1,16 @@
-use crate::known::check_fields;
-use crate::marks::{after_try, still_connected, with_services};
+ghost use Rattle.peer_rec.specs.declared.snapshot.TheConstants.{MAX_NEW, MAX_TRIED};
+ghost use Rattle.slot_grid.specs.declared.sizes.TheConstants.{NEW_BUCKETS, TRIED_BUCKETS, SLOTS};
+
+use crate::known::{after_try, check_fields, still_connected, with_services};
 use crate::reach::Reach;
 use crate::saving::{new_numbers, new_recs, tried_recs};
-use crate::snapshot::NEW_BUCKETS;
 use crate::{Memory, Store};
 use arrayvec::ArrayVec;
 use net_addr::{Entry, NetAddr, NetSet, Peer};
 use peer_index::PeerIndex;
 use peer_rec::{Counts, FileRecs, Good, Pairs, Rec, Recs, Snapshot};
 use placing::Placer;
-use slot_grid::Grid;
+use slot_grid::{Grid, NEW_BUCKETS};
 use std::alloc::Global;
 use std::hash::BuildHasher;
 use std::marker::Model;
@@ -75,7 +76,7 @@ impl<'a, H: BuildHasher> Tables<'a, H> {
     ghost use Rattle.peer_rec.specs.Rec.{buckets_of, is_tried};
     ghost use Rattle.peer_index.specs.Order.{Order, IsOrder, records};
     ghost use Rattle.slot_grid.specs.Masks.{IsMask};
-    ghost use Rattle.tables.specs.Parts.{AreOf};
+    ghost use Rattle.restoring.specs.Restored.{AreOf};
     ghost use Rattle.table_machine.specs.State.{State, empty_state, find_peer, by_number, new_rec_at, tried_rec_at, tried_occupant};
     ghost use Rattle.table_machine.specs.Sound.{IsSound};
     ghost use Rattle.table_machine.specs.Entries.{add};
@@ -245,8 +246,8 @@ impl<'a, H: BuildHasher> Tables<'a, H> {
     /// Returns the record in a slot of the new table, or `None` if the slot is empty. The bucket is
     /// below 1024 and the slot below 64.
     pub fn new_rec_at<L: Ledger>(&self, bucket: u16, slot: u8, steps: &mut Steps<L>) -> Option<&Rec>
-        requires bucket { bucket < 1024 }
-        requires slot { slot < 64 }
+        requires bucket { bucket < NEW_BUCKETS }
+        requires slot { slot < SLOTS }
         ensures found { option_map (λ r. r.now) result ≡ new_rec_at self.now bucket slot }
         ensures steps { steps.new ≤ steps.old + 2 }
     {
@@ -264,8 +265,8 @@ impl<'a, H: BuildHasher> Tables<'a, H> {
         slot: u8,
         steps: &mut Steps<L>,
     ) -> Option<&Rec>
-        requires bucket { bucket < 256 }
-        requires slot { slot < 64 }
+        requires bucket { bucket < TRIED_BUCKETS }
+        requires slot { slot < SLOTS }
         ensures found { option_map (λ r. r.now) result ≡ tried_rec_at self.now bucket slot }
         ensures steps { steps.new ≤ steps.old + 2 }
     {
@@ -278,7 +279,7 @@ impl<'a, H: BuildHasher> Tables<'a, H> {
     /// Returns which slots of a bucket of the new table are occupied: bit `s` is set exactly when
     /// slot `s` is. The bucket is below 1024.
     pub fn new_mask<L: Ledger>(&self, bucket: u16, steps: &mut Steps<L>) -> u64
-        requires { bucket < 1024 }
+        requires { bucket < NEW_BUCKETS }
         ensures mask { IsMask (new_rec_at self.now bucket) result }
         ensures steps { steps.new ≤ steps.old + 1 }
     {
@@ -288,7 +289,7 @@ impl<'a, H: BuildHasher> Tables<'a, H> {
     /// Returns which slots of a bucket of the tried table are occupied: bit `s` is set exactly when
     /// slot `s` is. The bucket is below 256.
     pub fn tried_mask<L: Ledger>(&self, bucket: u16, steps: &mut Steps<L>) -> u64
-        requires { bucket < 256 }
+        requires { bucket < TRIED_BUCKETS }
         ensures mask { IsMask (tried_rec_at self.now bucket) result }
         ensures steps { steps.new ≤ steps.old + 1 }
     {
@@ -365,9 +366,10 @@ impl<'a, H: BuildHasher> Tables<'a, H> {
         ensures tried { result.tried_count ≡ count_by is_tried self.now.records }
         ensures total { result.new_count + result.tried_count ≡ length self.now.order }
         ensures clashes { result.clashes ≡ length self.now.collisions }
-        ensures few_new { result.new_count ≤ 65536 }
-        ensures few_tried { result.tried_count ≤ 16384 }
-        ensures few_buckets { sum_by (λ r. length (buckets_of r)) self.now.records ≤ 65536 }
+        ensures few_new { result.new_count ≤ MAX_NEW }
+        ensures few_tried { result.tried_count ≤ MAX_TRIED }
+        ensures few_buckets { sum_by (λ r. length (buckets_of r)) self.now.records
+            ≤ NEW_BUCKETS * SLOTS }
         ensures sound { IsSound self.now }
     {
         let (new_count, tried_count) = self.wanted(NetSet::all());

@@ -1,7 +1,7 @@
 use Rattle.std.proofs.Common.{◌≡◌, ◌+◌, ◌≤◌, length, take}
 use Rattle.peer_index.specs.Order.{IsOrder}
 use Rattle.restoring.specs.Filled.{filled}
-use Rattle.restoring.proofs.fill.fill.Given as goal
+use Rattle.restoring.proofs.parts.fill.Given as goal
 
 abbrev pub invariant-loop-number : goal.invariant-loop-number
 invariant-loop-number g l = record {

@@ -3,7 +3,7 @@ use Rattle.std.proofs.lemmas.List.{get_or_default, get_or_read, length-set}
 use Rattle.peer_index.specs.Order.{id_of, with_last}
 use Rattle.restoring.specs.Filled.{blank, rec_at}
 use Rattle.restoring.proofs.Filled.{absent, filled-more}
-use Rattle.restoring.proofs.fill.fill.Goals as goal
+use Rattle.restoring.proofs.parts.fill.Goals as goal
 
 pub add-requires-clause-absent : goal.add-requires-clause-absent
 add-requires-clause-absent g c =

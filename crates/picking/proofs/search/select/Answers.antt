@@ -2,7 +2,7 @@ use Rattle.std.proofs.Common.{◌≤◌, ◌∙◌, length, sym, arith}
 use Rattle.std.proofs.lemmas.Grind.{common_steps}
 use Rattle.table_machine.specs.Picks.{candidates_of_either}
 use Rattle.table_machine.proofs.Refusals.{few_refusals}
-use Rattle.picking.proofs.selection.select.Goals as goal
+use Rattle.picking.proofs.search.select.Goals as goal
 
 -- both tables have wanted records
 pub returns-clause-few : goal.returns-clause-few

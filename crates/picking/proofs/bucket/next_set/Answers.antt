@@ -1,6 +1,6 @@
 use Rattle.std.proofs.Common.{arith, rules}
 use Rattle.picking.proofs.FirstBits.{first_bit, no_bit}
-use Rattle.picking.proofs.mask.next_set.Goals as goal
+use Rattle.picking.proofs.bucket.next_set.Goals as goal
 
 pub returns-then-at-to-clause-set : goal.returns-then-at-to-clause-set
 returns-then-at-to-clause-set c = (first_bit c.args.mask c.args.from (search rules) (omega arith)).set
