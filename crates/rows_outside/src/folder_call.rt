@@ -179,7 +179,20 @@ static TURNS: [(bool, FolderCall<'static>); 9] = [
     (true, FolderCall::Append(Name::PeersTemp, "bit")),
 ];
 
-/// Makes those calls, and prints each with its answer, and whether the folder was in use.
+/// Makes the call, and prints it with its answer, and whether the folder was in use.
+fn print_turn<R: Print + AllocGlobal, F: Files + Alloc>(
+    rt: &R,
+    folder: &mut DirFolder<'_, F>,
+    call: FolderCall<'_>,
+) -> io::Result<()>
+where
+    F::File: Lock,
+{
+    print_answer(rt, folder, call)?;
+    println!(rt; "in use: {}", folder.is_in_use())
+}
+
+/// Makes those calls of the two programs.
 pub(crate) fn print_turns<R: Files + Print + AllocGlobal>(rt: &R) -> io::Result<()>
 where
     R::File: Lock,
@@ -187,9 +200,11 @@ where
     let mut first = DirFolder::make(rt);
     let mut second = DirFolder::make(rt);
     for (is_second, call) in &TURNS {
-        let folder = if *is_second { &mut second } else { &mut first };
-        print_answer(rt, folder, *call)?;
-        println!(rt; "in use: {}", folder.is_in_use())?;
+        if *is_second {
+            print_turn(rt, &mut second, *call)?;
+        } else {
+            print_turn(rt, &mut first, *call)?;
+        }
     }
     Ok(())
 }
