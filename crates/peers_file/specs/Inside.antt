@@ -1,5 +1,5 @@
 -- What a snapshot has whose file is written, and parts of the file.
-use Rattle.std.specs.Prelude.{◌≡◌, ℕ, ◌≤◌, ◌^◌, List, ◌++◌, length, All}
+use Rattle.std.specs.Prelude.{◌≡◌, ℕ, ◌*◌, ◌≤◌, ◌^◌, List, ◌++◌, length, All}
 use Rattle.std.specs.List.{flat_map}
 use Rattle.std.specs.Int.{w16, w32, w64, to_le_bytes, to_be_bytes}
 use Rattle.std.specs.Int.Bits.{bit_xor}
@@ -7,14 +7,15 @@ use Rattle.wire_num.specs.CompactSize.{compact_size}
 use Rattle.addr_codecs.specs.Texts.{address_text}
 use Rattle.peer_rec.specs.declared.file_rec.FileRec.{FileRec}
 use Rattle.peer_rec.specs.Snapshot.{Snapshot, IsSnapshot, IsFileRec}
+use Rattle.slot_grid.specs.declared.sizes.TheConstants.{NEW_BUCKETS, SLOTS}
 
 -- the snapshot is one of the tables, and each field of its records fits
 pub record IsWritten (snap : Snapshot) : Type 0 where
   pub snapshot : IsSnapshot snap
   pub new_recs : All IsFileRec snap.new_recs
   pub tried_recs : All IsFileRec snap.tried_recs
-  pub buckets : snap.bucket_count ≡ 1024
-  pub few_listed : length snap.listed ≤ 65536
+  pub buckets : snap.bucket_count ≡ NEW_BUCKETS
+  pub few_listed : length snap.listed ≤ NEW_BUCKETS * SLOTS
 
 -- a record before its peer, its peer and its source, and what comes after these
 unfoldable pub front_text : FileRec → List ℕ

@@ -1,4 +1,4 @@
-ghost use Rattle.std.specs.Prelude.{◌≡◌, ℕ, ◌≤◌, ◌<◌, ◌^◌, ◌++◌, length, All, AllPairs, IfOk, OnOk, ◌==◌};
+ghost use Rattle.std.specs.Prelude.{◌≡◌, ℕ, ◌*◌, ◌≤◌, ◌<◌, ◌^◌, ◌++◌, length, All, AllPairs, IfOk, OnOk, ◌==◌};
 ghost use Rattle.std.specs.List.{flat_map, take_while, range_with_len};
 ghost use Rattle.std.specs.Int.{w32, to_le_bytes};
 ghost use Rattle.net_addr.specs.Address.{IsAddress};
@@ -8,6 +8,8 @@ ghost use Rattle.peers_file.specs.Inside.{IsWritten, front_text, who_text, marks
 ghost use Rattle.peers_file.specs.Layout.{IsFile, HasFileFault};
 ghost use Rattle.peers_file.specs.Texts.{record_text, bucket_text, head_text, body_text, file_text};
 ghost use Rattle.peers_file.specs.declared.fault.FileFault.{FileFault};
+ghost use Rattle.peers_file.specs.declared.read.TheConstants.{MAX_FILE};
+ghost use Rattle.slot_grid.specs.declared.sizes.TheConstants.{NEW_BUCKETS, SLOTS};
 
 use crate::chain::Chain;
 use addr_codecs::{Memory, put_address};
@@ -94,7 +96,7 @@ fn put_records(out: &mut Vec<u8>, recs: &[FileRec]) -> Result<(), Memory>
 /// Appends the pairs of a bucket: their number, and the index in each.
 #[tactic(auto, unfolding(crate::specs::Inside::pairs_text))]
 fn put_pairs(out: &mut Vec<u8>, pairs: &[(u32, u32)]) -> Result<(), Memory>
-    requires { length pairs.now ≤ 65536 }
+    requires { length pairs.now ≤ NEW_BUCKETS * SLOTS }
     ensures { OnOk result (out.new.items ≡ out.old.items ++ pairs_text pairs.now) }
 {
     put_number(out, pairs.len() as u32)?;
@@ -114,7 +116,7 @@ fn count_of(pairs: &[(u32, u32)], bucket: u32) -> usize
 
 /// Appends the buckets from 0 on.
 fn put_buckets(out: &mut Vec<u8>, bucket_count: u32, listed: &[(u32, u32)]) -> Result<(), Memory>
-    requires few { length listed.now ≤ 65536 }
+    requires few { length listed.now ≤ NEW_BUCKETS * SLOTS }
     requires rising { AllPairs (λ pair later. pair.0 ≤ later.0) listed.now }
     ensures { OnOk result (out.new.items ≡
         out.old.items ++ flat_map (bucket_text listed.now) (range_with_len 0 bucket_count)) }
@@ -154,8 +156,8 @@ fn put_head(out: &mut Vec<u8>, snap: &Snapshot) -> Result<(), Memory>
 /// Appends what is between the magic and the sum of a file.
 #[tactic(auto, unfolding(crate::specs::Texts::body_text))]
 fn put_body(out: &mut Vec<u8>, snap: &Snapshot) -> Result<(), Memory>
-    requires buckets { snap.now.bucket_count ≡ 1024 }
-    requires few { length snap.now.listed ≤ 65536 }
+    requires buckets { snap.now.bucket_count ≡ NEW_BUCKETS }
+    requires few { length snap.now.listed ≤ NEW_BUCKETS * SLOTS }
     ensures found { OnOk result (out.new.items ≡ out.old.items ++ body_text snap.now) }
     ensures written { OnOk result (IsWritten snap.now) }
 {
@@ -168,16 +170,16 @@ fn put_body(out: &mut Vec<u8>, snap: &Snapshot) -> Result<(), Memory>
 }
 
 /// Writes the file of a snapshot in format 4 (`AddrManImpl::Serialize` in addrman.cpp of Bitcoin
-/// Core). The snapshot must have the 1024 buckets of the new table, and at most one pair a slot.
+/// Core). The snapshot must have the buckets of the new table, and at most one pair a slot.
 #[tactic(auto, unfolding(crate::specs::Texts::file_text))]
 pub fn write_file(alloc: Global, snap: &Snapshot, chain: Chain) -> Result<Bytes, Memory>
-    requires buckets { snap.now.bucket_count ≡ 1024 }
-    requires few_listed { length snap.now.listed ≤ 65536 }
+    requires buckets { snap.now.bucket_count ≡ NEW_BUCKETS }
+    requires few_listed { length snap.now.listed ≤ NEW_BUCKETS * SLOTS }
     ensures found { IfOk result (λ bytes. bytes ≡ file_text chain snap.now) }
     ensures read_back { IfOk result (λ bytes. IsFile chain bytes snap.now) }
     ensures no_fault { IfOk result (λ bytes. (fault : FileFault)
         → HasFileFault chain bytes fault → ⊥) }
-    ensures short { IfOk result (λ bytes. length bytes < 33554432) }
+    ensures short { IfOk result (λ bytes. length bytes < MAX_FILE) }
 {
     let mut out = Vec::new(alloc);
     out.extend_from_slice(&chain.magic())?;
