@@ -1,4 +1,4 @@
-ghost use Rattle.std.specs.Prelude.{◌≡◌, ◌+◌, ◌≤◌, ◌++◌, ℕ, List, length, Err, OnOk, IsErrOf};
+ghost use Rattle.std.specs.Prelude.{◌≡◌, ◌≢◌, ◌+◌, ◌≤◌, ◌++◌, ℕ, List, length, Err, OnOk, IsErrOf};
 ghost use Rattle.grammar.specs.declared.fault.LineFault.{LineFault};
 ghost use Rattle.log_run.specs.declared.limits.TheConstants.{MAX_LINE};
 
@@ -12,6 +12,25 @@ pub enum Stop {
     Fault(LineFault),
     /// Out of memory.
     Memory,
+}
+
+impl Stop {
+    /// Returns why a line that is refused for this fault is not carried out.
+    pub fn of(fault: LineFault) -> Stop
+        ensures fault { (f : LineFault) → result ≡ Stop.Fault f →
+            (f ≡ fault) × (fault ≢ LineFault.Memory) }
+        ensures memory { result ≡ Stop.Memory → fault ≡ LineFault.Memory }
+    {
+        match fault {
+            LineFault::Memory => Stop::Memory,
+            LineFault::Word
+            | LineFault::Fields
+            | LineFault::Number
+            | LineFault::Peer
+            | LineFault::Hex
+            | LineFault::Words => Stop::Fault(fault),
+        }
+    }
 }
 
 /// What carries out the lines of a log, one step a line, and may change a world besides itself.
