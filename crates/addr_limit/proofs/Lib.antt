@@ -8,7 +8,5 @@ mod Examples
 pub mod Events
 pub mod Entries
 pub mod Messages
-pub mod Payloads
-pub mod Meanings
 pub mod Changes
 pub mod PassedOn

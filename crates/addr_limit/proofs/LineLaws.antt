@@ -1,18 +1,20 @@
 -- Which lines are about a number, and that a number's outputs depend only on these lines.
-use Rattle.std.proofs.Common.{◌≡◌, ◌≢◌, ℕ, ◌<◌, ◌^◌, List, [], ◌∷◌, ◌++◌, ◌==◌, Bool, true, false, codes, decimal, bytes_eq, refl, sym, ◌∙◌, ap, subst, arith}
+use Rattle.std.proofs.Common.{◌≡◌, ◌≢◌, ℕ, ◌<◌, ◌^◌, List, [], ◌∷◌, ◌++◌, ◌==◌, Bool, true, false, Option, Some, None, codes, decimal, bytes_eq, refl, sym, ◌∙◌, ap, subst, arith}
 use Rattle.std.proofs.lemmas.Bool.{eqb-true, eqb-false}
 use Rattle.std.proofs.lemmas.Fmt.{decimal_injective}
 use Rattle.std.proofs.lemmas.Slice.Eq.{bytes_eq-Decides}
-use Rattle.grammar.specs.Fields.{Value, TheNumber, AllMean, u32_field}
-use Rattle.grammar.specs.Words.{fields_of}
+use Rattle.addr_codecs.specs.declared.form.Form.{Form}
+use Rattle.addr_codecs.specs.declared.form.Form.TheVariants.{Addr, Addrv2}
+use Rattle.grammar.specs.Fields.{Kind, OfAddr, Hex, Random, Either, Value, TheNumber, TheAddr, TheBytes, TheWords, TheChoice, AllMean, u32_field}
 use Rattle.addr_limit.specs.State.{State}
 use Rattle.addr_limit.specs.Steps.{after}
 use Rattle.addr_limit.specs.declared.event.Event.{Event}
-use Rattle.addr_limit.specs.declared.event.Event.TheVariants.{Now, Of, Nothing}
+use Rattle.addr_limit.specs.declared.request.Request.{Request}
+use Rattle.addr_limit.specs.declared.request.Request.TheVariants.{Close, GetAddr, Stat}
 use Rattle.addr_limit.specs.Apart.{DependsOn, IsLastOutput}
 use Rattle.addr_limit.specs.declared.verb.Verb.{Verb}
 use Rattle.addr_limit.specs.declared.verb.Verb.TheVariants as v
-use Rattle.addr_limit.specs.Lines.{word_of, kinds_of, Says, IsOther, LimitStep, are_about, is_about}
+use Rattle.addr_limit.specs.Lines.{kinds_of, message_kinds, verb_at, Says, SaysBy, SaysMessage, SaysOf, SaysRequest, LimitStep, are_about, is_about, is_about_by}
 use Rattle.addr_limit.proofs.Apart.{depends_on, last_output}
 use Rattle.addr_limit.proofs.Served.{part_of, concerns, others_leave, answers_alike}
 
@@ -31,50 +33,48 @@ decimals m n low low' = by (m == n) refl
     by true e = (bytes_eq-Decides (decimal m) (decimal n)).1 (ap decimal (eqb-true m n e))
     by false e = differ (decimal m) (decimal n) (λ h. eqb-false m n e (decimal_injective m n low low' h))
 
--- a line with a number is about it
-about_word : (verb : Verb) (number : ℕ) (text : List ℕ) (texts : List (List ℕ)) → are_about number (word_of verb ∷ text ∷ texts) ≡ bytes_eq text (decimal number)
-about_word v.Open number text texts = refl
-about_word v.Close number text texts = refl
-about_word v.GetAddr number text texts = refl
-about_word v.From number text texts = refl
-about_word v.From2 number text texts = refl
-about_word v.Stat number text texts = refl
-
-about_now : (number : ℕ) (texts : List (List ℕ)) → are_about number (codes "now" ∷ texts) ≡ true
-about_now number [] = refl
-about_now number (text ∷ texts) = refl
-
-about_other : (number : ℕ) (fields : List (List ℕ)) → IsOther fields → are_about number fields ≡ false
-about_other number [] h = refl
-about_other number (word ∷ []) h = differ word (codes "now") h.0
-about_other number (word ∷ text ∷ texts) h =
-    rw (
-      differ word (codes "now") h.0,
-      differ word (codes "open") (h.1 v.Open),
-      differ word (codes "close") (h.1 v.Close),
-      differ word (codes "getaddr") (h.1 v.GetAddr),
-      differ word (codes "from") (h.1 v.From),
-      differ word (codes "from2") (h.1 v.From2),
-      differ word (codes "stat") (h.1 v.Stat),
-    ) refl
+-- a line whose first field after its keyword is a number
+named : (number n : ℕ) (texts : List (List ℕ)) (kinds : List Kind) (rest : List Value) (about : List (List ℕ) → Bool)
+    → ((text : List ℕ) (texts : List (List ℕ)) → about (text ∷ texts) ≡ bytes_eq text (decimal number))
+    → number < 2 ^ 64 → AllMean (u32_field ∷ kinds) texts (TheNumber n ∷ rest) → about texts ≡ (n == number)
+named number n [] kinds rest about is low means = absurd means
+named number n (text ∷ texts) kinds rest about is low means =
+    let m = means.0 in
+    let same : m.0 ≡ n = ap number_in (sym m.1) in
+    is text texts ∙ ap (λ t. bytes_eq t (decimal number)) (m.4 ∙ ap decimal same)
+    ∙ decimals n number (subst (λ k. k < 2 ^ 64) same (omega (arith, m.3))) low
+  where
+    number_in : Value → ℕ
+    number_in (TheNumber k) = k
+    number_in other = 0
 
 -- the test on a line's text tells which events concern the number
 pub about_is : (number : ℕ) (line : List ℕ) (e : Event) → number < 2 ^ 64 → Says line e → is_about number line ≡ concerns number e
-about_is number line (Now time) low says = ap (are_about number) says.1 ∙ about_now number says.0
-about_is number line Nothing low says = about_other number (fields_of line) says
-about_is number line (Of other request) low says = ap (are_about number) says.2 ∙ by says.1 says.3.1
+about_is number line e low (word, texts, is, says) = ap (are_about number) is ∙ by (verb_at word) says
   where
-    by : (texts : List (List ℕ)) → AllMean (u32_field ∷ kinds_of says.0) texts (TheNumber other ∷ says.3.0) → are_about number (word_of says.0 ∷ texts) ≡ (other == number)
-    by [] means = absurd means
-    by (text ∷ texts) means =
-        let m = means.0 in
-        let same : m.0 ≡ other = ap number_in (sym m.1) in
-        about_word says.0 number text texts ∙ ap (λ t. bytes_eq t (decimal number)) (m.4 ∙ ap decimal same)
-        ∙ decimals other number (subst (λ n. n < 2 ^ 64) same (omega (arith, m.3))) low
-      where
-        number_in : Value → ℕ
-        number_in (TheNumber n) = n
-        number_in v = 0
+    open_line : (values : List Value) → AllMean (kinds_of v.Open) texts values → SaysOf v.Open values e → is_about_by number (Some v.Open) texts ≡ concerns number e
+    open_line values means (n, addr, unlimited, h, said) =
+        named number n texts (OfAddr ∷ Either (codes "unlimited") (codes "limited") ∷ []) (TheAddr addr ∷ TheChoice unlimited ∷ []) (is_about_by number (Some v.Open)) (λ t ts. refl) low (subst (λ vs. AllMean (kinds_of v.Open) texts vs) h means) ∙ sym (ap (concerns number) said)
+
+    request_line : (request : Request) (about : List (List ℕ) → Bool) → ((text : List ℕ) (rest : List (List ℕ)) → about (text ∷ rest) ≡ bytes_eq text (decimal number))
+        → (values : List Value) → AllMean (u32_field ∷ []) texts values → SaysRequest request values e → about texts ≡ concerns number e
+    request_line request about tests values means (n, h, said) =
+        named number n texts [] [] about tests low (subst (λ vs. AllMean (u32_field ∷ []) texts vs) h means) ∙ sym (ap (concerns number) said)
+
+    message_line : (form : Form) (about : List (List ℕ) → Bool) → ((text : List ℕ) (rest : List (List ℕ)) → about (text ∷ rest) ≡ bytes_eq text (decimal number))
+        → (values : List Value) → AllMean message_kinds texts values → SaysMessage form values e → about texts ≡ concerns number e
+    message_line form about tests values means (n, payload, words, read, h, bytes, reads, said) =
+        named number n texts (Hex ∷ Random ∷ []) (TheBytes payload ∷ TheWords words ∷ []) about tests low (subst (λ vs. AllMean message_kinds texts vs) h means) ∙ sym (ap (concerns number) said)
+
+    by : (o : Option Verb) → SaysBy o texts e → is_about_by number o texts ≡ concerns number e
+    by None said = sym (ap (concerns number) said)
+    by (Some v.Now) (values, means, (t, h, said)) = sym (ap (concerns number) said)
+    by (Some v.Open) (values, means, said) = open_line values means said
+    by (Some v.Close) (values, means, said) = request_line Close (is_about_by number (Some v.Close)) (λ t ts. refl) values means said
+    by (Some v.GetAddr) (values, means, said) = request_line GetAddr (is_about_by number (Some v.GetAddr)) (λ t ts. refl) values means said
+    by (Some v.From) (values, means, said) = message_line Addr (is_about_by number (Some v.From)) (λ t ts. refl) values means said
+    by (Some v.From2) (values, means, said) = message_line Addrv2 (is_about_by number (Some v.From2)) (λ t ts. refl) values means said
+    by (Some v.Stat) (values, means, said) = request_line Stat (is_about_by number (Some v.Stat)) (λ t ts. refl) values means said
 
 -- each output line for a number is that of a log of the number's own lines and the times
 pub limits_apart : (number : ℕ) → number < 2 ^ 64 → (start : State) → DependsOn LimitStep start (is_about number)

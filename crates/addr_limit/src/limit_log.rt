@@ -6,11 +6,12 @@ ghost use Rattle.addr_limit.specs.declared.request.Request;
 
 use crate::passing::count_of;
 use crate::print::output_line;
-use crate::read::read_event;
+use crate::read::LimitLines;
 use crate::{Event, Limiter, Memory, Request};
 use addr_codecs::{Entries, MsgFault};
+use grammar::{LineFault, Words, read_said};
 use host_io::LINE_FEED;
-use log_lines::{LineFault, MAX_LINE, Words};
+use log_run::{LineSteps, Stop};
 use std::alloc::Global;
 use std::marker::Model;
 
@@ -32,10 +33,10 @@ impl Model for LimitLog {
 impl LimitLog {
     ghost use Rattle.std.specs.Prelude.{◌≡◌, ◌≢◌, ◌≤◌, ◌++◌, ◌⊎◌, [], ◌∷◌, ℕ, List, length, Err, OnOk, OnErr};
     ghost use Rattle.addr_limit.specs.State.{start};
-    ghost use Rattle.addr_limit.specs.Steps.{after, serve_in};
+    ghost use Rattle.addr_limit.specs.Steps.{after, output, serve_in};
     ghost use Rattle.addr_limit.specs.declared.event.Event.TheVariants.{Of};
     ghost use Rattle.addr_limit.specs.Lines.{HasFault, LimitStep};
-    ghost use Rattle.addr_limit.specs.Inside.{IsShort};
+    ghost use Rattle.addr_limit.specs.Inside.{IsShort, IsShortEvent};
 
     /// Makes the log of no lines: the clock is 0, and there are no connections.
     pub fn make(alloc: Global) -> LimitLog
@@ -51,7 +52,6 @@ impl LimitLog {
     /// line with another first field than those of events is passed on as it is. After an error
     /// nothing has changed.
     pub fn step(&mut self, alloc: Global, line: &[u8], out: &mut Vec<u8>) -> Result<(), LineFault>
-        requires short { length line.now ≤ MAX_LINE }
         ensures step { OnOk result ((text : List ℕ)
             × LimitStep self.old line.now text self.new
             × (out.new.items ≡ out.old.items ++ text)) }
@@ -62,18 +62,35 @@ impl LimitLog {
         ensures err { OnErr result (self.new ≡ self.old) }
         ensures list { OnErr result (out.new.items ≡ out.old.items) }
     {
-        let event = match read_event(alloc, line) {
+        let event = match read_said::<LimitLines>(alloc, line) {
             Ok(event) => event,
             Err(fault) => return Err(fault),
         };
-        let served = match &event {
+        match self.carry_out_event(alloc, line, &event, out) {
+            Ok(()) => Ok(()),
+            Err(_) => Err(LineFault::Memory),
+        }
+    }
+
+    /// Carries out the event that a line says, and appends its output line and a line feed.
+    fn carry_out_event(
+        &mut self,
+        alloc: Global,
+        line: &[u8],
+        event: &Event,
+        out: &mut Vec<u8>,
+    ) -> Result<(), Memory>
+        requires { IsShortEvent event.now }
+        ensures state { OnOk result (self.new ≡ after self.old event.now) }
+        ensures text { OnOk result (out.new.items
+            ≡ out.old.items ++ (output self.old line.now event.now ++ 10 ∷ [])) }
+        ensures err { OnErr result (self.new ≡ self.old) }
+        ensures list { OnErr result (out.new.items ≡ out.old.items) }
+    {
+        match event {
             Event::Now { time } => self.set_clock(*time, line, out),
             Event::Of { number, request } => self.serve(alloc, *number, request, out),
             Event::Nothing => put_line(line, out),
-        };
-        match served {
-            Ok(()) => Ok(()),
-            Err(_) => Err(LineFault::Memory),
         }
     }
 
@@ -115,6 +132,35 @@ impl LimitLog {
                 out.truncate(length);
                 Err(fault)
             }
+        }
+    }
+}
+
+/// The lines of a log, one step a line. They change nothing besides the log's own state.
+impl LineSteps<()> for LimitLog {
+    ghost use Rattle.std.specs.Prelude.{⊤};
+    ghost use Rattle.addr_limit.specs.Lines.{HasFault, LimitStep};
+
+    ghost step = { λ old before line text new after. LimitStep old line text new };
+
+    ghost stopped = { λ old before line after. ⊤ };
+
+    ghost has_fault = { HasFault };
+
+    ghost ready = { λ l world. ⊤ };
+
+    ghost has_room = { λ l n. ⊤ };
+
+    fn carry_out(
+        &mut self,
+        alloc: Global,
+        line: &[u8],
+        world: &mut (),
+        out: &mut Vec<u8>,
+    ) -> Result<(), Stop> {
+        match self.step(alloc, line, out) {
+            Ok(()) => Ok(()),
+            Err(fault) => Err(Stop::of(fault)),
         }
     }
 }

@@ -1,9 +1,8 @@
-ghost use Rattle.std.specs.Prelude.{◌≡◌, ◌≢◌, IfOk, Err};
+ghost use Rattle.std.specs.Prelude.{◌≡◌, ◌≢◌, ◌<◌, ℕ, slice_index, IfOk, Err};
 ghost use Rattle.addr_limit.specs.Lines.{IsRead};
-ghost use Rattle.addr_limit.specs.Inside.{IsShortRead};
 
 use addr_codecs::{Entries, Form, MsgFault, read_message};
-use log_lines::LineFault;
+use grammar::LineFault;
 use std::alloc::Global;
 
 /// Reads the payload of a message, or the fault that it has.
@@ -13,7 +12,7 @@ pub(crate) fn read_entries(
     payload: &[u8],
 ) -> Result<Result<Entries, MsgFault>, LineFault>
     ensures found { IfOk result (λ read. IsRead form payload.now read) }
-    ensures short { IfOk result IsShortRead }
+    ensures bytes { (i : ℕ) → slice_index payload.now i < 256 }
     ensures fault { (f : LineFault) → result ≡ Err f → f ≡ LineFault.Memory }
 {
     match read_message(alloc, form, payload) {

@@ -8,9 +8,10 @@ use crate::limiter::admitted;
 use crate::passing::{Passing, count_of, passing_entries};
 use crate::{Conn, Memory, Request};
 use addr_codecs::{Entries, MsgFault, write_addrv2};
+use grammar::Words;
 use host_io::LINE_FEED;
 use itoa::Buffer;
-use log_lines::{Reply, Words, reply_text};
+use log_lines::{Reply, reply_text};
 use net_addr::{Entry, NetAddr, put_addr};
 use std::alloc::Global;
 

@@ -1,141 +1,121 @@
-ghost use Rattle.std.specs.Prelude.{◌≡◌, ◌≢◌, ◌-◌, ◌^◌, ◌≤◌, ◌⊎◌, [], ◌∷◌, codes, length, IfOk, IfSome, IfNone, Ok, Err};
-ghost use Rattle.grammar.specs.Fields.{OfAddr, Hex, Random, Either, TheNumber, TheAddr, TheBytes, TheWords, TheChoice, AllMean, AreAtFault, u32_field};
-ghost use Rattle.grammar.specs.Words.{texts_after};
-ghost use Rattle.log_lines.specs.declared.read.TheConstants.{MAX_LINE};
-ghost use Rattle.addr_limit.specs.Lines.{word_of, kinds_of, SaysAfter, Says, HasFault};
-ghost use Rattle.addr_limit.specs.Inside.{IsShort, IsShortEvent};
-ghost use Rattle.addr_limit.specs.declared.event.Event.{Event};
-ghost use Rattle.addr_limit.specs.declared.verb.Verb.{Verb};
+ghost use Rattle.std.specs.Prelude.{◌≡◌, ◌≢◌, [], ◌∷◌, List, Some, IfOk, Err, ⊤};
+ghost use Rattle.grammar.specs.Fields.{Value, u32_field, AllMean, AreAtFault};
+ghost use Rattle.grammar.specs.declared.fault.LineFault.{LineFault};
+ghost use Rattle.addr_limit.specs.Laws.{no_fault, one_event, one_fault};
+ghost use Rattle.addr_limit.specs.Lines.{FaultAfter, SaysAfter, SaysBy, SaysMessage, SaysRequest, kinds_of, message_kinds};
 
 use crate::payload::read_entries;
+use crate::verb::VERBS;
 use crate::{Event, Request, Verb};
 use addr_codecs::Form;
-use host_io::Bytes;
-use log_lines::{
-    LineFault, MAX_LINE, Words, cut_field, one_field, read_addr, read_either, read_payload,
-    read_random, read_u32, three_fields,
+use grammar::{
+    Between, Choice, Grammar, LineFault, OneOf, Payload, Random, Source, Texts, find_keyword,
+    read_fields,
 };
-use net_addr::NetAddr;
 use std::alloc::Global;
 
-/// Reads what a line says, which has no line feed.
-pub(crate) fn read_event(alloc: Global, line: &[u8]) -> Result<Event, LineFault>
-    requires { length line.now ≤ MAX_LINE }
-    ensures found { IfOk result (λ event. Says line.now event) }
-    ensures short { IfOk result IsShortEvent }
-    ensures fault { (f : LineFault) → result ≡ Err f → f ≢ LineFault.Memory → HasFault line.now f }
-{
-    let (word, rest) = cut_field(line);
-    if word == b"now".as_slice() {
-        let time = one_number(rest)?;
-        return Ok(Event::Now { time });
+/// A number of 32 bits.
+type Number = Between<0, { u32::MAX }>;
+
+/// Whether a connection is unlimited.
+struct Unlimited;
+
+impl Choice for Unlimited {
+    ghost use Rattle.std.specs.Prelude.{codes};
+    ghost use Rattle.addr_limit.specs.Laws.{apart};
+
+    ghost first = { codes "unlimited" };
+
+    ghost second = { codes "limited" };
+
+    ghost apart = { apart };
+
+    fn first() -> &'static [u8] {
+        b"unlimited"
     }
-    let Some(verb) = verb_of(word) else {
-        return Ok(Event::Nothing);
-    };
-    let (number, request) = read_request(alloc, verb, rest)?;
+
+    fn second() -> &'static [u8] {
+        b"limited"
+    }
+}
+
+/// The grammar of the limit's lines.
+pub(crate) struct LimitLines;
+
+impl<T: Texts> Grammar<T> for LimitLines {
+    type Said = Event;
+
+    ghost says = { SaysAfter };
+
+    ghost at_fault = { FaultAfter };
+
+    ghost may_stop = { ⊤ };
+
+    ghost one_said = { one_event };
+
+    ghost one_fault = { one_fault };
+
+    ghost right = { no_fault };
+
+    fn read_after(alloc: Global, word: &[u8], rest: T) -> Result<Event, LineFault> {
+        match find_keyword(&VERBS, word) {
+            Some(verb) => read_event(alloc, verb, rest),
+            None => Ok(Event::Nothing),
+        }
+    }
+}
+
+/// Reads the fields after a verb.
+fn read_event<T: Texts>(alloc: Global, verb: Verb, rest: T) -> Result<Event, LineFault>
+    ensures found { IfOk result (SaysBy (Some verb) (T.texts rest)) }
+    ensures fault { (f : LineFault) → result ≡ Err f → f ≢ LineFault.Memory →
+        AreAtFault (kinds_of verb) (T.texts rest) f }
+{
+    match verb {
+        Verb::Now => {
+            let (time, ()) = read_fields::<T, (Number, ())>(alloc, rest)?;
+            Ok(Event::Now { time })
+        }
+        Verb::Open => {
+            let (number, (addr, (unlimited, ()))) = read_fields::<
+                T,
+                (Number, (Source, (OneOf<Unlimited>, ()))),
+            >(alloc, rest)?;
+            let request = Request::Open { addr, unlimited };
+            Ok(Event::Of { number, request })
+        }
+        Verb::Close => read_about(alloc, Request::Close, rest),
+        Verb::GetAddr => read_about(alloc, Request::GetAddr, rest),
+        Verb::From => read_sent(alloc, Form::Addr, rest),
+        Verb::From2 => read_sent(alloc, Form::Addrv2, rest),
+        Verb::Stat => read_about(alloc, Request::Stat, rest),
+    }
+}
+
+/// Reads the only field, the number of the connection that the request is about.
+fn read_about<T: Texts>(alloc: Global, request: Request, rest: T) -> Result<Event, LineFault>
+    ensures found { IfOk result (λ event. (values : List Value)
+        × AllMean (u32_field ∷ []) (T.texts rest) values
+        × SaysRequest request values event) }
+    ensures fault { (f : LineFault) → result ≡ Err f → f ≢ LineFault.Memory →
+        AreAtFault (u32_field ∷ []) (T.texts rest) f }
+{
+    let (number, ()) = read_fields::<T, (Number, ())>(alloc, rest)?;
     Ok(Event::Of { number, request })
 }
 
-/// Returns the verb of this keyword.
-fn verb_of(word: &[u8]) -> Option<Verb>
-    ensures found { IfSome result (λ verb. word.now ≡ word_of verb) }
-    ensures none { IfNone result ((verb : Verb) → word.now ≢ word_of verb) }
-{
-    if word == b"open".as_slice() {
-        Some(Verb::Open)
-    } else if word == b"close".as_slice() {
-        Some(Verb::Close)
-    } else if word == b"getaddr".as_slice() {
-        Some(Verb::GetAddr)
-    } else if word == b"from".as_slice() {
-        Some(Verb::From)
-    } else if word == b"from2".as_slice() {
-        Some(Verb::From2)
-    } else if word == b"stat".as_slice() {
-        Some(Verb::Stat)
-    } else {
-        None
-    }
-}
-
-/// Reads the fields after a verb: a connection's number, and what is asked of it.
-fn read_request(alloc: Global, verb: Verb, rest: Option<&[u8]>) -> Result<(u32, Request), LineFault>
-    requires { IfSome rest (λ text. length text.now ≤ MAX_LINE) }
-    ensures found { IfOk result (λ r. SaysAfter verb (texts_after rest.entry) r.0 r.1) }
-    ensures short { IfOk result (λ r. IsShort r.1) }
+/// Reads the fields of a message: the number of its connection, a payload and random words.
+fn read_sent<T: Texts>(alloc: Global, form: Form, rest: T) -> Result<Event, LineFault>
+    ensures found { IfOk result (λ event. (values : List Value)
+        × AllMean message_kinds (T.texts rest) values
+        × SaysMessage form values event) }
     ensures fault { (f : LineFault) → result ≡ Err f → f ≢ LineFault.Memory →
-        AreAtFault (u32_field ∷ kinds_of verb) (texts_after rest.entry) f }
+        AreAtFault message_kinds (T.texts rest) f }
 {
-    match verb {
-        Verb::Open => {
-            let (number, addr, unlimited) = open_fields(rest)?;
-            Ok((number, Request::Open { addr, unlimited }))
-        }
-        Verb::Close => {
-            let number = one_number(rest)?;
-            Ok((number, Request::Close))
-        }
-        Verb::GetAddr => {
-            let number = one_number(rest)?;
-            Ok((number, Request::GetAddr))
-        }
-        Verb::From => {
-            let (number, payload, words) = message_fields(alloc, rest)?;
-            let read = read_entries(alloc, Form::Addr, payload.items())?;
-            Ok((number, Request::Message { read, words }))
-        }
-        Verb::From2 => {
-            let (number, payload, words) = message_fields(alloc, rest)?;
-            let read = read_entries(alloc, Form::Addrv2, payload.items())?;
-            Ok((number, Request::Message { read, words }))
-        }
-        Verb::Stat => {
-            let number = one_number(rest)?;
-            Ok((number, Request::Stat))
-        }
-    }
-}
-
-/// Reads the only field, a number.
-fn one_number(rest: Option<&[u8]>) -> Result<u32, LineFault>
-    ensures found { IfOk result (λ n.
-        AllMean (u32_field ∷ []) (texts_after rest.entry) (TheNumber n ∷ [])) }
-    ensures fault { (f : LineFault) → result ≡ Err f →
-        AreAtFault (u32_field ∷ []) (texts_after rest.entry) f }
-{
-    let number = one_field(rest).ok_or(LineFault::Fields)?;
-    read_u32(number, 0, u32::MAX)
-}
-
-/// Reads the fields of `open`: a number, an address, and whether the connection is unlimited.
-fn open_fields(rest: Option<&[u8]>) -> Result<(u32, NetAddr, bool), LineFault>
-    ensures found { IfOk result (λ r.
-        AllMean (u32_field ∷ OfAddr ∷ Either (codes "unlimited") (codes "limited") ∷ [])
-        (texts_after rest.entry) (TheNumber r.0 ∷ TheAddr r.1 ∷ TheChoice r.2 ∷ [])) }
-    ensures fault { (f : LineFault) → result ≡ Err f →
-        AreAtFault (u32_field ∷ OfAddr ∷ Either (codes "unlimited") (codes "limited") ∷ [])
-        (texts_after rest.entry) f }
-{
-    let (number, addr, mode) = three_fields(rest).ok_or(LineFault::Fields)?;
-    let number = read_u32(number, 0, u32::MAX)?;
-    let addr = read_addr(addr)?;
-    let unlimited = read_either(mode, b"unlimited", b"limited")?;
-    Ok((number, addr, unlimited))
-}
-
-/// Reads the fields of `from` and `from2`: a number, a payload and random words.
-fn message_fields(alloc: Global, rest: Option<&[u8]>) -> Result<(u32, Bytes, Words), LineFault>
-    requires { IfSome rest (λ text. length text.now ≤ MAX_LINE) }
-    ensures found { IfOk result (λ r.
-        AllMean (u32_field ∷ Hex ∷ Random ∷ []) (texts_after rest.entry)
-        (TheNumber r.0 ∷ TheBytes r.1 ∷ TheWords r.2 ∷ [])) }
-    ensures fault { (f : LineFault) → result ≡ Err f → f ≢ LineFault.Memory →
-        AreAtFault (u32_field ∷ Hex ∷ Random ∷ []) (texts_after rest.entry) f }
-{
-    let (number, payload, words) = three_fields(rest).ok_or(LineFault::Fields)?;
-    let number = read_u32(number, 0, u32::MAX)?;
-    let payload = read_payload(alloc, payload)?;
-    let words = read_random(alloc, words)?;
-    Ok((number, payload, words))
+    let (number, (payload, (words, ()))) = read_fields::<T, (Number, (Payload, (Random, ())))>(
+        alloc, rest,
+    )?;
+    let read = read_entries(alloc, form, payload.items())?;
+    let request = Request::Message { read, words };
+    Ok(Event::Of { number, request })
 }

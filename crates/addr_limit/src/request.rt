@@ -1,5 +1,5 @@
 use addr_codecs::{Entries, MsgFault};
-use log_lines::Words;
+use grammar::Words;
 use net_addr::NetAddr;
 
 /// What a line asks of the connection whose number it names.
@@ -12,7 +12,7 @@ pub enum Request {
     },
     /// It closes.
     Close,
-    /// It is sent getaddr.
+    /// Getaddr is sent to it.
     GetAddr,
     /// A message comes from it, whose payload reads as entries or has a fault. Each entry uses one
     /// random word.
