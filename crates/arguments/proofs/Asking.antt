@@ -1,0 +1,235 @@
+-- Arguments ask for one request at most.
+use Rattle.std.proofs.Common.{◌≡◌, ◌≢◌, ◌≤◌, ◌<◌, ℕ, Bool, true, false, cond, List, [], ◌∷◌, drop, get_or, decimal, find, Option, Some, None, refl, sym, ap, subst, ◌∙◌, arith}
+use Rattle.std.specs.Prelude.{IfSome, IfNone, bytes_eq, unwrap_or}
+use Rattle.std.proofs.lemmas.Fmt.{decimal_injective}
+use Rattle.std.proofs.lemmas.Option.{none-some}
+use Rattle.std.proofs.lemmas.Slice.Eq.{bytes_eq-Decides}
+use Rattle.ban_list.proofs.Forms.{one_subnet}
+use Rattle.ban_list.specs.Subnet.{IsProper}
+use Rattle.ban_list.specs.SubnetText.{IsSubnetText}
+use Rattle.ban_list.specs.declared.subnet.Subnet.{Subnet}
+use Rattle.ban_list.specs.BanFile.{max_time}
+use Rattle.gen_load.specs.declared.generated.TheConstants.{MAX_LINES}
+use Rattle.grammar.specs.Fields.{AllMean, AreAtFault, Kind, Number, TheNumber, ThePeer, Value, u64_field}
+use Rattle.grammar.specs.Table.{all_definite}
+use Rattle.grammar.specs.declared.fault.LineFault.{LineFault}
+use Rattle.grammar.specs.declared.fault.LineFault.TheVariants as fault
+use Rattle.grammar.proofs.TableLemmas.{no_fault_after, one_list}
+use Rattle.peers_file.specs.declared.chain.Chain.{Chain}
+use Rattle.arguments.specs.Options.{IsNet, IsOpeningOptions}
+use Rattle.arguments.specs.Table.{Asks, Fields, Form, HasNoValues, IsProperRequest, Network, OfSubnet, Opening, Period, Reads, TheChain, TheFields, TheOpening, ThePeriod, TheSubnet, Values, form_of, name_of, values_of, word_of}
+use Rattle.arguments.specs.declared.name.CommandName.{CommandName}
+use Rattle.arguments.specs.declared.name.CommandName.TheVariants as name
+use Rattle.arguments.specs.declared.name.TheConstants.{NAMES}
+use Rattle.arguments.specs.declared.request.Request.{Request}
+use Rattle.arguments.specs.declared.request.Request.TheVariants.{Replay, Opener, Compile, Check, Decompile, Limit, Lookup, Show, Ban, Unban, Banned, Gen, Trial}
+use Rattle.arguments.proofs.Choosing.{one_net, one_opening}
+
+-- THE VALUES
+
+-- the fields of the form are definite, as a test
+abbrev definite_form : Form → Bool
+definite_form (Fields kinds) = all_definite kinds
+definite_form other = true
+
+one_period : (texts : List (List ℕ)) (v w : Values) → Reads Period texts v → Reads Period texts w → v ≡ w
+one_period texts v w h k =
+    let e = sym h.5 ∙ k.5 in
+    let subnets = one_subnet k.0 h.1 k.1 (subst (λ t. IsSubnetText t h.1) (ap (λ ts. get_or ts 0 []) e) h.6) k.6 in
+    let nows = decimal_injective h.2 k.2 (omega (arith, h.7, h.8)) (omega (arith, k.7, k.8)) (ap (λ ts. get_or ts 1 []) e) in
+    let untils = decimal_injective h.3 k.3 (omega (arith, h.8)) (omega (arith, k.8)) (ap (λ ts. get_or ts 2 []) e) in
+    h.4 ∙ (λ i. ThePeriod (subnets i) (nows i) (untils i)) ∙ sym k.4
+
+one_values : (form : Form) (texts : List (List ℕ)) (v w : Values) → definite_form form ≡ true → Reads form texts v → Reads form texts w → v ≡ w
+one_values (Fields kinds) texts v w is h k = h.1 ∙ ap TheFields (one_list kinds texts h.0 k.0 is h.2 k.2) ∙ sym k.1
+one_values Opening texts v w is h k =
+    let same = one_opening texts h.0 k.0 h.1 k.1 h.3 k.3 in
+    h.2 ∙ (λ i. TheOpening (same.0 i) (same.1 i)) ∙ sym k.2
+one_values Network texts v w is h k = h.1 ∙ ap TheChain (one_net texts h.0 k.0 h.2 k.2) ∙ sym k.1
+one_values OfSubnet texts v w is h k =
+    let same = ap (λ ts. get_or ts 0 []) (sym h.3 ∙ k.3) in
+    h.2 ∙ ap TheSubnet (one_subnet k.0 h.1 k.1 (subst (λ t. IsSubnetText t h.1) same h.4) k.4) ∙ sym k.2
+one_values Period texts v w is h k = one_period texts v w h k
+
+definite_name : (n : CommandName) → definite_form (form_of n) ≡ true
+definite_name name.Replay = refl
+definite_name other = refl
+
+-- THE NAME
+
+found_name : (n : CommandName) → find (λ k. bytes_eq (word_of k) (word_of n)) NAMES ≡ Some n
+found_name name.Replay = refl
+found_name other = refl
+
+passes : {X : Type 0} (p : X → Bool) (xs : List X) (x : X) → find p xs ≡ Some x → p x ≡ true
+passes p [] x is = absurd (cc)
+passes {X} p (y ∷ ys) x is = by (p y) refl (passes p ys x) is
+  where
+    by : (b : Bool) → p y ≡ b → (find p ys ≡ Some x → p x ≡ true) → cond b (Some y) (find p ys) ≡ Some x → p x ≡ true
+    by true e more same = subst (λ z. p z ≡ true) (ap (λ o. unwrap_or o y) same) e
+    by false e more same = more same
+
+pub word_found : (word : List ℕ) (found : Option CommandName) (n : CommandName) → found ≡ find (λ k. bytes_eq (word_of k) word) NAMES → found ≡ Some n → word ≡ word_of n
+word_found word found n searched some = sym ((bytes_eq-Decides (word_of n) word).0 (passes (λ k. bytes_eq (word_of k) word) NAMES n (sym searched ∙ some)))
+
+pub name_found : (word : List ℕ) (n : CommandName) → word ≡ word_of n → find (λ k. bytes_eq (word_of k) word) NAMES ≡ Some n
+name_found word n is = subst (λ w. find (λ k. bytes_eq (word_of k) w) NAMES ≡ Some n) (sym is) (found_name n)
+
+-- THE REQUEST
+
+request_by : CommandName → Values → Request
+request_by name.Replay (TheOpening key chain) = Replay key chain
+request_by name.Opener (TheOpening key chain) = Opener key chain
+request_by name.Check values = Check
+request_by name.Decompile values = Decompile
+request_by name.Limit values = Limit
+request_by name.Lookup (TheFields (ThePeer peer ∷ [])) = Lookup peer
+request_by name.Show (TheChain chain) = Show chain
+request_by name.Ban (ThePeriod subnet now until) = Ban subnet now until
+request_by name.Unban (TheSubnet subnet) = Unban subnet
+request_by name.Banned (TheFields (ThePeer peer ∷ TheNumber now ∷ [])) = Banned peer now
+request_by name.Gen (TheFields (TheNumber start ∷ TheNumber lines ∷ [])) = Gen start lines
+request_by name.Trial (TheFields (TheNumber start ∷ TheNumber lines ∷ [])) = Trial start lines
+request_by other values = Compile
+
+request_back : (r : Request) → request_by (name_of r) (values_of r) ≡ r
+unfolding request_by
+request_back Compile = refl
+request_back other = refl
+
+one_request : (a b : Request) (texts : List (List ℕ)) → name_of a ≡ name_of b → Reads (form_of (name_of a)) texts (values_of a) → Reads (form_of (name_of b)) texts (values_of b) → a ≡ b
+one_request a b texts names h k =
+    let values = one_values (form_of (name_of a)) texts (values_of a) (values_of b) (definite_name (name_of a)) h (subst (λ n. Reads (form_of n) texts (values_of b)) (sym names) k) in
+    sym (request_back a) ∙ (λ i. request_by (names i) (values i)) ∙ request_back b
+
+-- WHAT IS READ
+
+-- the request that was read has this name, and the texts after it have its values
+abbrev pub IsAfter : CommandName → List (List ℕ) → Request → Type 0
+IsAfter n texts request = (name_of request ≡ n) × Reads (form_of n) texts (values_of request)
+
+pub found_asks : (words texts : List (List ℕ)) (word : List ℕ) (n : CommandName) (r : Option Request) → words ≡ word ∷ texts → word ≡ word_of n → IfSome r (IsAfter n texts) → IfSome r (Asks words)
+found_asks words texts word n None is named found = tt
+found_asks words texts word n (Some request) is named found = (
+  texts,
+  is ∙ ap (λ w. w ∷ texts) (named ∙ ap word_of (sym found.0)),
+  subst (λ m. Reads (form_of m) texts (values_of request)) (sym found.0) found.1,
+)
+
+head_of : (words texts : List (List ℕ)) (word : List ℕ) (request : Request) → words ≡ word ∷ texts → (asks : Asks words request) → word ≡ word_of (name_of request)
+head_of words texts word request is asks = ap (λ ws. get_or ws 0 []) (sym is ∙ asks.1)
+
+only_after : (n : CommandName) (texts : List (List ℕ)) (r : Option Request) → IfSome r (IsAfter n texts) → IfNone r (HasNoValues (form_of n) texts) →
+    (request : Request) → n ≡ name_of request → Reads (form_of (name_of request)) texts (values_of request) → r ≡ Some request
+unfolding HasNoValues
+only_after n texts None found none request is reads = absurd (none (values_of request) (subst (λ m. Reads (form_of m) texts (values_of request)) (sym is) reads))
+only_after n texts (Some read) found none request is reads =
+    ap Some (one_request read request texts (found.0 ∙ is) (subst (λ m. Reads (form_of m) texts (values_of read)) (sym found.0) found.1) reads)
+
+pub only_asked : (words texts : List (List ℕ)) (word : List ℕ) (found : Option CommandName) (n : CommandName) (r : Option Request) → words ≡ word ∷ texts →
+    found ≡ find (λ k. bytes_eq (word_of k) word) NAMES → found ≡ Some n → IfSome r (IsAfter n texts) → IfNone r (HasNoValues (form_of n) texts) →
+    (request : Request) → Asks words request → r ≡ Some request
+only_asked words texts word found n r is searched some reads none request asks =
+    let same : Some n ≡ Some (name_of request) = sym some ∙ searched ∙ name_found word (name_of request) (head_of words texts word request is asks) in
+    let names = ap (λ o. unwrap_or o n) same in
+    let rest = ap (drop 1) (sym asks.1 ∙ is) in
+    only_after n texts r reads none request names (subst (λ ts. Reads (form_of (name_of request)) ts (values_of request)) rest asks.2)
+
+-- WHAT A REQUEST PROMISES
+
+subnet_in : Values → Subnet → Subnet
+subnet_in (TheSubnet subnet) other = subnet
+subnet_in (ThePeriod subnet now until) other = subnet
+subnet_in values other = other
+
+numbers_in : List Value → ℕ
+numbers_in (first ∷ TheNumber n ∷ []) = n
+numbers_in other = 0
+
+fields_in : Values → List Value
+fields_in (TheFields values) = values
+fields_in other = []
+
+few_lines : (texts : List (List ℕ)) (start lines : ℕ) → Reads (form_of name.Gen) texts (TheFields (TheNumber start ∷ TheNumber lines ∷ [])) → lines ≤ MAX_LINES
+unfolding numbers_in fields_in
+few_lines texts start lines reads = by texts reads.0 (ap fields_in reads.1) reads.2
+  where
+    by : (texts : List (List ℕ)) (values : List Value) → TheNumber start ∷ TheNumber lines ∷ [] ≡ values → AllMean (u64_field ∷ Number 1 MAX_LINES ∷ []) texts values → lines ≤ MAX_LINES
+    by (a ∷ b ∷ []) (v ∷ w ∷ []) is all = omega (arith, ap numbers_in is, ap numbers_in (λ i. v ∷ all.1.0.1 i ∷ []), all.1.0.3)
+    by [] values is all = absurd all
+    by (a ∷ []) [] is all = absurd all
+    by (a ∷ []) (v ∷ values) is all = absurd all.1
+    by (a ∷ b ∷ texts) [] is all = absurd all
+    by (a ∷ b ∷ texts) (v ∷ []) is all = absurd all.1
+    by (a ∷ b ∷ c ∷ texts) (v ∷ w ∷ values) is all = absurd all.1.1
+    by (a ∷ b ∷ []) (v ∷ w ∷ x ∷ values) is all = absurd all.1.1
+
+module _ (law : (text : List ℕ) (s : Subnet) → IsSubnetText text s → IsProper s) where
+  proper_period : (texts : List (List ℕ)) (s : Subnet) (now until : ℕ) → Reads Period texts (ThePeriod s now until) → IsProper s
+  unfolding subnet_in
+  proper_period texts s now until reads = subst IsProper (sym (ap (λ v. subnet_in v s) reads.4)) (law reads.0 reads.1 reads.6)
+
+  proper_subnet : (texts : List (List ℕ)) (s : Subnet) → Reads OfSubnet texts (TheSubnet s) → IsProper s
+  unfolding subnet_in
+  proper_subnet texts s reads = subst IsProper (sym (ap (λ v. subnet_in v s) reads.2)) (law reads.0 reads.1 reads.4)
+
+  proper : (request : Request) (texts : List (List ℕ)) → Reads (form_of (name_of request)) texts (values_of request) → IsProperRequest request
+  proper (Ban subnet now until) texts reads = proper_period texts subnet now until reads
+  proper (Unban subnet) texts reads = proper_subnet texts subnet reads
+  proper (Gen start lines) texts reads = few_lines texts start lines reads
+  proper (Trial start lines) texts reads = few_lines texts start lines reads
+  proper other texts reads = tt
+
+  pub proper_asked : (words : List (List ℕ)) (r : Option Request) → IfSome r (Asks words) → IfSome r IsProperRequest
+  proper_asked words None asks = tt
+  proper_asked words (Some request) asks = proper request asks.0 asks.2
+
+-- FIELDS
+
+-- texts that were not read, since memory cannot run out, are not of the kinds
+pub no_fields : (kinds : List Kind) (texts : List (List ℕ)) (f : LineFault) → (f ≡ fault.Memory → ⊥) → (f ≢ fault.Memory → AreAtFault kinds texts f) → HasNoValues (Fields kinds) texts
+unfolding HasNoValues
+no_fields kinds texts f never why v reads = no_fault_after (Some kinds) texts reads.0 f reads.2 (why never)
+
+-- OTHER FORMS
+
+pub no_subnet : (texts : List (List ℕ)) (word : List ℕ) (r : Option Subnet) → texts ≡ word ∷ [] → ((s : Subnet) → IsSubnetText word s → r ≡ Some s) → IfNone r (HasNoValues OfSubnet texts)
+unfolding HasNoValues
+no_subnet texts word None is only = λ v reads.
+    none-some reads.1 (only reads.1 (subst (λ t. IsSubnetText t reads.1) (ap (λ ts. get_or ts 0 []) (sym reads.3 ∙ is)) reads.4))
+no_subnet texts word (Some s) is only = tt
+
+pub no_word : (texts : List (List ℕ)) → ((word : List ℕ) → texts ≡ word ∷ [] → ⊥) → HasNoValues OfSubnet texts
+unfolding HasNoValues
+no_word texts none v reads = none reads.0 reads.3
+
+pub found_subnet : (texts : List (List ℕ)) (word : List ℕ) (r : Option Subnet) → texts ≡ word ∷ [] → IfSome r (IsSubnetText word) → IfSome r (λ s. Reads OfSubnet texts (TheSubnet s))
+found_subnet texts word None is found = tt
+found_subnet texts word (Some s) is found = (word, s, refl, is, found)
+
+pub no_period : (texts : List (List ℕ)) (a b d : List ℕ) (r : Option (Subnet × ℕ × ℕ)) → texts ≡ a ∷ b ∷ d ∷ [] →
+    ((s : Subnet) (n u : ℕ) → IsSubnetText a s → b ≡ decimal n → d ≡ decimal u → n < u → u ≤ max_time → r ≢ None) → IfNone r (HasNoValues Period texts)
+unfolding HasNoValues
+no_period texts a b d None is only = λ v reads.
+    let e = sym is ∙ reads.5 in
+    only reads.1 reads.2 reads.3 (subst (λ t. IsSubnetText t reads.1) (ap (λ ts. get_or ts 0 []) (sym e)) reads.6) (ap (λ ts. get_or ts 1 []) e) (ap (λ ts. get_or ts 2 []) e) reads.7 reads.8 refl
+no_period texts a b d (Some ban) is only = tt
+
+pub no_words : (texts : List (List ℕ)) → ((a b d : List ℕ) → texts ≡ a ∷ b ∷ d ∷ [] → ⊥) → HasNoValues Period texts
+unfolding HasNoValues
+no_words texts none v reads = none reads.0 (decimal reads.2) (decimal reads.3) reads.5
+
+pub found_period : (texts : List (List ℕ)) (a b d : List ℕ) (r : Option (Subnet × ℕ × ℕ)) → texts ≡ a ∷ b ∷ d ∷ [] →
+    IfSome r (λ ban. IsSubnetText a ban.0 × (b ≡ decimal ban.1) × (d ≡ decimal ban.2) × (ban.1 < ban.2) × (ban.2 ≤ max_time)) → IfSome r (λ ban. Reads Period texts (ThePeriod ban.0 ban.1 ban.2))
+found_period texts a b d None is found = tt
+found_period texts a b d (Some ban) is found = (a, ban.0, ban.1, ban.2, refl, is ∙ (λ i. a ∷ found.1 i ∷ found.2 i ∷ []), found.0, found.3, found.4)
+
+pub no_opening : (texts : List (List ℕ)) (r : Option (Option (List ℕ) × Chain)) → ((key : Option (List ℕ)) (chain : Chain) → IsOpeningOptions texts key chain → r ≡ Some (key, chain)) → IfNone r (HasNoValues Opening texts)
+unfolding HasNoValues
+no_opening texts None only = λ v reads. none-some (reads.0, reads.1) (only reads.0 reads.1 reads.3)
+no_opening texts (Some o) only = tt
+
+pub no_net : (texts : List (List ℕ)) (r : Option Chain) → ((chain : Chain) → IsNet texts chain → r ≡ Some chain) → IfNone r (HasNoValues Network texts)
+unfolding HasNoValues
+no_net texts None only = λ v reads. none-some reads.0 (only reads.0 reads.2)
+no_net texts (Some c) only = tt

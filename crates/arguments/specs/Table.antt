@@ -1,0 +1,123 @@
+-- The table of the commands, and what arguments ask for.
+use Rattle.std.specs.Prelude.{◌≡◌, ◌<◌, ◌≤◌, ℕ, List, [], ◌∷◌, Option, codes, decimal, ⊤}
+use Rattle.ban_list.specs.BanFile.{max_time}
+use Rattle.ban_list.specs.Subnet.{IsProper}
+use Rattle.ban_list.specs.SubnetText.{IsSubnetText}
+use Rattle.ban_list.specs.declared.subnet.Subnet.{Subnet}
+use Rattle.gen_load.specs.declared.generated.TheConstants.{MAX_LINES}
+use Rattle.grammar.specs.Fields.{AllMean, Kind, Number, OfPeer, Value, TheNumber, ThePeer, u64_field}
+use Rattle.peers_file.specs.declared.chain.Chain.{Chain}
+use Rattle.arguments.specs.Options.{IsNet, IsOpeningOptions}
+use Rattle.arguments.specs.declared.name.CommandName.{CommandName}
+use Rattle.arguments.specs.declared.name.CommandName.TheVariants as name
+use Rattle.arguments.specs.declared.request.Request.{Request}
+use Rattle.arguments.specs.declared.request.Request.TheVariants.{Replay, Opener, Compile, Check, Decompile, Limit, Lookup, Show, Ban, Unban, Banned, Gen, Trial}
+
+-- THE ARGUMENTS AFTER A NAME
+
+-- What comes after the name of a command: fields of these kinds; the options `--key` and `--net`;
+-- `--net` alone; a subnet; or a subnet and two times, of which the first is the earlier one.
+pub data Form : Type 0 where
+  Fields : List Kind → Form
+  Opening : Form
+  Network : Form
+  OfSubnet : Form
+  Period : Form
+
+-- the values of the arguments after a name
+pub data Values : Type 0 where
+  TheFields : List Value → Values
+  TheOpening : Option (List ℕ) → Chain → Values
+  TheChain : Chain → Values
+  TheSubnet : Subnet → Values
+  ThePeriod : Subnet → ℕ → ℕ → Values
+
+-- the arguments after a name are of the form and have these values
+abbrev pub Reads : Form → List (List ℕ) → Values → Type 0
+Reads (Fields kinds) texts v = (values : List Value) × (v ≡ TheFields values) × AllMean kinds texts values
+Reads Opening texts v =
+    (key : Option (List ℕ)) × (chain : Chain) × (v ≡ TheOpening key chain) × IsOpeningOptions texts key chain
+Reads Network texts v = (chain : Chain) × (v ≡ TheChain chain) × IsNet texts chain
+Reads OfSubnet texts v =
+    (text : List ℕ) × (subnet : Subnet) × (v ≡ TheSubnet subnet) × (texts ≡ text ∷ []) × IsSubnetText text subnet
+Reads Period texts v =
+    (text : List ℕ) × (subnet : Subnet) × (now : ℕ) × (until : ℕ) × (v ≡ ThePeriod subnet now until)
+    × (texts ≡ text ∷ decimal now ∷ decimal until ∷ []) × IsSubnetText text subnet × (now < until) × (until ≤ max_time)
+
+-- the arguments after a name are not of the form
+unfoldable pub HasNoValues : Form → List (List ℕ) → Type 0
+HasNoValues form texts = (values : Values) → ¬ Reads form texts values
+
+-- THE TABLE
+
+abbrev pub word_of : CommandName → List ℕ
+word_of name.Replay = codes "replay"
+word_of name.Opener = codes "opener"
+word_of name.Compile = codes "compile"
+word_of name.Check = codes "check"
+word_of name.Decompile = codes "decompile"
+word_of name.Limit = codes "limit"
+word_of name.Lookup = codes "lookup"
+word_of name.Show = codes "show"
+word_of name.Ban = codes "ban"
+word_of name.Unban = codes "unban"
+word_of name.Banned = codes "banned"
+word_of name.Gen = codes "gen"
+word_of name.Trial = codes "trial"
+
+abbrev pub form_of : CommandName → Form
+form_of name.Replay = Opening
+form_of name.Opener = Opening
+form_of name.Lookup = Fields (OfPeer ∷ [])
+form_of name.Show = Network
+form_of name.Ban = Period
+form_of name.Unban = OfSubnet
+form_of name.Banned = Fields (OfPeer ∷ Number 0 max_time ∷ [])
+form_of name.Gen = Fields (u64_field ∷ Number 1 MAX_LINES ∷ [])
+form_of name.Trial = Fields (u64_field ∷ Number 1 MAX_LINES ∷ [])
+form_of other = Fields []
+
+-- the name of a request's command
+abbrev pub name_of : Request → CommandName
+name_of (Replay key chain) = name.Replay
+name_of (Opener key chain) = name.Opener
+name_of Compile = name.Compile
+name_of Check = name.Check
+name_of Decompile = name.Decompile
+name_of Limit = name.Limit
+name_of (Lookup peer) = name.Lookup
+name_of (Show chain) = name.Show
+name_of (Ban subnet now until) = name.Ban
+name_of (Unban subnet) = name.Unban
+name_of (Banned peer now) = name.Banned
+name_of (Gen start lines) = name.Gen
+name_of (Trial start lines) = name.Trial
+
+-- the values of its arguments
+abbrev pub values_of : Request → Values
+values_of (Replay key chain) = TheOpening key chain
+values_of (Opener key chain) = TheOpening key chain
+values_of (Lookup peer) = TheFields (ThePeer peer ∷ [])
+values_of (Show chain) = TheChain chain
+values_of (Ban subnet now until) = ThePeriod subnet now until
+values_of (Unban subnet) = TheSubnet subnet
+values_of (Banned peer now) = TheFields (ThePeer peer ∷ TheNumber now ∷ [])
+values_of (Gen start lines) = TheFields (TheNumber start ∷ TheNumber lines ∷ [])
+values_of (Trial start lines) = TheFields (TheNumber start ∷ TheNumber lines ∷ [])
+values_of other = TheFields []
+
+-- the arguments ask for this
+abbrev pub Asks : List (List ℕ) → Request → Type 0
+Asks words request =
+    (texts : List (List ℕ)) × (words ≡ word_of (name_of request) ∷ texts)
+    × Reads (form_of (name_of request)) texts (values_of request)
+
+-- WHAT A REQUEST PROMISES
+
+-- the subnet of a request, if it has one, is proper, and a generated log is within its limit
+abbrev pub IsProperRequest : Request → Type 0
+IsProperRequest (Ban subnet now until) = IsProper subnet
+IsProperRequest (Unban subnet) = IsProper subnet
+IsProperRequest (Gen start lines) = lines ≤ MAX_LINES
+IsProperRequest (Trial start lines) = lines ≤ MAX_LINES
+IsProperRequest other = ⊤

@@ -1,0 +1,165 @@
+ghost use Rattle.std.specs.Prelude.{◌≡◌, ◌⊎◌, ℕ, List, [], ◌∷◌, ◌++◌, codes, map, string_bytes, Option, Some, IfSome, IfNone};
+ghost use Rattle.std.specs.Option.{option_map};
+ghost use Rattle.arguments.specs.Options.{IsKey, IsKeyOption, IsNet, IsOpeningOptions, IsOption, chain_name};
+ghost use Rattle.arguments.specs.Table.{HasNoValues, Network, Opening};
+ghost use Rattle.peers_file.specs.declared.chain.Chain.{Chain};
+
+use hex::FromHex;
+use peers_file::Chain;
+
+/// Reads the arguments that say how tables are opened: `--key` with a key and `--net` with a chain,
+/// each at most once.
+pub(crate) fn read_opening(words: &[String]) -> Option<(Option<[u8; 32]>, Chain)>
+    ensures found { IfSome result (λ o. IsOpeningOptions (map string_bytes words.now) o.0 o.1) }
+    ensures only { (key : Option (List ℕ)) (chain : Chain) →
+        IsOpeningOptions (map string_bytes words.now) key chain → result ≡ Some (key, chain) }
+    ensures none { IfNone result (HasNoValues Opening (map string_bytes words.now)) }
+{
+    if words.is_empty() {
+        return Some((None, Chain::Main));
+    }
+    if let Some((digits, rest)) = cut_option(words, b"--key") {
+        return read_key_then_net(digits, rest);
+    }
+    let (name, rest) = cut_option(words, b"--net")?;
+    read_net_then_key(name, rest)
+}
+
+/// Reads the digits of a key, and then the arguments that choose a chain.
+fn read_key_then_net(digits: &[u8], words: &[String]) -> Option<(Option<[u8; 32]>, Chain)>
+    ensures found { IfSome result (λ o. (key : List ℕ) × (o.0 ≡ Some key) × IsKey digits.now key
+        × IsNet (map string_bytes words.now) o.1) }
+    ensures only { (key : List ℕ) (chain : Chain) → IsKey digits.now key →
+        IsNet (map string_bytes words.now) chain → result ≡ Some (Some key, chain) }
+{
+    let key = read_key(digits)?;
+    let chain = read_net(words)?;
+    Some((Some(key), chain))
+}
+
+/// Reads the name of a chain, and then the arguments that choose a key.
+fn read_net_then_key(name: &[u8], words: &[String]) -> Option<(Option<[u8; 32]>, Chain)>
+    ensures found { IfSome result (λ o. (name.now ≡ chain_name o.1)
+        × IsKeyOption (map string_bytes words.now) o.0) }
+    ensures only { (key : Option (List ℕ)) (chain : Chain) → name.now ≡ chain_name chain →
+        IsKeyOption (map string_bytes words.now) key → result ≡ Some (key, chain) }
+{
+    let chain = read_chain(name)?;
+    let key = read_key_option(words)?;
+    Some((key, chain))
+}
+
+/// Reads the arguments that are `--key` with a key, or none for no key.
+fn read_key_option(words: &[String]) -> Option<Option<[u8; 32]>>
+    ensures found { IfSome result (λ key. IsKeyOption (map string_bytes words.now) key) }
+    ensures only { (key : Option (List ℕ)) → IsKeyOption (map string_bytes words.now) key → result ≡ Some key }
+{
+    if words.is_empty() {
+        return Some(None);
+    }
+    let key = read_key(option_value(words, b"--key")?)?;
+    Some(Some(key))
+}
+
+/// Reads the arguments that are `--net` with a chain, or none for main.
+#[tactic(auto, unfolding(crate::specs::Table::HasNoValues))]
+pub(crate) fn read_net(words: &[String]) -> Option<Chain>
+    ensures found { IfSome result (λ chain. IsNet (map string_bytes words.now) chain) }
+    ensures only { (chain : Chain) → IsNet (map string_bytes words.now) chain → result ≡ Some chain }
+    ensures none { IfNone result (HasNoValues Network (map string_bytes words.now)) }
+{
+    if words.is_empty() {
+        return Some(Chain::Main);
+    }
+    read_chain(option_value(words, b"--net")?)
+}
+
+/// Reads the name of a chain.
+fn read_chain(name: &[u8]) -> Option<Chain>
+    ensures found { IfSome result (λ chain. name.now ≡ chain_name chain) }
+    ensures only { (chain : Chain) → name.now ≡ chain_name chain → result ≡ Some chain }
+{
+    if name == b"main".as_slice() {
+        Some(Chain::Main)
+    } else if name == b"test".as_slice() {
+        Some(Chain::Test)
+    } else if name == b"signet".as_slice() {
+        Some(Chain::Signet)
+    } else if name == b"regtest".as_slice() {
+        Some(Chain::Regtest)
+    } else {
+        None
+    }
+}
+
+/// Cuts the option `name` off the arguments that begin with it, and returns its value and the rest.
+fn cut_option<'a>(words: &'a [String], name: &[u8]) -> Option<(&'a [u8], &'a [String])>
+    ensures found { IfSome result (λ parts. (map string_bytes words.now ≡ name.now ∷ parts.0.now ∷ map string_bytes parts.1.now)
+        ⊎ (map string_bytes words.now ≡ (name.now ++ codes "=" ++ parts.0.now) ∷ map string_bytes parts.1.now)) }
+    ensures none { IfNone result ((value : List ℕ) (rest : List (List ℕ)) →
+        (map string_bytes words.now ≡ name.now ∷ value ∷ rest) ⊎ (map string_bytes words.now ≡ (name.now ++ codes "=" ++ value) ∷ rest) → ⊥) }
+{
+    let (first, rest) = first_word(words)?;
+    if first == name {
+        return first_word(rest);
+    }
+    let value = value_after_equals(first, name)?;
+    Some((value, rest))
+}
+
+/// Returns the value of the option `name`, in two arguments or in one with `=` between them.
+fn option_value<'a>(words: &'a [String], name: &[u8]) -> Option<&'a [u8]>
+    ensures found { IfSome result (λ value. IsOption name.now value.now (map string_bytes words.now)) }
+    ensures only { (value : List ℕ) → IsOption name.now value (map string_bytes words.now) → option_map (λ found. found.now) result ≡ Some value }
+{
+    let (first, rest) = first_word(words)?;
+    if rest.is_empty() {
+        return value_after_equals(first, name);
+    }
+    let value = only_word(rest)?;
+    if first == name { Some(value) } else { None }
+}
+
+/// Returns the value in an argument that is the name, `=` and the value.
+fn value_after_equals<'a>(word: &'a [u8], name: &[u8]) -> Option<&'a [u8]>
+    ensures found { IfSome result (λ value. word.now ≡ name.now ++ codes "=" ++ value.now) }
+    ensures only { (value : List ℕ) → word.now ≡ name.now ++ codes "=" ++ value → option_map (λ found. found.now) result ≡ Some value }
+{
+    after_prefix(after_prefix(word, name)?, b"=")
+}
+
+/// Returns what follows `prefix` in a text that begins with it.
+fn after_prefix<'a>(text: &'a [u8], prefix: &[u8]) -> Option<&'a [u8]>
+    ensures found { IfSome result (λ rest. text.now ≡ prefix.now ++ rest.now) }
+    ensures none { IfNone result ((rest : List ℕ) → text.now ≡ prefix.now ++ rest → ⊥) }
+{
+    text.strip_prefix(prefix)
+}
+
+/// Reads a key of 32 bytes from 64 hexadecimal digits, in either case.
+fn read_key(digits: &[u8]) -> Option<[u8; 32]>
+    ensures found { IfSome result (λ key. IsKey digits.now key) }
+    ensures only { (key : List ℕ) → IsKey digits.now key → result ≡ Some key }
+{
+    <[u8; 32] as FromHex>::from_hex(digits).ok()
+}
+
+/// Returns the argument if there is only one.
+pub(crate) fn only_word(words: &[String]) -> Option<&[u8]>
+    ensures some { IfSome result (λ word. map string_bytes words.now ≡ word.now ∷ []) }
+    ensures none { IfNone result ((word : List ℕ) → map string_bytes words.now ≡ word ∷ [] → ⊥) }
+{
+    match words {
+        [word] => Some(word.as_bytes()),
+        _ => None,
+    }
+}
+
+/// Returns the first argument and those after it.
+pub(crate) fn first_word(words: &[String]) -> Option<(&[u8], &[String])>
+    ensures some { IfSome result (λ parts. map string_bytes words.now ≡ parts.0.now ∷ map string_bytes parts.1.now) }
+    ensures none { IfNone result (map string_bytes words.now ≡ []) }
+{
+    let (first, rest) = words.split_first()?;
+    Some((first.as_bytes(), rest))
+}

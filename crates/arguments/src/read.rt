@@ -1,0 +1,135 @@
+ghost use Rattle.std.specs.Prelude.{◌≡◌, [], map, string_bytes, Some, IfSome, IfNone};
+ghost use Rattle.arguments.specs.Table.{Asks, Fields, HasNoValues, IsProperRequest, Reads, TheFields, form_of, name_of, values_of};
+ghost use Rattle.arguments.specs.declared.request.Request.{Request};
+
+use crate::Request;
+use crate::bans::{read_period, read_subnet};
+use crate::name::{CommandName, NAMES};
+use crate::options::{first_word, read_net, read_opening};
+use ban_list::texts_have_one_meaning;
+use gen_load::MAX_LINES;
+use grammar::{Between, Fields, LongBetween, OnePeer, find_keyword, read_fields};
+use std::alloc::Global;
+
+/// A time in seconds since 1970.
+type Time = Between<0, { u32::MAX }>;
+
+/// The number of a generated log, and how many lines it has.
+type Load = (
+    LongBetween<0, { u64::MAX }>,
+    (Between<1, { MAX_LINES }>, ()),
+);
+
+/// Returns the request that the arguments ask for, or `None` if they are not those of a command.
+pub fn read_request(alloc: Global, words: &[String]) -> Option<Request>
+    ensures found { IfSome result (Asks (map string_bytes words.now)) }
+    ensures only { (request : Request) → Asks (map string_bytes words.now) request →
+        result ≡ Some request }
+    ensures proper { IfSome result IsProperRequest }
+{
+    texts_have_one_meaning();
+    request_of(alloc, words)
+}
+
+/// Reads the name of the command, and then its arguments.
+fn request_of(alloc: Global, words: &[String]) -> Option<Request>
+    ensures found { IfSome result (Asks (map string_bytes words.now)) }
+    ensures only { (request : Request) → Asks (map string_bytes words.now) request →
+        result ≡ Some request }
+{
+    let (word, rest) = first_word(words)?;
+    let name = find_keyword(&NAMES, word)?;
+    read_after(alloc, name, rest)
+}
+
+/// Reads the arguments after the name of a command.
+fn read_after(alloc: Global, name: CommandName, rest: &[String]) -> Option<Request>
+    ensures found { IfSome result (λ request. (name_of request ≡ name)
+        × Reads (form_of name) (map string_bytes rest.now) (values_of request)) }
+    ensures none { IfNone result (HasNoValues (form_of name) (map string_bytes rest.now)) }
+{
+    match name {
+        CommandName::Replay => {
+            let Some((key, chain)) = read_opening(rest) else {
+                return None;
+            };
+            Some(Request::Replay { key, chain })
+        }
+        CommandName::Opener => {
+            let Some((key, chain)) = read_opening(rest) else {
+                return None;
+            };
+            Some(Request::Opener { key, chain })
+        }
+        CommandName::Compile => only_name(rest, Request::Compile),
+        CommandName::Check => only_name(rest, Request::Check),
+        CommandName::Decompile => only_name(rest, Request::Decompile),
+        CommandName::Limit => only_name(rest, Request::Limit),
+        CommandName::Lookup => {
+            let Some((peer, ())) = read_values::<(OnePeer, ())>(alloc, rest) else {
+                return None;
+            };
+            Some(Request::Lookup { peer })
+        }
+        CommandName::Show => {
+            let Some(chain) = read_net(rest) else {
+                return None;
+            };
+            Some(Request::Show { chain })
+        }
+        CommandName::Ban => {
+            let Some((subnet, now, until)) = read_period(rest) else {
+                return None;
+            };
+            Some(Request::Ban { subnet, now, until })
+        }
+        CommandName::Unban => {
+            let Some(subnet) = read_subnet(rest) else {
+                return None;
+            };
+            Some(Request::Unban { subnet })
+        }
+        CommandName::Banned => {
+            let Some((peer, (now, ()))) = read_values::<(OnePeer, (Time, ()))>(alloc, rest) else {
+                return None;
+            };
+            Some(Request::Banned { peer, now })
+        }
+        CommandName::Gen => {
+            let Some((start, (lines, ()))) = read_values::<Load>(alloc, rest) else {
+                return None;
+            };
+            Some(Request::Gen { start, lines })
+        }
+        CommandName::Trial => {
+            let Some((start, (lines, ()))) = read_values::<Load>(alloc, rest) else {
+                return None;
+            };
+            Some(Request::Trial { start, lines })
+        }
+    }
+}
+
+/// Reads arguments that are fields, or returns `None` if they are too few or too many or one is not
+/// in form.
+fn read_values<'a, R: Fields<&'a [String]>>(alloc: Global, rest: &'a [String]) -> Option<R::Out>
+    requires { ¬ R.may_stop }
+    ensures found { IfSome result (λ x.
+        Reads (Fields R.kinds) (map string_bytes rest.now) (TheFields (R.values x))) }
+    ensures none { IfNone result (HasNoValues (Fields R.kinds) (map string_bytes rest.now)) }
+{
+    match read_fields::<&'a [String], R>(alloc, rest) {
+        Ok(values) => Some(values),
+        Err(_) => None,
+    }
+}
+
+/// Returns the request if there are no arguments after the name.
+#[tactic(auto, unfolding(crate::specs::Table::HasNoValues))]
+fn only_name(rest: &[String], request: Request) -> Option<Request>
+    ensures found { IfSome result (λ asked. (asked ≡ request)
+        × Reads (Fields []) (map string_bytes rest.now) (TheFields [])) }
+    ensures none { IfNone result (HasNoValues (Fields []) (map string_bytes rest.now)) }
+{
+    if rest.is_empty() { Some(request) } else { None }
+}

@@ -1,0 +1,64 @@
+use ban_list::Subnet;
+use net_addr::Peer;
+use peers_file::Chain;
+
+/// What the arguments ask for.
+#[derive(Clone, Copy, Debug)]
+pub enum Request {
+    /// `replay --key HEX64 --net CHAIN`: carry out the lines of the log, from the tables of peers.dat,
+    /// a file of this chain (of main without `--net`), or if it is absent, from empty tables with
+    /// this key.
+    Replay {
+        key: Option<[u8; 32]>,
+        chain: Chain,
+    },
+    /// `opener --key HEX64 --net CHAIN`: carry out the lines of a log that also opens, tests and
+    /// closes outbound connections, from the tables that a replay with these options begins with.
+    Opener {
+        key: Option<[u8; 32]>,
+        chain: Chain,
+    },
+    /// `compile`: compile prefixes.txt into asmap.dat, and say how large it is.
+    Compile,
+    /// `check`: say whether asmap.dat is sane.
+    Check,
+    /// `decompile`: write the table of prefixes that asmap.dat encodes.
+    Decompile,
+    /// `limit`: limit the addresses that each connection may send, and write the log that is left.
+    Limit,
+    /// `lookup PEER`: say which AS number and group the peer's address has.
+    Lookup {
+        peer: Peer,
+    },
+    /// `show --net CHAIN`: list what peers.dat has, a file of this chain; of main without `--net`.
+    Show {
+        chain: Chain,
+    },
+    /// `ban SUBNET NOW UNTIL`: drop the bans of banlist.json that are over, and ban the subnet until
+    /// a later time, unless it is banned until then or later already, or the list is full.
+    Ban {
+        subnet: Subnet,
+        now: u32,
+        until: u32,
+    },
+    /// `unban SUBNET`: take the subnet's ban out of banlist.json.
+    Unban {
+        subnet: Subnet,
+    },
+    /// `banned PEER NOW`: say which ban of banlist.json covers the peer's address.
+    Banned {
+        peer: Peer,
+        now: u32,
+    },
+    /// `gen START LINES`: write the generated log of a number with this many lines.
+    Gen {
+        start: u64,
+        lines: u32,
+    },
+    /// `trial START LINES`: carry out the generated log of a number from empty tables, and write one
+    /// line about the replies.
+    Trial {
+        start: u64,
+        lines: u32,
+    },
+}
