@@ -9,10 +9,11 @@ use Rattle.log_lines.specs.declared.command.Command.TheVariants.{Size}
 use Rattle.log_lines.specs.declared.verb.Verb.TheVariants as v
 use Rattle.log_run.specs.declared.limits.TheConstants.{MAX_LINE}
 use Rattle.peers_file.specs.declared.chain.Chain.TheVariants.{Main}
-use Rattle.addrman_run.specs.Complete.{IsGoodLog, IsReplayLine, NoRefusal, ReportsOpening}
+use Rattle.addrman_run.specs.Complete.{IsGoodLog, IsReplayLine, NoRefusal}
+use Rattle.addrman_run.specs.Opening.{ReportsOpening}
 use Rattle.addrman_run.specs.declared.peers_fault.PeersFault.TheVariants.{File, Duplicate}
 use Rattle.asmap_vm.specs.declared.fault.CodeFault.TheVariants.{TooLarge, Insane}
-use Rattle.addrman_run.specs.declared.status.Status.TheVariants.{Done, Usage, LogLine, PeersRefused, AsmapRefused, TableRefused, ReadFault, WriteFault, DiskFault, LogTooLong, NoKey, Memory, LineTooLong, NoFile, TooManyRows, BansRefused}
+use Rattle.addrman_run.specs.declared.status.Status.TheVariants.{AsmapRefused, NoKey, PeersRefused}
 
 none_some : {T : Type 0} (x : T) → ◌≡◌ {A = Option T} None (Some x) → ⊥
 none_some x is = cc
@@ -61,19 +62,7 @@ no_files = Some (record {
 nothing_refused : (key : List ℕ) → NoRefusal (ReportsOpening (Some key) Main no_files)
 nothing_refused key (AsmapRefused (TooLarge size)) why = none_some size why.1
 nothing_refused key (AsmapRefused Insane) why = none_some why.0 why.1.1
-nothing_refused key (PeersRefused (File fault)) why = none_some why.1.0 why.1.1
-nothing_refused key (PeersRefused (Duplicate index)) why = none_some why.1.0 why.1.1
-nothing_refused key NoKey why = none_some key (sym why.0)
-nothing_refused key Done why = why
-nothing_refused key Memory why = why
-nothing_refused key Usage why = why
-nothing_refused key (LogLine n fault) why = why
-nothing_refused key (LineTooLong n) why = why
-nothing_refused key LogTooLong why = why
-nothing_refused key ReadFault why = why
-nothing_refused key WriteFault why = why
-nothing_refused key DiskFault why = why
-nothing_refused key (NoFile file) why = why
-nothing_refused key (TableRefused fault) why = why
-nothing_refused key TooManyRows why = why
-nothing_refused key (BansRefused fault) why = why
+nothing_refused key (PeersRefused (File fault)) why = none_some why.1.1.0 why.1.1.1
+nothing_refused key (PeersRefused (Duplicate index)) why = none_some why.1.1.0 why.1.1.1
+nothing_refused key NoKey why = none_some key (sym why.1.0)
+nothing_refused key other why = why

@@ -26,7 +26,8 @@ use Rattle.peers_file.specs.declared.chain.Chain.{Chain}
 use Rattle.session.specs.History.{RoseBy}
 use Rattle.addrman_run.specs.Bans.{BansEnds, Change, ReportsBans}
 use Rattle.addrman_run.specs.Compile.{CompileEnds}
-use Rattle.addrman_run.specs.Complete.{IsComplete, IsGoodLog, IsLimitLine, IsOpenerLine, IsReplayLine, IsUsable, NoRefusal, NoSaveFails, NothingFails, NothingIsWrong, ReportsOpening}
+use Rattle.addrman_run.specs.Complete.{IsComplete, IsGoodLog, IsLimitLine, IsOpenerLine, IsReplayLine, IsUsable, NoRefusal, NoSaveFails, NothingFails, NothingIsWrong}
+use Rattle.addrman_run.specs.Opening.{ReportsOpening}
 use Rattle.addrman_run.specs.FileLine.{FileLineEnds}
 use Rattle.addrman_run.specs.Generate.{GenText}
 use Rattle.addrman_run.specs.Limit.{LimitEnds, Limited}
@@ -36,9 +37,9 @@ use Rattle.addrman_run.specs.Outcome.{Ends, HasCause}
 use Rattle.addrman_run.specs.Replay.{NotOpened, ReplayEnds, Replayed}
 use Rattle.addrman_run.specs.Tables.{ReportsTable}
 use Rattle.addrman_run.specs.Trial.{TrialText}
-use Rattle.addrman_run.specs.declared.request.Request.TheVariants as request
-use Rattle.addrman_run.specs.declared.request.Request.{Request}
-use Rattle.addrman_run.specs.declared.status.Status.TheVariants.{Done, Usage, LogLine, PeersRefused, AsmapRefused, TableRefused, ReadFault, WriteFault, DiskFault, LogTooLong, NoKey, Memory, LineTooLong, NoFile, TooManyRows, BansRefused}
+use Rattle.arguments.specs.declared.request.Request.TheVariants as request
+use Rattle.arguments.specs.declared.request.Request.{Request}
+use Rattle.addrman_run.specs.declared.status.Status.TheVariants.{Done, LogLine, PeersRefused, AsmapRefused, ReadFault, WriteFault, DiskFault, LogTooLong, NoKey, Memory, LineTooLong, NoFile}
 use Rattle.addrman_run.specs.declared.status.Status.{Status}
 
 -- done, or out of memory
@@ -149,8 +150,8 @@ unopened_done : (key : Option (List ℕ)) (chain : Chain) (old new : Outside) (a
 unopened_done key chain old new Memory fine calm cause is = inr refl
 unopened_done key chain old new DiskFault fine calm cause is = absurd (no_disk_fault old new cause calm is.1.log.0)
 unopened_done key chain old new (AsmapRefused fault) fine calm cause is = absurd (fine (AsmapRefused fault) is.0)
-unopened_done key chain old new (PeersRefused fault) fine calm cause is = absurd (fine (PeersRefused fault) is.0.1)
-unopened_done key chain old new NoKey fine calm cause is = absurd (fine NoKey is.0.1)
+unopened_done key chain old new (PeersRefused fault) fine calm cause is = absurd (fine (PeersRefused fault) is.0)
+unopened_done key chain old new NoKey fine calm cause is = absurd (fine NoKey is.0)
 unopened_done key chain old new other fine calm cause is = absurd is.0
 
 replay_done : (key : Option (List ℕ)) (chain : Chain) (old new : Outside) (answer : Status) → ReplayEnds key chain old new answer → HasCause old new answer
@@ -187,17 +188,7 @@ file_line_done name IsLine Refuses old new Memory ends cause fine calm = inr ref
 file_line_done name IsLine Refuses old new WriteFault ends cause fine calm = absurd (no_write_fault old new cause calm)
 file_line_done name IsLine Refuses old new DiskFault ends cause fine calm = absurd (no_disk_fault old new cause calm ends.left.0)
 file_line_done name IsLine Refuses old new (NoFile file) ends cause fine calm = absurd (fine.0 ends.text.1)
-file_line_done name IsLine Refuses old new (AsmapRefused fault) ends cause fine calm = absurd (fine.1 (AsmapRefused fault) ends.text.0)
-file_line_done name IsLine Refuses old new (PeersRefused fault) ends cause fine calm = absurd (fine.1 (PeersRefused fault) ends.text.0)
-file_line_done name IsLine Refuses old new (TableRefused fault) ends cause fine calm = absurd (fine.1 (TableRefused fault) ends.text.0)
-file_line_done name IsLine Refuses old new (BansRefused fault) ends cause fine calm = absurd (fine.1 (BansRefused fault) ends.text.0)
-file_line_done name IsLine Refuses old new TooManyRows ends cause fine calm = absurd (fine.1 TooManyRows ends.text.0)
-file_line_done name IsLine Refuses old new Usage ends cause fine calm = absurd (fine.1 Usage ends.text.0)
-file_line_done name IsLine Refuses old new (LogLine n fault) ends cause fine calm = absurd (fine.1 (LogLine n fault) ends.text.0)
-file_line_done name IsLine Refuses old new (LineTooLong n) ends cause fine calm = absurd (fine.1 (LineTooLong n) ends.text.0)
-file_line_done name IsLine Refuses old new LogTooLong ends cause fine calm = absurd (fine.1 LogTooLong ends.text.0)
-file_line_done name IsLine Refuses old new ReadFault ends cause fine calm = absurd (fine.1 ReadFault ends.text.0)
-file_line_done name IsLine Refuses old new NoKey ends cause fine calm = absurd (fine.1 NoKey ends.text.0)
+file_line_done name IsLine Refuses old new other ends cause fine calm = absurd (fine.1 other ends.text.0)
 
 compile_done : (old new : Outside) (answer : Status) → CompileEnds old new answer → HasCause old new answer → IsUsable name.Prefixes ReportsTable old.past → NothingFails old new → IsDone answer
 compile_done old new Done ends cause fine calm = inl refl
@@ -205,71 +196,26 @@ compile_done old new Memory ends cause fine calm = inr refl
 compile_done old new WriteFault ends cause fine calm = absurd (no_write_fault old new cause calm)
 compile_done old new DiskFault ends cause fine calm = absurd (no_disk_fault old new cause calm ends.left.0)
 compile_done old new (NoFile file) ends cause fine calm = absurd (fine.0 ends.text.1)
-compile_done old new (AsmapRefused fault) ends cause fine calm = absurd (fine.1 (AsmapRefused fault) ends.text.0)
-compile_done old new (PeersRefused fault) ends cause fine calm = absurd (fine.1 (PeersRefused fault) ends.text.0)
-compile_done old new (TableRefused fault) ends cause fine calm = absurd (fine.1 (TableRefused fault) ends.text.0)
-compile_done old new (BansRefused fault) ends cause fine calm = absurd (fine.1 (BansRefused fault) ends.text.0)
-compile_done old new TooManyRows ends cause fine calm = absurd (fine.1 TooManyRows ends.text.0)
-compile_done old new Usage ends cause fine calm = absurd (fine.1 Usage ends.text.0)
-compile_done old new (LogLine n fault) ends cause fine calm = absurd (fine.1 (LogLine n fault) ends.text.0)
-compile_done old new (LineTooLong n) ends cause fine calm = absurd (fine.1 (LineTooLong n) ends.text.0)
-compile_done old new LogTooLong ends cause fine calm = absurd (fine.1 LogTooLong ends.text.0)
-compile_done old new ReadFault ends cause fine calm = absurd (fine.1 ReadFault ends.text.0)
-compile_done old new NoKey ends cause fine calm = absurd (fine.1 NoKey ends.text.0)
+compile_done old new other ends cause fine calm = absurd (fine.1 other ends.text.0)
 
 bans_done : (change : List Ban → Change) (old new : Outside) (answer : Status) → BansEnds change old new answer → HasCause old new answer → NoRefusal (ReportsBans old.past) → NothingFails old new → IsDone answer
 bans_done change old new Done ends cause fine calm = inl refl
 bans_done change old new Memory ends cause fine calm = inr refl
 bans_done change old new WriteFault ends cause fine calm = absurd (no_write_fault old new cause calm)
 bans_done change old new DiskFault ends cause fine calm = absurd (no_disk_fault old new cause calm ends.left.0)
-bans_done change old new (NoFile file) ends cause fine calm = absurd (fine (NoFile file) ends.text.0)
-bans_done change old new (AsmapRefused fault) ends cause fine calm = absurd (fine (AsmapRefused fault) ends.text.0)
-bans_done change old new (PeersRefused fault) ends cause fine calm = absurd (fine (PeersRefused fault) ends.text.0)
-bans_done change old new (TableRefused fault) ends cause fine calm = absurd (fine (TableRefused fault) ends.text.0)
-bans_done change old new (BansRefused fault) ends cause fine calm = absurd (fine (BansRefused fault) ends.text.0)
-bans_done change old new TooManyRows ends cause fine calm = absurd (fine TooManyRows ends.text.0)
-bans_done change old new Usage ends cause fine calm = absurd (fine Usage ends.text.0)
-bans_done change old new (LogLine n fault) ends cause fine calm = absurd (fine (LogLine n fault) ends.text.0)
-bans_done change old new (LineTooLong n) ends cause fine calm = absurd (fine (LineTooLong n) ends.text.0)
-bans_done change old new LogTooLong ends cause fine calm = absurd (fine LogTooLong ends.text.0)
-bans_done change old new ReadFault ends cause fine calm = absurd (fine ReadFault ends.text.0)
-bans_done change old new NoKey ends cause fine calm = absurd (fine NoKey ends.text.0)
+bans_done change old new other ends cause fine calm = absurd (fine other ends.text.0)
 
 gen_done : (first count : ℕ) (old new : Outside) (answer : Status) → GenText first count old.written new.written answer → HasCause old new answer → NothingFails old new → IsDone answer
 gen_done first count old new Done text cause calm = inl refl
 gen_done first count old new Memory text cause calm = inr refl
 gen_done first count old new WriteFault text cause calm = absurd (no_write_fault old new cause calm)
-gen_done first count old new DiskFault text cause calm = absurd text
-gen_done first count old new (NoFile file) text cause calm = absurd text
-gen_done first count old new (AsmapRefused fault) text cause calm = absurd text
-gen_done first count old new (PeersRefused fault) text cause calm = absurd text
-gen_done first count old new (TableRefused fault) text cause calm = absurd text
-gen_done first count old new (BansRefused fault) text cause calm = absurd text
-gen_done first count old new TooManyRows text cause calm = absurd text
-gen_done first count old new Usage text cause calm = absurd text
-gen_done first count old new (LogLine n fault) text cause calm = absurd text
-gen_done first count old new (LineTooLong n) text cause calm = absurd text
-gen_done first count old new LogTooLong text cause calm = absurd text
-gen_done first count old new ReadFault text cause calm = absurd text
-gen_done first count old new NoKey text cause calm = absurd text
+gen_done first count old new other text cause calm = absurd text
 
 trial_done : (first count : ℕ) (old new : Outside) (answer : Status) → TrialText first count old.written new.written answer → HasCause old new answer → NothingFails old new → IsDone answer
 trial_done first count old new Done text cause calm = inl refl
 trial_done first count old new Memory text cause calm = inr refl
 trial_done first count old new WriteFault text cause calm = absurd (no_write_fault old new cause calm)
-trial_done first count old new DiskFault text cause calm = absurd text
-trial_done first count old new (NoFile file) text cause calm = absurd text
-trial_done first count old new (AsmapRefused fault) text cause calm = absurd text
-trial_done first count old new (PeersRefused fault) text cause calm = absurd text
-trial_done first count old new (TableRefused fault) text cause calm = absurd text
-trial_done first count old new (BansRefused fault) text cause calm = absurd text
-trial_done first count old new TooManyRows text cause calm = absurd text
-trial_done first count old new Usage text cause calm = absurd text
-trial_done first count old new (LogLine n fault) text cause calm = absurd text
-trial_done first count old new (LineTooLong n) text cause calm = absurd text
-trial_done first count old new LogTooLong text cause calm = absurd text
-trial_done first count old new ReadFault text cause calm = absurd text
-trial_done first count old new NoKey text cause calm = absurd text
+trial_done first count old new other text cause calm = absurd text
 
 -- ---- the saves of a replay
 
@@ -280,18 +226,7 @@ none_failed (suc n) before after still (inr rose) = absurd (still rose.1)
 
 no_save_fails : (request : Request) (old new : Outside) → NoSaveFails request old new
 no_save_fails (request.Replay key chain) old new = λ still how run. none_failed _ old.folder_faults new.folder_faults still run.failed_saves
-no_save_fails (request.Opener key chain) old new = tt
-no_save_fails request.Compile old new = tt
-no_save_fails request.Check old new = tt
-no_save_fails request.Decompile old new = tt
-no_save_fails request.Limit old new = tt
-no_save_fails (request.Lookup peer) old new = tt
-no_save_fails (request.Show chain) old new = tt
-no_save_fails (request.Ban subnet now until) old new = tt
-no_save_fails (request.Unban subnet) old new = tt
-no_save_fails (request.Banned peer now) old new = tt
-no_save_fails (request.Gen first count) old new = tt
-no_save_fails (request.Trial first count) old new = tt
+no_save_fails other old new = tt
 
 -- ---- any request
 

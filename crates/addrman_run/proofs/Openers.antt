@@ -29,7 +29,8 @@ use Rattle.peers_file.specs.declared.chain.Chain.{Chain}
 use Rattle.placing.specs.Places.{Places, group}
 use Rattle.table_machine.specs.Clashes.{clash_pick}
 use Rattle.table_machine.specs.State as tables
-use Rattle.addrman_run.specs.Inside.{OpensIn, Placed}
+use Rattle.addrman_run.specs.Inside.{Placed}
+use Rattle.addrman_run.specs.Opening.{Opened}
 use Rattle.addrman_run.specs.Log.{streams_of}
 use Rattle.addrman_run.specs.Opener.{OpenerRan, opener_start}
 use Rattle.addrman_run.proofs.Seen.{Seen, ran_of}
@@ -99,16 +100,14 @@ none_open i j d le lt = absurd (omega (arith, lt))
 
 -- what an opener has done, from its run beside a world
 pub ran_by : {W : Type 0} (key : Option (List ℕ)) (chain : Chain) (st : tables.State) (start : Placed) (w : W) (old new : Outside) (how : LogEnd)
-    → OpensIn key chain old.past st → start.opener ≡ opener_start st
+    → Opened key chain old.past st → start.opener ≡ opener_start st
     → ((old new : opener.State) (line text : List ℕ) → LineStep old line text new → AreApart old.open_peers → AreApart new.open_peers)
     → ((old new : opener.State) (asked : Request) (answer : Answer) → Step old asked answer new → IsFair old asked answer)
     → Ran (Seen {S = Placed × W} (λ p. p.0.opener) LineStep HasFault) HasFault (start, w) (streams_of old) (streams_of new) how
     → OpenerRan key chain old new how
-ran_by {W = W} key chain st start w old new how (map, has_map, opens) begins apart fair r = record {
-  map = map;
-  has_map = has_map;
+ran_by {W = W} key chain st start w old new how opened begins apart fair r = record {
   tables = st;
-  opens = opens;
+  opened = opened;
   ran = subst (λ s. Ran LineStep HasFault s (streams_of old) (streams_of new) how) begins
       (ran_of {S = Placed × W} (λ p. p.0.opener) LineStep HasFault (start, w) (streams_of old) (streams_of new) how r);
   rules = record {

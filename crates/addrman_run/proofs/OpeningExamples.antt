@@ -10,7 +10,7 @@ use Rattle.peer_rec.specs.Snapshot.{Snapshot}
 use Rattle.peers_file.specs.Layout.{IsFile, whole_fault}
 use Rattle.peers_file.specs.declared.chain.Chain.TheVariants.{Main, Test, Signet}
 use Rattle.peers_file.specs.declared.fault.FileFault.TheVariants.{Truncated, BadMagic, Memory}
-use Rattle.addrman_run.specs.Request.{IsOpeningOptions}
+use Rattle.arguments.specs.Options.{IsOpeningOptions}
 use Rattle.addrman_run.specs.Opening.{Opens, RefusesTables, LacksKey, places_of, tables_of}
 use Rattle.addrman_run.specs.Opening.Opens.{from_file, from_key}
 use Rattle.addrman_run.specs.declared.peers_fault.PeersFault.TheVariants.{File, Duplicate}

@@ -22,19 +22,17 @@ use Rattle.session.proofs.OneHistory.{one_run}
 use Rattle.session.proofs.Files.{next_failed, still_failed}
 use Rattle.session.proofs.Promise.{IsCut, IsKept, cut_line, cut_memory, history, kept_line, kept_start}
 use Rattle.table_machine.specs.State.{State}
-use Rattle.addrman_run.specs.Asmaps.{IsMapIn}
 use Rattle.addrman_run.specs.Inside.{SessionStep, StoppedStep}
 use Rattle.addrman_run.proofs.Reopening.{reopens}
-use Rattle.addrman_run.specs.Opening.{Opens, places_of}
+use Rattle.addrman_run.specs.Opening.{Opened, Opens, file_in, places_of}
 use Rattle.addrman_run.specs.Opening.Opens.{from_file, from_key}
-use Rattle.causes.specs.Kept.{IsOpening, KeepsCauses, opened}
+use Rattle.causes.specs.Kept.{IsOpening, KeepsCauses}
 use Rattle.causes.proofs.Laws.{keeps_causes}
-use Rattle.peer_rec.specs.Snapshot.{Snapshot}
 use Rattle.placing.specs.Places.{Places}
 use Rattle.table_machine.specs.Sound.{IsSound}
 use Rattle.manager.specs.Machine.{Machine}
 use Rattle.addrman_run.specs.Log.{streams_of}
-use Rattle.addrman_run.specs.Replay.{IsBetweenLines, IsOpenedFrom, IsUntouched, Replayed, at_start, ended_after, pending}
+use Rattle.addrman_run.specs.Replay.{IsBetweenLines, IsUntouched, Replayed, at_start, ended_after, pending}
 
 -- the history of a run, and what it keeps
 pub record Followed (start : History) (lines : List (List ℕ)) (text : List ℕ) (last : session.State) (old now : Option Past) (f g : ℕ) : Type 0 where
@@ -70,40 +68,34 @@ now_weaker P Q (Some o) None weaker is = tt
 now_weaker P Q (Some o) (Some n) weaker is = weaker o.now n.now is
 
 -- the opening, as the law on causes wants it
-pub record Opened (chain : Chain) (past : Option Past) (map : Option Asmap) (st : State) : Type 0 where
-  pub file : Option Snapshot
-  pub opened_from : IsOpenedFrom chain past file
-  pub places : Places
-  pub opening : IsOpening file places (at_start chain st)
-  pub with_map : places.map ≡ map
+record Begun {key : Option (List ℕ)} {chain : Chain} {past : Option Past} {map : Option Asmap} {st : State} (opens : Opens key chain past map st) : Type 0 where
+  places : Places
+  opening : IsOpening (file_in opens) places (at_start chain st)
+  with_map : places.map ≡ map
 
-opened_with : (key : Option (List ℕ)) (chain : Chain) (past : Option Past) (map : Option Asmap) (st : State) → Opens key chain past map st → IsSound st
-    → st.next_number ≤ 81920 → Opened chain past map st
-opened_with key chain past map st (from_file snap is_in no_duplicate is) sound few = record {
-  file = Some snap;
-  opened_from = is_in;
+begun_with : (key : Option (List ℕ)) (chain : Chain) (past : Option Past) (map : Option Asmap) (st : State) (opens : Opens key chain past map st) → IsSound st
+    → st.next_number ≤ 81920 → Begun opens
+begun_with key chain past map st (from_file snap is_in no_duplicate is) sound few = record {
   places = places_of snap.key map;
   opening = record { tables = is; sound = sound; clock = omega arith; numbers = omega (arith, few) };
   with_map = refl;
 }
-opened_with key chain past map st (from_key given absent is_key is) sound few = record {
-  file = None;
-  opened_from = absent;
+begun_with key chain past map st (from_key given absent is_key is) sound few = record {
   places = places_of given map;
   opening = record { tables = is; sound = sound; clock = omega arith; numbers = omega (arith, few) };
   with_map = refl;
 }
 
--- what a run from it keeps
-same_opening : (chain : Chain) (past : Option Past) (map : Option Asmap) (st : State) (o : Opened chain past map st) → st.places ≡ o.places
-same_opening chain past map st o =
-    (keeps_causes o.file o.places (at_start chain st) o.opening []).same_places [] (fresh (at_start chain st))
-    (record { after = []; cut = refl; few = omega arith; text = []; run = (refl, refl) })
+module _ (key : Option (List ℕ)) (chain : Chain) (past : Option Past) (map : Option Asmap) (st : State) (opens : Opens key chain past map st) (b : Begun opens) where
+  same_places : st.places ≡ b.places
+  same_places =
+      (keeps_causes (file_in opens) b.places (at_start chain st) b.opening []).same_places [] (fresh (at_start chain st))
+      (record { after = []; cut = refl; few = omega arith; text = []; run = (refl, refl) })
 
-keeps : (chain : Chain) (past : Option Past) (map : Option Asmap) (st : State) (lines : List (List ℕ)) (o : Opened chain past map st)
-    → KeepsCauses o.file st.places (at_start chain st) lines
-keeps chain past map st lines o =
-    subst (λ p. KeepsCauses o.file p (at_start chain st) lines) (sym (same_opening chain past map st o)) (keeps_causes o.file o.places (at_start chain st) o.opening lines)
+  -- what a run from it keeps
+  keeps : (lines : List (List ℕ)) → KeepsCauses (file_in opens) st.places (at_start chain st) lines
+  keeps lines =
+      subst (λ p. KeepsCauses (file_in opens) p (at_start chain st) lines) (sym same_places) (keeps_causes (file_in opens) b.places (at_start chain st) b.opening lines)
 
 -- what holds before the next lines, told with them
 exit_before : (h : History) (rest : List (List ℕ)) (start disk : Disk) → AtExit h [] start disk → AtExit h rest start disk
@@ -216,14 +208,16 @@ module _ {F : Type 0} (past : F → Option Past) (faults : F → ℕ) where
   later_rose n f g h le (inr (full, inl rose)) = inr (full, inl (omega (arith, le, rose)))
   later_rose n f g h le (inr (full, inr is)) = inr (full, inr is)
 
-  pub replayed : (key : Option (List ℕ)) (chain : Chain) (map : Option Asmap) (tables : State) (start : session.State) (old new : Outside) (w v : F) (how : LogEnd)
-      → IsMapIn old.past map → Opens key chain old.past map tables → start ≡ at_start chain tables → IsSound tables
+  pub replayed : (key : Option (List ℕ)) (chain : Chain) (tables : State) (start : session.State) (old new : Outside) (w v : F) (how : LogEnd)
+      → Opened key chain old.past tables → start ≡ at_start chain tables → IsSound tables
       → tables.next_number ≤ 81920 → past w ≡ old.past → old.folder_faults ≤ faults w
       → new.past ≡ past v → new.folder_faults ≡ faults v
       → RanIn (SessionStep past faults) (StoppedStep past faults) HasFault (start, w) (streams_of old) (streams_of new) v how
       → Replayed key chain old new how
-  replayed key chain map tables start old new w v how has_map open_tables begins sound few same_past earlier ends_past ends_faults r =
-      let o = opened_with key chain old.past map tables open_tables sound few in
+  replayed key chain tables start old new w v how opened begins sound few same_past earlier ends_past ends_faults r =
+      let map = opened.map in
+      let opens = opened.opens in
+      let o = begun_with key chain old.past map tables opens sound few in
       let h = follow past faults r.ran.answered r.ran.replies start r.ran.now.0 w r.ran.now.1 [] (past w) (faults w) r.ran.runs
       (kept_start start (past w) (faults w) (ap (λ s. s.job) begins)) in
       let f = finish r.ran.log r.ran.answered r.ran.next r.ran.now.0 r.ran.now.1 h.ended r.ran.part (streams_of old) (streams_of new) (past w) (faults w) how v
@@ -233,10 +227,8 @@ module _ {F : Type 0} (past : F → Option Past) (faults : F → ℕ) where
       let saves = ended_after r.ran.log r.ran.answered r.ran.next (history r.ran.now.0 h.ended) r.ran.part (streams_of old) (streams_of new) how e.0 in
       let runs = subst (λ s. Run Step (fresh s) r.ran.answered r.ran.replies (history r.ran.now.0 h.ended)) begins h.runs in
       record {
-        map = map;
-        has_map = has_map;
         tables = tables;
-        opens = open_tables;
+        opened = opened;
         ran = record {
           log = r.ran.log;
           known = r.ran.known;
@@ -258,13 +250,10 @@ module _ {F : Type 0} (past : F → Option Past) (faults : F → ℕ) where
             (subst (λ p. Always (past w) p (SinceEntry (history r.ran.now.0 h.ended) (pending how r.ran.next))) (sym ends_past) f.since);
         failed_saves = subst (RoseBy (failed saves) old.folder_faults) (sym ends_faults) (later_rose (failed saves) old.folder_faults (faults w) (faults v) earlier e.1);
         pieces = λ b. subst (IsOpen r.ran.now.0.job) (sym ends_past) (f.pieces b);
-        file = o.file;
-        opened_from = o.opened_from;
-        is_opened = o.opening.tables ∙ ap (opened o.file) (sym (same_opening chain old.past map tables o));
-        causes = keeps chain old.past map tables (lines_of r.ran.log) o;
+        causes = keeps key chain old.past map tables opens o (lines_of r.ran.log);
         reopens = λ before h after.
-            let k = keeps chain old.past map tables (lines_of r.ran.log) o in
-            reopens chain map h.now.machine.tables (k.sound before h after) (ap (λ p. p.map) (k.same_places before h after ∙ same_opening chain old.past map tables o) ∙ o.with_map);
+            let k = keeps key chain old.past map tables opens o (lines_of r.ran.log) in
+            reopens chain map h.now.machine.tables (k.sound before h after) (ap (λ p. p.map) (k.same_places before h after ∙ same_places key chain old.past map tables opens o) ∙ o.with_map);
       }
 
   rises_by : (lines : List (List ℕ)) (text : List ℕ) (s t : session.State) (w v : F) → Run (both (SessionStep past faults)) (s, w) lines text (t, v) → faults w ≤ faults v

@@ -15,24 +15,23 @@ use Rattle.log_run.specs.declared.end.LogEnd.{LogEnd}
 use Rattle.log_run.specs.declared.limits.TheConstants.{MAX_LINE, MAX_LOG}
 use Rattle.opener_lines.specs.Grammar.{Asks}
 use Rattle.opener_lines.specs.declared.request.Request as opener
-use Rattle.peers_file.specs.declared.chain.Chain.{Chain}
 use Rattle.session.specs.History.{failed}
 use Rattle.addrman_run.specs.Asmaps.{ReportsAsmap}
 use Rattle.addrman_run.specs.Bans.{ReportsBans}
 use Rattle.addrman_run.specs.Decompile.{ReportsDecompile}
 use Rattle.addrman_run.specs.InFolder.{IsAbsent}
-use Rattle.addrman_run.specs.Opening.{LacksKey, RefusesTables}
+use Rattle.addrman_run.specs.Opening.{ReportsOpening}
 use Rattle.addrman_run.specs.Replay.{Replayed, saves_of}
 use Rattle.addrman_run.specs.Show.{ReportsPeers}
 use Rattle.addrman_run.specs.Tables.{ReportsTable}
-use Rattle.addrman_run.specs.declared.request.Request.{Request}
-use Rattle.addrman_run.specs.declared.request.Request.TheVariants.{Show}
-use Rattle.addrman_run.specs.declared.request.Request.TheVariants.{Replay, Opener, Compile, Check, Lookup}
-use Rattle.addrman_run.specs.declared.request.Request.TheVariants.{Decompile, Limit}
-use Rattle.addrman_run.specs.declared.request.Request.TheVariants.{Ban, Unban, Banned}
-use Rattle.addrman_run.specs.declared.request.Request.TheVariants.{Gen, Trial}
+use Rattle.arguments.specs.declared.request.Request.{Request}
+use Rattle.arguments.specs.declared.request.Request.TheVariants.{Show}
+use Rattle.arguments.specs.declared.request.Request.TheVariants.{Replay, Opener, Compile, Check, Lookup}
+use Rattle.arguments.specs.declared.request.Request.TheVariants.{Decompile, Limit}
+use Rattle.arguments.specs.declared.request.Request.TheVariants.{Ban, Unban, Banned}
+use Rattle.arguments.specs.declared.request.Request.TheVariants.{Gen, Trial}
 use Rattle.addrman_run.specs.declared.status.Status.{Status}
-use Rattle.addrman_run.specs.declared.status.Status.TheVariants.{Done, Memory, PeersRefused, NoKey}
+use Rattle.addrman_run.specs.declared.status.Status.TheVariants.{Done, Memory}
 
 -- THE LOG
 
@@ -66,13 +65,6 @@ NoRefusal Reports = (answer : Status) → ¬ Reports answer
 -- the file is there, and no status reports a refusal of it
 abbrev pub IsUsable : Name → (Option Past → Status → Type 0) → Option Past → Type 0
 IsUsable name Reports past = ¬ IsAbsent name past × NoRefusal (Reports past)
-
--- a status that says why a replay or an opener ends before the log: peers.dat or asmap.dat is
--- refused, or there is neither a peers.dat nor a key
-abbrev pub ReportsOpening : Option (List ℕ) → Chain → Option Past → Status → Type 0
-ReportsOpening key chain past (PeersRefused fault) = RefusesTables chain past fault
-ReportsOpening key chain past NoKey = LacksKey key past
-ReportsOpening key chain past other = ReportsAsmap past other
 
 -- THE WHOLE
 

@@ -1,6 +1,5 @@
 -- Words of private contracts.
 use Rattle.std.specs.Prelude.{◌≡◌, ◌≢◌, ◌⊎◌, ◌≤◌, ℕ, List, ◌++◌, length, Option, Some, None, ⊤, option_map}
-use Rattle.gen_load.specs.declared.generated.TheConstants.{MAX_LINES}
 use Rattle.host_io.specs.Past.{Always, Past}
 use Rattle.host_io.specs.Writing.{Appended, AppendedPart}
 use Rattle.host_io.specs.declared.name.Name.{Name}
@@ -13,17 +12,11 @@ use Rattle.bit_code.specs.declared.bits.TheConstants.{MAX_ASMAP}
 use Rattle.peers_file.specs.declared.fault.FileFault.TheVariants as peers
 use Rattle.peers_file.specs.declared.read.TheConstants.{MAX_FILE}
 use Rattle.ban_list.specs.BanFile.{HasBanFault, file_text}
-use Rattle.ban_list.specs.Bans.{ban_of}
-use Rattle.ban_list.specs.Subnet.{IsProper}
 use Rattle.ban_list.specs.declared.ban.Ban.{Ban}
 use Rattle.ban_list.specs.declared.fault.BanFault.{BanFault}
 use Rattle.ban_list.specs.declared.fault.BanFault.TheVariants as ban
 use Rattle.ban_list.specs.declared.read_file.TheConstants as bans
-use Rattle.addrman_run.specs.Bans.{AreBansIn, RefusesBans, Change, ban_change, unban_change, banned_change}
-use Rattle.addrman_run.specs.declared.ban_order.BanOrder.{BanOrder}
-use Rattle.addrman_run.specs.declared.ban_order.BanOrder.TheVariants as order
-use Rattle.addrman_run.specs.declared.request.Request.{Request}
-use Rattle.addrman_run.specs.declared.request.Request.TheVariants as request
+use Rattle.addrman_run.specs.Bans.{AreBansIn, RefusesBans, Change}
 use Rattle.addrman_run.specs.Compile.{IsCompiled, IsInPlace, compile_text}
 use Rattle.addrman_run.specs.InFolder.{IsFileIn, IsAbsent, IsTooLarge}
 use Rattle.addrman_run.specs.Tables.{RefusesTable}
@@ -33,8 +26,7 @@ use Rattle.addrman_run.specs.declared.input.Input.TheVariants as input
 use Rattle.addrman_run.specs.declared.tables_fault.TablesFault.{TablesFault}
 use Rattle.addrman_run.specs.declared.tables_fault.TablesFault.TheVariants.{Rows}
 use Rattle.addrman_run.specs.declared.peers_fault.PeersFault.TheVariants.{Duplicate, File}
-use Rattle.addrman_run.specs.Asmaps.{IsMapIn}
-use Rattle.addrman_run.specs.Opening.{Opens, places_of, tables_of}
+use Rattle.addrman_run.specs.Opening.{places_of, tables_of}
 use Rattle.opener_lines.specs.State as opener
 use Rattle.placing.specs.Places.{Places}
 use Rattle.log_run.specs.Run.{Run}
@@ -117,10 +109,6 @@ IsKeyless key NoKey = key ≡ None
 IsKeyless key Memory = ⊤
 IsKeyless key other = ⊥
 
--- the tables that a folder opens
-abbrev pub OpensIn : Option (List ℕ) → Chain → Option Past → State → Type 0
-OpensIn key chain past st = (map : Option Asmap) × IsMapIn past map × Opens key chain past map st
-
 -- An opener, and the key and asmap of its placer.
 pub record Placed : Type 0 where
   pub opener : opener.State
@@ -180,26 +168,6 @@ IsMapOf None None = ⊤
 IsMapOf (Some bytes) (Some m) = (m.file ≡ bytes) × IsAsmap m
 IsMapOf None (Some m) = ⊥
 IsMapOf (Some bytes) None = ⊥
-
--- the subnet of a request, if it has one, is proper
-abbrev pub IsProperRequest : Request → Type 0
-IsProperRequest (request.Ban subnet now until) = IsProper subnet
-IsProperRequest (request.Unban subnet) = IsProper subnet
-IsProperRequest (request.Gen start lines) = lines ≤ MAX_LINES
-IsProperRequest (request.Trial start lines) = lines ≤ MAX_LINES
-IsProperRequest other = ⊤
-
--- the same of a command on the list of bans
-abbrev pub IsProperOrder : BanOrder → Type 0
-IsProperOrder (order.Ban subnet now until) = IsProper subnet
-IsProperOrder (order.Unban subnet) = IsProper subnet
-IsProperOrder (order.Find addr now) = ⊤
-
--- what is made of the list
-abbrev pub change_of : BanOrder → List Ban → Change
-change_of (order.Ban subnet now until) = ban_change (ban_of subnet now until)
-change_of (order.Unban subnet) = unban_change subnet
-change_of (order.Find addr now) = banned_change addr now
 
 -- why the bytes of banlist.json are not read: memory ran out, or their fault
 abbrev pub IsNoList : List ℕ → Status → Type 0

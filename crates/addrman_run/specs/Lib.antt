@@ -1,4 +1,4 @@
-pub mod Request
+pub mod Untouched
 pub mod InFolder
 pub mod Asmaps
 pub mod Tables

@@ -2,7 +2,6 @@
 use Rattle.std.specs.Prelude.{◌≡◌, ℕ, ◌+◌, ◌≤◌, List, [], length, Option}
 use Rattle.host_io.specs.Outside.{Outside}
 use Rattle.host_io.specs.Reading.{TakesAtMost}
-use Rattle.asmap_vm.specs.Asmap.{Asmap}
 use Rattle.log_run.specs.Run.{Ran, Run}
 use Rattle.log_run.specs.declared.end.LogEnd.{LogEnd}
 use Rattle.log_run.specs.declared.limits.TheConstants.{MAX_LOG}
@@ -16,9 +15,8 @@ use Rattle.opener_lines.specs.State.{Answer, Step}
 use Rattle.opener_lines.specs.declared.request.Request.{Request}
 use Rattle.peers_file.specs.declared.chain.Chain.{Chain}
 use Rattle.table_machine.specs.State as tables
-use Rattle.addrman_run.specs.Asmaps.{IsMapIn}
 use Rattle.addrman_run.specs.Log.{LogOutcome, streams_of}
-use Rattle.addrman_run.specs.Opening.{Opens}
+use Rattle.addrman_run.specs.Opening.{Opened}
 use Rattle.addrman_run.specs.Replay.{NotOpened}
 use Rattle.addrman_run.specs.declared.status.Status.{Status}
 
@@ -38,10 +36,8 @@ pub record KeepsRules (start : opener.State) : Type 0 where
 
 -- An opener that got past its opening, by the end of its run over the log.
 pub record OpenerRan (key : Option (List ℕ)) (chain : Chain) (old new : Outside) (how : LogEnd) : Type 0 where
-  pub map : Option Asmap
-  pub has_map : IsMapIn old.past map
   pub tables : tables.State
-  pub opens : Opens key chain old.past map tables
+  pub opened : Opened key chain old.past tables
   pub ran : Ran LineStep HasFault (opener_start tables) (streams_of old) (streams_of new) how
   pub rules : KeepsRules (opener_start tables)
 

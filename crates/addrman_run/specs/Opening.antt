@@ -31,6 +31,18 @@ pub data Opens (key : Option (List ℕ)) (chain : Chain) (past : Option Past) (m
   from_file : (snap : Snapshot) → IsSnapshotIn chain past snap → duplicate snap ≡ None → st ≡ tables_of snap map → Opens key chain past map st
   from_key : (given : List ℕ) → IsAbsent name.Peers past → key ≡ Some given → st ≡ empty_state (places_of given map) → Opens key chain past map st
 
+-- the snapshot of the file that the tables were opened from, none for empty ones
+abbrev pub file_in : {key : Option (List ℕ)} {chain : Chain} {past : Option Past} {map : Option Asmap}
+    {st : State} → Opens key chain past map st → Option Snapshot
+file_in (from_file snap is_in no_duplicate is) = Some snap
+file_in (from_key given absent is_key is) = None
+
+-- The folder opened with these tables: its asmap is accepted, and they have it.
+pub record Opened (key : Option (List ℕ)) (chain : Chain) (past : Option Past) (tables : State) : Type 0 where
+  pub map : Option Asmap
+  pub has_map : IsMapIn past map
+  pub opens : Opens key chain past map tables
+
 -- why the folder's peers.dat does not open the tables: its first fault as a file, or the first of
 -- its valid records that has the peer of an earlier one
 abbrev pub RefusesTables : Chain → Option Past → PeersFault → Type 0
@@ -45,15 +57,19 @@ LacksKey key past = (key ≡ None) × IsAbsent name.Peers past
 abbrev pub HasMap : Option Past → Type 0
 HasMap past = (map : Option Asmap) × IsMapIn past map
 
--- Why no tables are opened, by the status. Files are looked at in this order: asmap.dat, peers.dat.
--- HasCause says why the folder fails.
+-- A status that says why no tables are opened. Files are looked at in this order: asmap.dat,
+-- peers.dat.
+abbrev pub ReportsOpening : Option (List ℕ) → Chain → Option Past → Status → Type 0
+ReportsOpening key chain past (status.AsmapRefused fault) = RefusesAsmap past fault
+ReportsOpening key chain past (status.PeersRefused fault) = HasMap past × RefusesTables chain past fault
+ReportsOpening key chain past status.NoKey = HasMap past × LacksKey key past
+ReportsOpening key chain past other = ⊥
+
+-- Why no tables are opened, by the status. HasCause says why the folder fails.
 abbrev pub IsUnopened : Option (List ℕ) → Chain → Option Past → Status → Type 0
-IsUnopened key chain past (status.AsmapRefused fault) = RefusesAsmap past fault
-IsUnopened key chain past (status.PeersRefused fault) = HasMap past × RefusesTables chain past fault
-IsUnopened key chain past status.NoKey = HasMap past × LacksKey key past
 IsUnopened key chain past status.DiskFault = ⊤
 IsUnopened key chain past status.Memory = ⊤
-IsUnopened key chain past other = ⊥
+IsUnopened key chain past other = ReportsOpening key chain past other
 
 -- A folder opens in one way: with some tables, or not, since its peers.dat is refused or a key is
 -- missing.

@@ -14,12 +14,12 @@ use Rattle.addrman_run.specs.Show.{ShowEnds}
 use Rattle.addrman_run.specs.Generate.{GenEnds}
 use Rattle.addrman_run.specs.Trial.{TrialEnds}
 use Rattle.addrman_run.specs.Bans.{BansEnds, ban_change, unban_change, banned_change}
-use Rattle.addrman_run.specs.declared.request.Request.{Request}
-use Rattle.addrman_run.specs.declared.request.Request.TheVariants.{Show}
-use Rattle.addrman_run.specs.declared.request.Request.TheVariants.{Replay, Opener, Compile, Check, Lookup}
-use Rattle.addrman_run.specs.declared.request.Request.TheVariants.{Decompile, Limit}
-use Rattle.addrman_run.specs.declared.request.Request.TheVariants.{Ban, Unban, Banned}
-use Rattle.addrman_run.specs.declared.request.Request.TheVariants.{Gen, Trial}
+use Rattle.arguments.specs.declared.request.Request.{Request}
+use Rattle.arguments.specs.declared.request.Request.TheVariants.{Show}
+use Rattle.arguments.specs.declared.request.Request.TheVariants.{Replay, Opener, Compile, Check, Lookup}
+use Rattle.arguments.specs.declared.request.Request.TheVariants.{Decompile, Limit}
+use Rattle.arguments.specs.declared.request.Request.TheVariants.{Ban, Unban, Banned}
+use Rattle.arguments.specs.declared.request.Request.TheVariants.{Gen, Trial}
 use Rattle.addrman_run.specs.declared.status.Status.{Status}
 use Rattle.addrman_run.specs.declared.status.Status.TheVariants as status
 

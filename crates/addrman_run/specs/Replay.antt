@@ -8,13 +8,12 @@ use Rattle.host_io.specs.PerName.{under}
 use Rattle.host_io.specs.Reading.{TakesAtMost}
 use Rattle.host_io.specs.declared.name.Name.TheVariants as name
 use Rattle.asmap_vm.specs.Asmap.{Asmap}
-use Rattle.causes.specs.Kept.{IsAfter, KeepsCauses, opened}
+use Rattle.causes.specs.Kept.{IsAfter, KeepsCauses}
 use Rattle.log_lines.specs.Spelling.{HasFault}
 use Rattle.log_run.specs.Run.{EndsBy, Ran, Run, Streams}
 use Rattle.log_run.specs.declared.end.LogEnd.{LogEnd}
 use Rattle.log_run.specs.declared.end.LogEnd.TheVariants as end
 use Rattle.log_run.specs.declared.limits.TheConstants.{MAX_LOG}
-use Rattle.peer_rec.specs.Snapshot.{Snapshot}
 use Rattle.peers_file.specs.declared.chain.Chain.{Chain}
 use Rattle.session.specs.Events.{Ended}
 use Rattle.session.specs.Folders.{IsOpen}
@@ -22,11 +21,8 @@ use Rattle.session.specs.History.{AtExit, History, Now, RoseBy, SinceEntry, Step
 use Rattle.session.specs.State as session
 use Rattle.table_machine.specs.Restart.{restart}
 use Rattle.table_machine.specs.State.{State}
-use Rattle.addrman_run.specs.Asmaps.{IsMapIn}
-use Rattle.addrman_run.specs.InFolder.{IsAbsent}
 use Rattle.addrman_run.specs.Log.{LogOutcome, SameLog, streams_of}
-use Rattle.addrman_run.specs.Opening.{IsUnopened, Opens}
-use Rattle.addrman_run.specs.Peers.{IsSnapshotIn}
+use Rattle.addrman_run.specs.Opening.{IsUnopened, Opened, Opens, file_in}
 use Rattle.addrman_run.specs.declared.status.Status.{Status}
 
 -- the session that a replay begins with: the tables, at the time 0, and no open save
@@ -38,11 +34,6 @@ abbrev pub IsBetweenLines : LogEnd → Type 0
 IsBetweenLines end.WriteFault = ⊥
 IsBetweenLines end.Memory = ⊥
 IsBetweenLines other = ⊤
-
--- the folder's peers.dat, none if there is no such file
-abbrev pub IsOpenedFrom : Chain → Option Past → Option Snapshot → Type 0
-IsOpenedFrom chain past None = IsAbsent name.Peers past
-IsOpenedFrom chain past (Some snap) = IsSnapshotIn chain past snap
 
 -- Where peers.dat has the file of these tables, it opens, and only as they are after a restart.
 abbrev pub ReopensAs : Chain → Option Asmap → State → Type 0
@@ -75,10 +66,8 @@ ended_after log answered next now part old new other ends = now.ended
 -- its slot. The file of the tables after any line opens again, with the same asmap, as these tables
 -- after a restart.
 pub record Replayed (key : Option (List ℕ)) (chain : Chain) (old new : Outside) (how : LogEnd) : Type 0 where
-  pub map : Option Asmap
-  pub has_map : IsMapIn old.past map
   pub tables : State
-  pub opens : Opens key chain old.past map tables
+  pub opened : Opened key chain old.past tables
   pub ran : Ran Step HasFault (fresh (at_start chain tables)) (streams_of old) (streams_of new) how
   pub fixed : (other : History)
       → Run Step (fresh (at_start chain tables)) ran.answered ran.replies other → other ≡ ran.now
@@ -88,12 +77,9 @@ pub record Replayed (key : Option (List ℕ)) (chain : Chain) (old new : Outside
       (failed (ended_after ran.log ran.answered ran.next ran.now ran.part (streams_of old) (streams_of new) how ran.ends))
       old.folder_faults new.folder_faults
   pub pieces : IsBetweenLines how → IsOpen ran.now.now.job new.past
-  pub file : Option Snapshot
-  pub opened_from : IsOpenedFrom chain old.past file
-  pub is_opened : tables ≡ opened file tables.places
-  pub causes : KeepsCauses file tables.places (at_start chain tables) (lines_of ran.log)
+  pub causes : KeepsCauses (file_in opened.opens) tables.places (at_start chain tables) (lines_of ran.log)
   pub reopens : (before : List (List ℕ)) (h : History) → IsAfter (at_start chain tables) (lines_of ran.log) before h
-      → ReopensAs chain map h.now.machine.tables
+      → ReopensAs chain opened.map h.now.machine.tables
 
 -- the saves that have ended in a replay, that of a reply of which a part is written among them
 abbrev pub saves_of : {key : Option (List ℕ)} {chain : Chain} {old new : Outside} (how : LogEnd) → Replayed key chain old new how → List Ended

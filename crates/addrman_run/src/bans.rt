@@ -1,4 +1,4 @@
-ghost use Rattle.std.specs.Prelude.{◌≡◌, ◌≤◌, ℕ, List, Err, Some, IfOk, IfErr, option_map};
+ghost use Rattle.std.specs.Prelude.{◌≡◌, ◌≤◌, ℕ, List, Err, Some, IfOk, IfErr, option_map, ⊤};
 ghost use Rattle.ban_list.specs.BanFile.{IsBanFile, file_text};
 ghost use Rattle.ban_list.specs.Bans.{ban_of};
 ghost use Rattle.ban_list.specs.Subnet.{IsProper};
@@ -6,24 +6,23 @@ ghost use Rattle.host_io.specs.Faults.{Rose};
 ghost use Rattle.host_io.specs.Past.{Always};
 ghost use Rattle.host_io.specs.declared.name.Name.TheVariants as name;
 ghost use Rattle.save_store.specs.Saves.{PublishesOrNot};
-ghost use Rattle.addrman_run.specs.Bans.{AreBansIn, BansText, IsOldOrNewList};
+ghost use Rattle.ban_list.specs.declared.ban.Ban.{Ban};
+ghost use Rattle.addrman_run.specs.Bans.{AreBansIn, BansText, Change, IsOldOrNewList};
 ghost use Rattle.addrman_run.specs.Bans.{ban_change, banned_change, found_text, reply_text, saved_by, unban_change};
-ghost use Rattle.addrman_run.specs.Inside.{AnswerEnds, IsNoBans, IsNoList, IsProperOrder, SaveEnds, change_of};
+ghost use Rattle.addrman_run.specs.Inside.{AnswerEnds, IsNoBans, IsNoList};
 ghost use Rattle.addrman_run.specs.Outcome.{IsCounted};
 
-use crate::ban_order::BanOrder;
 use crate::input::{Input, load_input};
-use crate::output::write_line;
+use crate::output::{save_then_write, write_line};
 use crate::{Memory, Status};
 use ban_list::{Ban, BanFault, BanReply, Bans, Subnet, put_subnet, read_bans, write_bans};
 use host_io::{Bytes, Folder, Name, Sink};
-use net_addr::NetAddr;
-use save_store::save;
+use net_addr::{NetAddr, Peer};
 use std::alloc::{AllocError, Global};
 
 /// The line that a command writes, and the file that it saves first, if the list is a new one.
 #[derive(Drop)]
-struct Answer {
+pub(crate) struct Answer {
     line: Vec<u8>,
     file: Option<Bytes>,
 }
@@ -78,46 +77,6 @@ fn file_after(alloc: Global, reply: BanReply, bans: &Bans) -> Result<Option<Byte
     }
 }
 
-/// Bans a subnet from `now` until a later time.
-fn answer_ban(
-    alloc: Global,
-    subnet: Subnet,
-    now: u32,
-    until: u32,
-    bans: &mut Bans,
-) -> Result<Answer, Memory>
-    requires { IsProper subnet }
-    ensures line { IfOk result (λ answer. answer.line.items
-        ≡ (ban_change (ban_of subnet now until) bans.old).line) }
-    ensures file { IfOk result (λ answer. answer.file
-        ≡ option_map file_text (ban_change (ban_of subnet now until) bans.old).saved) }
-{
-    let reply = bans.ban(subnet, now, until)?;
-    let line = Vec::from_slice(alloc, reply_line(reply))?;
-    let file = file_after(alloc, reply, bans)?;
-    Ok(Answer { line, file })
-}
-
-/// Takes a subnet's ban out of the list.
-fn answer_unban(alloc: Global, subnet: &Subnet, bans: &mut Bans) -> Result<Answer, Memory>
-    ensures line { IfOk result (λ answer. answer.line.items
-        ≡ (unban_change subnet.now bans.old).line) }
-    ensures file { IfOk result (λ answer. answer.file
-        ≡ option_map file_text (unban_change subnet.now bans.old).saved) }
-{
-    if bans.unban(subnet) {
-        let line = Vec::from_slice(alloc, b"removed\n")?;
-        let file = write_bans(alloc, bans)?;
-        Ok(Answer {
-            line,
-            file: Some(file),
-        })
-    } else {
-        let line = Vec::from_slice(alloc, b"absent\n")?;
-        Ok(Answer { line, file: None })
-    }
-}
-
 /// Returns the line about a ban that is found.
 fn banned_line(alloc: Global, ban: &Ban) -> Result<Vec<u8>, Memory>
     requires { IsProper ban.now.subnet }
@@ -141,37 +100,82 @@ fn find_line(alloc: Global, addr: &NetAddr, now: u32, bans: &Bans) -> Result<Vec
     }
 }
 
-/// Carries out an order on the list.
-fn answer_to(alloc: Global, order: &BanOrder, bans: &mut Bans) -> Result<Answer, Memory>
-    requires { IsProperOrder order.now }
-    ensures line { IfOk result (λ answer. answer.line.items
-        ≡ (change_of order.now bans.old).line) }
-    ensures file { IfOk result (λ answer. answer.file
-        ≡ option_map file_text (change_of order.now bans.old).saved) }
-{
-    match order {
-        BanOrder::Ban { subnet, now, until } => answer_ban(alloc, *subnet, *now, *until, bans),
-        BanOrder::Unban { subnet } => answer_unban(alloc, subnet, bans),
-        BanOrder::Find { addr, now } => {
-            let line = find_line(alloc, addr, *now, bans)?;
+/// A command on the list of bans.
+pub(crate) trait BanCommand {
+    /// What it does to the list.
+    ghost change: { Self → List Ban → Change };
+
+    /// What it needs: the subnet, if it has one, is proper.
+    ghost is_proper: { Self → Type 0 };
+
+    /// Carries it out on the list.
+    fn answer(&self, alloc: Global, bans: &mut Bans) -> Result<Answer, Memory>
+        requires { is_proper self.now }
+        ensures line { IfOk result (λ answer. answer.line.items
+            ≡ (change self.now bans.old).line) }
+        ensures file { IfOk result (λ answer. answer.file
+            ≡ option_map file_text (change self.now bans.old).saved) };
+}
+
+/// The command that bans a subnet from `now` until a later time.
+#[derive(Drop)]
+pub(crate) struct BanSubnet {
+    pub(crate) subnet: Subnet,
+    pub(crate) now: u32,
+    pub(crate) until: u32,
+}
+
+impl BanCommand for BanSubnet {
+    ghost change = { λ ban. ban_change (ban_of ban.subnet ban.now ban.until) };
+
+    ghost is_proper = { λ ban. IsProper ban.subnet };
+
+    fn answer(&self, alloc: Global, bans: &mut Bans) -> Result<Answer, Memory> {
+        let reply = bans.ban(self.subnet, self.now, self.until)?;
+        let line = Vec::from_slice(alloc, reply_line(reply))?;
+        let file = file_after(alloc, reply, bans)?;
+        Ok(Answer { line, file })
+    }
+}
+
+/// The command that takes a subnet's ban out of the list.
+#[derive(Drop)]
+pub(crate) struct UnbanSubnet {
+    pub(crate) subnet: Subnet,
+}
+
+impl BanCommand for UnbanSubnet {
+    ghost change = { λ unban. unban_change unban.subnet };
+
+    ghost is_proper = { λ unban. IsProper unban.subnet };
+
+    fn answer(&self, alloc: Global, bans: &mut Bans) -> Result<Answer, Memory> {
+        if bans.unban(&self.subnet) {
+            let line = Vec::from_slice(alloc, b"removed\n")?;
+            let file = Some(write_bans(alloc, bans)?);
+            Ok(Answer { line, file })
+        } else {
+            let line = Vec::from_slice(alloc, b"absent\n")?;
             Ok(Answer { line, file: None })
         }
     }
 }
 
-/// Saves a file as banlist.json, and then writes the line.
-#[tactic(auto, using(crate::proofs::Compiling::in_place))]
-fn save_bans<F: Folder, K: Sink>(file: &[u8], line: &[u8], folder: &mut F, out: &mut K) -> Status
-    ensures ends { SaveEnds name.Bans file.now line.now (F.past folder.new) (K.written out.old)
-        (K.written out.new) result }
-    ensures any_moment { Always (F.past folder.old) (F.past folder.new)
-        (PublishesOrNot name.BansTemp name.Bans file.now) }
-    ensures disk { IsCounted Status.DiskFault (F.faults folder.old) (F.faults folder.new) result }
-    ensures write { IsCounted Status.WriteFault (K.faults out.old) (K.faults out.new) result }
-{
-    match save(folder, Name::BansTemp, Name::Bans, file) {
-        Ok(()) => write_line(line, out),
-        Err(_) => Status::DiskFault,
+/// The command that finds the ban that covers a peer's address.
+#[derive(Drop)]
+pub(crate) struct FindBan {
+    pub(crate) peer: Peer,
+    pub(crate) now: u32,
+}
+
+impl BanCommand for FindBan {
+    ghost change = { λ find. banned_change find.peer.addr find.now };
+
+    ghost is_proper = { λ _. ⊤ };
+
+    fn answer(&self, alloc: Global, bans: &mut Bans) -> Result<Answer, Memory> {
+        let line = find_line(alloc, &self.peer.addr, self.now, bans)?;
+        Ok(Answer { line, file: None })
     }
 }
 
@@ -186,24 +190,27 @@ fn write_answer<F: Folder, K: Sink>(answer: &Answer, folder: &mut F, out: &mut K
     ensures write { IsCounted Status.WriteFault (K.faults out.old) (K.faults out.new) result }
 {
     match &answer.file {
-        Some(file) => save_bans(file.items(), answer.line.as_slice(), folder, out),
+        Some(file) => {
+            let line = answer.line.as_slice();
+            save_then_write(Name::BansTemp, Name::Bans, file.items(), line, folder, out)
+        }
         None => write_line(answer.line.as_slice(), out),
     }
 }
 
-/// Carries out an order on the list of the folder's banlist.json, saves the list if it is a new one,
-/// and then writes the answer.
-pub(crate) fn carry_out_order<F: Folder, K: Sink>(
+/// Carries out a command on the list of the folder's banlist.json, saves the list if it is a new
+/// one, and then writes the answer.
+pub(crate) fn change_bans<F: Folder, K: Sink, C: BanCommand>(
     alloc: Global,
-    order: &BanOrder,
+    command: &C,
     folder: &mut F,
     out: &mut K,
 ) -> Status
-    requires { IsProperOrder order.now }
-    ensures text { BansText (change_of order.now) (F.past folder.old) (F.past folder.new)
+    requires { C.is_proper command.now }
+    ensures text { BansText (C.change command.now) (F.past folder.old) (F.past folder.new)
         (K.written out.old) (K.written out.new) result }
     ensures any_moment { Always (F.past folder.old) (F.past folder.new)
-        (IsOldOrNewList (change_of order.now) (F.past folder.old)) }
+        (IsOldOrNewList (C.change command.now) (F.past folder.old)) }
     ensures disk { IsCounted Status.DiskFault (F.faults folder.old) (F.faults folder.new) result }
     ensures write { IsCounted Status.WriteFault (K.faults out.old) (K.faults out.new) result }
 {
@@ -211,7 +218,7 @@ pub(crate) fn carry_out_order<F: Folder, K: Sink>(
         Ok(bans) => bans,
         Err(status) => return status,
     };
-    match answer_to(alloc, order, &mut bans) {
+    match command.answer(alloc, &mut bans) {
         Ok(answer) => write_answer(&answer, folder, out),
         Err(_) => Status::Memory,
     }

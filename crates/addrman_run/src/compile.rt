@@ -4,20 +4,18 @@ ghost use Rattle.asmap_compile.specs.Compiled.{compiled};
 ghost use Rattle.host_io.specs.Past.{Past, Always};
 ghost use Rattle.host_io.specs.declared.name.Name.TheVariants as name;
 ghost use Rattle.prefix_table.specs.declared.read.TheConstants.{MAX_TEXT};
-ghost use Rattle.save_store.specs.Saves.{PublishesOrNot};
 ghost use Rattle.addrman_run.specs.Compile.{CompileText, IsOldOrNew, compile_text};
 ghost use Rattle.addrman_run.specs.InFolder.{ReportsAbsence};
-ghost use Rattle.addrman_run.specs.Inside.{IsLoaded, IsNewAsmap, IsNotCompiled, SaveEnds};
+ghost use Rattle.addrman_run.specs.Inside.{IsLoaded, IsNewAsmap, IsNotCompiled};
 ghost use Rattle.addrman_run.specs.Outcome.{IsCounted};
 ghost use Rattle.addrman_run.specs.declared.input.Input.TheVariants as input;
 
 use crate::input::{Input, load_present};
-use crate::output::write_line;
+use crate::output::save_then_write;
 use crate::{Status, TablesFault};
 use asmap_compile::{CompileFault, Compiled, compile};
 use host_io::{Folder, Name, Sink};
 use prefix_table::{Table, TableFault, read_table};
-use save_store::save;
 use std::alloc::{AllocError, Global};
 
 /// The asmap of a table, and the line about both.
@@ -73,22 +71,6 @@ fn new_asmap(alloc: Global, text: &[u8]) -> Result<NewAsmap, Status>
     }
 }
 
-/// Saves a file as asmap.dat, and then writes the line about it.
-#[tactic(auto, using(crate::proofs::Compiling::in_place))]
-fn save_asmap<F: Folder, K: Sink>(file: &[u8], line: &[u8], folder: &mut F, out: &mut K) -> Status
-    ensures ends { SaveEnds name.Asmap file.now line.now (F.past folder.new) (K.written out.old)
-        (K.written out.new) result }
-    ensures any_moment { Always (F.past folder.old) (F.past folder.new)
-        (PublishesOrNot name.AsmapTemp name.Asmap file.now) }
-    ensures disk { IsCounted Status.DiskFault (F.faults folder.old) (F.faults folder.new) result }
-    ensures write { IsCounted Status.WriteFault (K.faults out.old) (K.faults out.new) result }
-{
-    match save(folder, Name::AsmapTemp, Name::Asmap, file) {
-        Ok(()) => write_line(line, out),
-        Err(_) => Status::DiskFault,
-    }
-}
-
 /// Compiles prefixes.txt into asmap.dat, and says how large the table and the file are.
 pub(crate) fn compile_table<F: Folder, K: Sink>(
     alloc: Global,
@@ -108,7 +90,10 @@ pub(crate) fn compile_table<F: Folder, K: Sink>(
         Err(status) => return status,
     };
     match new_asmap(alloc, text.items()) {
-        Ok(made) => save_asmap(made.file.code(), made.line.as_slice(), folder, out),
+        Ok(made) => {
+            let (file, line) = (made.file.code(), made.line.as_slice());
+            save_then_write(Name::AsmapTemp, Name::Asmap, file, line, folder, out)
+        }
         Err(status) => status,
     }
 }

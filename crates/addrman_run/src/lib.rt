@@ -1,14 +1,11 @@
 //! The runs of the program: arguments, log, folder and output in, a status out.
 #![tactic(auto)]
 
-mod ban_order;
-mod ban_words;
 mod bans;
 mod check;
 mod compile;
 mod decompile;
 mod file_line;
-mod gen_words;
 mod generate;
 mod input;
 mod law;
@@ -24,7 +21,6 @@ mod output;
 mod peers_fault;
 mod replay;
 mod report;
-mod request;
 mod session_lines;
 mod show;
 mod status;
@@ -32,13 +28,11 @@ mod tables_fault;
 mod top;
 mod trial;
 mod trial_line;
-mod words;
 
 pub use law::folders_open_once;
 pub use memory::Memory;
 pub use peers_fault::PeersFault;
 pub use report::{code, status_line};
-pub use request::Request;
 pub use status::Status;
 pub use tables_fault::TablesFault;
 pub use top::run;

@@ -8,8 +8,8 @@ ghost use Rattle.peers_file.specs.Layout.{IsFile};
 ghost use Rattle.table_machine.specs.Restoring.{duplicate};
 ghost use Rattle.table_machine.specs.Sound.{IsSound};
 ghost use Rattle.addrman_run.specs.InFolder.{IsAbsent};
-ghost use Rattle.addrman_run.specs.Inside.{IsKeyless, IsLoaded, IsMapOf, IsNoSnapshot, IsNotOpened, IsNotRestored, OpensIn, OpensWith};
-ghost use Rattle.addrman_run.specs.Opening.{IsUnopened, places_of, tables_of};
+ghost use Rattle.addrman_run.specs.Inside.{IsKeyless, IsLoaded, IsMapOf, IsNoSnapshot, IsNotOpened, IsNotRestored, OpensWith};
+ghost use Rattle.addrman_run.specs.Opening.{IsUnopened, Opened, tables_of};
 ghost use Rattle.addrman_run.specs.declared.input.Input.TheVariants as input;
 
 use crate::input::{Input, load_input};
@@ -152,7 +152,7 @@ pub(crate) fn open_folder<'a, F: Folder, H: BuildHasher + Drop>(
 ) -> Result<(Tables<'a, H>, Placer<'a>), Status>
     requires asmap { MatchOption asmap.now (IsAbsent name.Asmap (F.past folder.old))
         (IsLoaded input.Asmap (F.past folder.old)) }
-    ensures found { IfOk result (λ opened. OpensIn key chain (F.past folder.old) opened.0) }
+    ensures found { IfOk result (λ opened. Opened key chain (F.past folder.old) opened.0) }
     ensures placer { IfOk result (λ opened. opened.1 ≡ opened.0.places) }
     ensures small { IfOk result (λ opened. opened.0.next_number ≤ MAX_RECORDS) }
     ensures sound { IfOk result (λ opened. IsSound opened.0) }

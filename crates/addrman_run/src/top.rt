@@ -1,13 +1,13 @@
 ghost use Rattle.std.specs.Prelude.{◌≡◌, ◌≢◌, map, string_bytes};
 ghost use Rattle.host_io.specs.Outside.{outside};
-ghost use Rattle.addrman_run.specs.Request.{Asks, AsksNoFolder, ReadsNoLog};
+ghost use Rattle.arguments.specs.Table.{Asks, IsProperRequest};
+ghost use Rattle.addrman_run.specs.Untouched.{AsksNoFolder, LeavesRest, ReadsNoLog, TellsUsage};
 ghost use Rattle.addrman_run.specs.Complete.{IsComplete};
-ghost use Rattle.addrman_run.specs.Inside.{IsProperRequest};
 ghost use Rattle.addrman_run.specs.Outcome.{Ends, HasCause};
-ghost use Rattle.addrman_run.specs.declared.request.Request.{Request};
+ghost use Rattle.arguments.specs.declared.request.Request.{Request};
 
-use crate::ban_order::BanOrder;
-use crate::bans::carry_out_order;
+use crate::Status;
+use crate::bans::{BanSubnet, FindBan, UnbanSubnet, change_bans};
 use crate::check::Check;
 use crate::compile::compile_table;
 use crate::decompile::Decompile;
@@ -19,8 +19,7 @@ use crate::opener::opener;
 use crate::replay::replay;
 use crate::show::Show;
 use crate::trial::trial;
-use crate::words::read_request;
-use crate::{Request, Status};
+use arguments::{Request, read_request};
 use host_io::{Folder, Sink, Source};
 use std::alloc::Global;
 use std::hash::BuildHasher;
@@ -47,11 +46,8 @@ pub fn run<L: Source, F: Folder, K: Sink, H: BuildHasher + Drop>(
     folder: &mut F,
     out: &mut K,
 ) -> Status
-    ensures usage { result ≡ Status.Usage → (request : Request) → ¬ Asks (map string_bytes words.now) request }
-    ensures asked { result ≢ Status.Usage → (request : Request) × Asks (map string_bytes words.now) request }
-    ensures untouched { result ≡ Status.Usage → (log.new ≡ log.old) × (folder.new ≡ folder.old) × (out.new ≡ out.old) }
-    ensures no_log { (request : Request) → Asks (map string_bytes words.now) request → ReadsNoLog request → log.new ≡ log.old }
-    ensures no_folder { (request : Request) → Asks (map string_bytes words.now) request → AsksNoFolder request → folder.new ≡ folder.old }
+    ensures arguments { TellsUsage (map string_bytes words.now) result }
+    ensures untouched { LeavesRest (map string_bytes words.now) result log.old log.new folder.old folder.new out.old out.new }
     ensures cause { HasCause (outside L.Source F.Folder K.Sink log.old folder.old out.old) (outside L.Source F.Folder K.Sink log.new folder.new out.new) result }
     ensures outcome { (request : Request) → Asks (map string_bytes words.now) request →
         Ends request (outside L.Source F.Folder K.Sink log.old folder.old out.old) (outside L.Source F.Folder K.Sink log.new folder.new out.new) result }
@@ -59,7 +55,7 @@ pub fn run<L: Source, F: Folder, K: Sink, H: BuildHasher + Drop>(
         IsComplete request (outside L.Source F.Folder K.Sink log.old folder.old out.old)
         (outside L.Source F.Folder K.Sink log.new folder.new out.new) result }
 {
-    let Some(request) = read_request(words) else {
+    let Some(request) = read_request(alloc, words) else {
         return Status::Usage;
     };
     carry_out(alloc, hasher, request, log, folder, out)
@@ -91,16 +87,10 @@ fn carry_out<L: Source, F: Folder, K: Sink, H: BuildHasher + Drop>(
         Request::Lookup { peer } => write_file_line(alloc, &Lookup { peer }, folder, out),
         Request::Show { chain } => write_file_line(alloc, &Show { chain }, folder, out),
         Request::Ban { subnet, now, until } => {
-            let order = BanOrder::Ban { subnet, now, until };
-            carry_out_order(alloc, &order, folder, out)
+            change_bans(alloc, &BanSubnet { subnet, now, until }, folder, out)
         }
-        Request::Unban { subnet } => {
-            carry_out_order(alloc, &BanOrder::Unban { subnet }, folder, out)
-        }
-        Request::Banned { peer, now } => {
-            let addr = peer.addr;
-            carry_out_order(alloc, &BanOrder::Find { addr, now }, folder, out)
-        }
+        Request::Unban { subnet } => change_bans(alloc, &UnbanSubnet { subnet }, folder, out),
+        Request::Banned { peer, now } => change_bans(alloc, &FindBan { peer, now }, folder, out),
         Request::Gen { start, lines } => generate(alloc, start, lines, out),
         Request::Trial { start, lines } => trial(alloc, hasher, start, lines, out),
     }

@@ -12,9 +12,9 @@ pub returns-in-Ok-new_asmap-clause-any_moment : goal.returns-in-Ok-new_asmap-cla
 returns-in-Ok-new_asmap-clause-any_moment g c =
     let P = g.F.Folder.past in
     let old = P c.args.folder.now in
-    old_or_new old (P c.load_present.new.folder) (P c.save_asmap.new.folder) c.code.result.now c.in-Ok-new_asmap.made.file.bytes
-    c.in-Ok-new_asmap.made.line.items c.load_present.ensures.same c.code.ensures
-    (c.in-Ok-new_asmap.ensures.found old (subst (IsLoaded input.Prefixes old) (sym c.items.ensures) c.in-Ok.ensures.found)) c.save_asmap.ensures.any_moment
+    old_or_new old (P c.load_present.new.folder) (P c.save_then_write.new.folder) c.code-file.result.now c.in-Ok-new_asmap.made.file.bytes
+    c.in-Ok-new_asmap.made.line.items c.load_present.ensures.same c.code-file.ensures
+    (c.in-Ok-new_asmap.ensures.found old (subst (IsLoaded input.Prefixes old) (sym c.items.ensures) c.in-Ok.ensures.found)) c.save_then_write.ensures.any_moment
 
 pub returns-clause-any_moment : goal.returns-clause-any_moment
 returns-clause-any_moment g c =

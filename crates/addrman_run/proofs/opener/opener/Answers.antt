@@ -1,6 +1,6 @@
 use Rattle.std.proofs.Common.{◌∙◌, arith, sym, subst}
 use Rattle.host_io.specs.Outside.{outside}
-use Rattle.addrman_run.specs.Inside.{OpensIn}
+use Rattle.addrman_run.specs.Opening.{Opened}
 use Rattle.addrman_run.specs.Opener.{OpenerOutcome, OpenerRan}
 use Rattle.addrman_run.specs.Replay.{NotOpened}
 use Rattle.addrman_run.proofs.Openers.{ran_by, starts}
@@ -12,7 +12,7 @@ returns-clause-outcome g c =
     let old = outside g.L.Source g.F.Folder g.K.Sink c.args.log.now c.args.folder.now c.args.out.now in
     let new = outside g.L.Source g.F.Folder g.K.Sink c.run_log.new.log c.open_folder.new.folder c.run_log.new.out in
     let tables = c.in-Ok-open_folder.opened.0 in
-    let found = subst (λ p. OpensIn c.args.key c.args.chain p tables) c.load_input.ensures.same c.in-Ok-open_folder.ensures.found in
+    let found = subst (λ p. Opened c.args.key c.args.chain p tables) c.load_input.ensures.same c.in-Ok-open_folder.ensures.found in
     subst (OpenerOutcome c.args.key c.args.chain old new) (sym c.status_of.ensures)
     (by_status (OpenerRan c.args.key c.args.chain old new) (NotOpened c.args.key c.args.chain old new) c.run_log.result
     (ran_by c.args.key c.args.chain tables c.make-lines.result _ old new c.run_log.result found

@@ -18,11 +18,11 @@ returns-clause-found g c =
     let past = g.F.Folder.past c.args.folder.now in
     let map = map_of c.in-Ok.map in
     ok_so _ _ c.open_tables.result
-    (λ opened is. (
-      map,
-      map_in past c.args.asmap.now map c.requires.asmap c.in-Ok.ensures.found,
-      opens c.args.key c.args.chain past c.in-Ok-load_input.file map opened.0 c.in-Ok-load_input.ensures.found is,
-    ))
+    (λ opened is. record {
+      map = map;
+      has_map = map_in past c.args.asmap.now map c.requires.asmap c.in-Ok.ensures.found;
+      opens = opens c.args.key c.args.chain past c.in-Ok-load_input.file map opened.0 c.in-Ok-load_input.ensures.found is;
+    })
     c.open_tables.ensures.found
 
 pub returns-clause-cause : goal.returns-clause-cause

@@ -1,6 +1,6 @@
 use Rattle.std.proofs.Common.{◌∙◌, arith, refl, sym, subst}
 use Rattle.host_io.specs.Outside.{outside}
-use Rattle.addrman_run.specs.Inside.{OpensIn}
+use Rattle.addrman_run.specs.Opening.{Opened}
 use Rattle.addrman_run.specs.Replay.{NotOpened, Replayed, ReplayOutcome}
 use Rattle.addrman_run.proofs.Replays.{replayed, rises, starts}
 use Rattle.addrman_run.proofs.Seen.{by_status, no_disk, read_end, write_end}
@@ -11,11 +11,11 @@ returns-clause-outcome g c =
     let old = outside g.L.Source g.F.Folder g.K.Sink c.args.log.now c.args.folder.now c.args.out.now in
     let new = outside g.L.Source g.F.Folder g.K.Sink c.run_log.new.log c.run_log.new.world c.run_log.new.out in
     let tables = c.in-Ok-open_folder.opened.0 in
-    let found = subst (λ p. OpensIn c.args.key c.args.chain p tables) c.load_input.ensures.same c.in-Ok-open_folder.ensures.found in
+    let found = subst (λ p. Opened c.args.key c.args.chain p tables) c.load_input.ensures.same c.in-Ok-open_folder.ensures.found in
     subst (ReplayOutcome c.args.key c.args.chain old new) (sym c.status_of.ensures)
     (by_status (Replayed c.args.key c.args.chain old new) (NotOpened c.args.key c.args.chain old new) c.run_log.result
-    (replayed g.F.Folder.past g.F.Folder.faults c.args.key c.args.chain found.0 tables c.make-lines.result old new c.open_folder.new.folder c.run_log.new.world c.run_log.result
-    found.1 found.2 (starts c.args.chain tables c.make-lines.result c.make-session.result c.open.result c.make-lines.ensures c.make-session.ensures c.open.ensures)
+    (replayed g.F.Folder.past g.F.Folder.faults c.args.key c.args.chain tables c.make-lines.result old new c.open_folder.new.folder c.run_log.new.world c.run_log.result
+    found (starts c.args.chain tables c.make-lines.result c.make-session.result c.open.result c.make-lines.ensures c.make-session.ensures c.open.ensures)
     c.in-Ok-open_folder.ensures.sound c.in-Ok-open_folder.ensures.small
     (c.open_folder.ensures.same ∙ c.load_input.ensures.same) (omega (arith, c.load_input.ensures.never_falls, c.open_folder.ensures.never_falls)) refl refl c.run_log.ensures.ran))
 
