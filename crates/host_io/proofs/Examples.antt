@@ -5,6 +5,7 @@ use Rattle.std.specs.Prelude.{codes}
 use Rattle.host_io.specs.Faults.{Rose, raised}
 use Rattle.host_io.specs.Files.{Files, known_bytes, IsThere}
 use Rattle.host_io.specs.Lines.{lines_of}
+use Rattle.host_io.specs.Reading.{MovesBytes, TakesAtMost}
 use Rattle.host_io.specs.Writing.{Appended, AppendedPrefix, AppendedPart}
 use Rattle.host_io.specs.declared.name.Name.TheVariants as name
 
@@ -45,6 +46,12 @@ all_of_them = (2, omega arith, refl)
 
 none_of_them : AppendedPart (Some (7 ∷ [])) (Some (7 ∷ [])) (8 ∷ 9 ∷ [])
 none_of_them = (0, omega arith, refl)
+
+one_byte_moves : MovesBytes (Some (7 ∷ 8 ∷ [])) (Some (8 ∷ [])) (6 ∷ []) (6 ∷ 7 ∷ [])
+one_byte_moves bytes is = (8 ∷ [], refl, cc)
+
+two_bytes_taken : TakesAtMost (Some (7 ∷ 8 ∷ 9 ∷ [])) (Some (9 ∷ [])) 2
+two_bytes_taken = (2, omega arith, refl)
 
 the_last_line_may_lack_its_line_feed : lines_of (codes "a\n\nbc") ≡ codes "a" ∷ [] ∷ codes "bc" ∷ []
 unfolding lines_of

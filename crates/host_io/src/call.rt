@@ -2,7 +2,7 @@ use crate::list::Bytes;
 use crate::name::Name;
 
 /// A call of `Folder`, as a folder in memory records it.
-#[derive(PartialEq, Eq, Debug, Drop)]
+#[derive(Drop)]
 pub struct Call {
     /// The number of the call, from 0.
     pub number: u64,
@@ -11,7 +11,7 @@ pub struct Call {
 }
 
 /// What a call of `Folder` asks for.
-#[derive(PartialEq, Eq, Debug, Drop)]
+#[derive(Drop)]
 pub enum Action {
     /// The length of a file.
     Size {

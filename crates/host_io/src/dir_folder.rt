@@ -14,8 +14,8 @@ use std::{fs, io};
 
 /// An open file, or folder, that a program can have for itself.
 pub trait Lock {
-    /// Takes the lock, which lasts until the file is closed. If another open file of the same name
-    /// has it, the call fails at once, with `WouldBlock`.
+    /// Takes the lock, which lasts until the file is closed. If the file was opened a second time and
+    /// that one has the lock, the call fails at once, with `WouldBlock`.
     fn lock(&self) -> io::Result<()>;
 }
 

@@ -41,7 +41,7 @@ impl Fate {
     }
 }
 
-/// A name of a folder in memory, with all that a crash may leave at it.
+/// What a folder in memory has at a name: the file as it reads, and all that a crash may leave.
 #[derive(Drop)]
 pub struct Entry {
     file: Option<Bytes>,
@@ -64,7 +64,7 @@ impl Model for Entry {
 }
 
 impl Entry {
-    /// Makes a name with this file, or with none, whose bytes and name are safe.
+    /// Makes the entry of this file, or of none, whose bytes and name are safe.
     pub fn safe(alloc: Global, file: Option<Bytes>) -> Entry
         ensures { result ≡ safe file }
     {
@@ -76,7 +76,7 @@ impl Entry {
         }
     }
 
-    /// Makes the name of a file that was created.
+    /// Makes the entry of a file that was created.
     pub fn created(alloc: Global) -> Entry
         ensures { result ≡ created }
     {
@@ -98,7 +98,7 @@ impl Entry {
         }
     }
 
-    /// Returns the name after `bytes` were appended to the file.
+    /// Returns the entry after `bytes` were appended to the file.
     pub fn appended(&self, alloc: Global, bytes: &[u8]) -> Result<Entry, AllocError>
         ensures { IfOk result (λ entry. entry ≡ appended bytes.now self.now) }
     {
@@ -110,7 +110,7 @@ impl Entry {
         })
     }
 
-    /// Returns the name after its file was synced.
+    /// Returns the entry after the file was synced.
     pub fn synced(&self, alloc: Global) -> Result<Entry, AllocError>
         ensures { IfOk result (λ entry. entry ≡ synced self.now) }
     {
@@ -119,7 +119,7 @@ impl Entry {
         Ok(entry)
     }
 
-    /// Copies the name.
+    /// Copies the entry.
     fn copy(&self, alloc: Global) -> Result<Entry, AllocError>
         ensures { IfOk result (λ copy. copy ≡ self.now) }
     {
@@ -131,7 +131,7 @@ impl Entry {
         })
     }
 
-    /// Changes the name to what it is after its folder was synced.
+    /// Changes the entry to what it is after the folder was synced.
     pub fn settle(&mut self)
         ensures { self.new ≡ settled self.old }
     {
@@ -139,7 +139,7 @@ impl Entry {
         self.others.clear();
     }
 
-    /// Returns the name after `source` was renamed to it.
+    /// Returns the entry of this name after the file of `source` was renamed to it.
     pub fn target(&self, alloc: Global, source: &Entry) -> Result<Entry, AllocError>
         ensures { IfOk result (λ entry. entry ≡ target source.now self.now) }
     {
@@ -154,7 +154,7 @@ impl Entry {
         })
     }
 
-    /// Returns the name after the file was renamed to another.
+    /// Returns the entry of this name after its file was renamed to another.
     pub fn left(&self, alloc: Global) -> Result<Entry, AllocError>
         ensures { IfOk result (λ entry. entry ≡ left self.now) }
     {

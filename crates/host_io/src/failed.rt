@@ -34,7 +34,7 @@ impl From<AllocError> for Memory {
 }
 
 /// Why bytes are not read.
-#[derive(Clone, Copy, PartialEq, Eq, Debug)]
+#[derive(Clone, Copy)]
 pub enum ReadFault {
     /// A read failed.
     Failed,
@@ -59,7 +59,7 @@ impl From<AllocError> for ReadFault {
 }
 
 /// The calls of a source or a sink in memory, some of which its maker chose to fail.
-#[derive(Debug, Drop)]
+#[derive(Drop)]
 pub struct Chosen {
     /// The numbers, from 0, of the calls that fail.
     pub fails: Vec<u64>,

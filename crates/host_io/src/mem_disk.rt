@@ -14,7 +14,7 @@ use std::marker::Model;
 /// The bytes of a file that was not synced, after a crash.
 const TORN: &[u8] = b"torn";
 
-/// The same where the crash took all of them.
+/// The bytes of such a file if the crash took all of them.
 const EMPTY: &[u8] = b"";
 
 /// The disk of a folder in memory: what it had at first, its changes, and what they made of it.

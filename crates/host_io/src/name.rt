@@ -32,7 +32,7 @@ impl Name {
 }
 
 /// One value for each name.
-#[derive(Debug, Drop)]
+#[derive(Drop)]
 pub struct PerName<T> {
     pub peers: T,
     pub peers_temp: T,

@@ -45,7 +45,7 @@ pub fn write_all<K: Sink>(sink: &mut K, bytes: &[u8]) -> Result<(), Failed>
 }
 
 /// A sink over any writer, as standard output. Contracts do not know its bytes.
-#[derive(Debug, Drop)]
+#[derive(Drop)]
 pub struct StdSink<W> {
     writer: W,
     faults: u64,
@@ -89,7 +89,7 @@ impl<W: Write> Sink for StdSink<W> {
 }
 
 /// A sink that takes all bytes, keeps none, and never fails. Contracts do not know the bytes.
-#[derive(Clone, Copy, PartialEq, Eq, Debug)]
+#[derive(Clone, Copy)]
 pub struct SureSink;
 
 impl SureSink {
@@ -115,7 +115,7 @@ impl Sink for SureSink {
 }
 
 /// A sink that keeps its bytes in memory, and fails the calls that its maker chose.
-#[derive(Debug, Drop)]
+#[derive(Drop)]
 pub struct MemSink {
     bytes: Vec<u8>,
     chosen: Chosen,

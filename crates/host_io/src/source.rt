@@ -32,7 +32,7 @@ pub trait Source {
 }
 
 /// A source over any reader, as standard input. Contracts do not know its bytes.
-#[derive(Debug, Drop)]
+#[derive(Drop)]
 pub struct StdSource<R> {
     reader: R,
     faults: u64,
@@ -75,7 +75,7 @@ impl<R: Read> Source for StdSource<R> {
 }
 
 /// A source over a lent slice. It never fails.
-#[derive(Debug, Drop)]
+#[derive(Drop)]
 pub struct SureSource<'a> {
     left: &'a [u8],
 }
@@ -117,7 +117,7 @@ impl<'a> Source for SureSource<'a> {
 
 /// A source over bytes in memory. It gives them piece by piece, and fails the calls that its
 /// maker chose.
-#[derive(Debug, Drop)]
+#[derive(Drop)]
 pub struct MemSource {
     bytes: Vec<u8>,
     at: usize,

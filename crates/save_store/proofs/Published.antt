@@ -54,7 +54,7 @@ settles : (e : Entry) (found : Option (List ℕ)) → MayHave (settled e) found 
 settles e found (inl now) = inl now
 settles e found (inr more) = inr (torn_or e.is_torn (onto_if e.is_loose Absent e.others) found more)
 
--- and the target is then the file
+-- after the folder is synced, the target is the renamed file
 at_last : (bytes : List ℕ) (source old : Entry) (found : Option (List ℕ)) → Synced bytes source
     → MayHave (settled (target source old)) found → found ≡ Some bytes
 at_last bytes source old found safe may = elim (file_or bytes source [] found safe may) [
