@@ -3,7 +3,7 @@ use Rattle.std.proofs.Common.{◌≡◌, ◌<◌, ℕ, Bool, true, false, cond, 
 use Rattle.std.specs.Prelude.{bytes_eq, ltb, not, ◌^◌}
 use Rattle.std.proofs.lemmas.Bool.{and_parts, ltb-true}
 use Rattle.std.proofs.lemmas.Slice.Eq.{bytes_eq-Decides}
-use Rattle.std.specs.Option.{option_map}
+use Rattle.std.specs.Option.{option_map, option_map_or}
 use Rattle.grammar.specs.declared.fault.LineFault.{LineFault}
 use Rattle.grammar.specs.Fields.{Kind, Number, OfAddr, OfPeer, Hex, Random, Either, Nets, Classes, Value, IsDefinite, AllMean, IsFirstFault}
 use Rattle.grammar.specs.Reading.{Says}
@@ -118,6 +118,16 @@ kinds_of_found {W} word_of kinds_of (v ∷ vs) word = by (bytes_eq (word_of v) w
         cond b (Some (kinds_of v)) (kinds_after (map (λ w. (word_of w, kinds_of w)) vs) word) ≡ option_map kinds_of (cond b (Some v) (find (λ w. bytes_eq (word_of w) word) vs))
     by true more = refl
     by false more = more
+
+-- the keyword that the search finds is the word
+pub found_word : {W : Type 0} (word_of : W → List ℕ) (verbs : List W) (word : List ℕ) (verb : W) → find (λ v. bytes_eq (word_of v) word) verbs ≡ Some verb → word ≡ word_of verb
+found_word word_of [] word verb found = absurd (cc)
+found_word {W} word_of (v ∷ vs) word verb found = by (bytes_eq (word_of v) word) refl (found_word word_of vs word verb) found
+  where
+    by : (b : Bool) → bytes_eq (word_of v) word ≡ b → (find (λ w. bytes_eq (word_of w) word) vs ≡ Some verb → word ≡ word_of verb) →
+        cond b (Some v) (find (λ w. bytes_eq (word_of w) word) vs) ≡ Some verb → word ≡ word_of verb
+    by true same more e = sym ((bytes_eq-Decides (word_of v) word).0 same) ∙ ap (λ o. option_map_or word_of o word) e
+    by false same more e = more e
 
 -- ---- tests that compute
 

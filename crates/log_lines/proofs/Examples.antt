@@ -45,7 +45,7 @@ unfolding digits
 two_buckets = refl
 
 -- a field gives its value
-clash_is_spelled : SpellsAfter v.Clash (codes "7" ∷ []) (c.Clash 7)
+clash_is_spelled : SpellsAfter (codes "clash") (codes "7" ∷ []) (c.Clash 7)
 unfolding digits
 clash_is_spelled = (refl, ((7, refl, omega arith, omega arith, refl), tt))
 

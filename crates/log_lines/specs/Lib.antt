@@ -1,3 +1,3 @@
 pub mod Spelling
+pub mod Laws
 pub mod Replies
-pub mod Inside

@@ -1,12 +1,13 @@
 -- Which line parses as which command, and what is wrong in a line that parses as none.
-use Rattle.std.specs.Prelude.{◌≡◌, ◌≢◌, ◌⊎◌, ◌^◌, ◌-◌, ℕ, List, [], ◌∷◌, codes}
-use Rattle.grammar.specs.Fields.{u32_field, u64_field, Kind, Number, OfAddr, OfPeer, Hex, Random, Either, Nets, Classes, Value, TheNumber, TheAddr, ThePeer, TheBytes, TheWords, TheChoice, TheNets, AllMean, AreAtFault}
+use Rattle.std.specs.Prelude.{◌≡◌, ◌^◌, ◌-◌, ℕ, List, [], ◌∷◌, map, codes}
+use Rattle.grammar.specs.Fields.{u32_field, u64_field, Kind, Number, OfAddr, OfPeer, Hex, Random, Either, Nets, Classes, Value, TheNumber, TheAddr, ThePeer, TheBytes, TheWords, TheChoice, TheNets}
+use Rattle.grammar.specs.Reading.{Says}
+use Rattle.grammar.specs.Table.{Table, kinds_after, ValuesAfter, FaultAfter}
 use Rattle.grammar.specs.Words.{fields_of}
 use Rattle.host_io.specs.Lines.{IsPassedOver}
 use Rattle.log_lines.specs.declared.command.Command.{Command}
 use Rattle.log_lines.specs.declared.command.Command.TheVariants as c
 use Rattle.grammar.specs.declared.fault.LineFault.{LineFault}
-use Rattle.grammar.specs.declared.fault.LineFault.TheVariants as fault
 use Rattle.log_lines.specs.declared.verb.Verb.{Verb}
 use Rattle.log_lines.specs.declared.verb.Verb.TheVariants as v
 
@@ -95,22 +96,30 @@ values_of c.SaveBegin = []
 values_of (c.SaveStep count) = TheNumber count ∷ []
 values_of c.SaveEnd = []
 
--- the fields after this word parse as the command
-abbrev pub SpellsAfter : Verb → List (List ℕ) → Command → Type 0
-SpellsAfter verb texts command =
-    (verb ≡ verb_of command) × AllMean (kinds_of verb) texts (values_of command)
+-- the table of the log: each keyword, and the kinds of the fields after it
+abbrev pub verbs : List Verb
+verbs =
+    v.Now ∷ v.Addr ∷ v.Addr2 ∷ v.Good ∷ v.Attempt ∷ v.Connected ∷ v.Services ∷ v.Find ∷ v.Size
+    ∷ v.Select ∷ v.Sample ∷ v.Resolve ∷ v.Clash ∷ v.Dump ∷ v.Save ∷ v.SaveBegin ∷ v.SaveStep
+    ∷ v.SaveEnd ∷ []
+
+abbrev pub table : Table
+table = map (λ verb. (word_of verb, kinds_of verb)) verbs
+
+-- a first word and the fields after it parse as the command
+abbrev pub SpellsAfter : List ℕ → List (List ℕ) → Command → Type 0
+SpellsAfter word texts command =
+    (word ≡ word_of (verb_of command))
+    × ValuesAfter (kinds_after table word) texts (values_of command)
+
+-- what is wrong in a first word and the fields after it
+abbrev pub HasFaultAfter : List ℕ → List (List ℕ) → LineFault → Type 0
+HasFaultAfter word texts f = FaultAfter (kinds_after table word) texts f
 
 -- the line parses as the command
 abbrev pub Spells : List ℕ → Command → Type 0
-Spells line command =
-    (verb : Verb) × (texts : List (List ℕ)) × (fields_of line ≡ word_of verb ∷ texts)
-    × SpellsAfter verb texts command
+Spells line command = Says SpellsAfter (fields_of line) command
 
--- what is wrong in a line that is not passed over: its first word is that of no command, or else
--- there are too few or too many other fields, or else one of them is not of its kind
+-- what is wrong in a line that is not passed over
 abbrev pub HasFault : List ℕ → LineFault → Type 0
-HasFault line f =
-    ¬ IsPassedOver line
-    × ((word : List ℕ) × (texts : List (List ℕ)) × (fields_of line ≡ word ∷ texts) ×
-    ((((verb : Verb) → word ≢ word_of verb) × (f ≡ fault.Word))
-    ⊎ ((verb : Verb) × (word ≡ word_of verb) × AreAtFault (kinds_of verb) texts f)))
+HasFault line f = ¬ IsPassedOver line × Says HasFaultAfter (fields_of line) f

@@ -3,9 +3,6 @@ ghost use Rattle.host_io.specs.Lines.{IsPassedOver};
 ghost use Rattle.log_lines.specs.Spelling.{Spells, HasFault};
 ghost use Rattle.log_lines.specs.declared.command.Command.{Command};
 ghost use Rattle.grammar.specs.declared.fault.LineFault.{LineFault};
-ghost use Rattle.log_lines.specs.declared.read.TheConstants.{MAX_LINE};
-
-use crate::MAX_LINE;
 
 /// No line parses as two commands, has two faults, or parses as a command and has a fault; and a
 /// line that is passed over parses as no command.
@@ -15,9 +12,4 @@ pub fn lines_have_one_meaning()
     ensures right { (line : List ℕ) (a : Command) (f : LineFault) → Spells line a →
         ¬ HasFault line f }
     ensures passed { (line : List ℕ) (a : Command) → IsPassedOver line → ¬ Spells line a }
-{}
-
-/// The maximum length of a line in bytes.
-pub fn limits()
-    ensures { MAX_LINE ≡ 16777216 }
 {}

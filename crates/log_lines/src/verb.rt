@@ -1,11 +1,9 @@
-ghost use Rattle.std.specs.Prelude.{◌≡◌, ◌≢◌, IfSome, IfNone, find};
 ghost use Rattle.log_lines.specs.Spelling.{word_of};
-ghost use Rattle.log_lines.specs.Inside.{has_word};
-ghost use Rattle.log_lines.specs.declared.verb.TheConstants.{VERBS};
-ghost use Rattle.log_lines.specs.declared.verb.Verb.{Verb};
+
+use grammar::Keyword;
 
 /// The keyword of a line, its first field, which says what the line asks for.
-#[derive(Clone, Copy, Debug, PartialEq, Eq)]
+#[derive(Clone, Copy)]
 pub enum Verb {
     Now,
     Addr,
@@ -28,7 +26,7 @@ pub enum Verb {
 }
 
 /// All verbs, each once.
-const VERBS: [Verb; 18] = [
+pub const VERBS: [Verb; 18] = [
     Verb::Now,
     Verb::Addr,
     Verb::Addr2,
@@ -49,15 +47,10 @@ const VERBS: [Verb; 18] = [
     Verb::SaveEnd,
 ];
 
-impl Verb {
-    ghost use Rattle.std.specs.Prelude.{◌≡◌};
-    ghost use Rattle.log_lines.specs.Spelling.{word_of};
-    ghost use Rattle.log_lines.specs.Inside.{has_word};
+impl Keyword for Verb {
+    ghost word = { word_of };
 
-    /// Returns the keyword.
-    fn word(self) -> &'static [u8]
-        ensures { result.now ≡ word_of self }
-    {
+    fn word(self) -> &'static [u8] {
         match self {
             Verb::Now => b"now",
             Verb::Addr => b"addr",
@@ -79,26 +72,4 @@ impl Verb {
             Verb::SaveEnd => b"save-end",
         }
     }
-
-    /// Returns `true` if this is the keyword.
-    fn has_word(self, word: &[u8]) -> bool
-        ensures { result ≡ has_word word.now self }
-    {
-        self.word() == word
-    }
-}
-
-/// Returns the verb of this keyword.
-pub(crate) fn verb_of(word: &[u8]) -> Option<Verb>
-    ensures found { IfSome result (λ verb. word.now ≡ word_of verb) }
-    ensures none { IfNone result ((verb : Verb) → word.now ≢ word_of verb) }
-{
-    first_with(word)
-}
-
-/// Returns the first verb that has this keyword.
-fn first_with(word: &[u8]) -> Option<Verb>
-    ensures { result ≡ find (has_word word.now) VERBS }
-{
-    VERBS.iter().copied().find(|verb| verb.has_word(word))
 }

@@ -1,6 +1,4 @@
-use Rattle.log_lines.proofs.FaultLemmas.{one_fault, spelled_no_fault}
-use Rattle.log_lines.proofs.Readings.{one_command}
-use Rattle.log_lines.proofs.VerbLemmas.{passed_spells_none}
+use Rattle.log_lines.proofs.OneMeaning.{one_command, one_fault, spelled_no_fault, passed_spells_none}
 use Rattle.log_lines.proofs.law.lines_have_one_meaning.Goals as goal
 
 pub returns-clause-command : goal.returns-clause-command

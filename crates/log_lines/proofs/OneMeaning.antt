@@ -1,0 +1,22 @@
+-- A line has one meaning.
+use Rattle.std.proofs.Common.{◌≡◌, ℕ, List}
+use Rattle.host_io.specs.Lines.{IsPassedOver}
+use Rattle.grammar.specs.Words.{fields_of}
+use Rattle.grammar.specs.declared.fault.LineFault.{LineFault}
+use Rattle.grammar.proofs.ReadingLemmas.{passed_says_none}
+use Rattle.grammar.proofs.TableLemmas.{of_same}
+use Rattle.log_lines.specs.Laws as after
+use Rattle.log_lines.specs.Spelling.{SpellsAfter, HasFaultAfter, Spells, HasFault}
+use Rattle.log_lines.specs.declared.command.Command.{Command}
+
+pub one_command : (line : List ℕ) (a b : Command) → Spells line a → Spells line b → a ≡ b
+one_command line a b h k = of_same SpellsAfter SpellsAfter after.one_after (fields_of line) a b h k
+
+pub one_fault : (line : List ℕ) (f g : LineFault) → HasFault line f → HasFault line g → f ≡ g
+one_fault line f g h k = of_same HasFaultAfter HasFaultAfter after.one_fault (fields_of line) f g h.1 k.1
+
+pub spelled_no_fault : (line : List ℕ) (a : Command) (f : LineFault) → Spells line a → HasFault line f → ⊥
+spelled_no_fault line a f h k = of_same SpellsAfter HasFaultAfter after.no_fault (fields_of line) a f h k.1
+
+pub passed_spells_none : (line : List ℕ) (a : Command) → IsPassedOver line → Spells line a → ⊥
+passed_spells_none line a passed h = passed_says_none SpellsAfter after.letters line a passed h

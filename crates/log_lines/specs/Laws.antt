@@ -1,0 +1,76 @@
+-- Why a line has one meaning.
+use Rattle.std.proofs.Common.{◌≡◌, ◌<◌, ℕ, List, [], ◌∷◌, get_or, Option, Some, find, refl, sym, ◌∙◌}
+use Rattle.std.specs.Prelude.{bytes_eq}
+use Rattle.grammar.specs.Fields.{Value, TheNumber, TheAddr, ThePeer, TheBytes, TheWords, TheChoice, TheNets}
+use Rattle.grammar.specs.Table.{kinds_after}
+use Rattle.grammar.specs.declared.fault.LineFault.{LineFault}
+use Rattle.grammar.proofs.TableLemmas.{one_values_after, one_fault_after, no_fault_after, letter_of_values}
+use Rattle.log_lines.specs.Spelling.{word_of, verb_of, values_of, verbs, table, SpellsAfter, HasFaultAfter}
+use Rattle.log_lines.specs.declared.command.Command.{Command}
+use Rattle.log_lines.specs.declared.command.Command.TheVariants as c
+use Rattle.log_lines.specs.declared.verb.Verb.{Verb}
+use Rattle.log_lines.specs.declared.verb.Verb.TheVariants as v
+
+-- the command of a keyword and its values
+command_by : Option Verb → List Value → Command
+command_by (Some v.Now) (TheNumber time ∷ []) = c.Now time
+command_by (Some v.Addr) (TheAddr source ∷ TheBytes payload ∷ TheWords words ∷ []) = c.Addr source payload words
+command_by (Some v.Addr2) (TheAddr source ∷ TheBytes payload ∷ TheWords words ∷ []) = c.Addr2 source payload words
+command_by (Some v.Good) (ThePeer peer ∷ TheChoice testing ∷ []) = c.Good peer testing
+command_by (Some v.Attempt) (ThePeer peer ∷ TheChoice count ∷ []) = c.Attempt peer count
+command_by (Some v.Connected) (ThePeer peer ∷ []) = c.Connected peer
+command_by (Some v.Services) (ThePeer peer ∷ TheNumber services ∷ []) = c.Services peer services
+command_by (Some v.Find) (ThePeer peer ∷ []) = c.Find peer
+command_by (Some v.Select) (TheChoice new_only ∷ TheNets nets ∷ TheWords words ∷ []) = c.Select new_only nets words
+command_by (Some v.Sample) (TheNumber max ∷ TheNumber pct ∷ TheNets classes ∷ TheWords words ∷ []) = c.Sample max pct classes words
+command_by (Some v.Resolve) values = c.Resolve
+command_by (Some v.Clash) (TheNumber word ∷ []) = c.Clash word
+command_by (Some v.Dump) values = c.Dump
+command_by (Some v.Save) values = c.Save
+command_by (Some v.SaveBegin) values = c.SaveBegin
+command_by (Some v.SaveStep) (TheNumber count ∷ []) = c.SaveStep count
+command_by (Some v.SaveEnd) values = c.SaveEnd
+command_by other values = c.Size
+
+verb_with : List ℕ → Option Verb
+verb_with word = find (λ verb. bytes_eq (word_of verb) word) verbs
+
+command_back : (command : Command) → command_by (verb_with (word_of (verb_of command))) (values_of command) ≡ command
+unfolding command_by verb_with
+command_back (c.Now time) = refl
+command_back (c.Addr source payload words) = refl
+command_back (c.Addr2 source payload words) = refl
+command_back (c.Good peer testing) = refl
+command_back (c.Attempt peer count) = refl
+command_back (c.Connected peer) = refl
+command_back (c.Services peer services) = refl
+command_back (c.Find peer) = refl
+command_back c.Size = refl
+command_back (c.Select new_only nets words) = refl
+command_back (c.Sample max pct classes words) = refl
+command_back c.Resolve = refl
+command_back (c.Clash word) = refl
+command_back c.Dump = refl
+command_back c.Save = refl
+command_back c.SaveBegin = refl
+command_back (c.SaveStep count) = refl
+command_back c.SaveEnd = refl
+
+-- a first word and the fields after it parse as one command
+pub one_after : (word : List ℕ) (texts : List (List ℕ)) (a b : Command) → SpellsAfter word texts a → SpellsAfter word texts b → a ≡ b
+one_after word texts a b h k =
+    let values = one_values_after table word texts (values_of a) (values_of b) refl h.1 k.1 in
+    let words = sym h.0 ∙ k.0 in
+    sym (command_back a) ∙ (λ i. command_by (verb_with (words i)) (values i)) ∙ command_back b
+
+-- or have one fault
+pub one_fault : (word : List ℕ) (texts : List (List ℕ)) (f g : LineFault) → HasFaultAfter word texts f → HasFaultAfter word texts g → f ≡ g
+one_fault word texts f g h k = one_fault_after (kinds_after table word) texts f g h k
+
+-- and never both
+pub no_fault : (word : List ℕ) (texts : List (List ℕ)) (a : Command) (f : LineFault) → SpellsAfter word texts a → HasFaultAfter word texts f → ⊥
+no_fault word texts a f h k = no_fault_after (kinds_after table word) texts (values_of a) f h.1 k
+
+-- a line that parses as a command begins with a letter
+pub letters : (word : List ℕ) (texts : List (List ℕ)) (a : Command) → SpellsAfter word texts a → 96 < get_or word 0 0
+letters word texts a h = letter_of_values table word texts (values_of a) refl h.1
