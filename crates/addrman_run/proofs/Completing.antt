@@ -12,7 +12,7 @@ use Rattle.host_io.specs.Outside.{Outside}
 use Rattle.host_io.specs.Past.{Past}
 use Rattle.host_io.specs.declared.name.Name.TheVariants as name
 use Rattle.host_io.specs.declared.name.Name.{Name}
-use Rattle.log_lines.proofs.FaultLemmas.{spelled_no_fault}
+use Rattle.log_lines.proofs.OneMeaning.{spelled_no_fault}
 use Rattle.log_lines.specs.Spelling.{HasFault}
 use Rattle.grammar.specs.declared.fault.LineFault.{LineFault}
 use Rattle.log_run.specs.Log.{HasNoFeed}

@@ -25,7 +25,6 @@ use Rattle.peer_rec.specs.declared.file_rec.FileRec.{FileRec}
 use Rattle.peers_file.specs.declared.chain.Chain.TheVariants.{Main}
 use Rattle.log_lines.specs.Spelling.{Spells}
 use Rattle.log_lines.specs.declared.command.Command.TheVariants as command
-use Rattle.log_lines.specs.declared.verb.Verb.TheVariants as verb
 use Rattle.session.specs.History.{fresh}
 use Rattle.session.specs.State.{State, state}
 use Rattle.table_machine.specs.State as tables
@@ -75,7 +74,7 @@ is_teller = dotted (record { bits = 0x01020304; bits_text = (omega arith, refl);
 spelled : Spells line (command.Addr teller payload (5 ∷ []))
 unfolding decode_pairs digits
 spelled = (
-  verb.Addr,
+  codes "addr",
   codes "1.2.3.4" ∷ payload_text ∷ codes "5" ∷ [],
   refl,
   (refl, ((teller, refl, is_teller), ((payload, refl, inr (λ e. absurd (cc), refl)), ((5 ∷ [], refl, inr (inl (λ e. absurd (cc), All-cons (λ w. w < 2 ^ 64) 5 [] (omega arith) (All-nil (λ w. w < 2 ^ 64)), refl))), tt)))),

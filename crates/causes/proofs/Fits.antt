@@ -15,7 +15,8 @@ use Rattle.wire_num.proofs.ReadingLaws.{AreBytes}
 use Rattle.addr_codecs.specs.Entries.{IsEntry}
 use Rattle.addr_codecs.specs.Layout.{IsAddrMessage, IsAddrv2Message}
 use Rattle.grammar.specs.Fields.{AllMean, Hex, Kind, Means, OfAddr, OfPeer, Random, TheAddr, TheBytes, TheNumber, Value, ThePeer, TheWords, u32_field, u64_field}
-use Rattle.log_lines.specs.Spelling.{Spells, kinds_of, values_of, verb_of}
+use Rattle.log_lines.specs.Spelling.{Spells}
+use Rattle.log_lines.proofs.OneMeaning.{AreFieldsOf, fields_of_line}
 use Rattle.log_lines.specs.declared.command.Command.{Command}
 use Rattle.log_lines.specs.declared.command.Command.TheVariants as command
 use Rattle.session.proofs.OneHistory.{bytes_in, hex_bytes}
@@ -60,7 +61,7 @@ cut kind kinds (text ∷ rest) v vs h = (text, rest, h.0, h.1)
 module _ (IsMessage : List ℕ → List (Option Entry) → Type 0)
     (fits : (bytes : List ℕ) (entries : List (Option Entry)) → AreBytes bytes → IsMessage bytes entries → (length entries ≤ 1000) × ((e : Entry) → Contains entries (Some e) → IsEntry e))
     (source : Address) (payload : List ℕ) (words : List ℕ) (texts : List (List ℕ)) where
-  fit_message : AllMean (kinds_of (verb_of (command.Addr source payload words))) texts (values_of (command.Addr source payload words)) → IsFitMessage (IsMessage payload) source
+  fit_message : AreFieldsOf (command.Addr source payload words) texts → IsFitMessage (IsMessage payload) source
   fit_message h =
       let one = cut OfAddr (Hex ∷ Random ∷ []) texts (TheAddr source) (TheBytes payload ∷ TheWords words ∷ []) h in
       let two = cut Hex (Random ∷ []) one.1 (TheBytes payload) (TheWords words ∷ []) one.3 in
@@ -69,7 +70,7 @@ module _ (IsMessage : List ℕ → List (Option Entry) → Type 0)
       let bytes = subst AreBytes (sym own) (hex_bytes two.0 two.2.0 two.2.2) in
       (subst IsAddress (sym from) (addressed one.0 one.2.0 one.2.2), λ entries is. fits payload entries bytes is)
 
-means-fit : (asked : Command) (texts : List (List ℕ)) → AllMean (kinds_of (verb_of asked)) texts (values_of asked) → IsFit asked
+means-fit : (asked : Command) (texts : List (List ℕ)) → AreFieldsOf asked texts → IsFit asked
 means-fit (command.Now time) texts h =
     let one = cut u32_field [] texts (TheNumber time) [] h in
     let same : time ≡ one.2.0 = ap number_in one.2.1 in
@@ -99,5 +100,4 @@ means-fit (command.SaveStep count) texts h = tt
 means-fit command.SaveEnd texts h = tt
 
 pub spelled-fits : (line : List ℕ) (asked : Command) → Spells line asked → IsFit asked
-spelled-fits line asked h =
-    means-fit asked h.1 (subst (λ v. AllMean (kinds_of v) h.1 (values_of asked)) h.3.0 h.3.1)
+spelled-fits line asked h = means-fit asked h.1 (fields_of_line line asked h)

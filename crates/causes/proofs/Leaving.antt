@@ -15,7 +15,6 @@ use Rattle.peer_rec.specs.declared.place.Place.{Place}
 use Rattle.peer_rec.specs.declared.place.Place.TheVariants.{New, Tried}
 use Rattle.log_lines.specs.Spelling.{Spells}
 use Rattle.log_lines.specs.declared.command.Command.TheVariants as command
-use Rattle.log_lines.specs.declared.verb.Verb.TheVariants as verb
 use Rattle.manager.specs.Machine.{Machine}
 use Rattle.table_machine.specs.State.{State, empty_state}
 use Rattle.table_machine.specs.Clashes.{resolve}
@@ -76,7 +75,7 @@ is_peer = record {
 }
 
 spelled : Spells line (command.Good (peer 873) false)
-spelled = (verb.Good, codes "8.8.8.8:873" ∷ codes "force" ∷ [], refl, (refl, ((peer 873, refl, is_peer), ((false, refl, refl), tt))))
+spelled = (codes "good", codes "8.8.8.8:873" ∷ codes "force" ∷ [], refl, (refl, ((peer 873, refl, is_peer), ((false, refl, refl), tt))))
 
 abbrev newcomer : Rec
 newcomer = record (rec 1 873 Tried) { last_success = 5000; last_try = 5000 }

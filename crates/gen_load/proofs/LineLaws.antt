@@ -16,7 +16,7 @@ use Rattle.hex.proofs.HexLemmas.{length-encode_with}
 use Rattle.wire_num.specs.CompactSize.{compact_size}
 use Rattle.net_addr.specs.Text.{addr_text, peer_text}
 use Rattle.addr_codecs.specs.Texts.{message_text, addr_entry_text}
-use Rattle.log_lines.proofs.Readings.{one_command}
+use Rattle.log_lines.proofs.OneMeaning.{one_command}
 use Rattle.gen_load.specs.declared.position.Position.{Position}
 use Rattle.gen_load.specs.declared.kind.Kind.{Kind}
 use Rattle.gen_load.specs.declared.kind.Kind.TheVariants as kind

@@ -32,7 +32,6 @@ use Rattle.grammar.specs.Random.{seeded_words}
 use Rattle.log_lines.specs.Spelling.{Spells}
 use Rattle.log_lines.specs.declared.command.Command.{Command}
 use Rattle.log_lines.specs.declared.command.Command.TheVariants as command
-use Rattle.log_lines.specs.declared.verb.Verb.TheVariants as verb
 use Rattle.grammar.proofs.WordLemmas.{decimal-lacks}
 use Rattle.gen_load.specs.declared.position.Position.{Position}
 use Rattle.gen_load.specs.declared.kind.Kind.{Kind}
@@ -104,7 +103,7 @@ now_spells time small = (
   command.Now time,
   tt,
   (
-    verb.Now,
+    codes "now",
     decimal time ∷ [],
     ap (λ fs. codes "now" ∷ fs) (slice_split_none (λ b. b == 32) (decimal time) (decimal-field time (omega (arith, small)))),
     (refl, ((time, refl, omega arith, omega (arith, small), refl), tt)),
@@ -116,7 +115,7 @@ good_spells j small = (
   command.Good (peer_of j) true,
   routable j small,
   (
-    verb.Good,
+    codes "good",
     peer_text (peer_of j) ∷ codes "test" ∷ [],
     ap (λ fs. codes "good" ∷ fs) (slice_split_at (λ b. b == 32) (peer_text (peer_of j)) 32 (codes "test") (peer-field j small) refl),
     (refl, ((peer_of j, refl, is_peer_text j small), ((true, refl, refl), tt))),
@@ -128,7 +127,7 @@ attempt_spells j small = (
   command.Attempt (peer_of j) true,
   routable j small,
   (
-    verb.Attempt,
+    codes "attempt",
     peer_text (peer_of j) ∷ codes "count" ∷ [],
     ap (λ fs. codes "attempt" ∷ fs) (slice_split_at (λ b. b == 32) (peer_text (peer_of j)) 32 (codes "count") (peer-field j small) refl),
     (refl, ((peer_of j, refl, is_peer_text j small), ((true, refl, refl), tt))),
@@ -140,7 +139,7 @@ connected_spells j small = (
   command.Connected (peer_of j),
   routable j small,
   (
-    verb.Connected,
+    codes "connected",
     peer_text (peer_of j) ∷ [],
     ap (λ t. codes "connected" ∷ slice_split (λ b. b == 32) t) (append-nil (peer_text (peer_of j)))
         ∙ ap (λ fs. codes "connected" ∷ fs) (slice_split_none (λ b. b == 32) (peer_text (peer_of j)) (peer-field j small)),
@@ -165,7 +164,7 @@ select_spells seed small = (
   command.Select false all (seeded_words seed 300),
   tt,
   (
-    verb.Select,
+    codes "select",
     codes "any" ∷ codes "all" ∷ seed_text seed 300 ∷ [],
     ap (λ fs. codes "select" ∷ codes "any" ∷ codes "all" ∷ fs) (slice_split_none (λ b. b == 32) (seed_text seed 300) (seed-field seed 300 small (omega arith))),
     (refl, ((false, refl, refl), ((all, refl, inl (refl, refl)), ((seeded_words seed 300, refl, seed_words seed 300 small (omega arith)), tt)))),
@@ -177,7 +176,7 @@ clash_spells word small = (
   command.Clash word,
   tt,
   (
-    verb.Clash,
+    codes "clash",
     decimal word ∷ [],
     ap (λ fs. codes "clash" ∷ fs) (slice_split_none (λ b. b == 32) (decimal word) (decimal-field word (omega (arith, small)))),
     (refl, ((word, refl, omega arith, omega (arith, small), refl), tt)),
@@ -185,7 +184,7 @@ clash_spells word small = (
 )
 
 resolve_spells : HasCommand (codes "resolve")
-resolve_spells = (command.Resolve, tt, (verb.Resolve, [], refl, (refl, tt)))
+resolve_spells = (command.Resolve, tt, (codes "resolve", [], refl, (refl, tt)))
 
 -- the bytes of a message
 abbrev AreBytes : List ℕ → Type 0
@@ -285,7 +284,7 @@ addr_spells j seed entries small low few bytes fits routes = (
   command.Addr (peer_of j).addr payload (seeded_words seed (length entries)),
   (routable j small, peers),
   (
-    verb.Addr,
+    codes "addr",
     addr_text (peer_of j).addr ∷ encode_lower payload ∷ seed_text seed (length entries) ∷ [],
     ap (λ t. codes "addr" ∷ slice_split (λ b. b == 32) t) (parts (addr_text (peer_of j).addr) (encode_lower payload) (decimal seed) (decimal (length entries)))
         ∙ ap (λ fs. codes "addr" ∷ fs) (slice_split_at (λ b. b == 32) (addr_text (peer_of j).addr) 32 (encode_lower payload ++ 32 ∷ seed_text seed (length entries)) (addr-field j small) refl)

@@ -1,13 +1,21 @@
 -- A line has one meaning.
-use Rattle.std.proofs.Common.{◌≡◌, ℕ, List}
+use Rattle.std.proofs.Common.{◌≡◌, ℕ, List, subst}
 use Rattle.host_io.specs.Lines.{IsPassedOver}
+use Rattle.grammar.specs.Table.{kinds_after, ValuesAfter}
 use Rattle.grammar.specs.Words.{fields_of}
 use Rattle.grammar.specs.declared.fault.LineFault.{LineFault}
 use Rattle.grammar.proofs.ReadingLemmas.{passed_says_none}
 use Rattle.grammar.proofs.TableLemmas.{of_same}
 use Rattle.log_lines.specs.Laws as after
-use Rattle.log_lines.specs.Spelling.{SpellsAfter, HasFaultAfter, Spells, HasFault}
+use Rattle.log_lines.specs.Spelling.{word_of, verb_of, values_of, table, SpellsAfter, HasFaultAfter, Spells, HasFault}
 use Rattle.log_lines.specs.declared.command.Command.{Command}
+
+-- the texts are those after the keyword in a line that parses as the command
+abbrev pub AreFieldsOf : Command → List (List ℕ) → Type 0
+AreFieldsOf command texts = ValuesAfter (kinds_after table (word_of (verb_of command))) texts (values_of command)
+
+pub fields_of_line : (line : List ℕ) (command : Command) (h : Spells line command) → AreFieldsOf command h.1
+fields_of_line line command h = subst (λ word. ValuesAfter (kinds_after table word) h.1 (values_of command)) h.3.0 h.3.1
 
 pub one_command : (line : List ℕ) (a b : Command) → Spells line a → Spells line b → a ≡ b
 one_command line a b h k = of_same SpellsAfter SpellsAfter after.one_after (fields_of line) a b h k

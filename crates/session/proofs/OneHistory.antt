@@ -15,13 +15,12 @@ use Rattle.addr_codecs.specs.declared.fault.MsgFault.TheVariants.{Trailing}
 use Rattle.addr_codecs.proofs.MessageLaws.{Reads-addr_entry, Reads-addrv2_entry, Reads-message}
 use Rattle.grammar.specs.Fields.{AllMean, Hex, IsHex, OfAddr, Random, TheAddr, TheBytes, TheWords, Value}
 use Rattle.log_lines.specs.Replies.{reply_text}
-use Rattle.log_lines.specs.Spelling.{Spells, kinds_of, values_of, verb_of}
+use Rattle.log_lines.specs.Spelling.{Spells}
 use Rattle.log_lines.specs.declared.command.Command.{Command}
 use Rattle.log_lines.specs.declared.command.Command.TheVariants as command
 use Rattle.log_lines.specs.declared.reply.Reply.{Reply}
 use Rattle.log_lines.specs.declared.reply.Reply.TheVariants.{Refused}
-use Rattle.log_lines.proofs.Readings.{one_command}
-use Rattle.log_lines.proofs.VerbLemmas.{passed_spells_none}
+use Rattle.log_lines.proofs.OneMeaning.{AreFieldsOf, fields_of_line, one_command, passed_spells_none}
 use Rattle.log_run.specs.Run.{Run}
 use Rattle.manager.specs.Machine.{Machine}
 use Rattle.manager.specs.Step as manager
@@ -54,14 +53,13 @@ HasBytes (command.Addr source payload words) = AreBytes payload
 HasBytes (command.Addr2 source payload words) = AreBytes payload
 HasBytes other = Unit {0}
 
-means_bytes : (asked : Command) (texts : List (List ℕ)) → AllMean (kinds_of (verb_of asked)) texts (values_of asked) → HasBytes asked
+means_bytes : (asked : Command) (texts : List (List ℕ)) → AreFieldsOf asked texts → HasBytes asked
 means_bytes (command.Addr source payload words) texts h = message_bytes source payload words texts h
 means_bytes (command.Addr2 source payload words) texts h = message_bytes source payload words texts h
 means_bytes other texts h = tt
 
 spelled_bytes : (line : List ℕ) (asked : Command) → Spells line asked → HasBytes asked
-spelled_bytes line asked h =
-    means_bytes asked h.1 (subst (λ v. AllMean (kinds_of v) h.1 (values_of asked)) h.3.0 h.3.1)
+spelled_bytes line asked h = means_bytes asked h.1 (fields_of_line line asked h)
 
 -- ---- a command of the machine
 

@@ -2,7 +2,7 @@ ghost use Rattle.std.specs.Prelude.{◌≡◌};
 
 use crate::carry_out::carry_out;
 use host_io::Folder;
-use log_lines::{Command, LineFault, MAX_LINE, put_reply, read_line};
+use log_lines::{Command, LineFault, put_reply, read_line};
 use manager::Manager;
 use peers_file::Chain;
 use save_store::SaveJob;
@@ -65,7 +65,6 @@ impl<'a, H: BuildHasher> Session<'a, H> {
         folder: &mut F,
         out: &mut Vec<u8>,
     ) -> Result<(), LineFault>
-        requires short { length line.now ≤ MAX_LINE }
         requires room { self.old.machine.tables.next_number < 2 ^ 62 }
         requires is_open { IsOpen self.old.job (F.past folder.old) }
         ensures step { OnOk result ((text : List ℕ)

@@ -1,6 +1,6 @@
 use crate::text::{bytes_of, hex_text, owned, text_of};
 use call_rows::{Fields, Unread};
-use log_lines::{Command, MAX_LINE, read_line, read_words, split_line};
+use log_lines::{Command, read_line, read_words, split_line};
 use net_addr::{NetAddr, Peer, put_peer};
 use std::alloc::{AllocError, Global};
 
@@ -42,9 +42,6 @@ fn command_text(alloc: Global, command: &Command) -> Result<String, Unread> {
 
 /// Returns the command of the line, its fault, or that it is passed over.
 fn line_text(alloc: Global, line: &[u8]) -> Result<String, Unread> {
-    if line.len() > MAX_LINE {
-        return Err(Unread::Unmet);
-    }
     match read_line(alloc, line) {
         Ok(Some(command)) => command_text(alloc, &command),
         Ok(None) => Ok(owned(alloc, "passed over")?),
@@ -84,9 +81,6 @@ fn length_text(alloc: Global, command: &Option<Command>) -> Result<String, Unrea
 
 /// Returns the length of the payload of the line.
 fn payload_length(alloc: Global, line: &[u8]) -> Result<String, Unread> {
-    if line.len() > MAX_LINE {
-        return Err(Unread::Unmet);
-    }
     match read_line(alloc, line) {
         Ok(command) => length_text(alloc, &command),
         Err(_) => Err(Unread::Memory),
