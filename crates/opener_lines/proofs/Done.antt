@@ -4,7 +4,8 @@ use Rattle.host_io.specs.Lines.{IsPassedOver}
 use Rattle.net_addr.specs.declared.peer.Peer.{Peer}
 use Rattle.table_machine.specs.Clashes.{clash_pick}
 use Rattle.grammar.specs.Fields.{AllMean, Value, TheNumber, TheAddr, ThePeer, TheBytes, TheWords, TheChoice, TheNets}
-use Rattle.log_lines.specs.Spelling.{kinds_of, values_of, verb_of}
+use Rattle.log_lines.specs.Spelling.{kinds_of, values_of}
+use Rattle.log_lines.proofs.OneMeaning.{AreFieldsOf, fields_of_line}
 use Rattle.log_lines.specs.declared.command.Command.{Command}
 use Rattle.log_lines.specs.declared.command.Command.TheVariants as c
 use Rattle.log_lines.specs.declared.reply.Reply.{Reply}
@@ -85,33 +86,32 @@ percent [] max pct classes words h = absurd h
 percent (text ∷ []) max pct classes words h = absurd h.1
 percent (text ∷ second ∷ texts) max pct classes words h = subst (λ n. n ≤ 100) (sym (ap number_in h.1.0.1)) h.1.0.3
 
-has_percent : (command : Command) (verb : Verb) (texts : List (List ℕ)) → verb ≡ verb_of command → AllMean (kinds_of verb) texts (values_of command) → manager.HasPercent command
-has_percent (c.Sample max pct classes words) verb texts is h =
-    percent texts max pct classes words (subst (λ w. AllMean (kinds_of w) texts (values_of (c.Sample max pct classes words))) is h)
-has_percent (c.Now time) verb texts is h = tt
-has_percent (c.Addr source payload words) verb texts is h = tt
-has_percent (c.Addr2 source payload words) verb texts is h = tt
-has_percent (c.Good peer testing) verb texts is h = tt
-has_percent (c.Attempt peer count) verb texts is h = tt
-has_percent (c.Connected peer) verb texts is h = tt
-has_percent (c.Services peer services) verb texts is h = tt
-has_percent (c.Find peer) verb texts is h = tt
-has_percent c.Size verb texts is h = tt
-has_percent (c.Select new_only nets words) verb texts is h = tt
-has_percent c.Resolve verb texts is h = tt
-has_percent (c.Clash word) verb texts is h = tt
-has_percent c.Dump verb texts is h = tt
-has_percent c.Save verb texts is h = tt
-has_percent c.SaveBegin verb texts is h = tt
-has_percent (c.SaveStep count) verb texts is h = tt
-has_percent c.SaveEnd verb texts is h = tt
+has_percent : (command : Command) (texts : List (List ℕ)) → AreFieldsOf command texts → manager.HasPercent command
+has_percent (c.Sample max pct classes words) texts h = percent texts max pct classes words h
+has_percent (c.Now time) texts h = tt
+has_percent (c.Addr source payload words) texts h = tt
+has_percent (c.Addr2 source payload words) texts h = tt
+has_percent (c.Good peer testing) texts h = tt
+has_percent (c.Attempt peer count) texts h = tt
+has_percent (c.Connected peer) texts h = tt
+has_percent (c.Services peer services) texts h = tt
+has_percent (c.Find peer) texts h = tt
+has_percent c.Size texts h = tt
+has_percent (c.Select new_only nets words) texts h = tt
+has_percent c.Resolve texts h = tt
+has_percent (c.Clash word) texts h = tt
+has_percent c.Dump texts h = tt
+has_percent c.Save texts h = tt
+has_percent c.SaveBegin texts h = tt
+has_percent (c.SaveStep count) texts h = tt
+has_percent c.SaveEnd texts h = tt
 
 -- what a line asks for can be done
 pub can_be_done : (line : List ℕ) (asked : Request) → Asks line asked → CanBeDone asked
 can_be_done line (request.Outbound seed) h = tt
 can_be_done line (request.Feeler seed word) h = tt
 can_be_done line (request.Close peer) h = tt
-can_be_done line (request.Machine command) h = (h.1, has_percent command h.0.0 h.0.1 h.0.3.0 h.0.3.1)
+can_be_done line (request.Machine command) h = (h.1, has_percent command h.0.1 (fields_of_line line command h.0))
 
 -- a line that is passed over
 pub passed : (old : State) (line items : List ℕ) → IsPassedOver line → (text : List ℕ) × LineStep old line text old × (items ≡ items ++ text)

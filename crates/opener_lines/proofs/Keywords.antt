@@ -1,5 +1,5 @@
 -- The keywords of an opener's log tell its lines apart.
-use Rattle.std.proofs.Common.{◌≡◌, ℕ, ◌<◌, List, [], ◌∷◌, codes, bytes_eq, get_or, Option, Some, None, unwrap_or, if◌then◌else◌, refl, sym, ap, subst, ◌∙◌, arith}
+use Rattle.std.proofs.Common.{◌≡◌, ℕ, ◌<◌, List, [], ◌∷◌, codes, bytes_eq, find, get_or, Option, Some, None, unwrap_or, if◌then◌else◌, refl, sym, ap, subst, ◌∙◌, arith}
 use Rattle.std.specs.List.{join_with_byte}
 use Rattle.std.proofs.lemmas.List.Splits.{join_with_byte-slice_split}
 use Rattle.std.proofs.lemmas.Option.{none-some}
@@ -53,6 +53,34 @@ not_own v.SaveEnd = refl
 -- two of the opener's verbs with the same word are one
 pub same_own : (a b : Verb) → word_of a ≡ word_of b → a ≡ b
 same_own a b e = ap (λ o. unwrap_or o a) (sym (own_back a) ∙ ap own_of e ∙ own_back b)
+
+machine_of : List ℕ → Option machine_verb.Verb
+machine_of word = find (λ verb. bytes_eq (machine.word_of verb) word) machine.verbs
+
+machine_back : (verb : machine_verb.Verb) → machine_of (machine.word_of verb) ≡ Some verb
+unfolding machine_of
+machine_back v.Now = refl
+machine_back v.Addr = refl
+machine_back v.Addr2 = refl
+machine_back v.Good = refl
+machine_back v.Attempt = refl
+machine_back v.Connected = refl
+machine_back v.Services = refl
+machine_back v.Find = refl
+machine_back v.Size = refl
+machine_back v.Select = refl
+machine_back v.Sample = refl
+machine_back v.Resolve = refl
+machine_back v.Clash = refl
+machine_back v.Dump = refl
+machine_back v.Save = refl
+machine_back v.SaveBegin = refl
+machine_back v.SaveStep = refl
+machine_back v.SaveEnd = refl
+
+-- and so are two of the address manager's
+pub same_machine : (a b : machine_verb.Verb) → machine.word_of a ≡ machine.word_of b → a ≡ b
+same_machine a b e = ap (λ o. unwrap_or o a) (sym (machine_back a) ∙ ap machine_of e ∙ machine_back b)
 
 -- no word is one of the opener's own and one of the address manager's
 pub not_both : (a : Verb) (b : machine_verb.Verb) → word_of a ≡ machine.word_of b → ⊥

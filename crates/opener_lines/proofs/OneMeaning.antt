@@ -10,16 +10,15 @@ use Rattle.grammar.specs.declared.fault.LineFault.{LineFault}
 use Rattle.grammar.specs.declared.fault.LineFault.TheVariants as fault
 use Rattle.log_lines.specs.declared.verb.Verb as machine_verb
 use Rattle.log_lines.proofs.FaultLemmas.{same_heads, same_tails, no_fault}
-use Rattle.log_lines.proofs.FaultLemmas as machine_faults
-use Rattle.log_lines.proofs.Readings.{one_command}
+use Rattle.log_lines.proofs.OneMeaning as machine_faults
+use Rattle.log_lines.proofs.OneMeaning.{one_command, passed_spells_none}
 use Rattle.grammar.proofs.Values.{one_value}
-use Rattle.log_lines.proofs.VerbLemmas.{passed_spells_none, same_verb}
 use Rattle.opener_lines.specs.Grammar.{Asks, AsksAfter, AsksOwn, HasFault, HasFaultAfter, IsOwnWord, IsSaveWord, Saves, kinds_of, word_of}
 use Rattle.opener_lines.specs.declared.request.Request.{Request}
 use Rattle.opener_lines.specs.declared.request.Request.TheVariants as request
 use Rattle.opener_lines.specs.declared.verb.Verb.{Verb}
 use Rattle.opener_lines.specs.declared.verb.Verb.TheVariants.{Outbound, Feeler, Close}
-use Rattle.opener_lines.proofs.Keywords.{same_own, not_both, passed_not_own, saves_not_built}
+use Rattle.opener_lines.proofs.Keywords.{same_own, same_machine, not_both, passed_not_own, saves_not_built}
 
 -- ---- values
 
@@ -97,7 +96,7 @@ one_own line a b h k =
     one_after h.0 h.1 a b h.3 (subst (λ ts. AsksAfter h.0 ts b) texts moved)
 
 own_or_machine : (line : List ℕ) (a : Request) (command : Command) → AsksOwn line a → machine.Spells line command → ⊥
-own_or_machine line a command h k = not_both h.0 k.0 (same_heads line (word_of h.0) (machine.word_of k.0) h.1 k.1 h.2 k.2)
+own_or_machine line a command h k = not_both h.0 (machine.verb_of command) (same_heads line (word_of h.0) k.0 h.1 k.1 h.2 k.2 ∙ k.3.0)
 
 -- a line asks for one thing at most
 pub one_request : (line : List ℕ) (a b : Request) → Asks line a → Asks line b → a ≡ b
@@ -195,12 +194,12 @@ own_no_fault line a f h e =
 
 machine_no_fault : (line : List ℕ) (command : Command) (f : LineFault) → Asks line (request.Machine command) → HasFault line f → ⊥
 machine_no_fault line command f h e =
-    by (same_heads line e.1.0 (machine.word_of h.0.0) e.1.1 h.0.1 e.1.2 h.0.2) e.1.3
+    by (same_heads line e.1.0 h.0.0 e.1.1 h.0.1 e.1.2 h.0.2 ∙ h.0.3.0) e.1.3
   where
-    by : e.1.0 ≡ machine.word_of h.0.0 → HasFaultAfter e.1.0 e.1.1 line f → ⊥
-    by word (inl k) = not_both k.0 h.0.0 (sym k.1 ∙ word)
+    by : e.1.0 ≡ machine.word_of (machine.verb_of command) → HasFaultAfter e.1.0 e.1.1 line f → ⊥
+    by word (inl k) = not_both k.0 (machine.verb_of command) (sym k.1 ∙ word)
     by word (inr (inl k)) =
-        let verb = same_verb k.0.0 h.0.0 (sym k.0.2 ∙ word) ∙ h.0.3.0 in
+        let verb = same_machine k.0.0 (machine.verb_of command) (sym k.0.2 ∙ word) in
         saves_not_built command (subst Saves verb k.0.1) h.1
     by word (inr (inr k)) = machine_faults.spelled_no_fault line command f h.0 k.2
 
