@@ -92,8 +92,6 @@ class Run:
             usage()
         method(*arguments[1:])
 
-    # Logs.
-
     def each_line(self, answer):
         """Prints the answer to each line of the log."""
         for count, line in read_lines(self.read):
@@ -128,8 +126,6 @@ class Run:
         size = log.reply(b"size").removeprefix("size ")
         self.print(f"trial lines {count} replies {length} {size} sum {digest.hexdigest()}")
 
-    # Files.
-
     def load(self, name: str, maximum: int, code: int, read):
         """What `read` makes of a file, None if there is none; the code is that of a refusal."""
         try:
@@ -137,15 +133,15 @@ class Run:
             return None if data is None else read(data)
         except Fault as fault:
             raise Stop(code, f"{name} refused: {fault}")
-        except Failed:
-            raise Stop(9, "folder failed")
+        except Failed as failed:
+            raise Stop(9, f"folder failed{failed}")
 
     def put(self, temporary: str, name: str, data: bytes):
         """Puts a file in its place."""
         try:
             write_file(self.folder, temporary, name, data)
-        except (Failed, FileNotFoundError):
-            raise Stop(9, "folder failed")
+        except Failed as failed:
+            raise Stop(9, f"folder failed{failed}")
 
     def needed(self, value, name: str):
         """A file that a command needs."""
@@ -202,8 +198,6 @@ class Run:
         address = usage(read_peer(argument)).address
         asmap = self.needed(self.asmap(), "asmap.dat")
         self.print(f"asn {asmap.number_of(address)} group {group(address, asmap).hex()}")
-
-    # Bans.
 
     def bans(self) -> dict:
         """The folder's list of bans."""

@@ -1,5 +1,6 @@
 """Files of a folder, and the ends of a run."""
 
+import fcntl
 import os
 import stat
 
@@ -17,75 +18,78 @@ class Stop(Exception):
 
 
 class Failed(Exception):
-    """A call of the folder failed."""
+    """A call of the folder failed; the text is what is said of it besides."""
 
 
 class Folder:
-    """The current folder."""
+    """The current folder. It has a file open, and itself while it is locked."""
 
     def __init__(self):
-        self.descriptor = -1
-
-    def opened(self, name: str, flags: int) -> int:
-        """Opens a regular file, and closes the one before."""
-        self.close()
-        try:
-            self.descriptor = os.open(name, flags | os.O_NONBLOCK | os.O_CLOEXEC, 0o666)
-            if not stat.S_ISREG(os.fstat(self.descriptor).st_mode):
-                raise Failed
-        except FileNotFoundError:
-            raise
-        except OSError:
-            raise Failed
-        return self.descriptor
+        self.file = self.folder = -1
 
     def close(self):
-        """Closes the open file, if there is one."""
-        if self.descriptor >= 0:
-            os.close(self.descriptor)
-        self.descriptor = -1
+        """Closes both, which unlocks the folder."""
+        for descriptor in (self.file, self.folder):
+            if descriptor >= 0:
+                os.close(descriptor)
+        self.file = self.folder = -1
 
     def size(self, name: str) -> int | None:
         """The length of a file, None if there is none. It is open then."""
+        self.close()
         try:
-            return os.fstat(self.opened(name, os.O_RDONLY)).st_size
+            self.file = os.open(name, os.O_RDONLY | os.O_NONBLOCK | os.O_CLOEXEC)
         except FileNotFoundError:
             return None
+        except OSError:
+            raise Failed
+        status = self.call(os.fstat, self.file)
+        if not stat.S_ISREG(status.st_mode):
+            raise Failed
+        return status.st_size
 
     def read(self, _name: str, offset: int, most: int) -> bytes:
         """Bytes of the file whose length was asked last."""
-        return self.call(os.pread, self.descriptor, most, offset)
+        return self.call(os.pread, self.file, most, offset)
 
     def create(self, name: str):
-        """Makes a file, or empties it; a link is not followed. It is open then."""
-        flags = os.O_WRONLY | os.O_CREAT | os.O_NOFOLLOW
-        self.call(os.ftruncate, self.opened(name, flags), 0)
+        """Locks the folder, removes what has the name, and makes a file. It is open then."""
+        self.close()
+        self.folder = self.call(os.open, ".", os.O_RDONLY | os.O_CLOEXEC)
+        try:
+            fcntl.flock(self.folder, fcntl.LOCK_EX | fcntl.LOCK_NB)
+        except BlockingIOError:
+            self.close()
+            raise Failed("\naddrman: the folder is in use: another program is saving there")
+        if os.path.lexists(name):
+            self.call(os.unlink, name)
+        flags = os.O_WRONLY | os.O_CREAT | os.O_EXCL | os.O_CLOEXEC
+        self.file = self.call(os.open, name, flags, 0o600 if name == "peers.tmp" else 0o666)
 
     def append(self, _name: str, data: bytes):
         """Writes bytes to the file that was created last."""
         while data:
-            data = data[self.call(os.write, self.descriptor, data):]
+            data = data[self.call(os.write, self.file, data):]
 
     def sync(self, _name: str):
         """Syncs the file that was created last."""
-        self.call(os.fsync, self.descriptor)
+        self.call(os.fsync, self.file)
 
     def rename(self, source: str, target: str):
         """Renames a file."""
         self.call(os.rename, source, target)
 
     def sync_folder(self):
-        """Syncs the folder itself."""
-        self.close()
-        self.descriptor = self.call(os.open, ".", os.O_RDONLY | os.O_CLOEXEC)
-        self.call(os.fsync, self.descriptor)
+        """Syncs the folder itself, and unlocks it."""
+        self.call(os.fsync, self.folder)
         self.close()
 
     def call(self, function, *arguments):
-        """Calls the system; raises Failed."""
+        """Calls the system; raises Failed, after which the folder is unlocked."""
         try:
             return function(*arguments)
         except OSError:
+            self.close()
             raise Failed
 
 

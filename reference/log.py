@@ -153,7 +153,7 @@ class ReplayLog(TableLog):
         """Carries out a line that is not passed over; its reply."""
         try:
             return super().reply(line)
-        except (Failed, FileNotFoundError):
+        except Failed:
             self.left = None
             return "not saved"
 
