@@ -3,8 +3,8 @@ use Rattle.std.proofs.Common.{◌≡◌, ◌≢◌, ◌≤◌, ◌+◌, ℕ, zer
 use Rattle.std.specs.Prelude.{◌⊎◌, All, IfSome, Option}
 use Rattle.std.proofs.lemmas.Bool.{ne_eqb}
 use Rattle.std.proofs.lemmas.List.Elements.{All-head, All-tail}
-use Rattle.addr_limit.proofs.Meanings.{event_no_fault}
-use Rattle.addr_limit.specs.Lines.{HasFault as LimitFault}
+use Rattle.addr_limit.specs.Laws.{no_fault as no_limit_fault}
+use Rattle.addr_limit.specs.Lines.{FaultAfter, HasFault as LimitFault, SaysAfter}
 use Rattle.ban_list.specs.declared.ban.Ban.{Ban}
 use Rattle.host_io.specs.Faults.{Rose}
 use Rattle.host_io.specs.Lines.{lines_of, onto_first}
@@ -14,6 +14,8 @@ use Rattle.host_io.specs.declared.name.Name.TheVariants as name
 use Rattle.host_io.specs.declared.name.Name.{Name}
 use Rattle.log_lines.proofs.OneMeaning.{spelled_no_fault}
 use Rattle.log_lines.specs.Spelling.{HasFault}
+use Rattle.grammar.proofs.TableLemmas.{of_same}
+use Rattle.grammar.specs.Words.{fields_of}
 use Rattle.grammar.specs.declared.fault.LineFault.{LineFault}
 use Rattle.log_run.specs.Log.{HasNoFeed}
 use Rattle.log_run.specs.Run.{Ran, Steps, Streams}
@@ -119,7 +121,7 @@ opener_line line fault (inl passed) why = why.0 passed
 opener_line line fault (inr (asked, asks)) why = asked_no_fault line asked fault asks why
 
 limit_line : (line : List ℕ) (fault : LineFault) → IsLimitLine line → LimitFault line fault → ⊥
-limit_line line fault (event, says) why = event_no_fault line event fault says why
+limit_line line fault (event, says) why = of_same {C = λ a f. ⊥} SaysAfter FaultAfter no_limit_fault (fields_of line) event fault says why
 
 -- the folder did not fail if the log is as it was
 no_disk_fault : (old new : Outside) → HasCause old new DiskFault → NothingFails old new → new.left ≡ old.left → ⊥
