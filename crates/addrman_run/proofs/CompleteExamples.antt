@@ -6,7 +6,6 @@ use Rattle.host_io.specs.Disk.{safe}
 use Rattle.host_io.specs.Lines.{lines_of}
 use Rattle.host_io.specs.Past.{Past}
 use Rattle.log_lines.specs.declared.command.Command.TheVariants.{Size}
-use Rattle.log_lines.specs.declared.verb.Verb.TheVariants as v
 use Rattle.log_run.specs.declared.limits.TheConstants.{MAX_LINE}
 use Rattle.peers_file.specs.declared.chain.Chain.TheVariants.{Main}
 use Rattle.addrman_run.specs.Complete.{IsGoodLog, IsReplayLine, NoRefusal}
@@ -27,7 +26,7 @@ unfolding lines_of
 three_lines = refl
 
 good_lines : All IsReplayLine lines
-good_lines = All-from_recursion IsReplayLine lines (inl refl, (inr (Size, (v.Size, [], refl, (refl, tt))), (inl tt, tt)))
+good_lines = All-from_recursion IsReplayLine lines (inl refl, (inr (Size, (codes "size", [], refl, (refl, tt))), (inl tt, tt)))
 
 abbrev IsShort : List ℕ → Type 0
 IsShort line = length line ≤ MAX_LINE
