@@ -5,6 +5,7 @@ use Rattle.net_addr.specs.Address.{IsAddress}
 use Rattle.net_addr.specs.Ranges.{is_routable}
 use Rattle.net_addr.specs.declared.net.Net.{Net}
 use Rattle.net_addr.specs.declared.net.Net.TheVariants.{Unroutable}
+use Rattle.slot_grid.specs.declared.sizes.TheConstants.{NEW_BUCKETS}
 use Rattle.peer_rec.specs.declared.file_rec.TheConstants.{MAX_ATTEMPTS}
 use Rattle.peer_rec.specs.declared.rec.Rec.{Rec}
 use Rattle.peer_rec.specs.declared.place.Place.{Place}
@@ -29,11 +30,11 @@ is_tried r = tried_by r.place
 abbrev pub network : Rec → Net
 network r = if is_routable r.peer.addr then r.peer.addr.net else Unroutable
 
--- one to eight buckets below 1024, which rise
+-- one to eight buckets of the new table, which rise
 pub record AreBuckets (buckets : List ℕ) : Type 0 where
   pub some : 0 < length buckets
   pub most : length buckets ≤ 8
-  pub below : All (λ b. b < 1024) buckets
+  pub below : All (λ b. b < NEW_BUCKETS) buckets
   pub rising : IsStrictlyIncreasing buckets
 
 abbrev pub IsPlace : Place → Type 0

@@ -2,6 +2,7 @@ ghost use Rattle.std.specs.Prelude.{◌≡◌, ◌<◌, length, All};
 ghost use Rattle.asmap_vm.specs.Held.{tree_held};
 ghost use Rattle.net_group.specs.Group.{asmap_bits};
 ghost use Rattle.placing.specs.Places.{number_by};
+ghost use Rattle.slot_grid.specs.declared.sizes.TheConstants.{NEW_BUCKETS, TRIED_BUCKETS, SLOTS};
 
 use crate::hash::{add_sized, double_sha256, finish};
 use arrayvec::ArrayVec;
@@ -9,6 +10,7 @@ use asmap_vm::Sane;
 use net_addr::{NetAddr, Peer};
 use net_group::asmap_bits;
 use sha2::{Digest, Sha256};
+use slot_grid::{NEW_BUCKETS, SLOTS, TRIED_BUCKETS};
 use std::array::from_fn;
 use std::marker::Model;
 
@@ -97,22 +99,22 @@ impl<'a> Placer<'a> {
         (finish(hasher) % 64) as u8
     }
 
-    /// Returns the bucket of the new table, below 1024, at an index among the 64 of a source group.
+    /// Returns the bucket of the new table at an index among the 64 of a source group.
     pub fn source_bucket(&self, source_group: &[u8], choice: u8) -> u16
         requires { length source_group.now ≤ 11 }
         ensures value { result ≡ source_bucket self.now source_group.now choice }
-        ensures below { result < 1024 }
+        ensures below { result < NEW_BUCKETS }
     {
-        (self.indexed(source_group, choice) % 1024) as u16
+        (self.indexed(source_group, choice) % u64::from(NEW_BUCKETS)) as u16
     }
 
-    /// Returns the bucket of the tried table, below 256, at an index among the 8 of a group.
+    /// Returns the bucket of the tried table at an index among the 8 of a group.
     fn group_bucket(&self, group: &[u8], choice: u8) -> u16
         requires { length group.now ≤ 11 }
         ensures value { result ≡ group_bucket self.now group.now choice }
-        ensures below { result < 256 }
+        ensures below { result < TRIED_BUCKETS }
     {
-        (self.indexed(group, choice) % 256) as u16
+        (self.indexed(group, choice) % u64::from(TRIED_BUCKETS)) as u16
     }
 
     /// Returns the hash of the key, a group and an index.
@@ -127,13 +129,13 @@ impl<'a> Placer<'a> {
         finish(hasher)
     }
 
-    /// Returns the bucket of the new table, below 1024, for a peer that a source announces: one of
-    /// the 64 buckets of the source's group, so that one source reaches few buckets
-    /// (`AddrInfo::GetNewBucket` in addrman.cpp of Bitcoin Core).
+    /// Returns the bucket of the new table for a peer that a source announces: one of the 64 buckets
+    /// of the source's group, so that one source reaches few buckets (`AddrInfo::GetNewBucket` in
+    /// addrman.cpp of Bitcoin Core).
     #[tactic(auto, unfolding(crate::specs::Places::new_bucket))]
     pub fn new_bucket(&self, peer: &Peer, source: &NetAddr) -> u16
         ensures value { result ≡ new_bucket self.now peer.now source.now }
-        ensures below { result < 1024 }
+        ensures below { result < NEW_BUCKETS }
         ensures reach { Contains (source_buckets self.now (group self.now source.now)) result }
     {
         let peer_group = self.group(&peer.addr);
@@ -142,12 +144,12 @@ impl<'a> Placer<'a> {
         self.source_bucket(source_group.as_slice(), choice)
     }
 
-    /// Returns the bucket of the tried table, below 256, for a peer: one of the 8 buckets of its
-    /// group (`AddrInfo::GetTriedBucket`).
+    /// Returns the bucket of the tried table for a peer: one of the 8 buckets of its group
+    /// (`AddrInfo::GetTriedBucket`).
     #[tactic(auto, unfolding(crate::specs::Places::tried_bucket))]
     pub fn tried_bucket(&self, peer: &Peer) -> u16
         ensures value { result ≡ tried_bucket self.now peer.now }
-        ensures below { result < 256 }
+        ensures below { result < TRIED_BUCKETS }
         ensures reach { Contains (group_buckets self.now (group self.now peer.now.addr)) result }
     {
         let group = self.group(&peer.addr);
@@ -166,21 +168,21 @@ impl<'a> Placer<'a> {
         (finish(hasher) % 8) as u8
     }
 
-    /// Returns the slot of a peer in a bucket of the new table, below 64
-    /// (`AddrInfo::GetBucketPosition` in addrman.cpp of Bitcoin Core).
+    /// Returns the slot of a peer in a bucket of the new table (`AddrInfo::GetBucketPosition` in
+    /// addrman.cpp of Bitcoin Core).
     #[tactic(auto, unfolding(crate::specs::Places::new_slot))]
     pub fn new_slot(&self, peer: &Peer, bucket: u16) -> u8
         ensures value { result ≡ new_slot self.now peer.now bucket }
-        ensures below { result < 64 }
+        ensures below { result < SLOTS }
     {
         self.slot(b'N', peer, bucket)
     }
 
-    /// Returns the slot of a peer in a bucket of the tried table, below 64.
+    /// Returns the slot of a peer in a bucket of the tried table.
     #[tactic(auto, unfolding(crate::specs::Places::tried_slot))]
     pub fn tried_slot(&self, peer: &Peer, bucket: u16) -> u8
         ensures value { result ≡ tried_slot self.now peer.now bucket }
-        ensures below { result < 64 }
+        ensures below { result < SLOTS }
     {
         self.slot(b'K', peer, bucket)
     }
@@ -188,14 +190,14 @@ impl<'a> Placer<'a> {
     /// Returns the slot of a peer in a bucket of the table that the letter names.
     fn slot(&self, letter: u8, peer: &Peer, bucket: u16) -> u8
         ensures value { result ≡ slot letter self.now peer.now bucket }
-        ensures below { result < 64 }
+        ensures below { result < SLOTS }
     {
         let mut hasher = Sha256::new();
         hasher.update(self.key);
         hasher.update([letter]);
         hasher.update(u32::from(bucket).to_le_bytes());
         add_sized(&mut hasher, peer.key_bytes().as_slice());
-        (finish(hasher) % 64) as u8
+        (finish(hasher) % u64::from(SLOTS)) as u8
     }
 
     /// Returns the 64 buckets of the new table for peers that sources of a group announce. A group

@@ -9,6 +9,7 @@ use Rattle.peer_rec.specs.Rec.{chance, is_terrible, is_tried, network}
 use Rattle.peer_rec.specs.declared.picked.Picked.{Picked}
 use Rattle.peer_rec.specs.declared.picked.Picked.TheVariants.{One, Nothing, Exhausted}
 use Rattle.peer_rec.specs.declared.rec.Rec.{Rec}
+use Rattle.slot_grid.specs.declared.sizes.TheConstants.{NEW_BUCKETS, TRIED_BUCKETS, SLOTS}
 use Rattle.table_machine.specs.State.{State, by_number, new_rec_at, tried_rec_at, After, outcome}
 
 -- whether the network of a record is in the set
@@ -28,12 +29,12 @@ occupant_at st true bucket slot = new_rec_at st bucket slot
 occupant_at st false bucket slot = tried_rec_at st bucket slot
 
 abbrev pub bucket_count : Bool → ℕ
-bucket_count true = 1024
-bucket_count false = 256
+bucket_count true = NEW_BUCKETS
+bucket_count false = TRIED_BUCKETS
 
--- the 64 slots of a bucket in turn, from a given one on; the first follows the last
+-- the slots of a bucket in turn, from a given one on; the first follows the last
 abbrev pub slots_from : ℕ → List ℕ
-slots_from start = range_with_len start (64 - start) ++ range_with_len 0 start
+slots_from start = range_with_len start (SLOTS - start) ++ range_with_len 0 start
 
 -- the first wanted record of a bucket, from a slot on
 abbrev pub first_candidate : State → Bool → List ℕ → ℕ → ℕ → Option Rec
@@ -43,7 +44,7 @@ first_candidate st in_new nets bucket start =
 -- the candidate of a round: one random word selects the bucket, another the slot to begin at
 abbrev pub candidate : State → Bool → List ℕ → ℕ → ℕ → Option Rec
 candidate st in_new nets bucket start =
-    first_candidate st in_new nets (bucket % bucket_count in_new) (start % 64)
+    first_candidate st in_new nets (bucket % bucket_count in_new) (start % SLOTS)
 
 -- The next random word decides on the candidate of a round. If the round has none, that word is not
 -- used up.

@@ -9,6 +9,7 @@ use Rattle.peer_rec.specs.Rec.{buckets_of}
 use Rattle.peer_rec.specs.declared.rec.Rec.{Rec}
 use Rattle.peer_rec.specs.declared.place.Place.{Place}
 use Rattle.peer_rec.specs.declared.place.Place.TheVariants.{New, Tried}
+use Rattle.slot_grid.specs.declared.sizes.TheConstants.{NEW_BUCKETS}
 use Rattle.table_machine.specs.State.{State, empty_state, by_number, new_rec_at, tried_occupant}
 use Rattle.table_machine.specs.Entries.{delete, give_bucket, with_last}
 use Rattle.peer_rec.specs.declared.file_rec.FileRec.{FileRec}
@@ -92,7 +93,7 @@ drop_all st (number ∷ numbers) = drop_all (drop_record st (by_number st number
 
 -- The file's buckets are used if there are as many as in these tables, and the asmap is the same.
 abbrev pub uses_buckets : Snapshot → Places → Bool
-uses_buckets snap places = snap.bucket_count == 1024 && bytes_eq snap.sum (sum_of places.map)
+uses_buckets snap places = snap.bucket_count == NEW_BUCKETS && bytes_eq snap.sum (sum_of places.map)
 
 -- the records of a file, the new ones first
 abbrev pub appended : Snapshot → Places → State

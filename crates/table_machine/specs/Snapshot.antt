@@ -7,6 +7,7 @@ use Rattle.peer_rec.specs.Rec.{is_tried}
 use Rattle.peer_rec.specs.declared.file_rec.FileRec.{FileRec}
 use Rattle.peer_rec.specs.Snapshot.{Snapshot}
 use Rattle.peer_rec.specs.declared.rec.Rec.{Rec}
+use Rattle.slot_grid.specs.declared.sizes.TheConstants.{NEW_BUCKETS, SLOTS}
 use Rattle.table_machine.specs.State.{State, new_rec_at}
 
 -- what is kept of the record
@@ -44,11 +45,11 @@ pair_at st bucket slot = pair_of st bucket (new_rec_at st bucket slot)
 
 -- what the bucket lists, by rising slot
 unfoldable pub listed_in : State → ℕ → List (ℕ × ℕ)
-listed_in st bucket = flat_map (pair_at st bucket) (range_with_len 0 64)
+listed_in st bucket = flat_map (pair_at st bucket) (range_with_len 0 SLOTS)
 
 -- what all buckets list, by rising bucket
 unfoldable pub listed_of : State → List (ℕ × ℕ)
-listed_of st = flat_map (listed_in st) (range_with_len 0 1024)
+listed_of st = flat_map (listed_in st) (range_with_len 0 NEW_BUCKETS)
 
 -- What a save writes. The records of the new table come first, and those of each table in the order
 -- of their numbers.
@@ -57,7 +58,7 @@ snapshot_of st = record {
   key = st.places.key;
   new_recs = map file_rec (new_records st);
   tried_recs = map file_rec (tried_records st);
-  bucket_count = 1024;
+  bucket_count = NEW_BUCKETS;
   listed = listed_of st;
   sum = sum_of st.places.map;
 }

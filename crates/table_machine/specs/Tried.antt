@@ -8,6 +8,7 @@ use Rattle.peer_rec.specs.Rec.{is_tried}
 use Rattle.peer_rec.specs.Buckets.{with_bucket}
 use Rattle.peer_rec.specs.declared.good.Good.{Good}
 use Rattle.peer_rec.specs.declared.good.Good.TheVariants.{Unknown, Already, Clash, Moved}
+use Rattle.peer_rec.specs.declared.file_rec.TheConstants.{MAX_ATTEMPTS}
 use Rattle.peer_rec.specs.declared.rec.Rec.{Rec}
 use Rattle.peer_rec.specs.declared.place.Place.TheVariants.{New, Tried}
 use Rattle.table_machine.specs.State.{State, find_peer, new_rec_at, tried_occupant, After, outcome}
@@ -78,7 +79,7 @@ mark change st (Some r) = yes (with_record st (change r))
 abbrev pub after_try : ℕ → ℕ → Bool → Rec → Rec
 after_try last_good now count r =
     if count && nat_lt r.last_count last_good
-    then record r { last_try = now; last_count = now; attempts = min (r.attempts + 1) 2147483647 }
+    then record r { last_try = now; last_count = now; attempts = min (r.attempts + 1) MAX_ATTEMPTS }
     else record r { last_try = now }
 
 abbrev pub attempt : State → ℕ → Peer → Bool → After Bool
