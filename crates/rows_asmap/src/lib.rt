@@ -1,14 +1,8 @@
-//! Tests of prefix tables and of the asmaps that they are compiled to: the longest match, what is
-//! printed, the largest tables and files, and the numbers that a file consists of.
+//! Tests of tables of prefixes and of the numbers that an asmap consists of: the longest match, what
+//! is printed, and how numbers are written and read.
 #![tactic(auto)]
 
-#[cfg(test)]
-mod full_size;
-#[cfg(test)]
-mod lookups;
 #[cfg(test)]
 mod matches;
 #[cfg(test)]
 mod numbers;
-#[cfg(test)]
-mod samples;

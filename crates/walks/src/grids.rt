@@ -1,13 +1,9 @@
 // Each write of a grid beside the same write of a plain list, and after it the slots of both.
-ghost use Rattle.std.specs.Prelude.{◌≡◌};
-
 use rand_core::{Rng, SeedableRng};
 use rand_xoshiro::Xoshiro256PlusPlus;
 use slot_grid::Grid;
-use std::marker::Brand;
-use std::process::Abort;
-use std::sync::ledger::{Blank, Ledger};
-use std::test::Fail;
+use std::alloc::Global;
+use std::sync::ledger::Ledger;
 use steps::Steps;
 
 /// How many writes the walk makes.
@@ -91,29 +87,24 @@ fn is_same_at<L: Ledger>(
     id_at(grid, number, steps) == want && is_in_mask(grid, number, steps) == want.is_some()
 }
 
-/// Both have the same in all slots.
-fn assert_same<L: Ledger>(
-    rt: &impl Abort,
-    grid: &Grid,
-    list: &[Option<usize>],
-    steps: &mut Steps<L>,
-) {
+/// Whether both have the same in all slots.
+fn is_same<L: Ledger>(grid: &Grid, list: &[Option<usize>], steps: &mut Steps<L>) -> bool {
     for number in 0..SLOTS {
-        assert!(rt; is_same_at(grid, list, number, steps), "{number}");
+        if !is_same_at(grid, list, number, steps) {
+            return false;
+        }
     }
+    true
 }
 
-/// Both have the same in the slots that are written to.
-fn assert_same_written<L: Ledger>(
-    rt: &impl Abort,
-    grid: &Grid,
-    list: &[Option<usize>],
-    steps: &mut Steps<L>,
-) {
+/// Whether both have the same in the slots that are written to.
+fn is_same_written<L: Ledger>(grid: &Grid, list: &[Option<usize>], steps: &mut Steps<L>) -> bool {
     for choice in 0..WRITTEN {
-        let number = written(choice);
-        assert!(rt; is_same_at(grid, list, number, steps), "{number}");
+        if !is_same_at(grid, list, written(choice), steps) {
+            return false;
+        }
     }
+    true
 }
 
 /// Writes an id, or none, to a slot of both.
@@ -136,40 +127,46 @@ fn write<L: Ledger>(
     }
 }
 
-/// Makes many writes to a grid and a list that are empty, and compares both after each.
-fn write_all<L: Ledger>(
-    rt: &impl Abort,
+/// Makes many writes to both, and compares them after each.
+fn is_same_after_each<L: Ledger>(
     grid: &mut Grid,
     list: &mut [Option<usize>],
     steps: &mut Steps<L>,
-) {
+) -> bool {
     let mut words = Xoshiro256PlusPlus::seed_from_u64(3);
-    assert_same(rt, grid, list, steps);
     for _ in 0..WRITES {
         write(grid, list, &mut words, steps);
-        assert_same_written(rt, grid, list, steps);
+        if !is_same_written(grid, list, steps) {
+            return false;
+        }
     }
-    assert_same(rt, grid, list, steps);
+    true
 }
 
-/// A grid is empty when it is made.
-#[test]
-fn after_each_write_the_slots_and_masks_are_those_of_a_plain_list(
-    rt: HostRuntime,
-) -> Result<(), Fail> {
-    compare_each::<HostRuntime, Brand>(&rt, Blank::new(1))
+/// Compares a grid and a list that are empty, and then after writes.
+fn compare<L: Ledger>(grid: &mut Grid, list: &mut [Option<usize>], steps: &mut Steps<L>) -> bool {
+    is_same(grid, list, steps)
+        && is_same_after_each(grid, list, steps)
+        && is_same(grid, list, steps)
 }
 
-/// That test, with a counter of steps.
-fn compare_each<R: Abort + AllocGlobal, L: Ledger>(rt: &R, blank: Blank) -> Result<(), Fail>
-    requires name { blank.name ≡ L.name }
-    requires parts { blank.parts ≡ L.parts }
-    requires one { blank.parts ≡ 1 }
-{
-    let mut steps = Steps::<L>::none(blank);
+/// Compares an empty grid and a list that is to be so.
+fn compare_empty<L: Ledger>(
+    alloc: Global,
+    list: &mut [Option<usize>],
+    steps: &mut Steps<L>,
+) -> bool {
+    match Grid::make(alloc) {
+        Ok(mut grid) => compare(&mut grid, list, steps),
+        Err(_) => false,
+    }
+}
+
+/// Whether after each write the slots and masks of a grid are those of a plain list.
+pub(crate) fn is_as_a_list<L: Ledger>(alloc: Global, steps: &mut Steps<L>) -> bool {
     let empty: Option<usize> = None;
-    let mut list = vec![in rt.alloc(); empty; SLOTS as usize]?;
-    let mut grid = Grid::make(rt.alloc())?;
-    write_all(rt, &mut grid, list.as_mut_slice(), &mut steps);
-    Ok(())
+    match vec![in alloc; empty; SLOTS as usize] {
+        Ok(mut list) => compare_empty(alloc, list.as_mut_slice(), steps),
+        Err(_) => false,
+    }
 }

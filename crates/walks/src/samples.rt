@@ -50,7 +50,7 @@ fn is_same_place(a: &Place, b: &Place) -> bool {
 }
 
 /// Whether each field of the records is the same.
-pub(crate) fn is_same(a: &Rec, b: &Rec) -> bool {
+pub(crate) fn has_fields(a: &Rec, b: &Rec) -> bool {
     a.number == b.number
         && a.peer == b.peer
         && a.source == b.source

@@ -1,24 +1,16 @@
 // Tables under the key of zeros, and a sum over their order.
 use net_addr::NetAddr;
 use peer_rec::{Place, Rec};
-use placing::Placer;
-use std::alloc::Global;
 use std::hash::{BuildHasherDefault, FoldHasher};
 use std::sync::ledger::Ledger;
 use steps::Steps;
-use tables::{Memory, Tables};
+use tables::Tables;
 
 /// The hasher of the tables.
 pub(crate) type Hasher = BuildHasherDefault<FoldHasher>;
 
-/// Opens empty tables.
-pub(crate) fn open(alloc: Global) -> Result<Tables<'static, Hasher>, Memory> {
-    Tables::open(
-        alloc,
-        Placer::make([0; 32], None),
-        BuildHasherDefault::new(),
-    )
-}
+/// Tables without an asmap.
+pub(crate) type Tabled = Tables<'static, Hasher>;
 
 /// Returns the source of a number.
 pub(crate) fn source(number: u8) -> NetAddr {
@@ -42,13 +34,9 @@ fn sum(start: u64, number: u64) -> u64 {
     sum
 }
 
-/// Adds the numbers of the records in their order to a sum.
-pub(crate) fn sum_of_order<L: Ledger>(
-    tables: &Tables<'static, Hasher>,
-    start: u64,
-    steps: &mut Steps<L>,
-) -> u64 {
-    let mut digest = start;
+/// Returns the sum of the numbers of the records in their order.
+pub(crate) fn sum_of_order<L: Ledger>(tables: &Tabled, steps: &mut Steps<L>) -> u64 {
+    let mut digest = 0;
     for position in 0..tables.len() {
         digest = sum(digest, tables.order_at(position, steps).number);
     }

@@ -1,11 +1,9 @@
 // Random tables of two kinds.
-use net_addr::put_ipv6;
-use prefix_table::{MAX_TEXT, Row, Table, read_table};
+use crate::table_texts::{put_row, read};
+use prefix_table::{Row, Table};
 use rand_core::{Rng, SeedableRng};
 use rand_xoshiro::Xoshiro256PlusPlus;
 use std::alloc::{AllocError, Global};
-use std::io::Write;
-use std::test::Fail;
 
 /// The bits up to a length, and zeros.
 pub(crate) fn cut(bits: u128, len: u8) -> u128 {
@@ -44,38 +42,35 @@ fn next_row(random: &mut Xoshiro256PlusPlus, rows: &[Row]) -> Row {
     }
 }
 
-/// Appends the line of a row.
-fn put_row(row: Row, out: &mut Vec<u8>) -> Result<(), Fail> {
-    put_ipv6(row.bits, out)?;
-    let end = format!(in *out.allocator(); "/{} AS{}\n", row.len, row.asn)?;
-    out.extend_from_slice(end.as_bytes())?;
-    Ok(())
-}
-
-/// Reads a text that is within the limit.
-fn read_short(alloc: Global, text: &[u8]) -> Result<Table, Fail> {
-    if text.len() > MAX_TEXT {
-        return Err("too long".into());
-    }
-    Ok(read_table(alloc, text)?)
-}
-
-/// A table of random rows, nested ones and ones with equal numbers among them.
-pub(crate) fn random_table(alloc: Global, seed: u64, count: usize) -> Result<Table, Fail> {
+/// Appends the lines of random rows, nested ones and ones with equal numbers among them.
+fn put_random_rows(
+    alloc: Global,
+    seed: u64,
+    count: usize,
+    text: &mut Vec<u8>,
+) -> Result<(), AllocError> {
     let mut random = Xoshiro256PlusPlus::seed_from_u64(seed);
     let mut rows = Vec::new(alloc);
-    let mut text = Vec::new(alloc);
     for _ in 0..count {
         let row = next_row(&mut random, rows.as_slice());
         if !rows
             .iter()
             .any(|other| other.bits == row.bits && other.len == row.len)
         {
-            put_row(row, &mut text)?;
+            put_row(row, text)?;
             rows.push(row)?;
         }
     }
-    read_short(alloc, text.as_slice())
+    Ok(())
+}
+
+/// Returns a table of random rows.
+pub(crate) fn random_table(alloc: Global, seed: u64, count: usize) -> Option<Table> {
+    let mut text = Vec::new(alloc);
+    match put_random_rows(alloc, seed, count, &mut text) {
+        Ok(()) => read(alloc, text.as_slice()),
+        Err(_) => None,
+    }
 }
 
 /// A prefix near to others, so that many lie in each other.
@@ -101,19 +96,26 @@ fn near_prefixes(
     Ok(prefixes)
 }
 
-/// A table of such prefixes with one of three numbers each, read from a text with the last first.
-pub(crate) fn near_table(alloc: Global, seed: u64) -> Result<Table, Fail> {
+/// Appends the lines of such prefixes with one of three numbers each, the last first.
+fn put_near_rows(alloc: Global, seed: u64, text: &mut Vec<u8>) -> Result<(), AllocError> {
     let mut random = Xoshiro256PlusPlus::seed_from_u64(seed);
     let prefixes = near_prefixes(alloc, &mut random)?;
-    let mut text = Vec::new(alloc);
     for (bits, len) in prefixes.iter().rev() {
-        let asn = 1 + (random.next_u64() % 3) as u32;
         let row = Row {
             bits: *bits,
             len: *len,
-            asn,
+            asn: 1 + (random.next_u64() % 3) as u32,
         };
-        put_row(row, &mut text)?;
+        put_row(row, text)?;
     }
-    read_short(alloc, text.as_slice())
+    Ok(())
+}
+
+/// Returns a table of such rows.
+pub(crate) fn near_table(alloc: Global, seed: u64) -> Option<Table> {
+    let mut text = Vec::new(alloc);
+    match put_near_rows(alloc, seed, &mut text) {
+        Ok(()) => read(alloc, text.as_slice()),
+        Err(_) => None,
+    }
 }
