@@ -20,6 +20,7 @@ mod records;
 mod replies;
 mod spelled;
 mod text;
+mod vectors;
 mod written;
 
 use call_rows::{Calls, Unread, check_files};
@@ -42,10 +43,11 @@ enum Subject {
     Replies,
     Limits,
     Places,
+    Vectors,
 }
 
 /// The names of the calls about each subject, with a space between two of them.
-static CALLS: [(Subject, &str); 11] = [
+static CALLS: [(Subject, &str); 12] = [
     (Subject::Addresses, "address peer class bytes v1 ipv4 ipv6"),
     (
         Subject::Messages,
@@ -70,6 +72,7 @@ static CALLS: [(Subject, &str); 11] = [
         "places group mapped-group asmap-sum key source-buckets group-buckets choice new-slot \
 next-port hash cheap",
     ),
+    (Subject::Vectors, "facts places-by"),
 ];
 
 /// Whether the word is one of these.
@@ -118,6 +121,7 @@ impl Calls for Values {
             Subject::Replies => replies::answer(alloc, name, arguments),
             Subject::Limits => self.limits.answer(alloc, name, arguments),
             Subject::Places => places::answer(alloc, name, arguments),
+            Subject::Vectors => vectors::answer(alloc, name, arguments),
         }
     }
 }

@@ -20,7 +20,7 @@ fn core_key() -> [u8; 32] {
 }
 
 /// Parses an address.
-fn addr_of(text: &str) -> Result<NetAddr, Unread> {
+pub(crate) fn addr_of(text: &str) -> Result<NetAddr, Unread> {
     match parse_addr(text.as_bytes()) {
         Some(addr) => Ok(addr),
         None => Err(Unread::Form),
@@ -28,7 +28,7 @@ fn addr_of(text: &str) -> Result<NetAddr, Unread> {
 }
 
 /// Parses a peer.
-fn peer_of(text: &str) -> Result<Peer, Unread> {
+pub(crate) fn peer_of(text: &str) -> Result<Peer, Unread> {
     match parse_peer(text.as_bytes()) {
         Some(peer) => Ok(peer),
         None => Err(Unread::Form),
@@ -37,7 +37,7 @@ fn peer_of(text: &str) -> Result<Peer, Unread> {
 
 /// Returns the new bucket and slot and the tried bucket and slot of the peer, if the source
 /// announces it.
-fn places(
+pub(crate) fn places(
     alloc: Global,
     placer: &Placer<'_>,
     peer: &Peer,

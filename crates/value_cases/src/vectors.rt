@@ -1,0 +1,50 @@
+use crate::places::{addr_of, peer_of, places};
+use crate::text::{bytes_of, hex_text, yes_or_no};
+use asmap_vm::check;
+use call_rows::{Fields, Unread};
+use placing::Placer;
+use std::alloc::Global;
+
+/// `facts ADDRESS`: the network and the class of the address, its group without an asmap, and
+/// whether it is valid and routable.
+fn facts(alloc: Global, text: &str) -> Result<String, Unread> {
+    let addr = addr_of(text)?;
+    let group = Placer::make([0; 32], None).group(&addr);
+    let group = hex_text(alloc, group.as_slice())?;
+    let valid = yes_or_no(alloc, addr.is_valid())?;
+    let routable = yes_or_no(alloc, addr.is_routable())?;
+    Ok(format!(in alloc;
+        "{:?} {:?} {group} {valid} {routable}",
+        addr.net(),
+        addr.net_class()
+    )?)
+}
+
+/// `places-by KEY ASMAP PEER SOURCE`: the new bucket and slot and the tried bucket and slot under a
+/// key and an asmap, which is `-` if there is none.
+fn places_by(alloc: Global, arguments: &str) -> Result<String, Unread> {
+    let mut fields = Fields::of(arguments);
+    let key = bytes_of(alloc, fields.word())?;
+    let Ok(key) = <[u8; 32]>::try_from(key.as_slice()) else {
+        return Err(Unread::Form);
+    };
+    let map = fields.word();
+    let peer = peer_of(fields.word())?;
+    let source = addr_of(fields.word())?;
+    if map == "-" {
+        return Ok(places(alloc, &Placer::make(key, None), &peer, &source)?);
+    }
+    let map = bytes_of(alloc, map)?;
+    let Ok(map) = check(map.as_slice()) else {
+        return Err(Unread::Form);
+    };
+    Ok(places(alloc, &Placer::make(key, Some(map)), &peer, &source)?)
+}
+
+/// Answers the calls above.
+pub(crate) fn answer(alloc: Global, name: &str, arguments: &str) -> Result<String, Unread> {
+    if name == "facts" {
+        return facts(alloc, arguments);
+    }
+    places_by(alloc, arguments)
+}
