@@ -82,12 +82,12 @@ impl Termination for Ended {
     fn report<R: Eprint>(self, errors: &R) -> ExitCode
         ensures code { exit_status result ≡ self }
     {
-        let code = self.code;
-        let _ = match self.reason {
+        let Ended { code, reason, note } = self;
+        let _ = match reason {
             Reason::Fixed(text) => errors.eprint(text),
             Reason::Line(line) => errors.eprint(line),
         };
-        let _ = errors.eprint(self.note);
+        let _ = errors.eprint(note);
         ExitCode::from(code)
     }
 }
