@@ -1,4 +1,16 @@
 //! The messages `addr` and `addrv2`, by which nodes announce peers to each other.
+//!
+//! Contracts see a message as the list of its entries; a skipped entry is `None`.
+//!
+//! Proved:
+//! - Hand `read_addr` or `read_addrv2` any bytes. They give a list of entries exactly if the bytes
+//!   are a message of it (`found`, `only`), and a fault exactly if it is the first that the bytes
+//!   show (`cause`, `first`), unless memory runs out.
+//! - Every list of bytes has exactly one of the two meanings (`messages_have_one_meaning`).
+//! - A message that `write_addr` or `write_addrv2` made is read back as the same list
+//!   (`read_back`).
+//!
+//! Tested only: the texts of the faults.
 #![tactic(auto)]
 
 mod address;

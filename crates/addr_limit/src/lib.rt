@@ -1,4 +1,12 @@
-//! The limit on the addresses that a node takes from each of its connections.
+//! The limit on the addresses that a node takes from each of its connections: a token bucket for
+//! each.
+//!
+//! Contracts see a `Limiter` as the clock and the list of connections, by rising number.
+//!
+//! Proved: each call leaves the connections that the definition gives. A step never takes a
+//! connection above 2,000 tokens, or 1,000 before getaddr, if it was not above before. What one
+//! connection sends never changes what is admitted from another (`connections_are_apart`, over all
+//! logs).
 #![tactic(auto)]
 
 mod asked;

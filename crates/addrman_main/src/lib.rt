@@ -1,5 +1,10 @@
-//! What the program does: the arguments, the standard streams and the current folder go in, an exit
-//! code and a line for standard error come out.
+//! What the program does around `run`: the arguments, the standard streams and the current folder
+//! go in, an exit code and a line for standard error come out.
+//!
+//! Proved: the functions are safe and return. An `Ended` has the exit code of the status that it
+//! was made of, and reports it (`code`).
+//!
+//! Tested only: that this is the status of `run`, and that its line is written.
 #![tactic(auto)]
 
 mod ended;

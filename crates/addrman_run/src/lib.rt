@@ -1,4 +1,15 @@
 //! The runs of the program: arguments, log, folder and output in, a status out.
+//!
+//! Contracts see the log as the bytes that are left, the output as those written, and the folder as
+//! its files and what a crash may leave of them; where a type does not let them, a clause on bytes
+//! makes no claim.
+//!
+//! Proved, of `run`: which arguments ask for what, what each request leaves untouched, that a
+//! failure has a cause, the outcome of each request, and that a request is done if nothing is wrong
+//! and nothing fails. docs/PROMISES.md has a chapter for each command.
+//!
+//! Tested only, in `run_cases`: which calls of the folder a command makes, and that nothing is read
+//! while a whole line waits.
 #![tactic(auto)]
 
 mod bans;

@@ -1,4 +1,13 @@
 //! The list of banned subnets that a node keeps in `banlist.json`.
+//!
+//! Contracts see `Bans` as a list of subnets with two times each.
+//!
+//! Proved: which texts are subnets, what covers an address, each change of the list, each fault of
+//! a file, and that what is written reads as the list. Bytes are the file of one list or have one
+//! fault, never both, and they cannot be neither (`files_have_one_meaning`).
+//!
+//! Seen in the code only: reading takes one look-up for each element, and `covering` looks at each
+//! ban.
 #![tactic(auto)]
 
 mod ban;

@@ -1,5 +1,11 @@
-//! The bits of an asmap file and the numbers that they spell, as in `util/asmap.cpp` of Bitcoin
+//! The bits of an asmap file and the numbers that they encode, as in `util/asmap.cpp` of Bitcoin
 //! Core.
+//!
+//! Contracts see `Bits`, `BitOut` and `BitFront` as lists of bits.
+//!
+//! Proved: `read_number` gives the value that is encoded at an offset, and `None` exactly if the
+//! encoding runs past the end. `BitOut` appends numbers, `BitFront` puts them first; if memory runs
+//! out, the bits are unchanged.
 #![tactic(auto)]
 
 mod ahead;

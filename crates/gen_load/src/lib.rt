@@ -1,4 +1,10 @@
 //! A log for trials that looks like a part of a node's life: its lines follow from one number.
+//!
+//! Contracts see a `Gen` as the lines that are still to come.
+//!
+//! Proved: each line is the one that the definition gives (`text`, `lines`), has at most 300 bytes,
+//! and parses as exactly one command, which saves nothing and names routable peers only (`line`,
+//! `lines_spell_commands`).
 #![tactic(auto)]
 
 mod generated;

@@ -1,5 +1,18 @@
 //! A grammar of lines and arguments: a table of keywords, each with the kinds of the fields after
 //! it, and one reader.
+//!
+//! Contracts see a line as its first word and the texts after it. A `Kind` of field says which
+//! texts have which value, and a `Grammar` what a line says and what is wrong in it.
+//!
+//! Proved:
+//! - `read_texts`, `read_said` and `read_line` give what a line says exactly if it says so
+//!   (`found`, `only`), and a fault exactly if it is the line's (`fault`, `only_fault`), unless
+//!   memory runs out. Each `Grammar` proves that a line says one thing, or has one fault, and never
+//!   both.
+//! - A field has at most one value and at most one fault (`fields_have_one_value`).
+//!
+//! The lines of a log (`log_lines`), of the limit (`addr_limit`) and the arguments of the command
+//! line (`arguments`) are read by it.
 #![tactic(auto)]
 
 mod choice;

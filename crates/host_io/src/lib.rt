@@ -1,7 +1,21 @@
 //! The outside of a program: where bytes come from, where they go, and a folder of files.
 //!
-//! Each object counts its faults. A call answers `Failed` only if that count rose in the call, so
-//! a caller can prove that a fault that it reports had a cause outside.
+//! Contracts see of a `Source` the bytes that are left, of a `Sink` those written, and of a
+//! `Folder` its files, what a crash may leave of them, and how both were before each call; of each,
+//! how often its calls have failed. They know these of the objects in memory, not of the adapters.
+//! A vector that contracts see as the list of its items is a `ListOf`.
+//!
+//! Proved:
+//! - A call answers `Failed` only if its object's count of faults rose in the call.
+//! - Each call of a folder says how the files read afterwards and what a crash may leave of them,
+//!   by the rules on `fsync` and `rename` in `specs/Disk.antt`.
+//! - `write_all` writes all bytes, or a prefix of them and then fails (`all`, `err`).
+//! - Objects in memory do exactly what their makers chose, unless memory runs out. What
+//!   `MemFolder::crash` gives is a folder that a crash may leave (`image`). `SureSource`,
+//!   `SureSink` and `SureFolder` never fail.
+//!
+//! Tested only, in `rows_outside`: what the adapters `StdSource`, `StdSink` and `DirFolder` do with
+//! the system, and which image `crash` gives for a choice.
 #![tactic(auto)]
 
 mod call;

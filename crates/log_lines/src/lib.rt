@@ -1,4 +1,14 @@
-//! The lines of a log, read as commands, and the replies to them, as text.
+//! The lines of a log and the texts of their replies.
+//!
+//! Contracts see a line as its bytes, and a command and a reply as values.
+//!
+//! Proved:
+//! - `read_line` gives a command exactly if the line parses as it (`found`, `only`), `None` exactly
+//!   for a line that is passed over (`passed`), and a fault exactly if it is the line's (`fault`,
+//!   `only_fault`), unless memory runs out. No line has two meanings (`lines_have_one_meaning`).
+//! - `put_reply` appends exactly the text of the reply (`ok`, `err`).
+//!
+//! Tested only: the texts of the faults.
 #![tactic(auto)]
 
 mod choices;

@@ -1,4 +1,12 @@
 //! The run over a log: it is read in pieces, and a line is carried out when its end is read.
+//!
+//! Contracts see a run as the steps of its lines, from a state to a text and a state, for any
+//! state, any step, and anything else that a line may change, such as a folder.
+//!
+//! Proved: how `run_log` ends, which replies are written then, and how much of the log is taken
+//! (`ran`, `taken`). It keeps at most a line and one read in memory.
+//!
+//! Tested only: that no byte is read while a whole line is there to be carried out.
 #![tactic(auto)]
 
 mod buffer;

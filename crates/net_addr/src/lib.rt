@@ -1,4 +1,14 @@
-//! Addresses of the networks that a Bitcoin node reaches, peers, and their text.
+//! Addresses of the six networks, peers, entries of messages, and their texts.
+//!
+//! Contracts see an address as a network and its bytes, and a `NetSet` as a rising list of numbers
+//! of networks.
+//!
+//! Proved:
+//! - Whether an address is valid, local or routable, its class and its linked IPv4 address are as
+//!   the definitions say by ranges of bits.
+//! - `of` makes an address exactly if the bytes are those of an address of the network.
+//! - The readers of texts accept exactly the grammar. The printers append exactly the text, which
+//!   reads as the same address, and a text is that of one address only (`texts_have_one_meaning`).
 #![tactic(auto)]
 
 mod address;

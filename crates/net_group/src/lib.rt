@@ -1,4 +1,7 @@
 //! The network group of an address, and the bits by which it is looked up in an asmap.
+//!
+//! Contracts see a group as a list of bytes. Proved: `group` and `asmap_bits` are as defined by the
+//! class of the address and its AS number.
 #![tactic(auto)]
 
 mod asmap;

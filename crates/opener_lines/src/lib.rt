@@ -1,5 +1,11 @@
-//! The lines of an opener's log: those of the address manager but its saves, and those that open,
-//! test and close outbound connections.
+//! The lines of a log with `outbound`, `feeler` and `close` besides those of a replay.
+//!
+//! Contracts see the state as the machine with the open peers.
+//!
+//! Proved, of a line (`step`, `fault`, `only_fault`): the first of at most 100 tries that decides
+//! counts (`tries_are_fair`, `tries_end_once`), and groups stay apart (`groups_stay_apart`).
+//!
+//! Not said: how many steps a line takes.
 #![tactic(auto)]
 
 mod aim;

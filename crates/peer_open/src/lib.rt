@@ -1,4 +1,10 @@
 //! The outbound connections of a node, no two of them in one network group.
+//!
+//! Contracts see an `Opener` as the list of open peers with their groups.
+//!
+//! Proved: the groups are pairwise distinct (`apart`), a peer whose last try is less than ten
+//! minutes old is taken only by the 31st try or a later one (`recent`), and `judge` says so for a
+//! candidate. It takes no memory and reads no log.
 #![tactic(auto)]
 
 mod law;

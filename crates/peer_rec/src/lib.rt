@@ -1,5 +1,10 @@
 //! The record of a peer: its source, when it was last seen and tried, and its place in the tables;
 //! and the snapshot that a file has of all records.
+//!
+//! Contracts see the fields as they are.
+//!
+//! Proved: changes of a record's buckets, whether it is terrible, and its chance of being picked,
+//! in parts of 2^30.
 #![tactic(auto)]
 
 mod buckets;

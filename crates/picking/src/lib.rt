@@ -1,5 +1,14 @@
 //! Picks from the tables: a peer to connect to, and peers to announce to another node. The caller
 //! gives the random words.
+//!
+//! Proved:
+//! - `select` gives the peer that the definition gives for the random words (`picked`), and has
+//!   refused at most 44 records if it uses up the words (`few`).
+//! - `sample` gives the peers and the order that the definition gives (`peers`, `state`), and says
+//!   `ShortWords` only if there are fewer words than records (`short`, `enough`); after a refusal
+//!   the tables are as before (`err`).
+//!
+//! Not said: how many steps a `sample` takes.
 #![tactic(auto)]
 
 mod bucket;

@@ -1,4 +1,19 @@
-//! Prefix tables: rows of address prefixes with AS numbers, their text, and the longest match.
+//! Tables of address prefixes with the numbers of autonomous systems, and their text.
+//!
+//! Contracts see a `Table` as the list of its rows.
+//!
+//! Proved:
+//! - `read_table` reads a text, up to 134,217,728 bytes long, as a table exactly if it is the text
+//!   of one (`found`, `only`), and refuses it for its first fault exactly if it has one (`cause`,
+//!   `exact`), unless memory runs out.
+//! - No text is that of two tables, has two faults, or is that of a table and has a fault
+//!   (`texts_have_one_meaning`).
+//! - `best` gives each of the 2^128 addresses the number of the most specific row that covers it,
+//!   or 0 (`found`, `longest`, `none`).
+//! - `put_table` writes a text of the same table, short enough to be read again (`reads_back`,
+//!   `short`). `Table::from_rows` makes a table of rows exactly if they are those of one.
+//!
+//! Tested only: the texts of the faults; a table of the largest size and one too large by one row.
 #![tactic(auto)]
 
 mod entry;

@@ -1,4 +1,8 @@
-//! What tables are made of that are restored from a file of peers.
+//! The tables that a snapshot of a file is restored to, before they are tables: a plan of numbers,
+//! buckets and positions, and the slots and the order that it is carried out in.
+//!
+//! Proved: key and asmap, slots, the index in its order and the next number belong to the restored
+//! state (`parts`), which is sound. A duplicate among valid records is named, the first one.
 #![tactic(auto)]
 
 mod duplicates;

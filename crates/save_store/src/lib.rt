@@ -1,5 +1,18 @@
-//! Files of a folder: loaded whole, up to a limit, and replaced so that a crash leaves the old file
-//! or the new one, at once or in pieces.
+//! Files of the folder that are loaded whole, and replaced so that a crash leaves the old file or
+//! the new one.
+//!
+//! Contracts see a `SaveJob`, a save in pieces, as the bytes that are written and those that are
+//! left.
+//!
+//! Proved:
+//! - `load` returns the whole file, `None` exactly if it is absent, and its size exactly if that is
+//!   above the limit, unless the folder fails or memory runs out (`found`, `absent`, `larger`,
+//!   `too_large`, `cause`).
+//! - `write_temp` and `publish`, or `save` at once, replace a file: at every moment a crash leaves
+//!   the old file or the whole new one, and after `Ok` the new one (`any_moment`, `stored`). A
+//!   `SaveJob` does the same in pieces.
+//!
+//! Tested besides, in `rows_outside`: saves in which each call of the folder fails in turn.
 #![tactic(auto)]
 
 mod loading;

@@ -1,7 +1,12 @@
-//! Numbers in messages and files: of fixed width, and as CompactSize of the Bitcoin protocol.
+//! Integers and CompactSizes at an offset of some bytes, and the description of formats of bytes
+//! that messages and files are made of.
 //!
-//! `read_` functions read at an offset. `take_` functions read a field at the start of the bytes,
-//! and return the bytes after it too.
+//! Contracts see bytes as a list of numbers. A `Format` of `specs/` says which bytes encode a
+//! value, and which show a fault first.
+//!
+//! Proved: a CompactSize is read exactly if it is encoded in the shortest way, and refused exactly
+//! if the bytes end too early or the encoding is longer. The laws in `proofs/` say that a reading
+//! agrees with its format.
 #![tactic(auto)]
 
 mod compact;
