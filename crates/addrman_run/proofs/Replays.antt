@@ -15,14 +15,13 @@ use Rattle.log_run.specs.declared.end.LogEnd.{LogEnd}
 use Rattle.log_run.specs.declared.end.LogEnd.TheVariants as end
 use Rattle.peers_file.specs.declared.chain.Chain.{Chain}
 use Rattle.session.specs.Events.{Ended}
-use Rattle.session.specs.Folders.{IsOpen}
+use Rattle.session.specs.Folders.{IsOpen, SessionStep, StoppedStep}
 use Rattle.session.specs.History.{AtExit, History, Now, RoseBy, SinceEntry, Step, failed, fresh, onto}
 use Rattle.session.specs.State as session
 use Rattle.session.proofs.OneHistory.{one_run}
 use Rattle.session.proofs.Files.{next_failed, still_failed}
 use Rattle.session.proofs.Promise.{IsCut, IsKept, cut_line, cut_memory, history, kept_line, kept_start}
 use Rattle.table_machine.specs.State.{State}
-use Rattle.addrman_run.specs.Inside.{SessionStep, StoppedStep}
 use Rattle.addrman_run.proofs.Reopening.{reopens}
 use Rattle.addrman_run.specs.Opening.{Opened, Opens, file_in, places_of}
 use Rattle.addrman_run.specs.Opening.Opens.{from_file, from_key}
@@ -290,6 +289,6 @@ takes_none None most = tt
 takes_none (Some bytes) most = (0, omega arith, refl)
 
 -- the session at the start
-pub starts : (chain : Chain) (tables : State) (lines made : session.State) (machine : Machine) → lines ≡ made → made ≡ session.state chain machine None
-    → machine ≡ record { tables = tables; clock = 0 } → lines ≡ at_start chain tables
-starts chain tables lines made machine is_made is_state is_machine = is_made ∙ is_state ∙ ap (λ m. session.state chain m None) is_machine
+pub starts : (chain : Chain) (tables : State) (made : session.State) (machine : Machine) → made ≡ session.state chain machine None
+    → machine ≡ record { tables = tables; clock = 0 } → made ≡ at_start chain tables
+starts chain tables made machine is_state is_machine = is_state ∙ ap (λ m. session.state chain m None) is_machine

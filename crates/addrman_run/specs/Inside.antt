@@ -1,6 +1,6 @@
 -- Words of private contracts.
-use Rattle.std.specs.Prelude.{◌≡◌, ◌≢◌, ◌⊎◌, ◌≤◌, ℕ, List, ◌++◌, length, Option, Some, None, ⊤, option_map}
-use Rattle.host_io.specs.Past.{Always, Past}
+use Rattle.std.specs.Prelude.{◌≡◌, ◌≢◌, ◌⊎◌, ℕ, List, ◌++◌, length, Option, Some, None, ⊤, option_map}
+use Rattle.host_io.specs.Past.{Past}
 use Rattle.host_io.specs.Writing.{Appended, AppendedPart}
 use Rattle.host_io.specs.declared.name.Name.{Name}
 use Rattle.host_io.specs.declared.name.Name.TheVariants as name
@@ -30,11 +30,9 @@ use Rattle.addrman_run.specs.Opening.{places_of, tables_of}
 use Rattle.opener_lines.specs.State as opener
 use Rattle.placing.specs.Places.{Places}
 use Rattle.log_run.specs.Run.{Run}
-use Rattle.log_run.specs.Worlds.{StepsIn}
 use Rattle.log_run.specs.declared.end.LogEnd.{LogEnd}
 use Rattle.log_run.specs.declared.end.LogEnd.TheVariants as end
 use Rattle.session.specs.Events.{Ended}
-use Rattle.session.specs.Folders.{AtMost, IsOpen, MayPublish, Turn}
 use Rattle.session.specs.History.{Step, fresh}
 use Rattle.session.specs.State as session
 use Rattle.session.specs.State.{LineStep}
@@ -149,18 +147,6 @@ status_of end.LogTooLong = LogTooLong
 status_of end.ReadFault = ReadFault
 status_of end.WriteFault = WriteFault
 status_of end.Memory = Memory
-
--- What a line does to a session and a folder, by the folder's past and its count of faults.
-abbrev pub SessionStep : {F : Type 0} → (F → Option Past) → (F → ℕ) → StepsIn session.State F
-SessionStep past faults old before line text new after =
-    Turn old line text new (past before) (past after) (faults before) (faults after)
-    × IsOpen new.job (past after) × (faults before ≤ faults after)
-
--- What a line that runs out of memory does to a folder.
-abbrev pub StoppedStep : {F : Type 0} → (F → Option Past) → (F → ℕ) → session.State → F → List ℕ → F → Type 0
-StoppedStep past faults old before line after =
-    ((file : Option (List ℕ)) × MayPublish old line file × Always (past before) (past after) (AtMost file))
-    × (faults before ≤ faults after)
 
 -- the asmap in some bytes, if there are any
 abbrev pub IsMapOf : Option (List ℕ) → Option Asmap → Type 0

@@ -32,7 +32,6 @@ mod output;
 mod peers_fault;
 mod replay;
 mod report;
-mod session_lines;
 mod show;
 mod status;
 mod tables_fault;

@@ -1,4 +1,3 @@
-use crate::session_lines::stop_of;
 use addr_limit::LimitLog;
 use log_run::{LineSteps, Stop};
 use std::alloc::Global;
@@ -55,7 +54,7 @@ impl LineSteps<()> for LimitLines {
         out: &mut Vec<u8>,
     ) -> Result<(), Stop> {
         if let Err(fault) = self.log.step(alloc, line, out) {
-            return Err(stop_of(fault));
+            return Err(Stop::of(fault));
         }
         Ok(())
     }

@@ -5,7 +5,6 @@ ghost use Rattle.opener_lines.specs.Grammar.{HasFault};
 ghost use Rattle.opener_lines.specs.Lines.{LineStep};
 ghost use Rattle.opener_lines.specs.State.{state};
 
-use crate::session_lines::stop_of;
 use log_lines::LineFault;
 use log_run::{LineSteps, Stop};
 use manager::Manager;
@@ -114,7 +113,7 @@ impl<'a, H: BuildHasher> LineSteps<()> for OpenerSteps<'a, H> {
         if let Err(fault) = carry_out_line::<Brand, H>(
             alloc, manager, placer, opener, line, out, blank,
         ) {
-            return Err(stop_of(fault));
+            return Err(Stop::of(fault));
         }
         Ok(())
     }

@@ -9,7 +9,6 @@ use crate::Status;
 use crate::input::{Input, load_input};
 use crate::log_status::status_of;
 use crate::opening::open_folder;
-use crate::session_lines::SessionLines;
 use host_io::{Folder, Sink, Source};
 use log_run::run_log;
 use manager::Manager;
@@ -45,7 +44,6 @@ pub(crate) fn replay<L: Source, F: Folder, K: Sink, H: BuildHasher + Drop>(
         Ok(opened) => opened,
         Err(status) => return status,
     };
-    let session = Session::make(Manager::open(tables), chain);
-    let mut lines = SessionLines::make(session);
-    status_of(run_log(alloc, log, &mut lines, folder, out))
+    let mut session = Session::make(Manager::open(tables), chain);
+    status_of(run_log(alloc, log, &mut session, folder, out))
 }

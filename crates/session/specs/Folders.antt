@@ -1,5 +1,5 @@
 -- What a line of a log does to the folder.
-use Rattle.std.specs.Prelude.{◌≡◌, ◌≢◌, ◌⊎◌, ℕ, List, Option, Some, None, IfSome, ⊤}
+use Rattle.std.specs.Prelude.{◌≡◌, ◌≢◌, ◌⊎◌, ℕ, ◌≤◌, List, Option, Some, None, IfSome, ⊤}
 use Rattle.std.proofs.Common.{inl, inr}
 use Rattle.std.specs.Option.{option_map}
 use Rattle.host_io.specs.Disk.{Disk, MayHave}
@@ -11,6 +11,7 @@ use Rattle.host_io.specs.declared.name.Name.TheVariants.{Peers, PeersTemp}
 use Rattle.log_lines.specs.Spelling.{Spells}
 use Rattle.log_lines.specs.declared.command.Command.{Command}
 use Rattle.log_lines.specs.declared.command.Command.TheVariants as command
+use Rattle.log_run.specs.Worlds.{StepsIn}
 use Rattle.manager.specs.Machine.{Machine}
 use Rattle.manager.specs.Step as manager
 use Rattle.save_store.specs.Job.{Job, Reads, whole}
@@ -93,3 +94,15 @@ LeavesPart old line new after faults_before faults_after =
     × HasEnded ended after faults_before faults_after)
     ⊎ ((asked : Command) × (machine : Machine) × Spells line asked
     × manager.LeavesPart old.machine asked machine × (new ≡ record old { machine = machine })))
+
+-- What a line does to a session and a folder, by the folder's past and its count of faults.
+abbrev pub SessionStep : {F : Type 0} → (F → Option Past) → (F → ℕ) → StepsIn State F
+SessionStep past faults old before line text new after =
+    Turn old line text new (past before) (past after) (faults before) (faults after)
+    × IsOpen new.job (past after) × (faults before ≤ faults after)
+
+-- What a line that runs out of memory does to a folder.
+abbrev pub StoppedStep : {F : Type 0} → (F → Option Past) → (F → ℕ) → State → F → List ℕ → F → Type 0
+StoppedStep past faults old before line after =
+    ((file : Option (List ℕ)) × MayPublish old line file × Always (past before) (past after) (AtMost file))
+    × (faults before ≤ faults after)

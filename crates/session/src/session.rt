@@ -3,6 +3,7 @@ ghost use Rattle.std.specs.Prelude.{◌≡◌};
 use crate::carry_out::carry_out;
 use host_io::Folder;
 use log_lines::{Command, LineFault, put_reply, read_line};
+use log_run::{LineSteps, Stop};
 use manager::Manager;
 use peers_file::Chain;
 use save_store::SaveJob;
@@ -131,5 +132,35 @@ impl<'a, H: BuildHasher> Session<'a, H> {
             Ok(()) => Ok(()),
             Err(_) => Err(LineFault::Memory),
         }
+    }
+}
+
+impl<'a, F: Folder, H: BuildHasher> LineSteps<F> for Session<'a, H> {
+    ghost use Rattle.std.specs.Prelude.{◌+◌, ◌*◌, ◌<◌, ◌^◌};
+    ghost use Rattle.log_lines.specs.Spelling.{HasFault};
+    ghost use Rattle.session.specs.Folders.{IsOpen, SessionStep, StoppedStep};
+
+    ghost step = { SessionStep F.past F.faults };
+
+    ghost stopped = { StoppedStep F.past F.faults };
+
+    ghost has_fault = { HasFault };
+
+    ghost ready = { λ s folder. IsOpen s.job (F.past folder) };
+
+    // Each line takes at most a thousand numbers.
+    ghost has_room = { λ s n. s.machine.tables.next_number + 1000 * n < 2 ^ 62 };
+
+    fn carry_out(
+        &mut self,
+        alloc: Global,
+        line: &[u8],
+        folder: &mut F,
+        out: &mut Vec<u8>,
+    ) -> Result<(), Stop> {
+        if let Err(fault) = self.line(alloc, line, folder, out) {
+            return Err(Stop::of(fault));
+        }
+        Ok(())
     }
 }

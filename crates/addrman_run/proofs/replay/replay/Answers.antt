@@ -14,8 +14,8 @@ returns-clause-outcome g c =
     let found = subst (λ p. Opened c.args.key c.args.chain p tables) c.load_input.ensures.same c.in-Ok-open_folder.ensures.found in
     subst (ReplayOutcome c.args.key c.args.chain old new) (sym c.status_of.ensures)
     (by_status (Replayed c.args.key c.args.chain old new) (NotOpened c.args.key c.args.chain old new) c.run_log.result
-    (replayed g.F.Folder.past g.F.Folder.faults c.args.key c.args.chain tables c.make-lines.result old new c.open_folder.new.folder c.run_log.new.world c.run_log.result
-    found (starts c.args.chain tables c.make-lines.result c.make-session.result c.open.result c.make-lines.ensures c.make-session.ensures c.open.ensures)
+    (replayed g.F.Folder.past g.F.Folder.faults c.args.key c.args.chain tables c.make-session.result old new c.open_folder.new.folder c.run_log.new.world c.run_log.result
+    found (starts c.args.chain tables c.make-session.result c.open.result c.make-session.ensures c.open.ensures)
     c.in-Ok-open_folder.ensures.sound c.in-Ok-open_folder.ensures.small
     (c.open_folder.ensures.same ∙ c.load_input.ensures.same) (omega (arith, c.load_input.ensures.never_falls, c.open_folder.ensures.never_falls)) refl refl c.run_log.ensures.ran))
 
@@ -33,7 +33,7 @@ returns-clause-disk g c = (
     arith,
     c.load_input.ensures.never_falls,
     c.open_folder.ensures.never_falls,
-    rises g.F.Folder.past g.F.Folder.faults c.make-lines.result _ _ c.open_folder.new.folder c.run_log.new.world c.run_log.result c.run_log.ensures.ran,
+    rises g.F.Folder.past g.F.Folder.faults c.make-session.result _ _ c.open_folder.new.folder c.run_log.new.world c.run_log.result c.run_log.ensures.ran,
   ),
   λ is. absurd (no_disk c.run_log.result (sym c.status_of.ensures ∙ is)),
 )
