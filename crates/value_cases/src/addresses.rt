@@ -1,32 +1,21 @@
-use crate::text::{bytes_of, hex_text, owned, text_of, yes_or_no};
-use call_rows::{Unread, first_word};
-use net_addr::{
-    Net, NetAddr, parse_addr, parse_ipv4, parse_ipv6, parse_peer, put_addr, put_ipv4, put_ipv6,
-    put_peer,
-};
+use crate::fields::first_word;
+use crate::text::{addr_text, bytes_of, hex_text, owned, peer_text, yes_or_no};
+use crate::unread::Unread;
+use net_addr::{Net, NetAddr, parse_addr, parse_ipv4, parse_ipv6, parse_peer, put_ipv4, put_ipv6};
 use net_group::asmap_bits;
-use std::alloc::{AllocError, Global};
-
-/// Returns the text of the address.
-fn addr_text(alloc: Global, addr: &NetAddr) -> Result<String, Unread> {
-    let mut out = Vec::new(alloc);
-    if put_addr(addr, &mut out).is_err() {
-        return Err(Unread::Memory);
-    }
-    text_of(out)
-}
+use std::alloc::Global;
 
 /// `address TEXT`: the network, the bytes and the text of the address, if this text and these bytes
 /// are the same address again.
 fn address(alloc: Global, text: &str) -> Result<String, Unread> {
     let Some(addr) = parse_addr(text.as_bytes()) else {
-        return Ok(owned(alloc, "none")?);
+        return owned(alloc, "none");
     };
     let printed = addr_text(alloc, &addr)?;
     if parse_addr(printed.as_bytes()) != Some(addr)
         || NetAddr::of(addr.net(), addr.bytes()) != Some(addr)
     {
-        return Ok(owned(alloc, "another")?);
+        return owned(alloc, "another");
     }
     let bytes = hex_text(alloc, addr.bytes())?;
     Ok(format!(in alloc; "{:?} {bytes} {printed}", addr.net())?)
@@ -35,30 +24,26 @@ fn address(alloc: Global, text: &str) -> Result<String, Unread> {
 /// `peer TEXT`: the key of the peer, if its text is this one.
 fn peer(alloc: Global, text: &str) -> Result<String, Unread> {
     let Some(peer) = parse_peer(text.as_bytes()) else {
-        return Ok(owned(alloc, "none")?);
+        return owned(alloc, "none");
     };
-    let mut out = Vec::new(alloc);
-    if put_peer(&peer, &mut out).is_err() {
-        return Err(Unread::Memory);
+    if peer_text(alloc, &peer)?.as_str() != text {
+        return owned(alloc, "another text");
     }
-    if out.as_slice() != text.as_bytes() {
-        return Ok(owned(alloc, "another text")?);
-    }
-    Ok(hex_text(alloc, peer.key_bytes().as_slice())?)
+    hex_text(alloc, peer.key_bytes().as_slice())
 }
 
 /// Returns the linked IPv4 address in hexadecimal.
-fn linked(alloc: Global, addr: &NetAddr) -> Result<String, AllocError> {
+fn linked(alloc: Global, addr: &NetAddr) -> Result<String, Unread> {
     match addr.linked_ipv4() {
-        Some(linked) => format!(in alloc; "{linked:x}"),
+        Some(linked) => Ok(format!(in alloc; "{linked:x}")?),
         None => owned(alloc, "-"),
     }
 }
 
 /// Returns the bits that are looked up in an asmap, in hexadecimal.
-fn bits(alloc: Global, addr: &NetAddr) -> Result<String, AllocError> {
+fn bits(alloc: Global, addr: &NetAddr) -> Result<String, Unread> {
     match asmap_bits(addr) {
-        Some(bits) => format!(in alloc; "{bits:x}"),
+        Some(bits) => Ok(format!(in alloc; "{bits:x}")?),
         None => owned(alloc, "-"),
     }
 }
@@ -92,7 +77,7 @@ fn is_address(alloc: Global, arguments: &str) -> Result<String, Unread> {
     let (net, bytes) = first_word(arguments);
     let bytes = bytes_of(alloc, bytes)?;
     let addr = NetAddr::of(net_of(net)?, bytes.as_slice());
-    Ok(yes_or_no(alloc, addr.is_some())?)
+    yes_or_no(alloc, addr.is_some())
 }
 
 /// `v1 HEX`: the address in 16 bytes, if its 16 bytes are these.
@@ -103,39 +88,41 @@ fn v1(alloc: Global, text: &str) -> Result<String, Unread> {
     };
     let addr = NetAddr::from_v1(&bytes);
     if addr.v1_bytes() != Some(bytes) {
-        return Ok(owned(alloc, "other bytes")?);
+        return owned(alloc, "other bytes");
     }
     addr_text(alloc, &addr)
+}
+
+/// Returns the number in hexadecimal, unless its text is another one.
+fn digits_of(alloc: Global, bits: u128, is_text: bool) -> Result<String, Unread> {
+    if is_text {
+        return Ok(format!(in alloc; "{bits:x}")?);
+    }
+    owned(alloc, "another text")
 }
 
 /// `ipv6 TEXT`: the address as a number in hexadecimal, if its text is this one.
 fn ipv6(alloc: Global, text: &str) -> Result<String, Unread> {
     let Some(bits) = parse_ipv6(text.as_bytes()) else {
-        return Ok(owned(alloc, "none")?);
+        return owned(alloc, "none");
     };
     let mut out = Vec::new(alloc);
-    if put_ipv6(bits, &mut out).is_err() {
-        return Err(Unread::Memory);
-    }
-    if out.as_slice() != text.as_bytes() {
-        return Ok(owned(alloc, "another text")?);
-    }
-    Ok(format!(in alloc; "{bits:x}")?)
+    let put = put_ipv6(bits, &mut out).is_ok();
+    digits_of(alloc, bits, put && out.as_slice() == text.as_bytes())
 }
 
 /// `ipv4 TEXT`: the address as a number in hexadecimal, if its text is this one.
 fn ipv4(alloc: Global, text: &str) -> Result<String, Unread> {
     let Some(bits) = parse_ipv4(text.as_bytes()) else {
-        return Ok(owned(alloc, "none")?);
+        return owned(alloc, "none");
     };
     let mut out = Vec::new(alloc);
-    if put_ipv4(bits, &mut out).is_err() {
-        return Err(Unread::Memory);
-    }
-    if out.as_slice() != text.as_bytes() {
-        return Ok(owned(alloc, "another text")?);
-    }
-    Ok(format!(in alloc; "{bits:x}")?)
+    let put = put_ipv4(bits, &mut out).is_ok();
+    digits_of(
+        alloc,
+        u128::from(bits),
+        put && out.as_slice() == text.as_bytes(),
+    )
 }
 
 /// Answers the calls above.

@@ -1,6 +1,8 @@
-use crate::many_bans::many;
+use crate::fields::Fields;
+use crate::many_bans::{many, others};
+use crate::text::{copied, owned, text_of};
+use crate::unread::Unread;
 use ban_list::{BanFault, Bans, parse_subnet, put_subnet, read_bans, write_bans};
-use call_rows::{Fields, Unread};
 use std::alloc::Global;
 
 /// Makes a call on the text of a subnet or of a list of bans.
@@ -9,6 +11,7 @@ pub(crate) fn answer(alloc: Global, name: &str, arguments: &str) -> Result<Strin
         "subnet" => subnet(alloc, arguments),
         "file" => file(alloc, arguments),
         "many" => many(alloc, Fields::of(arguments).number()?),
+        "others" => others(alloc, Fields::of(arguments).number()?),
         "other-faults" => other_faults(alloc),
         _ => Err(Unread::Form),
     }
@@ -17,13 +20,13 @@ pub(crate) fn answer(alloc: Global, name: &str, arguments: &str) -> Result<Strin
 /// `subnet TEXT`: the subnet that the text parses as, with its length, or `none`.
 fn subnet(alloc: Global, text: &str) -> Result<String, Unread> {
     let Some(subnet) = parse_subnet(text.as_bytes()) else {
-        return Ok(String::from_str(alloc, "none")?);
+        return owned(alloc, "none");
     };
     let mut printed = Vec::new(alloc);
     if put_subnet(&subnet, &mut printed).is_err() {
         return Err(Unread::Memory);
     }
-    owned(alloc, printed.as_slice())
+    text_of(printed)
 }
 
 /// `file TEXT`: the file of the list that the text reads as, or the fault.
@@ -43,15 +46,7 @@ fn other_faults(alloc: Global) -> Result<String, Unread> {
 /// Returns the file of a list.
 fn written(alloc: Global, bans: &Bans) -> Result<String, Unread> {
     match write_bans(alloc, bans) {
-        Ok(bytes) => owned(alloc, bytes.items()),
+        Ok(bytes) => copied(alloc, bytes.items()),
         Err(_) => Err(Unread::Memory),
-    }
-}
-
-/// Returns an owned text of these bytes.
-fn owned(alloc: Global, bytes: &[u8]) -> Result<String, Unread> {
-    match str::from_utf8(bytes) {
-        Ok(text) => Ok(String::from_str(alloc, text)?),
-        Err(_) => Err(Unread::Form),
     }
 }

@@ -1,6 +1,7 @@
-use crate::peers_files::fault_of;
-use crate::spelled::{bytes_of, chain_of};
-use call_rows::{Fields, Unread};
+use crate::fields::Fields;
+use crate::peers_files::{chain_of, fault_of};
+use crate::text::bytes_of;
+use crate::unread::Unread;
 use peers_file::{Chain, read_file};
 use std::alloc::Global;
 

@@ -1,13 +1,14 @@
 ghost use Rattle.std.specs.Prelude.{◌≤◌};
 
+use crate::fields::Fields;
+use crate::text::owned;
+use crate::unread::Unread;
 use addr_limit::{Conn, Limiter, Memory};
-use call_rows::{Fields, Unread};
-use net_addr::parse_addr;
 use std::alloc::Global;
 
-/// Makes a call of `Limiter`: `add N ADDR MODE NOW`, `close N`, `getaddr N`, `admit N COUNT NOW`,
+/// Makes a call of `Limiter`: `open N ADDR MODE NOW`, `close N`, `getaddr N`, `admit N COUNT NOW`,
 /// `repeat TIMES N COUNT NOW`, which is as many calls of `admit` and answers with their sum, and
-/// `find N`.
+/// `conn N`.
 pub(crate) fn limiter_call(
     alloc: Global,
     limiter: &mut Limiter,
@@ -16,7 +17,7 @@ pub(crate) fn limiter_call(
 ) -> Result<String, Unread> {
     let mut fields = Fields::of(arguments);
     match name {
-        "add" => add(alloc, limiter, &mut fields),
+        "open" => add(alloc, limiter, &mut fields),
         "close" => close(alloc, limiter, fields.small()?),
         "getaddr" => getaddr(alloc, limiter, fields.small()?),
         "admit" => admit(alloc, limiter, 1, &mut fields),
@@ -24,7 +25,7 @@ pub(crate) fn limiter_call(
             let times = fields.small()?;
             admit(alloc, limiter, times, &mut fields)
         }
-        "find" => find_text(alloc, limiter.find(fields.small()?)),
+        "conn" => find_text(alloc, limiter.find(fields.small()?)),
         _ => Err(Unread::Form),
     }
 }
@@ -44,9 +45,7 @@ fn getaddr(alloc: Global, limiter: &mut Limiter, number: u32) -> Result<String, 
 /// Opens a connection.
 fn add(alloc: Global, limiter: &mut Limiter, fields: &mut Fields<'_>) -> Result<String, Unread> {
     let number = fields.small()?;
-    let Some(addr) = parse_addr(fields.word().as_bytes()) else {
-        return Err(Unread::Form);
-    };
+    let addr = fields.addr()?;
     let unlimited = fields.word() == "unlimited";
     match limiter.add_conn(number, addr, unlimited, fields.small()?) {
         Ok(added) => Ok(format!(in alloc; "{added}")?),
@@ -69,7 +68,7 @@ fn admit(
     }
     match admit_times(limiter, times, number, count, now) {
         Some(admitted) => Ok(format!(in alloc; "{admitted}")?),
-        None => Ok(String::from_str(alloc, "none")?),
+        None => owned(alloc, "none"),
     }
 }
 
@@ -92,6 +91,6 @@ fn find_text(alloc: Global, found: Option<&Conn>) -> Result<String, Unread> {
             "{} tenths at {}, asked {}, processed {}, limited {}",
             conn.tenths, conn.moment, conn.asked, conn.processed, conn.limited
         )?),
-        None => Ok(String::from_str(alloc, "none")?),
+        None => owned(alloc, "none"),
     }
 }

@@ -1,6 +1,7 @@
 use crate::limiter_calls::limiter_call;
+use crate::text::owned;
+use crate::unread::Unread;
 use addr_limit::{LimitLog, Limiter};
-use call_rows::Unread;
 use log_lines::{LineFault, MAX_LINE};
 use std::alloc::Global;
 
@@ -52,7 +53,7 @@ fn line_of(alloc: Global, text: &[u8]) -> Result<String, Unread> {
         return Err(Unread::Form);
     };
     match text.split_once("\n") {
-        Some((line, "")) => Ok(String::from_str(alloc, line)?),
+        Some((line, "")) => owned(alloc, line),
         _ => Err(Unread::Unmet),
     }
 }

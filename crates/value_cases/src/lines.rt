@@ -1,17 +1,14 @@
-use crate::text::{bytes_of, hex_text, owned, text_of};
-use call_rows::{Fields, Unread};
+use crate::fields::Fields;
+use crate::text::{bytes_of, hex_text, owned, peer_text};
+use crate::unread::Unread;
 use log_lines::{Command, read_line, read_words, split_line};
-use net_addr::{NetAddr, Peer, put_peer};
+use net_addr::{NetAddr, Peer};
 use std::alloc::{AllocError, Global};
 
 /// Returns the peer that is to be found.
 fn find_text(alloc: Global, peer: &Peer) -> Result<String, Unread> {
-    let mut text = Vec::new(alloc);
-    text.extend_from_slice(b"find ")?;
-    if put_peer(peer, &mut text).is_err() {
-        return Err(Unread::Memory);
-    }
-    text_of(text)
+    let peer = peer_text(alloc, peer)?;
+    Ok(format!(in alloc; "find {peer}")?)
 }
 
 /// Returns the source, the payload and the random words of a message.
@@ -36,7 +33,7 @@ fn command_text(alloc: Global, command: &Command) -> Result<String, Unread> {
             payload,
             words,
         } => addr_text(alloc, source, payload.items(), words.items()),
-        _ => Ok(owned(alloc, "parsed")?),
+        _ => owned(alloc, "parsed"),
     }
 }
 
@@ -44,7 +41,7 @@ fn command_text(alloc: Global, command: &Command) -> Result<String, Unread> {
 fn line_text(alloc: Global, line: &[u8]) -> Result<String, Unread> {
     match read_line(alloc, line) {
         Ok(Some(command)) => command_text(alloc, &command),
-        Ok(None) => Ok(owned(alloc, "passed over")?),
+        Ok(None) => owned(alloc, "passed over"),
         Err(fault) => Ok(format!(in alloc; "{fault}")?),
     }
 }
@@ -100,7 +97,7 @@ fn words(alloc: Global, name: &str, text: &str) -> Result<String, Unread> {
         return Err(Unread::Unmet);
     }
     let Ok(words) = read_words(alloc, text.as_bytes()) else {
-        return Ok(owned(alloc, "none")?);
+        return owned(alloc, "none");
     };
     let items = words.items();
     if name == "words" {

@@ -1,20 +1,17 @@
-use crate::text::{bytes_of, owned, text_of};
+use crate::fields::{Fields, first_word};
+use crate::text::{bytes_of, owned, peer_text};
+use crate::unread::Unread;
 use addr_codecs::{Entries, MsgFault, read_addr, read_addrv2};
-use call_rows::{Fields, Unread, first_word};
-use net_addr::{Entry, put_peer};
+use net_addr::Entry;
 use std::alloc::Global;
 use wire_num::put_compact;
 
 /// Returns the time, the services and the peer of the entry; `-` for one that is skipped.
 fn entry_text(alloc: Global, entry: &Option<Entry>) -> Result<String, Unread> {
     let Some(entry) = entry else {
-        return Ok(owned(alloc, "-")?);
+        return owned(alloc, "-");
     };
-    let mut peer = Vec::new(alloc);
-    if put_peer(&entry.peer, &mut peer).is_err() {
-        return Err(Unread::Memory);
-    }
-    let peer = text_of(peer)?;
+    let peer = peer_text(alloc, &entry.peer)?;
     Ok(format!(in alloc; "{} {} {peer}", entry.time, entry.services)?)
 }
 
@@ -28,7 +25,7 @@ fn entries_text(alloc: Global, entries: &Entries) -> Result<String, Unread> {
         text.push_str(entry_text(alloc, entry)?.as_str())?;
     }
     if text.is_empty() {
-        return Ok(owned(alloc, "no entries")?);
+        return owned(alloc, "no entries");
     }
     Ok(text)
 }
@@ -61,7 +58,7 @@ fn prefixes(alloc: Global, arguments: &str) -> Result<String, Unread> {
             return Ok(format!(in alloc; "{length} bytes")?);
         }
     }
-    Ok(owned(alloc, "truncated")?)
+    owned(alloc, "truncated")
 }
 
 /// Returns an `addr` message of equal entries.
@@ -86,7 +83,7 @@ fn equal_entries(alloc: Global, count: u64) -> Result<String, Unread> {
     match read_addr(alloc, bytes.as_slice()) {
         Ok(entries) => {
             if entries.items().iter().any(|entry| entry.is_none()) {
-                return Ok(owned(alloc, "skipped")?);
+                return owned(alloc, "skipped");
             }
             Ok(format!(in alloc; "{}", entries.items().len())?)
         }

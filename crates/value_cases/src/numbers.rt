@@ -1,5 +1,6 @@
+use crate::fields::{Fields, first_word};
 use crate::text::{bytes_of, number_text};
-use call_rows::{Fields, Unread, first_word};
+use crate::unread::Unread;
 use net_addr::parse_number;
 use std::alloc::Global;
 use wire_num::{read_be16, read_le32, read_le64};
@@ -19,10 +20,10 @@ pub(crate) fn answer(alloc: Global, name: &str, arguments: &str) -> Result<Strin
     if name == "number" {
         let (most, text) = first_word(arguments);
         let most = Fields::of(most).number()?;
-        return Ok(number_text(alloc, parse_number(text.as_bytes(), most))?);
+        return number_text(alloc, parse_number(text.as_bytes(), most));
     }
     let (hex, at) = first_word(arguments);
     let bytes = bytes_of(alloc, hex)?;
     let at = Fields::of(at).number()? as usize;
-    Ok(number_text(alloc, read(name, bytes.as_slice(), at))?)
+    number_text(alloc, read(name, bytes.as_slice(), at))
 }

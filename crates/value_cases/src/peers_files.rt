@@ -1,6 +1,7 @@
 use crate::damage::{cuts, flips};
-use crate::spelled::{bytes_of, chain_of};
-use call_rows::{Fields, Unread};
+use crate::fields::Fields;
+use crate::text::{bytes_of, owned};
+use crate::unread::Unread;
 use peer_rec::Snapshot;
 use peers_file::{Chain, FileFault, read_file, snapshot_text, write_file};
 use std::alloc::Global;
@@ -18,6 +19,17 @@ pub(crate) fn answer(alloc: Global, name: &str, arguments: &str) -> Result<Strin
         "memory-fault" => Ok(format!(in alloc; "{}", FileFault::Memory)?),
         "flips" => flips(alloc, &mut fields),
         "cuts" => cuts(alloc, &mut fields),
+        _ => Err(Unread::Form),
+    }
+}
+
+/// Returns the chain of a name.
+pub(crate) fn chain_of(name: &str) -> Result<Chain, Unread> {
+    match name {
+        "main" => Ok(Chain::Main),
+        "test" => Ok(Chain::Test),
+        "signet" => Ok(Chain::Signet),
+        "regtest" => Ok(Chain::Regtest),
         _ => Err(Unread::Form),
     }
 }
@@ -51,7 +63,7 @@ pub(crate) fn fault_of(
     read: &Result<Snapshot, FileFault>,
 ) -> Result<String, Unread> {
     match read {
-        Ok(_) => Ok(String::from_str(alloc, "none")?),
+        Ok(_) => owned(alloc, "none"),
         Err(FileFault::Memory) => Err(Unread::Memory),
         Err(fault) => Ok(format!(in alloc; "{fault} {fault:?}")?),
     }
@@ -74,7 +86,12 @@ fn is_written_as(
 }
 
 /// Whether what the first file has is written as the second one.
-fn is_rewritten(alloc: Global, chain: Chain, bytes: &[u8], wanted: &[u8]) -> Result<bool, Unread> {
+pub(crate) fn is_rewritten(
+    alloc: Global,
+    chain: Chain,
+    bytes: &[u8],
+    wanted: &[u8],
+) -> Result<bool, Unread> {
     match read_file(alloc, bytes, chain) {
         Ok(snap) => is_written_as(alloc, &snap, chain, wanted),
         Err(_) => Err(Unread::Unmet),
@@ -92,7 +109,7 @@ fn rewritten(alloc: Global, fields: &mut Fields<'_>) -> Result<String, Unread> {
     } else {
         "other"
     };
-    Ok(String::from_str(alloc, answer)?)
+    owned(alloc, answer)
 }
 
 /// Returns a line, counted from 0, of the list of what the file has.
@@ -111,7 +128,7 @@ fn line_of(
         return Err(Unread::Form);
     };
     match text.lines().nth(number as usize) {
-        Some(line) => Ok(String::from_str(alloc, line)?),
-        None => Ok(String::from_str(alloc, "no line")?),
+        Some(line) => owned(alloc, line),
+        None => owned(alloc, "no line"),
     }
 }

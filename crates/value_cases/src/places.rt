@@ -1,7 +1,8 @@
+use crate::fields::{Fields, first_word};
 use crate::text::{bytes_of, hex_text, owned};
+use crate::unread::Unread;
 use asmap_vm::check;
-use call_rows::{Fields, Unread, first_word};
-use net_addr::{NetAddr, Peer, parse_addr, parse_peer};
+use net_addr::{NetAddr, Peer};
 use placing::{Placer, cheap};
 use sha2::{Digest, Sha256};
 use std::alloc::{AllocError, Global};
@@ -10,29 +11,13 @@ use std::alloc::{AllocError, Global};
 const ASMAP: &str = "fb03ec0fb03fc0fe00fb03ec0fb03fc0fe00fb03ec0fb0fffffefffb03020001";
 
 /// SHA-256 of SHA-256 of the bytes.
-fn hashed_twice(bytes: &[u8]) -> [u8; 32] {
+pub(crate) fn hashed_twice(bytes: &[u8]) -> [u8; 32] {
     Sha256::digest(Sha256::digest(bytes).as_slice())
 }
 
 /// The key of Bitcoin Core's own tests.
 fn core_key() -> [u8; 32] {
     hashed_twice(&[1, 0, 0, 0])
-}
-
-/// Parses an address.
-pub(crate) fn addr_of(text: &str) -> Result<NetAddr, Unread> {
-    match parse_addr(text.as_bytes()) {
-        Some(addr) => Ok(addr),
-        None => Err(Unread::Form),
-    }
-}
-
-/// Parses a peer.
-pub(crate) fn peer_of(text: &str) -> Result<Peer, Unread> {
-    match parse_peer(text.as_bytes()) {
-        Some(peer) => Ok(peer),
-        None => Err(Unread::Form),
-    }
 }
 
 /// Returns the new bucket and slot and the tried bucket and slot of the peer, if the source
@@ -52,9 +37,9 @@ pub(crate) fn places(
 
 /// `places PEER SOURCE`: the places under the key of zeros, and those under Bitcoin Core's.
 fn both_places(alloc: Global, arguments: &str) -> Result<String, Unread> {
-    let (peer, source) = first_word(arguments);
-    let peer = peer_of(peer)?;
-    let source = addr_of(source)?;
+    let mut fields = Fields::of(arguments);
+    let peer = fields.peer()?;
+    let source = fields.addr()?;
     let by_zero = places(alloc, &Placer::make([0; 32], None), &peer, &source)?;
     let by_core = places(alloc, &Placer::make(core_key(), None), &peer, &source)?;
     Ok(format!(in alloc; "{by_zero}, {by_core}")?)
@@ -62,7 +47,7 @@ fn both_places(alloc: Global, arguments: &str) -> Result<String, Unread> {
 
 /// Returns the number and the group of the address.
 fn group(alloc: Global, placer: &Placer<'_>, text: &str) -> Result<String, Unread> {
-    let addr = addr_of(text)?;
+    let addr = Fields::of(text).addr()?;
     let group = hex_text(alloc, placer.group(&addr).as_slice())?;
     Ok(format!(in alloc; "{} {group}", placer.asn(&addr))?)
 }
@@ -81,7 +66,7 @@ fn mapped(alloc: Global, name: &str, text: &str) -> Result<String, Unread> {
     };
     let placer = Placer::make([0; 32], Some(asmap));
     if name == "asmap-sum" {
-        return Ok(hex_text(alloc, placer.sum().as_slice())?);
+        return hex_text(alloc, placer.sum().as_slice());
     }
     group(alloc, &placer, text)
 }
@@ -123,9 +108,9 @@ fn choice(alloc: Global, arguments: &str) -> Result<String, Unread> {
 
 /// `new-slot PEER BUCKET`: the slot of the peer in the bucket of the new table.
 fn new_slot(alloc: Global, arguments: &str) -> Result<String, Unread> {
-    let (peer, bucket) = first_word(arguments);
-    let peer = peer_of(peer)?;
-    let bucket = Fields::of(bucket).number()?;
+    let mut fields = Fields::of(arguments);
+    let peer = fields.peer()?;
+    let bucket = fields.number()?;
     if bucket >= 1024 {
         return Err(Unread::Unmet);
     }
@@ -145,13 +130,13 @@ fn next_port(alloc: Global, arguments: &str) -> Result<String, Unread> {
             return Ok(format!(in alloc; "{port}")?);
         }
     }
-    Ok(owned(alloc, "none")?)
+    owned(alloc, "none")
 }
 
 /// `hash HEX`: SHA-256 of SHA-256 of the bytes. `cheap HEX`: its first eight bytes as a number.
 fn hash(alloc: Global, name: &str, bytes: &[u8]) -> Result<String, Unread> {
     if name == "hash" {
-        return Ok(hex_text(alloc, hashed_twice(bytes).as_slice())?);
+        return hex_text(alloc, hashed_twice(bytes).as_slice());
     }
     Ok(format!(in alloc; "{:x}", cheap(bytes))?)
 }

@@ -1,5 +1,6 @@
+use crate::fields::Fields;
 use crate::text::yes_or_no;
-use call_rows::{Fields, Unread};
+use crate::unread::Unread;
 use net_addr::{NetAddr, Peer};
 use peer_rec::{Buckets, Place, Rec};
 use std::alloc::Global;
@@ -47,5 +48,5 @@ pub(crate) fn answer(alloc: Global, name: &str, arguments: &str) -> Result<Strin
     if name == "chance" {
         return Ok(format!(in alloc; "{}", rec.chance(clock))?);
     }
-    Ok(yes_or_no(alloc, rec.terrible(clock))?)
+    yes_or_no(alloc, rec.terrible(clock))
 }

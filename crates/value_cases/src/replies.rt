@@ -1,8 +1,8 @@
 use crate::records::record;
-use crate::text::{owned, text_of};
+use crate::text::{in_one_line, owned};
+use crate::unread::Unread;
 use addr_codecs::MsgFault;
 use arrayvec::ArrayVec;
-use call_rows::Unread;
 use log_lines::{Reply, put_reply};
 use peer_rec::{Buckets, Counts, Good, Peers, Picked, Place, Recs, Resolved};
 use std::alloc::Global;
@@ -71,12 +71,7 @@ fn reply_text(alloc: Global, reply: &Reply) -> Result<String, Unread> {
     if put_reply(reply, &mut text).is_err() {
         return Err(Unread::Memory);
     }
-    for byte in text.iter_mut() {
-        if *byte == b'\n' {
-            *byte = b'|';
-        }
-    }
-    text_of(text)
+    in_one_line(text)
 }
 
 /// Returns `right`, or the first reply that has another line.
@@ -87,7 +82,7 @@ fn first_other(alloc: Global, replies: &[(Reply, &str)]) -> Result<String, Unrea
             return Ok(text);
         }
     }
-    Ok(owned(alloc, "right")?)
+    owned(alloc, "right")
 }
 
 /// `replies`: `right`, or the first reply without a peer that has another line.

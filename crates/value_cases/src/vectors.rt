@@ -1,18 +1,23 @@
-use crate::places::{addr_of, peer_of, places};
-use crate::text::{bytes_of, hex_text, yes_or_no};
+use crate::fields::Fields;
+use crate::places::places;
+use crate::text::{bytes_of, hex_text};
+use crate::unread::Unread;
 use asmap_vm::check;
-use call_rows::{Fields, Unread};
 use placing::Placer;
 use std::alloc::Global;
+
+/// Returns `yes` or `no`.
+fn word_of(yes: bool) -> &'static str {
+    if yes { "yes" } else { "no" }
+}
 
 /// `facts ADDRESS`: the network and the class of the address, its group without an asmap, and
 /// whether it is valid and routable.
 fn facts(alloc: Global, text: &str) -> Result<String, Unread> {
-    let addr = addr_of(text)?;
+    let addr = Fields::of(text).addr()?;
     let group = Placer::make([0; 32], None).group(&addr);
     let group = hex_text(alloc, group.as_slice())?;
-    let valid = yes_or_no(alloc, addr.is_valid())?;
-    let routable = yes_or_no(alloc, addr.is_routable())?;
+    let (valid, routable) = (word_of(addr.is_valid()), word_of(addr.is_routable()));
     Ok(format!(in alloc;
         "{:?} {:?} {group} {valid} {routable}",
         addr.net(),
@@ -29,8 +34,8 @@ fn places_by(alloc: Global, arguments: &str) -> Result<String, Unread> {
         return Err(Unread::Form);
     };
     let map = fields.word();
-    let peer = peer_of(fields.word())?;
-    let source = addr_of(fields.word())?;
+    let peer = fields.peer()?;
+    let source = fields.addr()?;
     if map == "-" {
         return Ok(places(alloc, &Placer::make(key, None), &peer, &source)?);
     }

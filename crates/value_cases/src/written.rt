@@ -3,8 +3,8 @@ ghost use Rattle.std.specs.Prelude.{◌≡◌, IfOk};
 use crate::records::record;
 use crate::replies::two_buckets;
 use crate::text::{bytes_of, hex_text};
+use crate::unread::Unread;
 use addr_codecs::{AddressFault, MsgFault, write_addr, write_addrv2};
-use call_rows::Unread;
 use log_lines::LineFault;
 use net_addr::{Entry, Net, NetAddr, Peer};
 use peer_rec::{Buckets, Counts, Good, Peers, Picked, Place, Rec, Recs, Resolved};
@@ -57,7 +57,7 @@ fn addr_messages(alloc: Global) -> Result<String, Unread> {
 fn one_addrv2(alloc: Global) -> Result<String, Unread> {
     let ipv4 = entry(alloc, Net::Ipv4, "08080808", 1)?;
     match write_addrv2(alloc, &[ipv4]) {
-        Ok(one) => Ok(hex_text(alloc, one.items())?),
+        Ok(one) => hex_text(alloc, one.items()),
         Err(_) => Err(Unread::Memory),
     }
 }
@@ -71,7 +71,7 @@ fn four_addrv2(alloc: Global) -> Result<String, Unread> {
     ipv6.time = u32::MAX;
     ipv6.peer.port = 65535;
     match write_addrv2(alloc, &[onion, i2p, cjdns, ipv6]) {
-        Ok(four) => Ok(hex_text(alloc, four.items())?),
+        Ok(four) => hex_text(alloc, four.items()),
         Err(_) => Err(Unread::Memory),
     }
 }

@@ -1,7 +1,9 @@
 ghost use Rattle.std.specs.Prelude.{◌≡◌};
 
+use crate::fields::Fields;
+use crate::made_files::saved;
+use crate::unread::Unread;
 use crate::{index_calls, restores, table_calls};
-use call_rows::{Calls, Fields, Unread};
 use peer_index::PeerIndex;
 use placing::Placer;
 use std::alloc::Global;
@@ -21,38 +23,39 @@ struct Call<'c> {
     arguments: &'c str,
 }
 
-/// What the calls are made of.
+/// What the calls on tables and on an index are made of.
 #[derive(Drop)]
-pub(crate) struct State {
+pub(crate) struct TablesState {
     tables: Tables<'static, Hasher>,
     index: PeerIndex<Hasher>,
     /// The bytes of a file of peers so far.
     bytes: Vec<u8>,
 }
 
-impl Calls for State {
-    /// Tables under the key of zeros and an index, both empty, and no bytes.
-    fn start(alloc: Global) -> Result<State, Unread> {
+impl TablesState {
+    /// Returns tables under the key of zeros and an index, both empty, and no bytes.
+    pub fn make(alloc: Global) -> Result<TablesState, Unread> {
         let placer = Placer::make([0; 32], None);
         let Ok(tables) = Tables::open(alloc, placer, BuildHasherDefault::new()) else {
             return Err(Unread::Memory);
         };
-        Ok(State {
+        Ok(TablesState {
             tables,
             index: PeerIndex::make(alloc, BuildHasherDefault::new()),
             bytes: Vec::new(alloc),
         })
     }
 
-    fn call(&mut self, alloc: Global, name: &str, arguments: &str) -> Result<String, Unread> {
-        answer::<Brand>(alloc, self, &Call { name, arguments }, Blank::new(1))
+    /// Makes the call with its arguments, and returns the answer.
+    pub fn answer(&mut self, alloc: Global, name: &str, arguments: &str) -> Result<String, Unread> {
+        answer_counted::<Brand>(alloc, self, &Call { name, arguments }, Blank::new(1))
     }
 }
 
 /// Makes a call with a counter of steps, and returns its answer.
-fn answer<L: Ledger>(
+fn answer_counted<L: Ledger>(
     alloc: Global,
-    state: &mut State,
+    state: &mut TablesState,
     call: &Call<'_>,
     blank: Blank,
 ) -> Result<String, Unread>
@@ -67,10 +70,11 @@ fn answer<L: Ledger>(
     }
     let tables = &mut state.tables;
     match call.name {
-        "bytes" | "zeros" | "restore" => {
+        "piece" | "zeros" | "made" | "restore" | "again" | "listing" => {
             let bytes = &mut state.bytes;
             restores::answer(alloc, bytes, tables, call.name, &mut fields, &mut steps)
         }
+        "saved" => saved(alloc, tables, &mut steps),
         name => table_calls::answer(alloc, tables, name, &mut fields, &mut steps),
     }
 }

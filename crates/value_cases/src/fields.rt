@@ -1,13 +1,14 @@
-use crate::Unread;
+use crate::unread::Unread;
+use net_addr::{NetAddr, Peer, parse_addr, parse_peer};
 
 /// The arguments that are left, one space between two of them.
 #[derive(Clone, Copy)]
-pub struct Fields<'a> {
+pub(crate) struct Fields<'a> {
     text: &'a str,
 }
 
 /// Returns the text before the first space, and the text after it.
-pub fn first_word(text: &str) -> (&str, &str) {
+pub(crate) fn first_word(text: &str) -> (&str, &str) {
     match text.split_once(" ") {
         Some(parts) => parts,
         None => (text, ""),
@@ -37,10 +38,25 @@ impl<'a> Fields<'a> {
 
     /// Takes a number below 2^32.
     pub fn small(&mut self) -> Result<u32, Unread> {
-        let number = self.number()?;
-        if number >= 1 << 32 {
-            return Err(Unread::Form);
+        match self.word().parse::<u32>() {
+            Ok(number) => Ok(number),
+            Err(_) => Err(Unread::Form),
         }
-        Ok(number as u32)
+    }
+
+    /// Takes a peer.
+    pub fn peer(&mut self) -> Result<Peer, Unread> {
+        match parse_peer(self.word().as_bytes()) {
+            Some(peer) => Ok(peer),
+            None => Err(Unread::Form),
+        }
+    }
+
+    /// Takes an address.
+    pub fn addr(&mut self) -> Result<NetAddr, Unread> {
+        match parse_addr(self.word().as_bytes()) {
+            Some(addr) => Ok(addr),
+            None => Err(Unread::Form),
+        }
     }
 }

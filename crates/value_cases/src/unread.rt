@@ -1,8 +1,8 @@
 use std::alloc::{AllocError, AllocFailed};
 
 /// Why a call is not made.
-#[derive(Clone, Copy, Debug, PartialEq, Eq)]
-pub enum Unread {
+#[derive(Clone, Copy, Debug)]
+pub(crate) enum Unread {
     /// The line is no call.
     Form,
     /// The call's conditions are not met.

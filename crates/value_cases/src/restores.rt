@@ -1,6 +1,8 @@
-use crate::arguments::owned;
-use crate::state::Hasher;
-use call_rows::{Fields, Unread};
+use crate::fields::Fields;
+use crate::made_files::{Sizes, again, listing, put_file};
+use crate::tables_state::Hasher;
+use crate::text::{bytes_of, owned};
+use crate::unread::Unread;
 use peer_rec::Snapshot;
 use peers_file::{Chain, read_file};
 use placing::Placer;
@@ -10,15 +12,9 @@ use std::sync::ledger::Ledger;
 use steps::Steps;
 use tables::{RestoreFault, Tables};
 
-/// `bytes HEX`: the next bytes of the file.
+/// `piece HEX`: the next bytes of the file.
 fn add_bytes(alloc: Global, digits: &str, bytes: &mut Vec<u8>) -> Result<(), Unread> {
-    match hex::decode(alloc, digits.as_bytes()) {
-        Ok(piece) => {
-            bytes.extend_from_slice(piece.as_slice())?;
-            Ok(())
-        }
-        Err(_) => Err(Unread::Form),
-    }
+    Ok(bytes.extend_from_slice(bytes_of(alloc, digits)?.as_slice())?)
 }
 
 /// `zeros COUNT`: as many bytes of the file are 0.
@@ -59,11 +55,18 @@ fn restore<L: Ledger>(
 ) -> Result<String, Unread> {
     match read_file(alloc, bytes, Chain::Main) {
         Ok(snap) => restored_text(alloc, put_restored(alloc, &snap, tables, steps)),
-        Err(fault) => Ok(format!(in alloc; "{fault:?}")?),
+        Err(fault) => Ok(format!(in alloc; "{fault}")?),
     }
 }
 
-/// Answers the calls above.
+/// Makes the file that the arguments say.
+fn make(bytes: &mut Vec<u8>, fields: &mut Fields<'_>) -> Result<(), Unread> {
+    let (new, tried) = (fields.small()?, fields.small()?);
+    let each = fields.small()?;
+    put_file(bytes, Sizes { new, tried, each })
+}
+
+/// Answers the calls above and those of made files.
 pub(crate) fn answer<L: Ledger>(
     alloc: Global,
     bytes: &mut Vec<u8>,
@@ -73,8 +76,11 @@ pub(crate) fn answer<L: Ledger>(
     steps: &mut Steps<L>,
 ) -> Result<String, Unread> {
     match name {
-        "bytes" => add_bytes(alloc, fields.word(), bytes)?,
+        "piece" => add_bytes(alloc, fields.word(), bytes)?,
         "zeros" => add_zeros(fields.small()?, bytes)?,
+        "made" => make(bytes, fields)?,
+        "again" => return again(alloc, bytes.as_slice()),
+        "listing" => return listing(alloc, bytes.as_slice()),
         _ => return restore(alloc, bytes.as_slice(), tables, steps),
     }
     owned(alloc, "done")

@@ -1,6 +1,7 @@
-use crate::arguments::{addr, owned, peer, peer_text};
-use crate::state::Hasher;
-use call_rows::{Fields, Unread};
+use crate::fields::Fields;
+use crate::tables_state::Hasher;
+use crate::text::{owned, peer_text};
+use crate::unread::Unread;
 use net_addr::{Entry, Net, NetSet, Peer};
 use peer_rec::{Good, Place, Rec};
 use std::alloc::Global;
@@ -61,8 +62,8 @@ fn add<L: Ledger>(
     fields: &mut Fields<'_>,
     steps: &mut Steps<L>,
 ) -> Result<String, Unread> {
-    let peer = peer(fields)?;
-    let source = addr(fields)?;
+    let peer = fields.peer()?;
+    let source = fields.addr()?;
     let entry = Entry {
         time: fields.small()?,
         services: fields.number()?,
@@ -86,7 +87,7 @@ fn good<L: Ledger>(
     fields: &mut Fields<'_>,
     steps: &mut Steps<L>,
 ) -> Result<String, Unread> {
-    let peer = peer(fields)?;
+    let peer = fields.peer()?;
     let is_testing = fields.word() == "test";
     let now = fields.small()?;
     let result = match tables.good(&peer, is_testing, now, steps) {
@@ -201,7 +202,7 @@ pub(crate) fn answer<L: Ledger>(
     match name {
         "add" => add(alloc, tables, fields, steps),
         "good" => good(alloc, tables, fields, steps),
-        "find" | "record" => find(alloc, tables, name == "record", &peer(fields)?, steps),
+        "find" | "record" => find(alloc, tables, name == "record", &fields.peer()?, steps),
         "order" => order(alloc, tables, steps),
         "next" => Ok(format!(in alloc; "{}", tables.next_number())?),
         "new-at" | "tried-at" => {

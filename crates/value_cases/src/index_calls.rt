@@ -1,8 +1,9 @@
 ghost use Rattle.std.specs.Prelude.{◌≡◌};
 
-use crate::arguments::{owned, peer};
-use crate::state::Hasher;
-use call_rows::{Fields, Unread};
+use crate::fields::Fields;
+use crate::tables_state::Hasher;
+use crate::text::owned;
+use crate::unread::Unread;
 use net_addr::{NetAddr, Peer};
 use peer_index::PeerIndex;
 use peer_rec::{Buckets, Place, Rec};
@@ -101,11 +102,11 @@ pub(crate) fn answer<L: Ledger>(
     steps: &mut Steps<L>,
 ) -> Result<String, Unread> {
     match name {
-        "add" => add(alloc, index, peer(fields)?, steps),
-        "remove" => remove(alloc, index, peer(fields)?, steps),
+        "add" => add(alloc, index, fields.peer()?, steps),
+        "remove" => remove(alloc, index, fields.peer()?, steps),
         "swap" => swap(alloc, index, fields, steps),
         "order" => order(alloc, index, steps),
-        "find" => match index.find(&peer(fields)?, steps) {
+        "find" => match index.find(&fields.peer()?, steps) {
             Some(id) => Ok(format!(in alloc; "{id}")?),
             None => owned(alloc, "none"),
         },
