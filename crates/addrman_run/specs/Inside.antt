@@ -27,8 +27,6 @@ use Rattle.addrman_run.specs.declared.tables_fault.TablesFault.{TablesFault}
 use Rattle.addrman_run.specs.declared.tables_fault.TablesFault.TheVariants.{Rows}
 use Rattle.addrman_run.specs.declared.peers_fault.PeersFault.TheVariants.{Duplicate, File}
 use Rattle.addrman_run.specs.Opening.{places_of, tables_of}
-use Rattle.opener_lines.specs.State as opener
-use Rattle.placing.specs.Places.{Places}
 use Rattle.log_run.specs.Run.{Run}
 use Rattle.log_run.specs.declared.end.LogEnd.{LogEnd}
 use Rattle.log_run.specs.declared.end.LogEnd.TheVariants as end
@@ -107,10 +105,6 @@ IsKeyless key NoKey = key ≡ None
 IsKeyless key Memory = ⊤
 IsKeyless key other = ⊥
 
--- An opener, and the key and asmap of its placer.
-pub record Placed : Type 0 where
-  pub opener : opener.State
-  pub places : Places
 
 -- why no tables are opened, by the bytes of the file
 abbrev pub IsNotOpened : Option (List ℕ) → Chain → Option (List ℕ) → Status → Type 0

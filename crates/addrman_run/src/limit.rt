@@ -5,9 +5,8 @@ ghost use Rattle.addrman_run.specs.Limit.{LimitOutcome};
 ghost use Rattle.addrman_run.specs.Outcome.{IsCounted};
 
 use crate::Status;
-use crate::limit_lines::LimitLines;
 use crate::log_status::status_of;
-use addr_limit::connections_are_apart;
+use addr_limit::{LimitLog, connections_are_apart};
 use host_io::{Sink, Source};
 use log_run::run_log;
 use std::alloc::Global;
@@ -24,7 +23,7 @@ pub(crate) fn limit<L: Source, K: Sink>(alloc: Global, log: &mut L, out: &mut K)
     ensures no_disk { result ≢ Status.DiskFault }
 {
     connections_are_apart();
-    let mut lines = LimitLines::make(alloc);
+    let mut lines = LimitLog::make(alloc);
     let mut world = ();
     status_of(run_log(alloc, log, &mut lines, &mut world, out))
 }

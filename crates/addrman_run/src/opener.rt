@@ -8,12 +8,11 @@ ghost use Rattle.addrman_run.specs.Outcome.{IsCounted};
 use crate::Status;
 use crate::input::{Input, load_input};
 use crate::log_status::status_of;
-use crate::opener_steps::OpenerSteps;
 use crate::opening::open_folder;
 use host_io::{Folder, Sink, Source};
 use log_run::run_log;
 use manager::Manager;
-use opener_lines::{groups_stay_apart, tries_are_fair};
+use opener_lines::{OpenerLog, groups_stay_apart, tries_are_fair};
 use peers_file::Chain;
 use std::alloc::Global;
 use std::hash::BuildHasher;
@@ -44,11 +43,11 @@ pub(crate) fn opener<L: Source, F: Folder, K: Sink, H: BuildHasher + Drop>(
         Ok(bytes) => bytes,
         Err(status) => return status,
     };
-    let (tables, placer) = match open_folder(alloc, hasher, key, chain, &bytes, folder) {
+    let (tables, _) = match open_folder(alloc, hasher, key, chain, &bytes, folder) {
         Ok(opened) => opened,
         Err(status) => return status,
     };
-    let mut lines = OpenerSteps::make(Manager::open(tables), placer);
+    let mut lines = OpenerLog::make(Manager::open(tables));
     let mut world = ();
     status_of(run_log(alloc, log, &mut lines, &mut world, out))
 }

@@ -1,36 +1,30 @@
 -- The peers that are taken keep the rules.
-use Rattle.std.proofs.Common.{◌≡◌, ◌≢◌, ℕ, ◌-◌, ◌<◌, ◌≤◌, List, inl, inr, refl, sym, ap, subst, ◌∙◌, arith, Contains, Bool, true, false, nat_lt, nat_le, ◌&&◌, if◌then◌else◌}
+use Rattle.std.proofs.Common.{◌≡◌, ℕ, List, inl, inr, refl, sym, ap, subst, ◌∙◌, Contains}
 use Rattle.net_addr.specs.declared.peer.Peer.{Peer}
-use Rattle.placing.specs.Places.{Places, group}
+use Rattle.placing.specs.Places.{group}
 use Rattle.peer_rec.specs.declared.picked.Picked.{Picked}
 use Rattle.peer_rec.specs.declared.picked.Picked.TheVariants as picked
 use Rattle.table_machine.specs.Clashes.{clash_pick}
 use Rattle.manager.specs.Machine.{Machine}
 use Rattle.peer_open.specs.Groups.{Outbound, AreApart, groups}
-use Rattle.peer_open.specs.Verdicts.{IsTooSoon, judge, judge_feeler}
 use Rattle.peer_open.specs.declared.verdict.Verdict.{Verdict}
 use Rattle.peer_open.specs.declared.verdict.Verdict.TheVariants as verdict
 use Rattle.peer_open.proofs.Apart.{apart-with_peer, apart-without_peer}
 use Rattle.peer_open.proofs.Judged.{taken_apart, taken_late, feeler_late}
-use Rattle.opener_lines.specs.Fair.{IsFair, IsLateIfRecent, IsTry}
+use Rattle.opener_lines.specs.Fair.{IsFair}
 use Rattle.opener_lines.specs.Lines.{LineStep}
-use Rattle.opener_lines.specs.State.{Answer, Closed, FeelerStep, Full, GaveUp, NoPeer, Opened, OutboundStep, State, Step, Tested, Told, after_clash, answer_to_feeler, answer_to_outbound, peers_after}
-use Rattle.opener_lines.specs.Tries.{HasOutcome, IsFirst, pick_by, try_by, try_of_pick, try_of_verdict, verdict_by}
-use Rattle.opener_lines.specs.declared.aim.Aim.{Aim}
-use Rattle.opener_lines.specs.declared.aim.Aim.TheVariants as aim
+use Rattle.opener_lines.specs.State.{Answer, State, Step, after_clash, answer_to_feeler, answer_to_outbound, peers_after}
+use Rattle.opener_lines.specs.Tries.{HasOutcome, pick_by, try_by, try_of_pick, try_of_verdict, verdict_by, Aim, ToKeep, ToTest, Try, Take, NoneLeft, Next}
 use Rattle.opener_lines.specs.declared.request.Request.{Request}
 use Rattle.opener_lines.specs.declared.request.Request.TheVariants as request
 use Rattle.opener_lines.specs.declared.tries.Outcome.{Outcome}
 use Rattle.opener_lines.specs.declared.tries.Outcome.TheVariants as outcome
-use Rattle.opener_lines.specs.declared.tries.Try.{Try}
-use Rattle.opener_lines.specs.declared.tries.Try.TheVariants.{Take, Next}
-use Rattle.opener_lines.specs.declared.tries.Try.TheVariants as try
 
 -- ---- what a try took
 
 taken_peer : Peer → Try → Peer
 taken_peer p (Take q) = q
-taken_peer p try.Nothing = p
+taken_peer p NoneLeft = p
 taken_peer p Next = p
 
 -- a verdict that takes a peer
@@ -64,10 +58,10 @@ taken m open_peers goal seed peer i e = by (pick_by m goal seed i) refl e
 
 -- ---- groups
 
-outbound_apart : (m : Machine) (open_peers : List Outbound) (seed : ℕ) (found : Outcome) → HasOutcome (try_by m open_peers aim.Outbound seed) found
+outbound_apart : (m : Machine) (open_peers : List Outbound) (seed : ℕ) (found : Outcome) → HasOutcome (try_by m open_peers ToKeep seed) found
     → AreApart open_peers → AreApart (peers_after m.tables.places found open_peers)
 outbound_apart m open_peers seed (outcome.Taken peer i) h apart =
-    let t = taken m open_peers aim.Outbound seed peer i h.comes in
+    let t = taken m open_peers ToKeep seed peer i h.comes in
     apart-with_peer peer (group m.tables.places peer.addr) open_peers apart
     (taken_apart open_peers (group m.tables.places peer.addr) t.last_try m.clock i t.verdict)
 outbound_apart m open_peers seed outcome.Nothing h apart = apart
@@ -88,10 +82,10 @@ line_apart old new line text (inr step) apart = step_apart old new step.0 step.1
 
 -- ---- tries
 
-fair_outbound : (old : State) (seed : ℕ) (found : Outcome) → HasOutcome (try_by old.machine old.open_peers aim.Outbound seed) found
+fair_outbound : (old : State) (seed : ℕ) (found : Outcome) → HasOutcome (try_by old.machine old.open_peers ToKeep seed) found
     → IsFair old (request.Outbound seed) (answer_to_outbound old.machine.tables.places found)
 fair_outbound old seed (outcome.Taken peer i) h =
-    let t = taken old.machine old.open_peers aim.Outbound seed peer i h.comes in (
+    let t = taken old.machine old.open_peers ToKeep seed peer i h.comes in (
       (h.least, h.most),
       record {
         last_try = t.last_try;
@@ -103,10 +97,10 @@ fair_outbound old seed outcome.Nothing h = tt
 fair_outbound old seed outcome.GaveUp h = tt
 
 fair_feeler : (old : State) (seed word : ℕ) (found : Outcome)
-    → HasOutcome (try_by (after_clash old.machine word) old.open_peers (aim.Feeler (clash_pick old.machine.tables word).answer) seed) found
+    → HasOutcome (try_by (after_clash old.machine word) old.open_peers (ToTest (clash_pick old.machine.tables word).answer) seed) found
     → IsFair old (request.Feeler seed word) (answer_to_feeler found)
 fair_feeler old seed word (outcome.Taken peer i) h =
-    let t = taken (after_clash old.machine word) old.open_peers (aim.Feeler (clash_pick old.machine.tables word).answer) seed peer i h.comes in
+    let t = taken (after_clash old.machine word) old.open_peers (ToTest (clash_pick old.machine.tables word).answer) seed peer i h.comes in
     ((h.least, h.most), record { last_try = t.last_try; picked = t.picked; late = feeler_late t.last_try old.machine.clock i t.verdict })
 fair_feeler old seed word outcome.Nothing h = tt
 fair_feeler old seed word outcome.GaveUp h = tt
@@ -124,10 +118,9 @@ step_fair old new (request.Close peer) answer step = fair_close old peer answer
 step_fair old new (request.Machine command) answer step = tt
 
 -- the group of the peer that the tries took is that of no open peer
-pub no_group : (m : Machine) (open_peers : List Outbound) (seed : ℕ) (found : Outcome) (peer : Peer) (i : ℕ) (its_group : List ℕ)
-    → HasOutcome (try_by m open_peers aim.Outbound seed) found → found ≡ outcome.Taken peer i → its_group ≡ group m.tables.places peer.addr
+pub no_group : (m : Machine) (open_peers : List Outbound) (seed : ℕ) (peer : Peer) (i : ℕ) (its_group : List ℕ)
+    → HasOutcome (try_by m open_peers ToKeep seed) (outcome.Taken peer i) → its_group ≡ group m.tables.places peer.addr
     → ¬ Contains (groups open_peers) its_group
-no_group m open_peers seed found peer i its_group h is same =
-    let first = subst (HasOutcome (try_by m open_peers aim.Outbound seed)) is h in
-    let t = taken m open_peers aim.Outbound seed peer i first.comes in
+no_group m open_peers seed peer i its_group first same =
+    let t = taken m open_peers ToKeep seed peer i first.comes in
     subst (λ g. ¬ Contains (groups open_peers) g) (sym same) (taken_apart open_peers (group m.tables.places peer.addr) t.last_try m.clock i t.verdict)

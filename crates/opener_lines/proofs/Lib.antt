@@ -1,6 +1,5 @@
-pub mod Prefixes
-pub mod Keywords
 pub mod OneMeaning
+pub mod Prefixes
 pub mod Outcomes
 pub mod Done
 pub mod Fairness

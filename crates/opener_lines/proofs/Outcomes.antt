@@ -1,14 +1,16 @@
 -- Tries have one outcome.
-use Rattle.std.proofs.Common.{◌≡◌, ◌≢◌, ◌⊎◌, ℕ, zero, suc, ◌+◌, ◌<◌, ◌≤◌, inl, inr, refl, sym, ap, subst, ◌∙◌, arith}
+use Rattle.std.proofs.Common.{◌≡◌, ◌≢◌, ◌⊎◌, ℕ, zero, suc, ◌+◌, ◌≤◌, List, inl, inr, refl, sym, ap, subst, ◌∙◌, arith}
 use Rattle.std.proofs.lemmas.Bool.Decides.{leb_tells}
 use Rattle.net_addr.specs.declared.peer.Peer.{Peer}
+use Rattle.peer_rec.specs.declared.picked.Picked.{Picked}
+use Rattle.peer_rec.specs.declared.picked.Picked.TheVariants as picked
+use Rattle.manager.specs.Machine.{Machine}
+use Rattle.peer_open.specs.Groups.{Outbound}
 use Rattle.peer_open.specs.declared.opener.TheConstants.{MAX_TRIES}
-use Rattle.opener_lines.specs.Tries.{HasOutcome, IsFirst, NoneBefore}
+use Rattle.peer_open.specs.declared.verdict.Verdict.{Verdict}
+use Rattle.opener_lines.specs.Tries.{Aim, HasOutcome, IsFirst, NoneBefore, pick_by, try_by, try_of_pick, try_of_verdict, verdict_by, Try, Take, NoneLeft, Next}
 use Rattle.opener_lines.specs.declared.tries.Outcome.{Outcome}
 use Rattle.opener_lines.specs.declared.tries.Outcome.TheVariants as outcome
-use Rattle.opener_lines.specs.declared.tries.Try.{Try}
-use Rattle.opener_lines.specs.declared.tries.Try.TheVariants.{Take, Next}
-use Rattle.opener_lines.specs.declared.tries.Try.TheVariants as try
 
 -- before the first try
 pub none_before_one : (tries : ℕ → Try) → NoneBefore tries 1
@@ -30,7 +32,7 @@ search_tries tries (suc n) h = with (search_tries tries n (omega (arith, h))) (t
         → ((found : Outcome) × HasOutcome tries found) ⊎ NoneBefore tries (suc n + 1)
     with (inl found) t is = inl found
     with (inr before) (Take peer) is = inl (outcome.Taken peer (suc n), record { least = omega arith; most = h; before = λ j least within. before j least (omega (arith, within)); comes = is })
-    with (inr before) try.Nothing is = inl (outcome.Nothing, (suc n, record { least = omega arith; most = h; before = λ j least within. before j least (omega (arith, within)); comes = is }))
+    with (inr before) NoneLeft is = inl (outcome.Nothing, (suc n, record { least = omega arith; most = h; before = λ j least within. before j least (omega (arith, within)); comes = is }))
     with (inr before) Next is = inr (none_before_next tries (suc n) (λ j least within. before j least (omega (arith, within))) is)
 
 -- the tries have an outcome
@@ -55,16 +57,16 @@ gave_up tries i a decides h none = decides (sym h.comes ∙ none i h.least (omeg
 
 taken_peer : Peer → Try → Peer
 taken_peer p (Take q) = q
-taken_peer p try.Nothing = p
+taken_peer p NoneLeft = p
 taken_peer p Next = p
 
 takes : (peer : Peer) → Take peer ≢ Next
 takes peer e = cc e
 
-ends : try.Nothing ≢ Next
+ends : NoneLeft ≢ Next
 ends e = cc e
 
-apart : (peer : Peer) → Take peer ≡ try.Nothing → ⊥
+apart : (peer : Peer) → Take peer ≡ NoneLeft → ⊥
 apart peer e = cc e
 
 -- and only one
@@ -74,16 +76,27 @@ one_outcome tries (outcome.Taken p i) (outcome.Taken q j) h k =
     let same = same_first tries i j (Take p) (Take q) (takes p) (takes q) h k in
     let peers = ap (taken_peer p) same.1 in
     λ n. outcome.Taken (peers n) (same.0 n)
-one_outcome tries (outcome.Taken p i) outcome.Nothing h k = absurd (apart p (same_first tries i k.0 (Take p) try.Nothing (takes p) ends h k.1).1)
+one_outcome tries (outcome.Taken p i) outcome.Nothing h k = absurd (apart p (same_first tries i k.0 (Take p) NoneLeft (takes p) ends h k.1).1)
 one_outcome tries (outcome.Taken p i) outcome.GaveUp h k = absurd (gave_up tries i (Take p) (takes p) h k)
-one_outcome tries outcome.Nothing (outcome.Taken q j) h k = absurd (apart q (same_first tries j h.0 (Take q) try.Nothing (takes q) ends k h.1).1)
+one_outcome tries outcome.Nothing (outcome.Taken q j) h k = absurd (apart q (same_first tries j h.0 (Take q) NoneLeft (takes q) ends k h.1).1)
 one_outcome tries outcome.Nothing outcome.Nothing h k = refl
-one_outcome tries outcome.Nothing outcome.GaveUp h k = absurd (gave_up tries h.0 try.Nothing ends h.1 k)
+one_outcome tries outcome.Nothing outcome.GaveUp h k = absurd (gave_up tries h.0 NoneLeft ends h.1 k)
 one_outcome tries outcome.GaveUp (outcome.Taken q j) h k = absurd (gave_up tries j (Take q) (takes q) k h)
-one_outcome tries outcome.GaveUp outcome.Nothing h k = absurd (gave_up tries k.0 try.Nothing ends k.1 h)
+one_outcome tries outcome.GaveUp outcome.Nothing h k = absurd (gave_up tries k.0 NoneLeft ends k.1 h)
 one_outcome tries outcome.GaveUp outcome.GaveUp h k = refl
 
--- the first try that takes a peer
-pub first_take : (tries : ℕ → Try) (i : ℕ) (found : Try) (peer : Peer) → 1 ≤ i → i ≤ MAX_TRIES → NoneBefore tries i → found ≡ tries i → found ≡ Take peer
-    → IsFirst tries i (Take peer)
-first_take tries i found peer least most before comes is = record { least = least; most = most; before = before; comes = sym comes ∙ is }
+-- ---- by the pick of a try
+
+pub taken_or_next : (m : Machine) (open_peers : List Outbound) (goal : Aim) (seed i : ℕ) (p : Picked) (peer : Peer) (last_try : ℕ) (v : Verdict)
+    → p ≡ pick_by m goal seed i → p ≡ picked.One peer last_try → v ≡ verdict_by goal m.tables.places open_peers peer last_try m.clock i
+    → try_by m open_peers goal seed i ≡ try_of_verdict v peer
+taken_or_next m open_peers goal seed i p peer last_try v by is judged =
+    ap (try_of_pick (λ q t. verdict_by goal m.tables.places open_peers q t m.clock i)) (sym by ∙ is) ∙ ap (λ v. try_of_verdict v peer) (sym judged)
+
+pub none_left : (m : Machine) (open_peers : List Outbound) (goal : Aim) (seed i : ℕ) (p : Picked) → p ≡ pick_by m goal seed i → p ≡ picked.Nothing
+    → try_by m open_peers goal seed i ≡ NoneLeft
+none_left m open_peers goal seed i p by is = ap (try_of_pick (λ q t. verdict_by goal m.tables.places open_peers q t m.clock i)) (sym by ∙ is)
+
+pub words_end : (m : Machine) (open_peers : List Outbound) (goal : Aim) (seed i : ℕ) (p : Picked) → p ≡ pick_by m goal seed i → p ≡ picked.Exhausted
+    → try_by m open_peers goal seed i ≡ Next
+words_end m open_peers goal seed i p by is = ap (try_of_pick (λ q t. verdict_by goal m.tables.places open_peers q t m.clock i)) (sym by ∙ is)

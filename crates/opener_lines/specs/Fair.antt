@@ -1,13 +1,11 @@
 -- What holds of the peers that an opener takes.
-use Rattle.std.specs.Prelude.{◌≡◌, ℕ, ◌-◌, ◌<◌, ◌≤◌, List, [], Option}
+use Rattle.std.specs.Prelude.{◌≡◌, ℕ, ◌-◌, ◌<◌, ◌≤◌}
 use Rattle.net_addr.specs.declared.peer.Peer.{Peer}
 use Rattle.peer_rec.specs.declared.picked.Picked.TheVariants as picked
 use Rattle.manager.specs.Machine.{Machine}
 use Rattle.peer_open.specs.declared.opener.TheConstants.{MAX_TRIES}
-use Rattle.opener_lines.specs.State.{Answer, State, Step, Opened, Tested, after_clash}
-use Rattle.opener_lines.specs.Tries.{pick_by}
-use Rattle.opener_lines.specs.declared.aim.Aim.{Aim}
-use Rattle.opener_lines.specs.declared.aim.Aim.TheVariants as aim
+use Rattle.opener_lines.specs.State.{Answer, State, Opened, Tested, after_clash}
+use Rattle.opener_lines.specs.Tries.{pick_by, Aim, ToKeep, ToTest}
 use Rattle.opener_lines.specs.declared.request.Request.{Request}
 use Rattle.opener_lines.specs.declared.request.Request.TheVariants as request
 use Rattle.table_machine.specs.Clashes.{clash_pick}
@@ -25,7 +23,7 @@ IsTry i = (1 ≤ i) × (i ≤ MAX_TRIES)
 
 -- the peer that an answer names was taken by the rules
 abbrev pub IsFair : State → Request → Answer → Type 0
-IsFair old (request.Outbound seed) (Opened peer group i) = IsTry i × IsLateIfRecent old.machine aim.Outbound seed peer i
+IsFair old (request.Outbound seed) (Opened peer group i) = IsTry i × IsLateIfRecent old.machine ToKeep seed peer i
 IsFair old (request.Feeler seed word) (Tested peer i) =
-    IsTry i × IsLateIfRecent (after_clash old.machine word) (aim.Feeler (clash_pick old.machine.tables word).answer) seed peer i
+    IsTry i × IsLateIfRecent (after_clash old.machine word) (ToTest (clash_pick old.machine.tables word).answer) seed peer i
 IsFair old asked answer = Unit {0}

@@ -1,68 +1,73 @@
 -- Which line of an opener's log asks for what, and what is wrong in a line that asks for nothing.
-use Rattle.std.specs.Prelude.{◌≡◌, ◌⊎◌, ℕ, List, [], ◌∷◌, codes, ⊤}
+use Rattle.std.specs.Prelude.{◌≡◌, ℕ, List, [], ◌∷◌, Option, Some, None, bytes_eq, codes, find}
 use Rattle.host_io.specs.Lines.{IsPassedOver}
-use Rattle.grammar.specs.Fields.{Kind, OfPeer, Value, TheNumber, ThePeer, AllMean, AreAtFault, u32_field, u64_field}
+use Rattle.net_addr.specs.declared.peer.Peer.{Peer}
+use Rattle.grammar.specs.Fields.{OfPeer, TheNumber, ThePeer, u32_field, u64_field, AllMean, AreAtFault}
+use Rattle.grammar.specs.Reading.{Says}
 use Rattle.grammar.specs.Words.{fields_of}
-use Rattle.log_lines.specs.Spelling as machine
 use Rattle.grammar.specs.declared.fault.LineFault.{LineFault}
 use Rattle.grammar.specs.declared.fault.LineFault.TheVariants as fault
-use Rattle.log_lines.specs.declared.verb.Verb as machine_verb
+use Rattle.log_lines.specs.Spelling as log
+use Rattle.log_lines.specs.declared.command.Command.{Command}
 use Rattle.log_lines.specs.declared.verb.Verb.TheVariants as v
-use Rattle.manager.specs.Step.{SavesNothing}
 use Rattle.opener_lines.specs.declared.request.Request.{Request}
 use Rattle.opener_lines.specs.declared.request.Request.TheVariants as request
 use Rattle.opener_lines.specs.declared.verb.Verb.{Verb}
-use Rattle.opener_lines.specs.declared.verb.Verb.TheVariants.{Outbound, Feeler, Close}
+use Rattle.opener_lines.specs.declared.verb.Verb.TheVariants.{Outbound, Feeler, Close, Log}
 
--- the first word of a line of the opener's own
+-- the first word of a line
 abbrev pub word_of : Verb → List ℕ
 word_of Outbound = codes "outbound"
 word_of Feeler = codes "feeler"
 word_of Close = codes "close"
+word_of (Log verb) = log.word_of verb
 
--- the kinds of the fields after it
-abbrev pub kinds_of : Verb → List Kind
-kinds_of Outbound = u32_field ∷ []
-kinds_of Feeler = u32_field ∷ u64_field ∷ []
-kinds_of Close = OfPeer ∷ []
+-- the opener's own verbs, and those of the address manager's log that do not save
+abbrev pub verbs : List Verb
+verbs =
+    Outbound ∷ Feeler ∷ Close ∷ Log v.Now ∷ Log v.Addr ∷ Log v.Addr2 ∷ Log v.Good ∷ Log v.Attempt
+    ∷ Log v.Connected ∷ Log v.Services ∷ Log v.Find ∷ Log v.Size ∷ Log v.Select ∷ Log v.Sample
+    ∷ Log v.Resolve ∷ Log v.Clash ∷ Log v.Dump ∷ []
 
-abbrev pub IsOwnWord : List ℕ → Type 0
-IsOwnWord word = (verb : Verb) × (word ≡ word_of verb)
+-- the verb of a first word, if it is a keyword
+abbrev pub verb_at : List ℕ → Option Verb
+verb_at word = find (λ verb. bytes_eq (word_of verb) word) verbs
 
--- the keywords of the lines that save, which an opener's log does not have
-abbrev pub Saves : machine_verb.Verb → Type 0
-Saves v.Save = ⊤
-Saves v.SaveBegin = ⊤
-Saves v.SaveStep = ⊤
-Saves v.SaveEnd = ⊤
-Saves other = ⊥
+-- the texts after a verb ask for the request
+abbrev pub AsksBy : Option Verb → List (List ℕ) → Request → Type 0
+AsksBy None texts asked = ⊥
+AsksBy (Some Outbound) texts asked =
+    (seed : ℕ) × AllMean (u32_field ∷ []) texts (TheNumber seed ∷ [])
+    × (asked ≡ request.Outbound seed)
+AsksBy (Some Feeler) texts asked =
+    (seed : ℕ) × (word : ℕ)
+    × AllMean (u32_field ∷ u64_field ∷ []) texts (TheNumber seed ∷ TheNumber word ∷ [])
+    × (asked ≡ request.Feeler seed word)
+AsksBy (Some Close) texts asked =
+    (peer : Peer) × AllMean (OfPeer ∷ []) texts (ThePeer peer ∷ []) × (asked ≡ request.Close peer)
+AsksBy (Some (Log verb)) texts asked =
+    (command : Command) × log.SpellsAfter (log.word_of verb) texts command
+    × (asked ≡ request.Machine command)
 
-abbrev pub IsSaveWord : List ℕ → Type 0
-IsSaveWord word = (verb : machine_verb.Verb) × Saves verb × (word ≡ machine.word_of verb)
+-- the same by the first word
+abbrev pub AsksAfter : List ℕ → List (List ℕ) → Request → Type 0
+AsksAfter word texts asked = AsksBy (verb_at word) texts asked
 
--- the fields after this word of the opener's own ask for the request
-abbrev pub AsksAfter : Verb → List (List ℕ) → Request → Type 0
-AsksAfter verb texts (request.Outbound seed) = (verb ≡ Outbound) × AllMean (kinds_of Outbound) texts (TheNumber seed ∷ [])
-AsksAfter verb texts (request.Feeler seed word) = (verb ≡ Feeler) × AllMean (kinds_of Feeler) texts (TheNumber seed ∷ TheNumber word ∷ [])
-AsksAfter verb texts (request.Close peer) = (verb ≡ Close) × AllMean (kinds_of Close) texts (ThePeer peer ∷ [])
-AsksAfter verb texts (request.Machine command) = ⊥
+-- what is wrong: the first word is no keyword, or else in the texts after it
+abbrev pub FaultBy : Option Verb → List (List ℕ) → LineFault → Type 0
+FaultBy None texts f = f ≡ fault.Word
+FaultBy (Some Outbound) texts f = AreAtFault (u32_field ∷ []) texts f
+FaultBy (Some Feeler) texts f = AreAtFault (u32_field ∷ u64_field ∷ []) texts f
+FaultBy (Some Close) texts f = AreAtFault (OfPeer ∷ []) texts f
+FaultBy (Some (Log verb)) texts f = log.HasFaultAfter (log.word_of verb) texts f
 
-abbrev pub AsksOwn : List ℕ → Request → Type 0
-AsksOwn line asked = (verb : Verb) × (texts : List (List ℕ)) × (fields_of line ≡ word_of verb ∷ texts) × AsksAfter verb texts asked
+abbrev pub FaultAfter : List ℕ → List (List ℕ) → LineFault → Type 0
+FaultAfter word texts f = FaultBy (verb_at word) texts f
 
--- the line asks for the request: one of the opener's own, or a command that does not save
+-- the line asks for the request
 abbrev pub Asks : List ℕ → Request → Type 0
-Asks line (request.Machine command) = machine.Spells line command × SavesNothing command
-Asks line other = AsksOwn line other
-
--- What is wrong in a line that begins with this word: a field after a word of the opener's own, or
--- how many there are; a word that saves; or what is wrong in a line of the address manager.
-abbrev pub HasFaultAfter : List ℕ → List (List ℕ) → List ℕ → LineFault → Type 0
-HasFaultAfter word texts line f =
-    ((verb : Verb) × (word ≡ word_of verb) × AreAtFault (kinds_of verb) texts f)
-    ⊎ ((IsSaveWord word × (f ≡ fault.Word)) ⊎ (¬ IsOwnWord word × ¬ IsSaveWord word × machine.HasFault line f))
+Asks line asked = Says AsksAfter (fields_of line) asked
 
 -- what is wrong in a line that is not passed over
 abbrev pub HasFault : List ℕ → LineFault → Type 0
-HasFault line f =
-    ¬ IsPassedOver line × ((word : List ℕ) × (texts : List (List ℕ)) × (fields_of line ≡ word ∷ texts) × HasFaultAfter word texts line f)
+HasFault line f = ¬ IsPassedOver line × Says FaultAfter (fields_of line) f

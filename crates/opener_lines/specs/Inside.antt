@@ -1,9 +1,15 @@
 -- Words of private contracts.
 use Rattle.std.specs.Prelude.{◌≡◌, ◌⊎◌, ℕ, List, ⊤}
-use Rattle.log_lines.specs.declared.command.Command.{Command}
 use Rattle.manager.specs.Machine.{Machine}
 use Rattle.manager.specs.Step as manager
+use Rattle.peer_open.specs.Groups.{Outbound}
+use Rattle.placing.specs.Places.{Places, group}
 use Rattle.opener_lines.specs.State.{Answer, State, Step}
+use Rattle.opener_lines.specs.Tries.{HasOutcome, ToKeep, try_by}
+use Rattle.opener_lines.specs.declared.tries.Found.{Found}
+use Rattle.opener_lines.specs.declared.tries.Found.TheVariants as found
+use Rattle.opener_lines.specs.declared.tries.Outcome.{Outcome}
+use Rattle.opener_lines.specs.declared.tries.Outcome.TheVariants as outcome
 use Rattle.opener_lines.specs.declared.request.Request.{Request}
 use Rattle.opener_lines.specs.declared.request.Request.TheVariants as request
 
@@ -21,3 +27,19 @@ LeavesMessage old other new = ⊥
 -- what a request leaves that ran out of memory
 abbrev pub Leaves : State → Request → State → Type 0
 Leaves old asked new = (new ≡ old) ⊎ (((answer : Answer) × Step old asked answer new) ⊎ LeavesMessage old asked new)
+
+-- what the tries of an outbound connection come to, without the group of the peer
+abbrev pub outcome_of : Found → Outcome
+outcome_of (found.Taken peer its_group tries) = outcome.Taken peer tries
+outcome_of found.Nothing = outcome.Nothing
+outcome_of found.GaveUp = outcome.GaveUp
+
+-- the group is that of the peer, if there is one
+abbrev pub HasGroup : Places → Found → Type 0
+HasGroup places (found.Taken peer its_group tries) = its_group.items ≡ group places peer.addr
+HasGroup places other = ⊤
+
+-- what the tries of an outbound connection come to
+pub record Finds (m : Machine) (open_peers : List Outbound) (seed : ℕ) (found : Found) : Type 0 where
+  pub outcome : HasOutcome (try_by m open_peers ToKeep seed) (outcome_of found)
+  pub group : HasGroup m.tables.places found

@@ -1,4 +1,5 @@
 pub mod Grammar
+pub mod Laws
 pub mod Tries
 pub mod State
 pub mod Texts

@@ -1,5 +1,5 @@
 -- The address manager with the open outbound peers, and what a request does to them.
-use Rattle.std.specs.Prelude.{◌≡◌, ◌⊎◌, ℕ, ◌<◌, List, [], Bool, length, Option}
+use Rattle.std.specs.Prelude.{◌≡◌, ◌⊎◌, ℕ, ◌<◌, List, Bool, length}
 use Rattle.net_addr.specs.declared.peer.Peer.{Peer}
 use Rattle.placing.specs.Places.{Places, group}
 use Rattle.table_machine.specs.Clashes.{clash_pick}
@@ -8,8 +8,7 @@ use Rattle.manager.specs.Machine.{Machine}
 use Rattle.manager.specs.Step as manager
 use Rattle.peer_open.specs.Groups.{Outbound, is_open, with_peer, without_peer}
 use Rattle.peer_open.specs.declared.opener.TheConstants.{MAX_OUTBOUND}
-use Rattle.opener_lines.specs.Tries.{HasOutcome, try_by}
-use Rattle.opener_lines.specs.declared.aim.Aim.TheVariants as aim
+use Rattle.opener_lines.specs.Tries.{HasOutcome, try_by, ToKeep, ToTest}
 use Rattle.opener_lines.specs.declared.request.Request.{Request}
 use Rattle.opener_lines.specs.declared.request.Request.TheVariants as request
 use Rattle.opener_lines.specs.declared.tries.Outcome.{Outcome}
@@ -52,7 +51,7 @@ peers_after places other open_peers = open_peers
 abbrev pub OutboundStep : State → ℕ → Answer → State → Type 0
 OutboundStep old seed answer new =
     ((length old.open_peers ≡ MAX_OUTBOUND) × (answer ≡ Full) × (new ≡ old))
-    ⊎ ((length old.open_peers < MAX_OUTBOUND) × ((found : Outcome) × HasOutcome (try_by old.machine old.open_peers aim.Outbound seed) found
+    ⊎ ((length old.open_peers < MAX_OUTBOUND) × ((found : Outcome) × HasOutcome (try_by old.machine old.open_peers ToKeep seed) found
     × (answer ≡ answer_to_outbound old.machine.tables.places found)
     × (new ≡ record old { open_peers = peers_after old.machine.tables.places found old.open_peers })))
 
@@ -64,7 +63,7 @@ after_clash m word = record m { tables = (clash_pick m.tables word).state }
 abbrev pub FeelerStep : State → ℕ → ℕ → Answer → State → Type 0
 FeelerStep old seed word answer new =
     (found : Outcome)
-    × HasOutcome (try_by (after_clash old.machine word) old.open_peers (aim.Feeler (clash_pick old.machine.tables word).answer) seed) found
+    × HasOutcome (try_by (after_clash old.machine word) old.open_peers (ToTest (clash_pick old.machine.tables word).answer) seed) found
     × (answer ≡ answer_to_feeler found) × (new ≡ record old { machine = after_clash old.machine word })
 
 -- what a request is answered, and the state after it

@@ -1,5 +1,5 @@
 -- The text of each answer, with its line feed.
-use Rattle.std.specs.Prelude.{ℕ, List, [], ◌∷◌, ◌++◌, Bool, true, false, codes, decimal}
+use Rattle.std.specs.Prelude.{ℕ, List, ◌++◌, Bool, true, false, codes, decimal}
 use Rattle.hex.specs.Hex.{encode_lower}
 use Rattle.net_addr.specs.Text.{peer_text}
 use Rattle.net_addr.specs.declared.peer.Peer.{Peer}

@@ -14,15 +14,24 @@ use Rattle.peer_open.specs.Verdicts.{judge, judge_feeler}
 use Rattle.peer_open.specs.declared.opener.TheConstants.{MAX_TRIES}
 use Rattle.peer_open.specs.declared.verdict.Verdict.{Verdict}
 use Rattle.peer_open.specs.declared.verdict.Verdict.TheVariants as verdict
-use Rattle.opener_lines.specs.declared.aim.Aim.{Aim}
-use Rattle.opener_lines.specs.declared.aim.Aim.TheVariants as aim
+use Rattle.opener_lines.specs.declared.pick.TheConstants.{TRY_WORDS}
 use Rattle.opener_lines.specs.declared.tries.Outcome.{Outcome}
 use Rattle.opener_lines.specs.declared.tries.Outcome.TheVariants.{Taken, GaveUp}
 use Rattle.opener_lines.specs.declared.tries.Outcome.TheVariants as outcome
-use Rattle.opener_lines.specs.declared.tries.Try.{Try}
-use Rattle.opener_lines.specs.declared.tries.Try.TheVariants.{Take, Next}
-use Rattle.opener_lines.specs.declared.tries.Try.TheVariants as try
-use Rattle.opener_lines.specs.declared.words.TheConstants.{TRY_WORDS}
+
+-- What a connection is opened for: to keep it, or to test a peer. The candidate of the first try of
+-- a test is the occupant of a collision's slot, if there is one; it comes with the time when it was
+-- last tried.
+pub data Aim : Type 0 where
+  ToKeep : Aim
+  ToTest : (occupant : Option (Peer × ℕ)) → Aim
+
+-- What one try comes to: the peer is taken; there is no peer to take; or the try does not decide,
+-- and the next one is made.
+pub data Try : Type 0 where
+  Take : (peer : Peer) → Try
+  NoneLeft : Try
+  Next : Try
 
 -- the random words of try i: those of a field `@V:10000` with V = seed + i
 abbrev pub try_words : ℕ → ℕ → List ℕ
@@ -39,13 +48,13 @@ pick_of_feeler m (Some occupant) seed i =
     if i == 1 then picked.One occupant.0 occupant.1 else pick_of_try m true seed i
 
 abbrev pub pick_by : Machine → Aim → ℕ → ℕ → Picked
-pick_by m aim.Outbound seed i = pick_of_try m false seed i
-pick_by m (aim.Feeler occupant) seed i = pick_of_feeler m occupant seed i
+pick_by m ToKeep seed i = pick_of_try m false seed i
+pick_by m (ToTest occupant) seed i = pick_of_feeler m occupant seed i
 
 -- whether the peer is taken in try i
 abbrev pub verdict_by : Aim → Places → List Outbound → Peer → ℕ → ℕ → ℕ → Verdict
-verdict_by aim.Outbound places open_peers peer last_try now i = judge open_peers (group places peer.addr) last_try now i
-verdict_by (aim.Feeler occupant) places open_peers peer last_try now i = judge_feeler last_try now i
+verdict_by ToKeep places open_peers peer last_try now i = judge open_peers (group places peer.addr) last_try now i
+verdict_by (ToTest occupant) places open_peers peer last_try now i = judge_feeler last_try now i
 
 abbrev pub try_of_verdict : Verdict → Peer → Try
 try_of_verdict verdict.Take peer = Take peer
@@ -55,7 +64,7 @@ try_of_verdict verdict.Recent peer = Next
 -- what try i comes to if this was its pick
 abbrev pub try_of_pick : (Peer → ℕ → Verdict) → Picked → Try
 try_of_pick verdict_on (picked.One peer last_try) = try_of_verdict (verdict_on peer last_try) peer
-try_of_pick verdict_on picked.Nothing = try.Nothing
+try_of_pick verdict_on picked.Nothing = NoneLeft
 try_of_pick verdict_on picked.Exhausted = Next
 
 -- what try i comes to
@@ -78,5 +87,5 @@ pub record IsFirst (tries : ℕ → Try) (i : ℕ) (result : Try) : Type 0 where
 -- `MAX_TRIES` decides.
 abbrev pub HasOutcome : (ℕ → Try) → Outcome → Type 0
 HasOutcome tries (Taken peer i) = IsFirst tries i (Take peer)
-HasOutcome tries outcome.Nothing = (i : ℕ) × IsFirst tries i try.Nothing
+HasOutcome tries outcome.Nothing = (i : ℕ) × IsFirst tries i NoneLeft
 HasOutcome tries GaveUp = NoneBefore tries (suc MAX_TRIES)

@@ -11,13 +11,12 @@ ghost use Rattle.opener_lines.specs.Texts.{answer_text, closed_text};
 
 use crate::memory::Memory;
 use crate::print::{closed_text, opened_text, put_text, tested_text};
-use crate::tries::outcome_of;
-use crate::{Aim, Outcome, Request};
+use crate::tries::{Found, find_feeler, find_outbound};
+use crate::{Outcome, Request};
 use log_lines::{Command, Reply, put_reply};
 use manager::Manager;
 use net_addr::Peer;
 use peer_open::{MAX_OUTBOUND, Opener};
-use placing::Placer;
 use std::alloc::Global;
 use std::hash::BuildHasher;
 use std::sync::ledger::Ledger;
@@ -27,14 +26,12 @@ use steps::Steps;
 pub(crate) fn carry_out<H: BuildHasher, L: Ledger>(
     alloc: Global,
     manager: &mut Manager<'_, H>,
-    placer: &Placer<'_>,
     opener: &mut Opener,
     request: &Request,
     out: &mut Vec<u8>,
     steps: &mut Steps<L>,
 ) -> Result<(), Memory>
     requires done { CanBeDone request.now }
-    requires places { placer.now ≡ manager.old.tables.places }
     requires room { manager.old.tables.next_number < 2 ^ 62 }
     ensures step { OnOk result ((answer : Answer)
         × Step (state manager.old opener.old) request.now answer (state manager.new opener.new)
@@ -45,9 +42,9 @@ pub(crate) fn carry_out<H: BuildHasher, L: Ledger>(
     ensures numbers { manager.new.tables.next_number ≤ manager.old.tables.next_number + 1000 }
 {
     match request {
-        Request::Outbound { seed } => outbound(alloc, manager, placer, opener, *seed, out, steps),
+        Request::Outbound { seed } => outbound(alloc, manager, opener, *seed, out, steps),
         Request::Feeler { seed, word } => {
-            feeler(alloc, manager, placer, opener, *seed, *word, out, steps)
+            feeler(alloc, manager, opener, *seed, *word, out, steps)
         }
         Request::Close { peer } => close(opener, peer, out),
         Request::Machine(command) => tell(alloc, manager, command, out, steps),
@@ -59,13 +56,11 @@ pub(crate) fn carry_out<H: BuildHasher, L: Ledger>(
 fn outbound<H: BuildHasher, L: Ledger>(
     alloc: Global,
     manager: &Manager<'_, H>,
-    placer: &Placer<'_>,
     opener: &mut Opener,
     seed: u32,
     out: &mut Vec<u8>,
     steps: &mut Steps<L>,
 ) -> Result<(), Memory>
-    requires places { placer.now ≡ manager.now.tables.places }
     ensures step { OnOk result ((answer : Answer)
         × OutboundStep (state manager.now opener.old) seed answer (state manager.now opener.new)
         × (out.new.items ≡ out.old.items ++ answer_text answer)) }
@@ -75,16 +70,15 @@ fn outbound<H: BuildHasher, L: Ledger>(
     if opener.len() == MAX_OUTBOUND {
         return put_text(b"full\n", out);
     }
-    match outcome_of(alloc, manager, placer, opener, &Aim::Outbound, seed, steps)? {
-        Outcome::Taken { peer, tries } => {
-            let group = placer.group(&peer.addr);
+    match find_outbound(alloc, manager, opener, seed, steps)? {
+        Found::Taken { peer, group, tries } => {
             let text = opened_text(alloc, &peer, group.as_slice(), tries)?;
             put_text(text.as_slice(), out)?;
             opener.add_peer(peer, group);
             Ok(())
         }
-        Outcome::Nothing => put_text(b"none\n", out),
-        Outcome::GaveUp => put_text(b"gave-up\n", out),
+        Found::Nothing => put_text(b"none\n", out),
+        Found::GaveUp => put_text(b"gave-up\n", out),
     }
 }
 
@@ -93,14 +87,12 @@ fn outbound<H: BuildHasher, L: Ledger>(
 fn feeler<H: BuildHasher, L: Ledger>(
     alloc: Global,
     manager: &mut Manager<'_, H>,
-    placer: &Placer<'_>,
     opener: &Opener,
     seed: u32,
     word: u64,
     out: &mut Vec<u8>,
     steps: &mut Steps<L>,
 ) -> Result<(), Memory>
-    requires places { placer.now ≡ manager.old.tables.places }
     requires room { manager.old.tables.next_number < 2 ^ 62 }
     ensures step { OnOk result ((answer : Answer)
         × FeelerStep (state manager.old opener.now) seed word answer (state manager.new opener.now)
@@ -110,8 +102,7 @@ fn feeler<H: BuildHasher, L: Ledger>(
     ensures numbers { manager.new.tables.next_number ≤ manager.old.tables.next_number + 1000 }
 {
     let occupant = occupant(alloc, manager, word, steps);
-    let aim = Aim::Feeler { occupant };
-    match outcome_of(alloc, manager, placer, opener, &aim, seed, steps)? {
+    match find_feeler(alloc, manager, opener, &occupant, seed, steps)? {
         Outcome::Taken { peer, tries } => {
             let text = tested_text(alloc, &peer, tries)?;
             put_text(text.as_slice(), out)

@@ -10,11 +10,10 @@ ghost use Rattle.opener_lines.specs.Fair.{IsFair};
 ghost use Rattle.opener_lines.specs.Grammar.{Asks, HasFault};
 ghost use Rattle.opener_lines.specs.Lines.{LineStep};
 ghost use Rattle.opener_lines.specs.State.{Answer, State, Step};
-ghost use Rattle.opener_lines.specs.Tries.{HasOutcome};
+ghost use Rattle.opener_lines.specs.Tries.{HasOutcome, Try};
 ghost use Rattle.opener_lines.specs.declared.request.Request.{Request};
 ghost use Rattle.opener_lines.specs.declared.tries.Outcome.{Outcome};
-ghost use Rattle.opener_lines.specs.declared.tries.Try.{Try};
-ghost use Rattle.opener_lines.specs.declared.words.TheConstants.{TRY_WORDS};
+ghost use Rattle.opener_lines.specs.declared.pick.TheConstants.{TRY_WORDS};
 
 use crate::TRY_WORDS;
 

@@ -8,27 +8,26 @@
 //! Not said: how many steps a line takes.
 #![tactic(auto)]
 
-mod aim;
 mod carry_out;
 mod law;
 mod line;
 mod memory;
+mod opener_log;
 mod pick;
 mod print;
 mod read;
 mod request;
 mod tries;
 mod verb;
-mod words;
 
-pub use aim::Aim;
 pub use law::{
     first_words_decide, groups_stay_apart, limits, opener_lines_have_one_meaning, tries_are_fair,
     tries_end_once,
 };
 pub use line::opener_line;
+pub use opener_log::OpenerLog;
+pub use pick::TRY_WORDS;
 pub use read::read_request;
 pub use request::Request;
-pub use tries::{Outcome, Try};
+pub use tries::Outcome;
 pub use verb::Verb;
-pub use words::TRY_WORDS;

@@ -7,29 +7,24 @@ ghost use Rattle.opener_lines.specs.State.{state};
 
 use crate::carry_out::carry_out;
 use crate::read::read_request;
-use log_lines::{LineFault, MAX_LINE};
+use grammar::LineFault;
 use manager::Manager;
 use peer_open::Opener;
-use placing::Placer;
 use std::alloc::Global;
 use std::hash::BuildHasher;
 use std::sync::ledger::Ledger;
 use steps::Steps;
 
 /// Carries out a line of an opener's log, which has no line feed, and appends the text of its
-/// reply: none for a line that is passed over. The placer has the key and the asmap of the
-/// manager's tables.
+/// reply: none for a line that is passed over.
 pub fn opener_line<H: BuildHasher, L: Ledger>(
     alloc: Global,
     manager: &mut Manager<'_, H>,
-    placer: &Placer<'_>,
     opener: &mut Opener,
     line: &[u8],
     out: &mut Vec<u8>,
     steps: &mut Steps<L>,
 ) -> Result<(), LineFault>
-    requires short { length line.now ≤ MAX_LINE }
-    requires places { placer.now ≡ manager.old.tables.places }
     requires room { manager.old.tables.next_number < 2 ^ 62 }
     ensures step { OnOk result ((text : List ℕ)
         × LineStep (state manager.old opener.old) line.now text (state manager.new opener.new)
@@ -48,7 +43,7 @@ pub fn opener_line<H: BuildHasher, L: Ledger>(
         Ok(Some(request)) => request,
         Err(fault) => return Err(fault),
     };
-    match carry_out(alloc, manager, placer, opener, &request, out, steps) {
+    match carry_out(alloc, manager, opener, &request, out, steps) {
         Ok(()) => Ok(()),
         Err(_) => Err(LineFault::Memory),
     }

@@ -1,4 +1,4 @@
-ghost use Rattle.std.specs.Prelude.{◌≡◌, ◌+◌, ◌≤◌, ◌++◌, codes, decimal, length, vec_len, IfOk, OnOk, OnErr};
+ghost use Rattle.std.specs.Prelude.{◌≡◌, ◌++◌, codes, decimal, IfOk, OnOk, OnErr};
 ghost use Rattle.hex.specs.Hex.{encode_lower};
 ghost use Rattle.opener_lines.specs.Texts.{closed_text, opened_text, tested_text, tries_text};
 
@@ -61,9 +61,8 @@ fn put_tries(tries: u32, out: &mut Vec<u8>) -> Result<(), Memory>
 }
 
 /// Appends a text and a number after it.
-pub(crate) fn put_number(word: &[u8], number: u64, out: &mut Vec<u8>) -> Result<(), Memory>
-    ensures items { OnOk result (out.new.items ≡ out.old.items ++ word.now ++ decimal number) }
-    ensures short { OnOk result (vec_len out.new ≤ vec_len out.old + length word.now + 40) }
+fn put_number(word: &[u8], number: u64, out: &mut Vec<u8>) -> Result<(), Memory>
+    ensures { OnOk result (out.new.items ≡ out.old.items ++ word.now ++ decimal number) }
 {
     put_text(word, out)?;
     put_text(Buffer::new().format(number).as_bytes(), out)
@@ -72,7 +71,6 @@ pub(crate) fn put_number(word: &[u8], number: u64, out: &mut Vec<u8>) -> Result<
 /// Appends the bytes. If memory runs out, nothing changes.
 pub(crate) fn put_text(text: &[u8], out: &mut Vec<u8>) -> Result<(), Memory>
     ensures items { OnOk result (out.new.items ≡ out.old.items ++ text.now) }
-    ensures len { OnOk result (vec_len out.new ≡ vec_len out.old + length text.now) }
     ensures err { OnErr result (out.new.items ≡ out.old.items) }
 {
     out.extend_from_slice(text)?;

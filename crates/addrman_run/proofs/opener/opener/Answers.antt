@@ -16,7 +16,7 @@ returns-clause-outcome g c =
     subst (OpenerOutcome c.args.key c.args.chain old new) (sym c.status_of.ensures)
     (by_status (OpenerRan c.args.key c.args.chain old new) (NotOpened c.args.key c.args.chain old new) c.run_log.result
     (ran_by c.args.key c.args.chain tables c.make-lines.result _ old new c.run_log.result found
-    (starts tables c.make-lines.result c.open.result _ c.make-lines.ensures c.open.ensures)
+    (starts tables c.make-lines.result c.open.result c.make-lines.ensures c.open.ensures)
     c.groups_stay_apart.ensures c.tries_are_fair.ensures c.run_log.ensures.ran.ran))
 
 pub returns-clause-read : goal.returns-clause-read

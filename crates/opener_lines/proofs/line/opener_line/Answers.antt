@@ -1,6 +1,6 @@
 use Rattle.std.proofs.Common.{inl, inr, refl, rules}
 use Rattle.opener_lines.specs.State.{state}
-use Rattle.opener_lines.proofs.Done.{left}
+use Rattle.opener_lines.proofs.Done.{can_be_done, left}
 use Rattle.opener_lines.proofs.OneMeaning.{asked_no_fault}
 use Rattle.opener_lines.proofs.Results.{same_fault}
 use Rattle.opener_lines.proofs.line.opener_line.Goals as goal
@@ -22,3 +22,6 @@ pub returns-clause-memory : goal.returns-clause-memory
 returns-clause-memory g c = λ _.
     left (state c.args.manager.now c.args.opener.now) (state c.carry_out.new.manager c.carry_out.new.opener) c.args.line.now c.in-Ok-Some.request (search rules)
     c.in-Err-carry_out.ensures.err
+
+pub carry_out-requires-clause-done : goal.carry_out-requires-clause-done
+carry_out-requires-clause-done g c = can_be_done c.args.line.now c.in-Ok-Some.request (search rules)

@@ -1,0 +1,82 @@
+-- Why a line has one meaning.
+use Rattle.std.proofs.Common.{◌≡◌, ◌<◌, ℕ, List, [], ◌∷◌, Option, Some, None, get_or, lit<, refl, sym, ap, subst, ◌∙◌}
+use Rattle.net_addr.specs.declared.peer.Peer.{Peer}
+use Rattle.grammar.specs.Fields.{Kind, OfPeer, Value, TheNumber, ThePeer, u32_field, u64_field}
+use Rattle.grammar.specs.declared.fault.LineFault.{LineFault}
+use Rattle.grammar.proofs.TableLemmas.{found_word, no_fault_after, one_fault_after, one_list}
+use Rattle.log_lines.specs.Laws as log
+use Rattle.log_lines.specs.Spelling as spelling
+use Rattle.opener_lines.specs.Grammar.{AsksAfter, AsksBy, FaultAfter, FaultBy, verb_at, verbs, word_of}
+use Rattle.opener_lines.specs.declared.request.Request.{Request}
+use Rattle.opener_lines.specs.declared.request.Request.TheVariants as request
+use Rattle.opener_lines.specs.declared.verb.Verb.{Verb}
+use Rattle.opener_lines.specs.declared.verb.Verb.TheVariants.{Outbound, Feeler, Close, Log}
+
+abbrev number_in : Value → ℕ
+number_in (TheNumber n) = n
+number_in other = 0
+
+abbrev peer_in : Peer → Value → Peer
+peer_in p (ThePeer q) = q
+peer_in p other = p
+
+abbrev at : List Value → ℕ → Value
+at values i = get_or values i (TheNumber 0)
+
+abbrev seeds : List Kind
+seeds = u32_field ∷ []
+
+abbrev pairs : List Kind
+pairs = u32_field ∷ u64_field ∷ []
+
+abbrev one_peer : List Kind
+one_peer = OfPeer ∷ []
+
+pub one_asked : (word : List ℕ) (texts : List (List ℕ)) (a b : Request) → AsksAfter word texts a → AsksAfter word texts b → a ≡ b
+one_asked word texts a b = by (verb_at word)
+  where
+    by : (o : Option Verb) → AsksBy o texts a → AsksBy o texts b → a ≡ b
+    by None h k = absurd h
+    by (Some Outbound) (s, h, is) (t, k, is') =
+        is ∙ ap (λ vs. request.Outbound (number_in (at vs 0))) (one_list seeds texts (TheNumber s ∷ []) (TheNumber t ∷ []) refl h k) ∙ sym is'
+    by (Some Feeler) (s, m, h, is) (t, n, k, is') =
+        is ∙ ap (λ vs. request.Feeler (number_in (at vs 0)) (number_in (at vs 1)))
+        (one_list pairs texts (TheNumber s ∷ TheNumber m ∷ []) (TheNumber t ∷ TheNumber n ∷ []) refl h k) ∙ sym is'
+    by (Some Close) (p, h, is) (q, k, is') =
+        is ∙ ap (λ vs. request.Close (peer_in p (at vs 0))) (one_list one_peer texts (ThePeer p ∷ []) (ThePeer q ∷ []) refl h k) ∙ sym is'
+    by (Some (Log verb)) (c, h, is) (d, k, is') = is ∙ ap request.Machine (log.one_after (spelling.word_of verb) texts c d h k) ∙ sym is'
+
+pub one_fault : (word : List ℕ) (texts : List (List ℕ)) (f g : LineFault) → FaultAfter word texts f → FaultAfter word texts g → f ≡ g
+one_fault word texts f g = by (verb_at word)
+  where
+    by : (o : Option Verb) → FaultBy o texts f → FaultBy o texts g → f ≡ g
+    by None h k = h ∙ sym k
+    by (Some Outbound) h k = one_fault_after (Some seeds) texts f g h k
+    by (Some Feeler) h k = one_fault_after (Some pairs) texts f g h k
+    by (Some Close) h k = one_fault_after (Some one_peer) texts f g h k
+    by (Some (Log verb)) h k = log.one_fault (spelling.word_of verb) texts f g h k
+
+pub no_fault : (word : List ℕ) (texts : List (List ℕ)) (a : Request) (f : LineFault) → AsksAfter word texts a → FaultAfter word texts f → ⊥
+no_fault word texts a f = by (verb_at word)
+  where
+    by : (o : Option Verb) → AsksBy o texts a → FaultBy o texts f → ⊥
+    by None h k = h
+    by (Some Outbound) (s, h, is) k = no_fault_after (Some seeds) texts (TheNumber s ∷ []) f h k
+    by (Some Feeler) (s, m, h, is) k = no_fault_after (Some pairs) texts (TheNumber s ∷ TheNumber m ∷ []) f h k
+    by (Some Close) (p, h, is) k = no_fault_after (Some one_peer) texts (ThePeer p ∷ []) f h k
+    by (Some (Log verb)) (c, h, is) k = log.no_fault (spelling.word_of verb) texts c f h k
+
+-- the word of a verb that is found is that verb's
+word_is : (word : List ℕ) (verb : Verb) → verb_at word ≡ Some verb → word ≡ word_of verb
+word_is word verb is = found_word word_of verbs word verb is
+
+-- a line that asks for something begins with a letter
+pub letters : (word : List ℕ) (texts : List (List ℕ)) (a : Request) → AsksAfter word texts a → 96 < get_or word 0 0
+letters word texts a = by (verb_at word) refl
+  where
+    by : (o : Option Verb) → verb_at word ≡ o → AsksBy o texts a → 96 < get_or word 0 0
+    by None is h = absurd h
+    by (Some Outbound) is h = subst (λ w. 96 < get_or w 0 0) (sym (word_is word Outbound is)) (lit< tt)
+    by (Some Feeler) is h = subst (λ w. 96 < get_or w 0 0) (sym (word_is word Feeler is)) (lit< tt)
+    by (Some Close) is h = subst (λ w. 96 < get_or w 0 0) (sym (word_is word Close is)) (lit< tt)
+    by (Some (Log verb)) is (c, h, asks) = subst (λ w. 96 < get_or w 0 0) (sym (word_is word (Log verb) is)) (log.letters (spelling.word_of verb) texts c h)

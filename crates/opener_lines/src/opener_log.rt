@@ -1,0 +1,109 @@
+use crate::opener_line;
+use grammar::LineFault;
+use log_run::{LineSteps, Stop};
+use manager::Manager;
+use peer_open::Opener;
+use std::alloc::Global;
+use std::hash::BuildHasher;
+use std::marker::{Brand, Model};
+use std::sync::ledger::{Blank, Ledger};
+use steps::Steps;
+
+/// An address manager with the open outbound peers.
+#[derive(Drop)]
+pub struct OpenerLog<'a, H: BuildHasher> {
+    manager: Manager<'a, H>,
+    opener: Opener,
+}
+
+impl<'a, H: BuildHasher> Model for OpenerLog<'a, H> {
+    ghost use Rattle.std.specs.Coded.{codes};
+    ghost use Rattle.placing.specs.Places.{coded_places};
+    ghost use Rattle.opener_lines.specs.State.{State, state};
+
+    ghost Value = { State };
+
+    ghost coded = { Prim.hlevel (codes, coded_places) };
+
+    ghost view = { λ l. state l.manager l.opener };
+}
+
+impl<'a, H: BuildHasher> OpenerLog<'a, H> {
+    ghost use Rattle.std.specs.Prelude.{◌≡◌, ◌≢◌, ◌+◌, ◌≤◌, ◌<◌, ◌^◌, ◌++◌, [], ℕ, List, length, Err, OnOk};
+    ghost use Rattle.grammar.specs.declared.fault.LineFault.{LineFault};
+    ghost use Rattle.opener_lines.specs.Grammar.{HasFault};
+    ghost use Rattle.opener_lines.specs.Lines.{LineStep};
+    ghost use Rattle.opener_lines.specs.State.{state};
+
+    /// Makes the log of no lines: no peers are open.
+    pub fn make(manager: Manager<'a, H>) -> OpenerLog<'a, H>
+        ensures { result ≡ state manager.entry [] }
+    {
+        OpenerLog {
+            manager,
+            opener: Opener::make(),
+        }
+    }
+
+    /// Carries out a line with a counter of its own, whose steps nobody reads.
+    fn step<L: Ledger>(
+        &mut self,
+        alloc: Global,
+        line: &[u8],
+        out: &mut Vec<u8>,
+        blank: Blank,
+    ) -> Result<(), LineFault>
+        requires name { blank.name ≡ L.name }
+        requires parts { blank.parts ≡ L.parts }
+        requires one { blank.parts ≡ 1 }
+        requires room { self.old.machine.tables.next_number < 2 ^ 62 }
+        ensures step { OnOk result ((text : List ℕ)
+            × LineStep self.old line.now text self.new
+            × (out.new.items ≡ out.old.items ++ text)) }
+        ensures fault { (f : LineFault) → result ≡ Err f → f ≢ LineFault.Memory →
+            HasFault line.now f }
+        ensures numbers { self.new.machine.tables.next_number
+            ≤ self.old.machine.tables.next_number + 1000 }
+    {
+        let mut steps = Steps::<L>::none(blank);
+        opener_line(
+            alloc,
+            &mut self.manager,
+            &mut self.opener,
+            line,
+            out,
+            &mut steps,
+        )
+    }
+}
+
+/// The lines of a log, one step a line. They change nothing besides the log's own state.
+impl<'a, H: BuildHasher> LineSteps<()> for OpenerLog<'a, H> {
+    ghost use Rattle.std.specs.Prelude.{◌+◌, ◌*◌, ◌<◌, ◌^◌, ⊤};
+    ghost use Rattle.opener_lines.specs.Grammar.{HasFault};
+    ghost use Rattle.opener_lines.specs.Lines.{LineStep};
+
+    ghost step = { λ old before line text new after. LineStep old line text new };
+
+    ghost stopped = { λ old before line after. ⊤ };
+
+    ghost has_fault = { HasFault };
+
+    ghost ready = { λ l world. ⊤ };
+
+    // Each line takes at most a thousand numbers.
+    ghost has_room = { λ l n. l.machine.tables.next_number + 1000 * n < 2 ^ 62 };
+
+    fn carry_out(
+        &mut self,
+        alloc: Global,
+        line: &[u8],
+        world: &mut (),
+        out: &mut Vec<u8>,
+    ) -> Result<(), Stop> {
+        match self.step::<Brand>(alloc, line, out, Blank::new(1)) {
+            Ok(()) => Ok(()),
+            Err(fault) => Err(Stop::of(fault)),
+        }
+    }
+}
