@@ -2,6 +2,3 @@ mod Examples
 pub mod Items
 pub mod Numbers
 pub mod OneMeaning
-pub mod FieldLemmas
-pub mod FaultLemmas
-pub mod Readings

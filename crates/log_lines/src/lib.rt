@@ -13,7 +13,6 @@
 
 mod choices;
 mod command;
-mod fields;
 mod law;
 mod memory;
 mod print;
@@ -22,15 +21,11 @@ mod reply;
 mod verb;
 
 pub use command::Command;
-pub use fields::{one_field, three_fields, two_fields};
-pub use grammar::{
-    LineFault, MAX_SEEDED, Words, cut_field, read_addr, read_decimal, read_either, read_payload,
-    read_random, read_u32, read_words,
-};
+pub use grammar::{LineFault, Words, read_decimal, read_payload, read_words};
 pub use host_io::split_line;
 pub use law::lines_have_one_meaning;
 pub use memory::Memory;
 pub use print::{put_reply, reply_text};
-pub use read::{LogLines, MAX_LINE, read_line};
+pub use read::{LogLines, read_line};
 pub use reply::Reply;
 pub use verb::{VERBS, Verb};

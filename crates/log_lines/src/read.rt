@@ -15,9 +15,6 @@ use grammar::{
 };
 use std::alloc::Global;
 
-/// The maximum length of a line in bytes that the limit's and the opener's readers take.
-pub const MAX_LINE: usize = 16_777_216;
-
 /// The grammar of a log's lines.
 pub struct LogLines;
 

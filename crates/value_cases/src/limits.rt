@@ -2,7 +2,7 @@ use crate::limiter_calls::limiter_call;
 use crate::text::owned;
 use crate::unread::Unread;
 use addr_limit::{LimitLog, Limiter};
-use log_lines::{LineFault, MAX_LINE};
+use log_lines::LineFault;
 use std::alloc::Global;
 
 /// A log of events, and connections.
@@ -33,9 +33,6 @@ impl Limits {
 
 /// Carries out the line, and returns its output line or its fault.
 fn output_of(alloc: Global, log: &mut LimitLog, line: &[u8]) -> Result<String, Unread> {
-    if line.len() > MAX_LINE {
-        return Err(Unread::Unmet);
-    }
     let mut out = Vec::new(alloc);
     match log.step(alloc, line, &mut out) {
         Ok(()) => line_of(alloc, out.as_slice()),

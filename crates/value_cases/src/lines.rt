@@ -1,7 +1,9 @@
 use crate::fields::Fields;
 use crate::text::{bytes_of, hex_text, owned, peer_text};
 use crate::unread::Unread;
-use log_lines::{Command, read_line, read_words, split_line};
+use grammar::read_words;
+use host_io::split_line;
+use log_lines::{Command, read_line};
 use net_addr::{NetAddr, Peer};
 use std::alloc::{AllocError, Global};
 
