@@ -2,3 +2,4 @@ mod Examples
 pub mod Items
 pub mod Numbers
 pub mod OneMeaning
+pub mod Percents

@@ -6,10 +6,10 @@ use Rattle.std.proofs.lemmas.Bool.{and_parts}
 use Rattle.host_io.specs.Lines.{IsPassedOver}
 use Rattle.net_addr.specs.declared.peer.Peer.{Peer}
 use Rattle.table_machine.specs.Clashes.{clash_pick}
-use Rattle.grammar.specs.Fields.{AllMean, Value, TheNumber, TheAddr, ThePeer, TheBytes, TheWords, TheChoice, TheNets}
 use Rattle.grammar.specs.Table.{ValuesAfter, kinds_after}
 use Rattle.log_lines.specs.Spelling as log
 use Rattle.log_lines.proofs.OneMeaning.{AreFieldsOf}
+use Rattle.log_lines.proofs.Percents.{percent}
 use Rattle.log_lines.specs.declared.command.Command.{Command}
 use Rattle.log_lines.specs.declared.command.Command.TheVariants as c
 use Rattle.log_lines.specs.declared.reply.Reply.{Reply}
@@ -74,22 +74,6 @@ feeler_leaves old new peers seed word is =
     inr (inl (answer_to_feeler found.0, (found.0, found.1, refl, ap (λ m. state m peers) is)))
 
 -- ---- of a line
-
-number_in : Value → ℕ
-number_in (TheNumber n) = n
-number_in (TheAddr a) = 0
-number_in (ThePeer p) = 0
-number_in (TheBytes bytes) = 0
-number_in (TheWords words) = 0
-number_in (TheChoice b) = 0
-number_in (TheNets nets) = 0
-
-percent : (texts : List (List ℕ)) (max pct : ℕ) (classes words : List ℕ)
-    → AllMean (log.kinds_of v.Sample) texts (log.values_of (c.Sample max pct classes words)) → pct ≤ 100
-unfolding number_in
-percent [] max pct classes words h = absurd h
-percent (text ∷ []) max pct classes words h = absurd h.1
-percent (text ∷ second ∷ texts) max pct classes words h = subst (λ n. n ≤ 100) (sym (ap number_in h.1.0.1)) h.1.0.3
 
 -- the word is not one that saves
 keeps : List ℕ → Bool

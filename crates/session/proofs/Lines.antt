@@ -6,6 +6,10 @@ use Rattle.host_io.specs.Past.{Always, Past}
 use Rattle.log_lines.specs.Replies.{reply_text}
 use Rattle.log_lines.specs.Spelling.{Spells}
 use Rattle.log_lines.specs.declared.command.Command.{Command}
+use Rattle.log_lines.specs.declared.command.Command.TheVariants as c
+use Rattle.log_lines.proofs.OneMeaning.{fields_of_line}
+use Rattle.log_lines.proofs.Percents.{percent}
+use Rattle.manager.specs.Step.{HasPercent}
 use Rattle.grammar.specs.declared.fault.LineFault.{LineFault}
 use Rattle.log_lines.specs.declared.reply.Reply.{Reply}
 use Rattle.session.specs.Folders.{AtMost, IsEvent, IsEventLine, LeavesPart, MayPublish, Turn, published}
@@ -73,3 +77,24 @@ no_fault x f e = cc e
 pub for_line : {T E A B : Type 0} (result : Result T E) → (A → B) → OnOk result A → OnOk result B
 for_line (Ok x) of told = of told
 for_line (Err e) of told = tt
+
+-- a line that parses as a command has a percentage of at most 100
+pub has_percent : (line : List ℕ) (command : Command) → Spells line command → HasPercent command
+has_percent line (c.Sample max pct classes words) h = percent h.1 max pct classes words (fields_of_line line (c.Sample max pct classes words) h)
+has_percent line (c.Now time) h = tt
+has_percent line (c.Addr source payload words) h = tt
+has_percent line (c.Addr2 source payload words) h = tt
+has_percent line (c.Good peer testing) h = tt
+has_percent line (c.Attempt peer count) h = tt
+has_percent line (c.Connected peer) h = tt
+has_percent line (c.Services peer services) h = tt
+has_percent line (c.Find peer) h = tt
+has_percent line c.Size h = tt
+has_percent line (c.Select new_only nets words) h = tt
+has_percent line c.Resolve h = tt
+has_percent line (c.Clash word) h = tt
+has_percent line c.Dump h = tt
+has_percent line c.Save h = tt
+has_percent line c.SaveBegin h = tt
+has_percent line (c.SaveStep count) h = tt
+has_percent line c.SaveEnd h = tt

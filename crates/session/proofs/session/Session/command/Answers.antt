@@ -39,3 +39,8 @@ returns-clause-memory g c = λ _ line spelled.
     let inside = c.self.inside in
     part (state inside.chain inside.manager inside.job) c.args.self.now (state inside.chain c.carry_out.new.manager c.carry_out.new.job) line
     c.args.command.now c.in-Ok.reply _ _ _ c.self.view_is spelled c.in-Ok.ensures.step
+
+pub returns-in_default-clause-any_moment : goal.returns-in_default-clause-any_moment
+returns-in_default-clause-any_moment g c = λ line spelled.
+    let inside = c.self.inside in
+    moments (state inside.chain inside.manager inside.job) c.args.self.now line c.args.command.now _ _ c.self.view_is spelled c.carry_out.ensures.any_moment

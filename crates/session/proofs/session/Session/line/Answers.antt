@@ -1,5 +1,5 @@
 use Rattle.std.proofs.Common.{inl, inr, refl, rules}
-use Rattle.session.proofs.Lines.{for_line, no_fault, passed, same_fault}
+use Rattle.session.proofs.Lines.{for_line, has_percent, no_fault, passed, same_fault}
 use Rattle.session.proofs.session.Session.line.Goals as goal
 
 pub returns-in-Ok-None-clause-step : goal.returns-in-Ok-None-clause-step
@@ -38,3 +38,6 @@ returns-in-Err-clause-only_fault g c = λ f has.
       | inl is ↦ inl (same_fault _ f is)
       | inr is ↦ inr (same_fault _ _ is)
     ]
+
+pub command-requires-clause-percent : goal.command-requires-clause-percent
+command-requires-clause-percent g c = has_percent c.args.line.now c.in-Ok-Some.command (search rules)
