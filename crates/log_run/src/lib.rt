@@ -15,13 +15,13 @@ mod fault;
 mod feed;
 mod law;
 mod limits;
+mod line_steps;
 mod reader;
 mod room;
 mod run;
-mod steps;
 
 pub use end::LogEnd;
 pub use law::limits_are_numbers;
 pub use limits::{MAX_LINE, MAX_LOG, MAX_READ};
+pub use line_steps::{LineSteps, Stop};
 pub use run::run_log;
-pub use steps::{LineSteps, Stop};

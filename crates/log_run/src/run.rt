@@ -7,8 +7,8 @@ ghost use Rattle.log_run.specs.Worlds.{RanIn};
 use crate::end::LogEnd;
 use crate::fault::LogFault;
 use crate::limits::MAX_LOG;
+use crate::line_steps::{LineSteps, Stop};
 use crate::reader::LogReader;
-use crate::steps::{LineSteps, Stop};
 use host_io::{Sink, Source, write_all};
 use std::alloc::Global;
 

@@ -1,5 +1,5 @@
 use Rattle.std.proofs.Common.{◌≡◌, refl, sym, subst}
-use Rattle.log_run.specs.declared.steps.Stop.TheVariants.{Fault}
+use Rattle.log_run.specs.declared.line_steps.Stop.TheVariants.{Fault}
 use Rattle.addr_limit.specs.Lines.{HasFault}
 use Rattle.addr_limit.proofs.limit_log.LimitLogLineStepsUnit.carry_out.Goals as goal
 

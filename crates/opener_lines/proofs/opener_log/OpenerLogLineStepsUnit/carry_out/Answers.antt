@@ -1,5 +1,5 @@
 use Rattle.std.proofs.Common.{◌≡◌, refl, sym, subst}
-use Rattle.log_run.specs.declared.steps.Stop.TheVariants.{Fault}
+use Rattle.log_run.specs.declared.line_steps.Stop.TheVariants.{Fault}
 use Rattle.opener_lines.specs.Grammar.{HasFault}
 use Rattle.opener_lines.proofs.opener_log.OpenerLogLineStepsUnit.carry_out.Goals as goal
 

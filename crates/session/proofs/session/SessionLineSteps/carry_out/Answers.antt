@@ -1,7 +1,7 @@
 use Rattle.std.proofs.Common.{◌≡◌, Result, Ok, Err, ap, refl, sym, subst}
 use Rattle.log_lines.specs.Spelling.{HasFault}
-use Rattle.log_run.specs.declared.steps.Stop.{Stop}
-use Rattle.log_run.specs.declared.steps.Stop.TheVariants as stop
+use Rattle.log_run.specs.declared.line_steps.Stop.{Stop}
+use Rattle.log_run.specs.declared.line_steps.Stop.TheVariants as stop
 use Rattle.session.proofs.session.SessionLineSteps.carry_out.Goals as goal
 
 stop_in : {T : Type 0} → Result T Stop → Stop
