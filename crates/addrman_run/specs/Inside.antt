@@ -105,7 +105,6 @@ IsKeyless key NoKey = key ≡ None
 IsKeyless key Memory = ⊤
 IsKeyless key other = ⊥
 
-
 -- why no tables are opened, by the bytes of the file
 abbrev pub IsNotOpened : Option (List ℕ) → Chain → Option (List ℕ) → Status → Type 0
 IsNotOpened key chain None status = IsKeyless key status
