@@ -1,0 +1,119 @@
+-- Worked examples of each law over a table of three records, computed over the definitions. Buckets
+-- and slots are given, and not found by hashes.
+use Rattle.std.proofs.Common.{◌≡◌, ℕ, ◌^◌, Bool, true, ◌&&◌, not, ◌==◌, [], ◌∷◌, map, find, filter_map, count_by, Option, Some, None, refl, if◌then◌else◌}
+use Rattle.std.specs.List.{range_with_len}
+use Rattle.net_addr.specs.NetSet.{all}
+use Rattle.net_addr.specs.Ranges.{in_range}
+use Rattle.peer_rec.specs.declared.place.Place.TheVariants.{New, Tried}
+use Rattle.peer_rec.specs.declared.rec.Rec.{Rec}
+use Rattle.table_machine.specs.Entries.{enter_occupied, with_last}
+use Rattle.table_machine.specs.Picks.{is_wanted}
+use Rattle.table_machine.specs.Restart.{restart}
+use Rattle.table_machine.specs.State.{State}
+use Rattle.table_machine.proofs.ExampleStates.{failed, now, rec, state}
+use Rattle.laws.specs.Chances.{accepting_words}
+use Rattle.laws.specs.LostLines.{lost_count, made_count}
+use Rattle.laws.specs.Rounds.{around, gap, holds}
+use Rattle.laws.specs.Shuffle.{exchanged}
+
+-- Three records of bucket 5: one that never failed, one that failed twice an hour ago, and one
+-- that failed three times and never succeeded.
+abbrev first : Rec
+first = failed 0 1 0 (New (5 ∷ []))
+
+abbrev second : Rec
+second = failed 1 2 2 (New (5 ∷ []))
+
+abbrev third : Rec
+third = failed 2 3 3 (New (5 ∷ []))
+
+abbrev three : State
+three = state (first ∷ second ∷ third ∷ []) (0 ∷ 1 ∷ 2 ∷ []) [] 3
+
+-- they are in the slots 5, 40 and 63
+abbrev occupants : ℕ → Option Rec
+occupants slot =
+    if slot == 5 then Some first
+    else if slot == 40 then Some second
+    else if slot == 63 then Some third
+    else None
+
+-- how many of the 64 starts lead to a slot
+abbrev leads : ℕ → ℕ
+leads slot = gap (λ s. holds (is_wanted all) (occupants s)) 64 slot
+
+lead_to_first : leads 5 ≡ 6
+unfolding in_range
+lead_to_first = refl
+
+lead_to_second : leads 40 ≡ 35
+unfolding in_range
+lead_to_second = refl
+
+lead_to_third : leads 63 ≡ 23
+unfolding in_range
+lead_to_third = refl
+
+-- the same, counted over the 64 starts
+counted : count_by (λ start. holds (λ r. r.number == 1) (find (is_wanted all) (filter_map occupants (around 64 start)))) (range_with_len 0 64) ≡ 35
+unfolding in_range
+counted = refl
+
+-- each word accepts the first at the first factor, and 4356 of 10000 the second
+accept_first : accepting_words first now (2 ^ 30) ≡ 2 ^ 30
+accept_first = refl
+
+accept_second : accepting_words second now (2 ^ 30) ≡ 467721938
+accept_second = refl
+
+-- a record behind 20 empty slots, and one behind an occupied slot
+abbrev behind : ℕ → Bool
+behind slot = if slot == 10 then true else if slot == 31 then true else slot == 32
+
+behind_twenty : gap behind 64 31 ≡ 21
+behind_twenty = refl
+
+behind_none : gap behind 64 32 ≡ 1
+behind_none = refl
+
+-- a record that is alone in its bucket
+alone : gap (λ slot. slot == 3) 64 3 ≡ 64
+alone = refl
+
+-- of three, the last is drawn, and then the second of the two that are left
+arranged : exchanged (0 ∷ 1 ∷ 2 ∷ []) 0 (2 ∷ 1 ∷ 0 ∷ []) ≡ 2 ∷ 0 ∷ 1 ∷ []
+arranged = refl
+
+-- of the first word's residues all but two lead to no record in the buckets 5 and 9
+few_buckets : count_by (λ b. not (b == 5) && not (b == 9)) (range_with_len 0 1024) ≡ 1022
+few_buckets = refl
+
+-- An entry for an unknown peer comes upon the third record, which is terrible, in its only bucket:
+-- that one is lost, and another is made.
+abbrev fourth : Rec
+fourth = rec 3 4 (New [])
+
+abbrev after : State
+after = (enter_occupied (with_last three fourth) now fourth true 5 third).state
+
+numbers_after : map (λ (r : Rec). r.number) after.records ≡ 0 ∷ 1 ∷ 3 ∷ []
+numbers_after = refl
+
+lost_one : lost_count three after ≡ 1
+lost_one = refl
+
+made_one : made_count three after ≡ 1
+made_one = refl
+
+-- after a restart the tried record comes last, and the tries are as if long ago
+abbrev mixed : State
+mixed = state (failed 4 1 0 Tried ∷ failed 6 2 2 (New (5 ∷ [])) ∷ failed 9 3 3 (New (5 ∷ [])) ∷ []) (9 ∷ 4 ∷ 6 ∷ []) [] 10
+
+ports_after : map (λ (r : Rec). r.peer.port) (restart mixed).records ≡ 2 ∷ 3 ∷ 1 ∷ []
+ports_after = refl
+
+numbers_restarted : map (λ (r : Rec). r.number) (restart mixed).records ≡ 0 ∷ 1 ∷ 2 ∷ []
+numbers_restarted = refl
+
+tries_restarted : map (λ (r : Rec). r.last_try) (restart mixed).records ≡ 0 ∷ 0 ∷ 0 ∷ []
+tries_restarted = refl

@@ -1,0 +1,66 @@
+-- The buckets that some groups reach are few of those that a word selects.
+use Rattle.std.proofs.Common.{◌≡◌, ℕ, ◌+◌, ◌*◌, ◌≤◌, false, List, [], ◌∷◌, length, count_by, flat_map, Contains, Option, refl, sym, subst, ◌∙◌, ⊎_elim, arith, length-append}
+use Rattle.std.specs.List.{range_with_len}
+use Rattle.std.proofs.lemmas.List.Elements.{Contains-append_left, Contains-append_right}
+use Rattle.std.proofs.lemmas.List.FromFn.{length-map-range_with_len}
+use Rattle.net_addr.specs.Address.{Address}
+use Rattle.net_addr.specs.declared.peer.Peer.{Peer}
+use Rattle.placing.specs.Places.{Places, group, group_bucket, group_buckets, tried_bucket}
+use Rattle.table_machine.specs.State.{State, is_tried_at, tried_rec_at}
+use Rattle.table_machine.specs.Picks.{slots_from}
+use Rattle.table_machine.proofs.Lists.{Contains-cases, find-Some, none_in_nil}
+use Rattle.table_machine.proofs.Records.{tried_at_parts}
+use Rattle.peer_rec.specs.Snapshot.{Snapshot}
+use Rattle.session.specs.State as session
+use Rattle.causes.specs.Accepted.{IsAccepted}
+use Rattle.causes.specs.Buckets.{AreCaused, IsListed, reach}
+use Rattle.causes.specs.Kept.{IsOpening}
+use Rattle.causes.proofs.Laws.{keeps_causes}
+use Rattle.causes.proofs.Reach.{by_reach, long-reach, tried_reach}
+use Rattle.laws.proofs.Picked.{found_at}
+use Rattle.laws.proofs.Within.{count_outside}
+use Rattle.laws.specs.Shares.{IsOf, IsShared, KeepsShares, LeadsTo}
+
+Contains-flat_map : {X : Type 0} (f : X → List ℕ) (xs : List X) (x : X) (b : ℕ) → Contains xs x → Contains (f x) b → Contains (flat_map f xs) b
+Contains-flat_map f [] x b c h = absurd (none_in_nil x c)
+Contains-flat_map {X} f (y ∷ xs) x b c h =
+    let later = Contains-flat_map f xs x b in
+    ⊎_elim (λ (is : y ≡ x). Contains-append_left (f y) (flat_map f xs) b (subst (λ (z : X). Contains (f z) b) (sym is) h))
+    (λ rest. Contains-append_right (f y) (flat_map f xs) b (later rest h)) (Contains-cases y xs x c)
+
+-- the buckets of the tried table for addresses of some groups: the 8 of each group in turn
+abbrev tried_buckets : Places → List (List ℕ) → List ℕ
+tried_buckets places groups = flat_map (group_buckets places) groups
+
+long-tried : (places : Places) (groups : List (List ℕ)) → length (tried_buckets places groups) ≡ 8 * length groups
+long-tried places [] = refl
+long-tried places (g ∷ groups) =
+    let first = length-map-range_with_len (group_bucket places g) 0 8 in
+    let rest = long-tried places groups in
+    length-append (group_buckets places g) (tried_buckets places groups) ∙ omega (arith, first, rest)
+
+module _ (Accepted : Peer → Address → Type 0) (Listed : ℕ → Peer → ℕ → Type 0) (st : State) (caused : AreCaused Accepted Listed st) where
+  in_tried : (nets : List ℕ) (groups : List (List ℕ)) (b : ℕ) → LeadsTo st false nets (IsOf st groups) b → Contains (tried_buckets st.places groups) b
+  in_tried nets groups b leads =
+      let r = leads.1 in
+      let found = found_at (tried_rec_at st b) nets (slots_from leads.0) r leads.2 in
+      let h = find-Some (is_tried_at st.places b found.0) st.records r found.1 in
+      let parts = tried_at_parts st.places b found.0 r h.1 in
+      subst (Contains (tried_buckets st.places groups)) parts.0
+      (Contains-flat_map (group_buckets st.places) groups (group st.places r.peer.addr) (tried_bucket st.places r.peer) leads.3 (tried_reach st.places r.peer))
+
+  pub shared : IsShared Accepted Listed st
+  shared = record {
+    new = λ nets groups safe leads.
+        subst (λ (few : ℕ). 1024 ≤ count_by safe (range_with_len 0 1024) + few) (long-reach st.places groups)
+        (count_outside safe (reach st.places groups) 1024 (λ b below fails. let h = leads b below fails in by_reach Accepted st.places groups h.1 b h.3));
+    tried = λ nets groups safe leads.
+        subst (λ (few : ℕ). 256 ≤ count_by safe (range_with_len 0 256) + few) (long-tried st.places groups)
+        (count_outside safe (tried_buckets st.places groups) 256 (λ b below fails. in_tried nets groups b (leads b below fails)));
+    others = λ groups r has b listed outside. (caused r has b listed, λ by. outside (by_reach Accepted st.places groups r b by));
+  }
+
+pub keeps_shares : (file : Option Snapshot) (places : Places) (st : session.State) (lines : List (List ℕ)) → IsOpening file places st → KeepsShares file places st lines
+keeps_shares file places st lines opening before h at =
+    let kept = keeps_causes file places st opening lines in
+    shared (IsAccepted st before) (IsListed file places) h.now.machine.tables (kept.causes before h at)

@@ -1,0 +1,56 @@
+-- What the groups of some addresses can do to a pick.
+use Rattle.std.specs.Prelude.{◌≡◌, ℕ, ◌<◌, ◌≤◌, ◌+◌, ◌*◌, List, length, Bool, true, false, Contains, count_by, Option, Some}
+use Rattle.std.specs.List.{range_with_len}
+use Rattle.net_addr.specs.Address.{Address}
+use Rattle.net_addr.specs.declared.peer.Peer.{Peer}
+use Rattle.placing.specs.Places.{Places, group}
+use Rattle.peer_rec.specs.Rec.{buckets_of}
+use Rattle.peer_rec.specs.Snapshot.{Snapshot}
+use Rattle.peer_rec.specs.declared.rec.Rec.{Rec}
+use Rattle.table_machine.specs.State.{State}
+use Rattle.table_machine.specs.Picks.{bucket_count, first_candidate}
+use Rattle.session.specs.History.{History}
+use Rattle.session.specs.State as session
+use Rattle.causes.specs.Accepted.{IsAccepted}
+use Rattle.causes.specs.Buckets.{IsBy, IsCaused, IsListed, reach}
+use Rattle.causes.specs.Kept.{IsAfter}
+
+-- a round that selects this bucket can come to a record that is theirs: from some slot on, it is
+-- the candidate
+abbrev pub LeadsTo : State → Bool → List ℕ → (Rec → ℕ → Type 0) → ℕ → Type 0
+LeadsTo st in_new nets IsTheirs bucket =
+    (start : ℕ) × (r : Rec) × (first_candidate st in_new nets bucket start ≡ Some r)
+    × IsTheirs r bucket
+
+-- All but so many residues of the word that selects a bucket lead to no record of theirs: a test
+-- that fails only for buckets which do lead to one passes for all others.
+abbrev pub AllBut : ℕ → State → Bool → List ℕ → (Rec → ℕ → Type 0) → Type 0
+AllBut few st in_new nets IsTheirs =
+    (safe : ℕ → Bool)
+    → ((bucket : ℕ) → bucket < bucket_count in_new → safe bucket ≡ false
+    → LeadsTo st in_new nets IsTheirs bucket)
+    → bucket_count in_new ≤ count_by safe (range_with_len 0 (bucket_count in_new)) + few
+
+-- the record's address is of one of the groups
+abbrev pub IsOf : State → List (List ℕ) → Rec → ℕ → Type 0
+IsOf st groups r bucket = Contains groups (group st.places r.peer.addr)
+
+-- Sources of some groups have records in 64 buckets of the new table a group at most, and addresses
+-- of some groups are in 8 buckets of the tried table a group at most. What is in any other bucket
+-- of the new table has a cause, and is not theirs.
+pub record IsShared (Accepted : Peer → Address → Type 0) (Listed : ℕ → Peer → ℕ → Type 0)
+    (st : State) : Type 0 where
+  pub new : (nets : List ℕ) (groups : List (List ℕ))
+      → AllBut (64 * length groups) st true nets (IsBy Accepted st.places groups)
+  pub tried : (nets : List ℕ) (groups : List (List ℕ))
+      → AllBut (8 * length groups) st false nets (IsOf st groups)
+  pub others : (groups : List (List ℕ)) (r : Rec) → Contains st.records r → (bucket : ℕ)
+      → Contains (buckets_of r) bucket → (Contains (reach st.places groups) bucket → ⊥)
+      → IsCaused Accepted Listed st.places r.number r.peer r.source bucket
+      × (IsBy Accepted st.places groups r bucket → ⊥)
+
+-- after each line of a run
+abbrev pub KeepsShares : Option Snapshot → Places → session.State → List (List ℕ) → Type 0
+KeepsShares file places st lines =
+    (before : List (List ℕ)) (h : History) → IsAfter st lines before h
+    → IsShared (IsAccepted st before) (IsListed file places) h.now.machine.tables

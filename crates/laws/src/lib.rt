@@ -1,0 +1,30 @@
+//! What the definitions of the tables give, in the words of a node's author. There is no program
+//! here, only definitions and laws.
+//!
+//! Proved:
+//!
+//! 1. How many of a round's random words select a record: the slots from which a round comes to its
+//!    own, summed over its buckets, times the words that accept it (`picks_are_counted`).
+//! 2. Each arrangement of the records comes from exactly one list of draws, and a sample is its
+//!    beginning (`shuffles_are_fair`, `samples_are_shuffles`).
+//! 3. After each line of a log, all but 64 buckets a group of the new table, and all but 8 of the
+//!    tried one, lead to no record that some groups put there (`groups_reach_few`).
+//! 4. A record is lost only if it is terrible and its last slot goes to another, or if a tried
+//!    record that a success displaces takes that slot (`losses_have_causes`,
+//!    `runs_lose_with_causes`).
+//! 5. A restart loses no record and leaves each in its slots (`restarts_keep_records`).
+//!
+//! Not said: that random words are random, or that hashes spread records evenly.
+#![tactic(auto)]
+
+mod groups;
+mod losses;
+mod picks;
+mod restarts;
+mod samples;
+
+pub use groups::groups_reach_few;
+pub use losses::{losses_have_causes, runs_lose_with_causes};
+pub use picks::{picks_are_counted, rounds_are_counted};
+pub use restarts::restarts_keep_records;
+pub use samples::{samples_are_shuffles, shuffles_are_fair};
