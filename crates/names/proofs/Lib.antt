@@ -1,0 +1,8 @@
+pub mod Base32Laws
+pub mod RoundTrip
+pub mod Letters
+pub mod Forms
+pub mod Lower
+pub mod Printed
+mod Examples
+mod Checksums

@@ -1,0 +1,20 @@
+//! The names of addresses as people write them: `base32.onion` of Tor v3, `base32.b32.i2p` of I2P,
+//! and IP addresses without brackets or labels.
+//!
+//! Proved:
+//! - `name_of` returns the name of an address, which parses as that address unless it is an IPv6
+//!   address of fc00::/8 or an address of CJDNS outside of it.
+//! - `parse_name` accepts exactly the grammar, so a text is the name of one address at most.
+//! - The checksum in a name of Tor v3 is determined by the letters before it
+//!   (`checksums_are_determined`).
+#![tactic(auto)]
+
+mod base32;
+mod law;
+mod name;
+mod print;
+mod read;
+
+pub use law::checksums_are_determined;
+pub use print::name_of;
+pub use read::parse_name;
