@@ -1,0 +1,11 @@
+pub mod Constant
+pub mod Counts
+pub mod Cursors
+pub mod DiffLaws
+pub mod Fewest
+pub mod Joins
+pub mod Parts
+pub mod Paths
+pub mod Results
+pub mod Walks
+pub mod Whole

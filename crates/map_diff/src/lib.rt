@@ -1,0 +1,24 @@
+//! The difference of two asmaps, as the prefixes whose number changes.
+//!
+//! Contracts see an asmap as the tree of its file, and the changes as a list of prefixes, each with
+//! the number that the old asmap gives all its addresses and the one that the new asmap gives them.
+//!
+//! Proved:
+//! - `difference` gives the largest prefixes on which both asmaps are constant and differ, in their
+//!   order (`rows`), and refuses exactly what has more than 2,000,000 (`too_many`, `cause`).
+//! - An address is covered by a change exactly if the asmaps give it two numbers, and the first
+//!   change that covers it has both (`exact`). No list of prefixes on which both are constant and
+//!   differ covers these addresses with fewer (`fewest`).
+#![tactic(auto)]
+
+mod change;
+mod changed;
+mod cursor;
+mod fault;
+mod law;
+mod walk;
+
+pub use change::ChangedPrefix;
+pub use changed::difference;
+pub use fault::DiffFault;
+pub use law::changes_are_the_differences;
