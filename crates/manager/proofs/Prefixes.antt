@@ -3,7 +3,6 @@ use Rattle.std.proofs.Common.{◌≡◌, ℕ, zero, suc, ◌+◌, ◌<◌, ◌�
 use Rattle.net_addr.specs.Address.{Address}
 use Rattle.net_addr.specs.declared.entry.Entry.{Entry}
 use Rattle.table_machine.specs.State.{State, After}
-use Rattle.manager.specs.Machine.{Machine}
 use Rattle.manager.specs.Messages.{take_entry, take_entries}
 
 -- the tally with one more entry
@@ -40,31 +39,25 @@ one_more st now (entry ∷ entries) source (word ∷ words) (suc i) h k =
     sum : (first all some more : ℕ) → all ≡ some + more → first + all ≡ first + some + more
     sum first all some more e = omega (arith, e)
 
--- the machine after one more entry
-pub next_machine : (start self next : Machine) (entries : List (Option Entry)) (source : Address) (words : List ℕ) (i : ℕ) (entry : Option Entry) (word : ℕ) →
-    self ≡ record start { tables = (take_entries start.tables start.clock (take i entries) source words).state } →
-    next ≡ record self { tables = (take_entry self.tables self.clock entry source word).state } →
+-- the state after one more entry
+pub next_state : (start self next : State) (now : ℕ) (entries : List (Option Entry)) (source : Address) (words : List ℕ) (i : ℕ) (entry : Option Entry) (word : ℕ) →
+    self ≡ (take_entries start now (take i entries) source words).state →
+    next ≡ (take_entry self now entry source word).state →
     entry ≡ get_or entries i None → word ≡ get_or words i 0 → i < length entries → length entries ≤ length words →
-    next ≡ record start { tables = (take_entries start.tables start.clock (take (i + 1) entries) source words).state }
-next_machine start self next entries source words i entry word is step at_entry at_word h k =
-    let more = one_more start.tables start.clock entries source words i h k in
-    let so_far = (take_entries start.tables start.clock (take i entries) source words).state in
+    next ≡ (take_entries start now (take (i + 1) entries) source words).state
+next_state start self next now entries source words i entry word is step at_entry at_word h k =
     step
-    ∙ ap (λ (m : Machine). record m { tables = (take_entry m.tables m.clock entry source word).state }) is
-    ∙ (λ j. record start { tables = (take_entry so_far start.clock (at_entry j) source (at_word j)).state })
-    ∙ ap (λ (st : State). record start { tables = st }) (sym more.state)
+    ∙ (λ j. (take_entry (is j) now (at_entry j) source (at_word j)).state)
+    ∙ sym (one_more start now entries source words i h k).state
 
 -- the count after one more entry
-pub next_count : (start self : Machine) (entries : List (Option Entry)) (source : Address) (words : List ℕ) (i count next : ℕ) (answer : Bool) (entry : Option Entry) (word : ℕ) →
-    self ≡ record start { tables = (take_entries start.tables start.clock (take i entries) source words).state } →
-    count ≡ (take_entries start.tables start.clock (take i entries) source words).answer →
-    answer ≡ (take_entry self.tables self.clock entry source word).answer → next ≡ count + cond answer 1 0 →
+pub next_count : (start self : State) (now : ℕ) (entries : List (Option Entry)) (source : Address) (words : List ℕ) (i count next : ℕ) (answer : Bool) (entry : Option Entry) (word : ℕ) →
+    self ≡ (take_entries start now (take i entries) source words).state →
+    count ≡ (take_entries start now (take i entries) source words).answer →
+    answer ≡ (take_entry self now entry source word).answer → next ≡ count + cond answer 1 0 →
     entry ≡ get_or entries i None → word ≡ get_or words i 0 → i < length entries → length entries ≤ length words →
-    next ≡ (take_entries start.tables start.clock (take (i + 1) entries) source words).answer
-next_count start self entries source words i count next answer entry word is counted answered sum at_entry at_word h k =
-    let more = one_more start.tables start.clock entries source words i h k in
-    let so_far = (take_entries start.tables start.clock (take i entries) source words).state in
-    let same : answer ≡ (take_entry so_far start.clock (get_or entries i None) source (get_or words i 0)).answer =
-    answered ∙ ap (λ (m : Machine). (take_entry m.tables m.clock entry source word).answer) is
-    ∙ (λ j. (take_entry so_far start.clock (at_entry j) source (at_word j)).answer) in
-    sum ∙ (λ j. counted j + cond (same j) 1 0) ∙ sym more.count
+    next ≡ (take_entries start now (take (i + 1) entries) source words).answer
+next_count start self now entries source words i count next answer entry word is counted answered sum at_entry at_word h k =
+    let same : answer ≡ (take_entry (take_entries start now (take i entries) source words).state now (get_or entries i None) source (get_or words i 0)).answer =
+    answered ∙ (λ j. (take_entry (is j) now (at_entry j) source (at_word j)).answer) in
+    sum ∙ (λ j. counted j + cond (same j) 1 0) ∙ sym (one_more start now entries source words i h k).count
