@@ -13,6 +13,7 @@ pub mod Balance
 pub mod PeersOf
 pub mod RunsOf
 pub mod SomeOf
+pub mod SearchOf
 pub mod Restarted
 pub mod SharesOf
 mod Examples

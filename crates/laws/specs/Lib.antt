@@ -6,3 +6,4 @@ pub mod Losses
 pub mod LostLines
 pub mod Shares
 pub mod Restarts
+pub mod Searches

@@ -4,7 +4,8 @@
 //! Proved:
 //!
 //! 1. How many of a round's random words select a record: the slots from which a round comes to its
-//!    own, summed over its buckets, times the words that accept it (`picks_are_counted`).
+//!    own, summed over its buckets, times the words that accept it (`picks_are_counted`). And how
+//!    many lists of words end a search of several rounds at it (`searches_are_counted`).
 //! 2. Each arrangement of the records comes from exactly one list of draws, and a sample is its
 //!    beginning (`shuffles_are_fair`, `samples_are_shuffles`).
 //! 3. After each line of a log, all but 64 buckets a group of the new table, and all but 8 of the
@@ -22,9 +23,11 @@ mod losses;
 mod picks;
 mod restarts;
 mod samples;
+mod searches;
 
 pub use groups::groups_reach_few;
 pub use losses::{losses_have_causes, runs_lose_with_causes};
 pub use picks::{picks_are_counted, rounds_are_counted};
 pub use restarts::restarts_keep_records;
 pub use samples::{samples_are_shuffles, shuffles_are_fair};
+pub use searches::searches_are_counted;

@@ -1,0 +1,27 @@
+ghost use Rattle.std.specs.Prelude.{◌≡◌, ℕ, suc, ◌+◌, ◌*◌, ◌^◌, List, Bool, Contains};
+ghost use Rattle.laws.specs.Chances.{picking_words};
+ghost use Rattle.laws.specs.Searches.{all_lists, ending_lists, idle_rounds, refusing_rounds};
+ghost use Rattle.net_addr.specs.declared.peer.Peer.{Peer};
+ghost use Rattle.peer_rec.specs.declared.rec.Rec.{Rec};
+ghost use Rattle.slot_grid.specs.declared.sizes.TheConstants.{SLOTS};
+ghost use Rattle.table_machine.specs.Picks.{bucket_count, next_factor};
+ghost use Rattle.table_machine.specs.Sound.{IsSound};
+ghost use Rattle.table_machine.specs.State.{State};
+
+/// Of the lists of n + 1 rounds' words, so many end a search of one table at a record: those of
+/// which the first round selects it; and of those of which the first round has no candidate, or
+/// refuses its candidate, as many as the n others end there, after a refusal with the factor grown.
+pub fn searches_are_counted()
+    ensures none { (st : State) (in_new : Bool) (nets : List ℕ) (now factor : ℕ) (peer : Peer) →
+        ending_lists st in_new nets now factor peer 0 ≡ 0 }
+    ensures more { (st : State) (in_new : Bool) (nets : List ℕ) (now factor n : ℕ) (r : Rec) →
+        IsSound st → Contains st.records r →
+        ending_lists st in_new nets now factor r.peer (suc n)
+        ≡ picking_words st in_new nets now factor r.number * all_lists in_new n
+        + idle_rounds st in_new nets * ending_lists st in_new nets now factor r.peer n
+        + refusing_rounds st in_new nets now factor
+        * ending_lists st in_new nets now (next_factor factor) r.peer n }
+    ensures all { (in_new : Bool) (n : ℕ) →
+        all_lists in_new (suc n)
+        ≡ bucket_count in_new * (SLOTS * (2 ^ 30 * all_lists in_new n)) }
+{}
