@@ -50,6 +50,7 @@ no_files = Some (record {
     peers_temp = safe None;
     asmap = safe None;
     asmap_temp = safe None;
+    asmap_old = safe None;
     prefixes = safe None;
     bans = safe None;
     bans_temp = safe None;

@@ -44,6 +44,7 @@ folder bytes = Some (record {
     peers_temp = safe None;
     asmap = safe None;
     asmap_temp = safe None;
+    asmap_old = safe None;
     prefixes = safe None;
     bans = safe None;
     bans_temp = safe None;

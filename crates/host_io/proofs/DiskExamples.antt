@@ -22,6 +22,7 @@ start = each safe (record {
   peers_temp = Some new_file;
   asmap = None;
   asmap_temp = None;
+  asmap_old = None;
   prefixes = None;
   bans = None;
   bans_temp = None;

@@ -22,6 +22,7 @@ one_file = record {
   peers_temp = None;
   asmap = Some (1 ∷ 2 ∷ []);
   asmap_temp = None;
+  asmap_old = None;
   prefixes = None;
   bans = None;
   bans_temp = None;

@@ -86,6 +86,7 @@ impl MemDisk {
         files.peers_temp = self.found(Name::PeersTemp, choice, &mut rest)?;
         files.asmap = self.found(Name::Asmap, choice, &mut rest)?;
         files.asmap_temp = self.found(Name::AsmapTemp, choice, &mut rest)?;
+        files.asmap_old = self.found(Name::AsmapOld, choice, &mut rest)?;
         files.prefixes = self.found(Name::Prefixes, choice, &mut rest)?;
         files.bans = self.found(Name::Bans, choice, &mut rest)?;
         files.bans_temp = self.found(Name::BansTemp, choice, &mut rest)?;
@@ -150,6 +151,7 @@ fn safe_entries(alloc: Global, files: &PerName<Option<Bytes>>) -> Result<PerName
         peers_temp: Entry::safe(alloc, None),
         asmap: Entry::safe(alloc, None),
         asmap_temp: Entry::safe(alloc, None),
+        asmap_old: Entry::safe(alloc, None),
         prefixes: Entry::safe(alloc, None),
         bans: Entry::safe(alloc, None),
         bans_temp: Entry::safe(alloc, None),
@@ -170,6 +172,7 @@ fn copy_files(
     entries.set(Name::PeersTemp, safe_entry(alloc, &files.peers_temp)?);
     entries.set(Name::Asmap, safe_entry(alloc, &files.asmap)?);
     entries.set(Name::AsmapTemp, safe_entry(alloc, &files.asmap_temp)?);
+    entries.set(Name::AsmapOld, safe_entry(alloc, &files.asmap_old)?);
     entries.set(Name::Prefixes, safe_entry(alloc, &files.prefixes)?);
     entries.set(Name::Bans, safe_entry(alloc, &files.bans)?);
     entries.set(Name::BansTemp, safe_entry(alloc, &files.bans_temp)?);
@@ -245,6 +248,7 @@ fn settle(entries: &mut PerName<Entry>)
     entries.peers_temp.settle();
     entries.asmap.settle();
     entries.asmap_temp.settle();
+    entries.asmap_old.settle();
     entries.prefixes.settle();
     entries.bans.settle();
     entries.bans_temp.settle();

@@ -6,6 +6,7 @@ pub enum Name {
     PeersTemp,
     Asmap,
     AsmapTemp,
+    AsmapOld,
     Prefixes,
     Bans,
     BansTemp,
@@ -24,6 +25,7 @@ impl Name {
             Name::PeersTemp => "peers.tmp",
             Name::Asmap => "asmap.dat",
             Name::AsmapTemp => "asmap.tmp",
+            Name::AsmapOld => "asmap.old",
             Name::Prefixes => "prefixes.txt",
             Name::Bans => "banlist.json",
             Name::BansTemp => "banlist.tmp",
@@ -38,6 +40,7 @@ pub struct PerName<T> {
     pub peers_temp: T,
     pub asmap: T,
     pub asmap_temp: T,
+    pub asmap_old: T,
     pub prefixes: T,
     pub bans: T,
     pub bans_temp: T,
@@ -53,6 +56,7 @@ impl<T> PerName<Option<T>> {
           peers_temp = None;
           asmap = None;
           asmap_temp = None;
+          asmap_old = None;
           prefixes = None;
           bans = None;
           bans_temp = None;
@@ -63,6 +67,7 @@ impl<T> PerName<Option<T>> {
             peers_temp: None,
             asmap: None,
             asmap_temp: None,
+            asmap_old: None,
             prefixes: None,
             bans: None,
             bans_temp: None,
@@ -83,6 +88,7 @@ impl<T> PerName<T> {
             Name::PeersTemp => &self.peers_temp,
             Name::Asmap => &self.asmap,
             Name::AsmapTemp => &self.asmap_temp,
+            Name::AsmapOld => &self.asmap_old,
             Name::Prefixes => &self.prefixes,
             Name::Bans => &self.bans,
             Name::BansTemp => &self.bans_temp,
@@ -100,6 +106,7 @@ impl<T> PerName<T> {
             Name::PeersTemp => self.peers_temp = value,
             Name::Asmap => self.asmap = value,
             Name::AsmapTemp => self.asmap_temp = value,
+            Name::AsmapOld => self.asmap_old = value,
             Name::Prefixes => self.prefixes = value,
             Name::Bans => self.bans = value,
             Name::BansTemp => self.bans_temp = value,

@@ -59,11 +59,12 @@ pub(crate) struct Case {
 }
 
 /// The files that a folder may have.
-pub(crate) const NAMES: [Name; 7] = [
+pub(crate) const NAMES: [Name; 8] = [
     Name::Peers,
     Name::PeersTemp,
     Name::Asmap,
     Name::AsmapTemp,
+    Name::AsmapOld,
     Name::Prefixes,
     Name::Bans,
     Name::BansTemp,

@@ -7,7 +7,7 @@ returns-clause-image c =
     image_of (disk_of c.args.self.now) _
     c.in_ok-files.ensures.allowed c.in_ok-files-2.ensures.allowed c.in_ok-files-3.ensures.allowed
     c.in_ok-files-4.ensures.allowed c.in_ok-files-5.ensures.allowed c.in_ok-files-6.ensures.allowed
-    c.in_ok-files-7.ensures.allowed
+    c.in_ok-files-7.ensures.allowed c.in_ok-files-8.ensures.allowed
 
 pub returns-clause-as_read : goal.returns-clause-as_read
 returns-clause-as_read c zero =
@@ -15,4 +15,4 @@ returns-clause-as_read c zero =
     (c.in_ok-files.ensures.as_read zero) (c.in_ok-files-2.ensures.as_read zero)
     (c.in_ok-files-3.ensures.as_read zero) (c.in_ok-files-4.ensures.as_read zero)
     (c.in_ok-files-5.ensures.as_read zero) (c.in_ok-files-6.ensures.as_read zero)
-    (c.in_ok-files-7.ensures.as_read zero)
+    (c.in_ok-files-7.ensures.as_read zero) (c.in_ok-files-8.ensures.as_read zero)
