@@ -21,13 +21,19 @@ ipv4_text bytes = join_with_byte 46 (map decimal bytes)
 abbrev pub ipv6_text : List ℕ → List ℕ
 ipv6_text bytes = hex_groups_text (segments_of bytes)
 
--- the label before the hexadecimal digits of an address, for the networks that have one
+-- the name of a network, or of a class that no network has
+abbrev pub net_name : Net → List ℕ
+net_name Unroutable = codes "unroutable"
+net_name Ipv4 = codes "ipv4"
+net_name Ipv6 = codes "ipv6"
+net_name Onion = codes "onion"
+net_name I2p = codes "i2p"
+net_name Cjdns = codes "cjdns"
+net_name Internal = codes "internal"
+
+-- the label before the hexadecimal digits of an address: the network's name and a colon
 abbrev pub label_of : Net → List ℕ
-label_of Onion = codes "onion:"
-label_of I2p = codes "i2p:"
-label_of Cjdns = codes "cjdns:"
-label_of Internal = codes "internal:"
-label_of other = []
+label_of net = net_name net ++ codes ":"
 
 abbrev pub text_by : Net → List ℕ → List ℕ
 text_by Ipv4 bytes = ipv4_text bytes

@@ -24,6 +24,7 @@ mod peer;
 mod print;
 mod ranges;
 mod read;
+mod text;
 
 pub use address::NetAddr;
 pub use entry::Entry;
@@ -35,3 +36,4 @@ pub use old_form::{INTERNAL_PREFIX, MAPPED_PREFIX, TORV2_PREFIX};
 pub use peer::Peer;
 pub use print::{put_addr, put_ipv4, put_ipv6, put_peer};
 pub use read::{around_last, parse_addr, parse_ipv4, parse_ipv6, parse_number, parse_peer};
+pub use text::{put_number, put_text};

@@ -2,12 +2,13 @@ ghost use Rattle.std.specs.Prelude.{◌≡◌, ◌+◌, ◌<◌, ◌≤◌, ◌^
 ghost use Rattle.std.specs.Int.{w32, w128, to_be_bytes};
 ghost use Rattle.hex.specs.Hex.{encode_lower};
 ghost use Rattle.net_addr.specs.Address.{IsAddress};
-ghost use Rattle.net_addr.specs.Text.{ipv4_text, ipv6_text, addr_text, peer_text, IsIpv4Text, IsIpv6Text, IsAddrText, IsPeerText};
+ghost use Rattle.net_addr.specs.Text.{ipv4_text, ipv6_text, label_of, addr_text, peer_text, IsIpv4Text, IsIpv6Text, IsAddrText, IsPeerText};
 ghost use Rattle.std.specs.String.{string_bytes};
 ghost use Rattle.arrayvec.specs.ArrayVec.{array_vec_len};
 
 use crate::append::append;
 use crate::old_form::array_of;
+use crate::text::put_text;
 use crate::{Memory, Net, NetAddr, Peer};
 use arrayvec::ArrayVec;
 use itoa::Buffer;
@@ -32,7 +33,7 @@ pub fn put_ipv6(bits: u128, out: &mut Vec<u8>) -> Result<(), Memory>
     ensures reads_back { IsIpv6Text (ipv6_text (to_be_bytes w128 bits)) bits }
 {
     let text = groups(bits.to_be_bytes(), *out.allocator())?;
-    put(text.as_bytes(), out)
+    put_text(text.as_bytes(), out)
 }
 
 /// Appends the text of an address.
@@ -42,7 +43,7 @@ pub fn put_addr(addr: &NetAddr, out: &mut Vec<u8>) -> Result<(), Memory>
     ensures reads_back { IsAddrText (addr_text addr.now) addr.now }
 {
     let text = text_of(addr, *out.allocator())?;
-    put(text.as_slice(), out)
+    put_text(text.as_slice(), out)
 }
 
 /// Appends the text of a peer.
@@ -52,16 +53,7 @@ pub fn put_peer(peer: &Peer, out: &mut Vec<u8>) -> Result<(), Memory>
     ensures reads_back { IsPeerText (peer_text peer.now) peer.now }
 {
     let text = text_of_peer(peer, *out.allocator())?;
-    put(text.as_slice(), out)
-}
-
-/// Appends `text`.
-fn put(text: &[u8], out: &mut Vec<u8>) -> Result<(), Memory>
-    ensures ok { OnOk result (out.new.items ≡ out.old.items ++ text.now) }
-    ensures err { OnErr result (out.new.items ≡ out.old.items) }
-{
-    out.extend_from_slice(text)?;
-    Ok(())
+    put_text(text.as_slice(), out)
 }
 
 /// Returns the text of a peer.
@@ -86,10 +78,10 @@ fn text_of(addr: &NetAddr, alloc: Global) -> Result<Vec<u8>, AllocError>
     match addr.net() {
         Net::Ipv4 => Vec::from_slice(alloc, dotted(array_of(bytes)).as_slice()),
         Net::Ipv6 => bracketed(bytes, alloc),
-        Net::Onion => labelled("onion:", bytes, alloc),
-        Net::I2p => labelled("i2p:", bytes, alloc),
-        Net::Cjdns => labelled("cjdns:", bytes, alloc),
-        Net::Internal => labelled("internal:", bytes, alloc),
+        Net::Onion => labelled(Net::Onion, bytes, alloc),
+        Net::I2p => labelled(Net::I2p, bytes, alloc),
+        Net::Cjdns => labelled(Net::Cjdns, bytes, alloc),
+        Net::Internal => labelled(Net::Internal, bytes, alloc),
         Net::Unroutable => Ok(Vec::new(alloc)),
     }
 }
@@ -114,13 +106,14 @@ fn bracketed(bytes: &[u8], alloc: Global) -> Result<Vec<u8>, AllocError>
     Ok(text)
 }
 
-/// Returns a label and the hexadecimal digits of the bytes.
-fn labelled(label: &str, bytes: &[u8], alloc: Global) -> Result<Vec<u8>, AllocError>
-    ensures { IfOk result (λ text. text.items ≡ label.now ++ encode_lower bytes.now) }
+/// Returns the label of a network and the hexadecimal digits of the bytes.
+fn labelled(net: Net, bytes: &[u8], alloc: Global) -> Result<Vec<u8>, AllocError>
+    ensures { IfOk result (λ text. text.items ≡ label_of net ++ encode_lower bytes.now) }
 {
     let digits = hex::encode(alloc, bytes)?;
     let mut text = Vec::new(alloc);
-    text.extend_from_slice(label.as_bytes())?;
+    text.extend_from_slice(net.name())?;
+    text.extend_from_slice(b":")?;
     text.extend_from_slice(digits.as_bytes())?;
     Ok(text)
 }

@@ -106,19 +106,28 @@ fn after_label(text: &[u8]) -> Option<(Net, &[u8])>
     ensures none { IfNone result ((net : Net) (rest : List ℕ) → HasLabel net
         → text.now ≢ label_of net ++ rest) }
 {
-    if let Some(digits) = text.strip_prefix(b"onion:") {
+    if let Some(digits) = after_label_of(Net::Onion, text) {
         return Some((Net::Onion, digits));
     }
-    if let Some(digits) = text.strip_prefix(b"i2p:") {
+    if let Some(digits) = after_label_of(Net::I2p, text) {
         return Some((Net::I2p, digits));
     }
-    if let Some(digits) = text.strip_prefix(b"cjdns:") {
+    if let Some(digits) = after_label_of(Net::Cjdns, text) {
         return Some((Net::Cjdns, digits));
     }
-    if let Some(digits) = text.strip_prefix(b"internal:") {
+    if let Some(digits) = after_label_of(Net::Internal, text) {
         return Some((Net::Internal, digits));
     }
     None
+}
+
+/// Returns the text after the label of a network, or `None` if it does not begin with the label.
+fn after_label_of(net: Net, text: &[u8]) -> Option<&[u8]>
+    ensures cut { IfSome result (λ rest. text.now ≡ label_of net ++ rest.now) }
+    ensures none { IfNone result ((rest : List ℕ) → text.now ≢ label_of net ++ rest) }
+{
+    let after_name = text.strip_prefix(net.name())?;
+    after_name.strip_prefix(b":")
 }
 
 /// Parses the bytes of an address of the network from hexadecimal digits.
