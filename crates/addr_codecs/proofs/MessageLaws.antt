@@ -13,11 +13,12 @@ use Rattle.wire_num.proofs.FieldLaws.{Reads-some_bytes, Reads-number, le32, le64
 use Rattle.wire_num.proofs.CompactLaws.{Reads-compact}
 use Rattle.addr_codecs.specs.declared.fault.MsgFault.{MsgFault}
 use Rattle.addr_codecs.specs.declared.fault.MsgFault.TheVariants.{TooMany, Trailing, Memory}
+use Rattle.addr_codecs.specs.declared.form.Form.{Form}
 use Rattle.addr_codecs.specs.declared.form.Form.TheVariants.{Addr, Addrv2}
-use Rattle.addr_codecs.specs.Faults.{of_wire, of_address}
+use Rattle.addr_codecs.specs.Faults.{UnlessMemory, of_wire, of_address}
 use Rattle.addr_codecs.specs.Readings.{address_at}
 use Rattle.addr_codecs.proofs.AddressLaws.{Reads-address}
-use Rattle.addr_codecs.specs.Layout.{field, entry, addr_entry, addrv2_address, addrv2_entry, message}
+use Rattle.addr_codecs.specs.Layout.{field, entry, addr_entry, addrv2_address, addrv2_entry, message, IsMessage, HasMessageFault}
 use Rattle.addr_codecs.specs.Inside.{addr_entry_at, addrv2_entry_at, message_at, entry_at, GivesUnlessMemory}
 
 abbrev field_at : {A : Type 0} → (List ℕ → Result (A × List ℕ) WireFault) → List ℕ → Result (A × List ℕ) MsgFault
@@ -113,8 +114,18 @@ answers p r h bytes fits (Err e) given =
       first = λ f has answered. sym (given (own answered)) ∙ all.first f has;
     }
 
-pub addr_answers : (bytes : List ℕ) (answer : Result (List (Option Entry)) MsgFault) → AreBytes bytes → GivesUnlessMemory (λ es. es) answer (all_of (message_at (entry_at Addr)) Trailing bytes) → IsAnswer addr_entry bytes answer
-addr_answers bytes answer fits given = answers addr_entry addr_entry_at Reads-addr_entry bytes fits answer given
+-- what a reader answers about the bytes of a form
+pub record IsAnswerIn (form : Form) (bytes : List ℕ) (answer : Result (List (Option Entry)) MsgFault) : Type 0 where
+  pub found : IfOk answer (λ es. IsMessage form bytes es)
+  pub only : (es : List (Option Entry)) → IsMessage form bytes es → UnlessMemory answer (Ok es)
+  pub cause : IfErr answer (λ f. f ≢ Memory → HasMessageFault form bytes f)
+  pub first : (f : MsgFault) → HasMessageFault form bytes f → UnlessMemory answer (Err f)
 
-pub addrv2_answers : (bytes : List ℕ) (answer : Result (List (Option Entry)) MsgFault) → AreBytes bytes → GivesUnlessMemory (λ es. es) answer (all_of (message_at (entry_at Addrv2)) Trailing bytes) → IsAnswer addrv2_entry bytes answer
-addrv2_answers bytes answer fits given = answers addrv2_entry addrv2_entry_at Reads-addrv2_entry bytes fits answer given
+pub answers_in : (form : Form) (bytes : List ℕ) (answer : Result (List (Option Entry)) MsgFault) → AreBytes bytes
+    → GivesUnlessMemory (λ es. es) answer (all_of (message_at (entry_at form)) Trailing bytes) → IsAnswerIn form bytes answer
+answers_in Addr bytes answer fits given =
+    let is = answers addr_entry addr_entry_at Reads-addr_entry bytes fits answer given in
+    record { found = is.found; only = is.only; cause = is.cause; first = is.first }
+answers_in Addrv2 bytes answer fits given =
+    let is = answers addrv2_entry addrv2_entry_at Reads-addrv2_entry bytes fits answer given in
+    record { found = is.found; only = is.only; cause = is.cause; first = is.first }

@@ -15,3 +15,9 @@ impl From<wire_num::Memory> for Memory {
         Memory
     }
 }
+
+impl From<Memory> for net_addr::Memory {
+    fn from(_error: Memory) -> net_addr::Memory {
+        net_addr::Memory
+    }
+}

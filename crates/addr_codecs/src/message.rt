@@ -59,6 +59,20 @@ fn read_whole(alloc: Global, form: Form, bytes: &[u8]) -> Result<Entries, MsgFau
     }
 }
 
+/// Reads the message of a form, as `read_addr` or `read_addrv2` does.
+pub fn read_message(alloc: Global, form: Form, bytes: &[u8]) -> Result<Entries, MsgFault>
+    ensures found { IfOk result (λ entries. IsMessage form bytes.now entries) }
+    ensures few { IfOk result (λ entries. length entries ≤ 1000) }
+    ensures only { (entries : List (Option Entry)) → IsMessage form bytes.now entries →
+        UnlessMemory result (Ok entries) }
+    ensures cause { IfErr result (λ fault. fault ≢ Memory
+        → HasMessageFault form bytes.now fault) }
+    ensures first { (fault : MsgFault) → HasMessageFault form bytes.now fault →
+        UnlessMemory result (Err fault) }
+{
+    read_whole(alloc, form, bytes)
+}
+
 /// Reads an `addr` message: the number of entries, at most 1000, and for each entry the time and
 /// the services, low byte first, sixteen bytes of an address in the old form, and the port, high
 /// byte first (the message `addr` of the Bitcoin protocol). No entry is skipped.
@@ -73,7 +87,7 @@ pub fn read_addr(alloc: Global, bytes: &[u8]) -> Result<Entries, MsgFault>
     ensures first { (fault : MsgFault) → HasAddrFault bytes.now fault →
         UnlessMemory result (Err fault) }
 {
-    read_whole(alloc, Form::Addr, bytes)
+    read_message(alloc, Form::Addr, bytes)
 }
 
 /// Reads an `addrv2` message (BIP 155): the number of entries, at most 1000, and for each entry the
@@ -92,18 +106,5 @@ pub fn read_addrv2(alloc: Global, bytes: &[u8]) -> Result<Entries, MsgFault>
     ensures first { (fault : MsgFault) → HasAddrv2Fault bytes.now fault →
         UnlessMemory result (Err fault) }
 {
-    read_whole(alloc, Form::Addrv2, bytes)
-}
-
-/// Reads the message of a form, as `read_addr` or `read_addrv2` does.
-pub fn read_message(alloc: Global, form: Form, bytes: &[u8]) -> Result<Entries, MsgFault>
-    ensures found { IfOk result (λ entries. IsMessage form bytes.now entries) }
-    ensures few { IfOk result (λ entries. length entries ≤ 1000) }
-    ensures cause { IfErr result (λ fault. fault ≢ Memory
-        → HasMessageFault form bytes.now fault) }
-{
-    match form {
-        Form::Addr => read_addr(alloc, bytes),
-        Form::Addrv2 => read_addrv2(alloc, bytes),
-    }
+    read_message(alloc, Form::Addrv2, bytes)
 }
