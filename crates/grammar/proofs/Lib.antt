@@ -3,3 +3,4 @@ pub mod NameLemmas
 pub mod Values
 pub mod TableLemmas
 pub mod ReadingLemmas
+pub mod Examples

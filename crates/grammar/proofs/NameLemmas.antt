@@ -9,11 +9,12 @@ use Rattle.std.proofs.lemmas.List.Quantifiers.{all_pairs_push}
 use Rattle.std.proofs.lemmas.List.Splits.{slice_split_at, slice_split_none, join_with_byte-slice_split, length-slice_split}
 use Rattle.std.proofs.lemmas.List.Sums.{fold-append, AllPass-from_list_all}
 use Rattle.net_addr.specs.Address.{number_of}
+use Rattle.net_addr.specs.Text.{net_name}
 use Rattle.net_addr.specs.NetSet.{all, none, with, has, has_number}
 use Rattle.net_addr.specs.declared.net.Net.{Net}
 use Rattle.net_addr.specs.declared.net.Net.TheVariants.{Unroutable, Ipv4, Ipv6, Onion, I2p, Cjdns, Internal}
 use Rattle.net_addr.proofs.NetSets.{has_number-filter}
-use Rattle.grammar.specs.Fields.{Nets, Classes, net_name, set_of, AreNames, AreClasses, AreNets, IsInForm}
+use Rattle.grammar.specs.Fields.{Nets, Classes, set_of, AreNames, AreClasses, AreNets, IsInForm}
 use Rattle.grammar.specs.Words.{pieces_after}
 
 -- ---- one network

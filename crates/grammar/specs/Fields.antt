@@ -4,9 +4,9 @@ use Rattle.std.specs.List.{join_with_byte}
 use Rattle.hex.specs.Hex.{decode_of}
 use Rattle.net_addr.specs.Address.{Address}
 use Rattle.net_addr.specs.NetSet.{all, none, with}
-use Rattle.net_addr.specs.Text.{IsAddrText, IsPeerText}
+use Rattle.net_addr.specs.Text.{net_name, IsAddrText, IsPeerText}
 use Rattle.net_addr.specs.declared.net.Net.{Net}
-use Rattle.net_addr.specs.declared.net.Net.TheVariants.{Unroutable, Ipv4, Ipv6, Onion, I2p, Cjdns, Internal}
+use Rattle.net_addr.specs.declared.net.Net.TheVariants.{Unroutable}
 use Rattle.net_addr.specs.declared.peer.Peer.{Peer}
 use Rattle.grammar.specs.Random.{seeded_words}
 use Rattle.grammar.specs.declared.fault.LineFault.{LineFault}
@@ -62,16 +62,6 @@ AreSeeded text words =
 abbrev pub AreWords : List ℕ → List ℕ → Type 0
 AreWords text words =
     ((text ≡ codes "-") × (words ≡ [])) ⊎ (AreNumbers text words ⊎ AreSeeded text words)
-
--- the name of a network, or of a class that no network has
-abbrev pub net_name : Net → List ℕ
-net_name Unroutable = codes "unroutable"
-net_name Ipv4 = codes "ipv4"
-net_name Ipv6 = codes "ipv6"
-net_name Onion = codes "onion"
-net_name I2p = codes "i2p"
-net_name Cjdns = codes "cjdns"
-net_name Internal = codes "internal"
 
 -- the names, at least one and each once, in any order and separated by commas
 pub record AreNames (text : List ℕ) (nets : List Net) : Type 0 where

@@ -1,3 +1,4 @@
+pub mod FaultTexts
 pub mod Random
 pub mod Words
 pub mod Fields

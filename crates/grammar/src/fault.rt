@@ -1,3 +1,6 @@
+ghost use Rattle.std.specs.Prelude.{◌≡◌};
+ghost use Rattle.grammar.specs.FaultTexts.{line_fault_text};
+
 use thiserror::Error;
 
 /// Why a line is refused: an unknown keyword, a wrong number of fields, or the first field with an
@@ -25,4 +28,21 @@ pub enum LineFault {
     /// Out of memory.
     #[error("out of memory")]
     Memory,
+}
+
+impl LineFault {
+    /// Returns the word for the fault, as it is printed.
+    pub fn word(&self) -> &'static [u8]
+        ensures { result.now ≡ line_fault_text self.now }
+    {
+        match self {
+            LineFault::Word => b"word",
+            LineFault::Fields => b"fields",
+            LineFault::Number => b"number",
+            LineFault::Peer => b"peer",
+            LineFault::Hex => b"hex",
+            LineFault::Words => b"words",
+            LineFault::Memory => b"out of memory",
+        }
+    }
 }

@@ -1,11 +1,12 @@
 ghost use Rattle.std.specs.Prelude.{⊤};
 ghost use Rattle.grammar.specs.Fields.{Number, OfAddr, OfPeer, Hex, Random, TheNumber, TheAddr, ThePeer, Nets, Classes, TheBytes, TheWords, TheNets};
 
-use crate::field::{read_addr, read_number, read_payload, read_peer, read_random, read_u32};
+use crate::field::{read_hex, read_number};
 use crate::nets::{read_classes, read_nets};
+use crate::random::{MAX_WORDS_TEXT, read_words};
 use crate::{Field, LineFault, Words};
 use host_io::Bytes;
-use net_addr::{NetAddr, NetSet, Peer};
+use net_addr::{NetAddr, NetSet, Peer, parse_addr, parse_peer};
 use std::alloc::Global;
 
 /// A number of 32 bits between two bounds.
@@ -21,7 +22,8 @@ impl<const LEAST: u32, const MOST: u32> Field for Between<LEAST, MOST> {
     ghost may_stop = { ⊥ };
 
     fn read(alloc: Global, text: &[u8]) -> Result<u32, LineFault> {
-        read_u32(text, LEAST, MOST)
+        let number = read_number(text, u64::from(LEAST), u64::from(MOST))?;
+        Ok(number as u32)
     }
 }
 
@@ -55,7 +57,10 @@ impl Field for Source {
     ghost may_stop = { ⊥ };
 
     fn read(alloc: Global, text: &[u8]) -> Result<NetAddr, LineFault> {
-        read_addr(text)
+        match parse_addr(text) {
+            Some(addr) => Ok(addr),
+            None => Err(LineFault::Peer),
+        }
     }
 }
 
@@ -72,7 +77,10 @@ impl Field for OnePeer {
     ghost may_stop = { ⊥ };
 
     fn read(alloc: Global, text: &[u8]) -> Result<Peer, LineFault> {
-        read_peer(text)
+        match parse_peer(text) {
+            Some(peer) => Ok(peer),
+            None => Err(LineFault::Peer),
+        }
     }
 }
 
@@ -89,11 +97,11 @@ impl Field for Payload {
     ghost may_stop = { ⊤ };
 
     fn read(alloc: Global, text: &[u8]) -> Result<Bytes, LineFault> {
-        read_payload(alloc, text)
+        read_hex(alloc, text)
     }
 }
 
-/// Random words.
+/// Random words. A text of more than `MAX_WORDS_TEXT` bytes is out of memory.
 pub struct Random;
 
 impl Field for Random {
@@ -106,7 +114,10 @@ impl Field for Random {
     ghost may_stop = { ⊤ };
 
     fn read(alloc: Global, text: &[u8]) -> Result<Words, LineFault> {
-        read_random(alloc, text)
+        if text.len() > MAX_WORDS_TEXT {
+            return Err(LineFault::Memory);
+        }
+        read_words(alloc, text)
     }
 }
 

@@ -11,8 +11,8 @@
 //!   both.
 //! - A field has at most one value and at most one fault (`fields_have_one_value`).
 //!
-//! The lines of a log (`log_lines`), of the limit (`addr_limit`) and the arguments of the command
-//! line (`arguments`) are read by it.
+//! It reads the lines of a log (`log_lines`), of the limit (`addr_limit`) and of the opener
+//! (`opener_lines`), and the arguments of the command line (`arguments`).
 #![tactic(auto)]
 
 mod choice;
@@ -32,10 +32,7 @@ mod words;
 
 pub use choice::{Choice, OneOf};
 pub use fault::LineFault;
-pub use field::{
-    read_addr, read_decimal, read_either, read_number, read_payload, read_peer, read_random,
-    read_u32,
-};
+pub use field::{read_decimal, read_hex};
 pub use fields::{Field, Fields, read_fields};
 pub use grammar::Grammar;
 pub use keyword::{Keyword, find_keyword};

@@ -1,5 +1,5 @@
 ghost use Rattle.std.specs.Prelude.{◌≡◌, ◌≢◌, List, codes, IfOk, IfSome, IfNone, IsTrue, Err};
-ghost use Rattle.grammar.specs.Fields.{Means, Nets, Classes, TheNets, AreNames, IsFieldFault, net_name, set_of};
+ghost use Rattle.grammar.specs.Fields.{Means, Nets, Classes, TheNets, AreNames, IsFieldFault, set_of};
 ghost use Rattle.net_addr.specs.declared.net.Net as net;
 
 use crate::LineFault;
@@ -57,7 +57,7 @@ fn read_names(text: &[u8]) -> Option<NetSet>
     let mut rest = Some(text);
     while let Some(names) = rest {
         let (name, after) = cut_piece(names, b',');
-        let net = match net_of(name) {
+        let net = match Net::of_name(name) {
             Some(net) => net,
             None => return None,
         };
@@ -68,28 +68,4 @@ fn read_names(text: &[u8]) -> Option<NetSet>
         rest = after;
     }
     Some(nets)
-}
-
-/// Returns the network of this name.
-fn net_of(text: &[u8]) -> Option<Net>
-    ensures found { IfSome result (λ net. text.now ≡ net_name net) }
-    ensures none { IfNone result ((net : net.Net) → text.now ≢ net_name net) }
-{
-    if text == b"unroutable".as_slice() {
-        Some(Net::Unroutable)
-    } else if text == b"ipv4".as_slice() {
-        Some(Net::Ipv4)
-    } else if text == b"ipv6".as_slice() {
-        Some(Net::Ipv6)
-    } else if text == b"onion".as_slice() {
-        Some(Net::Onion)
-    } else if text == b"i2p".as_slice() {
-        Some(Net::I2p)
-    } else if text == b"cjdns".as_slice() {
-        Some(Net::Cjdns)
-    } else if text == b"internal".as_slice() {
-        Some(Net::Internal)
-    } else {
-        None
-    }
 }

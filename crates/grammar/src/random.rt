@@ -18,18 +18,15 @@ pub const MAX_SEEDED: u64 = 1_000_000;
 pub const MAX_WORDS_TEXT: usize = 16_777_216;
 
 /// Reads random words: `-` for none, numbers with commas between them, or `@S:N` for the first N
-/// words of the generator with the seed S. A text of more than `MAX_WORDS_TEXT` bytes is out of
-/// memory.
+/// words of the generator with the seed S.
 pub fn read_words(alloc: Global, text: &[u8]) -> Result<Words, LineFault>
+    requires { length text.now ≤ MAX_WORDS_TEXT }
     ensures found { IfOk result (λ words. AreWords text.now words) }
     ensures only { (words : List ℕ) → AreWords text.now words →
         (result ≡ Ok words) ⊎ (result ≡ Err LineFault.Memory) }
     ensures fault { (f : LineFault) → result ≡ Err f →
         (f ≡ LineFault.Words) ⊎ (f ≡ LineFault.Memory) }
 {
-    if text.len() > MAX_WORDS_TEXT {
-        return Err(LineFault::Memory);
-    }
     if is_dash(text) {
         return Ok(Words::of(Vec::new(alloc)));
     }

@@ -11,16 +11,16 @@ returns-in-None-clause-none c =
 
 pub returns-then-has-clause-none : goal.returns-then-has-clause-none
 returns-then-has-clause-none c =
-    let there : has c.loop-rest.nets c.in-Some-net_of.net ≡ true = cc in
-    named_twice c.args.text.now c.loop-rest.rest c.cut_piece.result.1 c.loop-rest.nets c.cut_piece.result.0.now c.in-Some-net_of.net c.loop-rest.invariant
-    (ap (pieces_after 44) c.in-Some.is ∙ c.cut_piece.ensures.cut) c.in-Some-net_of.ensures.found there
+    let there : has c.loop-rest.nets c.in-Some-of_name.net ≡ true = cc in
+    named_twice c.args.text.now c.loop-rest.rest c.cut_piece.result.1 c.loop-rest.nets c.cut_piece.result.0.now c.in-Some-of_name.net c.loop-rest.invariant
+    (ap (pieces_after 44) c.in-Some.is ∙ c.cut_piece.ensures.cut) c.in-Some-of_name.ensures.found there
 
 pub loop-rest-preserved : goal.loop-rest-preserved
 loop-rest-preserved c =
-    let absent : has c.loop-rest.nets c.in-Some-net_of.net ≡ false = cc in
+    let absent : has c.loop-rest.nets c.in-Some-of_name.net ≡ false = cc in
     subst (λ nets. SoFar c.args.text.now c.cut_piece.result.1 nets) (sym c.with-nets.ensures)
-    (so_far_next c.args.text.now c.loop-rest.rest c.cut_piece.result.1 c.loop-rest.nets c.cut_piece.result.0.now c.in-Some-net_of.net c.loop-rest.invariant
-    (ap (pieces_after 44) c.in-Some.is ∙ c.cut_piece.ensures.cut) c.in-Some-net_of.ensures.found absent)
+    (so_far_next c.args.text.now c.loop-rest.rest c.cut_piece.result.1 c.loop-rest.nets c.cut_piece.result.0.now c.in-Some-of_name.net c.loop-rest.invariant
+    (ap (pieces_after 44) c.in-Some.is ∙ c.cut_piece.ensures.cut) c.in-Some-of_name.ensures.found absent)
 
 pub returns-clause-found : goal.returns-clause-found
 returns-clause-found c = all_named c.args.text.now c.loop-rest.rest c.loop-rest.nets c.in_default.is c.loop-rest.invariant

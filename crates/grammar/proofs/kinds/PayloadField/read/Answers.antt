@@ -1,5 +1,5 @@
 use Rattle.std.proofs.Common.{inl, inr, ◌∙◌, sym}
-use Rattle.grammar.proofs.field.read_payload.Goals as goal
+use Rattle.grammar.proofs.kinds.PayloadField.read.Goals as goal
 
 pub returns-clause-fault : goal.returns-clause-fault
 returns-clause-fault c = λ f is not_memory. (
