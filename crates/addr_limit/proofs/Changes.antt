@@ -14,7 +14,7 @@ use Rattle.addr_limit.specs.declared.request.Request.{Request}
 use Rattle.addr_limit.specs.declared.request.Request.TheVariants.{Open, Close, GetAddr, Message, Stat}
 use Rattle.addr_limit.specs.State.{find_conn, with_conn, without_conn, set_conn, AreRising}
 use Rattle.addr_limit.specs.Tokens.{refill, after_entry, after_entries}
-use Rattle.addr_limit.specs.Steps.{Outcome, new_conn, serve, take_entries}
+use Rattle.addr_limit.specs.Steps.{Outcome, new_conn, serve, limit_entries}
 use Rattle.addr_limit.specs.Calls.{after_open, after_asking, after_message}
 
 -- ---- a connection that stays
@@ -148,7 +148,7 @@ module _ (now number : ℕ) (conns : List Conn) (rising : AreRising conns) where
       by None same = sym same
       by (Some c) same =
           ap (λ d. with_conn d conns) (entries-pairs (refill now c) entries words enough)
-          ∙ sym (ap (λ o. set_conn number o conns) (by_test (nat_lt (length words) (length entries)) _ (take_entries (refill now c) (zip entries words)) enough))
+          ∙ sym (ap (λ o. set_conn number o conns) (by_test (nat_lt (length words) (length entries)) _ (limit_entries (refill now c) (zip entries words)) enough))
 
 -- the connections after a request that is known
 pub along : (now number : ℕ) (conns new : List Conn) (request is : Request) → request ≡ is → new ≡ set_conn number (serve now number (find_conn number conns) is).conn conns →

@@ -7,7 +7,7 @@ use Rattle.addr_codecs.specs.declared.fault.MsgFault.{MsgFault}
 use Rattle.addr_limit.specs.declared.conn.Conn.{Conn}
 use Rattle.addr_limit.specs.Tokens.{refill, after_entry, after_entries, after_getaddr}
 use Rattle.addr_limit.specs.State.{State, find_conn, with_conn, without_conn, set_conn, IsBounded, AreBounded}
-use Rattle.addr_limit.specs.Steps.{Outcome, serve, take_message, take_entries, after}
+use Rattle.addr_limit.specs.Steps.{Outcome, serve, limit_message, limit_entries, after}
 use Rattle.addr_limit.specs.declared.event.Event.{Event}
 use Rattle.addr_limit.specs.declared.event.Event.TheVariants.{Now, Of, Nothing}
 use Rattle.addr_limit.specs.declared.request.Request.{Request}
@@ -35,11 +35,11 @@ getaddr-bounded c h = by c.asked refl h
 abbrev IsBoundedIn : Option Conn → Type 0
 IsBoundedIn o = IfSome o IsBounded
 
-message-bounded : (now : ℕ) (c : Conn) (read : Result (List (Option Entry)) MsgFault) (words : List ℕ) → IsBounded c → IsBoundedIn (take_message now c read words).conn
+message-bounded : (now : ℕ) (c : Conn) (read : Result (List (Option Entry)) MsgFault) (words : List ℕ) → IsBounded c → IsBoundedIn (limit_message now c read words).conn
 message-bounded now c (Err fault) words h = h
 message-bounded now c (Ok entries) words h = by (nat_lt (length words) (length entries)) _ refl
   where
-    by : (short : Bool) (o : Outcome) → o.conn ≡ Some c → IsBoundedIn (if short then o else take_entries (refill now c) (zip entries words)).conn
+    by : (short : Bool) (o : Outcome) → o.conn ≡ Some c → IsBoundedIn (if short then o else limit_entries (refill now c) (zip entries words)).conn
     by true o is = subst IsBoundedIn (sym is) h
     by false o is = entries-bounded (refill now c) (zip entries words) (refill-bounded now c h)
 

@@ -14,7 +14,7 @@ use Rattle.addr_limit.specs.declared.request.Request.TheVariants.{Close, GetAddr
 use Rattle.addr_limit.specs.Apart.{DependsOn, IsLastOutput}
 use Rattle.addr_limit.specs.declared.verb.Verb.{Verb}
 use Rattle.addr_limit.specs.declared.verb.Verb.TheVariants as v
-use Rattle.addr_limit.specs.Lines.{kinds_of, message_kinds, verb_at, Says, SaysBy, SaysMessage, SaysOf, SaysRequest, LimitStep, are_about, is_about, is_about_by}
+use Rattle.addr_limit.specs.Lines.{kinds_of, message_kinds, verb_at, SaysEvent, SaysBy, SaysMessage, SaysOf, SaysRequest, LimitStep, are_about, is_about, is_about_by}
 use Rattle.addr_limit.proofs.Apart.{depends_on, last_output}
 use Rattle.addr_limit.proofs.Served.{part_of, concerns, others_leave, answers_alike}
 
@@ -49,7 +49,7 @@ named number n (text ∷ texts) kinds rest about is low means =
     number_in other = 0
 
 -- the test on a line's text tells which events concern the number
-pub about_is : (number : ℕ) (line : List ℕ) (e : Event) → number < 2 ^ 64 → Says line e → is_about number line ≡ concerns number e
+pub about_is : (number : ℕ) (line : List ℕ) (e : Event) → number < 2 ^ 64 → SaysEvent line e → is_about number line ≡ concerns number e
 about_is number line e low (word, texts, is, says) = ap (are_about number) is ∙ by (verb_at word) says
   where
     open_line : (values : List Value) → AllMean (kinds_of v.Open) texts values → SaysOf v.Open values e → is_about_by number (Some v.Open) texts ≡ concerns number e

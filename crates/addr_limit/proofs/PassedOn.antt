@@ -10,7 +10,7 @@ use Rattle.net_addr.specs.declared.net.Net.{Net}
 use Rattle.net_addr.specs.declared.net.Net.TheVariants.{Internal}
 use Rattle.addr_limit.specs.declared.conn.Conn.{Conn}
 use Rattle.addr_limit.specs.Tokens.{refill, intake, intake_count}
-use Rattle.addr_limit.specs.Steps.{Outcome, is_internal, unless_hidden, for_output, message_line, take_message}
+use Rattle.addr_limit.specs.Steps.{Outcome, is_internal, unless_hidden, for_output, message_line, limit_message}
 use Rattle.addr_limit.proofs.Tokens.{intake-first}
 use Rattle.addr_limit.specs.Inside.{ArePassing}
 
@@ -81,7 +81,7 @@ same_line now c [] = refl
 same_line now c (p ∷ ps) = refl
 
 pub message_line-is : (now : ℕ) (c : Conn) (es : List (Option Entry)) (ws : List ℕ) (n : ℕ) → n ≡ intake_count (refill now c) (length es) → nat_lt (length ws) (length es) ≡ false →
-    message_line c (passing es ws n) ≡ (take_message now c (Ok es) ws).text
+    message_line c (passing es ws n) ≡ (limit_message now c (Ok es) ws).text
 message_line-is now c es ws n is enough =
     same_line now c (passing es ws n) ∙ ap (λ ps. message_line (refill now c) (filter_map for_output ps)) (sym first) ∙ sym (by (nat_lt (length ws) (length es)) _ _ enough)
   where

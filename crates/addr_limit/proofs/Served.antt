@@ -7,7 +7,7 @@ use Rattle.addr_codecs.specs.declared.fault.MsgFault.{MsgFault}
 use Rattle.addr_limit.specs.declared.conn.Conn.{Conn}
 use Rattle.addr_limit.specs.Tokens.{refill, after_entries, after_entry}
 use Rattle.addr_limit.specs.State.{State, find_conn}
-use Rattle.addr_limit.specs.Steps.{Outcome, serve, serve_in, take_message, take_entries, after, output}
+use Rattle.addr_limit.specs.Steps.{Outcome, serve, serve_in, limit_message, limit_entries, after, output}
 use Rattle.addr_limit.specs.declared.event.Event.{Event}
 use Rattle.addr_limit.specs.declared.event.Event.TheVariants.{Now, Of, Nothing}
 use Rattle.addr_limit.specs.declared.request.Request.{Request}
@@ -20,11 +20,11 @@ after_entries-number c (e ∷ es) = after_entries-number (after_entry c) es
 
 -- the connection of a number keeps it
 module _ (now number : ℕ) where
-  take_message-number : (c : Conn) (read : Result (List (Option Entry)) MsgFault) (words : List ℕ) → c.number ≡ number → HasNumber number (take_message now c read words).conn
-  take_message-number c (Err fault) words h = h
-  take_message-number c (Ok entries) words h = by (nat_lt (length words) (length entries)) _ refl
+  limit_message-number : (c : Conn) (read : Result (List (Option Entry)) MsgFault) (words : List ℕ) → c.number ≡ number → HasNumber number (limit_message now c read words).conn
+  limit_message-number c (Err fault) words h = h
+  limit_message-number c (Ok entries) words h = by (nat_lt (length words) (length entries)) _ refl
     where
-      by : (short : Bool) (o : Outcome) → o.conn ≡ Some c → HasNumber number (if short then o else take_entries (refill now c) (zip entries words)).conn
+      by : (short : Bool) (o : Outcome) → o.conn ≡ Some c → HasNumber number (if short then o else limit_entries (refill now c) (zip entries words)).conn
       by true o is = subst (HasNumber number) (sym is) h
       by false o is = after_entries-number (refill now c) (zip entries words) ∙ h
 
@@ -41,7 +41,7 @@ module _ (now number : ℕ) where
       by : (asked : Bool) → (if asked then c else record c { tenths = c.tenths + 10000; asked = true }).number ≡ number
       by true = h
       by false = h
-  serve-number (Some c) (Message read words) h = take_message-number c read words h
+  serve-number (Some c) (Message read words) h = limit_message-number c read words h
   serve-number (Some c) Stat h = h
 
 -- the clock, and the connection of the number

@@ -99,8 +99,8 @@ abbrev pub FaultAfter : List ℕ → List (List ℕ) → LineFault → Type 0
 FaultAfter word texts f = FaultBy (verb_at word) texts f
 
 -- the line says the event
-abbrev pub Says : List ℕ → Event → Type 0
-Says line event = reading.Says SaysAfter (fields_of line) event
+abbrev pub SaysEvent : List ℕ → Event → Type 0
+SaysEvent line event = reading.Says SaysAfter (fields_of line) event
 
 -- what is wrong in a line
 abbrev pub HasFault : List ℕ → LineFault → Type 0
@@ -109,7 +109,7 @@ HasFault line f = reading.Says FaultAfter (fields_of line) f
 -- the step of a line: its text is its output line and a line feed
 abbrev pub LimitStep : State → List ℕ → List ℕ → State → Type 0
 LimitStep old line text new =
-    (event : Event) × Says line event × (text ≡ output old line event ++ 10 ∷ [])
+    (event : Event) × SaysEvent line event × (text ≡ output old line event ++ 10 ∷ [])
     × (new ≡ after old event)
 
 -- a `now` line, or one with a number that is this one

@@ -24,8 +24,8 @@ pub record Outcome : Type 0 where
   pub text : List ℕ
   pub conn : Option Conn
 
-abbrev pub outcome : List ℕ → Option Conn → Outcome
-outcome text conn = record { text = text; conn = conn }
+abbrev pub with_output : List ℕ → Option Conn → Outcome
+with_output text conn = record { text = text; conn = conn }
 
 -- a comment: a word, a number, and the rest
 abbrev pub comment : List ℕ → ℕ → List ℕ → List ℕ
@@ -68,20 +68,21 @@ message_line c [] = comment (codes "from") c.number (codes " none")
 message_line c (p ∷ ps) = addrv2_line c.addr (map (λ q. q.0) (p ∷ ps)) (map (λ q. q.1) (p ∷ ps))
 
 -- a message whose entries are paired with their words
-abbrev pub take_entries : Conn → List (Option Entry × ℕ) → Outcome
-take_entries c pairs =
-    outcome (message_line c (filter_map for_output (intake c pairs))) (Some (after_entries c pairs))
+abbrev pub limit_entries : Conn → List (Option Entry × ℕ) → Outcome
+limit_entries c pairs =
+    with_output (message_line c (filter_map for_output (intake c pairs))) (Some (after_entries c
+        pairs))
 
-abbrev pub take_message : ℕ → Conn → Result (List (Option Entry)) MsgFault → List ℕ → Outcome
-take_message now c (Err fault) words =
-    outcome (comment (codes "from") c.number (codes " refused " ++ fault_text fault)) (Some c)
-take_message now c (Ok entries) words =
+abbrev pub limit_message : ℕ → Conn → Result (List (Option Entry)) MsgFault → List ℕ → Outcome
+limit_message now c (Err fault) words =
+    with_output (comment (codes "from") c.number (codes " refused " ++ fault_text fault)) (Some c)
+limit_message now c (Ok entries) words =
     if nat_lt (length words) (length entries)
-    then outcome
+    then with_output
     (comment (codes "from") c.number
     (codes " short " ++ decimal (length entries) ++ codes " " ++ decimal (length words)))
     (Some c)
-    else take_entries (refill now c) (zip entries words)
+    else limit_entries (refill now c) (zip entries words)
 
 abbrev pub stat_text : Conn → List ℕ
 stat_text c =
@@ -91,23 +92,24 @@ stat_text c =
 -- a request about a number that has a connection
 abbrev pub serve_conn : ℕ → Conn → Request → Outcome
 serve_conn now c (Open addr unlimited) =
-    outcome (comment (codes "open") c.number (codes " already")) (Some c)
-serve_conn now c Close = outcome (comment (codes "close") c.number []) None
+    with_output (comment (codes "open") c.number (codes " already")) (Some c)
+serve_conn now c Close = with_output (comment (codes "close") c.number []) None
 serve_conn now c GetAddr =
-    outcome (comment (codes "getaddr") c.number (if c.asked then codes " already" else []))
+    with_output (comment (codes "getaddr") c.number (if c.asked then codes " already" else []))
     (Some (after_getaddr c))
-serve_conn now c (Message read words) = take_message now c read words
-serve_conn now c Stat = outcome (comment (codes "stat") c.number (stat_text c)) (Some c)
+serve_conn now c (Message read words) = limit_message now c read words
+serve_conn now c Stat = with_output (comment (codes "stat") c.number (stat_text c)) (Some c)
 
 -- a request about a number that has none
 abbrev pub serve_none : ℕ → ℕ → Request → Outcome
 serve_none now number (Open addr unlimited) =
-    outcome (comment (codes "open") number []) (Some (new_conn number addr unlimited now))
-serve_none now number Close = outcome (comment (codes "close") number (codes " unknown")) None
-serve_none now number GetAddr = outcome (comment (codes "getaddr") number (codes " unknown")) None
+    with_output (comment (codes "open") number []) (Some (new_conn number addr unlimited now))
+serve_none now number Close = with_output (comment (codes "close") number (codes " unknown")) None
+serve_none now number GetAddr =
+    with_output (comment (codes "getaddr") number (codes " unknown")) None
 serve_none now number (Message read words) =
-    outcome (comment (codes "from") number (codes " unknown")) None
-serve_none now number Stat = outcome (comment (codes "stat") number (codes " unknown")) None
+    with_output (comment (codes "from") number (codes " unknown")) None
+serve_none now number Stat = with_output (comment (codes "stat") number (codes " unknown")) None
 
 -- the answer to a request, by what is found at its number
 abbrev pub serve : ℕ → ℕ → Option Conn → Request → Outcome

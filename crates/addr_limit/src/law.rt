@@ -4,7 +4,7 @@ ghost use Rattle.net_addr.specs.declared.entry.Entry.{Entry};
 ghost use Rattle.addr_limit.specs.State.{State, start, find_conn, without_conn, AreBounded, AreRising};
 ghost use Rattle.addr_limit.specs.Steps.{new_conn, after};
 ghost use Rattle.addr_limit.specs.Calls.{after_open, after_asking, after_message};
-ghost use Rattle.addr_limit.specs.Lines.{LimitStep, Says, HasFault, is_about};
+ghost use Rattle.addr_limit.specs.Lines.{LimitStep, SaysEvent, HasFault, is_about};
 ghost use Rattle.addr_limit.specs.declared.event.Event.{Event};
 ghost use Rattle.addr_limit.specs.declared.event.Event.TheVariants.{Of};
 ghost use Rattle.addr_limit.specs.declared.request.Request.TheVariants.{Open, Close, GetAddr, Message};
@@ -43,8 +43,8 @@ pub fn tokens_are_bounded()
 
 /// No line says two events, has two faults, or says an event and has a fault.
 pub fn lines_have_one_meaning()
-    ensures event { (line : List ℕ) (a b : Event) → Says line a → Says line b → a ≡ b }
+    ensures event { (line : List ℕ) (a b : Event) → SaysEvent line a → SaysEvent line b → a ≡ b }
     ensures fault { (line : List ℕ) (f g : LineFault) → HasFault line f → HasFault line g → f ≡ g }
-    ensures right { (line : List ℕ) (a : Event) (f : LineFault) → Says line a →
+    ensures right { (line : List ℕ) (a : Event) (f : LineFault) → SaysEvent line a →
         ¬ HasFault line f }
 {}

@@ -15,7 +15,6 @@ mod event;
 mod law;
 mod limit_log;
 mod limiter;
-mod memory;
 mod passing;
 mod payload;
 mod print;
@@ -31,6 +30,6 @@ pub use law::{
 };
 pub use limit_log::LimitLog;
 pub use limiter::Limiter;
-pub use memory::Memory;
+pub use net_addr::Memory;
 pub use request::Request;
 pub use verb::Verb;

@@ -184,7 +184,7 @@ fn change(limiter: &mut Limiter, clock: u32, number: u32, request: &Request) -> 
             limiter.getaddr(number);
         }
         Request::Message { read, words } => {
-            take_message(limiter, clock, number, read, words);
+            limit_message(limiter, clock, number, read, words);
         }
         Request::Stat => {}
     }
@@ -192,7 +192,7 @@ fn change(limiter: &mut Limiter, clock: u32, number: u32, request: &Request) -> 
 }
 
 /// Spends the tokens for a message, unless it was refused or has too few random words.
-fn take_message(
+fn limit_message(
     limiter: &mut Limiter,
     clock: u32,
     number: u32,

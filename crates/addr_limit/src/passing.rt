@@ -3,9 +3,8 @@ ghost use Rattle.std.specs.List.{zip, filter_map};
 ghost use Rattle.addr_limit.specs.Steps.{is_internal, unless_hidden, for_output};
 ghost use Rattle.addr_limit.specs.Inside.{ArePassing};
 
-use crate::Memory;
 use net_addr::{Entry, Net, NetAddr};
-use std::alloc::Global;
+use std::alloc::{AllocError, Global};
 
 /// The entries of a message that are passed on, and their random words.
 #[derive(Drop)]
@@ -29,7 +28,7 @@ pub(crate) fn passing_entries(
     entries: &[Option<Entry>],
     words: &[u64],
     taken: usize,
-) -> Result<Passing, Memory>
+) -> Result<Passing, AllocError>
     requires few { taken ≤ length entries.now }
     requires words { length entries.now ≤ length words.now }
     requires short { length entries.now ≤ 1000 }

@@ -1,7 +1,7 @@
 ghost use Rattle.std.specs.Prelude.{◌≡◌, ◌++◌, [], ◌∷◌, codes, decimal, map, ℕ, List, if◌then◌else◌, IfOk, IfSome, OnOk, option_copied};
 ghost use Rattle.net_addr.specs.declared.entry.Entry.{Entry};
 ghost use Rattle.log_lines.specs.Replies.{reply_line, numbers_text};
-ghost use Rattle.addr_limit.specs.Steps.{comment, stat_text, addrv2_line, message_line, take_message, serve, serve_none, serve_conn};
+ghost use Rattle.addr_limit.specs.Steps.{comment, stat_text, addrv2_line, message_line, limit_message, serve, serve_none, serve_conn};
 ghost use Rattle.addr_limit.specs.Inside.{IsShort, IsShortRead, ArePassing};
 
 use crate::limiter::admitted;
@@ -10,9 +10,8 @@ use crate::{Conn, Memory, Request};
 use addr_codecs::{Entries, MsgFault, write_addrv2};
 use grammar::Words;
 use host_io::LINE_FEED;
-use itoa::Buffer;
 use log_lines::{Reply, reply_text};
-use net_addr::{Entry, NetAddr, put_addr};
+use net_addr::{Entry, NetAddr, put_addr, put_number, put_text};
 use std::alloc::Global;
 
 /// Returns the output line of a request, with its line feed, by the clock in seconds since 1970 and
@@ -106,7 +105,7 @@ fn read_line(
 ) -> Result<Vec<u8>, Memory>
     requires { IsShortRead read.now }
     ensures { IfOk result (λ text. text.items
-        ≡ (take_message clock conn.now read.now words.now).text ++ 10 ∷ []) }
+        ≡ (limit_message clock conn.now read.now words.now).text ++ 10 ∷ []) }
 {
     let entries = match read {
         Ok(entries) => entries.items(),
@@ -171,7 +170,7 @@ fn addrv2_line(
     put_text(digits.as_bytes(), &mut text)?;
     put_text(b" ", &mut text)?;
     put_numbers(words, &mut text)?;
-    text.push(LINE_FEED)?;
+    put_text(&[LINE_FEED], &mut text)?;
     Ok(text)
 }
 
@@ -181,7 +180,7 @@ fn comment_line(alloc: Global, word: &[u8], number: u32, said: &[u8]) -> Result<
         ≡ comment word.now number said.now ++ 10 ∷ []) }
 {
     let mut text = comment(alloc, word, number, said)?;
-    text.push(LINE_FEED)?;
+    put_text(&[LINE_FEED], &mut text)?;
     Ok(text)
 }
 
@@ -205,21 +204,5 @@ fn put_numbers(numbers: &[u64], out: &mut Vec<u8>) -> Result<(), Memory>
         let comma: &[u8] = if i == 0 { b"" } else { b"," };
         put_number(comma, *number, out)?;
     }
-    Ok(())
-}
-
-/// Appends a text and a number after it.
-fn put_number(word: &[u8], number: u64, out: &mut Vec<u8>) -> Result<(), Memory>
-    ensures { OnOk result (out.new.items ≡ out.old.items ++ word.now ++ decimal number) }
-{
-    put_text(word, out)?;
-    put_text(Buffer::new().format(number).as_bytes(), out)
-}
-
-/// Appends the bytes.
-fn put_text(text: &[u8], out: &mut Vec<u8>) -> Result<(), Memory>
-    ensures { OnOk result (out.new.items ≡ out.old.items ++ text.now) }
-{
-    out.extend_from_slice(text)?;
     Ok(())
 }

@@ -1,7 +1,7 @@
 -- When a run has to do what it is asked for: nothing is wrong with the log and the files, and
 -- nothing fails.
 use Rattle.std.specs.Prelude.{◌≡◌, ◌⊎◌, ◌≤◌, ℕ, List, All, length, Option, Some, ⊤}
-use Rattle.addr_limit.specs.Lines.{Says}
+use Rattle.addr_limit.specs.Lines.{SaysEvent}
 use Rattle.addr_limit.specs.declared.event.Event.{Event}
 use Rattle.host_io.specs.Faults.{Rose}
 use Rattle.host_io.specs.Lines.{IsPassedOver, lines_of}
@@ -45,7 +45,7 @@ IsOpenerLine line = IsPassedOver line ⊎ ((asked : opener.Request) × Asks line
 
 -- a line that the limit carries out
 abbrev pub IsLimitLine : List ℕ → Type 0
-IsLimitLine line = (event : Event) × Says line event
+IsLimitLine line = (event : Event) × SaysEvent line event
 
 -- Contracts know the log. It is within its limit, each of its lines is within the limit of a line,
 -- and each is one that the command carries out.

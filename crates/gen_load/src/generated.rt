@@ -4,7 +4,7 @@ ghost use Rattle.gen_load.specs.Inside.{line_with, position_with};
 use crate::Memory;
 use crate::line::put_line;
 use crate::position::Position;
-use crate::print::{put_number, put_text};
+use net_addr::{put_number, put_text};
 use rand_core::SeedableRng;
 use rand_xoshiro::Xoshiro256PlusPlus;
 use std::alloc::Global;

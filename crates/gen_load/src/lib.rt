@@ -11,10 +11,9 @@ mod generated;
 mod kind;
 mod law;
 mod line;
-mod memory;
 mod position;
 mod print;
 
 pub use generated::{Gen, MAX_LENGTH, MAX_LINES};
 pub use law::{limits, lines_spell_commands};
-pub use memory::Memory;
+pub use net_addr::Memory;

@@ -3,12 +3,11 @@ ghost use Rattle.net_addr.specs.declared.net.Net.TheVariants.{Ipv4, Ipv6};
 ghost use Rattle.gen_load.specs.Inside.{payload_text};
 ghost use Rattle.gen_load.specs.Log.{clock_line, addr_line, message_line, peer_line, select_line, clash_line, line_of, drawn_line, draw_entries, past_entries};
 
-use crate::Memory;
 use crate::kind::{Kind, kind_of};
 use crate::position::Position;
-use crate::print::{put_number, put_peer_between, put_text};
+use crate::print::put_peer_between;
 use addr_codecs::write_addr;
-use net_addr::{Entry, NetAddr, put_addr};
+use net_addr::{Entry, Memory, NetAddr, put_addr, put_number, put_text};
 use std::alloc::{AllocError, Global};
 
 /// The number of random words that a `select` line gives.

@@ -14,17 +14,16 @@
 mod choices;
 mod command;
 mod law;
-mod memory;
 mod print;
 mod read;
 mod reply;
 mod verb;
 
 pub use command::Command;
-pub use grammar::{LineFault, Words, read_decimal, read_payload, read_words};
+pub use grammar::{LineFault, Words, read_decimal, read_hex, read_words};
 pub use host_io::split_line;
 pub use law::lines_have_one_meaning;
-pub use memory::Memory;
+pub use net_addr::Memory;
 pub use print::{put_reply, reply_text};
 pub use read::{LogLines, read_line};
 pub use reply::Reply;

@@ -1,4 +1,4 @@
-ghost use Rattle.std.specs.Prelude.{◌≡◌, ◌++◌, codes, decimal, IfOk, OnOk, OnErr};
+ghost use Rattle.std.specs.Prelude.{◌≡◌, ◌++◌, codes, IfOk, OnOk, OnErr};
 ghost use Rattle.std.specs.List.{flat_map};
 ghost use Rattle.net_addr.specs.Text.{peer_text};
 ghost use Rattle.log_lines.specs.Replies.{numbers_text, place_text, origin_text, seen_text, tries_text, rec_text, found_text, fault_text, good_text, known_text, timed_text, picked_text, size_text, resolved_text, sample_text, clash_text, dump_text, reply_line, reply_text};
@@ -6,8 +6,7 @@ ghost use Rattle.log_lines.specs.Replies.{numbers_text, place_text, origin_text,
 use crate::{Memory, Reply};
 use addr_codecs::MsgFault;
 use host_io::LINE_FEED;
-use itoa::Buffer;
-use net_addr::{Peer, put_addr, put_peer};
+use net_addr::{Peer, put_addr, put_number, put_peer, put_text};
 use peer_rec::{Counts, Good, Picked, Place, Rec, Resolved};
 use std::alloc::Global;
 
@@ -219,8 +218,7 @@ fn put_origin(rec: &Rec, out: &mut Vec<u8>) -> Result<(), Memory>
     put_text(b"peer ", out)?;
     put_peer(&rec.peer, out)?;
     put_text(b" source ", out)?;
-    put_addr(&rec.source, out)?;
-    Ok(())
+    put_addr(&rec.source, out)
 }
 
 /// Appends when a record's peer was last seen, in seconds since 1970, and its services.
@@ -262,21 +260,5 @@ fn put_numbers(numbers: &[u16], out: &mut Vec<u8>) -> Result<(), Memory>
         let comma: &[u8] = if i == 0 { b"" } else { b"," };
         put_number(comma, u64::from(*number), out)?;
     }
-    Ok(())
-}
-
-/// Appends a text and a number after it.
-fn put_number(word: &[u8], number: u64, out: &mut Vec<u8>) -> Result<(), Memory>
-    ensures { OnOk result (out.new.items ≡ out.old.items ++ word.now ++ decimal number) }
-{
-    put_text(word, out)?;
-    put_text(Buffer::new().format(number).as_bytes(), out)
-}
-
-/// Appends the bytes.
-fn put_text(text: &[u8], out: &mut Vec<u8>) -> Result<(), Memory>
-    ensures { OnOk result (out.new.items ≡ out.old.items ++ text.now) }
-{
-    out.extend_from_slice(text)?;
     Ok(())
 }

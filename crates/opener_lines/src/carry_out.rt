@@ -9,13 +9,12 @@ ghost use Rattle.opener_lines.specs.Inside.{CanBeDone, Leaves};
 ghost use Rattle.opener_lines.specs.State.{Answer, FeelerStep, OutboundStep, Step, after_clash, state};
 ghost use Rattle.opener_lines.specs.Texts.{answer_text, closed_text};
 
-use crate::memory::Memory;
-use crate::print::{closed_text, opened_text, put_text, tested_text};
+use crate::print::{closed_text, opened_text, tested_text};
 use crate::tries::{Found, find_feeler, find_outbound};
 use crate::{Outcome, Request};
 use log_lines::{Command, Reply, put_reply};
 use manager::Manager;
-use net_addr::Peer;
+use net_addr::{Memory, Peer, put_text};
 use peer_open::{MAX_OUTBOUND, Opener};
 use std::alloc::Global;
 use std::hash::BuildHasher;

@@ -11,7 +11,6 @@
 mod carry_out;
 mod law;
 mod line;
-mod memory;
 mod opener_log;
 mod pick;
 mod print;

@@ -5,10 +5,9 @@ ghost use Rattle.net_addr.specs.NetSet.{all};
 ghost use Rattle.table_machine.specs.Picks.{select};
 ghost use Rattle.opener_lines.specs.Tries.{pick_of_feeler, pick_of_try};
 
-use crate::memory::Memory;
 use grammar::{MAX_SEEDED, seeded_words};
 use manager::Manager;
-use net_addr::{NetSet, Peer};
+use net_addr::{Memory, NetSet, Peer};
 use picking::{Picked, select};
 use std::alloc::Global;
 use std::hash::BuildHasher;

@@ -1,10 +1,8 @@
-ghost use Rattle.std.specs.Prelude.{◌≡◌, ◌++◌, codes, decimal, IfOk, OnOk, OnErr};
+ghost use Rattle.std.specs.Prelude.{◌≡◌, ◌++◌, codes, IfOk, OnOk};
 ghost use Rattle.hex.specs.Hex.{encode_lower};
 ghost use Rattle.opener_lines.specs.Texts.{closed_text, opened_text, tested_text, tries_text};
 
-use crate::memory::Memory;
-use itoa::Buffer;
-use net_addr::{Peer, put_peer};
+use net_addr::{Memory, Peer, put_number, put_peer, put_text};
 use std::alloc::Global;
 
 /// Returns the answer to a connection that was opened, with the peer's group in hexadecimal.
@@ -58,21 +56,4 @@ fn put_tries(tries: u32, out: &mut Vec<u8>) -> Result<(), Memory>
 {
     put_number(b" tries ", u64::from(tries), out)?;
     put_text(b"\n", out)
-}
-
-/// Appends a text and a number after it.
-fn put_number(word: &[u8], number: u64, out: &mut Vec<u8>) -> Result<(), Memory>
-    ensures { OnOk result (out.new.items ≡ out.old.items ++ word.now ++ decimal number) }
-{
-    put_text(word, out)?;
-    put_text(Buffer::new().format(number).as_bytes(), out)
-}
-
-/// Appends the bytes. If memory runs out, nothing changes.
-pub(crate) fn put_text(text: &[u8], out: &mut Vec<u8>) -> Result<(), Memory>
-    ensures items { OnOk result (out.new.items ≡ out.old.items ++ text.now) }
-    ensures err { OnErr result (out.new.items ≡ out.old.items) }
-{
-    out.extend_from_slice(text)?;
-    Ok(())
 }

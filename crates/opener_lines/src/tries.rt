@@ -2,11 +2,10 @@ ghost use Rattle.std.specs.Prelude.{◌≡◌, ◌≤◌, ◌<◌, IfOk};
 ghost use Rattle.opener_lines.specs.Inside.{Finds};
 ghost use Rattle.opener_lines.specs.Tries.{HasOutcome, ToKeep, ToTest, try_by};
 
-use crate::memory::Memory;
 use crate::pick::{pick_of_feeler, pick_of_try};
 use arrayvec::ArrayVec;
 use manager::Manager;
-use net_addr::Peer;
+use net_addr::{Memory, Peer};
 use peer_open::{MAX_TRIES, Opener, Verdict};
 use picking::Picked;
 use std::alloc::Global;

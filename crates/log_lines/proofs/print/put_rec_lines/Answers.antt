@@ -9,4 +9,4 @@ loop-rec-preserved c =
     let rec = c.rec-item.result in
     one_more (λ r. rec_text r ++ codes "\n") c.args.out.now.items c.args.recs.now c.loop-rec.rec-index rec out c.put_text.new.out.items
     c.loop-rec-test.true c.rec-item.is c.loop-rec.invariant
-    (c.in_ok-put_text.ensures ∙ ap (λ t. t ++ codes "\n") c.in_ok-put_rec.ensures ∙ append_assoc out (rec_text rec) (codes "\n"))
+    (c.in_ok-put_text.ensures.ok ∙ ap (λ t. t ++ codes "\n") c.in_ok-put_rec.ensures ∙ append_assoc out (rec_text rec) (codes "\n"))

@@ -2,7 +2,7 @@ use Rattle.std.proofs.Common.{rules, ◌≡◌, length, nat_lt, true, false, ari
 use Rattle.std.proofs.lemmas.Bool.Decides.{nat_tests}
 use Rattle.addr_limit.specs.declared.request.Request.TheVariants.{Message}
 use Rattle.addr_limit.proofs.Changes.{along, refused-is, short-is, taken-is}
-use Rattle.addr_limit.proofs.limit_log.take_message.Goals as goal
+use Rattle.addr_limit.proofs.limit_log.limit_message.Goals as goal
 
 pub returns-in_default : goal.returns-in_default
 returns-in_default c =
