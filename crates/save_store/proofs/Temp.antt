@@ -166,7 +166,7 @@ safe_is_synced name bytes (Some p) safe = synced_of name bytes p.now safe
 
 -- what a file that was written gives to `publish`
 pub some_synced : (name : Name) (bytes : List ℕ) (past : Option Past)
-    → IfSome past (λ p. IsSafe name bytes p.now)
+    → IfSome past (λ p. IsSynced name bytes p.now)
     → IfSome past (λ p. (bytes : List ℕ) × IsSynced name bytes p.now)
-some_synced name bytes None safe = tt
-some_synced name bytes (Some p) safe = (bytes, synced_of name bytes p.now safe)
+some_synced name bytes None synced = tt
+some_synced name bytes (Some p) synced = (bytes, synced)

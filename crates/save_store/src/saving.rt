@@ -10,6 +10,8 @@ use host_io::{Failed, Folder, Name};
 pub fn write_temp<F: Folder>(folder: &mut F, temp: Name, bytes: &[u8]) -> Result<(), Failed>
     ensures any_moment { Always (F.past folder.old) (F.past folder.new) (KeepsOthers temp) }
     ensures safe { OnOk result (IfSome (F.past folder.new) (λ p. IsSafe temp bytes.now p.now)) }
+    ensures synced { OnOk result
+        (IfSome (F.past folder.new) (λ p. IsSynced temp bytes.now p.now)) }
     ensures cause { OnErr result (Rose (F.faults folder.old) (F.faults folder.new)) }
     ensures never_falls { F.faults folder.old ≤ F.faults folder.new }
 {

@@ -1,5 +1,5 @@
 use Rattle.save_store.proofs.Published.{not_written, written_first}
-use Rattle.save_store.proofs.Temp.{safe_is_synced, some_synced}
+use Rattle.save_store.proofs.Temp.{some_synced}
 use Rattle.save_store.proofs.saving.save.Goals as goal
 
 pub returns-in_err-write_temp-clause-any_moment : goal.returns-in_err-write_temp-clause-any_moment
@@ -11,7 +11,7 @@ returns-in_err-write_temp-clause-any_moment g c =
 pub publish-requires-clause-synced : goal.publish-requires-clause-synced
 publish-requires-clause-synced g c =
     some_synced c.args.temp c.args.bytes.now (g.F.Folder.past c.write_temp.new.folder)
-    c.in_ok-write_temp.ensures.safe
+    c.in_ok-write_temp.ensures.synced
 
 pub returns-clause-any_moment : goal.returns-clause-any_moment
 returns-clause-any_moment g c =
@@ -20,11 +20,9 @@ returns-clause-any_moment g c =
     (P c.write_temp.new.folder) (P c.publish.new.folder) c.requires.apart
     c.write_temp.ensures.any_moment
     (c.publish.ensures.any_moment c.args.bytes.now
-    (safe_is_synced c.args.temp c.args.bytes.now (P c.write_temp.new.folder)
-    c.in_ok-write_temp.ensures.safe))
+    c.in_ok-write_temp.ensures.synced)
 
 pub returns-clause-stored : goal.returns-clause-stored
 returns-clause-stored g c =
     c.publish.ensures.stored c.args.bytes.now
-    (safe_is_synced c.args.temp c.args.bytes.now (g.F.Folder.past c.write_temp.new.folder)
-    c.in_ok-write_temp.ensures.safe)
+    c.in_ok-write_temp.ensures.synced

@@ -3,7 +3,7 @@ use Rattle.host_io.specs.Past.{Always}
 use Rattle.host_io.specs.PerName.{under}
 use Rattle.save_store.specs.Saves.{KeepsOthers}
 use Rattle.save_store.proofs.Results.{either, ok_then}
-use Rattle.save_store.proofs.Temp.{changed, failed, failed_append, unchanged, written_safe}
+use Rattle.save_store.proofs.Temp.{changed, failed, failed_append, safe_is_synced, unchanged, written_safe}
 use Rattle.save_store.proofs.saving.write_temp.Goals as goal
 
 pub returns-in_err-create-clause-any_moment : goal.returns-in_err-create-clause-any_moment
@@ -41,3 +41,11 @@ returns-clause-safe g c =
     ok_then c.sync.result _ _ c.sync.ensures.ok
     (written_safe c.args.temp c.args.bytes.now (P c.args.folder.now) (P c.create.new.self)
     (P c.append.new.self) (P c.sync.new.self) c.in_ok-create.ensures.ok c.in_ok-append.ensures.ok)
+
+pub returns-clause-synced : goal.returns-clause-synced
+returns-clause-synced g c =
+    let P = g.F.Folder.past in
+    ok_then c.sync.result _ _ c.sync.ensures.ok
+    (λ goes. safe_is_synced c.args.temp c.args.bytes.now (P c.sync.new.self)
+    (written_safe c.args.temp c.args.bytes.now (P c.args.folder.now) (P c.create.new.self)
+    (P c.append.new.self) (P c.sync.new.self) c.in_ok-create.ensures.ok c.in_ok-append.ensures.ok goes))
