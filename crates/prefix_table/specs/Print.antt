@@ -34,6 +34,10 @@ abbrev pub entry_text : Entry → List ℕ
 entry_text entry =
     address_text entry ++ codes "/" ++ decimal entry.len ++ codes " AS" ++ decimal entry.asn
 
+-- the prefix of a row: the address, a slash and the length
+abbrev pub prefix_text : Row → List ℕ
+prefix_text row = address_text (entry_of row) ++ codes "/" ++ decimal (entry_of row).len
+
 -- a row and its line feed
 unfoldable pub row_text : Row → List ℕ
 row_text row = entry_text (entry_of row) ++ 10 ∷ []

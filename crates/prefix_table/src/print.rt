@@ -2,7 +2,7 @@ ghost use Rattle.std.specs.Prelude.{◌≡◌, ◌≤◌, ◌++◌, ◌<◌, ◌
 ghost use Rattle.prefix_table.specs.Rows.{IsRow, IsTable};
 ghost use Rattle.prefix_table.specs.Text.{IsTableText, IsRowLine, IsAddress, width};
 ghost use Rattle.prefix_table.specs.declared.read.TheConstants.{MAX_TEXT};
-ghost use Rattle.prefix_table.specs.Print.{entry_of, address_text, entry_text, row_text, table_text};
+ghost use Rattle.prefix_table.specs.Print.{entry_of, address_text, prefix_text, entry_text, row_text, table_text};
 
 use crate::entry::{Entry, Family};
 use crate::{Memory, Row, Table};
@@ -48,13 +48,26 @@ fn put_row(row: &Row, out: &mut Vec<u8>) -> Result<(), Memory>
     ensures reads_back { OnOk result (IsAddress (entry_of row.now).family
         (address_text (entry_of row.now)) (entry_of row.now).address) }
 {
+    put_prefix(row, out)?;
+    out.extend_from_slice(b" AS")?;
+    out.extend_from_slice(Buffer::new().format(row.asn).as_bytes())?;
+    out.extend_from_slice(b"\n")?;
+    Ok(())
+}
+
+/// Appends the prefix of a row: the address, a slash and the length. If memory runs out, a part of
+/// it may have been appended.
+pub fn put_prefix(row: &Row, out: &mut Vec<u8>) -> Result<(), Memory>
+    requires { row.now.bits < 2 ^ 128 }
+    ensures ok { OnOk result (out.new.items ≡ out.old.items ++ prefix_text row.now) }
+    ensures err { OnErr result (take (length out.old.items) out.new.items ≡ out.old.items) }
+    ensures reads_back { OnOk result (IsAddress (entry_of row.now).family
+        (address_text (entry_of row.now)) (entry_of row.now).address) }
+{
     let entry = entry_of(row);
     put_address(&entry, out)?;
     out.extend_from_slice(b"/")?;
     out.extend_from_slice(Buffer::new().format(entry.len).as_bytes())?;
-    out.extend_from_slice(b" AS")?;
-    out.extend_from_slice(Buffer::new().format(entry.asn).as_bytes())?;
-    out.extend_from_slice(b"\n")?;
     Ok(())
 }
 
