@@ -1,0 +1,13 @@
+use Rattle.std.proofs.Common.{◌*◌, ◌/◌, ℕ, ◌++◌, ap, ◌∙◌}
+use Rattle.std.specs.Prelude.{codes, decimal}
+use Rattle.std.specs.Int.{w128, to_be_bytes, from_be_bytes}
+use Rattle.net_addr.specs.Text.{ipv6_text}
+use Rattle.picture_text.proofs.Rows.{three_parts}
+use Rattle.picture_text.proofs.names.put_prefix.Goals as goal
+
+pub returns : goal.returns
+returns c =
+    three_parts c.args.out.now.items (ipv6_text (to_be_bytes w128 (from_be_bytes w128 c.args.bytes.now / c.args.size * c.args.size))) (codes "/") (decimal c.args.width)
+    c.put_ipv6.new.out.items c.put_text.new.out.items c.put_number.new.out.items
+    (c.in_ok-put_ipv6.ensures.ok ∙ ap (λ (n : ℕ). c.args.out.now.items ++ ipv6_text (to_be_bytes w128 (n / c.args.size * c.args.size))) c.whole-bits.ensures)
+    c.in_ok-put_text.ensures c.in_ok-put_number.ensures

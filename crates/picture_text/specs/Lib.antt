@@ -1,0 +1,7 @@
+pub mod Markup
+pub mod Elements
+pub mod Head
+pub mod Marks
+pub mod Maps
+pub mod Names
+pub mod Picture
