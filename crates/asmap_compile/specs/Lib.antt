@@ -1,3 +1,4 @@
 pub mod Compiled
 pub mod File
 pub mod Inside
+pub mod FaultTexts

@@ -1,4 +1,5 @@
 ghost use Rattle.std.specs.Prelude.{◌≡◌};
+ghost use Rattle.asmap_compile.specs.FaultTexts.{compile_fault_text};
 ghost use Rattle.asmap_compile.specs.declared.fault.CompileFault.{CompileFault};
 
 use bit_code::Memory as BitMemory;
@@ -31,5 +32,18 @@ impl From<BitMemory> for CompileFault {
 
     fn from(_: BitMemory) -> CompileFault {
         CompileFault::Memory
+    }
+}
+
+impl CompileFault {
+    /// Returns the word for the fault, as it is printed.
+    pub fn word(&self) -> &'static [u8]
+        ensures { result.now ≡ compile_fault_text self.now }
+    {
+        match self {
+            CompileFault::Empty => b"empty",
+            CompileFault::TooLarge { .. } => b"code-too-large",
+            CompileFault::Memory => b"out of memory",
+        }
     }
 }

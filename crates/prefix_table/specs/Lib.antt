@@ -3,3 +3,4 @@ pub mod Text
 pub mod Print
 pub mod Inside
 pub mod Numbered
+pub mod FaultTexts

@@ -1,7 +1,9 @@
-ghost use Rattle.std.specs.Prelude.{◌≡◌};
+ghost use Rattle.std.specs.Prelude.{◌≡◌, IfOk};
+ghost use Rattle.prefix_table.specs.FaultTexts.{at_line, table_fault_text};
 ghost use Rattle.prefix_table.specs.declared.fault.TableFault.TheVariants as fault;
 
-use std::alloc::AllocError;
+use net_addr::{Memory, put_number};
+use std::alloc::{AllocError, Global};
 use thiserror::Error;
 
 /// Why a text is not read as a table. Lines are counted from 1; the first line with a fault
@@ -52,4 +54,30 @@ impl From<AllocError> for TableFault {
     fn from(_: AllocError) -> TableFault {
         TableFault::Memory
     }
+}
+
+impl TableFault {
+    /// Returns the text for the fault, as it is printed: its word, and the line if there is one.
+    pub fn text(&self, alloc: Global) -> Result<Vec<u8>, Memory>
+        ensures { IfOk result (λ text. text.items ≡ table_fault_text self.now) }
+    {
+        match self {
+            TableFault::Form { line } => at_line(alloc, b"form", *line),
+            TableFault::Number { line } => at_line(alloc, b"number", *line),
+            TableFault::HostBits { line } => at_line(alloc, b"host-bits", *line),
+            TableFault::Repeated { line } => at_line(alloc, b"repeated", *line),
+            TableFault::TooMany => Ok(Vec::from_slice(alloc, b"too-many")?),
+            TableFault::TooLarge { .. } => Ok(Vec::from_slice(alloc, b"too-large")?),
+            TableFault::Memory => Ok(Vec::from_slice(alloc, b"out of memory")?),
+        }
+    }
+}
+
+/// Returns a word and the number of a line.
+fn at_line(alloc: Global, word: &[u8], line: u32) -> Result<Vec<u8>, Memory>
+    ensures { IfOk result (λ text. text.items ≡ at_line word.now line) }
+{
+    let mut text = Vec::from_slice(alloc, word)?;
+    put_number(b" at line ", u64::from(line), &mut text)?;
+    Ok(text)
 }
