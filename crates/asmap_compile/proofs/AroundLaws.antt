@@ -8,7 +8,7 @@ use Rattle.std.proofs.lemmas.Nat.{pow_pos}
 use Rattle.bit_code.specs.Coder.{digits}
 use Rattle.bit_code.specs.Prefixes.{begins_with}
 use Rattle.prefix_table.specs.declared.row.Row.{Row}
-use Rattle.prefix_table.specs.Rows.{path, longest, first_bits, covers, IsRow, IsTable, Precedes, number_at}
+use Rattle.prefix_table.specs.Rows.{path, longest, first_bits, row_covers, IsRow, IsTable, Precedes, number_at}
 use Rattle.asmap_compile.specs.Compiled.{shorter_than, stays}
 use Rattle.bit_code.proofs.PrefixLaws.{begins_from, begins_within, begins_more, false_true}
 use Rattle.prefix_table.proofs.Items.{filter_same, filter_item, filter_none, item_filter}
@@ -24,19 +24,19 @@ pub record IsAround (rows : List Row) (i : ℕ) (around : List Row) : Type 0 whe
   pub there : (k : ℕ) (d : Row) → k < length around → (j : ℕ) × (j < i) × (get_or rows j d ≡ get_or around k d)
   pub grows : (a b : ℕ) (d : Row) → a < b → b < length around → (get_or around a d).len < (get_or around b d).len
   pub off : (j : ℕ) (d : Row) → j < i → ((k : ℕ) × (k < length around) × (get_or around k d ≡ get_or rows j d))
-      ⊎ ((m : ℕ) → i ≤ m → m < length rows → covers (get_or rows j d) (get_or rows m d).bits ≡ false)
+      ⊎ ((m : ℕ) → i ≤ m → m < length rows → row_covers (get_or rows j d) (get_or rows m d).bits ≡ false)
 
 -- a row that covers a later one is shorter
 address_path : (b : Row) → IsRow b → digits 128 b.bits ≡ path b ++ digits (128 - b.len) b.bits
 unfolding path
 address_path b are = address_start b.len b.bits are.len
 
-covers_path : (a b : Row) → IsRow a → IsRow b → covers a b.bits ≡ true → a.len ≤ b.len → begins_with (path b) (path a) ≡ true
+covers_path : (a b : Row) → IsRow a → IsRow b → row_covers a b.bits ≡ true → a.len ≤ b.len → begins_with (path b) (path a) ≡ true
 covers_path a b is are h low =
     let whole = covers_bits a b.bits is are.bits ∙ h in
     begins_within (path b) (digits (128 - b.len) b.bits) (path a) (subst (λ w. begins_with w (path a) ≡ true) (address_path b are) whole) (omega (arith, path_long a, path_long b))
 
-covers_short : (a b : Row) → IsRow a → IsRow b → Precedes a b → covers a b.bits ≡ true → a.len < b.len
+covers_short : (a b : Row) → IsRow a → IsRow b → Precedes a b → row_covers a b.bits ≡ true → a.len < b.len
 covers_short a b is are before h =
     let whole = covers_bits a b.bits is are.bits ∙ h in
     let own : begins_with (digits 128 b.bits) (path b) ≡ true = begins_from (digits 128 b.bits) (path b) (digits (128 - b.len) b.bits) (address_path b are) in
@@ -46,7 +46,7 @@ covers_short a b is are before h =
     ]
 
 -- a row that is no prefix of a row is one of no later row
-covers_later : (a b c : Row) → a.bits ≤ b.bits → b.bits ≤ c.bits → covers a b.bits ≡ false → covers a c.bits ≡ false
+covers_later : (a b c : Row) → a.bits ≤ b.bits → b.bits ≤ c.bits → row_covers a b.bits ≡ false → row_covers a c.bits ≡ false
 covers_later a b c low high off =
     let p = pow_pos (128 - a.len) in
     let ab = div-le-div a.bits b.bits (2 ^ (128 - a.len)) p low in
@@ -57,8 +57,8 @@ covers_later a b c low high off =
 -- the rows that are left for the next one
 pub record IsLeft (around : List Row) (address count : ℕ) : Type 0 where
   pub bound : count ≤ length around
-  pub last : 0 < count → (d : Row) → covers (get_or around (count - 1) d) address ≡ true
-  pub past : (k : ℕ) (d : Row) → count ≤ k → k < length around → covers (get_or around k d) address ≡ false
+  pub last : 0 < count → (d : Row) → row_covers (get_or around (count - 1) d) address ≡ true
+  pub past : (k : ℕ) (d : Row) → count ≤ k → k < length around → row_covers (get_or around k d) address ≡ false
 
 next_low : (around : List Row) (count : ℕ) (row d : Row) (k : ℕ) → count ≤ length around → k < count → get_or (take count around ++ row ∷ []) k d ≡ get_or around k d
 next_low around count row d k fits low =
@@ -108,7 +108,7 @@ bits_le : (rows : List Row) → IsTable rows → (j i : ℕ) (d : Row) → j ≤
 bits_le rows is j i d le low = rows_le rows is.rising j i d le low
 
 next_off : (rows : List Row) (i : ℕ) (around : List Row) (count : ℕ) (row : Row) → IsTable rows → IsAround rows i around → i < length rows → ((d : Row) → get_or rows i d ≡ row) → IsLeft around row.bits count → (j : ℕ) (d : Row) → j < i + 1 →
-    ((k : ℕ) × (k < length (take count around ++ row ∷ [])) × (get_or (take count around ++ row ∷ []) k d ≡ get_or rows j d)) ⊎ ((m : ℕ) → i + 1 ≤ m → m < length rows → covers (get_or rows j d) (get_or rows m d).bits ≡ false)
+    ((k : ℕ) × (k < length (take count around ++ row ∷ [])) × (get_or (take count around ++ row ∷ []) k d ≡ get_or rows j d)) ⊎ ((m : ℕ) → i + 1 ≤ m → m < length rows → row_covers (get_or rows j d) (get_or rows m d).bits ≡ false)
 next_off rows i around count row is a low at left j d fits =
     let long = next_long around count row left.bound in
     elim (cases_lt j i) [
@@ -116,8 +116,8 @@ next_off rows i around count row is a low at left j d fits =
         | inl f ↦ elim (cases_lt f.0 count) [
           | inl stays_on ↦ inl (f.0, omega (arith, long), next_low around count row d f.0 left.bound stays_on ∙ f.2)
           | inr gone ↦
-              let off = subst (λ (r : Row). covers r row.bits ≡ false) f.2 (left.past f.0 d gone f.1) in
-              let here = subst (λ (r : Row). covers (get_or rows j d) r.bits ≡ false) (sym (at d)) off in
+              let off = subst (λ (r : Row). row_covers r row.bits ≡ false) f.2 (left.past f.0 d gone f.1) in
+              let here = subst (λ (r : Row). row_covers (get_or rows j d) r.bits ≡ false) (sym (at d)) off in
               inr (λ m more top. covers_later (get_or rows j d) (get_or rows i d) (get_or rows m d) (bits_le rows is j i d (omega arith) low) (bits_le rows is i m d (omega arith) top) here)
         ]
         | inr off ↦ inr (λ m more top. off m (omega arith) top)
@@ -157,14 +157,14 @@ on_stack : (rows : List Row) (i : ℕ) (around : List Row) (count : ℕ) (row : 
 on_stack rows i around count row is a low at left other has short begins =
     let its = subst IsRow (at row) (is.each i row low) in
     let mine = All-contains IsRow rows other is.each has in
-    let cover : covers other row.bits ≡ true = sym (covers_bits other row.bits mine its.bits) ∙ subst (λ w. begins_with w (path other) ≡ true) (sym (address_path row its)) (begins_more (path row) (digits (128 - row.len) row.bits) (path other) begins) in
+    let cover : row_covers other row.bits ≡ true = sym (covers_bits other row.bits mine its.bits) ∙ subst (λ w. begins_with w (path other) ≡ true) (sym (address_path row its)) (begins_more (path row) (digits (128 - row.len) row.bits) (path other) begins) in
     elim (cases_lt has.0 i) [
       | inl older ↦ elim (a.off has.0 other older) [
         | inl f ↦ elim (cases_lt f.0 count) [
           | inl on ↦ record { place = f.0; low = on; is = f.2 ∙ has.2 }
-          | inr gone ↦ absurd (false_true (left.past f.0 other gone f.1) (subst (λ (r : Row). covers r row.bits ≡ true) (sym (f.2 ∙ has.2)) cover))
+          | inr gone ↦ absurd (false_true (left.past f.0 other gone f.1) (subst (λ (r : Row). row_covers r row.bits ≡ true) (sym (f.2 ∙ has.2)) cover))
         ]
-        | inr off ↦ absurd (false_true (off i (omega arith) low) (subst (λ (r : Row). covers r (get_or rows i other).bits ≡ true) (sym has.2) (subst (λ (r : Row). covers other r.bits ≡ true) (sym (at other)) cover)))
+        | inr off ↦ absurd (false_true (off i (omega arith) low) (subst (λ (r : Row). row_covers r (get_or rows i other).bits ≡ true) (sym has.2) (subst (λ (r : Row). row_covers other r.bits ≡ true) (sym (at other)) cover)))
       ]
       | inr later ↦ absurd (later_off rows i row is low at other has short begins later)
     ]

@@ -1,5 +1,5 @@
 ghost use Rattle.std.specs.Prelude.{◌≡◌, ℕ, ◌-◌, ◌<◌, ◌≤◌, Bool, true, false, length, IfOk, slice_index_or};
-ghost use Rattle.prefix_table.specs.Rows.{IsTable, covers, first_bits};
+ghost use Rattle.prefix_table.specs.Rows.{IsTable, row_covers, first_bits};
 ghost use Rattle.prefix_table.specs.declared.row.Row.{Row};
 ghost use Rattle.asmap_compile.specs.Compiled.{rows_kept};
 
@@ -15,9 +15,9 @@ fn first_bits(bits: u128, len: u8) -> u128
 }
 
 /// Returns whether the row is a prefix of the address.
-fn covers(row: &Row, address: u128) -> bool
+fn row_covers(row: &Row, address: u128) -> bool
     requires { row.now.len ≤ 128 }
-    ensures { result ≡ covers row.now address }
+    ensures { result ≡ row_covers row.now address }
 {
     first_bits(address, row.len) == first_bits(row.bits, row.len)
 }
@@ -27,12 +27,12 @@ fn count_around(rows: &[Row], address: u128) -> usize
     requires { (k : ℕ) (d : Row) → k < length rows.now → (slice_index_or rows.now k d).len ≤ 128 }
     ensures bound { result ≤ length rows.now }
     ensures last { 0 < result → (d : Row)
-        → covers (slice_index_or rows.now (result - 1) d) address ≡ true }
+        → row_covers (slice_index_or rows.now (result - 1) d) address ≡ true }
     ensures past { (k : ℕ) (d : Row) → result ≤ k → k < length rows.now
-        → covers (slice_index_or rows.now k d) address ≡ false }
+        → row_covers (slice_index_or rows.now k d) address ≡ false }
 {
     let mut count = rows.len();
-    while count > 0 && !covers(&rows[count - 1], address) {
+    while count > 0 && !row_covers(&rows[count - 1], address) {
         count -= 1;
     }
     count

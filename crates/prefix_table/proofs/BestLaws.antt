@@ -5,7 +5,7 @@ use Rattle.std.specs.Option.{option_map_or}
 use Rattle.std.proofs.lemmas.List.Elements.{All-contains, All-cons, All-nil, All-weaker, All-filter, All-contains_itself, filter_passes, Contains-append_right, Contains-append_cases}
 use Rattle.std.proofs.lemmas.List.{get_or_default}
 use Rattle.std.proofs.lemmas.Bool.{cases_lt, cases_order, lt-ltb, le-ltb}
-use Rattle.prefix_table.specs.Rows.{Precedes, IsRow, IsTable, IsLongest, covers, longer, longest, best}
+use Rattle.prefix_table.specs.Rows.{Precedes, IsRow, IsTable, IsLongest, row_covers, longer, longest, best}
 use Rattle.prefix_table.specs.declared.row.Row.{Row}
 use Rattle.prefix_table.specs.Inside.{cut}
 use Rattle.prefix_table.proofs.SearchLaws.{begins_at}
@@ -75,17 +75,17 @@ best_of (Some m) n e = e
 pub best_found : (rows : List Row) (address : ℕ) (row : Row) → IsTable rows → IsLongest rows address row → best rows address ≡ row.asn
 unfolding best
 best_found rows address row table is =
-    let p = λ (r : Row). covers r address in
+    let p = λ (r : Row). row_covers r address in
     best_of (longest (filter p rows)) row.asn (found (longest (filter p rows)) (longest_is (filter p rows)))
   where
-    found : (o : Option Row) → IsLongestOf (filter (λ (r : Row). covers r address) rows) o → MatchOption o (row.asn ≡ 0) (λ m. m.asn ≡ row.asn)
+    found : (o : Option Row) → IsLongestOf (filter (λ (r : Row). row_covers r address) rows) o → MatchOption o (row.asn ≡ 0) (λ m. m.asn ≡ row.asn)
     found None none =
-        absurd (Contains-nil row (subst (λ xs. Contains xs row) none (filter_keeps (λ (r : Row). covers r address) rows row is.is_row is.is_prefix)))
+        absurd (Contains-nil row (subst (λ xs. Contains xs row) none (filter_keeps (λ (r : Row). row_covers r address) rows row is.is_row is.is_prefix)))
     found (Some m) (has, each) =
-        let p = λ (r : Row). covers r address in
+        let p = λ (r : Row). row_covers r address in
         let kept = filter_keeps p rows row is.is_row is.is_prefix in
         let in_rows : Contains rows m = All-contains (Contains rows) (filter p rows) m (All-filter p (Contains rows) rows (All-contains_itself rows)) has in
-        let passes : covers m address ≡ true = All-contains (λ r. covers r address ≡ true) (filter p rows) m (filter_passes p rows) has in
+        let passes : row_covers m address ≡ true = All-contains (λ r. row_covers r address ≡ true) (filter p rows) m (filter_passes p rows) has in
         let low : row.len ≤ m.len = All-contains (λ r. r.len ≤ m.len) (filter p rows) row each kept in
         let len : m.len ≡ row.len = omega (arith, is.most m in_rows passes) in
         let bits : m.bits ≡ row.bits =
@@ -93,16 +93,16 @@ best_found rows address row table is =
         ∙ sym (begins_at row address (All-contains IsRow rows row table.each is.is_row) is.is_prefix) in
         ap (λ (r : Row). r.asn) (same_row rows table.rising m row in_rows is.is_row bits len)
 
-pub best_none : (rows : List Row) (address : ℕ) → ((row : Row) → Contains rows row → covers row address ≡ true → ⊥) → best rows address ≡ 0
+pub best_none : (rows : List Row) (address : ℕ) → ((row : Row) → Contains rows row → row_covers row address ≡ true → ⊥) → best rows address ≡ 0
 unfolding best
 best_none rows address none =
-    let p = λ (r : Row). covers r address in
+    let p = λ (r : Row). row_covers r address in
     best_of (longest (filter p rows)) 0 (found (longest (filter p rows)) (longest_is (filter p rows)))
   where
-    found : (o : Option Row) → IsLongestOf (filter (λ (r : Row). covers r address) rows) o → (let z : ℕ = 0 in MatchOption o (z ≡ z) (λ m. m.asn ≡ z))
+    found : (o : Option Row) → IsLongestOf (filter (λ (r : Row). row_covers r address) rows) o → (let z : ℕ = 0 in MatchOption o (z ≡ z) (λ m. m.asn ≡ z))
     found None empty = refl
     found (Some m) (has, each) =
-        let p = λ (r : Row). covers r address in
+        let p = λ (r : Row). row_covers r address in
         let in_rows : Contains rows m = All-contains (Contains rows) (filter p rows) m (All-filter p (Contains rows) rows (All-contains_itself rows)) has in
-        let passes : covers m address ≡ true = All-contains (λ r. covers r address ≡ true) (filter p rows) m (filter_passes p rows) has in
+        let passes : row_covers m address ≡ true = All-contains (λ r. row_covers r address ≡ true) (filter p rows) m (filter_passes p rows) has in
         absurd (none m in_rows passes)

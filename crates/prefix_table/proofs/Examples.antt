@@ -1,6 +1,6 @@
 -- The definitions at single values, computed.
 use Rattle.std.proofs.Common.{◌≡◌, true, false, List, [], ◌∷◌, refl}
-use Rattle.prefix_table.specs.Rows.{covers, longest, best}
+use Rattle.prefix_table.specs.Rows.{row_covers, longest, best}
 use Rattle.prefix_table.specs.Text.{row_of}
 use Rattle.prefix_table.specs.Print.{is_mapped, entry_of}
 use Rattle.prefix_table.specs.declared.row.Row.{Row}
@@ -19,19 +19,19 @@ all = record { bits = 0; len = 0; asn = 7 }
 abbrev rows : List Row
 rows = all ∷ wide ∷ narrow ∷ []
 
-covers_its_first_address : covers narrow 0xffff01020000 ≡ true
+covers_its_first_address : row_covers narrow 0xffff01020000 ≡ true
 covers_its_first_address = refl
 
-covers_its_last_address : covers narrow 0xffff0102ffff ≡ true
+covers_its_last_address : row_covers narrow 0xffff0102ffff ≡ true
 covers_its_last_address = refl
 
-not_the_address_before : covers narrow 0xffff0101ffff ≡ false
+not_the_address_before : row_covers narrow 0xffff0101ffff ≡ false
 not_the_address_before = refl
 
-not_the_address_after : covers narrow 0xffff01030000 ≡ false
+not_the_address_after : row_covers narrow 0xffff01030000 ≡ false
 not_the_address_after = refl
 
-covers_all : covers all 0xffffffffffffffffffffffffffffffff ≡ true
+covers_all : row_covers all 0xffffffffffffffffffffffffffffffff ≡ true
 covers_all = refl
 
 the_longest_of_three : best rows 0xffff01020304 ≡ 6

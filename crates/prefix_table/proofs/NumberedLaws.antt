@@ -7,7 +7,7 @@ use Rattle.std.proofs.Math.Seq.{get_or-append_right}
 use Rattle.std.proofs.lemmas.List.Elements.{All-nil, All-cons, All-weaker, Contains-append_cases}
 use Rattle.prefix_table.specs.Rows.{IsRow}
 use Rattle.host_io.specs.Lines.{IsPassedOver}
-use Rattle.prefix_table.specs.Text.{IsRowLine, IsAddress, AreLines, width, address_bits}
+use Rattle.prefix_table.specs.Text.{IsRowLine, IsRowAddress, AreLines, width, address_bits}
 use Rattle.prefix_table.specs.Numbered.{row_in, AreNumbered}
 use Rattle.prefix_table.specs.declared.row.Row.{Row}
 use Rattle.prefix_table.specs.declared.entry.Family.{Family}
@@ -57,7 +57,7 @@ numbered_lines n (line ∷ lines) [] are = (are.0, numbered_lines (n + 1) lines 
 numbered_lines n (line ∷ lines) (row ∷ rows) (inl are) = inl (are.0, numbered_lines (n + 1) lines (row ∷ rows) are.1)
 numbered_lines n (line ∷ lines) (row ∷ rows) (inr are) = inr (are.1, numbered_lines (n + 1) lines rows are.2)
 
-address_small : (family : Family) (text : List ℕ) (address : ℕ) → IsAddress family text address → address_bits family address < 2 ^ 128
+address_small : (family : Family) (text : List ℕ) (address : ℕ) → IsRowAddress family text address → address_bits family address < 2 ^ 128
 address_small Ipv4 text address is = omega (arith, is.0)
 address_small Ipv6 text address is = is.small
 

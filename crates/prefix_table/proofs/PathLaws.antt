@@ -11,7 +11,7 @@ use Rattle.bit_code.specs.Prefixes.{begins_with}
 use Rattle.bit_code.proofs.DigitLaws.{length-digits, digits_above, number_of-digits}
 use Rattle.bit_code.proofs.PrefixLaws.{begins_cut, begins_self, begins_more, begins_long, same_tests}
 use Rattle.prefix_table.specs.declared.row.Row.{Row}
-use Rattle.prefix_table.specs.Rows.{path, first_bits, covers, longest, best, number_at, IsRow, IsTable, Precedes}
+use Rattle.prefix_table.specs.Rows.{path, first_bits, row_covers, longest, best, number_at, IsRow, IsTable, Precedes}
 use Rattle.prefix_table.proofs.Items.{contains_cons, contains_head, cons_cases, filter_same}
 
 -- the longest of some rows
@@ -121,13 +121,13 @@ address_start len a short =
     let e : len + (128 - len) ≡ 128 = omega arith in
     ap (λ n. digits n a) (sym e) ∙ digits_above len (128 - len) a
 
-there : (row : Row) (a : ℕ) → IsRow row → covers row a ≡ true → begins_with (digits 128 a) (path row) ≡ true
+there : (row : Row) (a : ℕ) → IsRow row → row_covers row a ≡ true → begins_with (digits 128 a) (path row) ≡ true
 unfolding path
 there row a is h =
     let same = eqb-true (first_bits row.len a) (first_bits row.len row.bits) h in
     rw (address_start row.len a is.len, same) (begins_self (digits row.len (first_bits row.len row.bits)) (digits (128 - row.len) a))
 
-back : (row : Row) (a : ℕ) → IsRow row → a < 2 ^ 128 → begins_with (digits 128 a) (path row) ≡ true → covers row a ≡ true
+back : (row : Row) (a : ℕ) → IsRow row → a < 2 ^ 128 → begins_with (digits 128 a) (path row) ≡ true → row_covers row a ≡ true
 back row a is small h =
     let c = begins_cut (digits 128 a) (path row) h in
     let start = digits row.len (first_bits row.len a) in
@@ -137,15 +137,15 @@ back row a is small h =
     let same : first_bits row.len a ≡ first_bits row.len row.bits = sym (number_of-digits row.len (first_bits row.len a) (first_below row.len a is.len small)) ∙ ap number_of (sym mine ∙ its) ∙ first_bits_of row is in
     eq-eqb (first_bits row.len a) (first_bits row.len row.bits) same
 
-pub covers_bits : (row : Row) (a : ℕ) → IsRow row → a < 2 ^ 128 → begins_with (digits 128 a) (path row) ≡ covers row a
-covers_bits row a is small = same_tests (begins_with (digits 128 a) (path row)) (covers row a) (back row a is small) (there row a is)
+pub covers_bits : (row : Row) (a : ℕ) → IsRow row → a < 2 ^ 128 → begins_with (digits 128 a) (path row) ≡ row_covers row a
+covers_bits row a is small = same_tests (begins_with (digits 128 a) (path row)) (row_covers row a) (back row a is small) (there row a is)
 
 -- the number of the path of an address is that of its longest row
 pub number_best : (rows : List Row) (a : ℕ) → AreRows rows → a < 2 ^ 128 → number_at rows (digits 128 a) ≡ best rows a
 unfolding number_at best
 number_best rows a are small =
     ap (λ xs. option_map_or (λ (row : Row). row.asn) (longest xs) 0)
-    (filter_same (λ row. begins_with (digits 128 a) (path row)) (λ row. covers row a) rows (λ row has. covers_bits row a (are.each row has) small))
+    (filter_same (λ row. begins_with (digits 128 a) (path row)) (λ row. row_covers row a) rows (λ row has. covers_bits row a (are.each row has) small))
 
 not_before_by : (a b : Row) → b.bits ≤ a.bits → b.len ≤ a.len → Precedes a b → ⊥
 not_before_by a b le low (inl less) = omega arith

@@ -14,7 +14,7 @@ use Rattle.std.proofs.lemmas.List.Sorted.{IsPermutation-refl}
 use Rattle.net_addr.specs.Text.{ipv6_text}
 use Rattle.prefix_table.specs.Rows.{IsRow, IsTable}
 use Rattle.host_io.specs.Lines.{IsPassedOver, lines_of, onto_first}
-use Rattle.prefix_table.specs.Text.{IsAddress, IsInRange, IsRowLine, AreLines, IsTableText, row_of, width}
+use Rattle.prefix_table.specs.Text.{IsRowAddress, IsInRange, IsRowLine, AreLines, IsTableText, row_of, width}
 use Rattle.prefix_table.specs.Print.{is_mapped, ipv4_entry, ipv6_entry, entry_of, text_by, address_text, entry_text, row_text, table_text}
 use Rattle.prefix_table.specs.declared.row.Row.{Row}
 use Rattle.prefix_table.specs.declared.row.TheConstants.{MAX_ASN}
@@ -126,7 +126,7 @@ row_in_range row is =
     record { len = len_small (entry_of row).family (entry_of row).len fits.0.len; most = fits.0.most }
 
 -- a printed row is the line of the row
-row-line : (row : Row) → IsRow row → IsAddress (entry_of row).family (address_text (entry_of row)) (entry_of row).address → IsRowLine (entry_text (entry_of row)) row
+row-line : (row : Row) → IsRow row → IsRowAddress (entry_of row).family (address_text (entry_of row)) (entry_of row).address → IsRowLine (entry_text (entry_of row)) row
 row-line row is back =
     let entry = entry_of row in
     let fits : EntryFits row entry = entry-fits row (is_mapped row) is refl in
@@ -166,7 +166,7 @@ unfolding AreLines
 more_lines line lines row rows is are = inr (is, are)
 
 abbrev ReadsBack : Row → Type 0
-ReadsBack row = IsAddress (entry_of row).family (address_text (entry_of row)) (entry_of row).address
+ReadsBack row = IsRowAddress (entry_of row).family (address_text (entry_of row)) (entry_of row).address
 
 rows-lines : (rows : List Row) → All IsRow rows → All ReadsBack rows → AreLines (lines_of (flat_map row_text rows)) rows
 rows-lines [] each back = no_lines
@@ -175,7 +175,7 @@ rows-lines (row ∷ rows) each back =
     let later = rows-lines rows (All-tail IsRow row rows each) (All-tail ReadsBack row rows back) in
     subst (λ (ls : List (List ℕ)). AreLines ls (row ∷ rows)) (sym (first-line row (flat_map row_text rows) is)) (more_lines (entry_text (entry_of row)) (lines_of (flat_map row_text rows)) row rows (row-line row is (All-head ReadsBack row rows back)) later)
 
-pub printed_is_read : (rows : List Row) → IsTable rows → All (λ row. IsAddress (entry_of row).family (address_text (entry_of row)) (entry_of row).address) rows → IsTableText (table_text rows) rows
+pub printed_is_read : (rows : List Row) → IsTable rows → All (λ row. IsRowAddress (entry_of row).family (address_text (entry_of row)) (entry_of row).address) rows → IsTableText (table_text rows) rows
 unfolding table_text
 printed_is_read rows table back = record {
   table = table;

@@ -4,7 +4,7 @@ use Rattle.std.specs.Prelude.{Contains, nat_lt, nat_le, nat_eq, ◌&&◌, ◌||�
 use Rattle.std.proofs.lemmas.List.Elements.{All-contains}
 use Rattle.std.proofs.lemmas.Bool.{cases_lt, eqb-true, eq-eqb}
 use Rattle.std.proofs.lemmas.Bool.Decides.{nat_tests}
-use Rattle.prefix_table.specs.Rows.{Precedes, IsRow, IsTable, IsLongest, covers, first_bits}
+use Rattle.prefix_table.specs.Rows.{Precedes, IsRow, IsTable, IsLongest, row_covers, first_bits}
 use Rattle.prefix_table.specs.Inside.{cut, is_up_to}
 use Rattle.prefix_table.specs.declared.row.Row.{Row}
 use Rattle.prefix_table.proofs.BitLaws.{first_bits_between, cut_clear, cut_rises, cut_le}
@@ -29,13 +29,13 @@ pub record AreCommon (a b common : ℕ) : Type 0 where
 
 -- no row of more than this many bits covers the address
 abbrev pub IsLeft : List Row → ℕ → ℕ → Type 0
-IsLeft rows address most = (row : Row) → Contains rows row → covers row address ≡ true → row.len ≤ most
+IsLeft rows address most = (row : Row) → Contains rows row → row_covers row address ≡ true → row.len ≤ most
 
-covers_is : (row : Row) (address : ℕ) → covers row address ≡ true → first_bits row.len address ≡ first_bits row.len row.bits
+covers_is : (row : Row) (address : ℕ) → row_covers row address ≡ true → first_bits row.len address ≡ first_bits row.len row.bits
 covers_is row address c = eqb-true (first_bits row.len address) (first_bits row.len row.bits) c
 
 -- a row that covers the address has the first bits of the address
-pub begins_at : (row : Row) (address : ℕ) → IsRow row → covers row address ≡ true → row.bits ≡ cut address row.len
+pub begins_at : (row : Row) (address : ℕ) → IsRow row → row_covers row address ≡ true → row.bits ≡ cut address row.len
 begins_at row address is c =
     cut_clear row.bits row.len is.clear ∙ ap (λ n. n * 2 ^ (128 - row.len)) (sym (covers_is row address c))
 
@@ -45,7 +45,7 @@ up_to_from rb rl bits len below short = grind (arith, nat_tests)
 from_up_to : (rb rl bits len : ℕ) → nat_lt rb bits || (nat_eq rb bits && nat_le rl len) ≡ true → (rb < bits) ⊎ ((rb ≡ bits) × (rl ≤ len))
 from_up_to rb rl bits len up_to = grind (arith, nat_tests)
 
-pub covering_up_to : (row : Row) (address most : ℕ) → IsRow row → covers row address ≡ true → row.len ≤ most → most ≤ 128 → is_up_to (cut address most) most row ≡ true
+pub covering_up_to : (row : Row) (address most : ℕ) → IsRow row → row_covers row address ≡ true → row.len ≤ most → most ≤ 128 → is_up_to (cut address most) most row ≡ true
 covering_up_to row address most is c short top =
     up_to_from row.bits row.len (cut address most) most (omega (arith, begins_at row address is c, cut_rises address row.len most short top)) short
 
@@ -56,11 +56,11 @@ le_up_to row address most up_to = elim (from_up_to row.bits row.len (cut address
 ]
 
 -- the row that was found covers the address if the two agree in as many bits as it has
-pub covers_from : (row : Row) (address common : ℕ) → row.len ≤ 128 → AreCommon address row.bits common → row.len ≤ common → covers row address ≡ true
+pub covers_from : (row : Row) (address common : ℕ) → row.len ≤ 128 → AreCommon address row.bits common → row.len ≤ common → row_covers row address ≡ true
 covers_from row address common len are short = eq-eqb (first_bits row.len address) (first_bits row.len row.bits) ((are.agree row.len len).1 short)
 
 -- a row that covers the address is the one that was found, or its first bits are that one's too
-pub before_last : (rows : List Row) (address most common : ℕ) (row other : Row) → IsTable rows → most ≤ 128 → IsLeft rows address most → IsLast rows address most row → AreCommon address row.bits common → Contains rows other → covers other address ≡ true → (other ≡ row) ⊎ ((other.len ≤ common) × Precedes other row)
+pub before_last : (rows : List Row) (address most common : ℕ) (row other : Row) → IsTable rows → most ≤ 128 → IsLeft rows address most → IsLast rows address most row → AreCommon address row.bits common → Contains rows other → row_covers other address ≡ true → (other ≡ row) ⊎ ((other.len ≤ common) × Precedes other row)
 before_last rows address most common row other table top left last are has c =
     let is = All-contains IsRow rows other table.each has in
     elim (last.last other has (covering_up_to other address most is c (left other has c) top)) [
@@ -77,7 +77,7 @@ left_after rows address most common row table top left last are short other has 
     elim (before_last rows address most common row other table top left last are has c) [
       | inl e ↦
           let len = (All-contains IsRow rows row table.each last.is_row).len in
-          let c' : covers row address ≡ true = subst (λ (r : Row). covers r address ≡ true) e c in
+          let c' : row_covers row address ≡ true = subst (λ (r : Row). row_covers r address ≡ true) e c in
           absurd (omega (arith, (are.agree row.len len).0 (covers_is row address c')))
       | inr w ↦ w.0
     ]
@@ -122,7 +122,7 @@ longest_found rows address most common row table top left last are fits =
     }
 
 -- if a search finds nothing, no row covers the address
-pub none_covers : (rows : List Row) (address most bits : ℕ) → IsTable rows → most ≤ 128 → IsLeft rows address most → bits ≡ cut address most → ((other : Row) → Contains rows other → is_up_to bits most other ≡ true → ⊥) → (row : Row) → Contains rows row → covers row address ≡ true → ⊥
+pub none_covers : (rows : List Row) (address most bits : ℕ) → IsTable rows → most ≤ 128 → IsLeft rows address most → bits ≡ cut address most → ((other : Row) → Contains rows other → is_up_to bits most other ≡ true → ⊥) → (row : Row) → Contains rows row → row_covers row address ≡ true → ⊥
 none_covers rows address most bits table top left e none row has c =
     let up_to = covering_up_to row address most (All-contains IsRow rows row table.each has) c (left row has c) top in
     none row has (subst (λ n. is_up_to n most row ≡ true) (sym e) up_to)

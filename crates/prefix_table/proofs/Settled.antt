@@ -8,7 +8,7 @@ use Rattle.std.proofs.lemmas.List.Elements.{All-nil, All-cons, All-append}
 use Rattle.net_addr.proofs.Texts.{octets_of_bits, spelled-by_bits, bits-of_spelled, groups_of_bits, ipv6-only}
 use Rattle.net_addr.proofs.Words.{from_be_bytes-to_be_bytes_16, AllBytes-high_first, octets-segments}
 use Rattle.net_addr.specs.Text.{IsIpv4Text, IsIpv6Text}
-use Rattle.prefix_table.specs.Text.{IsAddress, IsEntry}
+use Rattle.prefix_table.specs.Text.{IsRowAddress, IsRowEntry}
 use Rattle.prefix_table.specs.Numbered.{IsSettled}
 use Rattle.prefix_table.specs.declared.entry.Entry.{Entry}
 use Rattle.prefix_table.specs.declared.entry.Family.{Family}
@@ -28,7 +28,7 @@ ipv6_one text a b is it =
     ipv6-only text bytes (groups_of_bits a) a b is.groups (sym (octets-segments bytes refl (AllBytes-high_first 16 a))) (sym (from_be_bytes-to_be_bytes_16 a is.small)) it
 
 -- a text is that of one address at most
-address_one : (text : List ℕ) (f g : Family) (a b : ℕ) → IsAddress f text a → IsAddress g text b → (f ≡ g) × (a ≡ b)
+address_one : (text : List ℕ) (f g : Family) (a b : ℕ) → IsRowAddress f text a → IsRowAddress g text b → (f ≡ g) × (a ≡ b)
 address_one text Ipv4 Ipv4 a b is it = (refl, ipv4_one text a b is it)
 address_one text Ipv4 Ipv6 a b is it = absurd (has_dot a (subst (All (λ c. c ≢ 46)) is.1 it.no_dots))
 address_one text Ipv6 Ipv4 a b is it = absurd (has_dot b (subst (All (λ c. c ≢ 46)) it.1 is.no_dots))
@@ -42,7 +42,7 @@ record Cut (line : List ℕ) (entry : Entry) (address numbers : List ℕ) : Type
 abbrev numbers_of : Entry → List ℕ
 numbers_of entry = decimal entry.len ++ 32 ∷ 65 ∷ 83 ∷ decimal entry.asn
 
-cut_of : (line : List ℕ) (entry : Entry) (is : IsEntry line entry) → Cut line entry is.address (numbers_of entry)
+cut_of : (line : List ℕ) (entry : Entry) (is : IsRowEntry line entry) → Cut line entry is.address (numbers_of entry)
 cut_of line entry is = record {
   whole =
       is.spelled ∙ ap (λ (a : List ℕ). is.address ++ codes "/" ++ is.len ++ codes " AS" ++ a) is.is_asn.1

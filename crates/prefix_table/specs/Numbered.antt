@@ -2,7 +2,7 @@
 use Rattle.std.specs.Prelude.{◌≡◌, ◌⊎◌, ℕ, ◌+◌, ◌<◌, ◌≤◌, List, [], ◌∷◌, ◌++◌, All, Option, Some, None, length, slice_index_or}
 use Rattle.prefix_table.specs.Rows.{SamePrefix, Precedes}
 use Rattle.host_io.specs.Lines.{IsPassedOver, lines_of}
-use Rattle.prefix_table.specs.Text.{IsEntry, IsRowLine, HasFault}
+use Rattle.prefix_table.specs.Text.{IsRowEntry, IsRowLine, HasFault}
 use Rattle.prefix_table.specs.declared.row.Row.{Row}
 use Rattle.prefix_table.specs.declared.entry.Entry.{Entry}
 use Rattle.prefix_table.specs.declared.row.TheConstants.{MAX_ROWS}
@@ -19,7 +19,7 @@ with_line row line = record { bits = row.bits; len = row.len; line = line; asn =
 
 -- the line is read as one entry at most
 abbrev pub IsSettled : List ℕ → Type 0
-IsSettled line = (a b : Entry) → IsEntry line a → IsEntry line b → a ≡ b
+IsSettled line = (a b : Entry) → IsRowEntry line a → IsRowEntry line b → a ≡ b
 
 -- each line is passed over, or is that of a row; these are the rows, if the first line has number n
 unfoldable pub AreNumbered : ℕ → List (List ℕ) → List NumberedRow → Type 0

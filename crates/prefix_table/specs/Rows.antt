@@ -11,8 +11,8 @@ abbrev pub first_bits : ℕ → ℕ → ℕ
 first_bits len bits = bits / 2 ^ (128 - len)
 
 -- the row is a prefix of the address: the first `len` bits of both are the same
-abbrev pub covers : Row → ℕ → Bool
-covers row address = first_bits row.len address == first_bits row.len row.bits
+abbrev pub row_covers : Row → ℕ → Bool
+row_covers row address = first_bits row.len address == first_bits row.len row.bits
 
 -- the bits of the prefix, high bit first
 unfoldable pub path : Row → List Bool
@@ -53,13 +53,14 @@ longest (row ∷ rows) = Some (longer row (longest rows))
 -- the AS number of the most specific row that covers the address, or 0 (RFC 4632, section 5.1)
 unfoldable pub best : List Row → ℕ → ℕ
 best rows address =
-    option_map_or (λ row. row.asn) (longest (filter (λ row. covers row address) rows)) 0
+    option_map_or (λ row. row.asn) (longest (filter (λ row. row_covers row address) rows)) 0
 
 -- the row is a prefix of the address, and no longer row of the table is
 pub record IsLongest (rows : List Row) (address : ℕ) (row : Row) : Type 0 where
   pub is_row : Contains rows row
-  pub is_prefix : covers row address ≡ true
-  pub most : (other : Row) → Contains rows other → covers other address ≡ true → other.len ≤ row.len
+  pub is_prefix : row_covers row address ≡ true
+  pub most : (other : Row) → Contains rows other → row_covers other address ≡ true →
+      other.len ≤ row.len
 
 -- the number of a path: that of the longest row that is the path or a prefix of it, or 0
 unfoldable pub number_at : List Row → List Bool → ℕ

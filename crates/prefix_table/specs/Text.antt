@@ -23,9 +23,9 @@ address_bits Ipv4 address = 65535 * 2 ^ 32 + address
 address_bits Ipv6 address = address
 
 -- the text of an address of the family; an IPv6 text gives the 128 bits themselves
-abbrev pub IsAddress : Family → List ℕ → ℕ → Type 0
-IsAddress Ipv4 text address = IsIpv4Text text address
-IsAddress Ipv6 text address = IsIpv6Text text address
+abbrev pub IsRowAddress : Family → List ℕ → ℕ → Type 0
+IsRowAddress Ipv4 text address = IsIpv4Text text address
+IsRowAddress Ipv6 text address = IsIpv6Text text address
 
 -- a number of at most ten digits
 abbrev pub IsNumber : List ℕ → ℕ → Type 0
@@ -33,12 +33,12 @@ IsNumber text n = (n < 10 ^ 10) × (text ≡ decimal n)
 
 -- the line is not passed over and has the form of a row: an address, a slash, a length, a space,
 -- `AS` and a number
-pub record IsEntry (line : List ℕ) (entry : Entry) : Type 0 where
+pub record IsRowEntry (line : List ℕ) (entry : Entry) : Type 0 where
   pub not_passed_over : IsPassedOver line → ⊥
   pub address : List ℕ
   pub len : List ℕ
   pub asn : List ℕ
-  pub is_address : IsAddress entry.family address entry.address
+  pub is_address : IsRowAddress entry.family address entry.address
   pub is_len : IsNumber len entry.len
   pub is_asn : IsNumber asn entry.asn
   pub spelled : line ≡ address ++ codes "/" ++ len ++ codes " AS" ++ asn
@@ -65,7 +65,7 @@ IsClear row = row.bits % 2 ^ (128 - row.len) ≡ 0
 -- the line is that of the row
 pub record IsRowLine (line : List ℕ) (row : Row) : Type 0 where
   pub entry : Entry
-  pub is_entry : IsEntry line entry
+  pub is_entry : IsRowEntry line entry
   pub in_range : IsInRange entry
   pub clear : IsClear row
   pub made : row ≡ row_of entry
@@ -93,18 +93,18 @@ pub record IsTableText (text : List ℕ) (rows : List Row) : Type 0 where
 -- the line is neither passed over nor of the form of a row
 pub record HasNoForm (line : List ℕ) : Type 0 where
   pub not_passed_over : IsPassedOver line → ⊥
-  pub no_entry : (entry : Entry) → IsEntry line entry → ⊥
+  pub no_entry : (entry : Entry) → IsRowEntry line entry → ⊥
 
 -- the line has the form of a row, and a number is out of range
 pub record IsOutOfRange (line : List ℕ) : Type 0 where
   pub entry : Entry
-  pub is_entry : IsEntry line entry
+  pub is_entry : IsRowEntry line entry
   pub out : IsInRange entry → ⊥
 
 -- a bit is set after the prefix
 pub record HasHostBits (line : List ℕ) : Type 0 where
   pub entry : Entry
-  pub is_entry : IsEntry line entry
+  pub is_entry : IsRowEntry line entry
   pub in_range : IsInRange entry
   pub set : IsClear (row_of entry) → ⊥
 

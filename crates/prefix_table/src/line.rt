@@ -1,6 +1,6 @@
 ghost use Rattle.std.specs.Prelude.{◌≡◌, ◌≢◌, ℕ, ◌⊎◌, ◌+◌, ◌<◌, ◌≤◌, ◌^◌, ◌↔◌, [], ◌∷◌, ◌++◌, All, IsTrue, IfSome, IfNone, IfOk, IfErr, MatchOption, Some};
 ghost use Rattle.host_io.specs.Lines.{IsPassedOver};
-ghost use Rattle.prefix_table.specs.Text.{HasFault, IsAddress, IsEntry, IsInRange, IsClear, IsRowLine, row_of, width};
+ghost use Rattle.prefix_table.specs.Text.{HasFault, IsRowAddress, IsRowEntry, IsInRange, IsClear, IsRowLine, row_of, width};
 ghost use Rattle.prefix_table.specs.Numbered.{IsSettled};
 ghost use Rattle.prefix_table.specs.declared.entry.Entry.{Entry};
 ghost use Rattle.prefix_table.specs.declared.entry.Family.{Family};
@@ -40,9 +40,9 @@ pub(crate) fn read_line(text: &[u8], line: u32) -> Result<Option<Row>, TableFaul
 /// Returns what the line says, or `None` if it does not have the form of a row.
 fn read_entry(line: &[u8]) -> Option<Entry>
     requires { IsPassedOver line.now → ⊥ }
-    ensures found { IfSome result (IsEntry line.now) }
+    ensures found { IfSome result (IsRowEntry line.now) }
     ensures address { IfSome result (λ entry. entry.address < 2 ^ width entry.family) }
-    ensures only { (entry : Entry) → IsEntry line.now entry → result ≡ Some entry }
+    ensures only { (entry : Entry) → IsRowEntry line.now entry → result ≡ Some entry }
 {
     let (address, numbers) = around_last(line, b'/')?;
     let (len, asn) = around_last(numbers, b' ')?;
@@ -58,9 +58,9 @@ fn read_entry(line: &[u8]) -> Option<Entry>
 
 /// Returns the address that the text writes, with its family, or `None` if there is none.
 fn read_address(text: &[u8]) -> Option<(Family, u128)>
-    ensures found { IfSome result (λ read. IsAddress read.0 text.now read.1) }
+    ensures found { IfSome result (λ read. IsRowAddress read.0 text.now read.1) }
     ensures address { IfSome result (λ read. read.1 < 2 ^ width read.0) }
-    ensures only { (family : Family) (address : ℕ) → IsAddress family text.now address
+    ensures only { (family : Family) (address : ℕ) → IsRowAddress family text.now address
         → result ≡ Some (family, address) }
 {
     if let Some(address) = parse_ipv4(text) {

@@ -1,6 +1,6 @@
 ghost use Rattle.std.specs.Prelude.{◌≡◌, ◌≤◌, ◌++◌, ◌<◌, ◌^◌, List, length, take, flat_map, OnOk, OnErr, All, decimal, codes};
 ghost use Rattle.prefix_table.specs.Rows.{IsRow, IsTable};
-ghost use Rattle.prefix_table.specs.Text.{IsTableText, IsRowLine, IsAddress, width};
+ghost use Rattle.prefix_table.specs.Text.{IsTableText, IsRowLine, IsRowAddress, width};
 ghost use Rattle.prefix_table.specs.declared.read.TheConstants.{MAX_TEXT};
 ghost use Rattle.prefix_table.specs.Print.{entry_of, address_text, prefix_text, entry_text, row_text, table_text};
 
@@ -31,7 +31,7 @@ fn put_rows(rows: &[Row], out: &mut Vec<u8>) -> Result<(), Memory>
     requires { All IsRow rows.now }
     ensures ok { OnOk result (out.new.items ≡ out.old.items ++ flat_map row_text rows.now) }
     ensures err { OnErr result (take (length out.old.items) out.new.items ≡ out.old.items) }
-    ensures reads_back { OnOk result (All (λ row. IsAddress (entry_of row).family
+    ensures reads_back { OnOk result (All (λ row. IsRowAddress (entry_of row).family
         (address_text (entry_of row)) (entry_of row).address) rows.now) }
 {
     for row in rows {
@@ -45,7 +45,7 @@ fn put_row(row: &Row, out: &mut Vec<u8>) -> Result<(), Memory>
     requires { IsRow row.now }
     ensures ok { OnOk result (out.new.items ≡ out.old.items ++ row_text row.now) }
     ensures err { OnErr result (take (length out.old.items) out.new.items ≡ out.old.items) }
-    ensures reads_back { OnOk result (IsAddress (entry_of row.now).family
+    ensures reads_back { OnOk result (IsRowAddress (entry_of row.now).family
         (address_text (entry_of row.now)) (entry_of row.now).address) }
 {
     put_prefix(row, out)?;
@@ -61,7 +61,7 @@ pub fn put_prefix(row: &Row, out: &mut Vec<u8>) -> Result<(), Memory>
     requires { row.now.bits < 2 ^ 128 }
     ensures ok { OnOk result (out.new.items ≡ out.old.items ++ prefix_text row.now) }
     ensures err { OnErr result (take (length out.old.items) out.new.items ≡ out.old.items) }
-    ensures reads_back { OnOk result (IsAddress (entry_of row.now).family
+    ensures reads_back { OnOk result (IsRowAddress (entry_of row.now).family
         (address_text (entry_of row.now)) (entry_of row.now).address) }
 {
     let entry = entry_of(row);
@@ -76,7 +76,7 @@ fn put_address(entry: &Entry, out: &mut Vec<u8>) -> Result<(), Memory>
     requires { entry.now.address < 2 ^ width entry.now.family }
     ensures ok { OnOk result (out.new.items ≡ out.old.items ++ address_text entry.now) }
     ensures err { OnErr result (out.new.items ≡ out.old.items) }
-    ensures reads_back { IsAddress entry.now.family (address_text entry.now) entry.now.address }
+    ensures reads_back { IsRowAddress entry.now.family (address_text entry.now) entry.now.address }
 {
     match entry.family {
         Family::Ipv4 => Ok(put_ipv4(entry.address as u32, out)?),

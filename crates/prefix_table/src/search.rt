@@ -1,6 +1,6 @@
 ghost use Rattle.std.specs.Prelude.{◌≡◌, ℕ, ◌<◌, ◌≤◌, ◌^◌, ◌↔◌, ◌⊎◌, ◌-◌, IfSome, IfNone, Contains, AllPairs, true, false, length, slice_index_or};
 ghost use Rattle.std.specs.List.Sorted.{IsPartitionPoint};
-ghost use Rattle.prefix_table.specs.Rows.{IsTable, IsLongest, Precedes, covers, first_bits};
+ghost use Rattle.prefix_table.specs.Rows.{IsTable, IsLongest, Precedes, row_covers, first_bits};
 ghost use Rattle.prefix_table.specs.Inside.{cut, is_up_to};
 ghost use Rattle.prefix_table.specs.declared.row.Row.{Row};
 
@@ -12,7 +12,7 @@ pub(crate) fn longest_match(rows: &[Row], address: u128) -> Option<Row>
     requires { IsTable rows.now }
     ensures found { IfSome result (λ row. IsLongest rows.now address row) }
     ensures none { IfNone result ((row : Row) → Contains rows.now row
-        → covers row address ≡ true → ⊥) }
+        → row_covers row address ≡ true → ⊥) }
 {
     let mut most = 128;
     loop {

@@ -1,6 +1,6 @@
 ghost use Rattle.std.specs.Prelude.{◌≡◌, map, IfOk, IfSome, IfNone, OnSome, Contains, true};
 ghost use Rattle.prefix_table.specs.Numbered.{row_in};
-ghost use Rattle.prefix_table.specs.Rows.{IsTable, IsLongest, best, covers};
+ghost use Rattle.prefix_table.specs.Rows.{IsTable, IsLongest, best, row_covers};
 ghost use Rattle.prefix_table.specs.declared.row.Row.{Row};
 
 use crate::in_order::is_table;
@@ -68,7 +68,7 @@ impl Table {
     pub fn best(&self, address: u128) -> u32
         ensures found { result ≡ best self.now address }
         ensures longest { (row : Row) → IsLongest self.now address row → result ≡ row.asn }
-        ensures none { ((row : Row) → Contains self.now row → covers row address ≡ true → ⊥)
+        ensures none { ((row : Row) → Contains self.now row → row_covers row address ≡ true → ⊥)
             → result ≡ 0 }
     {
         match longest_match(self.rows.as_slice(), address) {

@@ -1,6 +1,6 @@
 use Rattle.std.proofs.Common.{◌≡◌, ◌∙◌, ℕ, List, Option, Some, None, ap, sym, refl}
 use Rattle.std.specs.Prelude.{unwrap_or}
-use Rattle.prefix_table.specs.Text.{IsEntry}
+use Rattle.prefix_table.specs.Text.{IsRowEntry}
 use Rattle.prefix_table.specs.Numbered.{IsSettled}
 use Rattle.std.proofs.lemmas.Bool.{false≢true}
 use Rattle.prefix_table.specs.declared.entry.Entry.{Entry}
@@ -18,7 +18,7 @@ returns-in_default-clause-cause c = (
   },
 )
 
-settled_by : (text : List ℕ) (o : Option Entry) → ((entry : Entry) → IsEntry text entry → o ≡ Some entry) → IsSettled text
+settled_by : (text : List ℕ) (o : Option Entry) → ((entry : Entry) → IsRowEntry text entry → o ≡ Some entry) → IsSettled text
 settled_by text o only a b is it = ap (λ (p : Option Entry). unwrap_or p a) (sym (only a is) ∙ only b it)
 
 pub returns-in_default-clause-settled : goal.returns-in_default-clause-settled

@@ -4,7 +4,7 @@ use Rattle.std.proofs.Math.Seq.{take-append_seam}
 use Rattle.std.proofs.lemmas.List.{take-take}
 use Rattle.std.proofs.lemmas.List.Elements.{All-more}
 use Rattle.std.proofs.lemmas.Grind.{take_at_read, flat_map-append}
-use Rattle.prefix_table.specs.Text.{IsAddress}
+use Rattle.prefix_table.specs.Text.{IsRowAddress}
 use Rattle.prefix_table.specs.Print.{entry_of, address_text, row_text}
 use Rattle.prefix_table.specs.declared.row.Row.{Row}
 use Rattle.prefix_table.proofs.print.put_rows.Goals as goal
@@ -37,5 +37,5 @@ returns-in_err-put_row-clause-err c =
 pub loop-row-preserved : goal.loop-row-preserved
 loop-row-preserved c = record {
   text = c.in_ok-put_row.ensures.ok ∙ ap (λ (xs : List ℕ). xs ++ row_text (get_or c.args.rows.now c.loop-row.row-index blank)) c.loop-row.invariant.text ∙ one_more c.args.out.now.items c.args.rows.now c.loop-row.row-index c.loop-row-test.true;
-  back = All-more (λ row. IsAddress (entry_of row).family (address_text (entry_of row)) (entry_of row).address) c.args.rows.now c.loop-row.row-index blank c.loop-row-test.true c.loop-row.invariant.back c.in_ok-put_row.ensures.reads_back;
+  back = All-more (λ row. IsRowAddress (entry_of row).family (address_text (entry_of row)) (entry_of row).address) c.args.rows.now c.loop-row.row-index blank c.loop-row-test.true c.loop-row.invariant.back c.in_ok-put_row.ensures.reads_back;
 }

@@ -1,6 +1,6 @@
 use Rattle.std.proofs.Common.{List, ◌++◌, All, Result, Ok, Err, ap, ◌∙◌, subst}
 use Rattle.std.specs.Prelude.{OnOk, flat_map}
-use Rattle.prefix_table.specs.Text.{IsAddress}
+use Rattle.prefix_table.specs.Text.{IsRowAddress}
 use Rattle.prefix_table.specs.Print.{entry_of, address_text, row_text, table_text}
 use Rattle.prefix_table.specs.declared.row.Row.{Row}
 use Rattle.prefix_table.proofs.PrintLaws.{printed_is_read}
@@ -18,7 +18,7 @@ returns-else-is_err-clause-ok c =
 
 pub returns-else-is_err-clause-reads_back : goal.returns-else-is_err-clause-reads_back
 returns-else-is_err-clause-reads_back c =
-    on_ok_then c.put_rows-put.result _ _ (λ back. printed_is_read c.args.table.now c.rows.ensures.table (subst (All (λ (row : Row). IsAddress (entry_of row).family (address_text (entry_of row)) (entry_of row).address)) c.rows.ensures.value back)) c.put_rows-put.ensures.reads_back
+    on_ok_then c.put_rows-put.result _ _ (λ back. printed_is_read c.args.table.now c.rows.ensures.table (subst (All (λ (row : Row). IsRowAddress (entry_of row).family (address_text (entry_of row)) (entry_of row).address)) c.rows.ensures.value back)) c.put_rows-put.ensures.reads_back
 
 pub returns-else-is_err-clause-short : goal.returns-else-is_err-clause-short
 returns-else-is_err-clause-short c = length-table c.args.table.now c.rows.ensures.table

@@ -14,7 +14,7 @@ whatever_none (Some row) P p = tt
 pub loop-row-init : goal.loop-row-init
 loop-row-init c = record {
   top = omega arith;
-  left = λ row has covers. (All-contains IsRow c.args.rows.now row c.requires.each has).len;
+  left = λ row has row_covers. (All-contains IsRow c.args.rows.now row c.requires.each has).len;
 }
 
 pub returns-in_err-row-clause-none : goal.returns-in_err-row-clause-none

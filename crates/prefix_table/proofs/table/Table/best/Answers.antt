@@ -1,12 +1,12 @@
 use Rattle.std.proofs.Common.{◌≡◌, ◌∙◌, ℕ, List, sym, subst}
 use Rattle.std.specs.Prelude.{Contains, true}
-use Rattle.prefix_table.specs.Rows.{IsTable, IsLongest, best, covers}
+use Rattle.prefix_table.specs.Rows.{IsTable, IsLongest, best, row_covers}
 use Rattle.prefix_table.specs.declared.row.Row.{Row}
 use Rattle.prefix_table.proofs.BestLaws.{best_found, best_none}
 use Rattle.prefix_table.proofs.table.Table.best.Goals as goal
 
 -- the number of the longest row, as each clause has it
-answer : (rows : List Row) (address n : ℕ) → IsTable rows → n ≡ best rows address → record { found : n ≡ best rows address; longest : (row : Row) → IsLongest rows address row → n ≡ row.asn; none : ((row : Row) → Contains rows row → covers row address ≡ true → ⊥) → n ≡ 0 }
+answer : (rows : List Row) (address n : ℕ) → IsTable rows → n ≡ best rows address → record { found : n ≡ best rows address; longest : (row : Row) → IsLongest rows address row → n ≡ row.asn; none : ((row : Row) → Contains rows row → row_covers row address ≡ true → ⊥) → n ≡ 0 }
 answer rows address n table e = record {
   found = e;
   longest = λ row is. e ∙ best_found rows address row table is;
@@ -25,5 +25,5 @@ pub returns-in-None : goal.returns-in-None
 returns-in-None c =
     let now = c.as_slice.ensures.value ∙ c.self.view_is in
     let table = subst IsTable c.self.view_is c.self.invariant in
-    let none = subst (λ (rows : List Row). (row : Row) → Contains rows row → covers row c.args.address ≡ true → ⊥) now c.in-None.ensures.none in
+    let none = subst (λ (rows : List Row). (row : Row) → Contains rows row → row_covers row c.args.address ≡ true → ⊥) now c.in-None.ensures.none in
     answer c.args.self.now c.args.address 0 table (sym (best_none c.args.self.now c.args.address none))
