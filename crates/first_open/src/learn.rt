@@ -1,8 +1,7 @@
 use net_addr::{Entry, NetAddr, Peer};
 use std::hash::BuildHasher;
-use std::sync::ledger::Ledger;
-use steps::Steps;
 use tables::{Memory, Tables};
+use uncounted::add;
 
 /// Returns the peer of this IPv4 address with the port 8333.
 pub(crate) fn peer(octets: [u8; 4]) -> Peer {
@@ -13,11 +12,10 @@ pub(crate) fn peer(octets: [u8; 4]) -> Peer {
 }
 
 /// Learns of a peer from 1.2.3.4, at a time in seconds since 1970.
-pub(crate) fn learn<H: BuildHasher, L: Ledger>(
+pub(crate) fn learn<H: BuildHasher>(
     tables: &mut Tables<'_, H>,
     octets: [u8; 4],
     now: u32,
-    steps: &mut Steps<L>,
 ) -> Result<(), Memory> {
     let entry = Entry {
         time: now,
@@ -26,7 +24,7 @@ pub(crate) fn learn<H: BuildHasher, L: Ledger>(
     };
     // Records are numbered, and the numbers of 2^63 records are not used up.
     if tables.next_number() < u64::MAX / 2 {
-        tables.add(&entry, &NetAddr::ipv4([1, 2, 3, 4]), 7200, 0, now, steps)?;
+        add(tables, &entry, &NetAddr::ipv4([1, 2, 3, 4]), 7200, 0, now)?;
     }
     Ok(())
 }

@@ -6,8 +6,6 @@ mod learn;
 mod pick;
 mod try_open;
 
-ghost use Rattle.std.specs.Prelude.{◌≡◌};
-
 use learn::learn;
 use net_addr::{Peer, put_peer};
 use peer_open::Opener;
@@ -16,10 +14,7 @@ use picking::Picked;
 use placing::Placer;
 use std::alloc::Global;
 use std::hash::{BuildHasher, RandomState};
-use std::marker::Brand;
 use std::process::ExitCode;
-use std::sync::ledger::{Blank, Ledger};
-use steps::Steps;
 use tables::{Memory, Tables};
 use try_open::try_open;
 
@@ -50,77 +45,60 @@ fn put_found(found: &Option<Peer>, text: &mut Vec<u8>) -> Result<(), Memory> {
 }
 
 /// Opens tables that have the known peers.
-fn known_tables<H: BuildHasher + Drop, L: Ledger>(
+fn known_tables<H: BuildHasher + Drop>(
     alloc: Global,
     hasher: H,
-    steps: &mut Steps<L>,
 ) -> Result<Tables<'static, H>, Memory> {
     let mut tables = Tables::open(alloc, Placer::make(KEY, None), hasher)?;
     for octets in KNOWN {
-        learn(&mut tables, octets, NOW, steps)?;
+        learn(&mut tables, octets, NOW)?;
     }
     Ok(tables)
 }
 
 /// Makes a try by these words, and appends what it came to, and a line feed.
-fn put_try<H: BuildHasher, L: Ledger>(
+fn put_try<H: BuildHasher>(
     tables: &Tables<'_, H>,
     opener: &mut Opener,
     words: &[u64],
     text: &mut Vec<u8>,
-    steps: &mut Steps<L>,
 ) -> Result<(), Memory> {
     let placer = Placer::make(KEY, None);
-    let opened = try_open(tables, &placer, opener, words, NOW, 1, steps);
+    let opened = try_open(tables, &placer, opener, words, NOW, 1);
     put_found(&opened, text)
 }
 
 /// Makes a try for each known peer, closes the first one, and makes a try for the second one again.
 /// Appends what the tries came to, a line for each.
-fn put_tries<H: BuildHasher, L: Ledger>(
-    tables: &Tables<'_, H>,
-    text: &mut Vec<u8>,
-    steps: &mut Steps<L>,
-) -> Result<(), Memory> {
+fn put_tries<H: BuildHasher>(tables: &Tables<'_, H>, text: &mut Vec<u8>) -> Result<(), Memory> {
     let mut opener = Opener::make();
     for words in &WORDS {
-        put_try(tables, &mut opener, words, text, steps)?;
+        put_try(tables, &mut opener, words, text)?;
     }
     opener.close_peer(&learn::peer(KNOWN[0]));
-    put_try(tables, &mut opener, &WORDS[1], text, steps)
+    put_try(tables, &mut opener, &WORDS[1], text)
 }
 
 /// Appends the peer that the words of the first known peer pick, and a line feed.
-fn put_pick<H: BuildHasher + Drop, L: Ledger>(
+fn put_pick<H: BuildHasher + Drop>(
     alloc: Global,
     hasher: H,
     text: &mut Vec<u8>,
-    blank: Blank,
-) -> Result<(), Memory>
-    requires name { blank.name ≡ L.name }
-    requires parts { blank.parts ≡ L.parts }
-    requires one { blank.parts ≡ 1 }
-{
-    match first_pick::<H, L>(alloc, hasher, KEY, &WORDS[0], NOW, blank)? {
+) -> Result<(), Memory> {
+    match first_pick(alloc, hasher, KEY, &WORDS[0], NOW)? {
         Picked::One(peer, _) => put_found(&Some(peer), text),
         Picked::Nothing | Picked::Exhausted => put_found(&None, text),
     }
 }
 
 /// Appends what the tries come to, a line for each.
-fn put_opened<H: BuildHasher + Drop, L: Ledger>(
+fn put_opened<H: BuildHasher + Drop>(
     alloc: Global,
     hasher: H,
     text: &mut Vec<u8>,
-    blank: Blank,
-) -> Result<(), Memory>
-    requires name { blank.name ≡ L.name }
-    requires parts { blank.parts ≡ L.parts }
-    requires one { blank.parts ≡ 1 }
-{
-    let mut steps = Steps::<L>::none(blank);
-    let tables = known_tables(alloc, hasher, &mut steps)?;
-    put_tries(&tables, text, &mut steps)
+) -> Result<(), Memory> {
+    let tables = known_tables(alloc, hasher)?;
+    put_tries(&tables, text)
 }
 
 /// Returns the text of both examples.
@@ -130,8 +108,8 @@ fn both_examples(
     second: RandomState,
 ) -> Result<Vec<u8>, Memory> {
     let mut text = Vec::new(alloc);
-    put_pick::<RandomState, Brand>(alloc, first, &mut text, Blank::new(1))?;
-    put_opened::<RandomState, Brand>(alloc, second, &mut text, Blank::new(1))?;
+    put_pick(alloc, first, &mut text)?;
+    put_opened(alloc, second, &mut text)?;
     Ok(text)
 }
 

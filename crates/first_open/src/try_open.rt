@@ -5,24 +5,22 @@ ghost use Rattle.first_open.specs.Taken.{IsTaken};
 
 use net_addr::{NetSet, Peer};
 use peer_open::{MAX_OUTBOUND, Opener, Verdict};
-use picking::{Picked, select};
+use picking::Picked;
 use placing::Placer;
 use std::hash::BuildHasher;
-use std::sync::ledger::Ledger;
-use steps::Steps;
 use tables::Tables;
+use uncounted::select;
 
 /// Makes one try for an outbound connection, at a time in seconds since 1970: picks a peer by the
 /// random words, and adds it to the open ones if the rules take it in the try of this number, the
 /// first of which is 1. Returns `None` if they do not, if no peer is picked, or if ten are open.
-pub(crate) fn try_open<H: BuildHasher, L: Ledger>(
+pub(crate) fn try_open<H: BuildHasher>(
     tables: &Tables<'_, H>,
     placer: &Placer<'_>,
     opener: &mut Opener,
     words: &[u64],
     now: u32,
     tries: u32,
-    steps: &mut Steps<L>,
 ) -> Option<Peer>
     ensures taken { IfSome result (λ peer.
         IsTaken tables.now placer.now opener.old words.now now tries peer) }
@@ -34,7 +32,7 @@ pub(crate) fn try_open<H: BuildHasher, L: Ledger>(
     if opener.len() == MAX_OUTBOUND {
         return None;
     }
-    let Picked::One(peer, last_try) = select(tables, false, NetSet::all(), words, now, steps) else {
+    let Picked::One(peer, last_try) = select(tables, false, NetSet::all(), words, now) else {
         return None;
     };
     let group = placer.group(&peer.addr);

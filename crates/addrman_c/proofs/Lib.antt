@@ -1,0 +1,4 @@
+pub mod Addresses
+pub mod Lists
+pub mod OnHandles
+pub mod Sets

@@ -1,0 +1,12 @@
+use Rattle.std.proofs.Common.{refl, subst}
+use Rattle.addrman_c.specs.Calls.{RecordsCall}
+use Rattle.addrman_c.specs.declared.handle.Kept.{Kept}
+use Rattle.addrman_c.proofs.OnHandles.{done}
+use Rattle.addrman_c.proofs.records.addrman_records.Goals as goal
+
+pub returns : goal.returns
+returns c =
+    let kept = c.in-Some.kept.value in
+    let new = c.records_on-code.new in
+    done _ _ _ kept kept _ c.in-Some.ensures.taken c.put.ensures refl
+    (subst (λ (k : Kept). RecordsCall k.tables.records c.records_on-code.result c.args.out.now new.out new.length) c.deref.ensures c.records_on-code.ensures, refl)

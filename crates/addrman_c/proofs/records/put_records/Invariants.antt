@@ -1,0 +1,7 @@
+use Rattle.addrman_c.specs.Calls.{IsRecord}
+use Rattle.addrman_c.proofs.Lists.{Tell}
+use Rattle.addrman_c.proofs.records.put_records.Given as goal
+
+-- the records before index i are told
+abbrev pub invariant-loop-i : goal.invariant-loop-i
+invariant-loop-i l = Tell IsRecord l.i l.out l.recs

@@ -1,0 +1,154 @@
+-- What the calls on tables return, write and leave. A call's definition ends with the state
+-- before, the code, the outputs and the state after.
+use Rattle.std.specs.Prelude.{◌≡◌, ◌⊎◌, ℕ, ◌<◌, ◌≤◌, ◌^◌, List, take, length, slice_get, Bool, true, false, Option, Some, None, Result, Ok, Err, MatchOption, MatchResult}
+use Rattle.net_addr.specs.Address.{Address}
+use Rattle.net_addr.specs.declared.entry.Entry.{Entry}
+use Rattle.net_addr.specs.declared.peer.Peer.{Peer}
+use Rattle.addr_codecs.specs.declared.form.Form.{Form}
+use Rattle.addr_codecs.specs.declared.form.Form.TheVariants.{Addr, Addrv2}
+use Rattle.addr_codecs.specs.declared.fault.MsgFault.{MsgFault}
+use Rattle.addr_codecs.specs.declared.fault.MsgFault.TheVariants as msg
+use Rattle.peer_rec.specs.Rec.{buckets_of}
+use Rattle.peer_rec.specs.declared.rec.Rec.{Rec}
+use Rattle.peer_rec.specs.declared.good.Good.{Good}
+use Rattle.peer_rec.specs.declared.good.Good.TheVariants.{Unknown, Already, Clash, Moved}
+use Rattle.peer_rec.specs.declared.picked.Picked.{Picked}
+use Rattle.peer_rec.specs.declared.picked.Picked.TheVariants.{One, Nothing, Exhausted}
+use Rattle.table_machine.specs.State.{State, After, find_peer}
+use Rattle.table_machine.specs.Entries.{add}
+use Rattle.table_machine.specs.Tried.{good}
+use Rattle.manager.specs.Taking.{IsAdded, IsMessageFault}
+use Rattle.manager.specs.declared.messages.Added.{Added}
+use Rattle.manager.specs.declared.messages.MessageFault.{MessageFault}
+use Rattle.manager.specs.declared.messages.MessageFault.TheVariants.{Memory, Refused, ShortWords}
+use Rattle.addrman_c.specs.declared.code.TheConstants.{OK, MEMORY, ARGUMENT, FULL, SHORT_WORDS, SHORT_BUFFER, REFUSED, NONE, EXHAUSTED}
+use Rattle.addrman_c.specs.declared.structs.AddrmanAdded.{AddrmanAdded}
+use Rattle.addrman_c.specs.declared.structs.AddrmanFault.{AddrmanFault}
+use Rattle.addrman_c.specs.declared.structs.AddrmanPicked.{AddrmanPicked}
+use Rattle.addrman_c.specs.declared.structs.AddrmanRecord.{AddrmanRecord}
+use Rattle.addrman_c.specs.Values.{peer_in, address_in, bit}
+
+-- nothing is done, for the reason that the code says
+abbrev pub Refuses : ℕ → State → ℕ → State → Type 0
+Refuses reason old code new = (code ≡ reason) × (new ≡ old)
+
+-- the number of an outcome in the header
+abbrev pub good_number : Good → ℕ
+good_number Unknown = 0
+good_number Already = 1
+good_number Clash = 2
+good_number Moved = 3
+
+-- a peer was reached; None is no peer
+abbrev pub GoodCall : Option Peer → Bool → ℕ → State → ℕ → ℕ → State → Type 0
+GoodCall None testing now old code outcome new = Refuses ARGUMENT old code new
+GoodCall (Some peer) testing now old code outcome new =
+    (code ≡ OK) × (outcome ≡ good_number (good old now peer testing).answer)
+    × (new ≡ (good old now peer testing).state)
+
+-- a step of the tables that says whether a peer is known
+abbrev pub KnownCall : Option Peer → (State → Peer → After Bool) → State → ℕ → ℕ → State → Type 0
+KnownCall None step old code known new = Refuses ARGUMENT old code new
+KnownCall (Some peer) step old code known new =
+    (code ≡ OK) × (known ≡ bit (step old peer).answer) × (new ≡ (step old peer).state)
+
+-- the next record number is below 2^62, so that a message fits
+abbrev pub most_records : ℕ
+most_records = 2 ^ 62
+
+-- one entry; None is no address
+abbrev pub AddCall : Option Peer → Option Address → ℕ → ℕ → ℕ → ℕ → ℕ → State → ℕ → ℕ → State
+    → Type 0
+AddCall None source time services penalty word now old code accepted new =
+    Refuses ARGUMENT old code new
+AddCall (Some peer) None time services penalty word now old code accepted new =
+    Refuses ARGUMENT old code new
+AddCall (Some peer) (Some source) time services penalty word now old code accepted new =
+    let entry : Entry = record { time = time; services = services; peer = peer } in
+    let after = add old now entry source penalty word in
+    ((most_records ≤ old.next_number) × Refuses FULL old code new)
+    ⊎ (Refuses MEMORY old code new
+    ⊎ ((code ≡ OK) × (accepted ≡ bit after.answer) × (new ≡ after.state)))
+
+-- the number of a fault of a message in the header
+abbrev pub fault_number : MsgFault → ℕ
+fault_number msg.Truncated = 1
+fault_number msg.NonCanonical = 2
+fault_number msg.TooMany = 3
+fault_number msg.BadLength = 4
+fault_number msg.TooLong = 5
+fault_number msg.Trailing = 6
+fault_number msg.Memory = 0
+
+-- the form of a message
+abbrev pub form_of : Bool → Form
+form_of false = Addr
+form_of true = Addrv2
+
+-- how the code and the outputs tell what became of a message
+abbrev pub Tells : Result Added MessageFault → ℕ → AddrmanAdded → AddrmanFault → Type 0
+Tells (Ok taken) code added fault =
+    (code ≡ OK) × (added.accepted ≡ taken.accepted) × (added.total ≡ taken.total)
+Tells (Err Memory) code added fault = code ≡ MEMORY
+Tells (Err (Refused refused)) code added fault =
+    (code ≡ REFUSED) × (fault.kind ≡ fault_number refused)
+Tells (Err (ShortWords need have)) code added fault =
+    (code ≡ SHORT_WORDS) × (added.accepted ≡ 0) × (added.total ≡ need)
+
+-- a message; None is no address
+abbrev pub MessageCall : Form → List ℕ → Option Address → List ℕ → ℕ → State → ℕ → AddrmanAdded
+    → AddrmanFault → State → Type 0
+MessageCall form payload None words now old code added fault new =
+    Refuses ARGUMENT old code new
+MessageCall form payload (Some source) words now old code added fault new =
+    ((most_records ≤ old.next_number) × Refuses FULL old code new)
+    ⊎ ((answer : Result Added MessageFault)
+    × MatchResult answer (λ taken. IsAdded form payload old now source words taken new)
+    (λ why. IsMessageFault form payload old now source words why new)
+    × Tells answer code added fault)
+
+-- a pick, as the code and the output tell it
+abbrev pub PickCall : Picked → ℕ → AddrmanPicked → Type 0
+PickCall (One peer last_try) code picked =
+    (code ≡ OK) × (peer_in picked.peer ≡ Some peer) × (picked.last_try ≡ last_try)
+PickCall Nothing code picked = code ≡ NONE
+PickCall Exhausted code picked = code ≡ EXHAUSTED
+
+-- the occupant of a collision's slot, as the code and the output tell it
+abbrev pub OccupantCall : Option (Peer × ℕ) → ℕ → AddrmanPicked → Type 0
+OccupantCall None code picked = code ≡ NONE
+OccupantCall (Some found) code picked =
+    (code ≡ OK) × (peer_in picked.peer ≡ Some found.0) × (picked.last_try ≡ found.1)
+
+-- the struct tells the record
+pub record IsRecord (out : AddrmanRecord) (r : Rec) : Type 0 where
+  pub number : out.number ≡ r.number
+  pub services : out.services ≡ r.services
+  pub peer : peer_in out.peer ≡ Some r.peer
+  pub source : address_in out.source ≡ Some r.source
+  pub time : out.time ≡ r.time
+  pub last_success : out.last_success ≡ r.last_success
+  pub last_try : out.last_try ≡ r.last_try
+  pub last_counted : out.last_counted ≡ r.last_count
+  pub attempts : out.attempts ≡ r.attempts
+  pub buckets : take out.bucket_count out.buckets ≡ buckets_of r
+
+-- the record of a peer, as the code and the output tell it; None is no peer
+abbrev pub FindCall : Option Peer → State → ℕ → AddrmanRecord → Type 0
+FindCall None st code out = code ≡ ARGUMENT
+FindCall (Some peer) st code out = MatchOption (find_peer st peer) (code ≡ NONE)
+    (λ r. (code ≡ OK) × IsRecord out r)
+
+-- each record is told by the struct of its index
+abbrev pub AreRecords : List AddrmanRecord → List Rec → Type 0
+AreRecords out recs = (length recs ≤ length out)
+    × ((i : ℕ) (told : AddrmanRecord) (r : Rec) → slice_get out i ≡ Some told
+    → slice_get recs i ≡ Some r → IsRecord told r)
+
+-- all records, whole or not at all, and how many they are
+abbrev pub RecordsCall : List Rec → ℕ → List AddrmanRecord → List AddrmanRecord → ℕ → Type 0
+RecordsCall recs code old new count =
+    ((code ≡ MEMORY) × (new ≡ old))
+    ⊎ ((count ≡ length recs)
+    × (((length old < length recs) × (code ≡ SHORT_BUFFER) × (new ≡ old))
+    ⊎ ((code ≡ OK) × AreRecords new recs)))

@@ -1,0 +1,55 @@
+-- What the calls that open, load and write tables do.
+use Rattle.std.specs.Prelude.{◌≡◌, ◌⊎◌, ℕ, ◌<◌, ◌≤◌, List, [], length, Option, Some, None, ◌==◌, if◌then◌else◌}
+use Rattle.bit_code.specs.declared.bits.TheConstants.{MAX_ASMAP}
+use Rattle.asmap_vm.specs.Code.{Tree, IsSaneFile}
+use Rattle.asmap_vm.specs.Asmap.{Asmap}
+use Rattle.table_machine.specs.State.{State, empty_state}
+use Rattle.table_machine.specs.Snapshot.{snapshot_of}
+use Rattle.peers_file.specs.Texts.{file_text}
+use Rattle.peers_file.specs.declared.chain.Chain.{Chain}
+use Rattle.peers_file.specs.declared.chain.Chain.TheVariants.{Main, Test, Signet, Regtest}
+use Rattle.addrman_c.specs.declared.code.TheConstants.{OK, MEMORY, ARGUMENT, REFUSED}
+use Rattle.addrman_c.specs.declared.handle.Kept.{Kept}
+use Rattle.addrman_c.specs.Values.{IsPut}
+
+-- the asmap of the bytes; no bytes are no asmap
+abbrev pub IsMapOf : List ℕ → Option Asmap → Type 0
+IsMapOf bytes None = length bytes ≡ 0
+IsMapOf bytes (Some map) =
+    (0 < length bytes) × (map.file ≡ bytes) × IsSaneFile map.tree bytes
+    × (length bytes ≤ MAX_ASMAP)
+
+-- the bytes are refused as an asmap: they are too many, or the file of no sane tree
+abbrev pub IsNoMap : List ℕ → Type 0
+IsNoMap bytes =
+    (0 < length bytes)
+    × ((MAX_ASMAP < length bytes) ⊎ ((t : Tree) → IsSaneFile t bytes → ⊥))
+
+-- empty tables of the key and the asmap, and no outbound peer
+abbrev pub IsOpened : List ℕ → Option Asmap → Kept → Type 0
+IsOpened key map kept =
+    kept ≡ record { tables = empty_state (record { key = key; map = map }); opener = [] }
+
+-- tables are opened, or the handle is closed
+abbrev pub OpenCall : List ℕ → List ℕ → ℕ → Option Kept → Type 0
+OpenCall key asmap code None =
+    (code ≡ MEMORY) ⊎ ((code ≡ REFUSED) × IsNoMap asmap)
+OpenCall key asmap code (Some kept) =
+    (code ≡ OK) × ((map : Option Asmap) × IsMapOf asmap map × IsOpened key map kept)
+
+-- the chain of a number of the header
+abbrev pub chain_of : ℕ → Option Chain
+chain_of number =
+    if number == 0 then Some Main
+    else if number == 1 then Some Test
+    else if number == 2 then Some Signet
+    else if number == 3 then Some Regtest
+    else None
+
+-- The bytes of the file that keeps the tables; None is no chain. If memory runs out or there is
+-- no such chain, the output is as it was.
+abbrev pub WriteCall : Option Chain → State → ℕ → List ℕ → List ℕ → ℕ → Type 0
+WriteCall None st code old new count = (code ≡ ARGUMENT) × (new ≡ old)
+WriteCall (Some chain) st code old new count =
+    ((code ≡ MEMORY) × (new ≡ old))
+    ⊎ IsPut (file_text chain (snapshot_of st)) old code count new

@@ -1,0 +1,25 @@
+-- What the calls on asmaps and network groups return and write.
+use Rattle.std.specs.Prelude.{◌≡◌, ◌⊎◌, ℕ, ◌<◌, ◌≤◌, List, length, Option, Some, None}
+use Rattle.bit_code.specs.declared.bits.TheConstants.{MAX_ASMAP}
+use Rattle.net_addr.specs.Address.{Address}
+use Rattle.asmap_vm.specs.Code.{Tree, IsSaneFile}
+use Rattle.placing.specs.Places.{Places, asn, group}
+use Rattle.addrman_c.specs.declared.code.TheConstants.{OK, ARGUMENT, REFUSED}
+use Rattle.addrman_c.specs.Values.{IsPut}
+
+-- whether bytes are the file of a sane tree, and not too many
+abbrev pub CheckCall : List ℕ → ℕ → Type 0
+CheckCall bytes code =
+    ((code ≡ OK) × (length bytes ≤ MAX_ASMAP) × ((t : Tree) × IsSaneFile t bytes))
+    ⊎ ((code ≡ REFUSED)
+    × ((MAX_ASMAP < length bytes) ⊎ ((t : Tree) → IsSaneFile t bytes → ⊥)))
+
+-- the number of an address's autonomous system; None is no address
+abbrev pub AsnCall : Option Address → Places → ℕ → ℕ → Type 0
+AsnCall None places code number = code ≡ ARGUMENT
+AsnCall (Some addr) places code number = (code ≡ OK) × (number ≡ asn places.map addr)
+
+-- the network group of an address; None is no address
+abbrev pub GroupCall : Option Address → Places → ℕ → List ℕ → List ℕ → ℕ → Type 0
+GroupCall None places code old new count = (code ≡ ARGUMENT) × (new ≡ old)
+GroupCall (Some addr) places code old new count = IsPut (group places addr) old code count new

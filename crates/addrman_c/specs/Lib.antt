@@ -1,0 +1,10 @@
+pub mod Calls
+pub mod Files
+pub mod Groups
+pub mod Held
+pub mod Loading
+pub mod OnHandle
+pub mod Outbound
+pub mod Sampling
+pub mod Texts
+pub mod Values

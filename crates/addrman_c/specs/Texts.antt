@@ -1,0 +1,18 @@
+-- What the calls on addresses and their texts return and write.
+use Rattle.std.specs.Prelude.{◌≡◌, ◌⊎◌, ℕ, List, Option, Some, None}
+use Rattle.net_addr.specs.Address.{Address}
+use Rattle.net_addr.specs.Ranges.{is_routable}
+use Rattle.addrman_c.specs.declared.code.TheConstants.{OK, MEMORY, ARGUMENT}
+use Rattle.addrman_c.specs.Values.{IsPut, bit}
+
+-- The text of a value; None is no value. If memory runs out or there is no value, the output is as
+-- it was.
+abbrev pub TextCall : {A : Type 0} → (A → List ℕ) → Option A → ℕ → List ℕ → List ℕ → ℕ → Type 0
+TextCall text_of None code old new count = (code ≡ ARGUMENT) × (new ≡ old)
+TextCall text_of (Some value) code old new count =
+    ((code ≡ MEMORY) × (new ≡ old)) ⊎ IsPut (text_of value) old code count new
+
+-- whether an address is routable; None is no address
+abbrev pub RoutableCall : Option Address → ℕ → ℕ → Type 0
+RoutableCall None code routable = code ≡ ARGUMENT
+RoutableCall (Some addr) code routable = (code ≡ OK) × (routable ≡ bit (is_routable addr))

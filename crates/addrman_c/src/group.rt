@@ -1,0 +1,84 @@
+ghost use Rattle.std.specs.Prelude.{◌≡◌};
+ghost use Rattle.addrman_c.specs.Values.{address_in};
+ghost use Rattle.addrman_c.specs.Groups.{AsnCall, GroupCall, CheckCall};
+ghost use Rattle.addrman_c.specs.OnHandle.{OnTables};
+
+use crate::code::{ARGUMENT, CLOSED, OK, REFUSED};
+use crate::handle::Handle;
+use crate::output::put_all;
+use crate::values::{AddrmanAddr, read_addr};
+use net_addr::NetAddr;
+use placing::Placer;
+use std::alloc::Global;
+
+/// Tells whether bytes are an asmap.
+#[unsafe(no_mangle)]
+pub extern "C" fn addrman_asmap_check(bytes: &[u8]) -> u32
+    ensures { CheckCall bytes.now result }
+{
+    match asmap_vm::check(bytes) {
+        Ok(_) => OK,
+        Err(_) => REFUSED,
+    }
+}
+
+/// Tells the number of the autonomous system of an address.
+fn asn_on(placer: &Placer<'_>, addr: Option<NetAddr>, asn: &mut u32) -> u32
+    ensures { AsnCall addr placer.now result asn.new }
+{
+    let Some(addr) = addr else {
+        return ARGUMENT;
+    };
+    *asn = placer.asn(&addr);
+    OK
+}
+
+/// Tells the number of the autonomous system that announces an address, 0 if none is known.
+#[unsafe(no_mangle)]
+pub extern "C" fn addrman_asn(
+    alloc: Global,
+    handle: &mut Handle,
+    addr: &AddrmanAddr,
+    asn: &mut u32,
+) -> u32
+    ensures { OnTables handle.old.loose.kept result handle.new.loose.kept
+        (λ old new. AsnCall (address_in addr.now) old.places result asn.new × (new ≡ old)) }
+{
+    let Some(kept) = handle.take(alloc) else {
+        return CLOSED;
+    };
+    let code = asn_on(kept.tables.placer(), read_addr(addr), asn);
+    handle.put(kept);
+    code
+}
+
+/// Writes the network group of an address, and its length.
+fn group_on(placer: &Placer<'_>, addr: Option<NetAddr>, out: &mut [u8], length: &mut usize) -> u32
+    ensures { GroupCall addr placer.now result out.old out.new length.new }
+{
+    let Some(addr) = addr else {
+        return ARGUMENT;
+    };
+    put_all(out, placer.group(&addr).as_slice(), length)
+}
+
+/// Writes the network group of an address, at most 11 bytes, and its length.
+#[unsafe(no_mangle)]
+pub extern "C" fn addrman_group(
+    alloc: Global,
+    handle: &mut Handle,
+    addr: &AddrmanAddr,
+    out: &mut [u8],
+    length: &mut usize,
+) -> u32
+    ensures { OnTables handle.old.loose.kept result handle.new.loose.kept
+        (λ old new. GroupCall (address_in addr.now) old.places result out.old out.new length.new
+        × (new ≡ old)) }
+{
+    let Some(kept) = handle.take(alloc) else {
+        return CLOSED;
+    };
+    let code = group_on(kept.tables.placer(), read_addr(addr), out, length);
+    handle.put(kept);
+    code
+}

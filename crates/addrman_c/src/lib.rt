@@ -1,0 +1,54 @@
+//! The address manager for programs in C and in what links C: a static library. Its header is
+//! `bindings/addrman.h`.
+//!
+//! Raw pointers stand in `handle` alone. A handle is open or closed, and a call on a closed one
+//! returns a code.
+//!
+//! Proved: each export states what it returns, writes and leaves by the tables before it, in the
+//! words of `table_machine` (`specs/Calls.antt`). None has a condition.
+#![tactic(auto)]
+
+mod abi;
+mod chain;
+mod code;
+mod entries;
+mod group;
+mod handle;
+mod loading;
+mod marks;
+mod nets;
+mod opener;
+mod opening;
+mod output;
+mod picks;
+mod reads;
+mod records;
+mod sampling;
+mod structs;
+mod text;
+mod values;
+mod writing;
+
+pub use abi::addrman_abi;
+pub use entries::{addrman_add, addrman_take_message};
+pub use group::{addrman_asmap_check, addrman_asn, addrman_group};
+pub use handle::{Handle, Kept, Loose};
+pub use loading::addrman_open_file;
+pub use marks::{addrman_attempt, addrman_connected, addrman_good, addrman_set_services};
+pub use opener::{
+    addrman_judge_feeler, addrman_opener_add, addrman_opener_judge, addrman_opener_remove,
+};
+pub use opening::{addrman_close, addrman_open};
+pub use picks::{addrman_resolve_collisions, addrman_select, addrman_select_collision};
+pub use reads::addrman_size;
+pub use records::{addrman_find, addrman_records};
+pub use sampling::addrman_sample;
+pub use structs::{
+    AddrmanAdded, AddrmanCounts, AddrmanFault, AddrmanPicked, AddrmanRecord, AddrmanResolved,
+};
+pub use text::{
+    addrman_addr_parse, addrman_addr_routable, addrman_addr_text, addrman_peer_parse,
+    addrman_peer_text,
+};
+pub use values::{AddrmanAddr, AddrmanPeer};
+pub use writing::addrman_write_file;

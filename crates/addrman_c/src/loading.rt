@@ -1,0 +1,125 @@
+ghost use Rattle.std.specs.Prelude.{◌≡◌, IfOk, IfErr};
+ghost use Rattle.placing.specs.Inside.{map_of};
+ghost use Rattle.addrman_c.specs.Loading.{fault_of, IsLoaded, IsLoadFault, TellsLoad, LoadCall};
+ghost use Rattle.addrman_c.specs.Files.{chain_of};
+
+use crate::chain::chain_of;
+use crate::code::{ARGUMENT, MEMORY, OK, REFUSED};
+use crate::handle::{Handle, Kept};
+use crate::opening::{boxed, check_map};
+use crate::structs::AddrmanFault;
+use asmap_vm::Sane;
+use keyed_hasher::Keyed;
+use peers_file::{Chain, FileFault, read_file};
+use placing::Placer;
+use std::alloc::Global;
+use tables::RestoreFault;
+
+/// Why a file is not loaded.
+pub(crate) enum LoadFault {
+    /// Out of memory.
+    Memory,
+    /// The bytes are no file of the chain.
+    Refused(FileFault),
+    /// Two valid records have one peer: the index of the later one.
+    Duplicate { index: u32 },
+}
+
+/// Returns a fault as C sees it.
+fn fault_of(fault: FileFault) -> AddrmanFault
+    ensures { result ≡ fault_of fault }
+{
+    let (kind, at) = match fault {
+        FileFault::Truncated => (1, 0),
+        FileFault::Trailing => (6, 0),
+        FileFault::BadMagic => (10, 0),
+        FileFault::BadSum => (11, 0),
+        FileFault::Compat { byte } => (12, u64::from(byte)),
+        FileFault::Version { byte } => (13, u64::from(byte)),
+        FileFault::Count { .. } => (14, 0),
+        FileFault::Record { index, .. } => (15, u64::from(index)),
+        FileFault::Buckets { .. } => (16, 0),
+        FileFault::Time { index } => (17, u64::from(index)),
+        FileFault::Attempts { index } => (18, u64::from(index)),
+        FileFault::TooLarge { size } => (19, size),
+        FileFault::Memory => (0, 0),
+    };
+    AddrmanFault { kind, at }
+}
+
+/// Makes the tables that the bytes of a file have.
+fn loaded(
+    alloc: Global,
+    bytes: &[u8],
+    chain: Chain,
+    hasher: Keyed,
+    map: Option<Sane<'static>>,
+) -> Result<Box<Kept>, LoadFault>
+    ensures found { IfOk result (λ kept. IsLoaded chain bytes.now (map_of map.entry) kept.value) }
+    ensures cause { IfErr result (IsLoadFault chain bytes.now) }
+{
+    let snap = match read_file(alloc, bytes, chain) {
+        Ok(snap) => snap,
+        Err(FileFault::Memory) => return Err(LoadFault::Memory),
+        Err(fault) => return Err(LoadFault::Refused(fault)),
+    };
+    match uncounted::restore(alloc, &snap, Placer::make(snap.key(), map), hasher) {
+        Ok(tables) => match boxed(alloc, tables) {
+            Some(kept) => Ok(kept),
+            None => Err(LoadFault::Memory),
+        },
+        Err(RestoreFault::Memory) => Err(LoadFault::Memory),
+        Err(RestoreFault::Duplicate { index }) => Err(LoadFault::Duplicate { index }),
+    }
+}
+
+/// Writes why a file is not loaded, and returns the code.
+fn tell(why: LoadFault, fault: &mut AddrmanFault) -> u32
+    ensures { TellsLoad why result fault.new }
+{
+    match why {
+        LoadFault::Memory => MEMORY,
+        LoadFault::Refused(refused) => {
+            *fault = fault_of(refused);
+            REFUSED
+        }
+        LoadFault::Duplicate { index } => {
+            *fault = AddrmanFault {
+                kind: 20,
+                at: u64::from(index),
+            };
+            REFUSED
+        }
+    }
+}
+
+/// Opens the tables that the bytes of a `peers.dat` have. What the handle had is dropped.
+#[unsafe(no_mangle)]
+pub extern "C" fn addrman_open_file(
+    alloc: Global,
+    handle: &mut Handle,
+    bytes: &[u8],
+    chain: u32,
+    seed: &[u64; 2],
+    asmap: &'static [u8],
+    fault: &mut AddrmanFault,
+) -> u32
+    ensures { LoadCall (chain_of chain) bytes.now asmap.now result fault.new
+        handle.new.loose.kept }
+{
+    let _old = handle.take(alloc);
+    let Some(chain) = chain_of(chain) else {
+        return ARGUMENT;
+    };
+    let Ok(map) = check_map(asmap) else {
+        *fault = AddrmanFault { kind: 21, at: 0 };
+        return REFUSED;
+    };
+    match loaded(alloc, bytes, chain, Keyed::make(seed[0], seed[1]), map) {
+        Ok(kept) => {
+            handle.put(kept);
+            OK
+        }
+        Err(why) => tell(why, fault),
+    }
+}

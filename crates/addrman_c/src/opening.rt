@@ -1,0 +1,85 @@
+ghost use Rattle.std.specs.Prelude.{◌≡◌, [], None, IfOk, IfErr, IfSome};
+ghost use Rattle.placing.specs.Inside.{map_of};
+ghost use Rattle.addrman_c.specs.Files.{IsMapOf, IsNoMap, IsOpened, OpenCall};
+
+use crate::code::{MEMORY, OK, REFUSED};
+use crate::handle::{Handle, Kept};
+use asmap_vm::{CodeFault, Sane};
+use keyed_hasher::Keyed;
+use peer_open::Opener;
+use placing::Placer;
+use std::alloc::Global;
+use tables::Tables;
+
+/// Checks an asmap. No bytes are no asmap.
+pub(crate) fn check_map(bytes: &'static [u8]) -> Result<Option<Sane<'static>>, CodeFault>
+    ensures found { IfOk result (λ map. IsMapOf bytes.now (map_of map)) }
+    ensures cause { IfErr result (λ fault. IsNoMap bytes.now) }
+{
+    if bytes.is_empty() {
+        return Ok(None);
+    }
+    match asmap_vm::check(bytes) {
+        Ok(sane) => Ok(Some(sane)),
+        Err(fault) => Err(fault),
+    }
+}
+
+/// Puts tables into a box, with no outbound peers.
+pub(crate) fn boxed(alloc: Global, tables: Tables<'static, Keyed>) -> Option<Box<Kept>>
+    ensures { IfSome result (λ kept. kept.value ≡ record { tables = tables.entry; opener = [] }) }
+{
+    let kept = Kept {
+        tables,
+        opener: Opener::make(),
+    };
+    match Box::new(alloc, kept) {
+        Ok(kept) => Some(kept),
+        Err(_) => None,
+    }
+}
+
+/// Makes empty tables.
+fn empty(
+    alloc: Global,
+    key: [u8; 32],
+    hasher: Keyed,
+    map: Option<Sane<'static>>,
+) -> Option<Box<Kept>>
+    ensures { IfSome result (λ kept. IsOpened key (map_of map.entry) kept.value) }
+{
+    match Tables::open(alloc, Placer::make(key, map), hasher) {
+        Ok(tables) => boxed(alloc, tables),
+        Err(_) => None,
+    }
+}
+
+/// Opens empty tables. What the handle had is dropped.
+#[unsafe(no_mangle)]
+pub extern "C" fn addrman_open(
+    alloc: Global,
+    handle: &mut Handle,
+    key: &[u8; 32],
+    seed: &[u64; 2],
+    asmap: &'static [u8],
+) -> u32
+    ensures { OpenCall key.now asmap.now result handle.new.loose.kept }
+{
+    let _old = handle.take(alloc);
+    let Ok(map) = check_map(asmap) else {
+        return REFUSED;
+    };
+    let Some(kept) = empty(alloc, *key, Keyed::make(seed[0], seed[1]), map) else {
+        return MEMORY;
+    };
+    handle.put(kept);
+    OK
+}
+
+/// Drops what the handle has.
+#[unsafe(no_mangle)]
+pub extern "C" fn addrman_close(alloc: Global, handle: &mut Handle)
+    ensures { handle.new.loose.kept ≡ None }
+{
+    let _kept = handle.take(alloc);
+}

@@ -1,0 +1,118 @@
+ghost use Rattle.std.specs.Prelude.{◌≡◌, ◌%◌, Some, option_map};
+ghost use Rattle.net_addr.specs.NetBits.{nets_of};
+ghost use Rattle.table_machine.specs.Picks.{select};
+ghost use Rattle.table_machine.specs.Clashes.{resolve, clash_pick};
+ghost use Rattle.addrman_c.specs.Calls.{PickCall, OccupantCall};
+ghost use Rattle.addrman_c.specs.OnHandle.{OnTables};
+
+use crate::code::{CLOSED, EXHAUSTED, NONE, OK};
+use crate::handle::Handle;
+use crate::nets::read_nets;
+use crate::structs::{AddrmanPicked, AddrmanResolved};
+use crate::values::write_peer;
+use net_addr::Peer;
+use picking::Picked;
+use std::alloc::Global;
+
+/// Writes a pick, and returns the code that tells whether there is one.
+fn put_pick(pick: &Picked, picked: &mut AddrmanPicked) -> u32
+    ensures { PickCall pick.now result picked.new }
+{
+    match pick {
+        Picked::One(peer, last_try) => {
+            *picked = AddrmanPicked {
+                peer: write_peer(peer),
+                last_try: *last_try,
+            };
+            OK
+        }
+        Picked::Nothing => NONE,
+        Picked::Exhausted => EXHAUSTED,
+    }
+}
+
+/// Selects a peer to connect to by random words, of the networks of a set.
+#[unsafe(no_mangle)]
+pub extern "C" fn addrman_select(
+    alloc: Global,
+    handle: &mut Handle,
+    new_only: bool,
+    nets: u32,
+    words: &[u64],
+    now: u32,
+    picked: &mut AddrmanPicked,
+) -> u32
+    ensures { OnTables handle.old.loose.kept result handle.new.loose.kept (λ old new.
+        PickCall (select old new_only (nets_of (nets % 128)) words.now now) result picked.new
+        × (new ≡ old)) }
+{
+    let Some(kept) = handle.take(alloc) else {
+        return CLOSED;
+    };
+    let pick = uncounted::select(&kept.tables, new_only, read_nets(nets), words, now);
+    handle.put(kept);
+    put_pick(&pick, picked)
+}
+
+/// Writes the occupant of a collision's slot, and returns the code that tells whether there is one.
+fn put_occupant(occupant: Option<(Peer, u32)>, picked: &mut AddrmanPicked) -> u32
+    ensures { OccupantCall occupant result picked.new }
+{
+    match occupant {
+        Some((peer, last_try)) => {
+            *picked = AddrmanPicked {
+                peer: write_peer(&peer),
+                last_try,
+            };
+            OK
+        }
+        None => NONE,
+    }
+}
+
+/// Selects a collision by a random word, and writes the occupant of its slot.
+#[unsafe(no_mangle)]
+pub extern "C" fn addrman_select_collision(
+    alloc: Global,
+    handle: &mut Handle,
+    word: u64,
+    occupant: &mut AddrmanPicked,
+) -> u32
+    ensures { OnTables handle.old.loose.kept result handle.new.loose.kept (λ old new.
+        OccupantCall (clash_pick old word).answer result occupant.new
+        × (new ≡ (clash_pick old word).state)) }
+{
+    let Some(mut kept) = handle.take(alloc) else {
+        return CLOSED;
+    };
+    let found = uncounted::clash_pick(&mut kept.tables, word);
+    handle.put(kept);
+    put_occupant(found, occupant)
+}
+
+/// Decides on all collisions, and writes how many had which result.
+#[unsafe(no_mangle)]
+pub extern "C" fn addrman_resolve_collisions(
+    alloc: Global,
+    handle: &mut Handle,
+    now: u32,
+    resolved: &mut AddrmanResolved,
+) -> u32
+    ensures { OnTables handle.old.loose.kept result handle.new.loose.kept (λ old new.
+        (result ≡ OK) × (resolved.new.erased ≡ (resolve old now).answer.erased)
+        × (resolved.new.moved ≡ (resolve old now).answer.moved)
+        × (resolved.new.kept ≡ (resolve old now).answer.kept)
+        × (new ≡ (resolve old now).state)) }
+{
+    let Some(mut kept) = handle.take(alloc) else {
+        return CLOSED;
+    };
+    let fates = uncounted::resolve(&mut kept.tables, now);
+    handle.put(kept);
+    *resolved = AddrmanResolved {
+        erased: fates.erased,
+        moved: fates.moved,
+        kept: fates.kept,
+    };
+    OK
+}

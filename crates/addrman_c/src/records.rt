@@ -1,0 +1,130 @@
+ghost use Rattle.std.specs.Prelude.{◌≡◌, ◌<◌, ◌≤◌, ℕ, length, take, slice_index, MatchOption, IfOk};
+ghost use Rattle.peer_rec.specs.Rec.{buckets_by};
+ghost use Rattle.addrman_c.specs.Values.{peer_in};
+ghost use Rattle.addrman_c.specs.Calls.{FindCall, IsRecord, AreRecords, RecordsCall};
+ghost use Rattle.addrman_c.specs.OnHandle.{OnTables};
+
+use crate::code::{ARGUMENT, CLOSED, MEMORY, NONE, OK, SHORT_BUFFER};
+use crate::handle::Handle;
+use crate::structs::AddrmanRecord;
+use crate::values::{AddrmanPeer, read_peer, write_addr, write_peer};
+use keyed_hasher::Keyed;
+use net_addr::Peer;
+use peer_rec::{Place, Rec};
+use std::alloc::Global;
+use tables::Tables;
+
+/// Writes the buckets of a place to the start of an output, and returns how many they are.
+fn put_buckets(place: &Place, out: &mut [u16; 8]) -> u32
+    ensures { take result out.new ≡ buckets_by place.now }
+{
+    match place {
+        Place::New(buckets) => {
+            let items = buckets.items();
+            out[..items.len()].copy_from_slice(items);
+            items.len() as u32
+        }
+        Place::Tried => 0,
+    }
+}
+
+/// Writes a record as C sees it.
+fn write_record(rec: &Rec) -> AddrmanRecord
+    ensures { IsRecord result rec.now }
+{
+    let mut buckets = [0; 8];
+    let bucket_count = put_buckets(&rec.place, &mut buckets);
+    AddrmanRecord {
+        number: rec.number,
+        services: rec.services,
+        peer: write_peer(&rec.peer),
+        source: write_addr(&rec.source),
+        time: rec.time,
+        last_success: rec.last_success,
+        last_try: rec.last_try,
+        last_counted: rec.last_count,
+        attempts: rec.attempts,
+        buckets,
+        bucket_count,
+    }
+}
+
+/// Finds the record of a peer.
+fn find_on(tables: &Tables<'_, Keyed>, peer: Option<Peer>, out: &mut AddrmanRecord) -> u32
+    ensures { FindCall peer tables.now result out.new }
+{
+    let Some(peer) = peer else {
+        return ARGUMENT;
+    };
+    match uncounted::find(tables, &peer) {
+        Some(rec) => {
+            *out = write_record(&rec);
+            OK
+        }
+        None => NONE,
+    }
+}
+
+/// Writes the record of a peer.
+#[unsafe(no_mangle)]
+pub extern "C" fn addrman_find(
+    alloc: Global,
+    handle: &mut Handle,
+    peer: &AddrmanPeer,
+    out: &mut AddrmanRecord,
+) -> u32
+    ensures { OnTables handle.old.loose.kept result handle.new.loose.kept
+        (λ old new. FindCall (peer_in peer.now) old result out.new × (new ≡ old)) }
+{
+    let Some(kept) = handle.take(alloc) else {
+        return CLOSED;
+    };
+    let code = find_on(&kept.tables, read_peer(peer), out);
+    handle.put(kept);
+    code
+}
+
+/// Writes records to the start of an output that has room for them.
+fn put_records(out: &mut [AddrmanRecord], recs: &[Rec])
+    requires { length recs.now ≤ length out.old }
+    ensures { AreRecords out.new recs.now }
+{
+    for i in 0..recs.len() {
+        out[i] = write_record(&recs[i]);
+    }
+}
+
+/// Writes all records, whole or not at all, and how many they are.
+fn records_on(tables: &Tables<'_, Keyed>, out: &mut [AddrmanRecord], length: &mut usize) -> u32
+    ensures { RecordsCall tables.now.records result out.old out.new length.new }
+{
+    let Ok(recs) = uncounted::recs(tables) else {
+        return MEMORY;
+    };
+    let recs = recs.items();
+    *length = recs.len();
+    if recs.len() > out.len() {
+        return SHORT_BUFFER;
+    }
+    put_records(out, recs);
+    OK
+}
+
+/// Writes all records in increasing order of their numbers, and how many they are.
+#[unsafe(no_mangle)]
+pub extern "C" fn addrman_records(
+    alloc: Global,
+    handle: &mut Handle,
+    out: &mut [AddrmanRecord],
+    length: &mut usize,
+) -> u32
+    ensures { OnTables handle.old.loose.kept result handle.new.loose.kept (λ old new.
+        RecordsCall old.records result out.old out.new length.new × (new ≡ old)) }
+{
+    let Some(kept) = handle.take(alloc) else {
+        return CLOSED;
+    };
+    let code = records_on(&kept.tables, out, length);
+    handle.put(kept);
+    code
+}

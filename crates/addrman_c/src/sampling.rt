@@ -1,0 +1,102 @@
+ghost use Rattle.std.specs.Prelude.{◌≡◌, ◌≤◌, ◌%◌, length};
+ghost use Rattle.net_addr.specs.NetBits.{nets_of};
+ghost use Rattle.addrman_c.specs.Sampling.{ArePeers, PeersPut, SampleCall};
+ghost use Rattle.addrman_c.specs.OnHandle.{OnTables};
+
+use crate::code::{ARGUMENT, CLOSED, MEMORY, OK, SHORT_BUFFER, SHORT_WORDS};
+use crate::handle::Handle;
+use crate::nets::read_nets;
+use crate::values::{AddrmanPeer, write_peer};
+use keyed_hasher::Keyed;
+use net_addr::{NetSet, Peer};
+use picking::SampleFault;
+use std::alloc::Global;
+use tables::Tables;
+
+/// Writes peers to the start of an output that has room for them.
+fn put_start(out: &mut [AddrmanPeer], peers: &[Peer])
+    requires { length peers.now ≤ length out.old }
+    ensures { ArePeers out.new peers.now }
+{
+    for i in 0..peers.len() {
+        out[i] = write_peer(&peers[i]);
+    }
+}
+
+/// Writes peers, whole or not at all, and how many they are.
+fn put_peers(out: &mut [AddrmanPeer], peers: &[Peer], length: &mut usize) -> u32
+    ensures { PeersPut peers.now result out.old out.new length.new }
+{
+    *length = peers.len();
+    if peers.len() > out.len() {
+        return SHORT_BUFFER;
+    }
+    put_start(out, peers);
+    OK
+}
+
+/// Samples peers to announce.
+fn sample_on(
+    alloc: Global,
+    tables: &mut Tables<'_, Keyed>,
+    max: u32,
+    percent: u32,
+    classes: NetSet,
+    words: &[u64],
+    now: u32,
+    out: &mut [AddrmanPeer],
+    length: &mut usize,
+) -> u32
+    ensures { SampleCall max percent classes words.now now tables.old result out.old out.new
+        length.new tables.new }
+{
+    if percent > 100 {
+        return ARGUMENT;
+    }
+    if words.len() > 0xffff_ffff {
+        return ARGUMENT;
+    }
+    match uncounted::sample(alloc, tables, max, percent, classes, words, now) {
+        Ok(peers) => put_peers(out, peers.items(), length),
+        Err(SampleFault::ShortWords { need, .. }) => {
+            *length = need as usize;
+            SHORT_WORDS
+        }
+        Err(SampleFault::Memory) => MEMORY,
+    }
+}
+
+/// Samples peers to announce by random words, of the classes of a set.
+#[unsafe(no_mangle)]
+pub extern "C" fn addrman_sample(
+    alloc: Global,
+    handle: &mut Handle,
+    max: u32,
+    percent: u32,
+    classes: u32,
+    words: &[u64],
+    now: u32,
+    out: &mut [AddrmanPeer],
+    length: &mut usize,
+) -> u32
+    ensures { OnTables handle.old.loose.kept result handle.new.loose.kept (λ old new.
+        SampleCall max percent (nets_of (classes % 128)) words.now now old result out.old out.new
+        length.new new) }
+{
+    let Some(mut kept) = handle.take(alloc) else {
+        return CLOSED;
+    };
+    let code = sample_on(
+        alloc,
+        &mut kept.tables,
+        max,
+        percent,
+        read_nets(classes),
+        words,
+        now,
+        out,
+        length,
+    );
+    handle.put(kept);
+    code
+}

@@ -1,0 +1,118 @@
+ghost use Rattle.std.specs.Prelude.{◌≡◌, ℕ, ◌⊎◌, List, Some};
+ghost use Rattle.net_addr.specs.Address.{Address};
+ghost use Rattle.net_addr.specs.Ranges.{is_routable};
+ghost use Rattle.net_addr.specs.Text.{IsAddrText, IsPeerText, addr_text, peer_text};
+ghost use Rattle.net_addr.specs.declared.peer.Peer.{Peer};
+ghost use Rattle.addrman_c.specs.Values.{address_in, peer_in};
+ghost use Rattle.addrman_c.specs.Texts.{TextCall, RoutableCall};
+
+use crate::code::{ARGUMENT, MEMORY, OK};
+use crate::output::put_all;
+use crate::values::{AddrmanAddr, AddrmanPeer, bit, read_addr, read_peer, write_addr, write_peer};
+use net_addr::{NetAddr, Peer, parse_addr, parse_peer, put_addr, put_peer};
+use std::alloc::Global;
+
+/// Parses the text of an address.
+#[unsafe(no_mangle)]
+pub extern "C" fn addrman_addr_parse(text: &[u8], out: &mut AddrmanAddr) -> u32
+    ensures ok { (addr : Address) → IsAddrText text.now addr
+        → (result ≡ OK) × (address_in out.new ≡ Some addr) }
+    ensures none { ((addr : Address) → IsAddrText text.now addr → ⊥) → result ≡ ARGUMENT }
+{
+    match parse_addr(text) {
+        Some(addr) => {
+            *out = write_addr(&addr);
+            OK
+        }
+        None => ARGUMENT,
+    }
+}
+
+/// Parses the text of a peer.
+#[unsafe(no_mangle)]
+pub extern "C" fn addrman_peer_parse(text: &[u8], out: &mut AddrmanPeer) -> u32
+    ensures ok { (peer : Peer) → IsPeerText text.now peer
+        → (result ≡ OK) × (peer_in out.new ≡ Some peer) }
+    ensures none { ((peer : Peer) → IsPeerText text.now peer → ⊥) → result ≡ ARGUMENT }
+{
+    match parse_peer(text) {
+        Some(peer) => {
+            *out = write_peer(&peer);
+            OK
+        }
+        None => ARGUMENT,
+    }
+}
+
+/// Writes the text of an address, whole or not at all, and its length.
+fn put_addr_text(alloc: Global, addr: Option<NetAddr>, out: &mut [u8], length: &mut usize) -> u32
+    ensures { TextCall addr_text addr result out.old out.new length.new }
+{
+    let Some(addr) = addr else {
+        return ARGUMENT;
+    };
+    let mut text = Vec::new(alloc);
+    match put_addr(&addr, &mut text) {
+        Ok(()) => put_all(out, text.as_slice(), length),
+        Err(_) => MEMORY,
+    }
+}
+
+/// Writes the text of a peer, whole or not at all, and its length.
+fn put_peer_text(alloc: Global, peer: Option<Peer>, out: &mut [u8], length: &mut usize) -> u32
+    ensures { TextCall peer_text peer result out.old out.new length.new }
+{
+    let Some(peer) = peer else {
+        return ARGUMENT;
+    };
+    let mut text = Vec::new(alloc);
+    match put_peer(&peer, &mut text) {
+        Ok(()) => put_all(out, text.as_slice(), length),
+        Err(_) => MEMORY,
+    }
+}
+
+/// Writes the text of an address, and its length.
+#[unsafe(no_mangle)]
+pub extern "C" fn addrman_addr_text(
+    alloc: Global,
+    addr: &AddrmanAddr,
+    out: &mut [u8],
+    length: &mut usize,
+) -> u32
+    ensures { TextCall addr_text (address_in addr.now) result out.old out.new length.new }
+{
+    put_addr_text(alloc, read_addr(addr), out, length)
+}
+
+/// Writes the text of a peer, and its length.
+#[unsafe(no_mangle)]
+pub extern "C" fn addrman_peer_text(
+    alloc: Global,
+    peer: &AddrmanPeer,
+    out: &mut [u8],
+    length: &mut usize,
+) -> u32
+    ensures { TextCall peer_text (peer_in peer.now) result out.old out.new length.new }
+{
+    put_peer_text(alloc, read_peer(peer), out, length)
+}
+
+/// Tells whether an address is routable.
+fn put_routable(addr: Option<NetAddr>, routable: &mut u32) -> u32
+    ensures { RoutableCall addr result routable.new }
+{
+    let Some(addr) = addr else {
+        return ARGUMENT;
+    };
+    *routable = bit(addr.is_routable());
+    OK
+}
+
+/// Tells whether an address is routable.
+#[unsafe(no_mangle)]
+pub extern "C" fn addrman_addr_routable(addr: &AddrmanAddr, routable: &mut u32) -> u32
+    ensures { RoutableCall (address_in addr.now) result routable.new }
+{
+    put_routable(read_addr(addr), routable)
+}

@@ -1,0 +1,15 @@
+//! The calls of the tables for who reads no count of steps: each counts its steps on a counter of
+//! its own, so that the caller names no ledger and has no condition on it.
+//!
+//! Proved: each call answers and leaves what the call does that it stands for.
+#![tactic(auto)]
+
+mod entries;
+mod marks;
+mod picks;
+mod reads;
+
+pub use entries::{add, take_message};
+pub use marks::{attempt, connected, good, services};
+pub use picks::{clash_pick, resolve, sample, select};
+pub use reads::{find, recs, restore, snapshot};
