@@ -5,8 +5,11 @@
 # make examples   compares what README.md and docs/FORMATS.md show with what the built program prints
 # make flood      an attack on the tables, hour by hour, as the page bin/flood.html
 # make endings    tries the exit codes of the built program and their texts
+# make lib        proves the library for C, and builds bin/lib/libaddrman.a and libaddrman.so.1
+# make lib-test   tries it from C, C++, Rust and Python, beside the built program
 # make figures    prints lines, words and the like, and checks the names that docs/DEFINITIONS.md lists
-# make install    copies program, manual page and completion below $(DESTDIR)$(PREFIX)
+# make install    copies program, manual page, completion, and the library for C if it is built,
+#                 below $(DESTDIR)$(PREFIX)
 # make dist       packs the same, with the licence, as bin/addrman-VERSION.tar.gz
 
 PREFIX ?= /usr/local
@@ -14,7 +17,10 @@ VERSION := 0.1.0
 ZERO_KEY := 0000000000000000000000000000000000000000000000000000000000000000
 DIST := addrman-$(VERSION)-x86_64-linux
 
-.PHONY: all try demo examples flood endings test figures install dist
+# Where the toolchain has its part of the C library: the allocator that the library calls.
+KIT = $(shell dirname "$$(dirname "$$(readlink -f "$$(command -v rt)")")")
+
+.PHONY: all try demo examples flood endings test figures lib lib-test install install-lib dist
 
 all:
 	mkdir -p bin
@@ -57,6 +63,21 @@ test:
 figures:
 	tools/figures
 
+# One object, with the allocator in it and only addrman_* to be seen.
+lib:
+	mkdir -p bin/lib
+	cd crates/addrman_c && rt lib
+	ld -r -o bin/lib/addrman.o --whole-archive crates/addrman_c/out/libaddrman_c.a $(KIT)/c/liblibc_c.a
+	objcopy --wildcard --keep-global-symbol='addrman_*' bin/lib/addrman.o
+	rm -f bin/lib/libaddrman.a
+	ar rcs bin/lib/libaddrman.a bin/lib/addrman.o
+	gcc -shared -o bin/lib/libaddrman.so.1 -Wl,-soname,libaddrman.so.1 -Wl,-z,defs bin/lib/addrman.o
+	ln -sf libaddrman.so.1 bin/lib/libaddrman.so
+	rm bin/lib/addrman.o
+
+lib-test: all lib
+	tools/lib_test
+
 # Whoever installs need not have the toolchain: the program is built before, by make.
 bin/addrman:
 	@echo "bin/addrman is not built: run make first" && false
@@ -67,6 +88,16 @@ install: bin/addrman
 	install -m 755 bin/addrman $(DESTDIR)$(PREFIX)/bin/addrman
 	install -m 644 docs/addrman.1 $(DESTDIR)$(PREFIX)/share/man/man1/addrman.1
 	install -m 644 tools/addrman.bash $(DESTDIR)$(PREFIX)/share/bash-completion/completions/addrman
+	test ! -d bin/lib || $(MAKE) install-lib
+
+install-lib:
+	install -d $(DESTDIR)$(PREFIX)/include $(DESTDIR)$(PREFIX)/lib/pkgconfig
+	install -m 644 bindings/addrman.h bindings/addrman.hpp $(DESTDIR)$(PREFIX)/include
+	install -m 644 bin/lib/libaddrman.a $(DESTDIR)$(PREFIX)/lib
+	install -m 755 bin/lib/libaddrman.so.1 $(DESTDIR)$(PREFIX)/lib
+	ln -sf libaddrman.so.1 $(DESTDIR)$(PREFIX)/lib/libaddrman.so
+	sed -e 's|@PREFIX@|$(PREFIX)|' -e 's|@VERSION@|$(VERSION)|' bindings/addrman.pc.in \
+		> $(DESTDIR)$(PREFIX)/lib/pkgconfig/addrman.pc
 
 dist: bin/addrman
 	rm -rf bin/$(DIST) && mkdir -p bin/$(DIST)

@@ -1,0 +1,350 @@
+/*
+ * addrman.h - the address manager of a Bitcoin node, with proofs. Link libaddrman.a or
+ * libaddrman.so, and the C library.
+ *
+ * RULES FOR ALL CALLS
+ *
+ * Ownership. An object of type addrman is a struct that the caller declares, begins with
+ *   ADDRMAN_INIT, opens by addrman_open or addrman_open_file, and closes by addrman_close. It may be
+ *   moved by plain assignment while no call uses it, and the old copy is then not used any more; it
+ *   is never copied. Its fields are private. addrman_close of a closed object does nothing, and each
+ *   other call on a closed object returns ADDRMAN_ERR_CLOSED. Nothing that a call returns has to be
+ *   freed: results go into memory of the caller's.
+ * Memory. The library allocates by malloc, realloc and free alone. A call that can run out of memory
+ *   returns ADDRMAN_ERR_MEMORY, and says what it then leaves. No call aborts.
+ * Arguments. No pointer is null. One with a length of 0 may be any other pointer: pass the address of
+ *   any object. What a call writes overlaps nothing else that is passed to it. A bool is 0 or 1.
+ * Threads. There is no global state. Two calls at the same time never use one object, not even two
+ *   that only read: hold a lock for each object. It may go to another thread between calls.
+ * Time and randomness. No call reads a clock or draws a random number. Times are seconds since 1970,
+ *   random words are uniform 64-bit numbers from a cryptographic generator, and both come from the
+ *   caller, so each run can be repeated.
+ * Results. After a result other than ADDRMAN_OK the outputs are as they were, unless the call says
+ *   otherwise.
+ * Layout. The structs below are part of the ABI. ADDRMAN_ABI changes with them; compare it with
+ *   addrman_abi().
+ *
+ * PROOFS
+ *
+ * Each call is a function in Rattle (crates/addrman_c), and is proved to do what its clause says,
+ * for all arguments that keep these rules. "Proved:" names the definitions of the clause. No proof
+ * sees the caller: that pointers are valid for their lengths, that an open object is not copied, and
+ * that this header says what the functions' signatures say, are trusted, as are the compiler and the
+ * C library.
+ */
+#ifndef ADDRMAN_H
+#define ADDRMAN_H
+
+#include <stdbool.h>
+#include <stddef.h>
+#include <stdint.h>
+
+#ifdef __cplusplus
+extern "C" {
+#endif
+
+#define ADDRMAN_ABI 1u
+
+#if defined(_WIN32)
+#error "libaddrman is built for ELF systems"
+#elif defined(__GNUC__) && __GNUC__ >= 4
+#define ADDRMAN_API __attribute__((visibility("default")))
+#define ADDRMAN_MUST_USE __attribute__((warn_unused_result))
+#else
+#define ADDRMAN_API
+#define ADDRMAN_MUST_USE
+#endif
+
+/* Returns ADDRMAN_ABI of the library that is linked. */
+ADDRMAN_API uint32_t addrman_abi(void);
+
+/* ---------------------------------------------------------------------------------- results */
+
+typedef uint32_t addrman_result;
+enum {
+    ADDRMAN_OK               = 0,
+    ADDRMAN_ERR_CLOSED       = 1, /* the object is not open */
+    ADDRMAN_ERR_MEMORY       = 2, /* out of memory */
+    ADDRMAN_ERR_ARGUMENT     = 3, /* an argument has no meaning, as an address of a wrong length */
+    ADDRMAN_ERR_FULL         = 4, /* 2^62 records were made, or ten peers are open */
+    ADDRMAN_ERR_SHORT_WORDS  = 5, /* too few random words; the call says how many it needs */
+    ADDRMAN_ERR_SHORT_BUFFER = 6, /* the output has too little room; *length says how much it needs */
+    ADDRMAN_ERR_REFUSED      = 7, /* the bytes are no message, file or asmap; *fault says why */
+    ADDRMAN_NONE             = 8, /* nothing to return: no candidate, no record, no collision */
+    ADDRMAN_EXHAUSTED        = 9  /* the random words were used up: call with more */
+};
+
+/* Why bytes are refused: the first fault from their start. */
+enum {
+    ADDRMAN_FAULT_TRUNCATED     = 1,  /* they end before a field does */
+    ADDRMAN_FAULT_NON_CANONICAL = 2,  /* a CompactSize has more bytes than its value needs */
+    ADDRMAN_FAULT_TOO_MANY      = 3,  /* a message of more than 1000 entries */
+    ADDRMAN_FAULT_BAD_LENGTH    = 4,  /* addresses of the network have another length */
+    ADDRMAN_FAULT_TOO_LONG      = 5,  /* an address of more than 512 bytes */
+    ADDRMAN_FAULT_TRAILING      = 6,  /* bytes are left after the last field */
+    ADDRMAN_FAULT_BAD_MAGIC     = 10, /* the file of another chain, or of another program */
+    ADDRMAN_FAULT_BAD_SUM       = 11, /* the last 32 bytes are not the checksum */
+    ADDRMAN_FAULT_COMPAT        = 12, /* a format that readers up to 4 cannot read; at: its byte */
+    ADDRMAN_FAULT_VERSION       = 13, /* format 0 or above 4; at: its byte */
+    ADDRMAN_FAULT_COUNT         = 14, /* the number of records is negative or too large */
+    ADDRMAN_FAULT_RECORD        = 15, /* at: the index of the record, the new ones first */
+    ADDRMAN_FAULT_BUCKETS       = 16, /* the number of buckets is negative or too large */
+    ADDRMAN_FAULT_TIME          = 17, /* a time before 1970 or after 2106; at: the record's index */
+    ADDRMAN_FAULT_ATTEMPTS      = 18, /* negative attempts; at: the record's index */
+    ADDRMAN_FAULT_TOO_LARGE     = 19, /* more than 33,554,432 bytes; at: how many */
+    ADDRMAN_FAULT_DUPLICATE     = 20, /* two valid records of one peer; at: the later one's index */
+    ADDRMAN_FAULT_ASMAP         = 21  /* the asmap is not sane, or has more than 8,388,608 bytes */
+};
+typedef struct {
+    uint32_t kind;
+    uint64_t at; /* what the kind says of it, else 0 */
+} addrman_fault;
+
+/* ----------------------------------------------------------------------------------- values */
+
+typedef uint8_t addrman_network;
+enum {
+    ADDRMAN_UNROUTABLE, ADDRMAN_IPV4, ADDRMAN_IPV6, ADDRMAN_ONION, ADDRMAN_I2P, ADDRMAN_CJDNS,
+    ADDRMAN_INTERNAL
+};
+
+/* A set of networks has bit N for network N; other bits do not count. */
+#define ADDRMAN_NET(n)   (1u << (n))
+#define ADDRMAN_ALL_NETS 0x7fu
+
+/* An address has 4 bytes (IPv4), 16 (IPv6, CJDNS), 32 (onion v3, I2P) or 10 (internal), in the order
+ * of the wire; bytes after them do not count. IPv6 bytes that embed an IPv4, an internal or a Tor v2
+ * address are no address. No address is of network ADDRMAN_UNROUTABLE: that is a class of them. */
+typedef struct {
+    uint8_t bytes[32];
+    addrman_network network;
+    uint8_t length;
+} addrman_addr;
+
+typedef struct {
+    addrman_addr addr;
+    uint16_t port;
+} addrman_peer;
+
+/* A record. Times are 0 if the event has not happened. */
+typedef struct {
+    uint64_t number; /* given in order, never used again */
+    uint64_t services;
+    addrman_peer peer;
+    addrman_addr source; /* who announced the peer first */
+    uint32_t time, last_success, last_try, last_counted;
+    uint32_t attempts;     /* since the last success */
+    uint16_t buckets[8];   /* of the new table, rising */
+    uint32_t bucket_count; /* 0: the record is in the tried table */
+} addrman_record;
+
+/* Parse the text of an address (9.9.9.9, [2001:db8::1], onion:HEX, i2p:HEX, cjdns:HEX, internal:HEX;
+ * HEX is its bytes) or of a peer, which has a colon and the port after it. ADDRMAN_ERR_ARGUMENT: the
+ * text is none. Proved: `IsAddrText`, `IsPeerText`. */
+ADDRMAN_API addrman_result addrman_addr_parse(const uint8_t *text, size_t length,
+    addrman_addr *addr);
+ADDRMAN_API addrman_result addrman_peer_parse(const uint8_t *text, size_t length,
+    addrman_peer *peer);
+
+/* Write the text, which has no zero at its end, and its length: at most 73 bytes for an address and
+ * 79 for a peer. Proved: TextCall (`addr_text`, `peer_text`). */
+ADDRMAN_API addrman_result addrman_addr_text(const addrman_addr *addr, uint8_t *out,
+    size_t capacity, size_t *length);
+ADDRMAN_API addrman_result addrman_peer_text(const addrman_peer *peer, uint8_t *out,
+    size_t capacity, size_t *length);
+
+/* Whether an address is one that can be reached from anywhere: *routable is 1 or 0. Proved:
+ * RoutableCall (`is_routable`). */
+ADDRMAN_API addrman_result addrman_addr_routable(const addrman_addr *addr, uint32_t *routable);
+
+/* ----------------------------------------------------------------------------------- tables */
+
+typedef struct addrman {
+    void *impl;
+    bool is_open;
+} addrman;
+#define ADDRMAN_INIT { 0, false }
+
+typedef uint32_t addrman_chain;
+enum { ADDRMAN_MAIN, ADDRMAN_TEST, ADDRMAN_SIGNET, ADDRMAN_REGTEST };
+
+/* Opens empty tables. `key` is the node's secret: 32 random bytes. `seed` is fresh random numbers,
+ * which only spread an index in memory. `asmap` is the bytes of an asmap file, or none (length 0),
+ * and stays unchanged until the object is closed. What the object had is dropped first, and after any
+ * result other than ADDRMAN_OK it is closed.
+ *   ADDRMAN_ERR_REFUSED  the asmap is not sane, or has more than 8,388,608 bytes
+ * Proved: OpenCall (`empty_state`). */
+ADDRMAN_API ADDRMAN_MUST_USE addrman_result addrman_open(addrman *am, const uint8_t key[32],
+    const uint64_t seed[2], const uint8_t *asmap, size_t asmap_length);
+
+/* Opens the tables that the bytes of a peers.dat (formats 1 to 4) have, under the key in the file.
+ * The bytes are not used afterwards; the asmap is, as by addrman_open.
+ *   ADDRMAN_ERR_REFUSED  *fault says why
+ * Proved: LoadCall (`IsFile`, `restored`, `HasFileFault`, `duplicate`). */
+ADDRMAN_API ADDRMAN_MUST_USE addrman_result addrman_open_file(addrman *am, const uint8_t *bytes,
+    size_t length, addrman_chain chain, const uint64_t seed[2], const uint8_t *asmap,
+    size_t asmap_length, addrman_fault *fault);
+
+/* Frees all memory of the object, and closes it. Proved: the object is closed. */
+ADDRMAN_API void addrman_close(addrman *am);
+
+/* Writes the file that keeps the tables (format 4) and how many bytes it has. A node replaces its
+ * peers.dat so that a crash leaves the old file or the new one: it writes the bytes to another name
+ * in the same folder, calls fsync, renames that over peers.dat, and calls fsync on the folder.
+ *   ADDRMAN_ERR_SHORT_BUFFER  nothing is written but *length
+ * Proved: WriteCall (`file_text` of `snapshot_of`); the tables are as they were. */
+ADDRMAN_API ADDRMAN_MUST_USE addrman_result addrman_write_file(addrman *am, addrman_chain chain,
+    uint8_t *out, size_t capacity, size_t *length);
+
+/* --------------------------------------------------------------------------------- messages */
+
+typedef struct {
+    uint32_t accepted, total;
+} addrman_added;
+
+/* Takes an addr (is_v2 false) or addrv2 message that `source` sent: its payload without the header.
+ * Each entry needs a random word; more are ignored. Times are clamped as Bitcoin Core does, with a
+ * penalty of 7200 seconds.
+ *   ADDRMAN_ERR_REFUSED      nothing changes; *fault says why
+ *   ADDRMAN_ERR_SHORT_WORDS  nothing changes; added->total is how many entries there are
+ *   ADDRMAN_ERR_MEMORY       some of the first entries may have been added, and the others not
+ * Proved: MessageCall (`IsMessage`, `take_entries`, `HasMessageFault`). */
+ADDRMAN_API ADDRMAN_MUST_USE addrman_result addrman_take_message(addrman *am, bool is_v2,
+    const uint8_t *payload, size_t payload_length, const addrman_addr *source,
+    const uint64_t *words, size_t word_count, uint32_t now, addrman_added *added,
+    addrman_fault *fault);
+
+/* Adds one entry that `source` announced, with a penalty in seconds and a random word: for seeds, and
+ * for callers that read messages themselves. *accepted is 1 if the peer got a slot, else 0.
+ *   ADDRMAN_ERR_MEMORY  nothing changes
+ * Proved: AddCall (`add`). */
+ADDRMAN_API ADDRMAN_MUST_USE addrman_result addrman_add(addrman *am, const addrman_peer *peer,
+    const addrman_addr *source, uint32_t time, uint64_t services, uint32_t penalty, uint64_t word,
+    uint32_t now, uint32_t *accepted);
+
+/* ------------------------------------------------------------------------------------ marks */
+
+enum { ADDRMAN_GOOD_UNKNOWN, ADDRMAN_GOOD_ALREADY, ADDRMAN_GOOD_CLASH, ADDRMAN_GOOD_MOVED };
+
+/* A peer was reached. With `testing`, which a node always uses, the occupant of its slot of the tried
+ * table stays until it was tested. *outcome is one of the names above. Proved: GoodCall (`good`). */
+ADDRMAN_API addrman_result addrman_good(addrman *am, const addrman_peer *peer, bool testing,
+    uint32_t now, uint32_t *outcome);
+
+/* A connection to a peer was tried, was open until now, or told the peer's services. *known is 1 if
+ * the peer is known, else 0. Proved: KnownCall (`attempt`, `connected`, `set_services`). */
+ADDRMAN_API addrman_result addrman_attempt(addrman *am, const addrman_peer *peer, bool counted,
+    uint32_t now, uint32_t *known);
+ADDRMAN_API addrman_result addrman_connected(addrman *am, const addrman_peer *peer, uint32_t now,
+    uint32_t *known);
+ADDRMAN_API addrman_result addrman_set_services(addrman *am, const addrman_peer *peer,
+    uint64_t services, uint32_t *known);
+
+/* ------------------------------------------------------------------------------------ picks */
+
+typedef struct {
+    addrman_peer peer;
+    uint32_t last_try;
+} addrman_picked;
+
+/* Picks a peer to connect to, of a set of networks. 300 words are enough nearly always; tables with
+ * few records can need thousands.
+ *   ADDRMAN_NONE       there is no candidate
+ *   ADDRMAN_EXHAUSTED  call with more words
+ * Proved: PickCall (`select`); the tables are as they were. */
+ADDRMAN_API ADDRMAN_MUST_USE addrman_result addrman_select(addrman *am, bool new_only,
+    uint32_t nets, const uint64_t *words, size_t word_count, uint32_t now, addrman_picked *picked);
+
+/* Samples peers to announce to another node: at most `max`, and at most `percent` percent of all
+ * records; 0 is no limit. `classes` is a set of networks, ADDRMAN_UNROUTABLE among them. It needs a
+ * random word for each record (addrman_size tells how many there are). The order of the records
+ * changes, which no other call shows. addrman_find has a peer's time and services.
+ *   ADDRMAN_ERR_ARGUMENT      `percent` is above 100
+ *   ADDRMAN_ERR_SHORT_WORDS   nothing changes; *length is how many words are needed
+ *   ADDRMAN_ERR_SHORT_BUFFER  nothing is written but *length: how many peers the sample has
+ *   ADDRMAN_ERR_MEMORY        nothing changes
+ * Proved: SampleCall (`sample`). */
+ADDRMAN_API ADDRMAN_MUST_USE addrman_result addrman_sample(addrman *am, uint32_t max,
+    uint32_t percent, uint32_t classes, const uint64_t *words, size_t word_count, uint32_t now,
+    addrman_peer *peers, size_t capacity, size_t *length);
+
+/* ------------------------------------------------------------------------------- collisions */
+
+typedef struct {
+    uint32_t erased, moved, kept;
+} addrman_resolved;
+
+/* Decides on all collisions, every few minutes. Proved: `resolve`. */
+ADDRMAN_API addrman_result addrman_resolve_collisions(addrman *am, uint32_t now,
+    addrman_resolved *resolved);
+
+/* Selects a collision by a random word, and writes the occupant of its slot, which a node then tests.
+ *   ADDRMAN_NONE  there is no collision, or its record is gone
+ * Proved: OccupantCall (`clash_pick`). */
+ADDRMAN_API addrman_result addrman_select_collision(addrman *am, uint64_t word,
+    addrman_picked *occupant);
+
+/* ---------------------------------------------------------------------------------- records */
+
+typedef struct {
+    uint32_t new_count, tried_count, collisions;
+} addrman_counts;
+
+/* How many records are in each table, and how many collisions there are. */
+ADDRMAN_API addrman_result addrman_size(addrman *am, addrman_counts *counts);
+
+/* The record of a peer. ADDRMAN_NONE: it has none. Proved: FindCall (`find_peer`). */
+ADDRMAN_API addrman_result addrman_find(addrman *am, const addrman_peer *peer,
+    addrman_record *record);
+
+/* Writes all records in the order of their numbers, and how many they are.
+ *   ADDRMAN_ERR_SHORT_BUFFER  nothing is written but *length
+ * Proved: RecordsCall. */
+ADDRMAN_API ADDRMAN_MUST_USE addrman_result addrman_records(addrman *am, addrman_record *records,
+    size_t capacity, size_t *length);
+
+/* ----------------------------------------------------------------------------------- groups */
+
+/* Whether bytes are a sane asmap of at most 8,388,608 bytes: ADDRMAN_OK or ADDRMAN_ERR_REFUSED.
+ * Proved: CheckCall (`IsSaneFile`). */
+ADDRMAN_API addrman_result addrman_asmap_check(const uint8_t *asmap, size_t length);
+
+/* The number of the autonomous system that announces an address by the object's asmap, 0 if none is
+ * known. Proved: AsnCall (`asn`). */
+ADDRMAN_API addrman_result addrman_asn(addrman *am, const addrman_addr *addr, uint32_t *asn);
+
+/* Writes the network group of an address, at most 11 bytes, and its length. Proved: GroupCall
+ * (`group`). */
+ADDRMAN_API addrman_result addrman_group(addrman *am, const addrman_addr *addr, uint8_t *out,
+    size_t capacity, size_t *length);
+
+/* ------------------------------------------------------------------- outbound connections */
+
+/* The object keeps which outbound peers are open: at most ten, no two of them in one network group.
+ * They are not part of the file. */
+enum { ADDRMAN_TAKE, ADDRMAN_SAME_GROUP, ADDRMAN_RECENT };
+
+/* Decides whether to connect to a candidate, in the try of this number, from 1 to 100. A peer that was
+ * tried in the last ten minutes is taken only from the 31st try on. *verdict is one of the names
+ * above, and changes nothing. Proved: JudgeCall (`judge`). */
+ADDRMAN_API addrman_result addrman_opener_judge(addrman *am, const addrman_picked *candidate,
+    uint32_t now, uint32_t tries, uint32_t *verdict);
+
+/* Returns the verdict on a connection that only tests whether a peer answers. Proved:
+ * `judge_feeler`. */
+ADDRMAN_API uint32_t addrman_judge_feeler(uint32_t last_try, uint32_t now, uint32_t tries);
+
+/* A connection to a peer was opened.
+ *   ADDRMAN_ERR_FULL      ten are open
+ *   ADDRMAN_ERR_ARGUMENT  one in its group is open
+ * Proved: AddCall (`with_peer`). */
+ADDRMAN_API addrman_result addrman_opener_add(addrman *am, const addrman_peer *peer);
+
+/* A connection to a peer was closed. *was_open is 1 or 0. Proved: RemoveCall (`without_peer`). */
+ADDRMAN_API addrman_result addrman_opener_remove(addrman *am, const addrman_peer *peer,
+    uint32_t *was_open);
+
+#ifdef __cplusplus
+}
+#endif
+#endif

@@ -1,0 +1,289 @@
+// addrman.hpp - C++17 owners over addrman.h: move only, closed by their destructors.
+//
+// A call that has no memory throws std::bad_alloc, bytes that are refused throw libaddrman::refused, and
+// arguments without a meaning std::invalid_argument. Nothing to return is an empty optional.
+#ifndef ADDRMAN_HPP
+#define ADDRMAN_HPP
+
+#include "addrman.h"
+
+#include <array>
+#include <cstdint>
+#include <new>
+#include <optional>
+#include <stdexcept>
+#include <string>
+#include <string_view>
+#include <utility>
+#include <vector>
+
+namespace libaddrman {
+
+using bytes = std::vector<std::uint8_t>;
+using key = std::array<std::uint8_t, 32>;
+using seed = std::array<std::uint64_t, 2>;
+using words = std::vector<std::uint64_t>;
+
+// Bytes are no message, file or asmap: the first fault.
+struct refused : std::runtime_error {
+    addrman_fault fault;
+    explicit refused(addrman_fault f)
+        : std::runtime_error("addrman: refused, fault " + std::to_string(f.kind)), fault(f) {}
+};
+
+// There are fewer random words than this.
+struct short_words : std::runtime_error {
+    std::size_t need;
+    explicit short_words(std::size_t n)
+        : std::runtime_error("addrman: " + std::to_string(n) + " random words are needed"), need(n) {}
+};
+
+inline void check(addrman_result code, const addrman_fault &fault = {}, std::size_t need = 0)
+{
+    switch (code) {
+    case ADDRMAN_OK: return;
+    case ADDRMAN_ERR_MEMORY: throw std::bad_alloc();
+    case ADDRMAN_ERR_REFUSED: throw refused(fault);
+    case ADDRMAN_ERR_SHORT_WORDS: throw short_words(need);
+    case ADDRMAN_ERR_ARGUMENT: throw std::invalid_argument("addrman: an argument has no meaning");
+    case ADDRMAN_ERR_CLOSED: throw std::logic_error("addrman: the object is closed");
+    default: throw std::runtime_error("addrman: code " + std::to_string(code));
+    }
+}
+
+// A pointer that is not null, as the C calls want it, also of no elements.
+template <class T> const T *at(const std::vector<T> &v)
+{
+    static const T none{};
+    return v.empty() ? &none : v.data();
+}
+
+// Whatever has a length that is told if the output has too little room.
+template <class T, class Call> std::vector<T> filled(std::size_t room, Call call)
+{
+    std::vector<T> out(room ? room : 1);
+    std::size_t length = 0;
+    addrman_result code;
+    while ((code = call(out.data(), out.size(), &length)) == ADDRMAN_ERR_SHORT_BUFFER)
+        out.resize(length);
+    check(code, {}, length);
+    out.resize(length);
+    return out;
+}
+
+inline addrman_peer parse_peer(std::string_view text)
+{
+    addrman_peer out{};
+    check(addrman_peer_parse(reinterpret_cast<const std::uint8_t *>(text.data()), text.size(), &out));
+    return out;
+}
+
+inline addrman_addr parse_addr(std::string_view text)
+{
+    addrman_addr out{};
+    check(addrman_addr_parse(reinterpret_cast<const std::uint8_t *>(text.data()), text.size(), &out));
+    return out;
+}
+
+inline std::string text_of(const addrman_peer &peer)
+{
+    auto out = filled<std::uint8_t>(80, [&](auto *p, auto n, auto *l) {
+        return addrman_peer_text(&peer, p, n, l);
+    });
+    return std::string(out.begin(), out.end());
+}
+
+inline std::string text_of(const addrman_addr &addr)
+{
+    auto out = filled<std::uint8_t>(80, [&](auto *p, auto n, auto *l) {
+        return addrman_addr_text(&addr, p, n, l);
+    });
+    return std::string(out.begin(), out.end());
+}
+
+// The tables, and the outbound peers that are open. One call at a time; not const, as in C.
+class tables {
+    addrman am_ = ADDRMAN_INIT;
+    bytes asmap_; // stays until the tables are closed
+
+public:
+    tables(const key &k, const seed &s, bytes asmap = {}) : asmap_(std::move(asmap))
+    {
+        addrman_fault fault{ADDRMAN_FAULT_ASMAP, 0};
+        check(addrman_open(&am_, k.data(), s.data(), at(asmap_), asmap_.size()), fault);
+    }
+
+    tables(const bytes &file, addrman_chain chain, const seed &s, bytes asmap = {})
+        : asmap_(std::move(asmap))
+    {
+        addrman_fault fault{};
+        check(addrman_open_file(&am_, at(file), file.size(), chain, s.data(), at(asmap_),
+                  asmap_.size(), &fault),
+            fault);
+    }
+
+    // A vector that is moved keeps its bytes at their place.
+    tables(tables &&o) noexcept
+        : am_(std::exchange(o.am_, addrman ADDRMAN_INIT)), asmap_(std::move(o.asmap_)) {}
+    tables &operator=(tables &&o) noexcept
+    {
+        if (this != &o) {
+            addrman_close(&am_);
+            am_ = std::exchange(o.am_, addrman ADDRMAN_INIT);
+            asmap_ = std::move(o.asmap_);
+        }
+        return *this;
+    }
+    tables(const tables &) = delete;
+    tables &operator=(const tables &) = delete;
+    ~tables() { addrman_close(&am_); }
+
+    addrman_added take_message(bool is_v2, const bytes &payload, const addrman_addr &source,
+        const words &w, std::uint32_t now)
+    {
+        addrman_added added{};
+        addrman_fault fault{};
+        auto code = addrman_take_message(&am_, is_v2, at(payload), payload.size(), &source, at(w),
+            w.size(), now, &added, &fault);
+        check(code, fault, added.total);
+        return added;
+    }
+
+    bool add(const addrman_peer &peer, const addrman_addr &source, std::uint32_t time,
+        std::uint64_t services, std::uint32_t penalty, std::uint64_t word, std::uint32_t now)
+    {
+        std::uint32_t accepted = 0;
+        check(addrman_add(&am_, &peer, &source, time, services, penalty, word, now, &accepted));
+        return accepted != 0;
+    }
+
+    std::uint32_t good(const addrman_peer &peer, std::uint32_t now, bool testing = true)
+    {
+        std::uint32_t outcome = 0;
+        check(addrman_good(&am_, &peer, testing, now, &outcome));
+        return outcome;
+    }
+
+    bool attempt(const addrman_peer &peer, bool counted, std::uint32_t now)
+    {
+        std::uint32_t known = 0;
+        check(addrman_attempt(&am_, &peer, counted, now, &known));
+        return known != 0;
+    }
+
+    bool connected(const addrman_peer &peer, std::uint32_t now)
+    {
+        std::uint32_t known = 0;
+        check(addrman_connected(&am_, &peer, now, &known));
+        return known != 0;
+    }
+
+    bool set_services(const addrman_peer &peer, std::uint64_t services)
+    {
+        std::uint32_t known = 0;
+        check(addrman_set_services(&am_, &peer, services, &known));
+        return known != 0;
+    }
+
+    // Empty if there is no candidate; *exhausted tells whether more words may find one.
+    std::optional<addrman_picked> select(bool new_only, std::uint32_t nets, const words &w,
+        std::uint32_t now, bool *exhausted = nullptr)
+    {
+        addrman_picked picked{};
+        auto code = addrman_select(&am_, new_only, nets, at(w), w.size(), now, &picked);
+        if (exhausted) *exhausted = code == ADDRMAN_EXHAUSTED;
+        if (code == ADDRMAN_NONE || code == ADDRMAN_EXHAUSTED) return {};
+        check(code);
+        return picked;
+    }
+
+    std::vector<addrman_peer> sample(std::uint32_t max, std::uint32_t percent,
+        std::uint32_t classes, const words &w, std::uint32_t now)
+    {
+        auto c = size();
+        return filled<addrman_peer>(c.new_count + c.tried_count, [&](auto *p, auto n, auto *l) {
+            return addrman_sample(&am_, max, percent, classes, at(w), w.size(), now, p, n, l);
+        });
+    }
+
+    addrman_resolved resolve_collisions(std::uint32_t now)
+    {
+        addrman_resolved out{};
+        check(addrman_resolve_collisions(&am_, now, &out));
+        return out;
+    }
+
+    std::optional<addrman_picked> select_collision(std::uint64_t word)
+    {
+        addrman_picked out{};
+        auto code = addrman_select_collision(&am_, word, &out);
+        if (code == ADDRMAN_NONE) return {};
+        check(code);
+        return out;
+    }
+
+    addrman_counts size()
+    {
+        addrman_counts out{};
+        check(addrman_size(&am_, &out));
+        return out;
+    }
+
+    std::optional<addrman_record> find(const addrman_peer &peer)
+    {
+        addrman_record out{};
+        auto code = addrman_find(&am_, &peer, &out);
+        if (code == ADDRMAN_NONE) return {};
+        check(code);
+        return out;
+    }
+
+    std::vector<addrman_record> records()
+    {
+        auto c = size();
+        return filled<addrman_record>(c.new_count + c.tried_count, [&](auto *p, auto n, auto *l) {
+            return addrman_records(&am_, p, n, l);
+        });
+    }
+
+    // The bytes of the peers.dat that keeps the tables.
+    bytes file(addrman_chain chain)
+    {
+        return filled<std::uint8_t>(0, [&](auto *p, auto n, auto *l) {
+            return addrman_write_file(&am_, chain, p, n, l);
+        });
+    }
+
+    std::uint32_t asn(const addrman_addr &addr)
+    {
+        std::uint32_t out = 0;
+        check(addrman_asn(&am_, &addr, &out));
+        return out;
+    }
+
+    bytes group(const addrman_addr &addr)
+    {
+        return filled<std::uint8_t>(11, [&](auto *p, auto n, auto *l) {
+            return addrman_group(&am_, &addr, p, n, l);
+        });
+    }
+
+    std::uint32_t judge(const addrman_picked &candidate, std::uint32_t now, std::uint32_t tries)
+    {
+        std::uint32_t verdict = 0;
+        check(addrman_opener_judge(&am_, &candidate, now, tries, &verdict));
+        return verdict;
+    }
+
+    void open_peer(const addrman_peer &peer) { check(addrman_opener_add(&am_, &peer)); }
+
+    bool close_peer(const addrman_peer &peer)
+    {
+        std::uint32_t was_open = 0;
+        check(addrman_opener_remove(&am_, &peer, &was_open));
+        return was_open != 0;
+    }
+};
+
+} // namespace libaddrman
+#endif

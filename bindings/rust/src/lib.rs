@@ -1,0 +1,340 @@
+//! Safe types over `addrman.h`, for plain Rust. The tables are `Send` and not `Sync`: a call takes
+//! `&mut self`, so one call at a time uses them. Link with the folder of `libaddrman.a`:
+//! `rustc --extern addrman=.. -L FOLDER -l static=addrman`.
+
+pub mod raw;
+
+pub use raw::{Added, Addr, Counts, Fault, Peer, Picked, Record, Resolved};
+use std::fmt;
+use std::str::FromStr;
+
+/// Why a call did not do what it is for.
+#[derive(Clone, Copy, Debug, PartialEq, Eq)]
+pub enum Error {
+    /// Out of memory.
+    Memory,
+    /// An argument has no meaning, or there is an open peer in the group.
+    Argument,
+    /// No more records, or no more outbound peers.
+    Full,
+    /// So many random words are needed.
+    ShortWords(usize),
+    /// The first fault of the bytes.
+    Refused(Fault),
+}
+
+impl fmt::Display for Error {
+    fn fmt(&self, out: &mut fmt::Formatter<'_>) -> fmt::Result {
+        match self {
+            Error::Memory => write!(out, "out of memory"),
+            Error::Argument => write!(out, "an argument has no meaning"),
+            Error::Full => write!(out, "full"),
+            Error::ShortWords(need) => write!(out, "{need} random words are needed"),
+            Error::Refused(fault) => write!(out, "refused: fault {} at {}", fault.kind, fault.at),
+        }
+    }
+}
+
+impl std::error::Error for Error {}
+
+/// What a pick came to.
+#[derive(Clone, Copy, Debug)]
+pub enum Pick {
+    One(Picked),
+    Nothing,
+    /// Call with more random words.
+    Exhausted,
+}
+
+/// What became of a record whose peer was reached.
+#[derive(Clone, Copy, Debug, PartialEq, Eq)]
+pub enum Good {
+    Unknown,
+    Already,
+    Clash,
+    Moved,
+}
+
+/// Whether to connect to a peer.
+#[derive(Clone, Copy, Debug, PartialEq, Eq)]
+pub enum Verdict {
+    Take,
+    SameGroup,
+    Recent,
+}
+
+/// All seven networks.
+pub const ALL_NETS: u32 = 0x7f;
+
+/// The chain of a node.
+#[derive(Clone, Copy, Debug, PartialEq, Eq)]
+pub enum Chain {
+    Main = 0,
+    Test = 1,
+    Signet = 2,
+    Regtest = 3,
+}
+
+fn checked(code: u32, fault: Fault, need: usize) -> Result<(), Error> {
+    match code {
+        raw::OK => Ok(()),
+        raw::ERR_MEMORY => Err(Error::Memory),
+        raw::ERR_ARGUMENT => Err(Error::Argument),
+        raw::ERR_FULL => Err(Error::Full),
+        raw::ERR_SHORT_WORDS => Err(Error::ShortWords(need)),
+        raw::ERR_REFUSED => Err(Error::Refused(fault)),
+        other => unreachable!("code {other} of an open object"),
+    }
+}
+
+fn done(code: u32) -> Result<(), Error> {
+    checked(code, Fault::default(), 0)
+}
+
+/// Calls until the output has room for what it is to hold.
+fn filled<T: Copy + Default>(
+    room: usize,
+    mut call: impl FnMut(*mut T, usize, *mut usize) -> u32,
+) -> Result<Vec<T>, Error> {
+    let mut out = vec![T::default(); room];
+    let mut length = 0;
+    loop {
+        let code = call(out.as_mut_ptr(), out.len(), &mut length);
+        if code != raw::ERR_SHORT_BUFFER {
+            checked(code, Fault::default(), length)?;
+            out.truncate(length);
+            return Ok(out);
+        }
+        out.resize(length, T::default());
+    }
+}
+
+impl FromStr for Addr {
+    type Err = Error;
+
+    fn from_str(text: &str) -> Result<Addr, Error> {
+        let mut out = Addr::default();
+        done(unsafe { raw::addrman_addr_parse(text.as_ptr(), text.len(), &mut out) })?;
+        Ok(out)
+    }
+}
+
+impl FromStr for Peer {
+    type Err = Error;
+
+    fn from_str(text: &str) -> Result<Peer, Error> {
+        let mut out = Peer::default();
+        done(unsafe { raw::addrman_peer_parse(text.as_ptr(), text.len(), &mut out) })?;
+        Ok(out)
+    }
+}
+
+fn put(text: Result<Vec<u8>, Error>, out: &mut fmt::Formatter<'_>) -> fmt::Result {
+    out.write_str(&String::from_utf8(text.map_err(|_| fmt::Error)?).map_err(|_| fmt::Error)?)
+}
+
+impl fmt::Display for Addr {
+    fn fmt(&self, out: &mut fmt::Formatter<'_>) -> fmt::Result {
+        put(filled(80, |p, n, l| unsafe { raw::addrman_addr_text(self, p, n, l) }), out)
+    }
+}
+
+impl fmt::Display for Peer {
+    fn fmt(&self, out: &mut fmt::Formatter<'_>) -> fmt::Result {
+        put(filled(80, |p, n, l| unsafe { raw::addrman_peer_text(self, p, n, l) }), out)
+    }
+}
+
+impl Addr {
+    /// Whether the address can be reached from anywhere.
+    pub fn is_routable(&self) -> Result<bool, Error> {
+        let mut routable = 0;
+        done(unsafe { raw::addrman_addr_routable(self, &mut routable) })?;
+        Ok(routable != 0)
+    }
+}
+
+/// The tables, and the outbound peers that are open.
+pub struct AddrMan {
+    handle: raw::Handle,
+    // The tables use its bytes, which stay where they are.
+    _asmap: Box<[u8]>,
+}
+
+unsafe impl Send for AddrMan {}
+
+impl Drop for AddrMan {
+    fn drop(&mut self) {
+        unsafe { raw::addrman_close(&mut self.handle) }
+    }
+}
+
+impl AddrMan {
+    fn closed(asmap: &[u8]) -> AddrMan {
+        let handle = raw::Handle { opaque: std::ptr::null_mut(), is_open: false };
+        AddrMan { handle, _asmap: asmap.into() }
+    }
+
+    /// Opens empty tables under a secret key; `seed` is fresh random numbers. No bytes are no asmap.
+    pub fn open(key: &[u8; 32], seed: &[u64; 2], asmap: &[u8]) -> Result<AddrMan, Error> {
+        let mut am = AddrMan::closed(asmap);
+        let (map, length) = (am._asmap.as_ptr(), am._asmap.len());
+        let code = unsafe { raw::addrman_open(&mut am.handle, key, seed, map, length) };
+        checked(code, Fault { kind: 21, at: 0 }, 0)?;
+        Ok(am)
+    }
+
+    /// Opens the tables that the bytes of a `peers.dat` have.
+    pub fn load(file: &[u8], chain: Chain, seed: &[u64; 2], asmap: &[u8]) -> Result<AddrMan, Error> {
+        let mut am = AddrMan::closed(asmap);
+        let mut fault = Fault::default();
+        let (map, length) = (am._asmap.as_ptr(), am._asmap.len());
+        let code = unsafe {
+            raw::addrman_open_file(&mut am.handle, file.as_ptr(), file.len(), chain as u32, seed, map, length, &mut fault)
+        };
+        checked(code, fault, 0)?;
+        Ok(am)
+    }
+
+    /// Returns the bytes of the `peers.dat` that keeps the tables.
+    pub fn file(&mut self, chain: Chain) -> Result<Vec<u8>, Error> {
+        filled(0, |p, n, l| unsafe { raw::addrman_write_file(&mut self.handle, chain as u32, p, n, l) })
+    }
+
+    /// Takes the payload of a message that `source` sent, with a random word for each entry.
+    pub fn take_message(&mut self, is_v2: bool, payload: &[u8], source: &Addr, words: &[u64], now: u32) -> Result<Added, Error> {
+        let (mut added, mut fault) = (Added::default(), Fault::default());
+        let code = unsafe {
+            raw::addrman_take_message(
+                &mut self.handle, is_v2, payload.as_ptr(), payload.len(), source, words.as_ptr(), words.len(), now, &mut added, &mut fault,
+            )
+        };
+        checked(code, fault, added.total as usize)?;
+        Ok(added)
+    }
+
+    /// Adds one entry that `source` announced. Returns whether its peer got a slot.
+    #[allow(clippy::too_many_arguments)]
+    pub fn add(&mut self, peer: &Peer, source: &Addr, time: u32, services: u64, penalty: u32, word: u64, now: u32) -> Result<bool, Error> {
+        let mut accepted = 0;
+        done(unsafe { raw::addrman_add(&mut self.handle, peer, source, time, services, penalty, word, now, &mut accepted) })?;
+        Ok(accepted != 0)
+    }
+
+    /// A peer was reached. A node always sets `testing`.
+    pub fn good(&mut self, peer: &Peer, testing: bool, now: u32) -> Result<Good, Error> {
+        let mut outcome = 0;
+        done(unsafe { raw::addrman_good(&mut self.handle, peer, testing, now, &mut outcome) })?;
+        Ok([Good::Unknown, Good::Already, Good::Clash, Good::Moved][outcome as usize])
+    }
+
+    /// A connection to a peer was tried. Returns whether the peer is known.
+    pub fn attempt(&mut self, peer: &Peer, counted: bool, now: u32) -> Result<bool, Error> {
+        let mut known = 0;
+        done(unsafe { raw::addrman_attempt(&mut self.handle, peer, counted, now, &mut known) })?;
+        Ok(known != 0)
+    }
+
+    /// A peer was connected until now. Returns whether it is known.
+    pub fn connected(&mut self, peer: &Peer, now: u32) -> Result<bool, Error> {
+        let mut known = 0;
+        done(unsafe { raw::addrman_connected(&mut self.handle, peer, now, &mut known) })?;
+        Ok(known != 0)
+    }
+
+    /// A peer told its services. Returns whether it is known.
+    pub fn set_services(&mut self, peer: &Peer, services: u64) -> Result<bool, Error> {
+        let mut known = 0;
+        done(unsafe { raw::addrman_set_services(&mut self.handle, peer, services, &mut known) })?;
+        Ok(known != 0)
+    }
+
+    /// Picks a peer to connect to, of a set of networks.
+    pub fn select(&mut self, new_only: bool, nets: u32, words: &[u64], now: u32) -> Result<Pick, Error> {
+        let mut picked = Picked::default();
+        match unsafe { raw::addrman_select(&mut self.handle, new_only, nets, words.as_ptr(), words.len(), now, &mut picked) } {
+            raw::NONE => Ok(Pick::Nothing),
+            raw::EXHAUSTED => Ok(Pick::Exhausted),
+            code => done(code).map(|()| Pick::One(picked)),
+        }
+    }
+
+    /// Samples peers to announce, with a random word for each record.
+    pub fn sample(&mut self, max: u32, percent: u32, classes: u32, words: &[u64], now: u32) -> Result<Vec<Peer>, Error> {
+        let counts = self.size()?;
+        filled((counts.new_count + counts.tried_count) as usize, |p, n, l| unsafe {
+            raw::addrman_sample(&mut self.handle, max, percent, classes, words.as_ptr(), words.len(), now, p, n, l)
+        })
+    }
+
+    /// Decides on all collisions.
+    pub fn resolve_collisions(&mut self, now: u32) -> Result<Resolved, Error> {
+        let mut out = Resolved::default();
+        done(unsafe { raw::addrman_resolve_collisions(&mut self.handle, now, &mut out) })?;
+        Ok(out)
+    }
+
+    /// Selects a collision, and returns the occupant of its slot.
+    pub fn select_collision(&mut self, word: u64) -> Result<Option<Picked>, Error> {
+        let mut out = Picked::default();
+        match unsafe { raw::addrman_select_collision(&mut self.handle, word, &mut out) } {
+            raw::NONE => Ok(None),
+            code => done(code).map(|()| Some(out)),
+        }
+    }
+
+    /// Counts the records and the collisions.
+    pub fn size(&mut self) -> Result<Counts, Error> {
+        let mut out = Counts::default();
+        done(unsafe { raw::addrman_size(&mut self.handle, &mut out) })?;
+        Ok(out)
+    }
+
+    /// Returns the record of a peer.
+    pub fn find(&mut self, peer: &Peer) -> Result<Option<Record>, Error> {
+        let mut out = Record::default();
+        match unsafe { raw::addrman_find(&mut self.handle, peer, &mut out) } {
+            raw::NONE => Ok(None),
+            code => done(code).map(|()| Some(out)),
+        }
+    }
+
+    /// Returns all records in the order of their numbers.
+    pub fn records(&mut self) -> Result<Vec<Record>, Error> {
+        let counts = self.size()?;
+        filled((counts.new_count + counts.tried_count) as usize, |p, n, l| unsafe {
+            raw::addrman_records(&mut self.handle, p, n, l)
+        })
+    }
+
+    /// Returns the number of the autonomous system of an address, 0 if none is known.
+    pub fn asn(&mut self, addr: &Addr) -> Result<u32, Error> {
+        let mut out = 0;
+        done(unsafe { raw::addrman_asn(&mut self.handle, addr, &mut out) })?;
+        Ok(out)
+    }
+
+    /// Returns the network group of an address.
+    pub fn group(&mut self, addr: &Addr) -> Result<Vec<u8>, Error> {
+        filled(11, |p, n, l| unsafe { raw::addrman_group(&mut self.handle, addr, p, n, l) })
+    }
+
+    /// Decides whether to connect to a candidate, in the try of this number, from 1 to 100.
+    pub fn judge(&mut self, candidate: &Picked, now: u32, tries: u32) -> Result<Verdict, Error> {
+        let mut out = 0;
+        done(unsafe { raw::addrman_opener_judge(&mut self.handle, candidate, now, tries, &mut out) })?;
+        Ok([Verdict::Take, Verdict::SameGroup, Verdict::Recent][out as usize])
+    }
+
+    /// A connection to a peer was opened.
+    pub fn open_peer(&mut self, peer: &Peer) -> Result<(), Error> {
+        done(unsafe { raw::addrman_opener_add(&mut self.handle, peer) })
+    }
+
+    /// A connection to a peer was closed. Returns whether it was open.
+    pub fn close_peer(&mut self, peer: &Peer) -> Result<bool, Error> {
+        let mut out = 0;
+        done(unsafe { raw::addrman_opener_remove(&mut self.handle, peer, &mut out) })?;
+        Ok(out != 0)
+    }
+}

@@ -1,0 +1,112 @@
+/*
+ * Each allocation of a history fails in turn: the call that wants it answers ADDRMAN_ERR_MEMORY, or
+ * does without it; nothing but that call fails, and everything can be used and closed afterwards.
+ * Linked with -Wl,--wrap=malloc -Wl,--wrap=realloc.
+ */
+#include "../addrman.h"
+
+#include <stdio.h>
+#include <string.h>
+
+static long left; /* allocations until one fails; 0: none does */
+
+void *__real_malloc(size_t size);
+void *__real_realloc(void *old, size_t size);
+void *__wrap_malloc(size_t size);
+void *__wrap_realloc(void *old, size_t size);
+
+static bool fails(void)
+{
+    return left > 0 && --left == 0;
+}
+
+void *__wrap_malloc(size_t size)
+{
+    return fails() ? NULL : __real_malloc(size);
+}
+
+void *__wrap_realloc(void *old, size_t size)
+{
+    return fails() ? NULL : __real_realloc(old, size);
+}
+
+enum { CALLS = 10 };
+static const char *names[CALLS] = { "open", "take_message", "good", "add", "select", "sample", "records", "peer_text",
+                                    "write_file", "open_file" };
+
+/* An addr message of three entries. */
+static size_t fill(uint8_t *out)
+{
+    static const uint8_t entry[26] = { 0x00, 0xf1, 0x53, 0x65, 1, 0, 0, 0, 0, 0, 0, 0, 0, 0, 0, 0, 0, 0, 0, 0, 0, 0, 0xff, 0xff, 8, 8 };
+    uint8_t *p = out;
+    *p++ = 3;
+    for (uint8_t i = 1; i <= 3; i++) {
+        memcpy(p, entry, sizeof entry);
+        p += sizeof entry;
+        *p++ = i;
+        *p++ = 8;
+        *p++ = 0x20;
+        *p++ = 0x8d;
+    }
+    return (size_t)(p - out);
+}
+
+int main(void)
+{
+    static const uint8_t key[32];
+    static const uint64_t seed[2] = { 1, 2 }, words[12] = { 1, 2, 3, 4, 5, 6, 7, 8, 9, 10, 11, 12 };
+    static uint8_t payload[100], file[100000];
+    size_t payload_length = fill(payload);
+    unsigned wanted[CALLS] = { 0 }, without = 0;
+    for (long fail = 1;; fail++) {
+        addrman a = ADDRMAN_INIT, b = ADDRMAN_INIT;
+        addrman_addr source = { { 1, 2, 3, 4 }, ADDRMAN_IPV4, 4 };
+        addrman_peer peer = { { { 8, 8, 1, 8 }, ADDRMAN_IPV4, 4 }, 8333 }, peers[9];
+        addrman_record records[9];
+        addrman_added added;
+        addrman_fault fault;
+        addrman_picked picked;
+        addrman_counts counts;
+        uint8_t text[100];
+        uint32_t answer, code[CALLS];
+        size_t length = 0;
+        left = fail;
+        code[0] = addrman_open(&a, key, seed, payload, 0);
+        code[1] = addrman_take_message(&a, false, payload, payload_length, &source, words, 3, 1700000000, &added, &fault);
+        code[2] = addrman_good(&a, &peer, true, 1700000001, &answer);
+        code[3] = addrman_add(&a, &peer, &source, 1700000000, 1, 7200, 0, 1700000002, &answer);
+        code[4] = addrman_select(&a, false, ADDRMAN_ALL_NETS, words, 12, 1700000003, &picked);
+        code[5] = addrman_sample(&a, 0, 0, ADDRMAN_ALL_NETS, words, 12, 1700000004, peers, 9, &length);
+        code[6] = addrman_records(&a, records, 9, &length);
+        code[7] = addrman_peer_text(&peer, text, sizeof text, &length);
+        code[8] = addrman_write_file(&a, ADDRMAN_MAIN, file, sizeof file, &length);
+        code[9] = code[8] ? 0 : addrman_open_file(&b, file, length, ADDRMAN_MAIN, seed, payload, 0, &fault);
+        bool reached = left == 0;
+        left = 0;
+        unsigned failed = 0;
+        for (int i = 0; i < CALLS; i++) {
+            if (code[i] == ADDRMAN_ERR_MEMORY) {
+                wanted[i]++;
+                failed++;
+            } else if (code[i] && code[i] != ADDRMAN_NONE && code[i] != ADDRMAN_EXHAUSTED
+                       && !(code[0] && code[i] == ADDRMAN_ERR_CLOSED)) {
+                printf("allocation %ld: %s returned %u\n", fail, names[i], code[i]);
+                return 1;
+            }
+        }
+        if (failed > 1 || (code[0] == ADDRMAN_OK && addrman_size(&a, &counts) != ADDRMAN_OK)) {
+            printf("allocation %ld: %u calls had no memory\n", fail, failed);
+            return 1;
+        }
+        addrman_close(&a);
+        addrman_close(&b);
+        if (!reached) {
+            printf("%ld allocations failed in turn;", fail - 1);
+            for (int i = 0; i < CALLS; i++)
+                if (wanted[i]) printf(" %s %u", names[i], wanted[i]);
+            printf("; answered all the same %u\n", without);
+            return 0;
+        }
+        if (!failed) without++;
+    }
+}

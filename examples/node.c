@@ -1,0 +1,133 @@
+/*
+ * A small node without a network: reads messages from a file, keeps its tables over a restart, and
+ * prints whom it would connect to.
+ *
+ *     gcc examples/node.c -I bindings bin/lib/libaddrman.a -o bin/node
+ *     bin/node FOLDER < MESSAGES
+ *
+ * FOLDER has its peers.dat, or gets one. A line of MESSAGES is SOURCE HEX: the address that sent an
+ * addrv2 message, and the payload in hexadecimal.
+ */
+#include "addrman.h"
+
+#include <fcntl.h>
+#include <stdio.h>
+#include <stdlib.h>
+#include <string.h>
+#include <sys/random.h>
+#include <time.h>
+#include <unistd.h>
+
+static void stop(const char *what, unsigned code)
+{
+    fprintf(stderr, "node: %s: %u\n", what, code);
+    exit(1);
+}
+
+/* Random words of the system. */
+static const uint64_t *draw(size_t count)
+{
+    static uint64_t words[10000];
+    for (size_t done = 0; done < 8 * count;) {
+        ssize_t some = getrandom((char *)words + done, 8 * count - done, 0);
+        if (some < 0) stop("getrandom", 0);
+        done += (size_t)some;
+    }
+    return words;
+}
+
+static void open_tables(addrman *am, const char *folder)
+{
+    static uint8_t bytes[33600000];
+    char path[4096];
+    addrman_fault fault;
+    uint64_t seed[2];
+    memcpy(seed, draw(2), sizeof seed);
+    snprintf(path, sizeof path, "%s/peers.dat", folder);
+    FILE *in = fopen(path, "rb");
+    addrman_result code;
+    if (in) {
+        size_t length = fread(bytes, 1, sizeof bytes, in);
+        fclose(in);
+        code = addrman_open_file(am, bytes, length, ADDRMAN_MAIN, seed, bytes, 0, &fault);
+        if (code == ADDRMAN_ERR_REFUSED) stop("peers.dat is refused, fault", fault.kind);
+    } else {
+        code = addrman_open(am, (const uint8_t *)draw(4), seed, bytes, 0);
+    }
+    if (code) stop("open", code);
+}
+
+/* Writes the whole file under another name, and then in the place of the old one, each step only after
+ * the one before is on the disk: a crash leaves the old file or the new one. */
+static void save(addrman *am, const char *folder)
+{
+    uint8_t none;
+    size_t length, done = 0;
+    if (addrman_write_file(am, ADDRMAN_MAIN, &none, 0, &length) != ADDRMAN_ERR_SHORT_BUFFER) stop("write_file", 0);
+    uint8_t *bytes = malloc(length);
+    if (!bytes || addrman_write_file(am, ADDRMAN_MAIN, bytes, length, &length)) stop("write_file", 1);
+    int in = open(folder, O_RDONLY | O_DIRECTORY);
+    int file = openat(in, "peers.tmp", O_WRONLY | O_CREAT | O_TRUNC, 0600);
+    if (in < 0 || file < 0) stop("peers.tmp", 0);
+    while (done < length) {
+        ssize_t some = write(file, bytes + done, length - done);
+        if (some <= 0) stop("write", 0);
+        done += (size_t)some;
+    }
+    if (fsync(file) || close(file) || renameat(in, "peers.tmp", in, "peers.dat") || fsync(in)) stop("peers.dat", 0);
+    close(in);
+    free(bytes);
+}
+
+/* Takes the message of a line. */
+static void take(addrman *am, const char *source, const char *hex, uint32_t now)
+{
+    static uint8_t payload[1000000];
+    addrman_addr from;
+    addrman_added added;
+    addrman_fault fault;
+    size_t length = 0;
+    for (unsigned byte; length < sizeof payload && sscanf(hex, "%2x", &byte) == 1; hex += 2) payload[length++] = (uint8_t)byte;
+    if (addrman_addr_parse((const uint8_t *)source, strlen(source), &from)) stop(source, 0);
+    addrman_result code = addrman_take_message(am, true, payload, length, &from, draw(1000), 1000, now, &added, &fault);
+    if (code == ADDRMAN_ERR_REFUSED) printf("%s sent no message: fault %u\n", source, fault.kind);
+    else if (code) stop("take_message", code);
+    else printf("%s told %u peers, %u new\n", source, added.total, added.accepted);
+}
+
+/* Chooses peers to connect to, no two of one network group, until ten are chosen or tries fail. */
+static void connect_all(addrman *am, uint32_t now)
+{
+    for (uint32_t attempt = 1; attempt <= 100; attempt++) {
+        addrman_picked picked;
+        uint32_t verdict;
+        uint8_t text[80];
+        size_t length;
+        addrman_result code = addrman_select(am, false, ADDRMAN_ALL_NETS, draw(10000), 10000, now, &picked);
+        if (code == ADDRMAN_NONE) return;
+        if (code == ADDRMAN_EXHAUSTED) continue;
+        if (code || addrman_opener_judge(am, &picked, now, attempt, &verdict)) stop("select", code);
+        if (verdict != ADDRMAN_TAKE) continue;
+        code = addrman_opener_add(am, &picked.peer);
+        if (code == ADDRMAN_ERR_FULL) return;
+        if (code || addrman_peer_text(&picked.peer, text, sizeof text, &length)) stop("opener_add", code);
+        printf("connect to %.*s\n", (int)length, text);
+    }
+}
+
+int main(int argc, char **argv)
+{
+    static char source[100], hex[2000001];
+    addrman am = ADDRMAN_INIT;
+    addrman_counts counts;
+    uint32_t now = (uint32_t)time(NULL);
+    if (argc != 2) return 2;
+    open_tables(&am, argv[1]);
+    while (scanf("%99s %2000000s", source, hex) == 2) take(&am, source, hex, now);
+    connect_all(&am, now);
+    save(&am, argv[1]);
+    if (addrman_size(&am, &counts)) stop("size", 0);
+    printf("%u peers in the new table, %u in the tried table\n", counts.new_count, counts.tried_count);
+    addrman_close(&am);
+    return 0;
+}
