@@ -1,0 +1,59 @@
+use asmap_compile::CompileFault;
+use asmap_vm::CodeFault;
+use ban_list::BanFault;
+use host_io::Name;
+use std::alloc::{AllocError, Global};
+
+/// Says why asmap.dat is refused.
+pub fn asmap_hint(alloc: Global, fault: &CodeFault) -> Result<String, AllocError> {
+    match fault {
+        CodeFault::TooLarge { size } => {
+            format!(in alloc; "an asmap has at most 8388608 bytes, not {size}")
+        }
+        CodeFault::Insane => String::from_str(
+            alloc,
+            "it is no asmap, or a part of one: addrman compile makes one from prefixes.txt",
+        ),
+    }
+}
+
+/// Says why a table is not compiled.
+pub fn compile_hint(alloc: Global, fault: &CompileFault) -> Result<String, AllocError> {
+    match fault {
+        CompileFault::Empty => {
+            String::from_str(alloc, "it has no row: a row is as 1.2.0.0/16 AS6")
+        }
+        CompileFault::TooLarge { bits } => {
+            format!(in alloc; "an asmap has at most 67108864 bits, not {bits}")
+        }
+        CompileFault::Memory => Ok(String::new(alloc)),
+    }
+}
+
+/// Says why banlist.json is refused.
+pub fn bans_hint(alloc: Global, fault: &BanFault) -> Result<String, AllocError> {
+    match fault {
+        BanFault::Json => String::from_str(
+            alloc,
+            "it is no JSON text: an empty list is {\"banned_nets\":[]}",
+        ),
+        BanFault::Form => {
+            String::from_str(alloc, "it is no object with an array under banned_nets")
+        }
+        BanFault::TooMany => String::from_str(alloc, "there are at most 100000 bans"),
+        BanFault::TooLarge { size } => {
+            format!(in alloc; "there are at most 33554432 bytes, not {size}")
+        }
+        BanFault::Memory => Ok(String::new(alloc)),
+    }
+}
+
+/// Says where a file comes from that is missing.
+pub fn missing_hint(alloc: Global, name: Name) -> Result<String, AllocError> {
+    let text = match name {
+        Name::Asmap => "addrman compile makes it from prefixes.txt of the current folder",
+        Name::Prefixes => "it has to be in the current folder, with rows as 1.2.0.0/16 AS6",
+        _ => "it has to be in the current folder: copy that of a node which does not run",
+    };
+    String::from_str(alloc, text)
+}

@@ -1,0 +1,138 @@
+/// The forms of the command line, one a command.
+static COMMANDS: [&str; 13] = [
+    "replay --key HEX64 --net CHAIN",
+    "opener --key HEX64 --net CHAIN",
+    "limit",
+    "show --net CHAIN",
+    "compile",
+    "decompile",
+    "check",
+    "lookup PEER",
+    "ban SUBNET NOW UNTIL",
+    "unban SUBNET",
+    "banned PEER NOW",
+    "gen START LINES",
+    "trial START LINES",
+];
+
+/// The forms of the lines of a replay's log.
+static REPLAY: [&str; 18] = [
+    "now T",
+    "addr ADDR HEX W",
+    "addrv2 ADDR HEX W",
+    "find PEER",
+    "good PEER test|force",
+    "attempt PEER count|nocount",
+    "connected PEER",
+    "services PEER N",
+    "size",
+    "select new|any NETS W",
+    "sample MAX PERCENT CLASSES W",
+    "resolve",
+    "clash N",
+    "dump",
+    "save",
+    "save-begin",
+    "save-step BYTES",
+    "save-end",
+];
+
+/// The forms of the lines of an opener's log.
+static OPENER: [&str; 17] = [
+    "outbound S",
+    "feeler S N",
+    "close PEER",
+    "now T",
+    "addr ADDR HEX W",
+    "addrv2 ADDR HEX W",
+    "find PEER",
+    "good PEER test|force",
+    "attempt PEER count|nocount",
+    "connected PEER",
+    "services PEER N",
+    "size",
+    "select new|any NETS W",
+    "sample MAX PERCENT CLASSES W",
+    "resolve",
+    "clash N",
+    "dump",
+];
+
+/// The forms of the lines of a log of events.
+static LIMIT: [&str; 7] = [
+    "now T",
+    "open CONNECTION ADDR unlimited|limited",
+    "close CONNECTION",
+    "getaddr CONNECTION",
+    "from CONNECTION HEX W",
+    "from2 CONNECTION HEX W",
+    "stat CONNECTION",
+];
+
+/// What a keyword and the texts after it are read as.
+#[derive(Clone, Copy, PartialEq, Eq)]
+pub(crate) enum Reader {
+    /// The command line.
+    Arguments,
+    /// A line of a replay's log.
+    Replay,
+    /// A line of an opener's log.
+    Opener,
+    /// A line of a log of events.
+    Limit,
+}
+
+/// The readers of logs.
+static LOGS: [Reader; 3] = [Reader::Replay, Reader::Opener, Reader::Limit];
+
+impl Reader {
+    /// Returns the reader of the log of a command.
+    pub(crate) fn of_log(command: &[u8]) -> Option<Reader> {
+        LOGS.iter()
+            .copied()
+            .find(|reader| reader.command().as_bytes() == command)
+    }
+
+    /// Returns a reader of logs that knows this keyword.
+    pub(crate) fn that_knows(keyword: &[u8]) -> Option<Reader> {
+        LOGS.iter()
+            .copied()
+            .find(|reader| reader.find_form(keyword).is_some())
+    }
+
+    /// Returns the command that reads a log in this way.
+    pub(crate) fn command(self) -> &'static str {
+        match self {
+            Reader::Arguments => "addrman",
+            Reader::Replay => "replay",
+            Reader::Opener => "opener",
+            Reader::Limit => "limit",
+        }
+    }
+
+    /// Returns the forms of what is read.
+    pub(crate) fn forms(self) -> &'static [&'static str] {
+        match self {
+            Reader::Arguments => &COMMANDS,
+            Reader::Replay => &REPLAY,
+            Reader::Opener => &OPENER,
+            Reader::Limit => &LIMIT,
+        }
+    }
+
+    /// Returns the form that begins with this keyword.
+    pub(crate) fn find_form(self, keyword: &[u8]) -> Option<&'static str> {
+        self.forms()
+            .iter()
+            .copied()
+            .find(|form| keyword_of(form).as_bytes() == keyword)
+    }
+}
+
+/// Returns the keyword that a form begins with.
+pub(crate) fn keyword_of(form: &'static str) -> &'static str {
+    match form.split_once(' ') {
+        Some((keyword, _)) => keyword,
+        None => form,
+    }
+}

@@ -1,0 +1,34 @@
+//! What standard error says after the line of a status: what is wrong, and what to change.
+//!
+//! Proved: the functions are safe and return. No contract speaks of these texts.
+//!
+//! Tested only, by `tools/mistakes`: the texts.
+#![tactic(auto)]
+
+mod explain;
+mod files;
+mod forms;
+mod last_lines;
+mod line;
+mod nearest;
+mod noted_files;
+mod noted_writer;
+mod notes;
+mod options;
+mod peers;
+mod row;
+mod shown;
+mod stream;
+mod usage;
+mod wanted;
+
+pub use files::{asmap_hint, bans_hint, compile_hint, missing_hint};
+pub use last_lines::{KeptReader, LastLines};
+pub use line::line_hint;
+pub use noted_files::NotedFiles;
+pub use noted_writer::NotedWriter;
+pub use notes::Notes;
+pub use peers::{duplicate_hint, peers_hint};
+pub use row::table_hint;
+pub use stream::stream_hint;
+pub use usage::usage_hint;

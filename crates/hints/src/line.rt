@@ -1,0 +1,55 @@
+use crate::explain::explain;
+use crate::forms::Reader;
+use crate::shown::is_marked;
+use std::alloc::{AllocError, Global};
+
+/// Says what is wrong with a line of a log, which the command of this name refuses, and in which
+/// column. The line has no line feed; lines are counted from 1.
+pub fn line_hint(
+    alloc: Global,
+    command: &[u8],
+    number: u64,
+    line: &[u8],
+) -> Result<Option<String>, AllocError> {
+    if number == 1 && is_marked(line) {
+        let text = String::from_str(alloc, "the file begins with a byte order mark")?;
+        return Ok(Some(text));
+    }
+    if line.last() == Some(&b'\r') {
+        let text = String::from_str(alloc, "the line ends with a carriage return")?;
+        return Ok(Some(text));
+    }
+    if line.first() == Some(&b' ') {
+        let text = String::from_str(alloc, "column 1: the line begins with a space")?;
+        return Ok(Some(text));
+    }
+    let Some(reader) = Reader::of_log(command) else {
+        return Ok(None);
+    };
+    let fields = fields_of(alloc, line)?;
+    let Some((keyword, rest)) = fields.as_slice().split_first() else {
+        return Ok(None);
+    };
+    let wrong = explain(alloc, reader, *keyword, rest)?;
+    let column = column_of(fields.as_slice(), wrong.index);
+    let text = format!(in alloc; "column {column}: {}", wrong.text.as_str())?;
+    Ok(Some(text))
+}
+
+/// Returns the texts between the spaces of a line.
+fn fields_of(alloc: Global, line: &[u8]) -> Result<Vec<&[u8]>, AllocError> {
+    let mut fields = Vec::new(alloc);
+    for field in line.split(|byte| *byte == b' ') {
+        fields.push(field)?;
+    }
+    Ok(fields)
+}
+
+/// Returns the column, from 1, at which the field of an index begins.
+fn column_of(fields: &[&[u8]], index: usize) -> usize {
+    let mut column = 1usize;
+    for field in fields.iter().take(index) {
+        column = column.saturating_add(field.len()).saturating_add(1);
+    }
+    column
+}

@@ -1,0 +1,160 @@
+use crate::forms::keyword_of;
+use crate::shown::quoted;
+use std::alloc::{AllocError, Global};
+
+/// How many hexadecimal digits a key has.
+const KEY_DIGITS: usize = 64;
+
+/// The names of the chains.
+static CHAINS: [&str; 4] = ["main", "test", "signet", "regtest"];
+
+/// An option.
+#[derive(Clone, Copy, PartialEq, Eq)]
+enum Name {
+    Key,
+    Net,
+}
+
+/// An option, and the value that an argument has after `=`.
+#[derive(Clone, Copy)]
+struct Given<'a> {
+    name: Name,
+    value: Option<&'a str>,
+}
+
+impl Name {
+    /// Returns the name as it is given.
+    fn text(self) -> &'static str {
+        match self {
+            Name::Key => "--key",
+            Name::Net => "--net",
+        }
+    }
+
+    /// Returns what its value has to be.
+    fn wanted(self) -> &'static str {
+        match self {
+            Name::Key => "64 hexadecimal digits",
+            Name::Net => "main, test, signet or regtest",
+        }
+    }
+}
+
+/// Says which of the arguments after the name of a command is wrong. After the name its form has
+/// only options.
+pub(crate) fn explain_options(
+    alloc: Global,
+    form: &'static str,
+    words: &[String],
+) -> Result<String, AllocError> {
+    let mut names = Vec::new(alloc);
+    let mut pending = None;
+    for word in words {
+        let Some(given) = given_by(form, pending, word.as_str()) else {
+            return no_option(alloc, form, word.as_str());
+        };
+        let name = given.name;
+        if pending.is_none() {
+            if names.contains(&name) {
+                return format!(in alloc; "{} comes twice", name.text());
+            }
+            names.push(name)?;
+        }
+        if let Some(text) = explain_given(alloc, given)? {
+            return Ok(text);
+        }
+        pending = match given.value {
+            Some(_) => None,
+            None => Some(name),
+        };
+    }
+    match pending {
+        Some(name) => format!(in alloc; "{} wants {}", name.text(), name.wanted()),
+        None => format!(in alloc; "the form is \"{form}\""),
+    }
+}
+
+/// Returns what an argument gives: the value of an option before it, or an option of the form.
+fn given_by<'a>(form: &'static str, pending: Option<Name>, word: &'a str) -> Option<Given<'a>> {
+    match pending {
+        Some(name) => Some(Given {
+            name,
+            value: Some(word),
+        }),
+        None => option_of(form, word),
+    }
+}
+
+/// Returns the option of the form that an argument begins with.
+fn option_of<'a>(form: &'static str, word: &'a str) -> Option<Given<'a>> {
+    for name in [Name::Key, Name::Net] {
+        if !form.contains(name.text()) {
+            continue;
+        }
+        if word == name.text() {
+            return Some(Given { name, value: None });
+        }
+        let value = after_equals(word, name.text());
+        if value.is_some() {
+            return Some(Given { name, value });
+        }
+    }
+    None
+}
+
+/// Returns what follows the name and `=`.
+fn after_equals<'a>(word: &'a str, name: &str) -> Option<&'a str> {
+    word.strip_prefix(name)?.strip_prefix("=")
+}
+
+/// Says what is wrong with the value of an option, or returns `None` if nothing is.
+fn explain_given(alloc: Global, given: Given<'_>) -> Result<Option<String>, AllocError> {
+    let Some(value) = given.value else {
+        return Ok(None);
+    };
+    match given.name {
+        Name::Key => explain_key(alloc, value),
+        Name::Net => explain_chain(alloc, value),
+    }
+}
+
+/// Says what is wrong with the name of a chain, or returns `None` if nothing is.
+fn explain_chain(alloc: Global, value: &str) -> Result<Option<String>, AllocError> {
+    if CHAINS.contains(&value) {
+        return Ok(None);
+    }
+    let shown = quoted(alloc, value.as_bytes())?;
+    let wanted = Name::Net.wanted();
+    let text = format!(in alloc; "--net wants {wanted}; {} is none", shown.as_str())?;
+    Ok(Some(text))
+}
+
+/// Says what is wrong with a key, or returns `None` if nothing is.
+fn explain_key(alloc: Global, digits: &str) -> Result<Option<String>, AllocError> {
+    let count = digits.len();
+    if count != KEY_DIGITS {
+        let text = format!(in alloc; "a key has 64 hexadecimal digits, this has {count}")?;
+        return Ok(Some(text));
+    }
+    for (i, byte) in digits.as_bytes().iter().enumerate() {
+        if !byte.is_ascii_hexdigit() {
+            let shown = quoted(alloc, digits.as_bytes().get(i..).unwrap_or(b""))?;
+            let text = format!(in alloc; "a key has hexadecimal digits, not {}", shown.as_str())?;
+            return Ok(Some(text));
+        }
+    }
+    Ok(None)
+}
+
+/// Says that the form has no such option.
+fn no_option(alloc: Global, form: &'static str, word: &str) -> Result<String, AllocError> {
+    let command = keyword_of(form);
+    let shown = quoted(alloc, word.as_bytes())?;
+    let shown = shown.as_str();
+    if word.starts_with("-") || command == "show" {
+        return format!(in alloc; "{shown} is no option of {command}; the form is \"{form}\"");
+    }
+    format!(in alloc;
+        "{shown} is no option: {command} reads its log from standard input, as < FILE"
+    )
+}

@@ -1,0 +1,101 @@
+use peers_file::{FileFault, RecordCause, Which};
+use std::alloc::{AllocError, Global};
+
+/// The first bytes of the files of the chains (`pchMessageStart` in kernel/chainparams.cpp of Bitcoin
+/// Core).
+static CHAINS: [([u8; 4], &str); 4] = [
+    ([0xf9, 0xbe, 0xb4, 0xd9], "main"),
+    ([0x0b, 0x11, 0x09, 0x07], "test"),
+    ([0x0a, 0x03, 0xcf, 0x40], "signet"),
+    ([0xfa, 0xbf, 0xb5, 0xda], "regtest"),
+];
+
+/// Says what is wrong with peers.dat, which begins with these bytes: which chain and which format it
+/// has, and the fault.
+pub fn peers_hint(alloc: Global, fault: &FileFault, head: &[u8]) -> Result<String, AllocError> {
+    let mut text = head_text(alloc, head)?;
+    text.push_str(fault_text(alloc, fault, head)?.as_str())?;
+    Ok(text)
+}
+
+/// Says which record of peers.dat, which begins with these bytes, has the peer of an earlier one.
+pub fn duplicate_hint(alloc: Global, index: u32, head: &[u8]) -> Result<String, AllocError> {
+    let mut text = head_text(alloc, head)?;
+    let said = format!(in alloc; "record {index} has the peer of an earlier one")?;
+    text.push_str(said.as_str())?;
+    Ok(text)
+}
+
+/// Returns the chain whose files begin with these bytes.
+fn chain_of(head: &[u8]) -> Option<&'static str> {
+    for (magic, name) in &CHAINS {
+        if head.starts_with(magic) {
+            return Some(*name);
+        }
+    }
+    None
+}
+
+/// Says which chain and format a file has, before what is wrong with it, or nothing.
+fn head_text(alloc: Global, head: &[u8]) -> Result<String, AllocError> {
+    match (chain_of(head), head) {
+        (Some(chain), [_, _, _, _, format, compat, ..]) => {
+            format!(in alloc; "chain {chain}, format {format}, compat byte {compat}: ")
+        }
+        _ => Ok(String::new(alloc)),
+    }
+}
+
+/// Says what the fault is.
+fn fault_text(alloc: Global, fault: &FileFault, head: &[u8]) -> Result<String, AllocError> {
+    match fault {
+        FileFault::Truncated => String::from_str(alloc, "its bytes end too early: copy it again"),
+        FileFault::BadMagic => magic_text(alloc, head),
+        FileFault::BadSum => String::from_str(alloc, "it was cut off or changed: copy it again"),
+        FileFault::Compat { byte } => {
+            format!(in alloc; "the compat byte is from 32 to 36, not {byte}")
+        }
+        FileFault::Version { byte } => format!(in alloc; "formats 1 to 4 are read, not {byte}"),
+        FileFault::Count { which, value } => count_text(alloc, *which, *value),
+        FileFault::Record { index, cause } => record_text(alloc, *index, *cause),
+        FileFault::Buckets { value } => {
+            format!(in alloc; "there are at most 65536 buckets, not {value}")
+        }
+        FileFault::Time { index } => {
+            format!(in alloc; "record {index} has a last success outside of 0 to 4294967295")
+        }
+        FileFault::Attempts { index } => format!(in alloc; "record {index} has tries below 0"),
+        FileFault::Trailing => String::from_str(alloc, "bytes are left after the last field"),
+        FileFault::TooLarge { size } => {
+            format!(in alloc; "there are at most 33554432 bytes, not {size}")
+        }
+        FileFault::Memory => Ok(String::new(alloc)),
+    }
+}
+
+/// Says of which chain a file is that has another one's first bytes.
+fn magic_text(alloc: Global, head: &[u8]) -> Result<String, AllocError> {
+    match chain_of(head) {
+        Some(chain) => format!(in alloc; "another chain was asked for; --net {chain} reads it"),
+        None => String::from_str(alloc, "its first four bytes are those of no chain"),
+    }
+}
+
+/// Says how many records of a table there are.
+fn count_text(alloc: Global, which: Which, value: i32) -> Result<String, AllocError> {
+    match which {
+        Which::New => format!(in alloc; "there are at most 65536 new records, not {value}"),
+        Which::Tried => format!(in alloc; "there are at most 16384 tried records, not {value}"),
+    }
+}
+
+/// Says what is wrong with the record of an index.
+fn record_text(alloc: Global, index: u32, cause: RecordCause) -> Result<String, AllocError> {
+    let said = match cause {
+        RecordCause::Version => "is laid out in the way of another format",
+        RecordCause::NonCanonical => "has a CompactSize of more bytes than its number needs",
+        RecordCause::BadLength => "has an address that is not as long as those of its network",
+        RecordCause::TooLong => "has an address of more than 512 bytes",
+    };
+    format!(in alloc; "record {index} {said}")
+}

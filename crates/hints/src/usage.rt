@@ -1,0 +1,36 @@
+use crate::explain::explain;
+use crate::forms::Reader;
+use crate::options::explain_options;
+use std::alloc::{AllocError, Global};
+
+/// Says which argument is wrong, and what is wanted there. The arguments are not those of a command.
+pub fn usage_hint(alloc: Global, words: &[String]) -> Result<String, AllocError> {
+    let Some((command, rest)) = words.split_first() else {
+        return String::from_str(
+            alloc,
+            "a command is wanted, as in addrman lookup 1.2.3.4:8333",
+        );
+    };
+    if command.as_str().starts_with("--") {
+        return String::from_str(
+            alloc,
+            "the command comes first, as in addrman show --net CHAIN",
+        );
+    }
+    if let Some(form) = Reader::Arguments.find_form(command.as_bytes())
+        && form.contains("--")
+    {
+        return explain_options(alloc, form, rest);
+    }
+    let mut fields = Vec::new(alloc);
+    for word in rest {
+        fields.push(word.as_bytes())?;
+    }
+    let wrong = explain(
+        alloc,
+        Reader::Arguments,
+        command.as_bytes(),
+        fields.as_slice(),
+    )?;
+    Ok(wrong.text)
+}

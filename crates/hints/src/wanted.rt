@@ -1,0 +1,150 @@
+use ban_list::parse_subnet;
+use grammar::{AddrClasses, Field, Networks, Payload, Random};
+use net_addr::{parse_addr, parse_number, parse_peer};
+use std::alloc::Global;
+
+/// Which texts a name in a form stands for.
+#[derive(Clone, Copy)]
+enum Kind {
+    Addr,
+    Peer,
+    Subnet,
+    Bytes,
+    Words,
+    Networks,
+    Classes,
+    /// The numbers from the first to the second.
+    Number(u64, u64),
+}
+
+/// What a name in a form stands for.
+#[derive(Clone, Copy)]
+pub(crate) struct Wanted {
+    name: &'static str,
+    kind: Kind,
+    /// What is said of it.
+    pub text: &'static str,
+}
+
+/// The largest number of 32 bits.
+const MAX: u64 = 4_294_967_295;
+
+/// What is said of a time.
+const TIME: &str = "a time in seconds since 1970, at most 4294967295";
+
+/// The names in forms, but for those of options.
+static NAMES: [Wanted; 18] = [
+    Wanted {
+        name: "ADDR",
+        kind: Kind::Addr,
+        text: "an address without a port, as 1.2.3.4 or [2001:470::1]",
+    },
+    Wanted {
+        name: "BYTES",
+        kind: Kind::Number(1, MAX),
+        text: "a number from 1 to 4294967295",
+    },
+    Wanted {
+        name: "CLASSES",
+        kind: Kind::Classes,
+        text: "all, or names of networks or unroutable, as ipv4,unroutable",
+    },
+    Wanted {
+        name: "CONNECTION",
+        kind: Kind::Number(0, MAX),
+        text: "a number from 0 to 4294967295",
+    },
+    Wanted {
+        name: "HEX",
+        kind: Kind::Bytes,
+        text: "two hexadecimal digits for each byte, or - for no bytes",
+    },
+    Wanted {
+        name: "LINES",
+        kind: Kind::Number(1, 100_000),
+        text: "a number from 1 to 100000",
+    },
+    Wanted {
+        name: "MAX",
+        kind: Kind::Number(0, MAX),
+        text: "a number from 0 to 4294967295",
+    },
+    Wanted {
+        name: "N",
+        kind: Kind::Number(0, u64::MAX),
+        text: "a number below 2^64",
+    },
+    Wanted {
+        name: "NETS",
+        kind: Kind::Networks,
+        text: "all, or some of ipv4, ipv6, onion, i2p, cjdns and internal, as ipv4,onion",
+    },
+    Wanted {
+        name: "NOW",
+        kind: Kind::Number(0, MAX),
+        text: TIME,
+    },
+    Wanted {
+        name: "PEER",
+        kind: Kind::Peer,
+        text: "an address with a port, as 1.2.3.4:8333",
+    },
+    Wanted {
+        name: "PERCENT",
+        kind: Kind::Number(0, 100),
+        text: "a number from 0 to 100",
+    },
+    Wanted {
+        name: "S",
+        kind: Kind::Number(0, MAX),
+        text: "a number from 0 to 4294967295",
+    },
+    Wanted {
+        name: "START",
+        kind: Kind::Number(0, u64::MAX),
+        text: "a number below 2^64",
+    },
+    Wanted {
+        name: "SUBNET",
+        kind: Kind::Subnet,
+        text: "a subnet, as 1.2.3.0/24 or 2001:470::/32",
+    },
+    Wanted {
+        name: "T",
+        kind: Kind::Number(0, MAX),
+        text: TIME,
+    },
+    Wanted {
+        name: "UNTIL",
+        kind: Kind::Number(0, MAX),
+        text: "a time after NOW, in seconds since 1970, at most 4294967295",
+    },
+    Wanted {
+        name: "W",
+        kind: Kind::Words,
+        text: "random words, as 7,8 or @SEED:COUNT, or - for none",
+    },
+];
+
+/// Returns what a name in a form stands for.
+pub(crate) fn find_wanted(name: &str) -> Option<&'static Wanted> {
+    NAMES.iter().find(|wanted| wanted.name == name)
+}
+
+impl Wanted {
+    /// Returns whether this text is one of those.
+    pub(crate) fn has(&self, alloc: Global, text: &[u8]) -> bool {
+        match self.kind {
+            Kind::Addr => parse_addr(text).is_some(),
+            Kind::Peer => parse_peer(text).is_some(),
+            Kind::Subnet => parse_subnet(text).is_some(),
+            Kind::Bytes => Payload::read(alloc, text).is_ok(),
+            Kind::Words => Random::read(alloc, text).is_ok(),
+            Kind::Networks => Networks::read(alloc, text).is_ok(),
+            Kind::Classes => AddrClasses::read(alloc, text).is_ok(),
+            Kind::Number(least, most) => {
+                parse_number(text, most).is_some_and(|number| number >= least)
+            }
+        }
+    }
+}
