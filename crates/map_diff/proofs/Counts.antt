@@ -3,7 +3,11 @@ use Rattle.std.proofs.Common.{◌≡◌, ℕ, zero, suc, ◌==◌, ◌+◌, ◌-
 use Rattle.std.proofs.lemmas.List.Sums.{sum_by-append, sum_by-cons}
 use Rattle.std.proofs.Math.Nat.{pow-suc}
 use Rattle.std.proofs.lemmas.Bool.{cases_Bool}
-use Rattle.map_diff.specs.Diff.{Change, Part, Same, Mixed, after, under, unless_equal, changes_of, same_pair, both, joined, part, changes, span_of, differing}
+use Rattle.std.specs.Prelude.{not}
+use Rattle.asmap_vm.specs.Code.{Tree}
+use Rattle.map_diff.specs.Diff.{Change, Part, Same, Mixed, after, under, unless_equal, changes_of, same_pair, both, joined, part, changes, span_of, differing, map_of, changed_at, changed_prefixes}
+use Rattle.map_diff.specs.Text.{is_ipv4, is_counted, span, count_of}
+use Rattle.map_diff.specs.declared.change.ChangedPrefix.{ChangedPrefix}
 use Rattle.map_diff.proofs.DiffLaws.{same_first, same_second}
 
 span_under : (n : ℕ) (b : Bool) (c : Change) → span_of (suc n) (under b c) ≡ span_of n c
@@ -67,3 +71,37 @@ pub differing_most : (n : ℕ) (f g : List Bool → ℕ) → differing n f g ≤
 unfolding differing
 differing_most zero f g = one_most (f [] == g [])
 differing_most (suc n) f g = omega (arith, differing_most n (after false f) (after false g), differing_most n (after true f) (after true g), pow-suc 2 n)
+
+-- ---- the counts that are printed
+
+abbrev part_of : Bool → ChangedPrefix → ℕ
+part_of ipv4 row = cond (is_counted ipv4 row) (span row) 0
+
+-- each prefix is counted once
+once : (b : Bool) (n : ℕ) → cond b n 0 + cond (not b) n 0 ≡ n
+once true n = omega arith
+once false n = omega arith
+
+both_counts : (cs : List Change) → count_of true (map (changed_at []) cs) + count_of false (map (changed_at []) cs) ≡ sum_by (span_of 128) cs
+unfolding count_of
+both_counts [] = refl
+both_counts (c ∷ cs) =
+    let row = changed_at [] c in
+    let rows = map (changed_at []) cs in
+    omega (
+      arith,
+      sum_by-cons (part_of true) row rows,
+      sum_by-cons (part_of false) row rows,
+      sum_by-cons (span_of 128) c cs,
+      once (is_ipv4 row) (span row),
+      both_counts cs,
+    )
+
+-- the printed counts are those of the addresses with two numbers
+pub counts_are : (old new : Tree) → count_of true (changed_prefixes old new) + count_of false (changed_prefixes old new) ≡ differing 128 (map_of old) (map_of new)
+counts_are old new = both_counts (changes 128 (map_of old) (map_of new)) ∙ counted 128 (map_of old) (map_of new)
+
+-- and each of them has at most 129 bits
+pub count_most : (old new : Tree) (ipv4 : Bool) → count_of ipv4 (changed_prefixes old new) ≤ 2 ^ 128
+count_most old new true = omega (arith, counts_are old new, differing_most 128 (map_of old) (map_of new))
+count_most old new false = omega (arith, counts_are old new, differing_most 128 (map_of old) (map_of new))

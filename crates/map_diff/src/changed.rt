@@ -1,7 +1,8 @@
-ghost use Rattle.std.specs.Prelude.{◌≡◌, ◌⊎◌, ◌<◌, length, IfOk, IsErrAnd, Err};
+ghost use Rattle.std.specs.Prelude.{◌≡◌, ◌⊎◌, ◌+◌, ◌<◌, ◌≤◌, ◌^◌, Bool, true, false, length, IfOk, IsErrAnd, Err};
 ghost use Rattle.asmap_vm.specs.Held.{tree_held};
 ghost use Rattle.prefix_table.specs.declared.row.TheConstants.{MAX_ROWS};
-ghost use Rattle.map_diff.specs.Diff.{changed_prefixes};
+ghost use Rattle.map_diff.specs.Diff.{map_of, differing, changed_prefixes};
+ghost use Rattle.map_diff.specs.Text.{count_of};
 
 use crate::change::ChangedPrefix;
 use crate::cursor::cursor_at;
@@ -21,6 +22,11 @@ pub fn difference(
 ) -> Result<Vec<ChangedPrefix>, DiffFault>
     ensures rows { IfOk result
         (λ rows. rows.items ≡ changed_prefixes (tree_held old.now) (tree_held new.now)) }
+
+    // The addresses of the changes are those with two numbers.
+    ensures counted { IfOk result (λ rows. count_of true rows.items + count_of false rows.items
+        ≡ differing 128 (map_of (tree_held old.now)) (map_of (tree_held new.now))) }
+    ensures few { IfOk result (λ rows. (ipv4 : Bool) → count_of ipv4 rows.items ≤ 2 ^ 128) }
 
     // More changes than a table may have rows are refused, unless memory runs out, and nothing else
     // is.

@@ -1,6 +1,6 @@
-ghost use Rattle.std.specs.Prelude.{◌≡◌, ◌≤◌, ◌^◌, ℕ, Bool, List, length, sum_by};
+ghost use Rattle.std.specs.Prelude.{◌≡◌, ◌≤◌, Bool, List, length};
 ghost use Rattle.asmap_vm.specs.Code.{Tree};
-ghost use Rattle.map_diff.specs.Diff.{Change, changes, map_of, first_over, if_differing, AreChanges, span_of, differing};
+ghost use Rattle.map_diff.specs.Diff.{Change, changes, map_of, first_over, if_differing, AreChanges};
 
 /// An address is covered by a change exactly if the two maps give it two numbers, and no fewer
 /// changes cover these addresses.
@@ -15,9 +15,4 @@ pub fn changes_are_the_differences()
     ensures fewest { (old new : Tree) (others : List Change)
         → AreChanges 128 (map_of old) (map_of new) others
         → length (changes 128 (map_of old) (map_of new)) ≤ length others }
-    // The addresses of the changes are as many as those with two numbers.
-    ensures counted { (old new : Tree)
-        → sum_by (span_of 128) (changes 128 (map_of old) (map_of new))
-        ≡ differing 128 (map_of old) (map_of new) }
-    ensures most { (old new : Tree) → differing 128 (map_of old) (map_of new) ≤ 2 ^ 128 }
 {}

@@ -5,7 +5,9 @@
 //!
 //! Proved:
 //! - `difference` gives the largest prefixes on which both asmaps are constant and differ, in their
-//!   order (`rows`), and refuses exactly what has more than 2,000,000 (`too_many`, `cause`).
+//!   order (`rows`), and refuses exactly what has more than 2,000,000 (`too_many`, `cause`). Their
+//!   addresses are as many as those with two numbers (`counted`).
+//! - `put_difference` writes them as contrib/asmap/asmap-tool.py of Bitcoin Core does (`ok`).
 //! - An address is covered by a change exactly if the asmaps give it two numbers, and the first
 //!   change that covers it has both (`exact`). No list of prefixes on which both are constant and
 //!   differ covers these addresses with fewer (`fewest`).
@@ -16,9 +18,13 @@ mod changed;
 mod cursor;
 mod fault;
 mod law;
+mod memory;
+mod text;
 mod walk;
 
 pub use change::ChangedPrefix;
 pub use changed::difference;
 pub use fault::DiffFault;
 pub use law::changes_are_the_differences;
+pub use memory::Memory;
+pub use text::put_difference;

@@ -1,4 +1,4 @@
-use Rattle.std.proofs.Common.{rules, ◌≡◌, ℕ, ◌<◌, ◌≤◌, List, [], ◌++◌, length, Result, Err, ap, sym, ◌∙◌, subst, arith, Vec, Global}
+use Rattle.std.proofs.Common.{rules, ◌≡◌, ℕ, ◌<◌, ◌≤◌, ◌+◌, ◌^◌, true, false, List, [], ◌++◌, length, Result, Err, ap, sym, ◌∙◌, subst, arith, Vec, Global}
 use Rattle.asmap_vm.specs.Code.{Tree}
 use Rattle.std.proofs.lemmas.Result.{err_from_is_err_and}
 use Rattle.asmap_vm.specs.Held.{tree_held}
@@ -8,6 +8,8 @@ use Rattle.map_diff.specs.Inside.{AreMaps, part_at, rows_at, HasCause}
 use Rattle.map_diff.specs.declared.change.ChangedPrefix.{ChangedPrefix}
 use Rattle.map_diff.specs.declared.fault.DiffFault.{DiffFault}
 use Rattle.map_diff.specs.declared.fault.DiffFault.TheVariants.{TooMany}
+use Rattle.map_diff.specs.Text.{count_of}
+use Rattle.map_diff.proofs.Counts.{counts_are, count_most}
 use Rattle.map_diff.proofs.Whole.{whole_tree, whole_maps, changed_are, whole_cause}
 use Rattle.map_diff.proofs.changed.difference.Goals.{After-cursor_at-to}
 use Rattle.map_diff.proofs.changed.difference.Goals as goal
@@ -93,3 +95,24 @@ returns-clause-too_many c = λ more.
     let are = maps (goal.at.returns-clause-too_many c).After-cursor_at-to in
     let put = c.in_ok-put_pair.ensures.put [] (part_at [] f g) c.new-rows.result.items are.len are.bits (c.in_ok-pair.ensures.found [] f g are) in
     absurd (few c.put_pair.new.rows.items c.new-rows.result.items (tree_held c.args.old.now) (tree_held c.args.new.now) c.len.result put c.new-rows.ensures.items (search rules) c.if-len-gt-MAX_ROWS.false more)
+
+pub returns-clause-counted : goal.returns-clause-counted
+returns-clause-counted c =
+    let old = tree_held c.args.old.now in
+    let new = tree_held c.args.new.now in
+    let f = map_of old in
+    let g = map_of new in
+    let are = maps (goal.at.returns-clause-counted c).After-cursor_at-to in
+    let put = c.in_ok-put_pair.ensures.put [] (part_at [] f g) c.new-rows.result.items are.len are.bits (c.in_ok-pair.ensures.found [] f g are) in
+    ap (λ (rows : List ChangedPrefix). count_of true rows + count_of false rows) (all_of c.put_pair.new.rows.items c.new-rows.result.items old new put c.new-rows.ensures.items)
+    ∙ counts_are old new
+
+pub returns-clause-few : goal.returns-clause-few
+returns-clause-few c = λ ipv4.
+    let old = tree_held c.args.old.now in
+    let new = tree_held c.args.new.now in
+    let f = map_of old in
+    let g = map_of new in
+    let are = maps (goal.at.returns-clause-few c).After-cursor_at-to in
+    let put = c.in_ok-put_pair.ensures.put [] (part_at [] f g) c.new-rows.result.items are.len are.bits (c.in_ok-pair.ensures.found [] f g are) in
+    subst (λ (rows : List ChangedPrefix). count_of ipv4 rows ≤ 2 ^ 128) (sym (all_of c.put_pair.new.rows.items c.new-rows.result.items old new put c.new-rows.ensures.items)) (count_most old new ipv4)

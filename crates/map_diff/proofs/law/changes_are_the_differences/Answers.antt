@@ -2,7 +2,6 @@ use Rattle.map_diff.specs.Diff.{map_of}
 use Rattle.map_diff.proofs.DiffLaws.{changes_exact}
 use Rattle.map_diff.proofs.Constant.{changes_are}
 use Rattle.map_diff.proofs.Fewest.{fewest}
-use Rattle.map_diff.proofs.Counts.{counted, differing_most}
 use Rattle.map_diff.proofs.law.changes_are_the_differences.Goals as goal
 
 pub returns-clause-exact : goal.returns-clause-exact
@@ -13,9 +12,3 @@ returns-clause-constant c = λ old new. changes_are 128 (map_of old) (map_of new
 
 pub returns-clause-fewest : goal.returns-clause-fewest
 returns-clause-fewest c = λ old new others are. fewest 128 (map_of old) (map_of new) others are
-
-pub returns-clause-counted : goal.returns-clause-counted
-returns-clause-counted c = λ old new. counted 128 (map_of old) (map_of new)
-
-pub returns-clause-most : goal.returns-clause-most
-returns-clause-most c = λ old new. differing_most 128 (map_of old) (map_of new)
