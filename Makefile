@@ -7,6 +7,7 @@
 # make endings    tries the exit codes of the built program and their texts
 # make lib        proves the library for C, and builds bin/lib/libaddrman.a and libaddrman.so.1
 # make lib-test   tries it from C, C++, Rust and Python, beside the built program
+# make packed     tries make install and make dist
 # make figures    prints lines, words and the like, and checks the names that docs/DEFINITIONS.md lists
 # make install    copies program, manual page, completion, and the library for C if it is built,
 #                 below $(DESTDIR)$(PREFIX)
@@ -20,7 +21,7 @@ DIST := addrman-$(VERSION)-x86_64-linux
 # Where the toolchain has its part of the C library: the allocator that the library calls.
 KIT = $(shell dirname "$$(dirname "$$(readlink -f "$$(command -v rt)")")")
 
-.PHONY: all try demo examples flood endings test figures lib lib-test install install-lib dist
+.PHONY: all try demo examples flood endings packed test figures lib lib-test install install-lib dist
 
 all:
 	mkdir -p bin
@@ -56,6 +57,9 @@ flood: all
 
 endings: all
 	tools/endings
+
+packed: all
+	tools/packed
 
 test:
 	rt ci

@@ -4,6 +4,7 @@ import os
 import sys
 
 import command
+import help_texts
 from folder import MAXIMUM_PIECE, Folder
 
 
@@ -26,6 +27,8 @@ def main() -> int:
     if text:
         try:
             write_all(2, f"addrman: {text}\n".encode())
+            if not sys.argv[1:]:
+                write_all(2, help_texts.list_of_commands().encode())
         except OSError:
             pass
     return code

@@ -3,9 +3,10 @@
 import hashlib
 
 import bans
+import help_texts
 import peers_file
 import prefixes
-from addresses import read_peer
+from addresses import Peer, read_peer
 from asmap import MAXIMUM_BYTES as MAXIMUM_ASMAP
 from asmap import NO_ASMAP, Asmap, compile_rows, pack, rows_of
 from folder import Failed, Folder, Stop, read_file, write_file
@@ -19,7 +20,8 @@ from tables import Tables
 from text import MASK, Fault, read_digits, read_number
 
 MAXIMUM_GENERATED_LINES = 100_000
-COMMANDS = "replay opener compile check decompile lookup limit show ban unban banned gen trial"
+COMMANDS = "replay opener limit show compile decompile check lookup ban unban banned gen trial help version"
+IN_PLACE = {b"--help": b"help", b"-h": b"help", b"--version": b"version"}
 OPTIONS = {"replay": ("--key", "--net"), "opener": ("--key", "--net"), "show": ("--net",)}
 
 
@@ -63,6 +65,23 @@ def key_and_chain(options: dict[str, bytes]) -> tuple[bytes | None, str]:
     return key, usage(chains.get(options.get("--net", b"main")))
 
 
+def looked_up(peer: Peer, asmap: Asmap) -> str:
+    """What `lookup` prints of a peer."""
+    return f"asn {asmap.number_of(peer.address)} group {group(peer.address, asmap).hex()}"
+
+
+def looked_up_line(line: bytes, asmap: Asmap) -> str | None:
+    """What `lookup -` prints of a line, None if it is passed over; raises Fault."""
+    if not line or line.startswith(b"#"):
+        return None
+    if b" " in line:
+        raise Fault("fields")
+    peer = read_peer(line)
+    if peer is None:
+        raise Fault("peer")
+    return looked_up(peer, asmap)
+
+
 class Run:
     """A run of a command, by the method of its name.
 
@@ -83,8 +102,12 @@ class Run:
     def command(self, arguments: list[bytes]):
         """Carries out a command; raises Stop."""
         known = {name.encode(): name for name in COMMANDS.split()}
-        name = usage(known.get(arguments[0] if arguments else b""))
+        word = arguments[0] if arguments else b""
+        name = usage(known.get(IN_PLACE.get(word, word)))
         method = getattr(self, name)
+        if name == "help":
+            self.help(*[usage(known.get(argument)) for argument in arguments[1:]])
+            return
         if name in OPTIONS:
             method(*key_and_chain(read_options(arguments[1:], OPTIONS[name])))
             return
@@ -125,6 +148,15 @@ class Run:
             digest.update(reply)
         size = log.reply(b"size").removeprefix("size ")
         self.print(f"trial lines {count} replies {length} {size} sum {digest.hexdigest()}")
+
+    def help(self, *names: str):
+        if len(names) > 1:
+            usage()
+        text = help_texts.page(names[0]) if names else help_texts.list_of_commands()
+        self.print(text.removesuffix("\n"))
+
+    def version(self):
+        self.print(help_texts.VERSION.removesuffix("\n"))
 
     def load(self, name: str, maximum: int, code: int, read):
         """What `read` makes of a file, None if there is none; the code is that of a refusal."""
@@ -195,9 +227,12 @@ class Run:
             self.print("\n".join(prefixes.row_text(row) for row in rows))
 
     def lookup(self, argument: bytes):
-        address = usage(read_peer(argument)).address
-        asmap = self.needed(self.asmap(), "asmap.dat")
-        self.print(f"asn {asmap.number_of(address)} group {group(address, asmap).hex()}")
+        if argument == b"-":
+            asmap = self.needed(self.asmap(), "asmap.dat")
+            self.each_line(lambda line: looked_up_line(line, asmap))
+            return
+        peer = usage(read_peer(argument))
+        self.print(looked_up(peer, self.needed(self.asmap(), "asmap.dat")))
 
     def bans(self) -> dict:
         """The folder's list of bans."""

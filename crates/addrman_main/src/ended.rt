@@ -3,6 +3,7 @@ ghost use Rattle.std.specs.Process.{exit_status};
 ghost use Rattle.addrman_run.specs.Report.{code_of};
 
 use addrman_run::{Status, code, status_line};
+use arguments::help_text;
 use std::alloc::Global;
 use std::marker::Model;
 use std::process::{ExitCode, Termination};
@@ -27,7 +28,7 @@ pub struct Ended {
     code: u8,
     reason: Reason,
     /// What is printed after the reason.
-    note: &'static str,
+    note: Reason,
 }
 
 impl Model for Ended {
@@ -38,6 +39,14 @@ impl Model for Ended {
     ghost view = { λ e. e.code };
 }
 
+/// Returns a text to be printed, or nothing if it is not UTF-8.
+fn printed(text: Vec<u8>) -> Reason {
+    match String::from_utf8(text) {
+        Ok(line) => Reason::Line(line),
+        Err(_) => Reason::Fixed(""),
+    }
+}
+
 /// Returns the line that says why the run ended, and nothing if the run is done or if there is no
 /// memory for the line.
 fn reason_of(alloc: Global, status: &Status) -> Reason {
@@ -45,23 +54,46 @@ fn reason_of(alloc: Global, status: &Status) -> Reason {
     if status_line(status, &mut line).is_err() {
         return Reason::Fixed("");
     }
-    match String::from_utf8(line) {
-        Ok(line) => Reason::Line(line),
+    printed(line)
+}
+
+/// Returns the list of the commands, and nothing if there is no memory for it.
+fn list_of_commands(alloc: Global) -> Reason {
+    match help_text(alloc, None) {
+        Ok(text) => printed(text),
         Err(_) => Reason::Fixed(""),
     }
 }
 
 impl Ended {
-    /// A run that ended with this status. If the folder failed, `is_in_use` says whether another
-    /// program was saving in it.
-    pub(crate) fn with(alloc: Global, status: &Status, is_in_use: bool) -> Ended
+    /// A run of these arguments that ended with this status. If the folder failed, `is_in_use` says
+    /// whether another program was saving in it.
+    pub(crate) fn with(alloc: Global, words: &[String], status: &Status, is_in_use: bool) -> Ended
         ensures code { result ≡ code_of status.now }
     {
-        let is_told = is_in_use && *status == Status::DiskFault;
         Ended {
             code: code(status),
             reason: reason_of(alloc, status),
-            note: if is_told { IN_USE } else { "" },
+            note: if words.is_empty() {
+                list_of_commands(alloc)
+            } else if is_in_use && *status == Status::DiskFault {
+                Reason::Fixed(IN_USE)
+            } else {
+                Reason::Fixed("")
+            },
+        }
+    }
+
+    /// A run that ended with this status after the reader of its output had gone away. Nothing is
+    /// printed.
+    pub(crate) fn silently(status: &Status) -> Ended
+        ensures code { result ≡ code_of status.now }
+    {
+        let code = code(status);
+        Ended {
+            code,
+            reason: Reason::Fixed(""),
+            note: Reason::Fixed(""),
         }
     }
 
@@ -72,9 +104,17 @@ impl Ended {
         Ended {
             code: 1,
             reason: Reason::Fixed(reason),
-            note: "",
+            note: Reason::Fixed(""),
         }
     }
+}
+
+/// Prints a text on standard error. If that fails, nothing can be said of it.
+fn print<R: Eprint>(text: Reason, errors: &R) {
+    let _ = match text {
+        Reason::Fixed(text) => errors.eprint(text),
+        Reason::Line(line) => errors.eprint(line),
+    };
 }
 
 impl Termination for Ended {
@@ -83,11 +123,8 @@ impl Termination for Ended {
         ensures code { exit_status result ≡ self }
     {
         let Ended { code, reason, note } = self;
-        let _ = match reason {
-            Reason::Fixed(text) => errors.eprint(text),
-            Reason::Line(line) => errors.eprint(line),
-        };
-        let _ = errors.eprint(note);
+        print(reason, errors);
+        print(note, errors);
         ExitCode::from(code)
     }
 }

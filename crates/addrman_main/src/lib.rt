@@ -4,14 +4,17 @@
 //! Proved: the functions are safe and return. An `Ended` has the exit code of the status that it
 //! was made of, and reports it (`code`).
 //!
-//! Tested only: that this is the status of `run`, and that its line is written.
+//! Tested only: that this is the status of `run`, and that its line is written, but for a run whose
+//! output nobody reads any more.
 #![tactic(auto)]
 
 mod ended;
+mod pipe;
 
 use addrman_run::run;
 pub use ended::Ended;
 use host_io::{DirFolder, StdSink, StdSource};
+use pipe::Pipe;
 use std::fs::File;
 use std::hash::RandomState;
 use std::rt::{Env, Files};
@@ -49,7 +52,8 @@ pub fn run_program(rt: &HostRuntime) -> Ended {
         return Ended::before_the_run("addrman: the system gives no random numbers\n");
     };
     let mut log = StdSource::make(rt.reader());
-    let mut out = StdSink::make(io::writer(rt));
+    let mut pipe = Pipe::make(io::writer(rt));
+    let mut out = StdSink::make(&mut pipe);
     let mut folder = DirFolder::make(rt);
     let status = run(
         rt.alloc(),
@@ -59,5 +63,10 @@ pub fn run_program(rt: &HostRuntime) -> Ended {
         &mut folder,
         &mut out,
     );
-    Ended::with(rt.alloc(), &status, folder.is_in_use())
+    let is_in_use = folder.is_in_use();
+    if pipe.is_closed() {
+        Ended::silently(&status)
+    } else {
+        Ended::with(rt.alloc(), words.as_slice(), &status, is_in_use)
+    }
 }

@@ -1,6 +1,6 @@
 -- A run in which nothing is wrong and nothing fails is done, or out of memory.
 use Rattle.std.proofs.Common.{◌≡◌, ◌≢◌, ◌≤◌, ◌+◌, ℕ, zero, suc, List, [], ◌∷◌, ◌++◌, length, refl, sym, ap, ◌∙◌, subst, inl, inr, arith}
-use Rattle.std.specs.Prelude.{◌⊎◌, All, IfSome, Option}
+use Rattle.std.specs.Prelude.{◌⊎◌, All, IfSome, Option, Some}
 use Rattle.std.proofs.lemmas.Bool.{ne_eqb}
 use Rattle.std.proofs.lemmas.List.Elements.{All-head, All-tail}
 use Rattle.addr_limit.specs.Laws.{no_fault as no_limit_fault}
@@ -14,7 +14,8 @@ use Rattle.host_io.specs.declared.name.Name.TheVariants as name
 use Rattle.host_io.specs.declared.name.Name.{Name}
 use Rattle.log_lines.proofs.OneMeaning.{spelled_no_fault}
 use Rattle.log_lines.specs.Spelling.{HasFault}
-use Rattle.grammar.proofs.TableLemmas.{of_same}
+use Rattle.grammar.proofs.TableLemmas.{no_fault_after, of_same}
+use Rattle.grammar.specs.Fields.{OfPeer, ThePeer}
 use Rattle.grammar.specs.Words.{fields_of}
 use Rattle.grammar.specs.declared.fault.LineFault.{LineFault}
 use Rattle.log_run.specs.Log.{HasNoFeed}
@@ -28,17 +29,19 @@ use Rattle.peers_file.specs.declared.chain.Chain.{Chain}
 use Rattle.session.specs.History.{RoseBy}
 use Rattle.addrman_run.specs.Bans.{BansEnds, Change, ReportsBans}
 use Rattle.addrman_run.specs.Compile.{CompileEnds}
-use Rattle.addrman_run.specs.Complete.{IsComplete, IsGoodLog, IsLimitLine, IsOpenerLine, IsReplayLine, IsUsable, NoRefusal, NoSaveFails, NothingFails, NothingIsWrong}
+use Rattle.addrman_run.specs.Complete.{IsComplete, IsGoodLog, IsLimitLine, IsLookupLine, IsOpenerLine, IsReplayLine, IsUsable, NoRefusal, NoSaveFails, NothingFails, NothingIsWrong}
 use Rattle.addrman_run.specs.Opening.{ReportsOpening}
 use Rattle.addrman_run.specs.FileLine.{FileLineEnds}
 use Rattle.addrman_run.specs.Generate.{GenText}
 use Rattle.addrman_run.specs.Limit.{LimitEnds, Limited}
 use Rattle.addrman_run.specs.Log.{LogOutcome, streams_of}
+use Rattle.addrman_run.specs.OneText.{OneText}
 use Rattle.addrman_run.specs.Opener.{OpenerEnds, OpenerRan}
 use Rattle.addrman_run.specs.Outcome.{Ends, HasCause}
-use Rattle.addrman_run.specs.Replay.{NotOpened, ReplayEnds, Replayed}
+use Rattle.addrman_run.specs.LookupLines.{HasFault as LookupFault, LacksMap, LookedUp, LookupLinesEnds}
+use Rattle.addrman_run.specs.Replay.{IsUntouched, NotOpened, ReplayEnds, Replayed}
+use Rattle.addrman_run.specs.Asmaps.{ReportsAsmap}
 use Rattle.addrman_run.specs.Tables.{ReportsTable}
-use Rattle.addrman_run.specs.Trial.{TrialText}
 use Rattle.arguments.specs.declared.request.Request.TheVariants as request
 use Rattle.arguments.specs.declared.request.Request.{Request}
 use Rattle.addrman_run.specs.declared.status.Status.TheVariants.{Done, LogLine, PeersRefused, AsmapRefused, ReadFault, WriteFault, DiskFault, LogTooLong, NoKey, Memory, LineTooLong, NoFile}
@@ -123,6 +126,10 @@ opener_line line fault (inr (asked, asks)) why = asked_no_fault line asked fault
 limit_line : (line : List ℕ) (fault : LineFault) → IsLimitLine line → LimitFault line fault → ⊥
 limit_line line fault (event, says) why = of_same {C = λ a f. ⊥} SaysAfter FaultAfter no_limit_fault (fields_of line) event fault says why
 
+lookup_line : (line : List ℕ) (fault : LineFault) → IsLookupLine line → LookupFault line fault → ⊥
+lookup_line line fault (inl passed) why = why.0 passed
+lookup_line line fault (inr (peer, is)) why = no_fault_after (Some (OfPeer ∷ [])) (fields_of line) (ThePeer peer ∷ []) fault is why.1
+
 -- the folder did not fail if the log is as it was
 no_disk_fault : (old new : Outside) → HasCause old new DiskFault → NothingFails old new → new.left ≡ old.left → ⊥
 no_disk_fault old new cause calm same = calm.folder same (cause.folder.1 refl)
@@ -182,6 +189,23 @@ limit_done old new answer ends cause fine calm =
     (λ run. no_long_log _ _ _ IsLimitLine limit_line _ _ fine run.ran)
     (λ cause none. absurd none)
 
+-- why there is no asmap to look addresses up in
+no_map_done : (old new : Outside) (answer : Status) → IsUsable name.Asmap ReportsAsmap old.past → NothingFails old new → HasCause old new answer
+    → LacksMap old.past answer × IsUntouched old new → IsDone answer
+no_map_done old new Memory fine calm cause is = inr refl
+no_map_done old new DiskFault fine calm cause is = absurd (no_disk_fault old new cause calm is.1.log.0)
+no_map_done old new (NoFile file) fine calm cause is = absurd (fine.0 is.0.1)
+no_map_done old new other fine calm cause is = absurd (fine.1 other is.0)
+
+lookup_lines_done : (old new : Outside) (answer : Status) → LookupLinesEnds old new answer → HasCause old new answer
+    → IsGoodLog IsLookupLine old.left × IsUsable name.Asmap ReportsAsmap old.past → NothingFails old new → IsDone answer
+lookup_lines_done old new answer ends cause fine calm =
+    log_done (LookedUp old.past (streams_of old) (streams_of new)) (λ other. LacksMap old.past other × IsUntouched old new) old new answer ends.outcome cause calm
+    (λ n fault run. no_fault _ _ _ IsLookupLine lookup_line _ _ fine.0 n fault run.ran)
+    (λ n run. no_long_line _ _ _ IsLookupLine lookup_line _ _ fine.0 n run.ran)
+    (λ run. no_long_log _ _ _ IsLookupLine lookup_line _ _ fine.0 run.ran)
+    (no_map_done old new answer fine.1 calm)
+
 -- a command that loads one file and writes a line about it
 file_line_done : (name : Name) (IsLine : Option Past → List ℕ → Type 0) (Refuses : Option Past → Status → Type 0) (old new : Outside) (answer : Status)
     → FileLineEnds name IsLine Refuses old new answer → HasCause old new answer → IsUsable name Refuses old.past → NothingFails old new → IsDone answer
@@ -213,11 +237,11 @@ gen_done first count old new Memory text cause calm = inr refl
 gen_done first count old new WriteFault text cause calm = absurd (no_write_fault old new cause calm)
 gen_done first count old new other text cause calm = absurd text
 
-trial_done : (first count : ℕ) (old new : Outside) (answer : Status) → TrialText first count old.written new.written answer → HasCause old new answer → NothingFails old new → IsDone answer
-trial_done first count old new Done text cause calm = inl refl
-trial_done first count old new Memory text cause calm = inr refl
-trial_done first count old new WriteFault text cause calm = absurd (no_write_fault old new cause calm)
-trial_done first count old new other text cause calm = absurd text
+one_text_done : (IsText : List ℕ → Type 0) (old new : Outside) (answer : Status) → OneText IsText old.written new.written answer → HasCause old new answer → NothingFails old new → IsDone answer
+one_text_done IsText old new Done text cause calm = inl refl
+one_text_done IsText old new Memory text cause calm = inr refl
+one_text_done IsText old new WriteFault text cause calm = absurd (no_write_fault old new cause calm)
+one_text_done IsText old new other text cause calm = absurd text
 
 -- ---- the saves of a replay
 
@@ -240,12 +264,15 @@ done request.Check old new answer ends cause fine calm = file_line_done _ _ _ ol
 done request.Decompile old new answer ends cause fine calm = file_line_done _ _ _ old new answer ends cause fine calm
 done request.Limit old new answer ends cause fine calm = limit_done old new answer ends cause fine calm
 done (request.Lookup peer) old new answer ends cause fine calm = file_line_done _ _ _ old new answer ends cause fine calm
+done request.LookupLines old new answer ends cause fine calm = lookup_lines_done old new answer ends cause fine calm
 done (request.Show chain) old new answer ends cause fine calm = file_line_done _ _ _ old new answer ends cause fine calm
 done (request.Ban subnet now until) old new answer ends cause fine calm = bans_done _ old new answer ends cause fine calm
 done (request.Unban subnet) old new answer ends cause fine calm = bans_done _ old new answer ends cause fine calm
 done (request.Banned peer now) old new answer ends cause fine calm = bans_done _ old new answer ends cause fine calm
 done (request.Gen first count) old new answer ends cause fine calm = gen_done first count old new answer ends.text cause calm
-done (request.Trial first count) old new answer ends cause fine calm = trial_done first count old new answer ends.text cause calm
+done (request.Trial first count) old new answer ends cause fine calm = one_text_done _ old new answer ends.text cause calm
+done (request.Help command) old new answer ends cause fine calm = one_text_done _ old new answer ends.text cause calm
+done request.Version old new answer ends cause fine calm = one_text_done _ old new answer ends.text cause calm
 
 pub complete : (request : Request) (old new : Outside) (answer : Status) → Ends request old new answer → HasCause old new answer → IsComplete request old new answer
 complete request old new answer ends cause = record { done = done request old new answer ends cause; saved = no_save_fails request old new }

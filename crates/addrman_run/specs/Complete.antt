@@ -13,6 +13,7 @@ use Rattle.log_lines.specs.Spelling.{Spells}
 use Rattle.log_lines.specs.declared.command.Command.{Command}
 use Rattle.log_run.specs.declared.end.LogEnd.{LogEnd}
 use Rattle.log_run.specs.declared.limits.TheConstants.{MAX_LINE, MAX_LOG}
+use Rattle.net_addr.specs.declared.peer.Peer.{Peer}
 use Rattle.opener_lines.specs.Grammar.{Asks}
 use Rattle.opener_lines.specs.declared.request.Request as opener
 use Rattle.session.specs.History.{failed}
@@ -20,16 +21,16 @@ use Rattle.addrman_run.specs.Asmaps.{ReportsAsmap}
 use Rattle.addrman_run.specs.Bans.{ReportsBans}
 use Rattle.addrman_run.specs.Decompile.{ReportsDecompile}
 use Rattle.addrman_run.specs.InFolder.{IsAbsent}
+use Rattle.addrman_run.specs.LookupLines.{IsPeerLine}
 use Rattle.addrman_run.specs.Opening.{ReportsOpening}
 use Rattle.addrman_run.specs.Replay.{Replayed, saves_of}
 use Rattle.addrman_run.specs.Show.{ReportsPeers}
 use Rattle.addrman_run.specs.Tables.{ReportsTable}
 use Rattle.arguments.specs.declared.request.Request.{Request}
 use Rattle.arguments.specs.declared.request.Request.TheVariants.{Show}
-use Rattle.arguments.specs.declared.request.Request.TheVariants.{Replay, Opener, Compile, Check, Lookup}
+use Rattle.arguments.specs.declared.request.Request.TheVariants.{Replay, Opener, Compile, Check, Lookup, LookupLines}
 use Rattle.arguments.specs.declared.request.Request.TheVariants.{Decompile, Limit}
 use Rattle.arguments.specs.declared.request.Request.TheVariants.{Ban, Unban, Banned}
-use Rattle.arguments.specs.declared.request.Request.TheVariants.{Gen, Trial}
 use Rattle.addrman_run.specs.declared.status.Status.{Status}
 use Rattle.addrman_run.specs.declared.status.Status.TheVariants.{Done, Memory}
 
@@ -46,6 +47,10 @@ IsOpenerLine line = IsPassedOver line ⊎ ((asked : opener.Request) × Asks line
 -- a line that the limit carries out
 abbrev pub IsLimitLine : List ℕ → Type 0
 IsLimitLine line = (event : Event) × SaysEvent line event
+
+-- a line that a lookup of each line carries out
+abbrev pub IsLookupLine : List ℕ → Type 0
+IsLookupLine line = IsPassedOver line ⊎ ((peer : Peer) × IsPeerLine line peer)
 
 -- Contracts know the log. It is within its limit, each of its lines is within the limit of a line,
 -- and each is one that the command carries out.
@@ -77,12 +82,12 @@ NothingIsWrong Check at = IsUsable name.Asmap ReportsAsmap at.past
 NothingIsWrong Decompile at = IsUsable name.Asmap ReportsDecompile at.past
 NothingIsWrong Limit at = IsGoodLog IsLimitLine at.left
 NothingIsWrong (Lookup peer) at = IsUsable name.Asmap ReportsAsmap at.past
+NothingIsWrong LookupLines at = IsGoodLog IsLookupLine at.left × IsUsable name.Asmap ReportsAsmap at.past
 NothingIsWrong (Show chain) at = IsUsable name.Peers (ReportsPeers chain) at.past
 NothingIsWrong (Ban subnet now until) at = NoRefusal (ReportsBans at.past)
 NothingIsWrong (Unban subnet) at = NoRefusal (ReportsBans at.past)
 NothingIsWrong (Banned peer now) at = NoRefusal (ReportsBans at.past)
-NothingIsWrong (Gen start lines) at = ⊤
-NothingIsWrong (Trial start lines) at = ⊤
+NothingIsWrong other at = ⊤
 
 -- No count of faults rose; that of the folder may have risen after bytes of the log were taken.
 pub record NothingFails (old new : Outside) : Type 0 where

@@ -7,8 +7,11 @@ pub mod Log
 pub mod Replay
 pub mod Limit
 pub mod Opener
+pub mod OneText
+pub mod Help
 pub mod FileLine
 pub mod Lookup
+pub mod LookupLines
 pub mod Check
 pub mod Decompile
 pub mod Compile

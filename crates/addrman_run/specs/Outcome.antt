@@ -5,6 +5,7 @@ use Rattle.host_io.specs.Faults.{Rose}
 use Rattle.host_io.specs.Outside.{Outside}
 use Rattle.addrman_run.specs.Replay.{ReplayEnds}
 use Rattle.addrman_run.specs.Lookup.{LookupEnds}
+use Rattle.addrman_run.specs.LookupLines.{LookupLinesEnds}
 use Rattle.addrman_run.specs.Check.{CheckEnds}
 use Rattle.addrman_run.specs.Decompile.{DecompileEnds}
 use Rattle.addrman_run.specs.Compile.{CompileEnds}
@@ -12,14 +13,15 @@ use Rattle.addrman_run.specs.Limit.{LimitEnds}
 use Rattle.addrman_run.specs.Opener.{OpenerEnds}
 use Rattle.addrman_run.specs.Show.{ShowEnds}
 use Rattle.addrman_run.specs.Generate.{GenEnds}
+use Rattle.addrman_run.specs.Help.{HelpEnds, VersionEnds}
 use Rattle.addrman_run.specs.Trial.{TrialEnds}
 use Rattle.addrman_run.specs.Bans.{BansEnds, ban_change, unban_change, banned_change}
 use Rattle.arguments.specs.declared.request.Request.{Request}
 use Rattle.arguments.specs.declared.request.Request.TheVariants.{Show}
-use Rattle.arguments.specs.declared.request.Request.TheVariants.{Replay, Opener, Compile, Check, Lookup}
+use Rattle.arguments.specs.declared.request.Request.TheVariants.{Replay, Opener, Compile, Check, Lookup, LookupLines}
 use Rattle.arguments.specs.declared.request.Request.TheVariants.{Decompile, Limit}
 use Rattle.arguments.specs.declared.request.Request.TheVariants.{Ban, Unban, Banned}
-use Rattle.arguments.specs.declared.request.Request.TheVariants.{Gen, Trial}
+use Rattle.arguments.specs.declared.request.Request.TheVariants.{Gen, Trial, Help, Version}
 use Rattle.addrman_run.specs.declared.status.Status.{Status}
 use Rattle.addrman_run.specs.declared.status.Status.TheVariants as status
 
@@ -32,12 +34,15 @@ Ends Check old new answer = CheckEnds old new answer
 Ends Decompile old new answer = DecompileEnds old new answer
 Ends Limit old new answer = LimitEnds old new answer
 Ends (Lookup peer) old new answer = LookupEnds peer old new answer
+Ends LookupLines old new answer = LookupLinesEnds old new answer
 Ends (Show chain) old new answer = ShowEnds chain old new answer
 Ends (Ban subnet now until) old new answer = BansEnds (ban_change (ban_of subnet now until)) old new answer
 Ends (Unban subnet) old new answer = BansEnds (unban_change subnet) old new answer
 Ends (Banned peer now) old new answer = BansEnds (banned_change peer.addr now) old new answer
 Ends (Gen start lines) old new answer = GenEnds start lines old new answer
 Ends (Trial start lines) old new answer = TrialEnds start lines old new answer
+Ends (Help command) old new answer = HelpEnds command old new answer
+Ends Version old new answer = VersionEnds old new answer
 
 -- a count of faults did not fall, and rose if the run ended with this fault
 abbrev pub IsCounted : Status → ℕ → ℕ → Status → Type 0

@@ -1,11 +1,10 @@
 -- What `trial` writes, and how it ends.
-use Rattle.std.specs.Prelude.{◌≡◌, ℕ, List, ◌++◌, length, replicate, codes, decimal, Option, None}
+use Rattle.std.specs.Prelude.{◌≡◌, ℕ, List, ◌++◌, length, replicate, codes, decimal, None}
 use Rattle.std.specs.List.{concat}
 use Rattle.hex.specs.Hex.{encode_lower}
 use Rattle.sha2.specs.Sha256.{sha256}
 use Rattle.host_io.specs.Lines.{lines_of}
 use Rattle.host_io.specs.Outside.{Outside}
-use Rattle.host_io.specs.Writing.{Appended, AppendedPart}
 use Rattle.gen_load.specs.Log.{log}
 use Rattle.log_run.specs.Run.{Run}
 use Rattle.manager.specs.Step.{counts_of}
@@ -14,11 +13,10 @@ use Rattle.peers_file.specs.declared.chain.Chain.TheVariants.{Main}
 use Rattle.session.specs.History.{History, Step, fresh}
 use Rattle.session.specs.State as session
 use Rattle.table_machine.specs.State.{empty_state}
-use Rattle.addrman_run.specs.Log.{SameLog}
+use Rattle.addrman_run.specs.OneText.{OneTextEnds}
 use Rattle.addrman_run.specs.Opening.{places_of}
 use Rattle.addrman_run.specs.Replay.{at_start}
 use Rattle.addrman_run.specs.declared.status.Status.{Status}
-use Rattle.addrman_run.specs.declared.status.Status.TheVariants.{Done, WriteFault, Memory}
 
 -- the session that a trial begins with: empty tables under a key of 32 zero bytes, with no asmap
 abbrev pub trial_start : session.State
@@ -47,15 +45,5 @@ pub record IsTrial (start lines : ℕ) (line : List ℕ) : Type 0 where
   pub runs : Run Step (fresh trial_start) (lines_of (concat (log start lines))) replies last
   pub is : line ≡ trial_text lines replies (counts_of last.now.machine.tables)
 
--- what is written for each status
-abbrev pub TrialText : ℕ → ℕ → Option (List ℕ) → Option (List ℕ) → Status → Type 0
-TrialText start lines old new Done = (line : List ℕ) × IsTrial start lines line × Appended old new line
-TrialText start lines old new WriteFault = (line : List ℕ) × IsTrial start lines line × AppendedPart old new line
-TrialText start lines old new Memory = new ≡ old
-TrialText start lines old new other = ⊥
-
--- nothing is read, and no file is changed
-pub record TrialEnds (start lines : ℕ) (old new : Outside) (status : Status) : Type 0 where
-  pub text : TrialText start lines old.written new.written status
-  pub left : SameLog old new
-  pub same : new.past ≡ old.past
+abbrev pub TrialEnds : ℕ → ℕ → Outside → Outside → Status → Type 0
+TrialEnds start lines = OneTextEnds (IsTrial start lines)

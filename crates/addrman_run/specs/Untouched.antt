@@ -2,7 +2,7 @@
 use Rattle.std.specs.Prelude.{◌≡◌, ℕ, List, ⊤}
 use Rattle.arguments.specs.Table.{Asks}
 use Rattle.arguments.specs.declared.request.Request.{Request}
-use Rattle.arguments.specs.declared.request.Request.TheVariants.{Replay, Opener, Limit, Gen, Trial}
+use Rattle.arguments.specs.declared.request.Request.TheVariants.{Replay, Opener, Limit, LookupLines, Gen, Trial, Help, Version}
 use Rattle.addrman_run.specs.declared.status.Status.{Status}
 use Rattle.addrman_run.specs.declared.status.Status.TheVariants.{Usage}
 
@@ -11,6 +11,7 @@ abbrev pub ReadsNoLog : Request → Type 0
 ReadsNoLog (Replay key chain) = ⊥
 ReadsNoLog (Opener key chain) = ⊥
 ReadsNoLog Limit = ⊥
+ReadsNoLog LookupLines = ⊥
 ReadsNoLog other = ⊤
 
 -- the commands that ask the folder for nothing
@@ -18,6 +19,8 @@ abbrev pub AsksNoFolder : Request → Type 0
 AsksNoFolder Limit = ⊤
 AsksNoFolder (Gen start lines) = ⊤
 AsksNoFolder (Trial start lines) = ⊤
+AsksNoFolder (Help command) = ⊤
+AsksNoFolder Version = ⊤
 AsksNoFolder other = ⊥
 
 -- Log, folder and output are as they were if the arguments ask for nothing; so are the log of a

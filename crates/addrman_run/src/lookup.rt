@@ -43,7 +43,11 @@ impl FileLine for Lookup {
 }
 
 /// Returns the line about an address under an asmap.
-fn lookup_line(alloc: Global, asmap: &Sane<'_>, addr: &NetAddr) -> Result<Vec<u8>, AllocError>
+pub(crate) fn lookup_line(
+    alloc: Global,
+    asmap: &Sane<'_>,
+    addr: &NetAddr,
+) -> Result<Vec<u8>, AllocError>
     ensures { IfOk result (λ text. text.items ≡ lookup_text (asmap_of asmap.now) addr.now) }
 {
     line_of(alloc, asmap, addr)

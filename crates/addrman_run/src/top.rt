@@ -13,8 +13,10 @@ use crate::compile::compile_table;
 use crate::decompile::Decompile;
 use crate::file_line::write_file_line;
 use crate::generate::generate;
+use crate::help::{help, version};
 use crate::limit::limit;
 use crate::lookup::Lookup;
+use crate::lookup_lines::lookup_lines;
 use crate::opener::opener;
 use crate::replay::replay;
 use crate::show::Show;
@@ -32,12 +34,13 @@ use std::hash::BuildHasher;
 /// a log whose lines open, test and close outbound connections in place of saving, and changes no
 /// file. `compile` compiles the folder's prefixes.txt into asmap.dat, `check` checks asmap.dat,
 /// `decompile` writes the table of prefixes that it encodes, and `lookup PEER` writes the AS number
-/// and the group that it gives the peer's address. `limit` carries out the lines of the log under
+/// and the group that it gives the peer's address, `lookup -` those of each peer of the log. `limit` carries out the lines of the log under
 /// the limit on received addresses, and writes the log that is left. `show --net CHAIN` lists what
 /// peers.dat has. `ban SUBNET NOW UNTIL` and `unban SUBNET` change the list of bans in
 /// banlist.json, and `banned PEER NOW` writes which ban covers the peer's address. `gen START LINES`
 /// writes a generated log, and `trial START LINES` carries it out from empty tables and writes one
-/// line about the replies.
+/// line about the replies. `help COMMAND` writes the page of a command, and `help` the list of all;
+/// `version` writes the version and the toolchain.
 pub fn run<L: Source, F: Folder, K: Sink, H: BuildHasher + Drop>(
     alloc: Global,
     hasher: H,
@@ -85,6 +88,7 @@ fn carry_out<L: Source, F: Folder, K: Sink, H: BuildHasher + Drop>(
         Request::Decompile => write_file_line(alloc, &Decompile, folder, out),
         Request::Limit => limit(alloc, log, out),
         Request::Lookup { peer } => write_file_line(alloc, &Lookup { peer }, folder, out),
+        Request::LookupLines => lookup_lines(alloc, log, folder, out),
         Request::Show { chain } => write_file_line(alloc, &Show { chain }, folder, out),
         Request::Ban { subnet, now, until } => {
             change_bans(alloc, &BanSubnet { subnet, now, until }, folder, out)
@@ -93,5 +97,7 @@ fn carry_out<L: Source, F: Folder, K: Sink, H: BuildHasher + Drop>(
         Request::Banned { peer, now } => change_bans(alloc, &FindBan { peer, now }, folder, out),
         Request::Gen { start, lines } => generate(alloc, start, lines, out),
         Request::Trial { start, lines } => trial(alloc, hasher, start, lines, out),
+        Request::Help { command } => help(alloc, command, out),
+        Request::Version => version(out),
     }
 }

@@ -5,7 +5,8 @@ ghost use Rattle.gen_load.specs.declared.generated.TheConstants.{MAX_LENGTH, MAX
 ghost use Rattle.session.specs.Folders.{IsOpen};
 ghost use Rattle.addrman_run.specs.Inside.{HasReplies, Replied};
 ghost use Rattle.addrman_run.specs.Outcome.{IsCounted};
-ghost use Rattle.addrman_run.specs.Trial.{IsTrial, TrialText, trial_start};
+ghost use Rattle.addrman_run.specs.OneText.{OneText};
+ghost use Rattle.addrman_run.specs.Trial.{IsTrial, trial_start};
 
 use crate::output::write_line;
 use crate::trial_line::line_of;
@@ -142,7 +143,7 @@ pub(crate) fn trial<K: Sink, H: BuildHasher + Drop>(
     out: &mut K,
 ) -> Status
     requires { lines ≤ MAX_LINES }
-    ensures text { TrialText start lines (K.written out.old) (K.written out.new) result }
+    ensures text { OneText (IsTrial start lines) (K.written out.old) (K.written out.new) result }
     ensures write { IsCounted Status.WriteFault (K.faults out.old) (K.faults out.new) result }
     ensures no_disk { result ≢ Status.DiskFault }
 {

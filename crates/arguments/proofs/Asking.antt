@@ -1,31 +1,54 @@
 -- Arguments ask for one request at most.
-use Rattle.std.proofs.Common.{◌≡◌, ◌≢◌, ◌≤◌, ◌<◌, ℕ, Bool, true, false, cond, List, [], ◌∷◌, drop, get_or, decimal, find, Option, Some, None, refl, sym, ap, subst, ◌∙◌, arith}
-use Rattle.std.specs.Prelude.{IfSome, IfNone, bytes_eq, unwrap_or}
+use Rattle.std.proofs.Common.{◌≡◌, ◌≢◌, ◌≤◌, ◌<◌, ℕ, Bool, true, List, [], ◌∷◌, ◌++◌, codes, length, drop, get_or, decimal, find, Option, Some, None, refl, sym, ap, subst, inl, inr, ◌∙◌, arith}
+use Rattle.std.specs.Prelude.{◌⊎◌, ◌↔◌, IfSome, IfNone, IsTrue, false, bytes_eq, unwrap_or}
 use Rattle.std.proofs.lemmas.Fmt.{decimal_injective}
+use Rattle.std.proofs.lemmas.Bool.{iff_false}
 use Rattle.std.proofs.lemmas.Option.{none-some}
-use Rattle.std.proofs.lemmas.Slice.Eq.{bytes_eq-Decides}
 use Rattle.ban_list.proofs.Forms.{one_subnet}
 use Rattle.ban_list.specs.Subnet.{IsProper}
 use Rattle.ban_list.specs.SubnetText.{IsSubnetText}
 use Rattle.ban_list.specs.declared.subnet.Subnet.{Subnet}
 use Rattle.ban_list.specs.BanFile.{max_time}
 use Rattle.gen_load.specs.declared.generated.TheConstants.{MAX_LINES}
-use Rattle.grammar.specs.Fields.{AllMean, AreAtFault, Kind, Number, TheNumber, ThePeer, Value, u64_field}
+use Rattle.grammar.specs.Fields.{AllMean, AreAtFault, Kind, Number, OfPeer, TheNumber, ThePeer, Value, u64_field}
 use Rattle.grammar.specs.Table.{all_definite}
 use Rattle.grammar.specs.declared.fault.LineFault.{LineFault}
 use Rattle.grammar.specs.declared.fault.LineFault.TheVariants as fault
 use Rattle.grammar.proofs.TableLemmas.{no_fault_after, one_list}
+use Rattle.net_addr.specs.Text.{IsPeerText}
+use Rattle.net_addr.specs.declared.peer.Peer.{Peer}
 use Rattle.peers_file.specs.declared.chain.Chain.{Chain}
 use Rattle.arguments.specs.Options.{IsNet, IsOpeningOptions}
-use Rattle.arguments.specs.Table.{Asks, Fields, Form, HasNoValues, IsProperRequest, Network, OfSubnet, Opening, Period, Reads, TheChain, TheFields, TheOpening, ThePeriod, TheSubnet, Values, form_of, name_of, values_of, word_of}
+use Rattle.arguments.specs.Table.{Asks, Fields, Form, HasNoValues, IsProperRequest, Network, OfCommand, OfSubnet, Opening, PeerOrLines, Period, Reads, TheChain, TheCommand, TheFields, TheOpening, ThePeriod, TheSubnet, Values, form_of, name_of, plain_word, values_of, word_of}
 use Rattle.arguments.specs.declared.name.CommandName.{CommandName}
 use Rattle.arguments.specs.declared.name.CommandName.TheVariants as name
 use Rattle.arguments.specs.declared.name.TheConstants.{NAMES}
 use Rattle.arguments.specs.declared.request.Request.{Request}
-use Rattle.arguments.specs.declared.request.Request.TheVariants.{Replay, Opener, Compile, Check, Decompile, Limit, Lookup, Show, Ban, Unban, Banned, Gen, Trial}
+use Rattle.arguments.specs.declared.request.Request.TheVariants.{Replay, Opener, Compile, Check, Decompile, Limit, Lookup, LookupLines, Show, Ban, Unban, Banned, Gen, Trial, Help, Version}
 use Rattle.arguments.proofs.Choosing.{one_net, one_opening}
+use Rattle.arguments.proofs.Names.{name_found, one_command}
 
 -- THE VALUES
+
+-- `-` is no peer
+no_dash : (text : List ℕ) (p : Peer) → text ≡ codes "-" → IsPeerText text p → ⊥
+no_dash text p is spells = by spells.addr (sym is ∙ spells.spelled)
+  where
+    by : (front : List ℕ) → codes "-" ≡ front ++ codes ":" ++ decimal p.port → ⊥
+    by [] same = omega (arith, ap (λ t. get_or t 0 0) same)
+    by (b ∷ []) same = omega (arith, ap (λ t. get_or t 1 0) same)
+    by (b ∷ c ∷ front) same = omega (arith, ap length same)
+
+dash_or_peer : (texts : List (List ℕ)) (p : Peer) → texts ≡ codes "-" ∷ [] → AllMean (OfPeer ∷ []) texts (ThePeer p ∷ []) → ⊥
+dash_or_peer texts p is all =
+    let means = subst (λ ts. AllMean (OfPeer ∷ []) ts (ThePeer p ∷ [])) is all in
+    no_dash (codes "-") means.0.0 refl means.0.2
+
+one_lookup : (texts : List (List ℕ)) (v w : Values) → Reads PeerOrLines texts v → Reads PeerOrLines texts w → v ≡ w
+one_lookup texts v w (inl h) (inl k) = h.0 ∙ sym k.0
+one_lookup texts v w (inl h) (inr k) = absurd (dash_or_peer texts k.0 h.1 k.2)
+one_lookup texts v w (inr h) (inl k) = absurd (dash_or_peer texts h.0 k.1 h.2)
+one_lookup texts v w (inr h) (inr k) = h.1 ∙ ap TheFields (one_list (OfPeer ∷ []) texts (ThePeer h.0 ∷ []) (ThePeer k.0 ∷ []) refl h.2 k.2) ∙ sym k.1
 
 -- the fields of the form are definite, as a test
 abbrev definite_form : Form → Bool
@@ -50,30 +73,12 @@ one_values OfSubnet texts v w is h k =
     let same = ap (λ ts. get_or ts 0 []) (sym h.3 ∙ k.3) in
     h.2 ∙ ap TheSubnet (one_subnet k.0 h.1 k.1 (subst (λ t. IsSubnetText t h.1) same h.4) k.4) ∙ sym k.2
 one_values Period texts v w is h k = one_period texts v w h k
+one_values PeerOrLines texts v w is h k = one_lookup texts v w h k
+one_values OfCommand texts v w is h k = h.1 ∙ ap TheCommand (one_command texts h.0 k.0 h.2 k.2) ∙ sym k.1
 
 definite_name : (n : CommandName) → definite_form (form_of n) ≡ true
 definite_name name.Replay = refl
 definite_name other = refl
-
--- THE NAME
-
-found_name : (n : CommandName) → find (λ k. bytes_eq (word_of k) (word_of n)) NAMES ≡ Some n
-found_name name.Replay = refl
-found_name other = refl
-
-passes : {X : Type 0} (p : X → Bool) (xs : List X) (x : X) → find p xs ≡ Some x → p x ≡ true
-passes p [] x is = absurd (cc)
-passes {X} p (y ∷ ys) x is = by (p y) refl (passes p ys x) is
-  where
-    by : (b : Bool) → p y ≡ b → (find p ys ≡ Some x → p x ≡ true) → cond b (Some y) (find p ys) ≡ Some x → p x ≡ true
-    by true e more same = subst (λ z. p z ≡ true) (ap (λ o. unwrap_or o y) same) e
-    by false e more same = more same
-
-pub word_found : (word : List ℕ) (found : Option CommandName) (n : CommandName) → found ≡ find (λ k. bytes_eq (word_of k) word) NAMES → found ≡ Some n → word ≡ word_of n
-word_found word found n searched some = sym ((bytes_eq-Decides (word_of n) word).0 (passes (λ k. bytes_eq (word_of k) word) NAMES n (sym searched ∙ some)))
-
-pub name_found : (word : List ℕ) (n : CommandName) → word ≡ word_of n → find (λ k. bytes_eq (word_of k) word) NAMES ≡ Some n
-name_found word n is = subst (λ w. find (λ k. bytes_eq (word_of k) w) NAMES ≡ Some n) (sym is) (found_name n)
 
 -- THE REQUEST
 
@@ -84,12 +89,15 @@ request_by name.Check values = Check
 request_by name.Decompile values = Decompile
 request_by name.Limit values = Limit
 request_by name.Lookup (TheFields (ThePeer peer ∷ [])) = Lookup peer
+request_by name.Lookup (TheFields []) = LookupLines
 request_by name.Show (TheChain chain) = Show chain
 request_by name.Ban (ThePeriod subnet now until) = Ban subnet now until
 request_by name.Unban (TheSubnet subnet) = Unban subnet
 request_by name.Banned (TheFields (ThePeer peer ∷ TheNumber now ∷ [])) = Banned peer now
 request_by name.Gen (TheFields (TheNumber start ∷ TheNumber lines ∷ [])) = Gen start lines
 request_by name.Trial (TheFields (TheNumber start ∷ TheNumber lines ∷ [])) = Trial start lines
+request_by name.Help (TheCommand command) = Help command
+request_by name.Version values = Version
 request_by other values = Compile
 
 request_back : (r : Request) → request_by (name_of r) (values_of r) ≡ r
@@ -108,16 +116,18 @@ one_request a b texts names h k =
 abbrev pub IsAfter : CommandName → List (List ℕ) → Request → Type 0
 IsAfter n texts request = (name_of request ≡ n) × Reads (form_of n) texts (values_of request)
 
-pub found_asks : (words texts : List (List ℕ)) (word : List ℕ) (n : CommandName) (r : Option Request) → words ≡ word ∷ texts → word ≡ word_of n → IfSome r (IsAfter n texts) → IfSome r (Asks words)
-found_asks words texts word n None is named found = tt
-found_asks words texts word n (Some request) is named found = (
+pub found_asks : (words texts : List (List ℕ)) (word plain : List ℕ) (n : CommandName) (r : Option Request) → words ≡ word ∷ texts → plain ≡ plain_word word → plain ≡ word_of n → IfSome r (IsAfter n texts) → IfSome r (Asks words)
+found_asks words texts word plain n None is of_word named found = tt
+found_asks words texts word plain n (Some request) is of_word named found = (
+  word,
   texts,
-  is ∙ ap (λ w. w ∷ texts) (named ∙ ap word_of (sym found.0)),
+  is,
+  sym of_word ∙ named ∙ ap word_of (sym found.0),
   subst (λ m. Reads (form_of m) texts (values_of request)) (sym found.0) found.1,
 )
 
-head_of : (words texts : List (List ℕ)) (word : List ℕ) (request : Request) → words ≡ word ∷ texts → (asks : Asks words request) → word ≡ word_of (name_of request)
-head_of words texts word request is asks = ap (λ ws. get_or ws 0 []) (sym is ∙ asks.1)
+head_of : (words texts : List (List ℕ)) (word : List ℕ) (request : Request) → words ≡ word ∷ texts → (asks : Asks words request) → plain_word word ≡ word_of (name_of request)
+head_of words texts word request is asks = ap plain_word (ap (λ ws. get_or ws 0 []) (sym is ∙ asks.2)) ∙ asks.3
 
 only_after : (n : CommandName) (texts : List (List ℕ)) (r : Option Request) → IfSome r (IsAfter n texts) → IfNone r (HasNoValues (form_of n) texts) →
     (request : Request) → n ≡ name_of request → Reads (form_of (name_of request)) texts (values_of request) → r ≡ Some request
@@ -126,14 +136,20 @@ only_after n texts None found none request is reads = absurd (none (values_of re
 only_after n texts (Some read) found none request is reads =
     ap Some (one_request read request texts (found.0 ∙ is) (subst (λ m. Reads (form_of m) texts (values_of read)) (sym found.0) found.1) reads)
 
-pub only_asked : (words texts : List (List ℕ)) (word : List ℕ) (found : Option CommandName) (n : CommandName) (r : Option Request) → words ≡ word ∷ texts →
-    found ≡ find (λ k. bytes_eq (word_of k) word) NAMES → found ≡ Some n → IfSome r (IsAfter n texts) → IfNone r (HasNoValues (form_of n) texts) →
+pub only_asked : (words texts : List (List ℕ)) (word plain : List ℕ) (found : Option CommandName) (n : CommandName) (r : Option Request) → words ≡ word ∷ texts → plain ≡ plain_word word →
+    found ≡ find (λ k. bytes_eq (word_of k) plain) NAMES → found ≡ Some n → IfSome r (IsAfter n texts) → IfNone r (HasNoValues (form_of n) texts) →
     (request : Request) → Asks words request → r ≡ Some request
-only_asked words texts word found n r is searched some reads none request asks =
-    let same : Some n ≡ Some (name_of request) = sym some ∙ searched ∙ name_found word (name_of request) (head_of words texts word request is asks) in
+only_asked words texts word plain found n r is of_word searched some reads none request asks =
+    let same : Some n ≡ Some (name_of request) = sym some ∙ searched ∙ name_found plain (name_of request) (of_word ∙ head_of words texts word request is asks) in
     let names = ap (λ o. unwrap_or o n) same in
-    let rest = ap (drop 1) (sym asks.1 ∙ is) in
-    only_after n texts r reads none request names (subst (λ ts. Reads (form_of (name_of request)) ts (values_of request)) rest asks.2)
+    let rest = ap (drop 1) (sym asks.2 ∙ is) in
+    only_after n texts r reads none request names (subst (λ ts. Reads (form_of (name_of request)) ts (values_of request)) rest asks.4)
+
+-- a word that is no name asks for nothing
+pub none_asked : (words texts : List (List ℕ)) (word plain : List ℕ) (found : Option CommandName) → words ≡ word ∷ texts → plain ≡ plain_word word →
+    found ≡ find (λ k. bytes_eq (word_of k) plain) NAMES → found ≡ None → (request : Request) → Asks words request → ⊥
+none_asked words texts word plain found is of_word searched none request asks =
+    none-some (name_of request) (sym none ∙ searched ∙ name_found plain (name_of request) (of_word ∙ head_of words texts word request is asks))
 
 -- WHAT A REQUEST PROMISES
 
@@ -182,7 +198,7 @@ module _ (law : (text : List ℕ) (s : Subnet) → IsSubnetText text s → IsPro
 
   pub proper_asked : (words : List (List ℕ)) (r : Option Request) → IfSome r (Asks words) → IfSome r IsProperRequest
   proper_asked words None asks = tt
-  proper_asked words (Some request) asks = proper request asks.0 asks.2
+  proper_asked words (Some request) asks = proper request asks.1 asks.4
 
 -- FIELDS
 
@@ -192,6 +208,11 @@ unfolding HasNoValues
 no_fields kinds texts f never why v reads = no_fault_after (Some kinds) texts reads.0 f reads.2 (why never)
 
 -- OTHER FORMS
+
+pub no_lookup : (texts : List (List ℕ)) (is_dash : Bool) → (IsTrue is_dash ↔ (texts ≡ codes "-" ∷ [])) → is_dash ≡ false → HasNoValues (Fields (OfPeer ∷ [])) texts → HasNoValues PeerOrLines texts
+unfolding HasNoValues
+no_lookup texts is_dash iff not_it none v (inl dash) = iff_false iff not_it dash.1
+no_lookup texts is_dash iff not_it none v (inr peer) = none v (ThePeer peer.0 ∷ [], peer.1, peer.2)
 
 pub no_subnet : (texts : List (List ℕ)) (word : List ℕ) (r : Option Subnet) → texts ≡ word ∷ [] → ((s : Subnet) → IsSubnetText word s → r ≡ Some s) → IfNone r (HasNoValues OfSubnet texts)
 unfolding HasNoValues

@@ -1,28 +1,65 @@
 -- The table of the commands, and what arguments ask for.
-use Rattle.std.specs.Prelude.{◌≡◌, ◌<◌, ◌≤◌, ℕ, List, [], ◌∷◌, Option, codes, decimal, ⊤}
+use Rattle.std.specs.Prelude.{◌≡◌, ◌⊎◌, ◌<◌, ◌≤◌, ℕ, List, [], ◌∷◌, Option, Some, None, codes, decimal, bytes_eq, if◌then◌else◌, ⊤}
 use Rattle.ban_list.specs.BanFile.{max_time}
 use Rattle.ban_list.specs.Subnet.{IsProper}
 use Rattle.ban_list.specs.SubnetText.{IsSubnetText}
 use Rattle.ban_list.specs.declared.subnet.Subnet.{Subnet}
 use Rattle.gen_load.specs.declared.generated.TheConstants.{MAX_LINES}
 use Rattle.grammar.specs.Fields.{AllMean, Kind, Number, OfPeer, Value, TheNumber, ThePeer, u64_field}
+use Rattle.net_addr.specs.declared.peer.Peer.{Peer}
 use Rattle.peers_file.specs.declared.chain.Chain.{Chain}
 use Rattle.arguments.specs.Options.{IsNet, IsOpeningOptions}
 use Rattle.arguments.specs.declared.name.CommandName.{CommandName}
 use Rattle.arguments.specs.declared.name.CommandName.TheVariants as name
 use Rattle.arguments.specs.declared.request.Request.{Request}
-use Rattle.arguments.specs.declared.request.Request.TheVariants.{Replay, Opener, Compile, Check, Decompile, Limit, Lookup, Show, Ban, Unban, Banned, Gen, Trial}
+use Rattle.arguments.specs.declared.request.Request.TheVariants.{Replay, Opener, Compile, Check, Decompile, Limit, Lookup, LookupLines, Show, Ban, Unban, Banned, Gen, Trial, Help, Version}
+
+-- THE NAME
+
+-- the name of a command
+abbrev pub word_of : CommandName → List ℕ
+word_of name.Replay = codes "replay"
+word_of name.Opener = codes "opener"
+word_of name.Limit = codes "limit"
+word_of name.Show = codes "show"
+word_of name.Compile = codes "compile"
+word_of name.Decompile = codes "decompile"
+word_of name.Check = codes "check"
+word_of name.Lookup = codes "lookup"
+word_of name.Ban = codes "ban"
+word_of name.Unban = codes "unban"
+word_of name.Banned = codes "banned"
+word_of name.Gen = codes "gen"
+word_of name.Trial = codes "trial"
+word_of name.Help = codes "help"
+word_of name.Version = codes "version"
+
+-- the name of the command that an option in its place asks for; any other word is itself
+unfoldable pub plain_word : List ℕ → List ℕ
+plain_word word =
+    if bytes_eq word (codes "--help") then codes "help"
+    else if bytes_eq word (codes "-h") then codes "help"
+    else if bytes_eq word (codes "--version") then codes "version"
+    else word
 
 -- THE ARGUMENTS AFTER A NAME
 
+-- the texts are the name of a command, or there are none
+abbrev pub NameCommand : List (List ℕ) → Option CommandName → Type 0
+NameCommand texts None = texts ≡ []
+NameCommand texts (Some name) = texts ≡ word_of name ∷ []
+
 -- What comes after the name of a command: fields of these kinds; the options `--key` and `--net`;
--- `--net` alone; a subnet; or a subnet and two times, of which the first is the earlier one.
+-- `--net` alone; a subnet; a subnet and two times, of which the first is the earlier one; the name of
+-- a command or nothing; or a peer or `-`.
 pub data Form : Type 0 where
   Fields : List Kind → Form
   Opening : Form
   Network : Form
   OfSubnet : Form
   Period : Form
+  OfCommand : Form
+  PeerOrLines : Form
 
 -- the values of the arguments after a name
 pub data Values : Type 0 where
@@ -31,6 +68,7 @@ pub data Values : Type 0 where
   TheChain : Chain → Values
   TheSubnet : Subnet → Values
   ThePeriod : Subnet → ℕ → ℕ → Values
+  TheCommand : Option CommandName → Values
 
 -- the arguments after a name are of the form and have these values
 abbrev pub Reads : Form → List (List ℕ) → Values → Type 0
@@ -43,6 +81,10 @@ Reads OfSubnet texts v =
 Reads Period texts v =
     (text : List ℕ) × (subnet : Subnet) × (now : ℕ) × (until : ℕ) × (v ≡ ThePeriod subnet now until)
     × (texts ≡ text ∷ decimal now ∷ decimal until ∷ []) × IsSubnetText text subnet × (now < until) × (until ≤ max_time)
+Reads PeerOrLines texts v =
+    ((v ≡ TheFields []) × (texts ≡ codes "-" ∷ []))
+    ⊎ ((peer : Peer) × (v ≡ TheFields (ThePeer peer ∷ [])) × AllMean (OfPeer ∷ []) texts (ThePeer peer ∷ []))
+Reads OfCommand texts v = (command : Option CommandName) × (v ≡ TheCommand command) × NameCommand texts command
 
 -- the arguments after a name are not of the form
 unfoldable pub HasNoValues : Form → List (List ℕ) → Type 0
@@ -50,31 +92,17 @@ HasNoValues form texts = (values : Values) → ¬ Reads form texts values
 
 -- THE TABLE
 
-abbrev pub word_of : CommandName → List ℕ
-word_of name.Replay = codes "replay"
-word_of name.Opener = codes "opener"
-word_of name.Compile = codes "compile"
-word_of name.Check = codes "check"
-word_of name.Decompile = codes "decompile"
-word_of name.Limit = codes "limit"
-word_of name.Lookup = codes "lookup"
-word_of name.Show = codes "show"
-word_of name.Ban = codes "ban"
-word_of name.Unban = codes "unban"
-word_of name.Banned = codes "banned"
-word_of name.Gen = codes "gen"
-word_of name.Trial = codes "trial"
-
 abbrev pub form_of : CommandName → Form
 form_of name.Replay = Opening
 form_of name.Opener = Opening
-form_of name.Lookup = Fields (OfPeer ∷ [])
+form_of name.Lookup = PeerOrLines
 form_of name.Show = Network
 form_of name.Ban = Period
 form_of name.Unban = OfSubnet
 form_of name.Banned = Fields (OfPeer ∷ Number 0 max_time ∷ [])
 form_of name.Gen = Fields (u64_field ∷ Number 1 MAX_LINES ∷ [])
 form_of name.Trial = Fields (u64_field ∷ Number 1 MAX_LINES ∷ [])
+form_of name.Help = OfCommand
 form_of other = Fields []
 
 -- the name of a request's command
@@ -86,12 +114,15 @@ name_of Check = name.Check
 name_of Decompile = name.Decompile
 name_of Limit = name.Limit
 name_of (Lookup peer) = name.Lookup
+name_of LookupLines = name.Lookup
 name_of (Show chain) = name.Show
 name_of (Ban subnet now until) = name.Ban
 name_of (Unban subnet) = name.Unban
 name_of (Banned peer now) = name.Banned
 name_of (Gen start lines) = name.Gen
 name_of (Trial start lines) = name.Trial
+name_of (Help command) = name.Help
+name_of Version = name.Version
 
 -- the values of its arguments
 abbrev pub values_of : Request → Values
@@ -104,12 +135,14 @@ values_of (Unban subnet) = TheSubnet subnet
 values_of (Banned peer now) = TheFields (ThePeer peer ∷ TheNumber now ∷ [])
 values_of (Gen start lines) = TheFields (TheNumber start ∷ TheNumber lines ∷ [])
 values_of (Trial start lines) = TheFields (TheNumber start ∷ TheNumber lines ∷ [])
+values_of (Help command) = TheCommand command
 values_of other = TheFields []
 
 -- the arguments ask for this
 abbrev pub Asks : List (List ℕ) → Request → Type 0
 Asks words request =
-    (texts : List (List ℕ)) × (words ≡ word_of (name_of request) ∷ texts)
+    (word : List ℕ) × (texts : List (List ℕ)) × (words ≡ word ∷ texts)
+    × (plain_word word ≡ word_of (name_of request))
     × Reads (form_of (name_of request)) texts (values_of request)
 
 -- WHAT A REQUEST PROMISES

@@ -1,18 +1,24 @@
-//! The arguments of the command line: a table of the commands, and the reader of what they ask for.
+//! The arguments of the command line: a table of the commands, the reader of what
+//! they ask for, and the help.
 //!
 //! Contracts see arguments as lists of bytes. `Asks` says which of them ask for which `Request`:
 //! the name of a command, and after it arguments of its form with the values of the request.
 //!
 //! Proved: `read_request` gives a request exactly if the arguments ask for it (`found`, `only`),
-//! and a subnet that it has is proper (`proper`).
+//! a subnet that it has is proper (`proper`), and `help_text`
+//! returns the text that the definition puts together of the texts in `pages.rt`.
 #![tactic(auto)]
 
 mod bans;
+mod commands;
+mod help;
 mod name;
 mod options;
+mod pages;
 mod read;
 mod request;
 
+pub use help::help_text;
 pub use name::CommandName;
 pub use read::read_request;
 pub use request::Request;

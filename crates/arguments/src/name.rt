@@ -1,40 +1,48 @@
+ghost use Rattle.std.specs.Prelude.{◌≡◌};
+ghost use Rattle.arguments.specs.Help.{page_of};
 ghost use Rattle.arguments.specs.Table.{word_of};
 
+use crate::pages;
+use crate::pages::Page;
 use grammar::Keyword;
 
 /// The name of a command, which is the first argument.
-#[derive(Clone, Copy)]
+#[derive(Clone, Copy, Debug)]
 pub enum CommandName {
     Replay,
     Opener,
-    Compile,
-    Check,
-    Decompile,
     Limit,
-    Lookup,
     Show,
+    Compile,
+    Decompile,
+    Check,
+    Lookup,
     Ban,
     Unban,
     Banned,
     Gen,
     Trial,
+    Help,
+    Version,
 }
 
-/// All names, each once.
-pub const NAMES: [CommandName; 13] = [
+/// All names, each once, in the order in which the help lists them.
+pub const NAMES: [CommandName; 15] = [
     CommandName::Replay,
     CommandName::Opener,
-    CommandName::Compile,
-    CommandName::Check,
-    CommandName::Decompile,
     CommandName::Limit,
-    CommandName::Lookup,
     CommandName::Show,
+    CommandName::Compile,
+    CommandName::Decompile,
+    CommandName::Check,
+    CommandName::Lookup,
     CommandName::Ban,
     CommandName::Unban,
     CommandName::Banned,
     CommandName::Gen,
     CommandName::Trial,
+    CommandName::Help,
+    CommandName::Version,
 ];
 
 impl Keyword for CommandName {
@@ -44,17 +52,46 @@ impl Keyword for CommandName {
         match self {
             CommandName::Replay => b"replay",
             CommandName::Opener => b"opener",
-            CommandName::Compile => b"compile",
-            CommandName::Check => b"check",
-            CommandName::Decompile => b"decompile",
             CommandName::Limit => b"limit",
-            CommandName::Lookup => b"lookup",
             CommandName::Show => b"show",
+            CommandName::Compile => b"compile",
+            CommandName::Decompile => b"decompile",
+            CommandName::Check => b"check",
+            CommandName::Lookup => b"lookup",
             CommandName::Ban => b"ban",
             CommandName::Unban => b"unban",
             CommandName::Banned => b"banned",
             CommandName::Gen => b"gen",
             CommandName::Trial => b"trial",
+            CommandName::Help => b"help",
+            CommandName::Version => b"version",
+        }
+    }
+}
+
+impl CommandName {
+    /// Returns the texts of its help.
+    pub(crate) fn page(self) -> Page
+        ensures form { result.0.now ≡ (page_of self).form }
+        ensures sentence { result.1.now ≡ (page_of self).sentence }
+        ensures details { result.2.now ≡ (page_of self).details }
+    {
+        match self {
+            CommandName::Replay => pages::REPLAY,
+            CommandName::Opener => pages::OPENER,
+            CommandName::Limit => pages::LIMIT,
+            CommandName::Show => pages::SHOW,
+            CommandName::Compile => pages::COMPILE,
+            CommandName::Decompile => pages::DECOMPILE,
+            CommandName::Check => pages::CHECK,
+            CommandName::Lookup => pages::LOOKUP,
+            CommandName::Ban => pages::BAN,
+            CommandName::Unban => pages::UNBAN,
+            CommandName::Banned => pages::BANNED,
+            CommandName::Gen => pages::GEN,
+            CommandName::Trial => pages::TRIAL,
+            CommandName::Help => pages::HELP,
+            CommandName::Version => pages::VERSION,
         }
     }
 }

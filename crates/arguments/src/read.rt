@@ -1,11 +1,13 @@
-ghost use Rattle.std.specs.Prelude.{◌≡◌, [], map, string_bytes, Some, IfSome, IfNone};
-ghost use Rattle.arguments.specs.Table.{Asks, Fields, HasNoValues, IsProperRequest, Reads, TheFields, form_of, name_of, values_of};
+ghost use Rattle.std.specs.Prelude.{◌≡◌, ◌↔◌, [], ◌∷◌, codes, map, string_bytes, Some, IfSome, IfNone, IsTrue};
+ghost use Rattle.arguments.specs.Table.{Asks, Fields, HasNoValues, IsProperRequest, PeerOrLines, Reads, TheFields, form_of, name_of, values_of};
+ghost use Rattle.arguments.specs.declared.name.CommandName.TheVariants as name;
 ghost use Rattle.arguments.specs.declared.request.Request.{Request};
 
 use crate::Request;
 use crate::bans::{read_period, read_subnet};
+use crate::commands::{plain_word, read_command};
 use crate::name::{CommandName, NAMES};
-use crate::options::{first_word, read_net, read_opening};
+use crate::options::{first_word, only_word, read_net, read_opening};
 use ban_list::texts_have_one_meaning;
 use gen_load::MAX_LINES;
 use grammar::{Between, Fields, LongBetween, OnePeer, find_keyword, read_fields};
@@ -38,7 +40,8 @@ fn request_of(alloc: Global, words: &[String]) -> Option<Request>
         result ≡ Some request }
 {
     let (word, rest) = first_word(words)?;
-    let name = find_keyword(&NAMES, word)?;
+    let plain = plain_word(word);
+    let name = find_keyword(&NAMES, plain)?;
     read_after(alloc, name, rest)
 }
 
@@ -65,12 +68,7 @@ fn read_after(alloc: Global, name: CommandName, rest: &[String]) -> Option<Reque
         CommandName::Check => only_name(rest, Request::Check),
         CommandName::Decompile => only_name(rest, Request::Decompile),
         CommandName::Limit => only_name(rest, Request::Limit),
-        CommandName::Lookup => {
-            let Some((peer, ())) = read_values::<(OnePeer, ())>(alloc, rest) else {
-                return None;
-            };
-            Some(Request::Lookup { peer })
-        }
+        CommandName::Lookup => read_lookup(alloc, rest),
         CommandName::Show => {
             let Some(chain) = read_net(rest) else {
                 return None;
@@ -107,6 +105,39 @@ fn read_after(alloc: Global, name: CommandName, rest: &[String]) -> Option<Reque
             };
             Some(Request::Trial { start, lines })
         }
+        CommandName::Help => {
+            let Some(command) = read_command(rest) else {
+                return None;
+            };
+            Some(Request::Help { command })
+        }
+        CommandName::Version => only_name(rest, Request::Version),
+    }
+}
+
+/// Reads the argument after `lookup`, a peer or `-`.
+#[tactic(auto, unfolding(crate::specs::Table::HasNoValues))]
+fn read_lookup(alloc: Global, rest: &[String]) -> Option<Request>
+    ensures found { IfSome result (λ request. (name_of request ≡ name.Lookup)
+        × Reads PeerOrLines (map string_bytes rest.now) (values_of request)) }
+    ensures none { IfNone result (HasNoValues PeerOrLines (map string_bytes rest.now)) }
+{
+    if is_dash(rest) {
+        return Some(Request::LookupLines);
+    }
+    match read_values::<(OnePeer, ())>(alloc, rest) {
+        Some((peer, ())) => Some(Request::Lookup { peer }),
+        None => None,
+    }
+}
+
+/// Returns `true` if the only argument is `-`.
+fn is_dash(rest: &[String]) -> bool
+    ensures { IsTrue result ↔ (map string_bytes rest.now ≡ codes "-" ∷ []) }
+{
+    match only_word(rest) {
+        Some(word) => word == b"-".as_slice(),
+        None => false,
     }
 }
 

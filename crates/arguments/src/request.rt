@@ -1,3 +1,4 @@
+use crate::CommandName;
 use ban_list::Subnet;
 use net_addr::Peer;
 use peers_file::Chain;
@@ -30,6 +31,8 @@ pub enum Request {
     Lookup {
         peer: Peer,
     },
+    /// `lookup -`: say the same of the peer of each line of the log.
+    LookupLines,
     /// `show --net CHAIN`: list what peers.dat has, a file of this chain; of main without `--net`.
     Show {
         chain: Chain,
@@ -61,4 +64,10 @@ pub enum Request {
         start: u64,
         lines: u32,
     },
+    /// `help COMMAND`: write the page of a command, or without one the list of all.
+    Help {
+        command: Option<CommandName>,
+    },
+    /// `version`: write the version, and the toolchain that proved it.
+    Version,
 }

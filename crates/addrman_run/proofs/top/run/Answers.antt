@@ -1,6 +1,7 @@
-use Rattle.std.proofs.Common.{refl, rules, subst}
+use Rattle.std.proofs.Common.{refl, rules, subst, sym}
 use Rattle.host_io.specs.Outside.{outside}
 use Rattle.addrman_run.specs.Outcome.{Ends}
+use Rattle.addrman_run.specs.Untouched.{AsksNoFolder, ReadsNoLog}
 use Rattle.addrman_run.proofs.Asked.{asks_something, not_read, same_request}
 use Rattle.addrman_run.proofs.Completing.{complete}
 use Rattle.addrman_run.proofs.top.run.Goals as goal
@@ -29,8 +30,12 @@ returns-clause-arguments g c = asks_something _ _ c.in-Some.request c.carry_out.
 pub returns-clause-untouched : goal.returns-clause-untouched
 returns-clause-untouched g c = record {
   usage = λ is. absurd (c.carry_out.ensures.asked is);
-  log = λ request asks none. c.carry_out.ensures.no_log (search rules);
-  folder = λ request asks none. c.carry_out.ensures.no_folder (search rules);
+  log = λ request asks none.
+      let same = same_request c.read_request.result c.in-Some.request request c.in-Some.is (c.read_request.ensures.only request asks) in
+      c.carry_out.ensures.no_log (subst ReadsNoLog (sym same) none);
+  folder = λ request asks none.
+      let same = same_request c.read_request.result c.in-Some.request request c.in-Some.is (c.read_request.ensures.only request asks) in
+      c.carry_out.ensures.no_folder (subst AsksNoFolder (sym same) none);
 }
 
 pub returns-clause-outcome : goal.returns-clause-outcome

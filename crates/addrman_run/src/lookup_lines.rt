@@ -1,0 +1,109 @@
+ghost use Rattle.std.specs.Prelude.{◌≡◌, ◌+◌, ◌++◌, OnOk};
+ghost use Rattle.host_io.specs.Outside.{outside};
+ghost use Rattle.host_io.specs.Reading.{TakesAtMost};
+ghost use Rattle.host_io.specs.declared.name.Name.TheVariants as name;
+ghost use Rattle.log_run.specs.declared.limits.TheConstants.{MAX_LOG};
+ghost use Rattle.placing.specs.Inside.{asmap_of};
+ghost use Rattle.addrman_run.specs.InFolder.{ReportsAbsence};
+ghost use Rattle.addrman_run.specs.Lookup.{lookup_text};
+ghost use Rattle.addrman_run.specs.LookupLines.{LookupLinesOutcome};
+ghost use Rattle.addrman_run.specs.Outcome.{IsCounted};
+
+use crate::Status;
+use crate::input::{Input, load_present};
+use crate::log_status::status_of;
+use crate::lookup::lookup_line;
+use asmap_vm::{Sane, check};
+use grammar::{OnePeer, read_fields};
+use host_io::{Folder, Sink, Source, is_passed_over};
+use log_run::{LineSteps, Stop, run_log};
+use net_addr::NetAddr;
+use std::alloc::{AllocError, Global};
+
+/// The asmap in which the peers of a log are looked up.
+#[derive(Drop)]
+struct LookupLines<'a> {
+    asmap: Sane<'a>,
+}
+
+/// Appends the line about an address under an asmap.
+fn put_lookup(
+    alloc: Global,
+    asmap: &Sane<'_>,
+    addr: &NetAddr,
+    out: &mut Vec<u8>,
+) -> Result<(), AllocError>
+    ensures { OnOk result (out.new.items
+        ≡ out.old.items ++ lookup_text (asmap_of asmap.now) addr.now) }
+{
+    let line = lookup_line(alloc, asmap, addr)?;
+    out.extend_from_slice(line.as_slice())
+}
+
+/// The lines of a log, a peer each. They change nothing.
+impl<'a> LineSteps<()> for LookupLines<'a> {
+    ghost use Rattle.std.specs.Prelude.{⊤};
+    ghost use Rattle.placing.specs.Inside.{asmap_of};
+    ghost use Rattle.addrman_run.specs.LookupLines.{HasFault, LookupStep};
+
+    ghost step = { λ old before line text new after.
+        LookupStep (asmap_of old.asmap) line text (asmap_of new.asmap) };
+
+    ghost stopped = { λ old before line after. ⊤ };
+
+    ghost has_fault = { HasFault };
+
+    ghost ready = { λ l world. ⊤ };
+
+    ghost has_room = { λ l n. ⊤ };
+
+    fn carry_out(
+        &mut self,
+        alloc: Global,
+        line: &[u8],
+        world: &mut (),
+        out: &mut Vec<u8>,
+    ) -> Result<(), Stop> {
+        if is_passed_over(line) {
+            return Ok(());
+        }
+        let peer = match read_fields::<Option<&[u8]>, (OnePeer, ())>(alloc, Some(line)) {
+            Ok((peer, ())) => peer,
+            Err(fault) => return Err(Stop::of(fault)),
+        };
+        match put_lookup(alloc, &self.asmap, &peer.addr, out) {
+            Ok(()) => Ok(()),
+            Err(_) => Err(Stop::Memory),
+        }
+    }
+}
+
+/// Looks up the peer of each line of the log in the folder's asmap, and writes the line about it.
+pub(crate) fn lookup_lines<L: Source, F: Folder, K: Sink>(
+    alloc: Global,
+    log: &mut L,
+    folder: &mut F,
+    out: &mut K,
+) -> Status
+    ensures outcome { LookupLinesOutcome
+        (outside L.Source F.Folder K.Sink log.old folder.old out.old)
+        (outside L.Source F.Folder K.Sink log.new folder.new out.new) result }
+    ensures absent { ReportsAbsence name.Asmap (F.past folder.old) result }
+    ensures taken { TakesAtMost (L.left log.old) (L.left log.new) (MAX_LOG + 1) }
+    ensures read { IsCounted Status.ReadFault (L.faults log.old) (L.faults log.new) result }
+    ensures write { IsCounted Status.WriteFault (K.faults out.old) (K.faults out.new) result }
+    ensures disk { IsCounted Status.DiskFault (F.faults folder.old) (F.faults folder.new) result }
+    ensures same { F.past folder.new ≡ F.past folder.old }
+{
+    let bytes = match load_present(alloc, Input::Asmap, folder) {
+        Ok(bytes) => bytes,
+        Err(status) => return status,
+    };
+    let asmap = match check(bytes.items()) {
+        Ok(asmap) => asmap,
+        Err(fault) => return Status::AsmapRefused(fault),
+    };
+    let mut lines = LookupLines { asmap };
+    let mut world = ();
+    status_of(run_log(alloc, log, &mut lines, &mut world, out))
+}

@@ -1,0 +1,201 @@
+/// The help of a command: its form, what it does, and the rest of its page.
+pub(crate) type Page = (&'static str, &'static str, &'static str);
+
+/// What the list of the commands begins with.
+pub(crate) const HEAD: &str = "usage: addrman COMMAND [ARGUMENTS]
+
+";
+
+/// What the list of the commands ends with.
+pub(crate) const TAIL: &str = "
+Files are in the current folder. Never run it in the folder of a running node: a save
+replaces peers.dat. `addrman help COMMAND` says more of a command.
+";
+
+pub(crate) const REPLAY: Page = (
+    "replay [--key HEX64] [--net CHAIN]",
+    "carries out the log on standard input, over the tables of peers.dat",
+    "\
+Reads    standard input, a log; asmap.dat and peers.dat, if they are there.
+Writes   the reply to each line; peers.dat, by way of peers.tmp, when a line saves.
+HEX64    the node's key, 64 hexadecimal digits, needed if there is no peers.dat.
+CHAIN    main, test, signet or regtest; main if it is left out.
+Codes    0 done, 2 bad usage, 3 a line has an error, 4 peers.dat is refused,
+         5 asmap.dat is refused, 7 the log cannot be read, 8 the output cannot be
+         written, 9 the folder failed, 10 the log is too long, 11 no peers.dat and
+         no key, 12 out of memory, 13 a line is too long.
+",
+);
+
+pub(crate) const OPENER: Page = (
+    "opener [--key HEX64] [--net CHAIN]",
+    "carries out a log without saving, and decides to whom to connect",
+    "\
+Reads    standard input, a log; asmap.dat and peers.dat, if they are there.
+Writes   the reply to each line.
+HEX64    the node's key, 64 hexadecimal digits, needed if there is no peers.dat.
+CHAIN    main, test, signet or regtest; main if it is left out.
+Codes    0 done, 2 bad usage, 3 a line has an error, 4 peers.dat is refused,
+         5 asmap.dat is refused, 7 the log cannot be read, 8 the output cannot be
+         written, 9 the folder failed, 10 the log is too long, 11 no peers.dat and
+         no key, 12 out of memory, 13 a line is too long.
+",
+);
+
+pub(crate) const LIMIT: Page = (
+    "limit",
+    "reads what many connections sent, and prints the log that the limit on received \
+     addresses leaves",
+    "\
+Reads    standard input, a log of events.
+Writes   a log for replay.
+Codes    0 done, 2 bad usage, 3 a line has an error, 7 the log cannot be read,
+         8 the output cannot be written, 10 the log is too long, 12 out of memory,
+         13 a line is too long.
+",
+);
+
+pub(crate) const SHOW: Page = (
+    "show [--net CHAIN]",
+    "lists the key and the records of peers.dat",
+    "\
+Reads    peers.dat.
+Writes   a line for the file, and one for each record.
+CHAIN    main, test, signet or regtest; main if it is left out.
+Codes    0 done, 2 bad usage, 4 peers.dat is refused, 8 the output cannot be written,
+         9 the folder failed, 12 out of memory, 14 peers.dat is missing.
+",
+);
+
+pub(crate) const COMPILE: Page = (
+    "compile",
+    "compiles prefixes.txt into asmap.dat",
+    "\
+Reads    prefixes.txt.
+Writes   asmap.dat, by way of asmap.tmp, and then a line with its size.
+Codes    0 done, 2 bad usage, 6 prefixes.txt is refused, 8 the output cannot be
+         written, 9 the folder failed, 12 out of memory, 14 prefixes.txt is missing.
+",
+);
+
+pub(crate) const DECOMPILE: Page = (
+    "decompile",
+    "prints the table of prefixes that asmap.dat encodes",
+    "\
+Reads    asmap.dat.
+Writes   rows in the form of prefixes.txt.
+Codes    0 done, 2 bad usage, 5 asmap.dat is refused, 8 the output cannot be written,
+         9 the folder failed, 12 out of memory, 14 asmap.dat is missing, 17 it has
+         more than 2,000,000 rows.
+",
+);
+
+pub(crate) const CHECK: Page = (
+    "check",
+    "checks that asmap.dat is sane",
+    "\
+Reads    asmap.dat.
+Writes   a line with its size.
+Codes    0 done, 2 bad usage, 5 asmap.dat is refused, 8 the output cannot be written,
+         9 the folder failed, 12 out of memory, 14 asmap.dat is missing.
+",
+);
+
+pub(crate) const LOOKUP: Page = (
+    "lookup PEER|-",
+    "prints the AS number and the group of an address, or of each on standard input",
+    "\
+Reads    asmap.dat; with - also standard input, a log with a peer in each line.
+Writes   for each address a line with the number, 0 if asmap.dat gives none, and the
+         group in hexadecimal.
+PEER     an address with a port, as 1.2.3.4:8333 or [2001:470::1]:8333.
+Codes    0 done, 2 bad usage, 3 a line has an error, 5 asmap.dat is refused, 7 the log
+         cannot be read, 8 the output cannot be written, 9 the folder failed, 10 the
+         log is too long, 12 out of memory, 13 a line is too long, 14 asmap.dat is
+         missing.
+",
+);
+
+pub(crate) const BAN: Page = (
+    "ban SUBNET NOW UNTIL",
+    "bans a subnet in banlist.json until a time",
+    "\
+Reads    banlist.json, if it is there.
+Writes   banlist.json, by way of banlist.tmp, without the bans that are over at NOW;
+         and `ban added`, or `ban kept` or `ban full` if nothing is saved.
+SUBNET   an address without a port or brackets, and a length, as 1.2.3.0/24.
+NOW      a time in seconds since 1970, before UNTIL.
+Codes    0 done, 2 bad usage, 8 the output cannot be written, 9 the folder failed,
+         12 out of memory, 16 banlist.json is refused.
+",
+);
+
+pub(crate) const UNBAN: Page = (
+    "unban SUBNET",
+    "takes a ban out of banlist.json",
+    "\
+Reads    banlist.json, if it is there.
+Writes   banlist.json, by way of banlist.tmp, and `removed`; or `absent`.
+SUBNET   an address without a port or brackets, and a length, as 1.2.3.0/24.
+Codes    0 done, 2 bad usage, 8 the output cannot be written, 9 the folder failed,
+         12 out of memory, 16 banlist.json is refused.
+",
+);
+
+pub(crate) const BANNED: Page = (
+    "banned PEER NOW",
+    "prints the ban that covers an address, or `free`",
+    "\
+Reads    banlist.json, if it is there.
+Writes   `banned`, the subnet and the time until which it is banned; or `free`.
+PEER     an address with a port, as 1.2.3.4:8333 or [2001:470::1]:8333.
+NOW      a time in seconds since 1970.
+Codes    0 done, 2 bad usage, 8 the output cannot be written, 9 the folder failed,
+         12 out of memory, 16 banlist.json is refused.
+",
+);
+
+pub(crate) const GEN: Page = (
+    "gen START LINES",
+    "prints a generated log",
+    "\
+Reads    nothing.
+Writes   the log, for replay or trial. Equal numbers give equal logs.
+START    a number below 2^64.
+LINES    how many lines, from 1 to 100000.
+Codes    0 done, 2 bad usage, 8 the output cannot be written, 12 out of memory.
+",
+);
+
+pub(crate) const TRIAL: Page = (
+    "trial START LINES",
+    "carries out a generated log, and prints a summary of its replies",
+    "\
+Reads    nothing.
+Writes   how many bytes the replies have, the sizes of the tables after them, and
+         the SHA-256 of the replies.
+START    a number below 2^64.
+LINES    how many lines, from 1 to 100000.
+Codes    0 done, 2 bad usage, 8 the output cannot be written, 12 out of memory.
+",
+);
+
+pub(crate) const HELP: Page = (
+    "help [COMMAND]",
+    "lists the commands, or explains one",
+    "\
+Reads    nothing.
+Writes   the text. `--help` and `-h` are the same as `help`.
+Codes    0 done, 2 bad usage, 8 the output cannot be written, 12 out of memory.
+",
+);
+
+pub(crate) const VERSION: Page = (
+    "version",
+    "prints the version and the toolchain",
+    "\
+Reads    nothing.
+Writes   a line. `--version` is the same.
+Codes    0 done, 2 bad usage, 8 the output cannot be written.
+",
+);
