@@ -1,0 +1,4 @@
+pub mod Tokens
+pub mod Records
+pub mod Counts
+pub mod Items

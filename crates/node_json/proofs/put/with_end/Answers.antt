@@ -1,0 +1,13 @@
+use Rattle.std.proofs.Common.{ap, sym, ◌∙◌, ◌++◌, codes}
+use Rattle.json.specs.Json.{document}
+use Rattle.json.specs.Layout.{pretty}
+use Rattle.node_json.proofs.Tokens.{reads_of}
+use Rattle.node_json.proofs.put.with_end.Goals as goal
+
+pub returns : goal.returns
+returns c = λ value e shallow.
+    let layout = c.into_inner-text.ensures.layout ∙ ap pretty e in
+    record {
+      whole = c.in_ok-push.ensures.items ∙ ap (λ t. t ++ codes "\n") layout;
+      reads = ap document (sym layout) ∙ reads_of value c.into_inner-text.result.items (c.into_inner-text.ensures.value ∙ e) shallow;
+    }
