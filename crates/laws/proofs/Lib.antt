@@ -14,6 +14,7 @@ pub mod PeersOf
 pub mod RunsOf
 pub mod SomeOf
 pub mod SearchOf
+pub mod BoundOf
 pub mod Restarted
 pub mod SharesOf
 mod Examples

@@ -35,7 +35,7 @@ sum_three f g h a b c (x ∷ xs) =
     spread : (u v w s t z : ℕ) → u * a + v * b + w * c + (s * a + t * b + z * c) ≡ (u + s) * a + (v + t) * b + (w + z) * c
     spread u v w s t z = omega arith
 
-sum_constant : {X : Type 0} (k : ℕ) (xs : List X) → sum_by (λ x. k) xs ≡ length xs * k
+pub sum_constant : {X : Type 0} (k : ℕ) (xs : List X) → sum_by (λ x. k) xs ≡ length xs * k
 sum_constant k [] = omega arith
 sum_constant k (x ∷ xs) = sum_by-cons (λ y. k) x xs ∙ ap (λ m. k + m) (sum_constant k xs) ∙ more (length xs)
   where

@@ -1,15 +1,16 @@
 -- The buckets that some groups reach are few of those that a word selects.
-use Rattle.std.proofs.Common.{◌≡◌, ℕ, ◌+◌, ◌*◌, ◌≤◌, false, List, [], ◌∷◌, length, count_by, flat_map, Contains, Option, refl, sym, subst, ◌∙◌, ⊎_elim, arith, length-append}
+use Rattle.std.proofs.Common.{◌≡◌, ℕ, ◌+◌, ◌*◌, ◌^◌, ◌≤◌, Bool, true, false, List, [], ◌∷◌, length, count_by, flat_map, Contains, Option, Some, refl, sym, subst, ◌∙◌, ⊎_elim, arith, length-append}
 use Rattle.std.specs.List.{range_with_len}
 use Rattle.std.proofs.lemmas.List.Elements.{Contains-append_left, Contains-append_right}
 use Rattle.std.proofs.lemmas.List.FromFn.{length-map-range_with_len}
 use Rattle.net_addr.specs.Address.{Address}
 use Rattle.net_addr.specs.declared.peer.Peer.{Peer}
 use Rattle.placing.specs.Places.{Places, group, group_bucket, group_buckets, tried_bucket}
-use Rattle.table_machine.specs.State.{State, is_tried_at, tried_rec_at}
-use Rattle.table_machine.specs.Picks.{slots_from}
+use Rattle.table_machine.specs.State.{State, is_new_at, is_tried_at, new_rec_at, tried_rec_at}
+use Rattle.table_machine.specs.Picks.{first_candidate, slots_from}
 use Rattle.table_machine.proofs.Lists.{Contains-cases, find-Some, none_in_nil}
-use Rattle.table_machine.proofs.Records.{tried_at_parts}
+use Rattle.table_machine.proofs.Records.{new_at_parts, tried_at_parts}
+use Rattle.peer_rec.specs.declared.rec.Rec.{Rec}
 use Rattle.peer_rec.specs.Snapshot.{Snapshot}
 use Rattle.session.specs.State as session
 use Rattle.causes.specs.Accepted.{IsAccepted}
@@ -17,9 +18,12 @@ use Rattle.causes.specs.Buckets.{AreCaused, IsListed, reach}
 use Rattle.causes.specs.Kept.{IsOpening}
 use Rattle.causes.proofs.Laws.{keeps_causes}
 use Rattle.causes.proofs.Reach.{by_reach, long-reach, tried_reach}
+use Rattle.laws.specs.Chances.{words_for}
+use Rattle.laws.proofs.BoundOf.{few_words}
 use Rattle.laws.proofs.Picked.{found_at}
+use Rattle.laws.proofs.SomeOf.{candidate-there}
 use Rattle.laws.proofs.Within.{count_outside}
-use Rattle.laws.specs.Shares.{IsOf, IsShared, KeepsShares, LeadsTo}
+use Rattle.laws.specs.Shares.{AreBy, IsOf, IsShared, KeepsShares, LeadsTo}
 
 Contains-flat_map : {X : Type 0} (f : X → List ℕ) (xs : List X) (x : X) (b : ℕ) → Contains xs x → Contains (f x) b → Contains (flat_map f xs) b
 Contains-flat_map f [] x b c h = absurd (none_in_nil x c)
@@ -49,6 +53,13 @@ module _ (Accepted : Peer → Address → Type 0) (Listed : ℕ → Peer → ℕ
       subst (Contains (tried_buckets st.places groups)) parts.0
       (Contains-flat_map (group_buckets st.places) groups (group st.places r.peer.addr) (tried_bucket st.places r.peer) leads.3 (tried_reach st.places r.peer))
 
+  new_inside : (groups : List (List ℕ)) (test : Rec → Bool) → AreBy Accepted st groups test → (b start : ℕ) (nets : List ℕ) (q : Rec) → first_candidate st true nets b start ≡ Some q → test q ≡ true
+      → Contains (reach st.places groups) b
+  new_inside groups test theirs b start nets q is passes =
+      let found = found_at (new_rec_at st b) nets (slots_from start) q is in
+      let h = find-Some (is_new_at st.places b found.0) st.records q found.1 in
+      by_reach Accepted st.places groups q b (theirs q h.0 passes b (new_at_parts st.places b found.0 q h.1).0)
+
   pub shared : IsShared Accepted Listed st
   shared = record {
     new = λ nets groups safe leads.
@@ -57,6 +68,13 @@ module _ (Accepted : Peer → Address → Type 0) (Listed : ℕ → Peer → ℕ
     tried = λ nets groups safe leads.
         subst (λ (few : ℕ). 256 ≤ count_by safe (range_with_len 0 256) + few) (long-tried st.places groups)
         (count_outside safe (tried_buckets st.places groups) 256 (λ b below fails. in_tried nets groups b (leads b below fails)));
+    new_words = λ nets now factor groups test theirs.
+        subst (λ (few : ℕ). words_for st true nets now factor test ≤ few * (64 * 2 ^ 30)) (long-reach st.places groups)
+        (few_words st true nets now factor test (reach st.places groups) (λ b start q is passes. new_inside groups test theirs b start nets q is passes));
+    tried_words = λ nets now factor groups test theirs.
+        subst (λ (few : ℕ). words_for st false nets now factor test ≤ few * (64 * 2 ^ 30)) (long-tried st.places groups)
+        (few_words st false nets now factor test (tried_buckets st.places groups) (λ b start q is passes.
+        in_tried nets groups b (start, q, is, theirs q (candidate-there st false nets b start q is) passes)));
     others = λ groups r has b listed outside. (caused r has b listed, λ by. outside (by_reach Accepted st.places groups r b by));
   }
 

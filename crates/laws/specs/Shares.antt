@@ -1,5 +1,5 @@
 -- What the groups of some addresses can do to a pick.
-use Rattle.std.specs.Prelude.{◌≡◌, ℕ, ◌<◌, ◌≤◌, ◌+◌, ◌*◌, List, length, Bool, true, false, Contains, count_by, Option, Some}
+use Rattle.std.specs.Prelude.{◌≡◌, ℕ, ◌<◌, ◌≤◌, ◌+◌, ◌*◌, ◌^◌, List, length, Bool, true, false, Contains, count_by, Option, Some}
 use Rattle.std.specs.List.{range_with_len}
 use Rattle.net_addr.specs.Address.{Address}
 use Rattle.net_addr.specs.declared.peer.Peer.{Peer}
@@ -7,6 +7,7 @@ use Rattle.placing.specs.Places.{Places, group}
 use Rattle.peer_rec.specs.Rec.{buckets_of}
 use Rattle.peer_rec.specs.Snapshot.{Snapshot}
 use Rattle.peer_rec.specs.declared.rec.Rec.{Rec}
+use Rattle.slot_grid.specs.declared.sizes.TheConstants.{SLOTS}
 use Rattle.table_machine.specs.State.{State}
 use Rattle.table_machine.specs.Picks.{bucket_count, first_candidate}
 use Rattle.session.specs.History.{History}
@@ -14,6 +15,7 @@ use Rattle.session.specs.State as session
 use Rattle.causes.specs.Accepted.{IsAccepted}
 use Rattle.causes.specs.Buckets.{IsBy, IsCaused, IsListed, reach}
 use Rattle.causes.specs.Kept.{IsAfter}
+use Rattle.laws.specs.Chances.{words_for}
 
 -- a round that selects this bucket can come to a record that is theirs: from some slot on, it is
 -- the candidate
@@ -35,15 +37,36 @@ AllBut few st in_new nets IsTheirs =
 abbrev pub IsOf : State → List (List ℕ) → Rec → ℕ → Type 0
 IsOf st groups r bucket = Contains groups (group st.places r.peer.addr)
 
+-- the records that pass the test are theirs: in each bucket of the new table that has one, by a
+-- source of theirs
+abbrev pub AreBy : (Peer → Address → Type 0) → State → List (List ℕ) → (Rec → Bool) → Type 0
+AreBy Accepted st groups test =
+    (r : Rec) → Contains st.records r → test r ≡ true → (bucket : ℕ)
+    → Contains (buckets_of r) bucket → IsBy Accepted st.places groups r bucket
+
+-- the records that pass the test have addresses of the groups
+abbrev pub AreOf : State → List (List ℕ) → (Rec → Bool) → Type 0
+AreOf st groups test =
+    (r : Rec) → Contains st.records r → test r ≡ true
+    → Contains groups (group st.places r.peer.addr)
+
 -- Sources of some groups have records in 64 buckets of the new table a group at most, and addresses
 -- of some groups are in 8 buckets of the tried table a group at most. What is in any other bucket
--- of the new table has a cause, and is not theirs.
+-- of the new table has a cause, and is not theirs. So of the triples of residues of a round's three
+-- words, which are 2^30 for each of the 64 slots of each bucket, at most those of so many buckets
+-- select a record that is theirs.
 pub record IsShared (Accepted : Peer → Address → Type 0) (Listed : ℕ → Peer → ℕ → Type 0)
     (st : State) : Type 0 where
   pub new : (nets : List ℕ) (groups : List (List ℕ))
       → AllBut (64 * length groups) st true nets (IsBy Accepted st.places groups)
   pub tried : (nets : List ℕ) (groups : List (List ℕ))
       → AllBut (8 * length groups) st false nets (IsOf st groups)
+  pub new_words : (nets : List ℕ) (now factor : ℕ) (groups : List (List ℕ)) (test : Rec → Bool)
+      → AreBy Accepted st groups test
+      → words_for st true nets now factor test ≤ 64 * length groups * (SLOTS * 2 ^ 30)
+  pub tried_words : (nets : List ℕ) (now factor : ℕ) (groups : List (List ℕ)) (test : Rec → Bool)
+      → AreOf st groups test
+      → words_for st false nets now factor test ≤ 8 * length groups * (SLOTS * 2 ^ 30)
   pub others : (groups : List (List ℕ)) (r : Rec) → Contains st.records r → (bucket : ℕ)
       → Contains (buckets_of r) bucket → (Contains (reach st.places groups) bucket → ⊥)
       → IsCaused Accepted Listed st.places r.number r.peer r.source bucket
