@@ -28,7 +28,7 @@ tried_title count = codes "<text x=\"694\" y=\"88\" class=\"b\">Tried table: " +
 
 -- how many groups are in many buckets of the new table
 unfoldable pub wide_text : ℕ → List ℕ
-wide_text count = codes "<text x=\"694\" y=\"636\">Groups in more than 32 of the 1024 new buckets: " ++ (decimal count ++ codes "</text>\n")
+wide_text count = codes "<text x=\"694\" y=\"644\">Groups in more than 32 of the 1024 new buckets: " ++ (decimal count ++ codes "</text>\n")
 
 -- a row of the list: the square of its colour
 unfoldable pub swatch : ℕ → List ℕ → List ℕ

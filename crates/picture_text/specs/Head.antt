@@ -7,11 +7,11 @@ use Rattle.picture_text.specs.Markup.{element, single}
 -- the picture's element: an SVG of its own (SVG 2), which a reader of the page is told as one image
 abbrev pub svg_attributes : List (List ℕ × List ℕ)
 svg_attributes =
-    (codes "xmlns", codes "http://www.w3.org/2000/svg") ∷ (codes "viewBox", codes "0 0 1080 708")
+    (codes "xmlns", codes "http://www.w3.org/2000/svg") ∷ (codes "viewBox", codes "0 0 1080 712")
     ∷ (codes "role", codes "img") ∷ []
 
 unfoldable pub opening_text : List ℕ
-opening_text = codes "<svg xmlns=\"http://www.w3.org/2000/svg\" viewBox=\"0 0 1080 708\" role=\"img\">\n"
+opening_text = codes "<svg xmlns=\"http://www.w3.org/2000/svg\" viewBox=\"0 0 1080 712\" role=\"img\">\n"
 
 -- what is said of it to who cannot see it, and shown below its title
 abbrev pub meaning : List ℕ
@@ -40,7 +40,7 @@ head_text =
     ++ (element (codes "desc") [] meaning (codes "\n")
     ++ (element (codes "style") [] styles (codes "\n")
     ++ (element (codes "pattern") tile_attributes tile (codes "\n")
-    ++ single (codes "rect") ((codes "width", codes "1080") ∷ (codes "height", codes "708") ∷ (codes "fill", codes "#fff") ∷ []) (codes "\n"))))
+    ++ single (codes "rect") ((codes "width", codes "1080") ∷ (codes "height", codes "712") ∷ (codes "fill", codes "#fff") ∷ []) (codes "\n"))))
 
 pub record Label : Type 0 where
   pub x : List ℕ
@@ -74,9 +74,9 @@ labels =
     ∷ at (codes "896") (codes "444") (codes "n k") (codes "slots")
     ∷ at (codes "970") (codes "444") (codes "n k") (codes "tried")
     ∷ at (codes "1056") (codes "444") (codes "n k") (codes "new buckets")
-    ∷ at (codes "694") (codes "660") (codes "k") (codes "Peers announced by one group get 64 of the 1024 new")
-    ∷ at (codes "694") (codes "676") (codes "k") (codes "buckets. A peer that other groups announced too may be")
-    ∷ at (codes "694") (codes "692") (codes "k") (codes "in theirs, and keeps the colour of its first source.")
+    ∷ at (codes "694") (codes "664") (codes "k") (codes "Peers announced by one group get 64 of the 1024 new")
+    ∷ at (codes "694") (codes "680") (codes "k") (codes "buckets. A peer that other groups announced too may be")
+    ∷ at (codes "694") (codes "696") (codes "k") (codes "in theirs, and keeps the colour of its first source.")
     ∷ []
 
 unfoldable pub labels_text : List ℕ

@@ -6,7 +6,7 @@ ghost use Rattle.picture_text.specs.Head.{head_text, labels_text, opening_text};
 pub(crate) fn opening_text() -> &'static [u8]
     ensures { result.now ≡ opening_text }
 {
-    b"<svg xmlns=\"http://www.w3.org/2000/svg\" viewBox=\"0 0 1080 708\" role=\"img\">\n"
+    b"<svg xmlns=\"http://www.w3.org/2000/svg\" viewBox=\"0 0 1080 712\" role=\"img\">\n"
 }
 
 /// Returns what describes the picture, its styles and its grounds.
@@ -21,7 +21,7 @@ pub(crate) fn head_text() -> &'static [u8]
         ize:12px;fill:#57606a}.n{text-anchor:end}</style>\n\
         <pattern id=\"free\" width=\"9\" height=\"9\" patternUnits=\"userSpaceOnUse\"><path \
         fill=\"#eceff2\" d=\"M0 0h8v8h-8z\"/></pattern>\n\
-        <rect width=\"1080\" height=\"708\" fill=\"#fff\"/>\n"
+        <rect width=\"1080\" height=\"712\" fill=\"#fff\"/>\n"
 }
 
 /// Returns the texts that each picture has.
@@ -49,10 +49,10 @@ pub(crate) fn labels_text() -> &'static [u8]
         <text x=\"896\" y=\"444\" class=\"n k\">slots</text>\n\
         <text x=\"970\" y=\"444\" class=\"n k\">tried</text>\n\
         <text x=\"1056\" y=\"444\" class=\"n k\">new buckets</text>\n\
-        <text x=\"694\" y=\"660\" class=\"k\">Peers announced by one group get 64 of the 1024 \
+        <text x=\"694\" y=\"664\" class=\"k\">Peers announced by one group get 64 of the 1024 \
         new</text>\n\
-        <text x=\"694\" y=\"676\" class=\"k\">buckets. A peer that other groups announced too may \
+        <text x=\"694\" y=\"680\" class=\"k\">buckets. A peer that other groups announced too may \
         be</text>\n\
-        <text x=\"694\" y=\"692\" class=\"k\">in theirs, and keeps the colour of its first \
+        <text x=\"694\" y=\"696\" class=\"k\">in theirs, and keeps the colour of its first \
         source.</text>\n"
 }

@@ -105,7 +105,7 @@ fn put_wide(count: u32, out: &mut Vec<u8>) -> Result<(), Memory>
     ensures { OnOk result (out.new.items ≡ out.old.items ++ wide_text count) }
 {
     put_numbered(
-        b"<text x=\"694\" y=\"636\">Groups in more than 32 of the 1024 new buckets: ",
+        b"<text x=\"694\" y=\"644\">Groups in more than 32 of the 1024 new buckets: ",
         count,
         b"</text>\n",
         out,
