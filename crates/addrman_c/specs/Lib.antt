@@ -1,7 +1,9 @@
+pub mod Banning
 pub mod Calls
 pub mod Files
 pub mod Groups
 pub mod Held
+pub mod Limits
 pub mod Loading
 pub mod OnHandle
 pub mod Outbound

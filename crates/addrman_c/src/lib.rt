@@ -9,11 +9,15 @@
 #![tactic(auto)]
 
 mod abi;
+mod bans;
+mod bans_handle;
 mod chain;
 mod code;
 mod entries;
 mod group;
 mod handle;
+mod limiter_handle;
+mod limits;
 mod loading;
 mod marks;
 mod nets;
@@ -30,9 +34,19 @@ mod values;
 mod writing;
 
 pub use abi::addrman_abi;
+pub use bans::{
+    addrman_bans_add, addrman_bans_close, addrman_bans_covering, addrman_bans_open,
+    addrman_bans_remove, addrman_bans_write,
+};
+pub use bans_handle::{BansHandle, KeptBans, LooseBans};
 pub use entries::{addrman_add, addrman_take_message};
 pub use group::{addrman_asmap_check, addrman_asn, addrman_group};
 pub use handle::{Handle, Kept, Loose};
+pub use limiter_handle::{KeptLimiter, LimiterHandle, LooseLimiter};
+pub use limits::{
+    addrman_limiter_add, addrman_limiter_admit, addrman_limiter_close, addrman_limiter_getaddr,
+    addrman_limiter_open, addrman_limiter_remove, addrman_limiter_stat,
+};
 pub use loading::addrman_open_file;
 pub use marks::{addrman_attempt, addrman_connected, addrman_good, addrman_set_services};
 pub use opener::{
@@ -44,7 +58,8 @@ pub use reads::addrman_size;
 pub use records::{addrman_find, addrman_records};
 pub use sampling::addrman_sample;
 pub use structs::{
-    AddrmanAdded, AddrmanCounts, AddrmanFault, AddrmanPicked, AddrmanRecord, AddrmanResolved,
+    AddrmanAdded, AddrmanBan, AddrmanCounts, AddrmanFault, AddrmanLimits, AddrmanPicked,
+    AddrmanRecord, AddrmanResolved,
 };
 pub use text::{
     addrman_addr_parse, addrman_addr_routable, addrman_addr_text, addrman_peer_parse,

@@ -59,3 +59,27 @@ pub struct AddrmanFault {
     pub kind: u32,
     pub at: u64,
 }
+
+/// A ban: the subnet's address and how many bits of it count, and when the ban was made and is
+/// over, in seconds since 1970.
+#[repr(C)]
+#[derive(Clone, Copy)]
+pub struct AddrmanBan {
+    pub base: AddrmanAddr,
+    pub prefix: u32,
+    pub created: u32,
+    pub until: u32,
+}
+
+/// A connection: its tokens in tenths, when they were last counted, how many entries were admitted
+/// and dropped, whether getaddr was sent, and whether it has no limit.
+#[repr(C)]
+#[derive(Clone, Copy)]
+pub struct AddrmanLimits {
+    pub tenths: u32,
+    pub moment: u32,
+    pub processed: u32,
+    pub limited: u32,
+    pub asked: u32,
+    pub unlimited: u32,
+}
