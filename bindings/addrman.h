@@ -78,7 +78,7 @@ enum {
 enum {
     ADDRMAN_FAULT_TRUNCATED     = 1,  /* they end before a field does */
     ADDRMAN_FAULT_NON_CANONICAL = 2,  /* a CompactSize has more bytes than its value needs */
-    ADDRMAN_FAULT_TOO_MANY      = 3,  /* a message of more than 1000 entries */
+    ADDRMAN_FAULT_TOO_MANY      = 3,  /* more than 1000 entries, or 100,000 bans */
     ADDRMAN_FAULT_BAD_LENGTH    = 4,  /* addresses of the network have another length */
     ADDRMAN_FAULT_TOO_LONG      = 5,  /* an address of more than 512 bytes */
     ADDRMAN_FAULT_TRAILING      = 6,  /* bytes are left after the last field */
@@ -93,7 +93,9 @@ enum {
     ADDRMAN_FAULT_ATTEMPTS      = 18, /* negative attempts; at: the record's index */
     ADDRMAN_FAULT_TOO_LARGE     = 19, /* more than 33,554,432 bytes; at: how many */
     ADDRMAN_FAULT_DUPLICATE     = 20, /* two valid records of one peer; at: the later one's index */
-    ADDRMAN_FAULT_ASMAP         = 21  /* the asmap is not sane, or has more than 8,388,608 bytes */
+    ADDRMAN_FAULT_ASMAP         = 21, /* the asmap is not sane, or has more than 8,388,608 bytes */
+    ADDRMAN_FAULT_JSON          = 30, /* a list of bans that is no JSON text, or nests too deep */
+    ADDRMAN_FAULT_FORM          = 31  /* it has no array under banned_nets */
 };
 typedef struct {
     uint32_t kind;
@@ -343,6 +345,106 @@ ADDRMAN_API addrman_result addrman_opener_add(addrman *am, const addrman_peer *p
 /* A connection to a peer was closed. *was_open is 1 or 0. Proved: RemoveCall (`without_peer`). */
 ADDRMAN_API addrman_result addrman_opener_remove(addrman *am, const addrman_peer *peer,
     uint32_t *was_open);
+
+/* ------------------------------------------------------------------------------------- bans */
+
+/* A list of banned subnets. The rules for objects of type addrman hold of it. */
+typedef struct addrman_bans {
+    void *impl;
+    bool is_open;
+} addrman_bans;
+#define ADDRMAN_BANS_INIT { 0, false }
+
+enum { ADDRMAN_BAN_ADDED, ADDRMAN_BAN_KEPT, ADDRMAN_BAN_FULL };
+
+typedef struct {
+    addrman_addr base; /* the subnet's address */
+    uint32_t prefix;   /* how many of its bits count */
+    uint32_t created, until;
+} addrman_ban;
+
+/* Opens the list that the bytes of a banlist.json have, or an empty one (length 0). What the object
+ * had is dropped first, and after any result other than ADDRMAN_OK it is closed.
+ *   ADDRMAN_ERR_REFUSED  *fault says why
+ * Proved: ReadCall (`IsBanFile`, `HasBanFault`). */
+ADDRMAN_API ADDRMAN_MUST_USE addrman_result addrman_bans_open(addrman_bans *bans,
+    const uint8_t *json, size_t length, addrman_fault *fault);
+
+/* Frees all memory of the object, and closes it. */
+ADDRMAN_API void addrman_bans_close(addrman_bans *bans);
+
+/* Writes the banlist.json that keeps the list, and how many bytes it has. Proved: PrintCall. */
+ADDRMAN_API ADDRMAN_MUST_USE addrman_result addrman_bans_write(addrman_bans *bans, uint8_t *out,
+    size_t capacity, size_t *length);
+
+/* Drops the bans that are over, and bans the subnet of a text (1.2.3.0/24, 2001:db8::/32, onion:HEX)
+ * from `now` until a time. *reply is one of the names above.
+ *   ADDRMAN_ERR_ARGUMENT  the text is no subnet
+ *   ADDRMAN_ERR_MEMORY    nothing changes
+ * Proved: BanCall (`after_ban`). */
+ADDRMAN_API ADDRMAN_MUST_USE addrman_result addrman_bans_add(addrman_bans *bans,
+    const uint8_t *subnet, size_t length, uint32_t now, uint32_t until, uint32_t *reply);
+
+/* Takes the ban of a subnet out of the list. *known is 1 if it had one, else 0. Proved: UnbanCall
+ * (`without`). */
+ADDRMAN_API addrman_result addrman_bans_remove(addrman_bans *bans, const uint8_t *subnet,
+    size_t length, uint32_t *known);
+
+/* Writes the first ban that covers an address and is not over. ADDRMAN_NONE: the address is free.
+ * Proved: CoverCall (`stops`). */
+ADDRMAN_API addrman_result addrman_bans_covering(addrman_bans *bans, const addrman_addr *addr,
+    uint32_t now, addrman_ban *ban);
+
+/* ------------------------------------------------------------- the limit on received addresses */
+
+/* A token bucket for each connection, by a number of the caller's. The rules for objects of type
+ * addrman hold of it. */
+typedef struct addrman_limiter {
+    void *impl;
+    bool is_open;
+} addrman_limiter;
+#define ADDRMAN_LIMITER_INIT { 0, false }
+
+enum { ADDRMAN_GETADDR_UNKNOWN, ADDRMAN_GETADDR_ALREADY, ADDRMAN_GETADDR_GRANTED };
+
+typedef struct {
+    uint32_t tenths;             /* tenths of a token */
+    uint32_t moment;             /* when they were last counted */
+    uint32_t processed, limited; /* how many entries were admitted, and dropped */
+    uint32_t asked, unlimited;   /* 1 or 0: getaddr was sent; there is no limit */
+} addrman_limits;
+
+/* Opens a limit without connections. Proved: StartCall. */
+ADDRMAN_API ADDRMAN_MUST_USE addrman_result addrman_limiter_open(addrman_limiter *limiter);
+
+/* Frees all memory of the object, and closes it. */
+ADDRMAN_API void addrman_limiter_close(addrman_limiter *limiter);
+
+/* A connection to an address was opened: it has one token. *is_new is 0 if its number has one, which
+ * then stays as it is.
+ *   ADDRMAN_ERR_MEMORY  nothing changes
+ * Proved: ConnectCall (`after_open`). */
+ADDRMAN_API ADDRMAN_MUST_USE addrman_result addrman_limiter_add(addrman_limiter *limiter,
+    uint32_t number, const addrman_addr *addr, bool unlimited, uint32_t now, uint32_t *is_new);
+
+/* A connection was closed. *known is 1 if there was one, else 0. Proved: `without_conn`. */
+ADDRMAN_API addrman_result addrman_limiter_remove(addrman_limiter *limiter, uint32_t number,
+    uint32_t *known);
+
+/* getaddr was sent, which gives a thousand tokens once. *answer is one of the names above. Proved:
+ * `after_asking`. */
+ADDRMAN_API addrman_result addrman_limiter_getaddr(addrman_limiter *limiter, uint32_t number,
+    uint32_t *answer);
+
+/* A message of `count` entries came, at most 1000. The first *admitted of them are let through.
+ *   ADDRMAN_NONE  the number has no connection
+ * Proved: AdmitCall (`after_taking`, `intake_count`). */
+ADDRMAN_API addrman_result addrman_limiter_admit(addrman_limiter *limiter, uint32_t number,
+    uint32_t count, uint32_t now, uint32_t *admitted);
+
+/* What is known of a connection. ADDRMAN_NONE: the number has none. Proved: StatCall. */
+ADDRMAN_API addrman_result addrman_limiter_stat(addrman_limiter *limiter, uint32_t number,
+    addrman_limits *limits);
 
 #ifdef __cplusplus
 }

@@ -285,5 +285,109 @@ public:
     }
 };
 
+// A list of banned subnets.
+class bans {
+    addrman_bans bans_ = ADDRMAN_BANS_INIT;
+
+    static const std::uint8_t *raw(std::string_view text)
+    {
+        return reinterpret_cast<const std::uint8_t *>(text.empty() ? "" : text.data());
+    }
+
+public:
+    explicit bans(std::string_view json = {})
+    {
+        addrman_fault fault{};
+        check(addrman_bans_open(&bans_, raw(json), json.size(), &fault), fault);
+    }
+    bans(bans &&o) noexcept : bans_(std::exchange(o.bans_, addrman_bans ADDRMAN_BANS_INIT)) {}
+    bans(const bans &) = delete;
+    bans &operator=(const bans &) = delete;
+    ~bans() { addrman_bans_close(&bans_); }
+
+    std::uint32_t add(std::string_view subnet, std::uint32_t now, std::uint32_t until)
+    {
+        std::uint32_t reply = 0;
+        check(addrman_bans_add(&bans_, raw(subnet), subnet.size(), now, until, &reply));
+        return reply;
+    }
+
+    bool remove(std::string_view subnet)
+    {
+        std::uint32_t known = 0;
+        check(addrman_bans_remove(&bans_, raw(subnet), subnet.size(), &known));
+        return known != 0;
+    }
+
+    std::optional<addrman_ban> covering(const addrman_addr &addr, std::uint32_t now)
+    {
+        addrman_ban out{};
+        auto code = addrman_bans_covering(&bans_, &addr, now, &out);
+        if (code == ADDRMAN_NONE) return {};
+        check(code);
+        return out;
+    }
+
+    std::string file()
+    {
+        auto out = filled<std::uint8_t>(0, [&](auto *p, auto n, auto *l) {
+            return addrman_bans_write(&bans_, p, n, l);
+        });
+        return std::string(out.begin(), out.end());
+    }
+};
+
+// The limit on received addresses.
+class limiter {
+    addrman_limiter limiter_ = ADDRMAN_LIMITER_INIT;
+
+public:
+    limiter() { check(addrman_limiter_open(&limiter_)); }
+    limiter(limiter &&o) noexcept
+        : limiter_(std::exchange(o.limiter_, addrman_limiter ADDRMAN_LIMITER_INIT)) {}
+    limiter(const limiter &) = delete;
+    limiter &operator=(const limiter &) = delete;
+    ~limiter() { addrman_limiter_close(&limiter_); }
+
+    bool add(std::uint32_t number, const addrman_addr &addr, bool unlimited, std::uint32_t now)
+    {
+        std::uint32_t is_new = 0;
+        check(addrman_limiter_add(&limiter_, number, &addr, unlimited, now, &is_new));
+        return is_new != 0;
+    }
+
+    bool remove(std::uint32_t number)
+    {
+        std::uint32_t known = 0;
+        check(addrman_limiter_remove(&limiter_, number, &known));
+        return known != 0;
+    }
+
+    std::uint32_t getaddr(std::uint32_t number)
+    {
+        std::uint32_t answer = 0;
+        check(addrman_limiter_getaddr(&limiter_, number, &answer));
+        return answer;
+    }
+
+    std::optional<std::uint32_t> admit(std::uint32_t number, std::uint32_t count, std::uint32_t now)
+    {
+        std::uint32_t admitted = 0;
+        auto code = addrman_limiter_admit(&limiter_, number, count, now, &admitted);
+        if (code == ADDRMAN_NONE) return {};
+        check(code);
+        return admitted;
+    }
+
+    std::optional<addrman_limits> stat(std::uint32_t number)
+    {
+        addrman_limits out{};
+        auto code = addrman_limiter_stat(&limiter_, number, &out);
+        if (code == ADDRMAN_NONE) return {};
+        check(code);
+        return out;
+    }
+};
+
 } // namespace libaddrman
 #endif

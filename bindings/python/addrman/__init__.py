@@ -15,9 +15,12 @@ ALL_NETS = 0x7F
 MAIN, TEST, SIGNET, REGTEST = range(4)
 OUTCOMES = ("unknown", "already", "clash", "moved")
 VERDICTS = ("take", "same-group", "recent")
+BAN_REPLIES = ("added", "kept", "full")
+ASKED = ("unknown", "already", "granted")
 FAULTS = {1: "truncated", 2: "non-canonical", 3: "too-many", 4: "bad-length", 5: "too-long", 6: "trailing",
           10: "bad-magic", 11: "bad-sum", 12: "compat", 13: "version", 14: "count", 15: "record", 16: "buckets",
-          17: "time", 18: "attempts", 19: "too-large", 20: "duplicate", 21: "asmap"}
+          17: "time", 18: "attempts", 19: "too-large", 20: "duplicate", 21: "asmap",
+          30: "json", 31: "form"}
 
 
 class _Handle(c.Structure):
@@ -55,6 +58,14 @@ class _Three(c.Structure):
     _fields_ = [("first", c.c_uint32), ("second", c.c_uint32), ("third", c.c_uint32)]
 
 
+class _Ban(c.Structure):
+    _fields_ = [("base", _Addr), ("prefix", c.c_uint32), ("created", c.c_uint32), ("until", c.c_uint32)]
+
+
+class _Limits(c.Structure):
+    _fields_ = [(name, c.c_uint32) for name in ("tenths", "moment", "processed", "limited", "asked", "unlimited")]
+
+
 class Record(NamedTuple):
     """What is known of a peer. Times are seconds since 1970, 0 if the event has not happened."""
     number: int
@@ -80,6 +91,23 @@ class Resolved(NamedTuple):
     erased: int
     moved: int
     kept: int
+
+
+class Ban(NamedTuple):
+    base: str
+    prefix: int
+    created: int
+    until: int
+
+
+class Limits(NamedTuple):
+    """Of a connection; tokens are counted in tenths."""
+    tenths: int
+    moment: int
+    processed: int
+    limited: int
+    asked: bool
+    unlimited: bool
 
 
 class Error(Exception):
@@ -123,11 +151,16 @@ _SIGNATURES = {
     "resolve_collisions": [_P, _U32, _P], "select_collision": [_P, _U64, _P],
     "size": [_P, _P], "find": [_P, _P, _P], "records": [_P, _P, _SIZE, _P],
     "asmap_check": [_P, _SIZE], "asn": [_P, _P, _P], "group": [_P, _P, _P, _SIZE, _P],
+    "bans_open": [_P, _P, _SIZE, _P], "bans_close": [_P], "bans_write": [_P, _P, _SIZE, _P],
+    "bans_add": [_P, _P, _SIZE, _U32, _U32, _P], "bans_remove": [_P, _P, _SIZE, _P], "bans_covering": [_P, _P, _U32, _P],
+    "limiter_open": [_P], "limiter_close": [_P], "limiter_add": [_P, _U32, _P, _BOOL, _U32, _P],
+    "limiter_remove": [_P, _U32, _P], "limiter_getaddr": [_P, _U32, _P], "limiter_admit": [_P, _U32, _U32, _U32, _P],
+    "limiter_stat": [_P, _U32, _P],
     "opener_judge": [_P, _P, _U32, _U32, _P], "opener_add": [_P, _P], "opener_remove": [_P, _P, _P],
 }
 for _name, _arguments in _SIGNATURES.items():
     _call = getattr(_lib, "addrman_" + _name)
-    _call.argtypes, _call.restype = _arguments, None if _name == "close" else _U32
+    _call.argtypes, _call.restype = _arguments, None if _name.endswith("close") else _U32
 if _lib.addrman_abi() != ABI:
     raise ImportError("libaddrman has another ABI")
 
@@ -352,3 +385,85 @@ class AddrMan:
     def close_peer(self, peer: str) -> bool:
         """A connection to a peer was closed. Returns whether it was open."""
         return self._known(_lib.addrman_opener_remove, peer)
+
+
+class Bans:
+    """A list of banned subnets, from the bytes of a banlist.json; no bytes are an empty list."""
+
+    def __init__(self, json: bytes = b""):
+        self._h, fault = _Handle(), _Fault()
+        _check(_lib.addrman_bans_open(c.byref(self._h), json, len(json), c.byref(fault)), fault)
+
+    def __del__(self) -> None:
+        _lib.addrman_bans_close(c.byref(self._h))
+
+    def file(self) -> bytes:
+        """The bytes of the banlist.json that keeps the list."""
+        return bytes(_filled(c.c_uint8, 0, lambda p, n, l: _lib.addrman_bans_write(c.byref(self._h), p, n, l)))
+
+    def add(self, subnet: str, now: int, until: int) -> str:
+        """Drops the bans that are over, and bans a subnet: one of BAN_REPLIES."""
+        out, raw = _U32(), subnet.encode()
+        _check(_lib.addrman_bans_add(c.byref(self._h), raw, len(raw), now, until, c.byref(out)))
+        return BAN_REPLIES[out.value]
+
+    def remove(self, subnet: str) -> bool:
+        """Takes the ban of a subnet out of the list. Returns whether it had one."""
+        out, raw = _U32(), subnet.encode()
+        _check(_lib.addrman_bans_remove(c.byref(self._h), raw, len(raw), c.byref(out)))
+        return out.value != 0
+
+    def covering(self, addr: str, now: int) -> Optional[Ban]:
+        """The first ban that covers an address and is not over."""
+        out = _Ban()
+        code = _lib.addrman_bans_covering(c.byref(self._h), c.byref(_addr(addr)), now, c.byref(out))
+        if code == NONE:
+            return None
+        _check(code)
+        return Ban(_addr_text(out.base), out.prefix, out.created, out.until)
+
+
+class Limiter:
+    """The limit on received addresses: a token bucket for each connection, by a number."""
+
+    def __init__(self) -> None:
+        self._h = _Handle()
+        _check(_lib.addrman_limiter_open(c.byref(self._h)))
+
+    def __del__(self) -> None:
+        _lib.addrman_limiter_close(c.byref(self._h))
+
+    def add(self, number: int, addr: str, unlimited: bool, now: int) -> bool:
+        """A connection was opened: it has one token. False if its number has one."""
+        out = _U32()
+        _check(_lib.addrman_limiter_add(c.byref(self._h), number, c.byref(_addr(addr)), unlimited, now, c.byref(out)))
+        return out.value != 0
+
+    def remove(self, number: int) -> bool:
+        """A connection was closed. Returns whether there was one."""
+        out = _U32()
+        _check(_lib.addrman_limiter_remove(c.byref(self._h), number, c.byref(out)))
+        return out.value != 0
+
+    def getaddr(self, number: int) -> str:
+        """getaddr was sent, which gives a thousand tokens once: one of ASKED."""
+        out = _U32()
+        _check(_lib.addrman_limiter_getaddr(c.byref(self._h), number, c.byref(out)))
+        return ASKED[out.value]
+
+    def admit(self, number: int, count: int, now: int) -> Optional[int]:
+        """How many entries of a message are let through, the first ones. None: the number has no connection."""
+        out = _U32()
+        code = _lib.addrman_limiter_admit(c.byref(self._h), number, count, now, c.byref(out))
+        if code == NONE:
+            return None
+        _check(code)
+        return out.value
+
+    def stat(self, number: int) -> Optional[Limits]:
+        out = _Limits()
+        code = _lib.addrman_limiter_stat(c.byref(self._h), number, c.byref(out))
+        if code == NONE:
+            return None
+        _check(code)
+        return Limits(out.tenths, out.moment, out.processed, out.limited, out.asked != 0, out.unlimited != 0)

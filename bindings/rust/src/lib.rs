@@ -4,7 +4,7 @@
 
 pub mod raw;
 
-pub use raw::{Added, Addr, Counts, Fault, Peer, Picked, Record, Resolved};
+pub use raw::{Added, Addr, Ban, Counts, Fault, Limits, Peer, Picked, Record, Resolved};
 use std::fmt;
 use std::str::FromStr;
 
@@ -336,5 +336,140 @@ impl AddrMan {
         let mut out = 0;
         done(unsafe { raw::addrman_opener_remove(&mut self.handle, peer, &mut out) })?;
         Ok(out != 0)
+    }
+}
+
+fn no_handle() -> raw::Handle {
+    raw::Handle { opaque: std::ptr::null_mut(), is_open: false }
+}
+
+/// What became of a ban.
+#[derive(Clone, Copy, Debug, PartialEq, Eq)]
+pub enum BanReply {
+    Added,
+    /// The subnet was banned until that time or later already.
+    Kept,
+    /// The list has no room.
+    Full,
+}
+
+/// A list of banned subnets.
+pub struct Bans {
+    handle: raw::Handle,
+}
+
+unsafe impl Send for Bans {}
+
+impl Drop for Bans {
+    fn drop(&mut self) {
+        unsafe { raw::addrman_bans_close(&mut self.handle) }
+    }
+}
+
+impl Bans {
+    /// Opens the list that the bytes of a `banlist.json` have. No bytes are an empty list.
+    pub fn open(json: &[u8]) -> Result<Bans, Error> {
+        let (mut bans, mut fault) = (Bans { handle: no_handle() }, Fault::default());
+        let code = unsafe { raw::addrman_bans_open(&mut bans.handle, json.as_ptr(), json.len(), &mut fault) };
+        checked(code, fault, 0)?;
+        Ok(bans)
+    }
+
+    /// Returns the bytes of the `banlist.json` that keeps the list.
+    pub fn file(&mut self) -> Result<Vec<u8>, Error> {
+        filled(0, |p, n, l| unsafe { raw::addrman_bans_write(&mut self.handle, p, n, l) })
+    }
+
+    /// Drops the bans that are over, and bans a subnet from `now` until a time.
+    pub fn add(&mut self, subnet: &str, now: u32, until: u32) -> Result<BanReply, Error> {
+        let mut reply = 0;
+        done(unsafe { raw::addrman_bans_add(&mut self.handle, subnet.as_ptr(), subnet.len(), now, until, &mut reply) })?;
+        Ok([BanReply::Added, BanReply::Kept, BanReply::Full][reply as usize])
+    }
+
+    /// Takes the ban of a subnet out of the list. Returns whether it had one.
+    pub fn remove(&mut self, subnet: &str) -> Result<bool, Error> {
+        let mut known = 0;
+        done(unsafe { raw::addrman_bans_remove(&mut self.handle, subnet.as_ptr(), subnet.len(), &mut known) })?;
+        Ok(known != 0)
+    }
+
+    /// Returns the first ban that covers an address and is not over.
+    pub fn covering(&mut self, addr: &Addr, now: u32) -> Result<Option<Ban>, Error> {
+        let mut out = Ban::default();
+        match unsafe { raw::addrman_bans_covering(&mut self.handle, addr, now, &mut out) } {
+            raw::NONE => Ok(None),
+            code => done(code).map(|()| Some(out)),
+        }
+    }
+}
+
+/// What a getaddr found.
+#[derive(Clone, Copy, Debug, PartialEq, Eq)]
+pub enum Asked {
+    Unknown,
+    Already,
+    Granted,
+}
+
+/// The limit on received addresses: a token bucket for each connection, by a number.
+pub struct Limiter {
+    handle: raw::Handle,
+}
+
+unsafe impl Send for Limiter {}
+
+impl Drop for Limiter {
+    fn drop(&mut self) {
+        unsafe { raw::addrman_limiter_close(&mut self.handle) }
+    }
+}
+
+impl Limiter {
+    /// Opens a limit without connections.
+    pub fn open() -> Result<Limiter, Error> {
+        let mut limiter = Limiter { handle: no_handle() };
+        done(unsafe { raw::addrman_limiter_open(&mut limiter.handle) })?;
+        Ok(limiter)
+    }
+
+    /// Opens a connection, with one token. Returns `false` if its number has one.
+    pub fn add(&mut self, number: u32, addr: &Addr, unlimited: bool, now: u32) -> Result<bool, Error> {
+        let mut is_new = 0;
+        done(unsafe { raw::addrman_limiter_add(&mut self.handle, number, addr, unlimited, now, &mut is_new) })?;
+        Ok(is_new != 0)
+    }
+
+    /// Closes a connection. Returns whether there was one.
+    pub fn remove(&mut self, number: u32) -> Result<bool, Error> {
+        let mut known = 0;
+        done(unsafe { raw::addrman_limiter_remove(&mut self.handle, number, &mut known) })?;
+        Ok(known != 0)
+    }
+
+    /// getaddr was sent, which gives a thousand tokens once.
+    pub fn getaddr(&mut self, number: u32) -> Result<Asked, Error> {
+        let mut answer = 0;
+        done(unsafe { raw::addrman_limiter_getaddr(&mut self.handle, number, &mut answer) })?;
+        Ok([Asked::Unknown, Asked::Already, Asked::Granted][answer as usize])
+    }
+
+    /// Takes a message of at most 1000 entries. Returns how many of them are let through, the first
+    /// ones, or `None` if the number has no connection.
+    pub fn admit(&mut self, number: u32, count: u32, now: u32) -> Result<Option<u32>, Error> {
+        let mut admitted = 0;
+        match unsafe { raw::addrman_limiter_admit(&mut self.handle, number, count, now, &mut admitted) } {
+            raw::NONE => Ok(None),
+            code => done(code).map(|()| Some(admitted)),
+        }
+    }
+
+    /// Returns what is known of a connection.
+    pub fn stat(&mut self, number: u32) -> Result<Option<Limits>, Error> {
+        let mut out = Limits::default();
+        match unsafe { raw::addrman_limiter_stat(&mut self.handle, number, &mut out) } {
+            raw::NONE => Ok(None),
+            code => done(code).map(|()| Some(out)),
+        }
     }
 }

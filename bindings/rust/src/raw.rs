@@ -91,8 +91,41 @@ pub struct Counts {
     pub collisions: u32,
 }
 
+#[repr(C)]
+#[derive(Clone, Copy, Debug, Default)]
+pub struct Ban {
+    pub base: Addr,
+    pub prefix: u32,
+    pub created: u32,
+    pub until: u32,
+}
+
+#[repr(C)]
+#[derive(Clone, Copy, Debug, Default, PartialEq, Eq)]
+pub struct Limits {
+    pub tenths: u32,
+    pub moment: u32,
+    pub processed: u32,
+    pub limited: u32,
+    pub asked: u32,
+    pub unlimited: u32,
+}
+
 #[rustfmt::skip]
 extern "C" {
+    pub fn addrman_bans_open(bans: *mut Handle, json: *const u8, length: usize, fault: *mut Fault) -> u32;
+    pub fn addrman_bans_close(bans: *mut Handle);
+    pub fn addrman_bans_write(bans: *mut Handle, out: *mut u8, capacity: usize, length: *mut usize) -> u32;
+    pub fn addrman_bans_add(bans: *mut Handle, subnet: *const u8, length: usize, now: u32, until: u32, reply: *mut u32) -> u32;
+    pub fn addrman_bans_remove(bans: *mut Handle, subnet: *const u8, length: usize, known: *mut u32) -> u32;
+    pub fn addrman_bans_covering(bans: *mut Handle, addr: *const Addr, now: u32, ban: *mut Ban) -> u32;
+    pub fn addrman_limiter_open(limiter: *mut Handle) -> u32;
+    pub fn addrman_limiter_close(limiter: *mut Handle);
+    pub fn addrman_limiter_add(limiter: *mut Handle, number: u32, addr: *const Addr, unlimited: bool, now: u32, is_new: *mut u32) -> u32;
+    pub fn addrman_limiter_remove(limiter: *mut Handle, number: u32, known: *mut u32) -> u32;
+    pub fn addrman_limiter_getaddr(limiter: *mut Handle, number: u32, answer: *mut u32) -> u32;
+    pub fn addrman_limiter_admit(limiter: *mut Handle, number: u32, count: u32, now: u32, admitted: *mut u32) -> u32;
+    pub fn addrman_limiter_stat(limiter: *mut Handle, number: u32, limits: *mut Limits) -> u32;
     pub fn addrman_abi() -> u32;
     pub fn addrman_addr_parse(text: *const u8, length: usize, out: *mut Addr) -> u32;
     pub fn addrman_peer_parse(text: *const u8, length: usize, out: *mut Peer) -> u32;
