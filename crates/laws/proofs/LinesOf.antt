@@ -147,7 +147,4 @@ command_over old asked answer new sound low room fits step r has = by asked fits
         ⊎_elim (to command.Resolve _ h.1) inr (decisions_over old.clock low r old.tables old.tables.collisions sound there)
     by (command.Clash word) fit h = to (command.Clash word) _ h.1 (clash_pick-keeps old.tables (λ st. IsThere st r) there (λ number. there) word)
     by command.Dump fit h = to command.Dump old h.1 there
-    by command.Save fit h = absurd h
-    by command.SaveBegin fit h = absurd h
-    by (command.SaveStep count) fit h = absurd h
-    by command.SaveEnd fit h = absurd h
+    by other fit h = absurd h
