@@ -54,7 +54,8 @@ AreOf st groups test =
 -- of some groups are in 8 buckets of the tried table a group at most. What is in any other bucket
 -- of the new table has a cause, and is not theirs. So of the triples of residues of a round's three
 -- words, which are 2^30 for each of the 64 slots of each bucket, at most those of so many buckets
--- select a record that is theirs.
+-- select a record that is theirs. A source group has one bucket for all peers of a group, so if
+-- theirs have addresses of some groups only, they are in one bucket a pair of groups at most.
 pub record IsShared (Accepted : Peer → Address → Type 0) (Listed : ℕ → Peer → ℕ → Type 0)
     (st : State) : Type 0 where
   pub new : (nets : List ℕ) (groups : List (List ℕ))
@@ -67,6 +68,9 @@ pub record IsShared (Accepted : Peer → Address → Type 0) (Listed : ℕ → P
   pub tried_words : (nets : List ℕ) (now factor : ℕ) (groups : List (List ℕ)) (test : Rec → Bool)
       → AreOf st groups test
       → words_for st false nets now factor test ≤ 8 * length groups * (SLOTS * 2 ^ 30)
+  pub pair_words : (nets : List ℕ) (now factor : ℕ) (groups peers : List (List ℕ))
+      (test : Rec → Bool) → AreBy Accepted st groups test → AreOf st peers test
+      → words_for st true nets now factor test ≤ length groups * length peers * (SLOTS * 2 ^ 30)
   pub others : (groups : List (List ℕ)) (r : Rec) → Contains st.records r → (bucket : ℕ)
       → Contains (buckets_of r) bucket → (Contains (reach st.places groups) bucket → ⊥)
       → IsCaused Accepted Listed st.places r.number r.peer r.source bucket
