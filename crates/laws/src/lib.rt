@@ -9,7 +9,8 @@
 //! 2. Each arrangement of the records comes from exactly one list of draws, and a sample is its
 //!    beginning (`shuffles_are_fair`, `samples_are_shuffles`).
 //! 3. After each line of a log, all but 64 buckets a group of the new table, and all but 8 of the
-//!    tried one, lead to no record that some groups put there (`groups_reach_few`).
+//!    tried one, lead to no record that some groups put there; and all but one a pair of groups,
+//!    if they announce peers of some groups only (`groups_reach_few`).
 //! 4. A record is lost only if it is terrible and its last slot goes to another, or if a tried
 //!    record that a success displaces takes that slot (`losses_have_causes`,
 //!    `runs_lose_with_causes`).
