@@ -1,10 +1,10 @@
 -- What the calls on the limit of received addresses return, write and leave.
-use Rattle.std.specs.Prelude.{◌≡◌, ◌⊎◌, ℕ, ◌<◌, ◌≤◌, List, [], Bool, is_some, is_none, Option, Some, None, MatchOption}
+use Rattle.std.specs.Prelude.{◌≡◌, ◌⊎◌, ℕ, ◌<◌, ◌≤◌, List, [], Bool, is_none, Option, Some, None, MatchOption}
 use Rattle.net_addr.specs.Address.{Address}
-use Rattle.addr_limit.specs.State.{find_conn, without_conn}
+use Rattle.addr_limit.specs.State.{find_conn}
 use Rattle.addr_limit.specs.Steps.{new_conn}
 use Rattle.addr_limit.specs.Tokens.{refill, intake_count}
-use Rattle.addr_limit.specs.Calls.{asked_of, after_open, after_asking, after_taking}
+use Rattle.addr_limit.specs.Calls.{after_open, after_taking}
 use Rattle.addr_limit.specs.declared.conn.Conn.{Conn}
 use Rattle.addr_limit.specs.declared.asked.Asked.{Asked}
 use Rattle.addr_limit.specs.declared.asked.Asked.TheVariants.{Unknown, Already, Granted}

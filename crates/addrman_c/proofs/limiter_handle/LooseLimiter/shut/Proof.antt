@@ -1,5 +1,5 @@
 -- `shut` keeps the pointer and forgets its type.
-use Rattle.std.proofs.Common.{◌≡◌, List, [], ◌∷◌, ◌++◌, refl, sym, ap, subst}
+use Rattle.std.proofs.Common.{◌≡◌, List, [], ◌∷◌, ◌++◌, refl, sym, subst}
 use mir.Val.{Val, vptr}
 use base.Logic.{SProp, ent, emp, id⊢}
 use base.Fml.{ftrue}
@@ -24,7 +24,6 @@ use Rattle.std.specs.contracts.alloc.Global as Z
 use Rattle.std.proofs.alloc.Global.TheLaws.{the_row_laws as LZ}
 use Rattle.std.specs.contracts.impls.GlobalAllocator.TheImpl.{ghosts as g}
 use Rattle.box_parts.proofs.Values.{both, Loose, loose_good, loose_out}
-use Rattle.addrman_c.specs.declared.limiter_handle.KeptLimiter.{KeptLimiter}
 use Rattle.addrman_c.specs.contracts.limiter_handle.KeptLimiter as R
 use Rattle.addrman_c.specs.contracts.limiter_handle.LooseLimiter as L
 use Rattle.std.specs.declared.option.Option.TheVariants.{Some}
