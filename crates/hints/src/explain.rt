@@ -95,7 +95,11 @@ fn other_count(
 }
 
 /// Says which command reads lines that begin with this keyword, or which keyword is the nearest.
-fn unknown_keyword(alloc: Global, reader: Reader, keyword: &[u8]) -> Result<String, AllocError> {
+pub(crate) fn unknown_keyword(
+    alloc: Global,
+    reader: Reader,
+    keyword: &[u8],
+) -> Result<String, AllocError> {
     let shown = quoted(alloc, keyword)?;
     let shown = shown.as_str();
     if reader == Reader::Arguments {

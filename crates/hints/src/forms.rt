@@ -1,5 +1,5 @@
 /// The forms of the command line, one a command.
-static COMMANDS: [&str; 13] = [
+static COMMANDS: [&str; 15] = [
     "replay --key HEX64 --net CHAIN",
     "opener --key HEX64 --net CHAIN",
     "limit",
@@ -13,6 +13,8 @@ static COMMANDS: [&str; 13] = [
     "banned PEER NOW",
     "gen START LINES",
     "trial START LINES",
+    "help COMMAND",
+    "version",
 ];
 
 /// The forms of the lines of a replay's log.

@@ -1,6 +1,6 @@
 use crate::explain::explain;
 use crate::forms::Reader;
-use crate::shown::is_marked;
+use crate::shown::{is_marked, quoted};
 use std::alloc::{AllocError, Global};
 
 /// Says what is wrong with a line of a log, which the command of this name refuses, and in which
@@ -21,6 +21,12 @@ pub fn line_hint(
     }
     if line.first() == Some(&b' ') {
         let text = String::from_str(alloc, "column 1: the line begins with a space")?;
+        return Ok(Some(text));
+    }
+    if command == b"lookup".as_slice() {
+        let shown = quoted(alloc, line)?;
+        let shown = shown.as_str();
+        let text = format!(in alloc; "a line is an address with a port; {shown} is none")?;
         return Ok(Some(text));
     }
     let Some(reader) = Reader::of_log(command) else {

@@ -1,4 +1,4 @@
-use crate::explain::explain;
+use crate::explain::{explain, unknown_keyword};
 use crate::forms::Reader;
 use crate::options::explain_options;
 use std::alloc::{AllocError, Global};
@@ -21,6 +21,11 @@ pub fn usage_hint(alloc: Global, words: &[String]) -> Result<String, AllocError>
         && form.contains("--")
     {
         return explain_options(alloc, form, rest);
+    }
+    if command.as_str() == "help"
+        && let [name] = rest
+    {
+        return unknown_keyword(alloc, Reader::Arguments, name.as_bytes());
     }
     let mut fields = Vec::new(alloc);
     for word in rest {
