@@ -1,4 +1,4 @@
-ghost use Rattle.std.specs.Prelude.{◌≡◌, ◌↔◌, ◌<◌, ◌^◌, IsTrue};
+ghost use Rattle.std.specs.Prelude.{◌≡◌};
 ghost use Rattle.addrman_c.specs.Values.{peer_in, address_in};
 ghost use Rattle.addrman_c.specs.Calls.{AddCall, MessageCall, Tells, fault_number, form_of};
 ghost use Rattle.addrman_c.specs.OnHandle.{OnTables};

@@ -1,6 +1,5 @@
-ghost use Rattle.std.specs.Prelude.{◌≡◌, MatchOption};
-ghost use Rattle.placing.specs.Places.{group};
-ghost use Rattle.peer_open.specs.Verdicts.{judge, judge_feeler};
+ghost use Rattle.std.specs.Prelude.{◌≡◌};
+ghost use Rattle.peer_open.specs.Verdicts.{judge_feeler};
 ghost use Rattle.addrman_c.specs.Values.{peer_in};
 ghost use Rattle.addrman_c.specs.Outbound.{verdict_number, JudgeCall, AddCall, RemoveCall};
 ghost use Rattle.addrman_c.specs.OnHandle.{OnHandle};

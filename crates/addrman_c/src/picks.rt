@@ -1,4 +1,4 @@
-ghost use Rattle.std.specs.Prelude.{◌≡◌, ◌%◌, Some, option_map};
+ghost use Rattle.std.specs.Prelude.{◌≡◌, ◌%◌};
 ghost use Rattle.net_addr.specs.NetBits.{nets_of};
 ghost use Rattle.table_machine.specs.Picks.{select};
 ghost use Rattle.table_machine.specs.Clashes.{resolve, clash_pick};

@@ -1,4 +1,4 @@
-ghost use Rattle.std.specs.Prelude.{◌≡◌, ◌<◌, ◌≤◌, ℕ, length, take, slice_index, MatchOption, IfOk};
+ghost use Rattle.std.specs.Prelude.{◌≡◌, ◌≤◌, length, take};
 ghost use Rattle.peer_rec.specs.Rec.{buckets_by};
 ghost use Rattle.addrman_c.specs.Values.{peer_in};
 ghost use Rattle.addrman_c.specs.Calls.{FindCall, IsRecord, AreRecords, RecordsCall};

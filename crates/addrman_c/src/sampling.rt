@@ -1,4 +1,4 @@
-ghost use Rattle.std.specs.Prelude.{◌≡◌, ◌≤◌, ◌%◌, length};
+ghost use Rattle.std.specs.Prelude.{◌≤◌, ◌%◌, length};
 ghost use Rattle.net_addr.specs.NetBits.{nets_of};
 ghost use Rattle.addrman_c.specs.Sampling.{ArePeers, PeersPut, SampleCall};
 ghost use Rattle.addrman_c.specs.OnHandle.{OnTables};

@@ -1,6 +1,5 @@
-ghost use Rattle.std.specs.Prelude.{◌≡◌, ℕ, ◌⊎◌, List, Some};
+ghost use Rattle.std.specs.Prelude.{◌≡◌, Some};
 ghost use Rattle.net_addr.specs.Address.{Address};
-ghost use Rattle.net_addr.specs.Ranges.{is_routable};
 ghost use Rattle.net_addr.specs.Text.{IsAddrText, IsPeerText, addr_text, peer_text};
 ghost use Rattle.net_addr.specs.declared.peer.Peer.{Peer};
 ghost use Rattle.addrman_c.specs.Values.{address_in, peer_in};

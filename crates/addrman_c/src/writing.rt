@@ -1,4 +1,4 @@
-ghost use Rattle.std.specs.Prelude.{◌≡◌, ◌⊎◌, IfSome};
+ghost use Rattle.std.specs.Prelude.{◌≡◌, IfSome};
 ghost use Rattle.peers_file.specs.Texts.{file_text};
 ghost use Rattle.table_machine.specs.Snapshot.{snapshot_of};
 ghost use Rattle.addrman_c.specs.Files.{chain_of, WriteCall};
