@@ -17,14 +17,23 @@ def write_all(descriptor: int, data: bytes):
 def main() -> int:
     """Runs the command of the arguments.
 
-    A standard stream that is closed is a folder from then on, so no file is opened as one.
+    A standard stream that is closed is a folder from then on, so no file is opened as one. Nothing is
+    said of a run whose output nobody reads any more.
     """
     for _ in range(3):
         os.open("/", os.O_RDONLY)
-    code, text = command.run(
-        sys.argv[1:], lambda: os.read(0, MAXIMUM_PIECE), lambda data: write_all(1, data), Folder()
-    )
-    if text:
+    is_unread = False
+
+    def write(data: bytes):
+        nonlocal is_unread
+        try:
+            write_all(1, data)
+        except BrokenPipeError:
+            is_unread = True
+            raise
+
+    code, text = command.run(sys.argv[1:], lambda: os.read(0, MAXIMUM_PIECE), write, Folder())
+    if text and not is_unread:
         try:
             write_all(2, f"addrman: {text}\n".encode())
             if not sys.argv[1:]:
