@@ -84,20 +84,7 @@ means-fit (command.Services peer services) texts h =
     let same : services ≡ two.2.0 = ap number_in two.2.1 in
     let most = two.2.3 in
     omega (arith, same, most)
-means-fit (command.Good peer testing) texts h = tt
-means-fit (command.Attempt peer count) texts h = tt
-means-fit (command.Connected peer) texts h = tt
-means-fit (command.Find peer) texts h = tt
-means-fit command.Size texts h = tt
-means-fit (command.Select new_only nets words) texts h = tt
-means-fit (command.Sample max pct classes words) texts h = tt
-means-fit command.Resolve texts h = tt
-means-fit (command.Clash word) texts h = tt
-means-fit command.Dump texts h = tt
-means-fit command.Save texts h = tt
-means-fit command.SaveBegin texts h = tt
-means-fit (command.SaveStep count) texts h = tt
-means-fit command.SaveEnd texts h = tt
+means-fit other texts h = tt
 
 pub spelled-fits : (line : List ℕ) (asked : Command) → Spells line asked → IsFit asked
 spelled-fits line asked h = means-fit asked h.1 (fields_of_line line asked h)

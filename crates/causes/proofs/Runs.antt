@@ -36,20 +36,7 @@ command_moves old command.Save answer new ended h = by_job old command.Save answ
 command_moves old command.SaveBegin answer new ended h = by_job old command.SaveBegin answer new ended h
 command_moves old (command.SaveStep n) answer new ended h = by_job old (command.SaveStep n) answer new ended h
 command_moves old command.SaveEnd answer new ended h = by_job old command.SaveEnd answer new ended h
-command_moves old (command.Now time) answer new ended h = by_machine old (command.Now time) answer new ended h
-command_moves old (command.Addr source payload words) answer new ended h = by_machine old (command.Addr source payload words) answer new ended h
-command_moves old (command.Addr2 source payload words) answer new ended h = by_machine old (command.Addr2 source payload words) answer new ended h
-command_moves old (command.Good peer testing) answer new ended h = by_machine old (command.Good peer testing) answer new ended h
-command_moves old (command.Attempt peer count) answer new ended h = by_machine old (command.Attempt peer count) answer new ended h
-command_moves old (command.Connected peer) answer new ended h = by_machine old (command.Connected peer) answer new ended h
-command_moves old (command.Services peer services) answer new ended h = by_machine old (command.Services peer services) answer new ended h
-command_moves old (command.Find peer) answer new ended h = by_machine old (command.Find peer) answer new ended h
-command_moves old command.Size answer new ended h = by_machine old command.Size answer new ended h
-command_moves old (command.Select new_only nets words) answer new ended h = by_machine old (command.Select new_only nets words) answer new ended h
-command_moves old (command.Sample max pct classes words) answer new ended h = by_machine old (command.Sample max pct classes words) answer new ended h
-command_moves old command.Resolve answer new ended h = by_machine old command.Resolve answer new ended h
-command_moves old (command.Clash word) answer new ended h = by_machine old (command.Clash word) answer new ended h
-command_moves old command.Dump answer new ended h = by_machine old command.Dump answer new ended h
+command_moves old other answer new ended h = by_machine old other answer new ended h
 
 -- a line leaves the machine as it is, or spells a command by which it moves
 pub line_moves : (old : History) (line text : List ℕ) (new : History) → Step old line text new

@@ -100,7 +100,4 @@ step-sound old cmd answer new sound low room = by cmd
         (λ drawn. to _ drawn.1.1 (sample-sound old.tables max pct class words old.clock sound) (le_from (sample-next old.tables max pct class words old.clock)) low) h
     by command.Resolve fit h = to _ h.1 (resolve-sound old.tables old.clock sound low) (le_from (resolve-next old.tables old.clock)) low
     by (command.Clash word) fit h = to _ h.1 (clash_pick-sound old.tables word sound) (le_from (clash_pick-keeps_numbers old.tables word).0) low
-    by command.Save fit h = absurd h
-    by command.SaveBegin fit h = absurd h
-    by (command.SaveStep count) fit h = absurd h
-    by command.SaveEnd fit h = absurd h
+    by other fit h = absurd h

@@ -131,7 +131,4 @@ module _ (C : ℕ → Peer → Address → ℕ → Type 0) (places : Places) whe
     step-holds old (command.Clash word) answer new gave holds step =
         subst (λ (m : Machine). Holds C places m.tables) (sym step.1) (clash_pick-keeps old.tables (Holds C places) holds (λ number. holds) word)
     step-holds old command.Dump answer new gave holds step = subst (λ (m : Machine). Holds C places m.tables) (sym step.1) holds
-    step-holds old command.Save answer new gave holds step = absurd step
-    step-holds old command.SaveBegin answer new gave holds step = absurd step
-    step-holds old (command.SaveStep count) answer new gave holds step = absurd step
-    step-holds old command.SaveEnd answer new gave holds step = absurd step
+    step-holds old other answer new gave holds step = absurd step

@@ -84,23 +84,11 @@ can_do : (command : Command) (texts : List (List ℕ)) → keeps (log.word_of (l
     → manager.SavesNothing command × manager.HasPercent command
 unfolding keeps
 can_do (c.Sample max pct classes words) texts kept h = (tt, percent texts max pct classes words h)
-can_do (c.Now time) texts kept h = (tt, tt)
-can_do (c.Addr source payload words) texts kept h = (tt, tt)
-can_do (c.Addr2 source payload words) texts kept h = (tt, tt)
-can_do (c.Good peer testing) texts kept h = (tt, tt)
-can_do (c.Attempt peer count) texts kept h = (tt, tt)
-can_do (c.Connected peer) texts kept h = (tt, tt)
-can_do (c.Services peer services) texts kept h = (tt, tt)
-can_do (c.Find peer) texts kept h = (tt, tt)
-can_do c.Size texts kept h = (tt, tt)
-can_do (c.Select new_only nets words) texts kept h = (tt, tt)
-can_do c.Resolve texts kept h = (tt, tt)
-can_do (c.Clash word) texts kept h = (tt, tt)
-can_do c.Dump texts kept h = (tt, tt)
 can_do c.Save texts kept h = absurd (cc kept)
 can_do c.SaveBegin texts kept h = absurd (cc kept)
 can_do (c.SaveStep count) texts kept h = absurd (cc kept)
 can_do c.SaveEnd texts kept h = absurd (cc kept)
+can_do other texts kept h = (tt, tt)
 
 some_in : {A : Type 0} (x y : A) → Some x ≡ Some y → x ≡ y
 some_in x y e = cc e

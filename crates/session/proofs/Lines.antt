@@ -81,20 +81,4 @@ for_line (Err e) of told = tt
 -- a line that parses as a command has a percentage of at most 100
 pub has_percent : (line : List ℕ) (command : Command) → Spells line command → HasPercent command
 has_percent line (c.Sample max pct classes words) h = percent h.1 max pct classes words (fields_of_line line (c.Sample max pct classes words) h)
-has_percent line (c.Now time) h = tt
-has_percent line (c.Addr source payload words) h = tt
-has_percent line (c.Addr2 source payload words) h = tt
-has_percent line (c.Good peer testing) h = tt
-has_percent line (c.Attempt peer count) h = tt
-has_percent line (c.Connected peer) h = tt
-has_percent line (c.Services peer services) h = tt
-has_percent line (c.Find peer) h = tt
-has_percent line c.Size h = tt
-has_percent line (c.Select new_only nets words) h = tt
-has_percent line c.Resolve h = tt
-has_percent line (c.Clash word) h = tt
-has_percent line c.Dump h = tt
-has_percent line c.Save h = tt
-has_percent line c.SaveBegin h = tt
-has_percent line (c.SaveStep count) h = tt
-has_percent line c.SaveEnd h = tt
+has_percent line other h = tt
