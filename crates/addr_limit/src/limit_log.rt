@@ -143,8 +143,6 @@ impl LineSteps<()> for LimitLog {
 
     ghost step = { λ old before line text new after. LimitStep old line text new };
 
-    ghost stopped = { λ old before line after. ⊤ };
-
     ghost has_fault = { HasFault };
 
     ghost ready = { λ l world. ⊤ };

@@ -91,21 +91,21 @@ module _ {S : Type 0} (step : Steps S) (has_fault : List ℕ → LineFault → T
   same_log : (how : LogEnd) (ran : Ran step has_fault begins old new how) → ran.log ≡ good.log
   same_log how ran = subst (λ left. IfSome left (λ bytes. ran.log ≡ bytes)) good.known ran.known
 
-  split : (how : LogEnd) (ran : Ran step has_fault begins old new how) → lines_of good.log ≡ ran.answered ++ lines_of ran.next
+  split : (how : LogEnd) (ran : Ran step has_fault begins old new how) → lines_of good.log ≡ ran.carried ++ lines_of ran.next
   split how ran = ap lines_of (sym (same_log how ran)) ∙ ran.begins.split
 
   pub no_fault : (n : ℕ) (fault : LineFault) → Ran step has_fault begins old new (end.Fault n fault) → ⊥
   no_fault n fault ran =
       let (line, after, next, why, near) = ran.ends.2 in
-      let all = subst (All IsLine) (split _ ran ∙ ap (λ lines. ran.answered ++ lines) next.split) good.right in
-      right line fault (All-head IsLine line (lines_of after) (all_after IsLine ran.answered (line ∷ lines_of after) all)) why
+      let all = subst (All IsLine) (split _ ran ∙ ap (λ lines. ran.carried ++ lines) next.split) good.right in
+      right line fault (All-head IsLine line (lines_of after) (all_after IsLine ran.carried (line ∷ lines_of after) all)) why
 
   pub no_long_line : (n : ℕ) → Ran step has_fault begins old new (end.LineTooLong n) → ⊥
   no_long_line n ran =
       let (first, more, next, long, near) = ran.ends.2 in
       let short = subst (All (λ line. length line ≤ MAX_LINE)) (split _ ran) good.short in
       let rest = subst (λ bytes. All (λ line. length line ≤ MAX_LINE) (lines_of bytes)) next.whole
-      (all_after (λ line. length line ≤ MAX_LINE) ran.answered (lines_of ran.next) short) in
+      (all_after (λ line. length line ≤ MAX_LINE) ran.carried (lines_of ran.next) short) in
       omega (arith, long, one_line first more next.no_feed, first_within MAX_LINE (lines_of (first ++ more)) rest)
 
   pub no_long_log : Ran step has_fault begins old new end.LogTooLong → ⊥

@@ -29,7 +29,7 @@ given s (line ∷ lines) text t run =
 limited : (old new : Streams) (how : LogEnd) → ((number : ℕ) → number < 2 ^ 32 → IsLastOutput LimitStep start (is_about number))
     → Ran LimitStep HasFault start old new how → Limited old new how
 limited old new how law r =
-    let run = given start r.answered r.replies r.now r.runs in
+    let run = given start r.carried r.replies r.now r.runs in
     record {
       ran = r;
       outputs = run.outputs;

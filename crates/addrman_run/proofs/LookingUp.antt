@@ -40,7 +40,7 @@ given map (line ∷ lines) text end run =
 
 pub looked_up : (past : Option Past) (map : Asmap) (old new : Streams) (how : LogEnd) → IsMapIn past (Some map) → Ran LookupStep HasFault map old new how → LookedUp past old new how
 looked_up past map old new how is r =
-    let run = given map r.answered r.replies r.now r.runs in
+    let run = given map r.carried r.replies r.now r.runs in
     record { map = map; has_map = is; ran = r; peers = run.peers; each = run.each; whole = run.whole }
 
 -- the same of a run beside a world, of which the asmap is seen

@@ -17,7 +17,8 @@ use Rattle.gen_load.specs.Log.{beginning, drawn_line, drawn_lines, whole_log, lo
 use Rattle.gen_load.specs.declared.position.Position.{Position}
 use Rattle.gen_load.specs.Spelling.{without_feed}
 use Rattle.gen_load.specs.declared.generated.TheConstants.{MAX_LINES}
-use Rattle.log_run.specs.Run.{Run, Steps}
+use Rattle.log_run.proofs.OneMore.{Run-more}
+use Rattle.log_run.specs.Run.{Run}
 use Rattle.session.specs.Events.{Ended}
 use Rattle.session.specs.Folders.{IsOpen}
 use Rattle.session.specs.History.{Step, fresh, onto}
@@ -28,14 +29,6 @@ use Rattle.addrman_run.specs.Inside.{HasReplies, Replied}
 use Rattle.addrman_run.specs.Opening.{places_of}
 use Rattle.addrman_run.specs.Replay.{at_start}
 use Rattle.addrman_run.specs.Trial.{IsTrial, sizes_text, trial_start, with_counts, with_sum}
-
--- a run goes on by one line
-run_more : {S : Type 0} (step : Steps S) (done : List (List ℕ)) (a b c : S) (line text reply : List ℕ)
-    → Run step a done text b → step b line reply c → Run step a (done ++ line ∷ []) (text ++ reply) c
-run_more step [] a b c line text reply run one =
-    (reply, [], c, ap (λ t. t ++ reply) run.0 ∙ sym (append-nil reply), subst (λ s. step s line reply c) run.1 one, (refl, refl))
-run_more step (first ∷ done) a b c line text reply (head, rest, mid, is, step_one, run) one =
-    (head, rest ++ reply, mid, ap (λ t. t ++ reply) is ∙ append_assoc head rest reply, step_one, run_more step done mid b c line rest reply run one)
 
 -- the lines so far have their replies, of which the hasher holds all
 pub record Trying (start : session.State) (log now : List (List ℕ)) (st : session.State) (hasher : Sha256) (bytes : ℕ) : Type 0 where
@@ -84,7 +77,7 @@ tries_line start log now after st new hasher next bytes more line before reply t
       answered = t.answered ++ without_feed line ∷ [];
       text = t.text ++ reply;
       ended = onto step.1 t.ended;
-      runs = run_more Step t.answered (fresh start) (history st t.ended) (history new (onto step.1 t.ended)) (without_feed line) t.text reply t.runs
+      runs = Run-more Step t.answered (fresh start) (history st t.ended) (history new (onto step.1 t.ended)) (without_feed line) t.text reply t.runs
           (step.1, subst (λ r. session.LineStep st (without_feed line) r new step.1) (sym is_reply) step.2, refl);
       whole = append_assoc t.answered (without_feed line ∷ []) (map without_feed after)
           ∙ ap (λ xs. t.answered ++ xs) (ap (λ l. without_feed l ∷ map without_feed after) is ∙ ap (λ ls. without_feed (next_line now) ∷ map without_feed ls) is_after ∙ cut_first now some)

@@ -23,7 +23,7 @@ use Rattle.addrman_run.specs.Decompile.{ReportsDecompile}
 use Rattle.addrman_run.specs.InFolder.{IsAbsent}
 use Rattle.addrman_run.specs.LookupLines.{IsPeerLine}
 use Rattle.addrman_run.specs.Opening.{ReportsOpening}
-use Rattle.addrman_run.specs.Replay.{Replayed, saves_of}
+use Rattle.addrman_run.specs.Replay.{Replayed}
 use Rattle.addrman_run.specs.Show.{ReportsPeers}
 use Rattle.addrman_run.specs.Tables.{ReportsTable}
 use Rattle.arguments.specs.declared.request.Request.{Request}
@@ -99,7 +99,7 @@ pub record NothingFails (old new : Outside) : Type 0 where
 abbrev pub NoSaveFails : Request → Outside → Outside → Type 0
 NoSaveFails (Replay key chain) old new =
     ¬ Rose old.folder_faults new.folder_faults →
-    (how : LogEnd) (run : Replayed key chain old new how) → failed (saves_of how run) ≡ 0
+    (how : LogEnd) (run : Replayed key chain old new how) → failed run.ran.now.ended ≡ 0
 NoSaveFails other old new = ⊤
 
 -- If nothing is wrong and nothing fails, the run is done, or memory ran out.

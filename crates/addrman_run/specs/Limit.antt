@@ -20,14 +20,14 @@ AreApart about lines outs =
     (own : List (List ℕ)) × (own_end : State) × (front : List (List ℕ)) × (out : List ℕ) × (back : List (List ℕ)) ×
     Outputs LimitStep start (filter about (before ++ line ∷ [])) own own_end × (outs ≡ front ++ out ∷ back) × (length front ≡ length before) × (last_or None own ≡ Some out)
 
--- A run over the log under the limit, by its end. Each line that is answered has one output, and the
--- one for a line that names a number depends on the lines of that number and the `now` lines only.
+-- A run over the log under the limit, by its end. Each line that is carried out has one output, and
+-- that of a line that names a number depends on the lines of that number and the `now` lines only.
 pub record Limited (old new : Streams) (how : LogEnd) : Type 0 where
   pub ran : Ran LimitStep HasFault start old new how
   pub outputs : List (List ℕ)
-  pub each : Outputs LimitStep start ran.answered outputs ran.now
+  pub each : Outputs LimitStep start ran.carried outputs ran.now
   pub whole : ran.replies ≡ flat_map (λ output. output) outputs
-  pub apart : (number : ℕ) → number < 2 ^ 32 → AreApart (is_about number) ran.answered outputs
+  pub apart : (number : ℕ) → number < 2 ^ 32 → AreApart (is_about number) ran.carried outputs
 
 -- how the limit ends, by its status
 abbrev pub LimitOutcome : Streams → Streams → Status → Type 0

@@ -51,7 +51,7 @@ pub record LookedUp (past : Option Past) (old new : Streams) (how : LogEnd) : Ty
   pub has_map : IsMapIn past (Some map)
   pub ran : Ran LookupStep HasFault map old new how
   pub peers : List Peer
-  pub each : ArePeers ran.answered peers
+  pub each : ArePeers ran.carried peers
   pub whole : ran.replies ≡ flat_map (λ peer. lookup_text map peer.addr) peers
 
 -- why there is no asmap to look addresses up in

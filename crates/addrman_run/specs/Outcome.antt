@@ -1,8 +1,7 @@
 -- How a request ends: what it writes, why its status comes, and what it leaves.
-use Rattle.std.specs.Prelude.{◌≡◌, ◌≤◌, ℕ}
 use Rattle.ban_list.specs.Bans.{ban_of}
-use Rattle.host_io.specs.Faults.{Rose}
 use Rattle.host_io.specs.Outside.{Outside}
+use Rattle.log_run.specs.Counts.{IsCounted}
 use Rattle.addrman_run.specs.Replay.{ReplayEnds}
 use Rattle.addrman_run.specs.Lookup.{LookupEnds}
 use Rattle.addrman_run.specs.LookupLines.{LookupLinesEnds}
@@ -43,10 +42,6 @@ Ends (Gen start lines) old new answer = GenEnds start lines old new answer
 Ends (Trial start lines) old new answer = TrialEnds start lines old new answer
 Ends (Help command) old new answer = HelpEnds command old new answer
 Ends Version old new answer = VersionEnds old new answer
-
--- a count of faults did not fall, and rose if the run ended with this fault
-abbrev pub IsCounted : Status → ℕ → ℕ → Status → Type 0
-IsCounted fault before after answer = (before ≤ after) × (answer ≡ fault → Rose before after)
 
 -- a fault of the outside comes only if its count rose, and no count falls
 pub record HasCause (old new : Outside) (answer : Status) : Type 0 where

@@ -10,7 +10,7 @@ ghost use Rattle.ban_list.specs.declared.ban.Ban.{Ban};
 ghost use Rattle.addrman_run.specs.Bans.{AreBansIn, BansText, Change, IsOldOrNewList};
 ghost use Rattle.addrman_run.specs.Bans.{ban_change, banned_change, found_text, reply_text, saved_by, unban_change};
 ghost use Rattle.addrman_run.specs.Inside.{AnswerEnds, IsNoBans, IsNoList};
-ghost use Rattle.addrman_run.specs.Outcome.{IsCounted};
+ghost use Rattle.log_run.specs.Counts.{IsCounted};
 
 use crate::input::{Input, load_input};
 use crate::output::{save_then_write, write_line};

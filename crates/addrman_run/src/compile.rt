@@ -7,7 +7,7 @@ ghost use Rattle.prefix_table.specs.declared.read.TheConstants.{MAX_TEXT};
 ghost use Rattle.addrman_run.specs.Compile.{CompileText, IsOldOrNew, compile_text};
 ghost use Rattle.addrman_run.specs.InFolder.{ReportsAbsence};
 ghost use Rattle.addrman_run.specs.Inside.{IsLoaded, IsNewAsmap, IsNotCompiled};
-ghost use Rattle.addrman_run.specs.Outcome.{IsCounted};
+ghost use Rattle.log_run.specs.Counts.{IsCounted};
 ghost use Rattle.addrman_run.specs.declared.input.Input.TheVariants as input;
 
 use crate::input::{Input, load_present};

@@ -4,7 +4,7 @@ ghost use Rattle.host_io.specs.Past.{Past};
 ghost use Rattle.addrman_run.specs.FileLine.{FileLineText};
 ghost use Rattle.addrman_run.specs.InFolder.{ReportsAbsence};
 ghost use Rattle.addrman_run.specs.Inside.{name_of, max_of, too_large_of, IsLoaded, IsLarge};
-ghost use Rattle.addrman_run.specs.Outcome.{IsCounted};
+ghost use Rattle.log_run.specs.Counts.{IsCounted};
 ghost use Rattle.addrman_run.specs.declared.input.Input.{Input};
 ghost use Rattle.addrman_run.specs.declared.peers_fault.PeersFault.{PeersFault};
 ghost use Rattle.addrman_run.specs.declared.status.Status.{Status};

@@ -1,7 +1,7 @@
 ghost use Rattle.std.specs.Prelude.{◌≡◌, ◌≢◌, ◌≤◌};
 ghost use Rattle.gen_load.specs.declared.generated.TheConstants.{MAX_LINES};
 ghost use Rattle.addrman_run.specs.Generate.{GenText};
-ghost use Rattle.addrman_run.specs.Outcome.{IsCounted};
+ghost use Rattle.log_run.specs.Counts.{IsCounted};
 
 use crate::Status;
 use gen_load::Gen;

@@ -1,7 +1,7 @@
 ghost use Rattle.std.specs.Prelude.{◌≢◌};
 ghost use Rattle.addrman_run.specs.Help.{IsHelp, IsVersion};
 ghost use Rattle.addrman_run.specs.OneText.{OneText};
-ghost use Rattle.addrman_run.specs.Outcome.{IsCounted};
+ghost use Rattle.log_run.specs.Counts.{IsCounted};
 
 use crate::Status;
 use crate::output::write_line;

@@ -2,7 +2,7 @@ ghost use Rattle.std.specs.Prelude.{◌≢◌, ◌+◌};
 ghost use Rattle.host_io.specs.Reading.{TakesAtMost};
 ghost use Rattle.log_run.specs.declared.limits.TheConstants.{MAX_LOG};
 ghost use Rattle.addrman_run.specs.Limit.{LimitOutcome};
-ghost use Rattle.addrman_run.specs.Outcome.{IsCounted};
+ghost use Rattle.log_run.specs.Counts.{IsCounted};
 
 use crate::Status;
 use crate::log_status::status_of;

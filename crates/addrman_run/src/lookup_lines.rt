@@ -7,7 +7,7 @@ ghost use Rattle.placing.specs.Inside.{asmap_of};
 ghost use Rattle.addrman_run.specs.InFolder.{ReportsAbsence};
 ghost use Rattle.addrman_run.specs.Lookup.{lookup_text};
 ghost use Rattle.addrman_run.specs.LookupLines.{LookupLinesOutcome};
-ghost use Rattle.addrman_run.specs.Outcome.{IsCounted};
+ghost use Rattle.log_run.specs.Counts.{IsCounted};
 
 use crate::Status;
 use crate::input::{Input, load_present};
@@ -48,8 +48,6 @@ impl<'a> LineSteps<()> for LookupLines<'a> {
 
     ghost step = { λ old before line text new after.
         LookupStep (asmap_of old.asmap) line text (asmap_of new.asmap) };
-
-    ghost stopped = { λ old before line after. ⊤ };
 
     ghost has_fault = { HasFault };
 

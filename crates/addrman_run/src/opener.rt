@@ -3,7 +3,7 @@ ghost use Rattle.host_io.specs.Outside.{outside};
 ghost use Rattle.host_io.specs.Reading.{TakesAtMost};
 ghost use Rattle.log_run.specs.declared.limits.TheConstants.{MAX_LOG};
 ghost use Rattle.addrman_run.specs.Opener.{OpenerOutcome};
-ghost use Rattle.addrman_run.specs.Outcome.{IsCounted};
+ghost use Rattle.log_run.specs.Counts.{IsCounted};
 
 use crate::Status;
 use crate::input::{Input, load_input};

@@ -2,7 +2,7 @@ ghost use Rattle.std.specs.Prelude.{◌≢◌};
 ghost use Rattle.host_io.specs.Past.{Always};
 ghost use Rattle.save_store.specs.Saves.{PublishesOrNot};
 ghost use Rattle.addrman_run.specs.Inside.{LineEnds, SaveEnds};
-ghost use Rattle.addrman_run.specs.Outcome.{IsCounted};
+ghost use Rattle.log_run.specs.Counts.{IsCounted};
 
 use crate::Status;
 use host_io::{Folder, Name, Sink, write_all};

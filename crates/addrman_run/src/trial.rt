@@ -4,9 +4,9 @@ ghost use Rattle.gen_load.specs.Spelling.{without_feed};
 ghost use Rattle.gen_load.specs.declared.generated.TheConstants.{MAX_LENGTH, MAX_LINES};
 ghost use Rattle.session.specs.Folders.{IsOpen};
 ghost use Rattle.addrman_run.specs.Inside.{HasReplies, Replied};
-ghost use Rattle.addrman_run.specs.Outcome.{IsCounted};
 ghost use Rattle.addrman_run.specs.OneText.{OneText};
 ghost use Rattle.addrman_run.specs.Trial.{IsTrial, trial_start};
+ghost use Rattle.log_run.specs.Counts.{IsCounted};
 
 use crate::output::write_line;
 use crate::trial_line::line_of;

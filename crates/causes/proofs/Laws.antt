@@ -26,7 +26,8 @@ use Rattle.causes.proofs.Fits.{spelled-fits}
 use Rattle.causes.proofs.KeptTried.{step-keeps_tried}
 use Rattle.causes.proofs.Reach.{bounded}
 use Rattle.causes.proofs.Restored.{opened-caused}
-use Rattle.causes.proofs.Runs.{Run-more, line_moves}
+use Rattle.log_run.proofs.OneMore.{Run-more}
+use Rattle.causes.proofs.Runs.{line_moves}
 use Rattle.causes.proofs.Sound.{step-sound}
 use Rattle.causes.proofs.Steps.{Holds, step-holds}
 

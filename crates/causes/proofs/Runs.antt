@@ -1,6 +1,5 @@
--- Runs over lines, one after another, and what a line does to the machine.
-use Rattle.std.proofs.Common.{◌≡◌, ℕ, List, [], ◌∷◌, ◌++◌, Option, refl, sym, ap, subst, ◌∙◌, append_assoc, inl, inr, ⊎_elim, ◌⊎◌}
-use Rattle.std.proofs.lemmas.List.{append-nil}
+-- What a line does to the machine.
+use Rattle.std.proofs.Common.{◌≡◌, ℕ, List, Option, sym, ap, subst, inl, inr, ⊎_elim, ◌⊎◌}
 use Rattle.log_lines.specs.Spelling.{Spells}
 use Rattle.log_lines.specs.declared.command.Command.{Command}
 use Rattle.log_lines.specs.declared.command.Command.TheVariants as command
@@ -10,16 +9,7 @@ use Rattle.manager.specs.Machine.{Machine}
 use Rattle.manager.specs.Step as manager
 use Rattle.session.specs.Events.{Ended}
 use Rattle.session.specs.History.{History, Step}
-use Rattle.log_run.specs.Run.{Run}
 use Rattle.session.specs.State.{CommandStep, JobStep, MachineStep, State}
-
--- a run goes on by one line
-pub Run-more : {S : Type 0} (step : S → List ℕ → List ℕ → S → Type 0) (done : List (List ℕ)) (a b c : S) (line text reply : List ℕ)
-    → Run step a done text b → step b line reply c → Run step a (done ++ line ∷ []) (text ++ reply) c
-Run-more step [] a b c line text reply run one =
-    (reply, [], c, ap (λ t. t ++ reply) run.0 ∙ sym (append-nil reply), subst (λ s. step s line reply c) run.1 one, (refl, refl))
-Run-more step (first ∷ done) a b c line text reply run one =
-    (run.0, run.1 ++ reply, run.2, ap (λ t. t ++ reply) run.3 ∙ append_assoc run.0 run.1 reply, run.4, Run-more step done run.2 b c line run.1 reply run.5 one)
 
 -- the machine stays, or makes a step of the command
 abbrev Moves : Machine → Command → Reply → Machine → Type 0

@@ -1,4 +1,5 @@
 pub mod Loops
+pub mod OneMore
 pub mod Parts
 pub mod Readers
 pub mod Runs

@@ -9,26 +9,19 @@ use Rattle.grammar.specs.declared.fault.LineFault.{LineFault}
 use Rattle.log_run.specs.Log.{IsAtEnd}
 use Rattle.log_run.specs.Reading.{HasMore, HasNoLine, HasRead, IsLine, IsLong, Reading}
 use Rattle.log_run.specs.Reading.IsNext.{fed, last}
-use Rattle.log_run.specs.Run.{EndsBy, NextLine, Run, Steps, Streams}
-use Rattle.log_run.specs.Worlds.{RanIn, StepsIn, WorldEnds, both, world_after}
+use Rattle.log_run.specs.Run.{EndsBy, NextLine, Run, Streams, last_reply}
+use Rattle.log_run.specs.Worlds.{RanIn, StepsIn, WorldStops, both}
 use Rattle.log_run.specs.declared.end.LogEnd.{LogEnd}
 use Rattle.log_run.specs.declared.end.LogEnd.TheVariants.{Done, Fault, LineTooLong, LogTooLong, ReadFault, WriteFault, Memory}
 use Rattle.log_run.specs.declared.line_steps.Stop.{Stop}
 use Rattle.log_run.specs.declared.line_steps.Stop.TheVariants as stop
 use Rattle.log_run.specs.declared.limits.TheConstants.{MAX_LOG}
+use Rattle.log_run.proofs.OneMore.{Run-more, last-more}
 use Rattle.log_run.proofs.Runs.{Kept, Read, begins, is_near, kept_line, kept_start, left_is, log_known, log_length, log_of, long_line, moved_read, next_line, no_line, rest_of, taken_all}
 
 -- how many bytes wait or may still be read
 abbrev pub left_of : Reading → ℕ
 left_of reader = MAX_LOG - reader.taken + length reader.waiting
-
--- a run goes on by one line
-Run-more : {S : Type 0} (step : Steps S) (done : List (List ℕ)) (a b c : S) (line text reply : List ℕ)
-    → Run step a done text b → step b line reply c → Run step a (done ++ line ∷ []) (text ++ reply) c
-Run-more step [] a b c line text reply run one =
-    (reply, [], c, ap (λ t. t ++ reply) run.0 ∙ sym (append-nil reply), subst (λ s. step s line reply c) run.1 one, (refl, refl))
-Run-more step (first ∷ done) a b c line text reply run one =
-    (run.0, run.1 ++ reply, run.2, ap (λ t. t ++ reply) run.3 ∙ append_assoc run.0 run.1 reply, run.4, Run-more step done run.2 b c line run.1 reply run.5 one)
 
 -- a text was appended, and another after it
 append_after : (old mid new : Option (List ℕ)) (text reply : List ℕ) → Appended old mid text → Appended mid new reply → Appended old new (text ++ reply)
@@ -92,29 +85,30 @@ pub record NextRead (reader next : Reading) (mid after : Option (List ℕ)) : Ty
   pub end : (IsTrue reader.is_ended → IsAtEnd mid) → IsTrue next.is_ended → IsAtEnd after
   pub within : reader.taken ≤ MAX_LOG → next.taken ≤ MAX_LOG
 
--- how a run has ended, from what its lines say
-ends_with : {S W : Type 0} (step : StepsIn S W) (stopped : S → W → List ℕ → W → Type 0) (has_fault : List ℕ → LineFault → Type 0) (start : S × W)
-    (left mid after : Option (List ℕ)) (out written new : Option (List ℕ)) (reader next : Reading) (state : S) (world later : W) (line : ℕ) (rest part : List ℕ) (end : LogEnd)
-    (l : Looped step start left mid out written reader state world line) → Read reader next mid after rest → Appended out new (l.replies ++ part)
-    → (ends : EndsBy (both step) has_fault (log_of l.given next rest) l.answered (next.waiting ++ rest) (state, world) part (streams left out) (streams after new) end)
-    → WorldEnds stopped (state, world) (next.waiting ++ rest)
-    (world_after step has_fault (log_of l.given next rest) l.answered (next.waiting ++ rest) (state, world) part (streams left out) (streams after new) end ends) later end
-    → RanIn step stopped has_fault start (streams left out) (streams after new) later end
-ends_with step stopped has_fault start left mid after out written new reader next state world later line rest part end l r whole ends world_ends = record {
+-- how a run has ended, where all replies are written
+ends_with : {S W : Type 0} (step : StepsIn S W) (has_fault : List ℕ → LineFault → Type 0) (start : S × W)
+    (left mid after : Option (List ℕ)) (out written : Option (List ℕ)) (reader next : Reading) (state : S) (world later : W) (line : ℕ) (rest : List ℕ) (end : LogEnd)
+    (l : Looped step start left mid out written reader state world line) → Read reader next mid after rest
+    → EndsBy has_fault (log_of l.given next rest) l.answered (next.waiting ++ rest) (last_reply (both step) start l.answered l.replies (state, world) [] l.runs) []
+    (streams left out) (streams after written) end
+    → later ≡ world → RanIn step has_fault start (streams left out) (streams after written) later end
+ends_with step has_fault start left mid after out written reader next state world later line rest end l r ends same = record {
   ran = record {
     log = log_of l.given next rest;
     known = log_known left mid after reader next l.answered l.given rest l.kept r;
-    answered = l.answered;
+    carried = l.answered;
     next = next.waiting ++ rest;
     begins = begins left mid after reader next l.answered l.given rest l.kept r;
     replies = l.replies;
     now = (state, world);
     runs = l.runs;
-    part = part;
-    written = whole;
+    text = l.replies;
+    unwritten = [];
+    whole = sym (append-nil l.replies);
+    written = l.appended;
     ends = ends;
   };
-  world_ends = world_ends;
+  same_world = same;
 }
 
 -- nothing is left at the end
@@ -171,25 +165,25 @@ takes_read step start left mid after out written reader next state world line l 
     (left_is left mid after reader next l.answered l.given l.kept moved) (omega arith)
 
 -- the log has ended
-pub at_done : {S W : Type 0} (step : StepsIn S W) (stopped : S → W → List ℕ → W → Type 0) (has_fault : List ℕ → LineFault → Type 0) (start : S × W)
+pub at_done : {S W : Type 0} (step : StepsIn S W) (has_fault : List ℕ → LineFault → Type 0) (start : S × W)
     (left mid after out written : Option (List ℕ)) (reader next : Reading) (state : S) (world : W) (line : ℕ)
     → Looped step start left mid out written reader state world line → NextRead reader next mid after → MovesBytes mid after reader.waiting next.waiting
-    → (next.waiting ≡ []) × IsTrue next.is_ended → RanIn step stopped has_fault start (streams left out) (streams after written) world Done
-at_done step stopped has_fault start left mid after out written reader next state world line l n moved none =
+    → (next.waiting ≡ []) × IsTrue next.is_ended → RanIn step has_fault start (streams left out) (streams after written) world Done
+at_done step has_fault start left mid after out written reader next state world line l n moved none =
     let end = n.end l.kept.end none.1 in
-    ends_with step stopped has_fault start left mid after out written written reader next state world world line (rest_of after) [] Done l
-    (as_read step start left mid after out written reader next state world line l n moved) (append_none out written l.replies l.appended)
+    ends_with step has_fault start left mid after out written reader next state world world line (rest_of after) Done l
+    (as_read step start left mid after out written reader next state world line l n moved)
     (refl, none_left next after none.0 end, ends_done left after (left_is left mid after reader next l.answered l.given l.kept moved) end) refl
 
 -- the log cannot be read
-pub at_failed : {S W : Type 0} (step : StepsIn S W) (stopped : S → W → List ℕ → W → Type 0) (has_fault : List ℕ → LineFault → Type 0) (start : S × W)
+pub at_failed : {S W : Type 0} (step : StepsIn S W) (has_fault : List ℕ → LineFault → Type 0) (start : S × W)
     (left mid after out written : Option (List ℕ)) (reader next : Reading) (state : S) (world : W) (line : ℕ)
     → Looped step start left mid out written reader state world line → NextRead reader next mid after → MovesBytes mid after reader.waiting next.waiting
-    → HasNoLine next → RanIn step stopped has_fault start (streams left out) (streams after written) world ReadFault
-at_failed step stopped has_fault start left mid after out written reader next state world line l n moved none =
+    → HasNoLine next → RanIn step has_fault start (streams left out) (streams after written) world ReadFault
+at_failed step has_fault start left mid after out written reader next state world line l n moved none =
     let r = as_read step start left mid after out written reader next state world line l n moved in
-    ends_with step stopped has_fault start left mid after out written written reader next state world world line (rest_of after) [] ReadFault l
-    r (append_none out written l.replies l.appended) (
+    ends_with step has_fault start left mid after out written reader next state world world line (rest_of after) ReadFault l
+    r (
       refl,
       (
         next.waiting,
@@ -201,14 +195,14 @@ at_failed step stopped has_fault start left mid after out written reader next st
     ) refl
 
 -- the next line is too long
-pub at_long : {S W : Type 0} (step : StepsIn S W) (stopped : S → W → List ℕ → W → Type 0) (has_fault : List ℕ → LineFault → Type 0) (start : S × W)
+pub at_long : {S W : Type 0} (step : StepsIn S W) (has_fault : List ℕ → LineFault → Type 0) (start : S × W)
     (left mid after out written : Option (List ℕ)) (reader next : Reading) (state : S) (world : W) (line : ℕ)
     → Looped step start left mid out written reader state world line → NextRead reader next mid after → MovesBytes mid after reader.waiting next.waiting
-    → IsLong next → RanIn step stopped has_fault start (streams left out) (streams after written) world (LineTooLong (line + 1))
-at_long step stopped has_fault start left mid after out written reader next state world line l n moved long =
+    → IsLong next → RanIn step has_fault start (streams left out) (streams after written) world (LineTooLong (line + 1))
+at_long step has_fault start left mid after out written reader next state world line l n moved long =
     let r = as_read step start left mid after out written reader next state world line l n moved in
-    ends_with step stopped has_fault start left mid after out written written reader next state world world line (rest_of after) [] (LineTooLong (line + 1)) l
-    r (append_none out written l.replies l.appended) (
+    ends_with step has_fault start left mid after out written reader next state world world line (rest_of after) (LineTooLong (line + 1)) l
+    r (
       refl,
       ap (λ k. k + 1) l.counted,
       long_line left mid after reader next l.answered l.given (rest_of after) l.kept r long
@@ -216,13 +210,13 @@ at_long step stopped has_fault start left mid after out written reader next stat
     ) refl
 
 -- out of memory before the next line
-pub at_memory : {S W : Type 0} (step : StepsIn S W) (stopped : S → W → List ℕ → W → Type 0) (has_fault : List ℕ → LineFault → Type 0) (start : S × W)
+pub at_memory : {S W : Type 0} (step : StepsIn S W) (has_fault : List ℕ → LineFault → Type 0) (start : S × W)
     (left mid after out written : Option (List ℕ)) (reader next : Reading) (state : S) (world : W) (line : ℕ)
     → Looped step start left mid out written reader state world line → NextRead reader next mid after → MovesBytes mid after reader.waiting next.waiting
-    → RanIn step stopped has_fault start (streams left out) (streams after written) world Memory
-at_memory step stopped has_fault start left mid after out written reader next state world line l n moved =
-    ends_with step stopped has_fault start left mid after out written written reader next state world world line (rest_of after) [] Memory l
-    (as_read step start left mid after out written reader next state world line l n moved) (append_none out written l.replies l.appended) refl (inl refl)
+    → RanIn step has_fault start (streams left out) (streams after written) world Memory
+at_memory step has_fault start left mid after out written reader next state world line l n moved =
+    ends_with step has_fault start left mid after out written reader next state world world line (rest_of after) Memory l
+    (as_read step start left mid after out written reader next state world line l n moved) (inl refl) refl
 
 untrue : (e : Bool) → e ≡ false → IsTrue e → ⊥
 untrue e off is = cc (off, is)
@@ -253,16 +247,16 @@ takes_more step start left mid after out written reader next state world line l 
     takes left mid after reader next l.answered l.given m.0 1 l.kept (as_more step start left mid after out written reader next state world line l n more.2 m)
     (known_more left mid after reader l.answered l.given m.0 l.kept m.3) (omega arith)
 
-pub at_too_long : {S W : Type 0} (step : StepsIn S W) (stopped : S → W → List ℕ → W → Type 0) (has_fault : List ℕ → LineFault → Type 0) (start : S × W)
+pub at_too_long : {S W : Type 0} (step : StepsIn S W) (has_fault : List ℕ → LineFault → Type 0) (start : S × W)
     (left mid after out written : Option (List ℕ)) (reader next : Reading) (state : S) (world : W) (line : ℕ)
     → Looped step start left mid out written reader state world line → NextRead reader next mid after
     → HasNoLine next × (next.taken ≡ MAX_LOG) × (next.is_ended ≡ false) × HasMore reader next mid after
-    → RanIn step stopped has_fault start (streams left out) (streams after written) world LogTooLong
-at_too_long step stopped has_fault start left mid after out written reader next state world line l n more =
+    → RanIn step has_fault start (streams left out) (streams after written) world LogTooLong
+at_too_long step has_fault start left mid after out written reader next state world line l n more =
     let m = more_than reader next mid after more.3 in
     let r = as_more step start left mid after out written reader next state world line l n more.2 m in
-    ends_with step stopped has_fault start left mid after out written written reader next state world world line m.0 [] LogTooLong l
-    r (append_none out written l.replies l.appended) (
+    ends_with step has_fault start left mid after out written reader next state world world line m.0 LogTooLong l
+    r (
       refl,
       (
         next.waiting,
@@ -283,15 +277,15 @@ next_of step start left mid after out written reader next state world line count
     next_line left mid after reader next l.answered l.given (rest_of after) count l.kept r is
 
 -- the line has a fault
-at_fault : {S W : Type 0} (step : StepsIn S W) (stopped : S → W → List ℕ → W → Type 0) (has_fault : List ℕ → LineFault → Type 0) (start : S × W)
+at_fault : {S W : Type 0} (step : StepsIn S W) (has_fault : List ℕ → LineFault → Type 0) (start : S × W)
     (left mid after out written : Option (List ℕ)) (reader next : Reading) (state : S) (world later : W) (line count : ℕ) (fault : LineFault)
     → Looped step start left mid out written reader state world line → NextRead reader next mid after → MovesBytes mid after reader.waiting next.waiting
     → IsLine next count → has_fault (take count next.waiting) fault → later ≡ world
-    → RanIn step stopped has_fault start (streams left out) (streams after written) later (Fault (line + 1) fault)
-at_fault step stopped has_fault start left mid after out written reader next state world later line count fault l n moved is has same =
+    → RanIn step has_fault start (streams left out) (streams after written) later (Fault (line + 1) fault)
+at_fault step has_fault start left mid after out written reader next state world later line count fault l n moved is has same =
     let r = as_read step start left mid after out written reader next state world line l n moved in
-    ends_with step stopped has_fault start left mid after out written written reader next state world later line (rest_of after) [] (Fault (line + 1) fault) l
-    r (append_none out written l.replies l.appended) (
+    ends_with step has_fault start left mid after out written reader next state world later line (rest_of after) (Fault (line + 1) fault) l
+    r (
       refl,
       ap (λ k. k + 1) l.counted,
       (
@@ -303,59 +297,88 @@ at_fault step stopped has_fault start left mid after out written reader next sta
       ),
     ) same
 
+-- how a run has ended, where the last line is carried out, and a part of its reply is written
+ends_in : {S W : Type 0} (step : StepsIn S W) (has_fault : List ℕ → LineFault → Type 0) (start : S × W)
+    (left mid after out written new : Option (List ℕ)) (reader next : Reading) (state new_state : S) (world later : W) (line count : ℕ) (part unwritten : List ℕ) (end : LogEnd)
+    (l : Looped step start left mid out written reader state world line) → NextRead reader next mid after → MovesBytes mid after reader.waiting next.waiting
+    → IsLine next count → step state world (take count next.waiting) (part ++ unwritten) new_state later → Appended out new (l.replies ++ part)
+    → EndsBy has_fault (log_of l.given next (rest_of after)) (l.answered ++ take count next.waiting ∷ []) (drop (count + 1) next.waiting ++ rest_of after) (part ++ unwritten) unwritten
+    (streams left out) (streams after new) end
+    → RanIn step has_fault start (streams left out) (streams after new) later end
+ends_in step has_fault start left mid after out written new reader next state new_state world later line count part unwritten end l n moved is one whole ends =
+    let r = as_read step start left mid after out written reader next state world line l n moved in
+    let last = last-more (both step) l.answered start (state, world) (new_state, later) (take count next.waiting) l.replies (part ++ unwritten) [] l.runs one in
+    record {
+      ran = record {
+        log = log_of l.given next (rest_of after);
+        known = log_known left mid after reader next l.answered l.given (rest_of after) l.kept r;
+        carried = l.answered ++ take count next.waiting ∷ [];
+        next = drop (count + 1) next.waiting ++ rest_of after;
+        begins = (next_of step start left mid after out written reader next state world line count l r is).begins;
+        replies = l.replies ++ (part ++ unwritten);
+        now = (new_state, later);
+        runs = Run-more (both step) l.answered start (state, world) (new_state, later) (take count next.waiting) l.replies (part ++ unwritten) l.runs one;
+        text = l.replies ++ part;
+        unwritten = unwritten;
+        whole = sym (append_assoc l.replies part unwritten);
+        written = whole;
+        ends = subst (λ x. EndsBy has_fault (log_of l.given next (rest_of after)) (l.answered ++ take count next.waiting ∷ []) (drop (count + 1) next.waiting ++ rest_of after) x unwritten
+            (streams left out) (streams after new) end) (sym last) ends;
+      };
+      same_world = refl;
+    }
+
 -- the line runs out of memory
-at_line_memory : {S W : Type 0} (step : StepsIn S W) (stopped : S → W → List ℕ → W → Type 0) (has_fault : List ℕ → LineFault → Type 0) (start : S × W)
+at_line_memory : {S W : Type 0} (step : StepsIn S W) (has_fault : List ℕ → LineFault → Type 0) (start : S × W)
     (left mid after out written : Option (List ℕ)) (reader next : Reading) (state : S) (world later : W) (line count : ℕ)
     → Looped step start left mid out written reader state world line → NextRead reader next mid after → MovesBytes mid after reader.waiting next.waiting
-    → IsLine next count → stopped state world (take count next.waiting) later
-    → RanIn step stopped has_fault start (streams left out) (streams after written) later Memory
-at_line_memory step stopped has_fault start left mid after out written reader next state world later line count l n moved is stop =
-    let r = as_read step start left mid after out written reader next state world line l n moved in
-    ends_with step stopped has_fault start left mid after out written written reader next state world later line (rest_of after) [] Memory l
-    r (append_none out written l.replies l.appended) refl
-    (inr (
-      take count next.waiting,
-      drop (count + 1) next.waiting ++ rest_of after,
-      (next_of step start left mid after out written reader next state world line count l r is).split,
-      stop,
-    ))
+    → IsLine next count → WorldStops step state world (take count next.waiting) later
+    → RanIn step has_fault start (streams left out) (streams after written) later Memory
+at_line_memory step has_fault start left mid after out written reader next state world later line count l n moved is (inl same) =
+    ends_with step has_fault start left mid after out written reader next state world later line (rest_of after) Memory l
+    (as_read step start left mid after out written reader next state world line l n moved) (inl refl) same
+at_line_memory step has_fault start left mid after out written reader next state world later line count l n moved is (inr (text, new_state, one)) =
+    ends_in step has_fault start left mid after out written written reader next state new_state world later line count [] text Memory l n moved is one
+    (append_none out written l.replies l.appended) (inr refl)
 
 -- the line is not carried out
-pub at_stop : {S W : Type 0} (step : StepsIn S W) (stopped : S → W → List ℕ → W → Type 0) (has_fault : List ℕ → LineFault → Type 0) (start : S × W)
+pub at_stop : {S W : Type 0} (step : StepsIn S W) (has_fault : List ℕ → LineFault → Type 0) (start : S × W)
     (left mid after out written : Option (List ℕ)) (reader next : Reading) (state : S) (world later : W) (line count : ℕ) (why : Stop) (end : LogEnd)
     → Looped step start left mid out written reader state world line → NextRead reader next mid after → MovesBytes mid after reader.waiting next.waiting
     → IsLine next count → ((f : LineFault) → why ≡ stop.Fault f → has_fault (take count next.waiting) f × (later ≡ world))
-    → (why ≡ stop.Memory → stopped state world (take count next.waiting) later)
+    → (why ≡ stop.Memory → WorldStops step state world (take count next.waiting) later)
     → ((f : LineFault) → why ≡ stop.Fault f → end ≡ Fault (line + 1) f) → (why ≡ stop.Memory → end ≡ Memory)
-    → RanIn step stopped has_fault start (streams left out) (streams after written) later end
-at_stop step stopped has_fault start left mid after out written reader next state world later line count (stop.Fault f) end l n moved is fault memory ends_fault ends_memory =
-    subst (RanIn step stopped has_fault start (streams left out) (streams after written) later) (sym (ends_fault f refl))
-    (at_fault step stopped has_fault start left mid after out written reader next state world later line count f l n moved is (fault f refl).0 (fault f refl).1)
-at_stop step stopped has_fault start left mid after out written reader next state world later line count stop.Memory end l n moved is fault memory ends_fault ends_memory =
-    subst (RanIn step stopped has_fault start (streams left out) (streams after written) later) (sym (ends_memory refl))
-    (at_line_memory step stopped has_fault start left mid after out written reader next state world later line count l n moved is (memory refl))
+    → RanIn step has_fault start (streams left out) (streams after written) later end
+at_stop step has_fault start left mid after out written reader next state world later line count (stop.Fault f) end l n moved is fault memory ends_fault ends_memory =
+    subst (RanIn step has_fault start (streams left out) (streams after written) later) (sym (ends_fault f refl))
+    (at_fault step has_fault start left mid after out written reader next state world later line count f l n moved is (fault f refl).0 (fault f refl).1)
+at_stop step has_fault start left mid after out written reader next state world later line count stop.Memory end l n moved is fault memory ends_fault ends_memory =
+    subst (RanIn step has_fault start (streams left out) (streams after written) later) (sym (ends_memory refl))
+    (at_line_memory step has_fault start left mid after out written reader next state world later line count l n moved is (memory refl))
+
+not_empty : (lines : List (List ℕ)) (line : List ℕ) → lines ++ line ∷ [] ≡ [] → ⊥
+not_empty [] line is = cc is
+not_empty (first ∷ lines) line is = cc is
 
 -- the output fails in the reply
-pub at_write_fault : {S W : Type 0} (step : StepsIn S W) (stopped : S → W → List ℕ → W → Type 0) (has_fault : List ℕ → LineFault → Type 0) (start : S × W)
+pub at_write_fault : {S W : Type 0} (step : StepsIn S W) (has_fault : List ℕ → LineFault → Type 0) (start : S × W)
     (left mid after out written new : Option (List ℕ)) (reader next : Reading) (state new_state : S) (world later : W) (line count : ℕ) (text : List ℕ)
     → Looped step start left mid out written reader state world line → NextRead reader next mid after → MovesBytes mid after reader.waiting next.waiting
     → IsLine next count → step state world (take count next.waiting) text new_state later → AppendedPart written new text
-    → RanIn step stopped has_fault start (streams left out) (streams after new) later WriteFault
-at_write_fault step stopped has_fault start left mid after out written new reader next state new_state world later line count text l n moved is one part =
+    → RanIn step has_fault start (streams left out) (streams after new) later WriteFault
+at_write_fault step has_fault start left mid after out written new reader next state new_state world later line count text l n moved is one part =
     let r = as_read step start left mid after out written reader next state world line l n moved in
     let p = part_after out written new l.replies text l.appended part in
-    let next_is = next_of step start left mid after out written reader next state world line count l r is in
-    ends_with step stopped has_fault start left mid after out written new reader next state world later line (rest_of after) (take p.0 text) WriteFault l
-    r p.1 (
-      take count next.waiting,
-      drop (count + 1) next.waiting ++ rest_of after,
-      drop p.0 text,
-      (new_state, later),
-      next_is,
-      subst (λ t. step state world (take count next.waiting) t new_state later) (sym (take-append-drop p.0 text)) one,
-      more_left out p.0 text p.2,
-      is_near left mid after reader next l.answered l.given (rest_of after) count l.kept r is (left_is left mid after reader next l.answered l.given l.kept moved),
-    ) refl
+    ends_in step has_fault start left mid after out written new reader next state new_state world later line count (take p.0 text) (drop p.0 text) WriteFault l
+    n moved is (subst (λ t. step state world (take count next.waiting) t new_state later) (sym (take-append-drop p.0 text)) one) p.1 (
+      not_empty l.answered (take count next.waiting),
+      (
+        take p.0 text,
+        refl,
+        more_left out p.0 text p.2,
+        is_near left mid after reader next l.answered l.given (rest_of after) count l.kept r is (left_is left mid after reader next l.answered l.given l.kept moved),
+      ),
+    )
 
 -- a line waits
 pub some_waits : (next : Reading) (count : ℕ) → IsLine next count → 0 < length next.waiting

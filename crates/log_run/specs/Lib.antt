@@ -1,3 +1,4 @@
+pub mod Counts
 pub mod Inside
 pub mod Log
 pub mod Parts

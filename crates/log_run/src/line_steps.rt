@@ -1,5 +1,6 @@
 ghost use Rattle.std.specs.Prelude.{◌≡◌, ◌≢◌, ◌+◌, ◌≤◌, ◌++◌, ℕ, List, length, Err, OnOk, IsErrOf};
 ghost use Rattle.grammar.specs.declared.fault.LineFault.{LineFault};
+ghost use Rattle.log_run.specs.Worlds.{WorldStops};
 ghost use Rattle.log_run.specs.declared.limits.TheConstants.{MAX_LINE};
 
 use log_lines::LineFault;
@@ -38,9 +39,6 @@ pub trait LineSteps<W> {
     /// A state and a world, a line, the text of its reply, and the next state and world.
     ghost step: { Self → W → List ℕ → List ℕ → Self → W → Type 0 };
 
-    /// A line that runs out of memory may leave this world.
-    ghost stopped: { Self → W → List ℕ → W → Type 0 };
-
     /// The line has this fault.
     ghost has_fault: { List ℕ → LineFault → Type 0 };
 
@@ -68,5 +66,5 @@ pub trait LineSteps<W> {
         ensures fault { (fault : LineFault) → result ≡ Err (Stop.Fault fault) →
             has_fault line.now fault × (world.new ≡ world.old) }
         ensures memory { IsErrOf result Stop.Memory →
-            stopped self.old world.old line.now world.new };
+            WorldStops step self.old world.old line.now world.new };
 }

@@ -1,7 +1,7 @@
-ghost use Rattle.std.specs.Prelude.{◌≡◌, ◌≢◌, ◌+◌, ◌≤◌, ℕ};
-ghost use Rattle.host_io.specs.Faults.{Rose};
+ghost use Rattle.std.specs.Prelude.{◌≡◌, ◌≢◌, ◌+◌, ℕ};
 ghost use Rattle.host_io.specs.Reading.{TakesAtMost};
 ghost use Rattle.grammar.specs.declared.fault.LineFault.{LineFault};
+ghost use Rattle.log_run.specs.Counts.{IsCounted};
 ghost use Rattle.log_run.specs.Worlds.{RanIn};
 
 use crate::end::LogEnd;
@@ -36,14 +36,12 @@ pub fn run_log<W, S: LineSteps<W>, L: Source, K: Sink>(
 ) -> LogEnd
     requires room { S.has_room state.old MAX_LOG }
     requires ready { S.ready state.old world.old }
-    ensures ran { RanIn S.step S.stopped S.has_fault (state.old, world.old)
+    ensures ran { RanIn S.step S.has_fault (state.old, world.old)
         (record { left = L.left log.old; written = K.written out.old })
         (record { left = L.left log.new; written = K.written out.new }) world.new result }
     ensures taken { TakesAtMost (L.left log.old) (L.left log.new) (MAX_LOG + 1) }
-    ensures read { result ≡ LogEnd.ReadFault → Rose (L.faults log.old) (L.faults log.new) }
-    ensures write { result ≡ LogEnd.WriteFault → Rose (K.faults out.old) (K.faults out.new) }
-    ensures log_never_falls { L.faults log.old ≤ L.faults log.new }
-    ensures out_never_falls { K.faults out.old ≤ K.faults out.new }
+    ensures read { IsCounted LogEnd.ReadFault (L.faults log.old) (L.faults log.new) result }
+    ensures write { IsCounted LogEnd.WriteFault (K.faults out.old) (K.faults out.new) result }
 {
     let mut reader = LogReader::make(alloc);
     let mut text = Vec::new(alloc);

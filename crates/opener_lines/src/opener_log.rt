@@ -85,8 +85,6 @@ impl<'a, H: BuildHasher> LineSteps<()> for OpenerLog<'a, H> {
 
     ghost step = { λ old before line text new after. LineStep old line text new };
 
-    ghost stopped = { λ old before line after. ⊤ };
-
     ghost has_fault = { HasFault };
 
     ghost ready = { λ l world. ⊤ };

@@ -1,7 +1,6 @@
 -- What a step of a session does to the files that a crash may leave.
-use Rattle.std.proofs.Common.{◌≡◌, ℕ, ◌≤◌, ◌<◌, List, ◌∷◌, ◌++◌, take, drop, inl, inr, refl, sym, ap, ◌∙◌, subst, append_assoc, arith}
+use Rattle.std.proofs.Common.{◌≡◌, ℕ, ◌≤◌, List, ◌++◌, take, drop, inl, inr, sym, ap, ◌∙◌, subst, append_assoc, arith}
 use Rattle.std.specs.Prelude.{Option, Some, None, IfSome, ◌⊎◌, Bool, true, false}
-use Rattle.std.specs.Option.{option_map}
 use Rattle.std.proofs.Math.Nat.{eq-or-lt_of_le}
 use Rattle.std.proofs.lemmas.List.{take-append-drop}
 use Rattle.host_io.specs.Disk.{Disk, MayHave}
@@ -9,7 +8,6 @@ use Rattle.host_io.specs.Faults.{Rose}
 use Rattle.host_io.specs.Past.{Past}
 use Rattle.host_io.specs.PerName.{under}
 use Rattle.host_io.specs.declared.name.Name.TheVariants.{Peers}
-use Rattle.log_lines.specs.Spelling.{Spells}
 use Rattle.log_lines.specs.declared.command.Command.{Command}
 use Rattle.log_lines.specs.declared.command.Command.TheVariants as command
 use Rattle.log_lines.specs.declared.reply.Reply.{Reply}
@@ -17,8 +15,8 @@ use Rattle.save_store.specs.Job.{Job, whole}
 use Rattle.save_store.specs.Saves.{IsStored}
 use Rattle.session.specs.Events.{Ended, SaveStep as SaveCommand, after_step, save, save_begin, save_end, save_step}
 use Rattle.session.specs.Events.Ended.{NotSaved, Saved}
-use Rattle.session.specs.Folders.{HasEnded, IsFile, MayPublish, published, published_in}
-use Rattle.session.specs.History.{BeginsNext, IsAny, IsLast, RoseBy, failed, onto}
+use Rattle.session.specs.Folders.{HasEnded, IsFile, published, published_in}
+use Rattle.session.specs.History.{IsAny, IsLast, OrOpen, RoseBy, failed, onto}
 use Rattle.session.specs.State.{CommandStep, LineStep, State, file_now}
 
 -- what every crash leaves after a save that is acknowledged
@@ -36,10 +34,6 @@ ended_at (Some (NotSaved file)) (Some p) f g h = tt
 
 step_whole : (j : Job) (n : ℕ) → whole j ≡ whole (after_step j n)
 step_whole j n = ap (λ t. j.written ++ t) (sym (take-append-drop n j.left)) ∙ sym (append_assoc j.written (take n j.left) (drop n j.left))
-
--- the file of the open save, or more
-abbrev pub OrOpen : Option Job → Option (List ℕ) → Type 0 → Type 0
-OrOpen job found more = IsFile (option_map whole job) found ⊎ more
 
 last_save : (start disk : Disk) (file : List ℕ) (job : Option Job) (done : Bool) (ended : List Ended) (found : Option (List ℕ))
     → EndedAt (save file job done).ended disk → MayHave (under disk Peers) found
@@ -252,32 +246,3 @@ next_failed (Some (Saved file)) ended f mid g after h before le r = still_failed
 next_failed (Some (NotSaved file)) ended f mid g after (inl h) before le (inl r) = inl (omega (arith, h, r))
 next_failed (Some (NotSaved file)) ended f mid g after (inl h) before le (inr r) = inr (omega (arith, h, r.0), inl (omega (arith, before, h)))
 next_failed (Some (NotSaved file)) ended f mid g after (inr h) before le r = inr (omega (arith, h), inr h)
-
--- a file that a command may publish is that of the open save, or of the save that it begins
-published_begins : (s : State) (line : List ℕ) (rest : List (List ℕ)) (asked : Command) (job : Option Job) (file : List ℕ) (found : Option (List ℕ))
-    → Spells line asked → s.job ≡ job → published (file_now s) job asked ≡ Some file → found ≡ Some file
-    → BeginsNext s (line ∷ rest) found ⊎ IsFile (option_map whole job) found
-published_begins s line rest command.Save None file found spelled none is here =
-    inl (file_now s, (command.Save, spelled, tt, none, refl), here ∙ sym is)
-published_begins s line rest command.Save (Some j) file found spelled some is here = absurd (cc is)
-published_begins s line rest command.SaveEnd None file found spelled none is here = absurd (cc is)
-published_begins s line rest command.SaveEnd (Some j) file found spelled some is here = inr (here ∙ sym is)
-published_begins s line rest other job file found spelled same is here = absurd (cc is)
-
--- the same of a line that may publish a file
-pub may_begin : (s : State) (line : List ℕ) (rest : List (List ℕ)) (file found : Option (List ℕ)) → MayPublish s line file → IsFile file found
-    → BeginsNext s (line ∷ rest) found ⊎ IsFile (option_map whole s.job) found
-may_begin s line rest None found may is = absurd is
-may_begin s line rest (Some file) found may is = published_begins s line rest may.0 s.job file found may.1 refl may.2 is
-
--- and of a line that was carried out
-pub in_begins : (s t : State) (line text : List ℕ) (rest : List (List ℕ)) (e : Option Ended) (found : Option (List ℕ)) → (step : LineStep s line text t e)
-    → IsFile (published_in s line text t e step) found
-    → BeginsNext s (line ∷ rest) found ⊎ IsFile (option_map whole s.job) found
-in_begins s t line text rest e found (inl passed) is = absurd is
-in_begins s t line text rest e found (inr step) is = by (published (file_now s) s.job step.0) refl is
-  where
-    by : (file : Option (List ℕ)) → published (file_now s) s.job step.0 ≡ file → IsFile file found
-        → BeginsNext s (line ∷ rest) found ⊎ IsFile (option_map whole s.job) found
-    by None same none = absurd none
-    by (Some file) same here = published_begins s line rest step.0 s.job file found step.2 refl same here

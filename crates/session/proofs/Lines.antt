@@ -12,7 +12,7 @@ use Rattle.log_lines.proofs.Percents.{percent}
 use Rattle.manager.specs.Step.{HasPercent}
 use Rattle.grammar.specs.declared.fault.LineFault.{LineFault}
 use Rattle.log_lines.specs.declared.reply.Reply.{Reply}
-use Rattle.session.specs.Folders.{AtMost, IsEvent, IsEventLine, LeavesPart, MayPublish, Turn, published}
+use Rattle.session.specs.Folders.{AtMost, IsEvent, IsEventLine, MayPublish, Turn, published}
 use Rattle.session.specs.Inside.{Carried}
 use Rattle.session.specs.State.{State, file_now}
 use Rattle.session.proofs.Effects.{may_publish, still_moments}
@@ -32,12 +32,6 @@ turned parts old new line asked answer before after f g same spelled done always
     subst (λ s. Turn s line (reply_text answer) new before after f g) same
     (record { ended = done.ended; step = inr (asked, answer, spelled, done.step, refl); has = done.has; moments = always })
 
--- memory ran out after a command was carried out
-carried_part : (old new : State) (line : List ℕ) (asked : Command) (answer : Reply) (after : Option Past) (f g : ℕ)
-    → Spells line asked → Carried old asked answer new after f g → LeavesPart old line new after f g
-carried_part old new line asked answer after f g spelled done =
-    inr (inl (reply_text answer, done.ended, inr (asked, answer, spelled, done.step, refl), done.has))
-
 -- what a crash may leave after it, where the state before it is known by its parts
 pub moments : (parts old : State) (line : List ℕ) (asked : Command) (before after : Option Past) → parts ≡ old → Spells line asked
     → Always before after (AtMost (published (file_now parts) parts.job asked))
@@ -51,11 +45,6 @@ pub still : {X : Type 0} (parts old : State) (line : List ℕ) (asked : Command)
     → (¬ IsEvent parts.job asked → after ≡ before) → ¬ IsEventLine old line → after ≡ before
 still parts old line asked before after same spelled by =
     subst (λ s. ¬ IsEventLine s line → after ≡ before) same (λ no. by (λ event. no (asked, spelled, event)))
-
-pub part : (parts old new : State) (line : List ℕ) (asked : Command) (answer : Reply) (after : Option Past) (f g : ℕ) → parts ≡ old
-    → Spells line asked → Carried parts asked answer new after f g → LeavesPart old line new after f g
-part parts old new line asked answer after f g same spelled done =
-    subst (λ s. LeavesPart s line new after f g) same (carried_part parts new line asked answer after f g spelled done)
 
 fault_in : {T : Type 0} → LineFault → Result T LineFault → LineFault
 fault_in fault (Ok x) = fault

@@ -85,24 +85,16 @@ pub record Turn (old : State) (line text : List ℕ) (new : State) (before after
   pub has : HasEnded ended after faults_before faults_after
   pub moments : Always before after (AtMost (published_in old line text new ended step))
 
--- What a line leaves that ran out of memory: the state before it; that after it, with the reason why
--- a save ended in it; or a message of which some of the first entries were taken.
-abbrev pub LeavesPart : State → List ℕ → State → Option Past → ℕ → ℕ → Type 0
-LeavesPart old line new after faults_before faults_after =
+-- What a line leaves that ran out of memory before it was carried out: the state before it, or a
+-- message of which some of the first entries were taken.
+abbrev pub LeavesPart : State → List ℕ → State → Type 0
+LeavesPart old line new =
     (new ≡ old)
-    ⊎ (((text : List ℕ) × (ended : Option Ended) × LineStep old line text new ended
-    × HasEnded ended after faults_before faults_after)
     ⊎ ((asked : Command) × (machine : Machine) × Spells line asked
-    × manager.LeavesPart old.machine asked machine × (new ≡ record old { machine = machine })))
+    × manager.LeavesPart old.machine asked machine × (new ≡ record old { machine = machine }))
 
 -- What a line does to a session and a folder, by the folder's past and its count of faults.
 abbrev pub SessionStep : {F : Type 0} → (F → Option Past) → (F → ℕ) → StepsIn State F
 SessionStep past faults old before line text new after =
     Turn old line text new (past before) (past after) (faults before) (faults after)
     × IsOpen new.job (past after) × (faults before ≤ faults after)
-
--- What a line that runs out of memory does to a folder.
-abbrev pub StoppedStep : {F : Type 0} → (F → Option Past) → (F → ℕ) → State → F → List ℕ → F → Type 0
-StoppedStep past faults old before line after =
-    ((file : Option (List ℕ)) × MayPublish old line file × Always (past before) (past after) (AtMost file))
-    × (faults before ≤ faults after)

@@ -7,15 +7,12 @@ use Rattle.host_io.specs.Past.{Past}
 use Rattle.host_io.specs.PerName.{under}
 use Rattle.host_io.specs.declared.name.Name.{Name}
 use Rattle.host_io.specs.declared.name.Name.TheVariants.{Peers, PeersTemp}
-use Rattle.log_lines.specs.Spelling.{Spells}
-use Rattle.log_lines.specs.declared.command.Command.{Command}
-use Rattle.log_lines.specs.declared.command.Command.TheVariants as command
-use Rattle.save_store.specs.Job.{whole}
+use Rattle.save_store.specs.Job.{Job, whole}
 use Rattle.save_store.specs.Saves.{NoMore}
 use Rattle.session.specs.Events.{Ended}
 use Rattle.session.specs.Events.Ended.{NotSaved, Saved}
 use Rattle.session.specs.Folders.{IsFile}
-use Rattle.session.specs.State.{LineStep, State, file_now}
+use Rattle.session.specs.State.{LineStep, State}
 
 -- the state now, and the saves that have ended, the last one first
 pub record History : Type 0 where
@@ -45,22 +42,6 @@ failed (NotSaved file ∷ ended) = failed ended + 1
 abbrev pub RoseBy : ℕ → ℕ → ℕ → Type 0
 RoseBy n before after = (before + n ≤ after) ⊎ ((2 ^ 64 - 1 ≤ after) × Rose before after)
 
--- the commands that begin a save, if none is open
-abbrev pub IsBeginning : Command → Type 0
-IsBeginning command.Save = Unit {0}
-IsBeginning command.SaveBegin = Unit {0}
-IsBeginning other = ⊥
-
--- the file of the save that the line begins
-abbrev pub Begins : State → List ℕ → List ℕ → Type 0
-Begins st line file =
-    (asked : Command) × Spells line asked × IsBeginning asked × (st.job ≡ None) × (file ≡ file_now st)
-
--- the same of the first of some lines
-abbrev pub BeginsNext : State → List (List ℕ) → Option (List ℕ) → Type 0
-BeginsNext st [] found = ⊥
-BeginsNext st (line ∷ lines) found = (file : List ℕ) × Begins st line file × (found ≡ Some file)
-
 -- Found at peers.dat: the file of the last save that is acknowledged, or of one that failed after it;
 -- if none is acknowledged, that of any save that failed, or what a crash could leave at the start.
 abbrev pub IsLast : Disk → List Ended → Option (List ℕ) → Type 0
@@ -74,22 +55,20 @@ IsAny start [] found = MayHave (under start Peers) found
 IsAny start (Saved file ∷ ended) found = (found ≡ Some file) ⊎ IsAny start ended found
 IsAny start (NotSaved file ∷ ended) found = (found ≡ Some file) ⊎ IsAny start ended found
 
--- or the file of the save that the next line begins, or of the open one
-abbrev pub OrBegun : History → List (List ℕ) → Option (List ℕ) → Type 0 → Type 0
-OrBegun run rest found more =
-    BeginsNext run.now rest found ⊎ (IsFile (option_map whole run.now.job) found ⊎ more)
+-- or the file of the open save
+abbrev pub OrOpen : Option Job → Option (List ℕ) → Type 0 → Type 0
+OrOpen job found more = IsFile (option_map whole job) found ⊎ more
 
--- What a crash may leave at peers.dat now, after a run that began at the disk `start`. `rest` are the
--- lines that are not answered yet, of which the first may have been carried out.
-abbrev pub AtExit : History → List (List ℕ) → Disk → Disk → Type 0
-AtExit run rest start disk =
-    (found : Option (List ℕ)) → MayHave (under disk Peers) found → OrBegun run rest found (IsLast start run.ended found)
+-- what a crash may leave at peers.dat now, after a run that began at the disk `start`
+abbrev pub AtExit : History → Disk → Disk → Type 0
+AtExit run start disk =
+    (found : Option (List ℕ)) → MayHave (under disk Peers) found → OrOpen run.now.job found (IsLast start run.ended found)
 
 -- What a crash could leave at any moment since the start: at peers.dat the file of a save of this run
 -- or what it could leave at the start, and at each other name but peers.tmp nothing more.
-pub record SinceEntry (run : History) (rest : List (List ℕ)) (start disk : Disk) : Type 0 where
+pub record SinceEntry (run : History) (start disk : Disk) : Type 0 where
   pub at : (found : Option (List ℕ)) → MayHave (under disk Peers) found →
-      OrBegun run rest found (IsAny start run.ended found)
+      OrOpen run.now.job found (IsAny start run.ended found)
   pub others : (other : Name) → other ≢ PeersTemp → other ≢ Peers → NoMore start disk other
 
 -- P relates the disk at the start to the disk now, if contracts know them

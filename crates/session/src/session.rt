@@ -80,8 +80,10 @@ impl<'a, H: BuildHasher> Session<'a, H> {
             HasFault line.now f × (self.new ≡ self.old) × (folder.new ≡ folder.old) }
         ensures only_fault { (f : LineFault) → HasFault line.now f →
             (result ≡ Err f) ⊎ (result ≡ Err LineFault.Memory) }
-        ensures memory { IsErrOf result LineFault.Memory → LeavesPart self.old line.now self.new
-            (F.past folder.new) (F.faults folder.old) (F.faults folder.new) }
+        ensures memory { IsErrOf result LineFault.Memory →
+            ((text : List ℕ) × Turn self.old line.now text self.new (F.past folder.old)
+            (F.past folder.new) (F.faults folder.old) (F.faults folder.new))
+            ⊎ (LeavesPart self.old line.now self.new × (folder.new ≡ folder.old)) }
         ensures list { OnErr result (out.new.items ≡ out.old.items) }
         ensures numbers { self.new.machine.tables.next_number ≤ self.old.machine.tables.next_number + 1000 }
         ensures never_falls { F.faults folder.old ≤ F.faults folder.new }
@@ -117,8 +119,10 @@ impl<'a, H: BuildHasher> Session<'a, H> {
             ¬ IsEventLine self.old line → folder.new ≡ folder.old }
         ensures cause { (f : LineFault) → result ≡ Err f → f ≡ LineFault.Memory }
         ensures memory { IsErrOf result LineFault.Memory →
-            (line : List ℕ) → Spells line command.now → LeavesPart self.old line self.new
-            (F.past folder.new) (F.faults folder.old) (F.faults folder.new) }
+            (line : List ℕ) → Spells line command.now →
+            ((text : List ℕ) × Turn self.old line text self.new (F.past folder.old)
+            (F.past folder.new) (F.faults folder.old) (F.faults folder.new))
+            ⊎ (LeavesPart self.old line self.new × (folder.new ≡ folder.old)) }
         ensures list { OnErr result (out.new.items ≡ out.old.items) }
         ensures numbers { self.new.machine.tables.next_number
             ≤ self.old.machine.tables.next_number + 1000 }
@@ -138,11 +142,9 @@ impl<'a, H: BuildHasher> Session<'a, H> {
 impl<'a, F: Folder, H: BuildHasher> LineSteps<F> for Session<'a, H> {
     ghost use Rattle.std.specs.Prelude.{◌+◌, ◌*◌, ◌<◌, ◌^◌};
     ghost use Rattle.log_lines.specs.Spelling.{HasFault};
-    ghost use Rattle.session.specs.Folders.{IsOpen, SessionStep, StoppedStep};
+    ghost use Rattle.session.specs.Folders.{IsOpen, SessionStep};
 
     ghost step = { SessionStep F.past F.faults };
-
-    ghost stopped = { StoppedStep F.past F.faults };
 
     ghost has_fault = { HasFault };
 

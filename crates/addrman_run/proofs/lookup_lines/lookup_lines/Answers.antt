@@ -5,7 +5,7 @@ use Rattle.addrman_run.specs.Log.{streams_of}
 use Rattle.addrman_run.specs.LookupLines.{LacksMap, LookedUp, LookupLinesOutcome}
 use Rattle.addrman_run.specs.Replay.{IsUntouched}
 use Rattle.addrman_run.proofs.LookingUp.{looked_up_by}
-use Rattle.addrman_run.proofs.Seen.{by_status, no_disk, read_end, write_end}
+use Rattle.addrman_run.proofs.Seen.{by_status, no_disk, read_counted, write_counted}
 use Rattle.addrman_run.proofs.lookup_lines.lookup_lines.Goals as goal
 
 pub returns-clause-outcome : goal.returns-clause-outcome
@@ -18,12 +18,10 @@ returns-clause-outcome g c =
     (search rules) c.run_log.ensures.ran.ran))
 
 pub returns-clause-read : goal.returns-clause-read
-returns-clause-read g c =
-    (c.run_log.ensures.log_never_falls, λ is. c.run_log.ensures.read (read_end c.run_log.result (sym c.status_of.ensures ∙ is)))
+returns-clause-read g c = read_counted c.run_log.result _ _ _ c.status_of.ensures c.run_log.ensures.read
 
 pub returns-clause-write : goal.returns-clause-write
-returns-clause-write g c =
-    (c.run_log.ensures.out_never_falls, λ is. c.run_log.ensures.write (write_end c.run_log.result (sym c.status_of.ensures ∙ is)))
+returns-clause-write g c = write_counted c.run_log.result _ _ _ c.status_of.ensures c.run_log.ensures.write
 
 pub returns-clause-disk : goal.returns-clause-disk
 returns-clause-disk g c = (c.load_present.ensures.never_falls, λ is. absurd (no_disk c.run_log.result (sym c.status_of.ensures ∙ is)))

@@ -4,7 +4,7 @@ use Rattle.addrman_run.specs.Opening.{Opened}
 use Rattle.addrman_run.specs.Opener.{OpenerOutcome, OpenerRan}
 use Rattle.addrman_run.specs.Replay.{NotOpened}
 use Rattle.addrman_run.proofs.Openers.{ran_by, starts}
-use Rattle.addrman_run.proofs.Seen.{by_status, no_disk, read_end, write_end}
+use Rattle.addrman_run.proofs.Seen.{by_status, no_disk, read_counted, write_counted}
 use Rattle.addrman_run.proofs.opener.opener.Goals as goal
 
 pub returns-clause-outcome : goal.returns-clause-outcome
@@ -20,12 +20,10 @@ returns-clause-outcome g c =
     c.groups_stay_apart.ensures c.tries_are_fair.ensures c.run_log.ensures.ran.ran))
 
 pub returns-clause-read : goal.returns-clause-read
-returns-clause-read g c =
-    (c.run_log.ensures.log_never_falls, λ is. c.run_log.ensures.read (read_end c.run_log.result (sym c.status_of.ensures ∙ is)))
+returns-clause-read g c = read_counted c.run_log.result _ _ _ c.status_of.ensures c.run_log.ensures.read
 
 pub returns-clause-write : goal.returns-clause-write
-returns-clause-write g c =
-    (c.run_log.ensures.out_never_falls, λ is. c.run_log.ensures.write (write_end c.run_log.result (sym c.status_of.ensures ∙ is)))
+returns-clause-write g c = write_counted c.run_log.result _ _ _ c.status_of.ensures c.run_log.ensures.write
 
 pub returns-clause-disk : goal.returns-clause-disk
 returns-clause-disk g c = (

@@ -3,7 +3,7 @@ use Rattle.host_io.specs.Outside.{outside}
 use Rattle.addrman_run.specs.Opening.{Opened}
 use Rattle.addrman_run.specs.Replay.{NotOpened, Replayed, ReplayOutcome}
 use Rattle.addrman_run.proofs.Replays.{replayed, rises, starts}
-use Rattle.addrman_run.proofs.Seen.{by_status, no_disk, read_end, write_end}
+use Rattle.addrman_run.proofs.Seen.{by_status, no_disk, read_counted, write_counted}
 use Rattle.addrman_run.proofs.replay.replay.Goals as goal
 
 pub returns-clause-outcome : goal.returns-clause-outcome
@@ -20,12 +20,10 @@ returns-clause-outcome g c =
     (c.open_folder.ensures.same ∙ c.load_input.ensures.same) (omega (arith, c.load_input.ensures.never_falls, c.open_folder.ensures.never_falls)) refl refl c.run_log.ensures.ran))
 
 pub returns-clause-read : goal.returns-clause-read
-returns-clause-read g c =
-    (c.run_log.ensures.log_never_falls, λ is. c.run_log.ensures.read (read_end c.run_log.result (sym c.status_of.ensures ∙ is)))
+returns-clause-read g c = read_counted c.run_log.result _ _ _ c.status_of.ensures c.run_log.ensures.read
 
 pub returns-clause-write : goal.returns-clause-write
-returns-clause-write g c =
-    (c.run_log.ensures.out_never_falls, λ is. c.run_log.ensures.write (write_end c.run_log.result (sym c.status_of.ensures ∙ is)))
+returns-clause-write g c = write_counted c.run_log.result _ _ _ c.status_of.ensures c.run_log.ensures.write
 
 pub returns-clause-disk : goal.returns-clause-disk
 returns-clause-disk g c = (

@@ -2,6 +2,7 @@ use Rattle.std.proofs.Common.{◌≡◌, ◌≢◌, ◌-◌, ℕ, [], ◌++◌, 
 use Rattle.std.specs.Prelude.{IfNone, IfSome, IsTrue, Option, Some, Result, Ok, Err}
 use Rattle.host_io.specs.Writing.{Appended, AppendedPart}
 use Rattle.log_run.specs.Reading.{IsLine, Reading}
+use Rattle.log_run.specs.Worlds.{WorldStops}
 use Rattle.log_run.specs.declared.fault.LogFault.{LogFault}
 use Rattle.log_run.specs.declared.fault.LogFault.TheVariants as fault
 use Rattle.log_run.specs.declared.line_steps.Stop.{Stop}
@@ -52,7 +53,7 @@ loop-count-init g c = record {
 
 pub returns-in-Ok-None-clause-ran : goal.returns-in-Ok-None-clause-ran
 returns-in-Ok-None-clause-ran g c =
-    at_done g.S.LineSteps.step g.S.LineSteps.stopped g.S.LineSteps.has_fault (c.args.state.now, c.args.world.now) (g.L.Source.left c.args.log.now) (g.L.Source.left c.loop-count.log) (g.L.Source.left c.next_line.new.source) (g.K.Sink.written c.args.out.now) (g.K.Sink.written c.loop-count.out) c.loop-count.reader c.next_line.new.self c.loop-count.state c.loop-count.world c.loop-count.line
+    at_done g.S.LineSteps.step g.S.LineSteps.has_fault (c.args.state.now, c.args.world.now) (g.L.Source.left c.args.log.now) (g.L.Source.left c.loop-count.log) (g.L.Source.left c.next_line.new.source) (g.K.Sink.written c.args.out.now) (g.K.Sink.written c.loop-count.out) c.loop-count.reader c.next_line.new.self c.loop-count.state c.loop-count.world c.loop-count.line
     c.loop-count.invariant.looped (record { read = c.next_line.ensures.read; still = c.next_line.ensures.still; end = c.next_line.ensures.end; within = c.next_line.ensures.within }) (ok_moves c.in-Ok-None.field-0 c.in-Ok-None.ensures.moved) (subst (λ o. IfNone o ((c.next_line.new.self.waiting ≡ []) × IsTrue c.next_line.new.self.is_ended)) c.in-Ok-None.field-0-is c.in-Ok-None.ensures.none)
 
 pub returns-in-Ok-None-clause-taken : goal.returns-in-Ok-None-clause-taken
@@ -62,7 +63,7 @@ returns-in-Ok-None-clause-taken g c =
 
 pub returns-in-Err-Failed-clause-ran : goal.returns-in-Err-Failed-clause-ran
 returns-in-Err-Failed-clause-ran g c =
-    at_failed g.S.LineSteps.step g.S.LineSteps.stopped g.S.LineSteps.has_fault (c.args.state.now, c.args.world.now) (g.L.Source.left c.args.log.now) (g.L.Source.left c.loop-count.log) (g.L.Source.left c.next_line.new.source) (g.K.Sink.written c.args.out.now) (g.K.Sink.written c.loop-count.out) c.loop-count.reader c.next_line.new.self c.loop-count.state c.loop-count.world c.loop-count.line
+    at_failed g.S.LineSteps.step g.S.LineSteps.has_fault (c.args.state.now, c.args.world.now) (g.L.Source.left c.args.log.now) (g.L.Source.left c.loop-count.log) (g.L.Source.left c.next_line.new.source) (g.K.Sink.written c.args.out.now) (g.K.Sink.written c.loop-count.out) c.loop-count.reader c.next_line.new.self c.loop-count.state c.loop-count.world c.loop-count.line
     c.loop-count.invariant.looped (record { read = c.next_line.ensures.read; still = c.next_line.ensures.still; end = c.next_line.ensures.end; within = c.next_line.ensures.within }) (err_moves c.in-Err-Failed.field-0 fault.Failed c.in-Err-Failed.field-0-is failed_other c.in-Err-Failed.ensures.moved) (c.in-Err-Failed.ensures.failed (err_is c.in-Err-Failed.field-0 fault.Failed c.in-Err-Failed.field-0-is)).0
 
 pub returns-in-Err-Failed-clause-taken : goal.returns-in-Err-Failed-clause-taken
@@ -72,7 +73,7 @@ returns-in-Err-Failed-clause-taken g c =
 
 pub returns-in-Err-LineTooLong-clause-ran : goal.returns-in-Err-LineTooLong-clause-ran
 returns-in-Err-LineTooLong-clause-ran g c =
-    at_long g.S.LineSteps.step g.S.LineSteps.stopped g.S.LineSteps.has_fault (c.args.state.now, c.args.world.now) (g.L.Source.left c.args.log.now) (g.L.Source.left c.loop-count.log) (g.L.Source.left c.next_line.new.source) (g.K.Sink.written c.args.out.now) (g.K.Sink.written c.loop-count.out) c.loop-count.reader c.next_line.new.self c.loop-count.state c.loop-count.world c.loop-count.line
+    at_long g.S.LineSteps.step g.S.LineSteps.has_fault (c.args.state.now, c.args.world.now) (g.L.Source.left c.args.log.now) (g.L.Source.left c.loop-count.log) (g.L.Source.left c.next_line.new.source) (g.K.Sink.written c.args.out.now) (g.K.Sink.written c.loop-count.out) c.loop-count.reader c.next_line.new.self c.loop-count.state c.loop-count.world c.loop-count.line
     c.loop-count.invariant.looped (record { read = c.next_line.ensures.read; still = c.next_line.ensures.still; end = c.next_line.ensures.end; within = c.next_line.ensures.within }) (err_moves c.in-Err-LineTooLong.field-0 fault.LineTooLong c.in-Err-LineTooLong.field-0-is long_other c.in-Err-LineTooLong.ensures.moved) (c.in-Err-LineTooLong.ensures.long (err_is c.in-Err-LineTooLong.field-0 fault.LineTooLong c.in-Err-LineTooLong.field-0-is))
 
 pub returns-in-Err-LineTooLong-clause-taken : goal.returns-in-Err-LineTooLong-clause-taken
@@ -82,7 +83,7 @@ returns-in-Err-LineTooLong-clause-taken g c =
 
 pub returns-in-Err-LogTooLong-clause-ran : goal.returns-in-Err-LogTooLong-clause-ran
 returns-in-Err-LogTooLong-clause-ran g c =
-    at_too_long g.S.LineSteps.step g.S.LineSteps.stopped g.S.LineSteps.has_fault (c.args.state.now, c.args.world.now) (g.L.Source.left c.args.log.now) (g.L.Source.left c.loop-count.log) (g.L.Source.left c.next_line.new.source) (g.K.Sink.written c.args.out.now) (g.K.Sink.written c.loop-count.out) c.loop-count.reader c.next_line.new.self c.loop-count.state c.loop-count.world c.loop-count.line
+    at_too_long g.S.LineSteps.step g.S.LineSteps.has_fault (c.args.state.now, c.args.world.now) (g.L.Source.left c.args.log.now) (g.L.Source.left c.loop-count.log) (g.L.Source.left c.next_line.new.source) (g.K.Sink.written c.args.out.now) (g.K.Sink.written c.loop-count.out) c.loop-count.reader c.next_line.new.self c.loop-count.state c.loop-count.world c.loop-count.line
     c.loop-count.invariant.looped (record { read = c.next_line.ensures.read; still = c.next_line.ensures.still; end = c.next_line.ensures.end; within = c.next_line.ensures.within }) (c.in-Err-LogTooLong.ensures.more (err_is c.in-Err-LogTooLong.field-0 fault.LogTooLong c.in-Err-LogTooLong.field-0-is))
 
 pub returns-in-Err-LogTooLong-clause-taken : goal.returns-in-Err-LogTooLong-clause-taken
@@ -92,7 +93,7 @@ returns-in-Err-LogTooLong-clause-taken g c =
 
 pub returns-in-Err-Memory-clause-ran : goal.returns-in-Err-Memory-clause-ran
 returns-in-Err-Memory-clause-ran g c =
-    at_memory g.S.LineSteps.step g.S.LineSteps.stopped g.S.LineSteps.has_fault (c.args.state.now, c.args.world.now) (g.L.Source.left c.args.log.now) (g.L.Source.left c.loop-count.log) (g.L.Source.left c.next_line.new.source) (g.K.Sink.written c.args.out.now) (g.K.Sink.written c.loop-count.out) c.loop-count.reader c.next_line.new.self c.loop-count.state c.loop-count.world c.loop-count.line
+    at_memory g.S.LineSteps.step g.S.LineSteps.has_fault (c.args.state.now, c.args.world.now) (g.L.Source.left c.args.log.now) (g.L.Source.left c.loop-count.log) (g.L.Source.left c.next_line.new.source) (g.K.Sink.written c.args.out.now) (g.K.Sink.written c.loop-count.out) c.loop-count.reader c.next_line.new.self c.loop-count.state c.loop-count.world c.loop-count.line
     c.loop-count.invariant.looped (record { read = c.next_line.ensures.read; still = c.next_line.ensures.still; end = c.next_line.ensures.end; within = c.next_line.ensures.within }) (err_moves c.in-Err-Memory.field-0 fault.Memory c.in-Err-Memory.field-0-is memory_other c.in-Err-Memory.ensures.moved)
 
 pub returns-in-Err-Memory-clause-taken : goal.returns-in-Err-Memory-clause-taken
@@ -107,10 +108,10 @@ carry_out-requires-clause-room g c =
 
 pub returns-in-Err-clause-ran : goal.returns-in-Err-clause-ran
 returns-in-Err-clause-ran g c =
-    at_stop g.S.LineSteps.step g.S.LineSteps.stopped g.S.LineSteps.has_fault (c.args.state.now, c.args.world.now) (g.L.Source.left c.args.log.now) (g.L.Source.left c.loop-count.log) (g.L.Source.left c.next_line.new.source) (g.K.Sink.written c.args.out.now) (g.K.Sink.written c.loop-count.out) c.loop-count.reader c.next_line.new.self c.loop-count.state c.loop-count.world c.carry_out.new.world c.loop-count.line c.in-Ok-Some.count c.in-Err.stop c.end_at.result
+    at_stop g.S.LineSteps.step g.S.LineSteps.has_fault (c.args.state.now, c.args.world.now) (g.L.Source.left c.args.log.now) (g.L.Source.left c.loop-count.log) (g.L.Source.left c.next_line.new.source) (g.K.Sink.written c.args.out.now) (g.K.Sink.written c.loop-count.out) c.loop-count.reader c.next_line.new.self c.loop-count.state c.loop-count.world c.carry_out.new.world c.loop-count.line c.in-Ok-Some.count c.in-Err.stop c.end_at.result
     c.loop-count.invariant.looped (record { read = c.next_line.ensures.read; still = c.next_line.ensures.still; end = c.next_line.ensures.end; within = c.next_line.ensures.within }) (ok_moves c.in-Ok-Some.field-0 c.in-Ok-Some.ensures.moved) (line_of c.next_line.new.self c.in-Ok-Some.field-0 c.in-Ok-Some.count c.in-Ok-Some.field-0-is c.in-Ok-Some.ensures.found)
     (λ f is. let h = c.in-Err.ensures.fault f (stop_is c.in-Err.stop (stop.Fault f) is) in (subst (λ l. g.S.LineSteps.has_fault l f) c.line.ensures h.0, h.1))
-    (λ is. subst (λ l. g.S.LineSteps.stopped c.loop-count.state c.loop-count.world l c.carry_out.new.world) c.line.ensures (c.in-Err.ensures.memory (stop_is c.in-Err.stop stop.Memory is)))
+    (λ is. subst (λ l. WorldStops g.S.LineSteps.step c.loop-count.state c.loop-count.world l c.carry_out.new.world) c.line.ensures (c.in-Err.ensures.memory (stop_is c.in-Err.stop stop.Memory is)))
     c.end_at.ensures.fault c.end_at.ensures.memory
 
 pub returns-in-Err-clause-taken : goal.returns-in-Err-clause-taken
@@ -120,7 +121,7 @@ returns-in-Err-clause-taken g c =
 
 pub returns-in-Err-write_all-clause-ran : goal.returns-in-Err-write_all-clause-ran
 returns-in-Err-write_all-clause-ran g c =
-    at_write_fault g.S.LineSteps.step g.S.LineSteps.stopped g.S.LineSteps.has_fault (c.args.state.now, c.args.world.now) (g.L.Source.left c.args.log.now) (g.L.Source.left c.loop-count.log) (g.L.Source.left c.next_line.new.source) (g.K.Sink.written c.args.out.now) (g.K.Sink.written c.loop-count.out) (g.K.Sink.written c.write_all.new.sink) c.loop-count.reader c.next_line.new.self c.loop-count.state c.carry_out.new.self c.loop-count.world c.carry_out.new.world c.loop-count.line c.in-Ok-Some.count c.in-Ok.ensures.step.0
+    at_write_fault g.S.LineSteps.step g.S.LineSteps.has_fault (c.args.state.now, c.args.world.now) (g.L.Source.left c.args.log.now) (g.L.Source.left c.loop-count.log) (g.L.Source.left c.next_line.new.source) (g.K.Sink.written c.args.out.now) (g.K.Sink.written c.loop-count.out) (g.K.Sink.written c.write_all.new.sink) c.loop-count.reader c.next_line.new.self c.loop-count.state c.carry_out.new.self c.loop-count.world c.carry_out.new.world c.loop-count.line c.in-Ok-Some.count c.in-Ok.ensures.step.0
     c.loop-count.invariant.looped (record { read = c.next_line.ensures.read; still = c.next_line.ensures.still; end = c.next_line.ensures.end; within = c.next_line.ensures.within }) (ok_moves c.in-Ok-Some.field-0 c.in-Ok-Some.ensures.moved) (line_of c.next_line.new.self c.in-Ok-Some.field-0 c.in-Ok-Some.count c.in-Ok-Some.field-0-is c.in-Ok-Some.ensures.found) (subst (λ l. g.S.LineSteps.step c.loop-count.state c.loop-count.world l c.in-Ok.ensures.step.0 c.carry_out.new.self c.carry_out.new.world) c.line.ensures c.in-Ok.ensures.step.2) (subst (AppendedPart (g.K.Sink.written c.loop-count.out) (g.K.Sink.written c.write_all.new.sink)) (c.as_slice.ensures.value ∙ c.in-Ok.ensures.step.1 ∙ ap (λ x. x ++ c.in-Ok.ensures.step.0) c.clear.ensures.items) c.in-Err-write_all.ensures.err)
 
 pub returns-in-Err-write_all-clause-taken : goal.returns-in-Err-write_all-clause-taken

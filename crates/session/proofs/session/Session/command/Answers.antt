@@ -1,4 +1,5 @@
-use Rattle.session.proofs.Lines.{moments, part, still, turned}
+use Rattle.std.proofs.Common.{inl}
+use Rattle.session.proofs.Lines.{moments, still, turned}
 use Rattle.log_lines.specs.Replies.{reply_text}
 use Rattle.session.specs.State.{state}
 use Rattle.session.proofs.session.Session.command.Goals as goal
@@ -37,8 +38,13 @@ returns-clause-still g c = λ line spelled.
 pub returns-clause-memory : goal.returns-clause-memory
 returns-clause-memory g c = λ _ line spelled.
     let inside = c.self.inside in
-    part (state inside.chain inside.manager inside.job) c.args.self.now (state inside.chain c.carry_out.new.manager c.carry_out.new.job) line
-    c.args.command.now c.in-Ok.reply _ _ _ c.self.view_is spelled c.in-Ok.ensures.step
+    let P = g.F.Folder.past in
+    inl (
+      reply_text c.in-Ok.reply,
+      turned (state inside.chain inside.manager inside.job) c.args.self.now (state inside.chain c.carry_out.new.manager c.carry_out.new.job)
+          line c.args.command.now c.in-Ok.reply (P c.args.folder.now) (P c.carry_out.new.folder) _ _ c.self.view_is spelled
+          c.in-Ok.ensures.step c.carry_out.ensures.any_moment,
+    )
 
 pub returns-in_default-clause-any_moment : goal.returns-in_default-clause-any_moment
 returns-in_default-clause-any_moment g c = λ line spelled.
