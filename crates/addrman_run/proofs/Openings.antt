@@ -26,7 +26,6 @@ use Rattle.addrman_run.specs.declared.peers_fault.PeersFault.TheVariants.{Duplic
 use Rattle.addrman_run.specs.declared.status.Status.{Status}
 use Rattle.addrman_run.specs.declared.status.Status.TheVariants.{AsmapRefused, DiskFault, Memory, NoKey, PeersRefused}
 use Rattle.addrman_run.specs.Replay.{IsUntouched, NotOpened}
-use Rattle.causes.proofs.Restored.{opened-caused}
 use Rattle.host_io.specs.Outside.{Outside}
 use Rattle.log_run.specs.declared.end.LogEnd.{LogEnd}
 use Rattle.addrman_run.proofs.Showing.{too_large}
@@ -158,10 +157,6 @@ not_run ran key chain old new NoKey is same = (is, same)
 not_run ran key chain old new DiskFault is same = (is, same)
 not_run ran key chain old new Memory is same = inl (is, same)
 not_run ran key chain old new other is same = absurd is
-
--- the key and asmap of restored tables
-pub restored_places : (snap : Snapshot) (places : Places) → (restored snap places).places ≡ places
-restored_places snap places = (opened-caused (λ peer source. Unit {0}) (Some snap) places).0
 
 -- what was loaded, where the folder has the same past
 pub found_before : (past before : Option Past) (file : Option (List ℕ)) → past ≡ before

@@ -2,7 +2,6 @@ ghost use Rattle.std.specs.Prelude.{◌≡◌, ◌≤◌, ℕ, List, Err, Some, 
 ghost use Rattle.ban_list.specs.BanFile.{IsBanFile, file_text};
 ghost use Rattle.ban_list.specs.Bans.{ban_of};
 ghost use Rattle.ban_list.specs.Subnet.{IsProper};
-ghost use Rattle.host_io.specs.Faults.{Rose};
 ghost use Rattle.host_io.specs.Past.{Always};
 ghost use Rattle.host_io.specs.declared.name.Name.TheVariants as name;
 ghost use Rattle.save_store.specs.Saves.{PublishesOrNot};
@@ -43,9 +42,8 @@ fn read_list(alloc: Global, bytes: &[u8]) -> Result<Bans, Status>
 fn load_bans<F: Folder>(alloc: Global, folder: &mut F) -> Result<Bans, Status>
     ensures found { IfOk result (AreBansIn (F.past folder.old)) }
     ensures cause { IfErr result (IsNoBans (F.past folder.old)) }
-    ensures fault { result ≡ Err Status.DiskFault →
-        Rose (F.faults folder.old) (F.faults folder.new) }
-    ensures never_falls { F.faults folder.old ≤ F.faults folder.new }
+    ensures disk { IsCounted (Err Status.DiskFault)
+        (F.faults folder.old) (F.faults folder.new) result }
     ensures same { F.past folder.new ≡ F.past folder.old }
 {
     match load_input(alloc, Input::Bans, folder) {

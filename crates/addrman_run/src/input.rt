@@ -1,7 +1,7 @@
-ghost use Rattle.std.specs.Prelude.{◌≡◌, ◌⊎◌, ◌≤◌, Ok, Err, None, IfOk, IfSome, IfErr, MatchOption};
-ghost use Rattle.host_io.specs.Faults.{Rose};
+ghost use Rattle.std.specs.Prelude.{◌≡◌, ◌⊎◌, Ok, Err, None, IfOk, IfSome, IfErr, MatchOption};
 ghost use Rattle.host_io.specs.Past.{files_of};
 ghost use Rattle.host_io.specs.PerName.{under};
+ghost use Rattle.log_run.specs.Counts.{IsCounted};
 ghost use Rattle.addrman_run.specs.Inside.{name_of, max_of, too_large_of, IsLoaded, IsLoadFault, IsNotLoaded};
 ghost use Rattle.addrman_run.specs.InFolder.{IsAbsent};
 
@@ -77,9 +77,8 @@ pub(crate) fn load_input<F: Folder>(
     ensures absent { IfSome (files_of (F.past folder.old)) (λ files. under files (name_of input) ≡ None →
         (result ≡ Ok None) ⊎ (result ≡ Err Status.DiskFault)) }
     ensures cause { IfErr result (λ status. IsLoadFault input (F.past folder.old) status) }
-    ensures fault { result ≡ Err Status.DiskFault →
-        Rose (F.faults folder.old) (F.faults folder.new) }
-    ensures never_falls { F.faults folder.old ≤ F.faults folder.new }
+    ensures disk { IsCounted (Err Status.DiskFault)
+        (F.faults folder.old) (F.faults folder.new) result }
     ensures same { F.past folder.new ≡ F.past folder.old }
 {
     match load(alloc, folder, input.name(), input.max()) {
@@ -100,9 +99,8 @@ pub(crate) fn load_present<F: Folder>(
     ensures absent { IfSome (files_of (F.past folder.old)) (λ files. under files (name_of input) ≡ None →
         (result ≡ Err (Status.NoFile (name_of input))) ⊎ (result ≡ Err Status.DiskFault)) }
     ensures cause { IfErr result (λ status. IsNotLoaded input (F.past folder.old) status) }
-    ensures fault { result ≡ Err Status.DiskFault →
-        Rose (F.faults folder.old) (F.faults folder.new) }
-    ensures never_falls { F.faults folder.old ≤ F.faults folder.new }
+    ensures disk { IsCounted (Err Status.DiskFault)
+        (F.faults folder.old) (F.faults folder.new) result }
     ensures same { F.past folder.new ≡ F.past folder.old }
 {
     match load_input(alloc, input, folder) {

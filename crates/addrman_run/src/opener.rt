@@ -6,7 +6,6 @@ ghost use Rattle.addrman_run.specs.Opener.{OpenerOutcome};
 ghost use Rattle.log_run.specs.Counts.{IsCounted};
 
 use crate::Status;
-use crate::input::{Input, load_input};
 use crate::log_status::status_of;
 use crate::opening::open_folder;
 use host_io::{Folder, Sink, Source};
@@ -39,12 +38,9 @@ pub(crate) fn opener<L: Source, F: Folder, K: Sink, H: BuildHasher + Drop>(
 {
     groups_stay_apart();
     tries_are_fair();
-    let bytes = match load_input(alloc, Input::Asmap, folder) {
-        Ok(bytes) => bytes,
-        Err(status) => return status,
-    };
-    let (tables, _) = match open_folder(alloc, hasher, key, chain, &bytes, folder) {
-        Ok(opened) => opened,
+    let mut asmap = None;
+    let tables = match open_folder(alloc, hasher, key, chain, &mut asmap, folder) {
+        Ok(tables) => tables,
         Err(status) => return status,
     };
     let mut lines = OpenerLog::make(Manager::open(tables));

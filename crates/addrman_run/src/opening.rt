@@ -1,16 +1,13 @@
-ghost use Rattle.std.specs.Prelude.{◌≡◌, ◌≤◌, ℕ, List, None, Some, Err, IfOk, IfErr, IfSome, MatchOption, length};
-ghost use Rattle.host_io.specs.Faults.{Rose};
-ghost use Rattle.host_io.specs.declared.name.Name.TheVariants as name;
+ghost use Rattle.std.specs.Prelude.{◌≡◌, ◌≤◌, ℕ, List, None, Some, Err, IfOk, IfErr, IfSome, length};
 ghost use Rattle.asmap_vm.specs.Code.{Tree, IsSaneFile};
 ghost use Rattle.asmap_vm.specs.declared.fault.CodeFault.{CodeFault};
+ghost use Rattle.log_run.specs.Counts.{IsCounted};
 ghost use Rattle.placing.specs.Inside.{map_of};
 ghost use Rattle.peers_file.specs.Layout.{IsFile};
 ghost use Rattle.table_machine.specs.Restoring.{duplicate};
 ghost use Rattle.table_machine.specs.Sound.{IsSound};
-ghost use Rattle.addrman_run.specs.InFolder.{IsAbsent};
-ghost use Rattle.addrman_run.specs.Inside.{IsKeyless, IsLoaded, IsMapOf, IsNoSnapshot, IsNotOpened, IsNotRestored, OpensWith};
+ghost use Rattle.addrman_run.specs.Inside.{IsKeyless, IsMapOf, IsNoSnapshot, IsNotOpened, IsNotRestored, OpensWith};
 ghost use Rattle.addrman_run.specs.Opening.{IsUnopened, Opened, tables_of};
-ghost use Rattle.addrman_run.specs.declared.input.Input.TheVariants as input;
 
 use crate::input::{Input, load_input};
 use crate::{PeersFault, Status};
@@ -42,30 +39,27 @@ fn read_peers(alloc: Global, bytes: &[u8], chain: Chain) -> Result<Snapshot, Sta
     }
 }
 
-/// Restores the tables of a snapshot, and returns them and their placer. The steps are counted, and
-/// nobody reads how many.
+/// Restores the tables of a snapshot. The steps are counted, and nobody reads how many.
 fn restore_tables<'a, L: Ledger, H: BuildHasher + Drop>(
     alloc: Global,
     hasher: H,
     snap: &Snapshot,
     map: Option<Sane<'a>>,
     blank: Blank,
-) -> Result<(Tables<'a, H>, Placer<'a>), Status>
+) -> Result<Tables<'a, H>, Status>
     requires name { blank.name ≡ L.name }
     requires parts { blank.parts ≡ L.parts }
     requires one { blank.parts ≡ 1 }
-    ensures found { IfOk result (λ opened. (duplicate snap.now ≡ None)
-        × (opened.0 ≡ tables_of snap.now (map_of map.entry))) }
-    ensures placer { IfOk result (λ opened. opened.1 ≡ opened.0.places) }
-    ensures small { IfOk result (λ opened. opened.0.next_number ≤ MAX_RECORDS) }
-    ensures sound { IfOk result (λ opened. IsSound opened.0) }
+    ensures found { IfOk result (λ tables. (duplicate snap.now ≡ None)
+        × (tables ≡ tables_of snap.now (map_of map.entry))) }
+    ensures small { IfOk result (λ tables. tables.next_number ≤ MAX_RECORDS) }
+    ensures sound { IfOk result (λ tables. IsSound tables) }
     ensures cause { IfErr result (IsNotRestored snap.now) }
 {
     let placer = Placer::make(snap.key(), map);
-    let own_placer = Placer::make(snap.key(), map);
     let mut steps = Steps::<L>::none(blank);
-    match Tables::restore(alloc, snap, own_placer, hasher, &mut steps) {
-        Ok(tables) => Ok((tables, placer)),
+    match Tables::restore(alloc, snap, placer, hasher, &mut steps) {
+        Ok(tables) => Ok(tables),
         Err(RestoreFault::Duplicate { index }) => {
             Err(Status::PeersRefused(PeersFault::Duplicate { index }))
         }
@@ -73,31 +67,28 @@ fn restore_tables<'a, L: Ledger, H: BuildHasher + Drop>(
     }
 }
 
-/// Opens empty tables, if there is a key, and returns them and their placer.
+/// Opens empty tables, if there is a key.
 fn empty_tables<'a, H: BuildHasher + Drop>(
     alloc: Global,
     hasher: H,
     key: Option<[u8; 32]>,
     map: Option<Sane<'a>>,
-) -> Result<(Tables<'a, H>, Placer<'a>), Status>
-    ensures found { IfOk result (λ opened. OpensWith key Chain.Main None (map_of map.entry) opened.0) }
-    ensures placer { IfOk result (λ opened. opened.1 ≡ opened.0.places) }
-    ensures small { IfOk result (λ opened. opened.0.next_number ≤ MAX_RECORDS) }
-    ensures sound { IfOk result (λ opened. IsSound opened.0) }
+) -> Result<Tables<'a, H>, Status>
+    ensures found { IfOk result (OpensWith key Chain.Main None (map_of map.entry)) }
+    ensures small { IfOk result (λ tables. tables.next_number ≤ MAX_RECORDS) }
+    ensures sound { IfOk result (λ tables. IsSound tables) }
     ensures cause { IfErr result (IsKeyless key) }
 {
     let Some(key) = key else {
         return Err(Status::NoKey);
     };
-    let placer = Placer::make(key, map);
     match Tables::open(alloc, Placer::make(key, map), hasher) {
-        Ok(tables) => Ok((tables, placer)),
+        Ok(tables) => Ok(tables),
         Err(_) => Err(Status::Memory),
     }
 }
 
-/// Opens the tables of the bytes of peers.dat, or if it is absent, empty ones with the key, and
-/// returns them and their placer.
+/// Opens the tables of the bytes of peers.dat, or if it is absent, empty ones with the key.
 fn open_tables<'a, H: BuildHasher + Drop>(
     alloc: Global,
     hasher: H,
@@ -105,11 +96,10 @@ fn open_tables<'a, H: BuildHasher + Drop>(
     chain: Chain,
     map: Option<Sane<'a>>,
     file: &Option<Bytes>,
-) -> Result<(Tables<'a, H>, Placer<'a>), Status>
-    ensures found { IfOk result (λ opened. OpensWith key chain file.now (map_of map.entry) opened.0) }
-    ensures placer { IfOk result (λ opened. opened.1 ≡ opened.0.places) }
-    ensures small { IfOk result (λ opened. opened.0.next_number ≤ MAX_RECORDS) }
-    ensures sound { IfOk result (λ opened. IsSound opened.0) }
+) -> Result<Tables<'a, H>, Status>
+    ensures found { IfOk result (OpensWith key chain file.now (map_of map.entry)) }
+    ensures small { IfOk result (λ tables. tables.next_number ≤ MAX_RECORDS) }
+    ensures sound { IfOk result (λ tables. IsSound tables) }
     ensures cause { IfErr result (IsNotOpened key chain file.now) }
 {
     let bytes = match file {
@@ -140,28 +130,28 @@ fn check_map(bytes: &Option<Bytes>) -> Result<Option<Sane<'_>>, CodeFault>
 }
 
 /// Opens the tables that a replay or an opener begins with: those of the folder's peers.dat, or if
-/// it is absent, empty ones with the key. Either way they have the folder's asmap, which is in the
-/// bytes. Returns them and their placer.
+/// it is absent, empty ones with the key. Either way they have the folder's asmap, whose bytes stay
+/// in `asmap`.
 pub(crate) fn open_folder<'a, F: Folder, H: BuildHasher + Drop>(
     alloc: Global,
     hasher: H,
     key: Option<[u8; 32]>,
     chain: Chain,
-    asmap: &'a Option<Bytes>,
+    asmap: &'a mut Option<Bytes>,
     folder: &mut F,
-) -> Result<(Tables<'a, H>, Placer<'a>), Status>
-    requires asmap { MatchOption asmap.now (IsAbsent name.Asmap (F.past folder.old))
-        (IsLoaded input.Asmap (F.past folder.old)) }
-    ensures found { IfOk result (λ opened. Opened key chain (F.past folder.old) opened.0) }
-    ensures placer { IfOk result (λ opened. opened.1 ≡ opened.0.places) }
-    ensures small { IfOk result (λ opened. opened.0.next_number ≤ MAX_RECORDS) }
-    ensures sound { IfOk result (λ opened. IsSound opened.0) }
+) -> Result<Tables<'a, H>, Status>
+    ensures found { IfOk result (Opened key chain (F.past folder.old)) }
+    ensures small { IfOk result (λ tables. tables.next_number ≤ MAX_RECORDS) }
+    ensures sound { IfOk result (λ tables. IsSound tables) }
     ensures cause { IfErr result (IsUnopened key chain (F.past folder.old)) }
-    ensures fault { result ≡ Err Status.DiskFault →
-        Rose (F.faults folder.old) (F.faults folder.new) }
-    ensures never_falls { F.faults folder.old ≤ F.faults folder.new }
+    ensures disk { IsCounted (Err Status.DiskFault)
+        (F.faults folder.old) (F.faults folder.new) result }
     ensures same { F.past folder.new ≡ F.past folder.old }
 {
+    *asmap = match load_input(alloc, Input::Asmap, folder) {
+        Ok(bytes) => bytes,
+        Err(status) => return Err(status),
+    };
     let map = match check_map(asmap) {
         Ok(map) => map,
         Err(fault) => return Err(Status::AsmapRefused(fault)),

@@ -6,7 +6,6 @@ ghost use Rattle.log_run.specs.Counts.{IsCounted};
 ghost use Rattle.addrman_run.specs.Replay.{ReplayOutcome};
 
 use crate::Status;
-use crate::input::{Input, load_input};
 use crate::log_status::status_of;
 use crate::opening::open_folder;
 use host_io::{Folder, Sink, Source};
@@ -36,12 +35,9 @@ pub(crate) fn replay<L: Source, F: Folder, K: Sink, H: BuildHasher + Drop>(
     ensures write { IsCounted Status.WriteFault (K.faults out.old) (K.faults out.new) result }
     ensures disk { IsCounted Status.DiskFault (F.faults folder.old) (F.faults folder.new) result }
 {
-    let bytes = match load_input(alloc, Input::Asmap, folder) {
-        Ok(bytes) => bytes,
-        Err(status) => return status,
-    };
-    let (tables, _) = match open_folder(alloc, hasher, key, chain, &bytes, folder) {
-        Ok(opened) => opened,
+    let mut asmap = None;
+    let tables = match open_folder(alloc, hasher, key, chain, &mut asmap, folder) {
+        Ok(tables) => tables,
         Err(status) => return status,
     };
     let mut session = Session::make(Manager::open(tables), chain);

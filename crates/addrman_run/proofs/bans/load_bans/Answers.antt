@@ -19,8 +19,9 @@ returns-in-Ok-Some-clause-cause g c =
     let loaded = subst (λ o. MatchOption o (IsAbsent name.Bans old) (IsLoaded input.Bans old)) c.in-Ok-Some.field-0-is c.in-Ok-Some.ensures.found in
     not_read old _ c.read_list.result (subst (IsLoaded input.Bans old) (sym c.items.ensures) loaded) c.read_list.ensures.cause
 
-pub returns-in-Ok-Some-clause-fault : goal.returns-in-Ok-Some-clause-fault
-returns-in-Ok-Some-clause-fault g c = λ is. absurd (never_disk _ c.read_list.result c.read_list.ensures.cause is)
+pub returns-in-Ok-Some-clause-disk : goal.returns-in-Ok-Some-clause-disk
+returns-in-Ok-Some-clause-disk g c =
+    (c.load_input.ensures.disk.0, λ is. absurd (never_disk _ c.read_list.result c.read_list.ensures.cause is))
 
 pub returns-in-Ok-None-clause-found : goal.returns-in-Ok-None-clause-found
 returns-in-Ok-None-clause-found g c =

@@ -24,4 +24,4 @@ pub returns-clause-write : goal.returns-clause-write
 returns-clause-write g c = write_counted c.run_log.result _ _ _ c.status_of.ensures c.run_log.ensures.write
 
 pub returns-clause-disk : goal.returns-clause-disk
-returns-clause-disk g c = (c.load_present.ensures.never_falls, λ is. absurd (no_disk c.run_log.result (sym c.status_of.ensures ∙ is)))
+returns-clause-disk g c = (c.load_present.ensures.disk.0, λ is. absurd (no_disk c.run_log.result (sym c.status_of.ensures ∙ is)))

@@ -1,6 +1,5 @@
-use Rattle.std.proofs.Common.{◌∙◌, arith, sym, subst}
+use Rattle.std.proofs.Common.{◌∙◌, sym, subst}
 use Rattle.host_io.specs.Outside.{outside}
-use Rattle.addrman_run.specs.Opening.{Opened}
 use Rattle.addrman_run.specs.Opener.{OpenerOutcome, OpenerRan}
 use Rattle.addrman_run.specs.Replay.{NotOpened}
 use Rattle.addrman_run.proofs.Openers.{ran_by, starts}
@@ -11,12 +10,10 @@ pub returns-clause-outcome : goal.returns-clause-outcome
 returns-clause-outcome g c =
     let old = outside g.L.Source g.F.Folder g.K.Sink c.args.log.now c.args.folder.now c.args.out.now in
     let new = outside g.L.Source g.F.Folder g.K.Sink c.run_log.new.log c.open_folder.new.folder c.run_log.new.out in
-    let tables = c.in-Ok-open_folder.opened.0 in
-    let found = subst (λ p. Opened c.args.key c.args.chain p tables) c.load_input.ensures.same c.in-Ok-open_folder.ensures.found in
     subst (OpenerOutcome c.args.key c.args.chain old new) (sym c.status_of.ensures)
     (by_status (OpenerRan c.args.key c.args.chain old new) (NotOpened c.args.key c.args.chain old new) c.run_log.result
-    (ran_by c.args.key c.args.chain tables c.make-lines.result _ old new c.run_log.result found
-    (starts tables c.make-lines.result c.open.result c.make-lines.ensures c.open.ensures)
+    (ran_by c.args.key c.args.chain c.in-Ok.tables c.make-lines.result _ old new c.run_log.result c.in-Ok.ensures.found
+    (starts c.in-Ok.tables c.make-lines.result c.open.result c.make-lines.ensures c.open.ensures)
     c.groups_stay_apart.ensures c.tries_are_fair.ensures c.run_log.ensures.ran.ran))
 
 pub returns-clause-read : goal.returns-clause-read
@@ -26,7 +23,4 @@ pub returns-clause-write : goal.returns-clause-write
 returns-clause-write g c = write_counted c.run_log.result _ _ _ c.status_of.ensures c.run_log.ensures.write
 
 pub returns-clause-disk : goal.returns-clause-disk
-returns-clause-disk g c = (
-  omega (arith, c.load_input.ensures.never_falls, c.open_folder.ensures.never_falls),
-  λ is. absurd (no_disk c.run_log.result (sym c.status_of.ensures ∙ is)),
-)
+returns-clause-disk g c = (c.open_folder.ensures.disk.0, λ is. absurd (no_disk c.run_log.result (sym c.status_of.ensures ∙ is)))

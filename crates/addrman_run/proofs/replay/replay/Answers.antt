@@ -1,6 +1,5 @@
 use Rattle.std.proofs.Common.{◌∙◌, arith, refl, sym, subst}
 use Rattle.host_io.specs.Outside.{outside}
-use Rattle.addrman_run.specs.Opening.{Opened}
 use Rattle.addrman_run.specs.Replay.{NotOpened, Replayed, ReplayOutcome}
 use Rattle.addrman_run.proofs.Replays.{replayed, rises, starts}
 use Rattle.addrman_run.proofs.Seen.{by_status, no_disk, read_counted, write_counted}
@@ -10,14 +9,11 @@ pub returns-clause-outcome : goal.returns-clause-outcome
 returns-clause-outcome g c =
     let old = outside g.L.Source g.F.Folder g.K.Sink c.args.log.now c.args.folder.now c.args.out.now in
     let new = outside g.L.Source g.F.Folder g.K.Sink c.run_log.new.log c.run_log.new.world c.run_log.new.out in
-    let tables = c.in-Ok-open_folder.opened.0 in
-    let found = subst (λ p. Opened c.args.key c.args.chain p tables) c.load_input.ensures.same c.in-Ok-open_folder.ensures.found in
     subst (ReplayOutcome c.args.key c.args.chain old new) (sym c.status_of.ensures)
     (by_status (Replayed c.args.key c.args.chain old new) (NotOpened c.args.key c.args.chain old new) c.run_log.result
-    (replayed g.F.Folder.past g.F.Folder.faults c.args.key c.args.chain tables c.make-session.result old new c.open_folder.new.folder c.run_log.new.world c.run_log.result
-    found (starts c.args.chain tables c.make-session.result c.open.result c.make-session.ensures c.open.ensures)
-    c.in-Ok-open_folder.ensures.sound c.in-Ok-open_folder.ensures.small
-    (c.open_folder.ensures.same ∙ c.load_input.ensures.same) (omega (arith, c.load_input.ensures.never_falls, c.open_folder.ensures.never_falls)) refl refl c.run_log.ensures.ran))
+    (replayed g.F.Folder.past g.F.Folder.faults c.args.key c.args.chain c.in-Ok.tables c.make-session.result old new c.open_folder.new.folder c.run_log.new.world c.run_log.result
+    c.in-Ok.ensures.found (starts c.args.chain c.in-Ok.tables c.make-session.result c.open.result c.make-session.ensures c.open.ensures)
+    c.in-Ok.ensures.sound c.in-Ok.ensures.small c.open_folder.ensures.same c.open_folder.ensures.disk.0 refl refl c.run_log.ensures.ran))
 
 pub returns-clause-read : goal.returns-clause-read
 returns-clause-read g c = read_counted c.run_log.result _ _ _ c.status_of.ensures c.run_log.ensures.read
@@ -29,8 +25,7 @@ pub returns-clause-disk : goal.returns-clause-disk
 returns-clause-disk g c = (
   omega (
     arith,
-    c.load_input.ensures.never_falls,
-    c.open_folder.ensures.never_falls,
+    c.open_folder.ensures.disk.0,
     rises g.F.Folder.past g.F.Folder.faults c.make-session.result _ _ c.open_folder.new.folder c.run_log.new.world c.run_log.result c.run_log.ensures.ran,
   ),
   λ is. absurd (no_disk c.run_log.result (sym c.status_of.ensures ∙ is)),
