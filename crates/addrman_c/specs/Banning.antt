@@ -1,8 +1,8 @@
 -- What the calls on lists of bans return, write and leave.
 use Rattle.std.specs.Prelude.{◌≡◌, ◌⊎◌, ℕ, ◌<◌, List, [], length, find, is_some, Option, Some, None, MatchOption}
 use Rattle.net_addr.specs.Address.{Address}
-use Rattle.ban_list.specs.BanFile.{IsBanFile, HasBanFault, file_text}
-use Rattle.ban_list.specs.Bans.{after_ban, ban_of, listed, without, stops}
+use Rattle.ban_list.specs.BanFile.{IsBanFile, HasBanFault, bans_text}
+use Rattle.ban_list.specs.Bans.{after_ban, ban_of, listed, without_ban, stops}
 use Rattle.ban_list.specs.SubnetText.{IsSubnetText}
 use Rattle.ban_list.specs.declared.ban.Ban.{Ban}
 use Rattle.ban_list.specs.declared.subnet.Subnet.{Subnet}
@@ -53,7 +53,7 @@ ReadCall json code out (Some kept) = (code ≡ OK) × IsListOf json kept.bans
 -- the bytes of the file of a list
 abbrev pub PrintCall : List Ban → ℕ → List ℕ → List ℕ → ℕ → Type 0
 PrintCall bans code old new count =
-    ((code ≡ MEMORY) × (new ≡ old)) ⊎ IsPut (file_text bans) old code count new
+    ((code ≡ MEMORY) × (new ≡ old)) ⊎ IsPut (bans_text bans) old code count new
 
 -- the subnet that a text is, or that it is none
 abbrev pub IsParsed : List ℕ → Option Subnet → Type 0
@@ -78,7 +78,7 @@ BanCall (Some s) now until old code reply new =
 abbrev pub UnbanCall : Option Subnet → List Ban → ℕ → ℕ → List Ban → Type 0
 UnbanCall None old code known new = (code ≡ ARGUMENT) × (new ≡ old)
 UnbanCall (Some s) old code known new =
-    (code ≡ OK) × (known ≡ bit (is_some (listed s old))) × (new ≡ without s old)
+    (code ≡ OK) × (known ≡ bit (is_some (listed s old))) × (new ≡ without_ban s old)
 
 -- the struct tells the ban
 pub record IsBan (out : AddrmanBan) (ban : Ban) : Type 0 where

@@ -1,7 +1,7 @@
 -- The list of the folder, and how a command on it ends.
 use Rattle.std.proofs.Common.{◌≡◌, ◌⊎◌, ℕ, List, refl, sym, ap, ◌∙◌, subst, inl, inr, Ok, Err}
 use Rattle.std.specs.Prelude.{Option, Some, None, [], IfOk, IfErr, MatchOption, option_map, Result}
-use Rattle.ban_list.specs.BanFile.{IsBanFile, HasBanFault, file_text}
+use Rattle.ban_list.specs.BanFile.{IsBanFile, HasBanFault, bans_text}
 use Rattle.ban_list.specs.declared.ban.Ban.{Ban}
 use Rattle.ban_list.specs.declared.fault.BanFault.{BanFault}
 use Rattle.ban_list.specs.declared.fault.BanFault.TheVariants as ban
@@ -79,11 +79,11 @@ pub kept : (change : List Ban → Change) (old new : Option Past) → new ≡ ol
 kept change old new same = subst (λ past. Always old past (IsOldOrNewList change old)) (sym same) (unchanged change old)
 
 -- the file that was made is that of a list
-saved_some : (o : Option (List Ban)) (bytes : List ℕ) → Some bytes ≡ option_map file_text o → (list : List Ban) × (o ≡ Some list) × (bytes ≡ file_text list)
+saved_some : (o : Option (List Ban)) (bytes : List ℕ) → Some bytes ≡ option_map bans_text o → (list : List Ban) × (o ≡ Some list) × (bytes ≡ bans_text list)
 saved_some None bytes is = absurd (cc)
 saved_some (Some list) bytes is = (list, refl, cc)
 
-saved_none : (o : Option (List Ban)) → None ≡ option_map file_text o → o ≡ None
+saved_none : (o : Option (List Ban)) → None ≡ option_map bans_text o → o ≡ None
 saved_none None is = refl
 saved_none (Some list) is = absurd (cc)
 

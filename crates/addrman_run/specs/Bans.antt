@@ -1,7 +1,7 @@
 -- What the commands on banlist.json write and save, and how they end.
 use Rattle.std.specs.Prelude.{◌≡◌, ◌≢◌, ◌⊎◌, ℕ, Bool, true, false, List, [], ◌++◌, Option, Some, None, find, is_some, codes, decimal}
-use Rattle.ban_list.specs.BanFile.{IsBanFile, HasBanFault, file_text}
-use Rattle.ban_list.specs.Bans.{after_ban, listed, without, stops}
+use Rattle.ban_list.specs.BanFile.{IsBanFile, HasBanFault, bans_text}
+use Rattle.ban_list.specs.Bans.{after_ban, listed, without_ban, stops}
 use Rattle.ban_list.specs.SubnetText.{subnet_text}
 use Rattle.ban_list.specs.declared.ban.Ban.{Ban}
 use Rattle.ban_list.specs.declared.bans.BanReply.{BanReply}
@@ -74,7 +74,7 @@ unban_by false rest = record { line = codes "absent\n"; saved = None }
 
 -- `unban`
 abbrev pub unban_change : Subnet → List Ban → Change
-unban_change subnet bans = unban_by (is_some (listed subnet bans)) (without subnet bans)
+unban_change subnet bans = unban_by (is_some (listed subnet bans)) (without_ban subnet bans)
 
 abbrev pub found_text : Option Ban → List ℕ
 found_text None = codes "free\n"
@@ -91,17 +91,18 @@ banned_change addr now bans =
 -- The disk of a moment beside the one at the start: a crash leaves in banlist.json what it could
 -- leave there at the start, or the whole file of the new list; and at each other name but
 -- banlist.tmp nothing that it could not leave at the start.
-pub record IsOldOrNewList (change : List Ban → Change) (past : Option Past) (start disk : Disk) : Type 0 where
+pub record IsOldOrNewList (change : List Ban → Change) (past : Option Past)
+    (start disk : Disk) : Type 0 where
   pub bans : (found : Option (List ℕ)) → MayHave (under disk name.Bans) found →
       MayHave (under start name.Bans) found
       ⊎ ((old : List Ban) × (new : List Ban) × AreBansIn past old × ((change old).saved ≡ Some new)
-      × (found ≡ Some (file_text new)))
+      × (found ≡ Some (bans_text new)))
   pub others : (other : Name) → other ≢ name.BansTemp → other ≢ name.Bans → NoMore start disk other
 
 -- the new list is in its place, or if there is none, the folder was not changed at all
 abbrev pub IsSaved : Option (List Ban) → Option Past → Option Past → Type 0
 IsSaved None old new = new ≡ old
-IsSaved (Some bans) old new = IsInPlace name.Bans (file_text bans) new
+IsSaved (Some bans) old new = IsInPlace name.Bans (bans_text bans) new
 
 -- the list was changed, if there was something to save, and the line was written, or a part of it
 abbrev pub Changes : (List Ban → Change) → (Option (List ℕ) → Option (List ℕ) → List ℕ → Type 0) →
@@ -113,7 +114,9 @@ Changes change Writes old new before after =
 -- the folder was not changed, or there is a new list to be saved
 abbrev pub SavesOnlyNew : (List Ban → Change) → Option Past → Option Past → Type 0
 SavesOnlyNew change old new =
-    (new ≡ old) ⊎ ((bans : List Ban) × (list : List Ban) × AreBansIn old bans × ((change bans).saved ≡ Some list))
+    (new ≡ old)
+    ⊎ ((bans : List Ban) × (list : List Ban) × AreBansIn old bans
+    × ((change bans).saved ≡ Some list))
 
 -- What is saved and written for each status, from the past of the folder at the start and at the
 -- end, and what the output had before and after.
@@ -125,7 +128,8 @@ BansText change old new before after DiskFault = SavesOnlyNew change old new × 
 BansText change old new before after Memory = (new ≡ old) × (after ≡ before)
 BansText change old new before after other = ReportsBans old other × (new ≡ old) × (after ≡ before)
 
-pub record BansEnds (change : List Ban → Change) (old new : Outside) (status : Status) : Type 0 where
+pub record BansEnds (change : List Ban → Change) (old new : Outside)
+    (status : Status) : Type 0 where
   pub text : BansText change old.past new.past old.written new.written status
   pub any_moment : Always old.past new.past (IsOldOrNewList change old.past)
   pub left : SameLog old new

@@ -11,7 +11,7 @@ use Rattle.asmap_vm.specs.declared.fault.CodeFault.TheVariants as code
 use Rattle.bit_code.specs.declared.bits.TheConstants.{MAX_ASMAP}
 use Rattle.peers_file.specs.declared.fault.FileFault.TheVariants as peers
 use Rattle.peers_file.specs.declared.read.TheConstants.{MAX_FILE}
-use Rattle.ban_list.specs.BanFile.{HasBanFault, file_text}
+use Rattle.ban_list.specs.BanFile.{HasBanFault, bans_text}
 use Rattle.ban_list.specs.declared.ban.Ban.{Ban}
 use Rattle.ban_list.specs.declared.fault.BanFault.{BanFault}
 use Rattle.ban_list.specs.declared.fault.BanFault.TheVariants as ban
@@ -163,7 +163,7 @@ IsNoBans past status =
 abbrev pub IsAnswer : (List Ban → Change) → Option Past → List ℕ → Option (List ℕ) → Type 0
 IsAnswer change past line file =
     (bans : List Ban) × AreBansIn past bans × (line ≡ (change bans).line)
-    × (file ≡ option_map file_text (change bans).saved)
+    × (file ≡ option_map bans_text (change bans).saved)
 
 -- how the saving of a file, if there is one, and the line end
 abbrev pub AnswerEnds : List ℕ → Option (List ℕ) → Option Past → Option Past →

@@ -3,16 +3,12 @@ use Rattle.std.specs.Prelude.{ℕ, List, [], ◌++◌, codes, decimal}
 use Rattle.host_io.specs.Name.{file_name_of}
 use Rattle.asmap_vm.specs.declared.fault.CodeFault.{CodeFault}
 use Rattle.asmap_vm.specs.declared.fault.CodeFault.TheVariants as code
-use Rattle.prefix_table.specs.declared.fault.TableFault.{TableFault}
-use Rattle.prefix_table.specs.declared.fault.TableFault.TheVariants as table
-use Rattle.asmap_compile.specs.declared.fault.CompileFault.{CompileFault}
-use Rattle.asmap_compile.specs.declared.fault.CompileFault.TheVariants as compile
-use Rattle.grammar.specs.declared.fault.LineFault.{LineFault}
-use Rattle.grammar.specs.declared.fault.LineFault.TheVariants as line
-use Rattle.ban_list.specs.declared.fault.BanFault.{BanFault}
-use Rattle.ban_list.specs.declared.fault.BanFault.TheVariants as ban
 use Rattle.peers_file.specs.declared.fault.FileFault.{FileFault}
 use Rattle.peers_file.specs.declared.fault.FileFault.TheVariants as file
+use Rattle.asmap_compile.specs.FaultTexts.{compile_fault_text}
+use Rattle.ban_list.specs.FaultTexts.{ban_fault_text}
+use Rattle.grammar.specs.FaultTexts.{line_fault_text}
+use Rattle.prefix_table.specs.FaultTexts.{table_fault_text}
 use Rattle.addrman_run.specs.declared.peers_fault.PeersFault.{PeersFault}
 use Rattle.addrman_run.specs.declared.peers_fault.PeersFault.TheVariants.{File, Duplicate}
 use Rattle.addrman_run.specs.declared.tables_fault.TablesFault.{TablesFault}
@@ -64,40 +60,6 @@ peers_fault_text (Duplicate index) = codes "duplicate"
 abbrev pub code_fault_text : CodeFault → List ℕ
 code_fault_text (code.TooLarge size) = codes "too-large"
 code_fault_text code.Insane = codes "insane"
-
-abbrev pub ban_fault_text : BanFault → List ℕ
-ban_fault_text ban.Json = codes "json"
-ban_fault_text ban.Form = codes "form"
-ban_fault_text ban.TooMany = codes "too-many"
-ban_fault_text (ban.TooLarge size) = codes "too-large"
-ban_fault_text ban.Memory = codes "out of memory"
-
-abbrev pub line_fault_text : LineFault → List ℕ
-line_fault_text line.Word = codes "word"
-line_fault_text line.Fields = codes "fields"
-line_fault_text line.Number = codes "number"
-line_fault_text line.Peer = codes "peer"
-line_fault_text line.Hex = codes "hex"
-line_fault_text line.Words = codes "words"
-line_fault_text line.Memory = codes "out of memory"
-
--- a fault, and the line that it is in
-abbrev pub at_line : List ℕ → ℕ → List ℕ
-at_line fault n = fault ++ codes " at line " ++ decimal n
-
-abbrev pub table_fault_text : TableFault → List ℕ
-table_fault_text (table.Form n) = at_line (codes "form") n
-table_fault_text (table.Number n) = at_line (codes "number") n
-table_fault_text (table.HostBits n) = at_line (codes "host-bits") n
-table_fault_text (table.Repeated n) = at_line (codes "repeated") n
-table_fault_text table.TooMany = codes "too-many"
-table_fault_text (table.TooLarge size) = codes "too-large"
-table_fault_text table.Memory = codes "out of memory"
-
-abbrev pub compile_fault_text : CompileFault → List ℕ
-compile_fault_text compile.Empty = codes "empty"
-compile_fault_text (compile.TooLarge bits) = codes "code-too-large"
-compile_fault_text compile.Memory = codes "out of memory"
 
 abbrev pub tables_fault_text : TablesFault → List ℕ
 tables_fault_text (Rows fault) = table_fault_text fault

@@ -1,5 +1,5 @@
 ghost use Rattle.std.specs.Prelude.{◌≡◌, ◌≤◌, ℕ, List, Err, Some, IfOk, IfErr, option_map, ⊤};
-ghost use Rattle.ban_list.specs.BanFile.{IsBanFile, file_text};
+ghost use Rattle.ban_list.specs.BanFile.{IsBanFile, bans_text};
 ghost use Rattle.ban_list.specs.Bans.{ban_of};
 ghost use Rattle.ban_list.specs.Subnet.{IsProper};
 ghost use Rattle.host_io.specs.Past.{Always};
@@ -16,8 +16,8 @@ use crate::output::{save_then_write, write_line};
 use crate::{Memory, Status};
 use ban_list::{Ban, BanFault, BanReply, Bans, Subnet, put_subnet, read_bans, write_bans};
 use host_io::{Bytes, Folder, Name, Sink};
-use net_addr::{NetAddr, Peer};
-use std::alloc::{AllocError, Global};
+use net_addr::{NetAddr, Peer, put_number};
+use std::alloc::Global;
 
 /// The line that a command writes, and the file that it saves first, if the list is a new one.
 #[derive(Drop)]
@@ -66,7 +66,7 @@ fn reply_line(reply: BanReply) -> &'static [u8]
 
 /// Returns the file that is saved after a reply.
 fn file_after(alloc: Global, reply: BanReply, bans: &Bans) -> Result<Option<Bytes>, Memory>
-    ensures { IfOk result (λ file. file ≡ option_map file_text (saved_by reply bans.now)) }
+    ensures { IfOk result (λ file. file ≡ option_map bans_text (saved_by reply bans.now)) }
 {
     match reply {
         BanReply::Added => Ok(Some(write_bans(alloc, bans)?)),
@@ -82,8 +82,7 @@ fn banned_line(alloc: Global, ban: &Ban) -> Result<Vec<u8>, Memory>
 {
     let mut text = Vec::from_slice(alloc, b"banned ")?;
     put_subnet(&ban.subnet, &mut text)?;
-    text.extend_from_slice(b" ")?;
-    text.extend_from_slice(ban.until.to_string(alloc)?.as_bytes())?;
+    put_number(b" ", u64::from(ban.until), &mut text)?;
     text.extend_from_slice(b"\n")?;
     Ok(text)
 }
@@ -112,7 +111,7 @@ pub(crate) trait BanCommand {
         ensures line { IfOk result (λ answer. answer.line.items
             ≡ (change self.now bans.old).line) }
         ensures file { IfOk result (λ answer. answer.file
-            ≡ option_map file_text (change self.now bans.old).saved) };
+            ≡ option_map bans_text (change self.now bans.old).saved) };
 }
 
 /// The command that bans a subnet from `now` until a later time.

@@ -7,7 +7,8 @@ ghost use Rattle.addrman_run.specs.declared.input.Input.TheVariants as input;
 use crate::file_line::{FileLine, Refusal};
 use crate::input::Input;
 use asmap_vm::{Sane, check};
-use std::alloc::{AllocError, Global};
+use net_addr::{Memory, put_number, put_text};
+use std::alloc::Global;
 
 /// The command that says how many bytes asmap.dat has.
 #[derive(Drop)]
@@ -33,11 +34,11 @@ impl FileLine for Check {
 }
 
 /// Returns the line with the size of an asmap.
-fn line_of(alloc: Global, asmap: &Sane<'_>) -> Result<Vec<u8>, AllocError>
+fn line_of(alloc: Global, asmap: &Sane<'_>) -> Result<Vec<u8>, Memory>
     ensures { IfOk result (λ line. line.items ≡ check_text (asmap_of asmap.now)) }
 {
-    let mut text = Vec::from_slice(alloc, b"sane ")?;
-    text.extend_from_slice(asmap.code().len().to_string(alloc)?.as_bytes())?;
-    text.extend_from_slice(b" bytes\n")?;
+    let mut text = Vec::new(alloc);
+    put_number(b"sane ", asmap.code().len() as u64, &mut text)?;
+    put_text(b" bytes\n", &mut text)?;
     Ok(text)
 }

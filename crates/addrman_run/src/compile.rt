@@ -15,8 +15,9 @@ use crate::output::save_then_write;
 use crate::{Status, TablesFault};
 use asmap_compile::{CompileFault, Compiled, compile};
 use host_io::{Folder, Name, Sink};
+use net_addr::{Memory, put_number, put_text};
 use prefix_table::{Table, TableFault, read_table};
-use std::alloc::{AllocError, Global};
+use std::alloc::Global;
 
 /// The asmap of a table, and the line about both.
 #[derive(Drop)]
@@ -26,21 +27,21 @@ struct NewAsmap {
 }
 
 /// Returns the line with the numbers of rows, bits and bytes.
-fn line_of(alloc: Global, rows: usize, bits: u64, bytes: usize) -> Result<Vec<u8>, AllocError>
-    ensures { IfOk result (λ text. text.items ≡ codes "compiled " ++ decimal rows ++ codes " rows " ++ decimal bits ++ codes " bits " ++ decimal bytes ++ codes " bytes\n") }
+fn line_of(alloc: Global, rows: usize, bits: u64, bytes: usize) -> Result<Vec<u8>, Memory>
+    ensures { IfOk result (λ text. text.items
+        ≡ codes "compiled " ++ decimal rows ++ codes " rows " ++ decimal bits
+        ++ codes " bits " ++ decimal bytes ++ codes " bytes\n") }
 {
-    let mut text = Vec::from_slice(alloc, b"compiled ")?;
-    text.extend_from_slice(rows.to_string(alloc)?.as_bytes())?;
-    text.extend_from_slice(b" rows ")?;
-    text.extend_from_slice(bits.to_string(alloc)?.as_bytes())?;
-    text.extend_from_slice(b" bits ")?;
-    text.extend_from_slice(bytes.to_string(alloc)?.as_bytes())?;
-    text.extend_from_slice(b" bytes\n")?;
+    let mut text = Vec::new(alloc);
+    put_number(b"compiled ", rows as u64, &mut text)?;
+    put_number(b" rows ", bits, &mut text)?;
+    put_number(b" bits ", bytes as u64, &mut text)?;
+    put_text(b" bytes\n", &mut text)?;
     Ok(text)
 }
 
 /// Returns the line about a table and its compiled file.
-fn compile_line(alloc: Global, table: &Table, file: &Compiled) -> Result<Vec<u8>, AllocError>
+fn compile_line(alloc: Global, table: &Table, file: &Compiled) -> Result<Vec<u8>, Memory>
     requires { file.now.bits ≡ length (code (compiled table.now)) }
     ensures { IfOk result (λ text. text.items ≡ compile_text table.now file.now.bytes) }
 {

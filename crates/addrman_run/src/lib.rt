@@ -25,7 +25,6 @@ mod limit;
 mod log_status;
 mod lookup;
 mod lookup_lines;
-mod memory;
 mod opener;
 mod opening;
 mod output;
@@ -40,7 +39,7 @@ mod trial;
 mod trial_line;
 
 pub use law::folders_open_once;
-pub use memory::Memory;
+pub use net_addr::Memory;
 pub use peers_fault::PeersFault;
 pub use report::{code, status_line};
 pub use status::Status;

@@ -1,15 +1,13 @@
 ghost use Rattle.std.specs.Prelude.{◌≡◌, ◌++◌, codes, decimal, IfOk, OnOk, OnErr};
-ghost use Rattle.addrman_run.specs.Report.{file_fault_text, peers_fault_text, ban_fault_text};
-ghost use Rattle.addrman_run.specs.Report.{code_of, reason_of, code_fault_text, line_fault_text, at_line, table_fault_text, compile_fault_text, tables_fault_text, line_of, status_text};
+ghost use Rattle.grammar.specs.FaultTexts.{line_fault_text};
+ghost use Rattle.addrman_run.specs.Report.{code_of, file_fault_text, peers_fault_text, code_fault_text, tables_fault_text, reason_of, line_of, status_text};
 
 use crate::{Memory, PeersFault, Status, TablesFault};
-use asmap_compile::CompileFault;
 use asmap_vm::CodeFault;
-use ban_list::BanFault;
 use log_lines::LineFault;
+use net_addr::{put_number, put_text};
 use peers_file::FileFault;
-use prefix_table::TableFault;
-use std::alloc::{AllocError, Global};
+use std::alloc::Global;
 
 /// Returns the exit code of the program for `status`.
 pub fn code(status: &Status) -> u8
@@ -76,82 +74,25 @@ fn code_fault_word(fault: &CodeFault) -> &'static [u8]
     }
 }
 
-/// Returns the word for why banlist.json is refused.
-fn ban_fault_word(fault: &BanFault) -> &'static [u8]
-    ensures { result.now ≡ ban_fault_text fault.now }
-{
-    match fault {
-        BanFault::Json => b"json",
-        BanFault::Form => b"form",
-        BanFault::TooMany => b"too-many",
-        BanFault::TooLarge { .. } => b"too-large",
-        BanFault::Memory => b"out of memory",
-    }
-}
-
-/// Returns the word for a fault of a line.
-fn line_fault_word(fault: &LineFault) -> &'static [u8]
-    ensures { result.now ≡ line_fault_text fault.now }
-{
-    match fault {
-        LineFault::Word => b"word",
-        LineFault::Fields => b"fields",
-        LineFault::Number => b"number",
-        LineFault::Peer => b"peer",
-        LineFault::Hex => b"hex",
-        LineFault::Words => b"words",
-        LineFault::Memory => b"out of memory",
-    }
-}
-
-/// Returns the text of a fault and the number of its line.
-fn at_line(alloc: Global, fault: &[u8], line: u32) -> Result<Vec<u8>, AllocError>
-    ensures { IfOk result (λ text. text.items ≡ at_line fault.now line) }
-{
-    let mut text = Vec::from_slice(alloc, fault)?;
-    text.extend_from_slice(b" at line ")?;
-    text.extend_from_slice(line.to_string(alloc)?.as_bytes())?;
-    Ok(text)
-}
-
-/// Returns the text for a fault of a table's text.
-fn table_fault(alloc: Global, fault: &TableFault) -> Result<Vec<u8>, AllocError>
-    ensures { IfOk result (λ text. text.items ≡ table_fault_text fault.now) }
-{
-    match fault {
-        TableFault::Form { line } => at_line(alloc, b"form", *line),
-        TableFault::Number { line } => at_line(alloc, b"number", *line),
-        TableFault::HostBits { line } => at_line(alloc, b"host-bits", *line),
-        TableFault::Repeated { line } => at_line(alloc, b"repeated", *line),
-        TableFault::TooMany => Vec::from_slice(alloc, b"too-many"),
-        TableFault::TooLarge { .. } => Vec::from_slice(alloc, b"too-large"),
-        TableFault::Memory => Vec::from_slice(alloc, b"out of memory"),
-    }
-}
-
-/// Returns the word for why a table is not compiled.
-fn compile_fault_word(fault: &CompileFault) -> &'static [u8]
-    ensures { result.now ≡ compile_fault_text fault.now }
-{
-    match fault {
-        CompileFault::Empty => b"empty",
-        CompileFault::TooLarge { .. } => b"code-too-large",
-        CompileFault::Memory => b"out of memory",
-    }
-}
-
 /// Returns the text for why prefixes.txt is refused.
-fn tables_fault(alloc: Global, fault: &TablesFault) -> Result<Vec<u8>, AllocError>
+fn tables_fault(alloc: Global, fault: &TablesFault) -> Result<Vec<u8>, Memory>
     ensures { IfOk result (λ text. text.items ≡ tables_fault_text fault.now) }
 {
     match fault {
-        TablesFault::Rows(fault) => table_fault(alloc, fault),
-        TablesFault::Compile(fault) => Vec::from_slice(alloc, compile_fault_word(fault)),
+        TablesFault::Rows(fault) => fault.text(alloc),
+        TablesFault::Compile(fault) => owned(alloc, fault.word()),
     }
 }
 
+/// Returns a copy of the text.
+fn owned(alloc: Global, text: &[u8]) -> Result<Vec<u8>, Memory>
+    ensures { IfOk result (λ copy. copy.items ≡ text.now) }
+{
+    Ok(Vec::from_slice(alloc, text)?)
+}
+
 /// Returns two texts, one after the other.
-fn joined(alloc: Global, first: &[u8], second: &[u8]) -> Result<Vec<u8>, AllocError>
+fn joined(alloc: Global, first: &[u8], second: &[u8]) -> Result<Vec<u8>, Memory>
     ensures { IfOk result (λ text. text.items ≡ first.now ++ second.now) }
 {
     let mut text = Vec::from_slice(alloc, first)?;
@@ -160,66 +101,69 @@ fn joined(alloc: Global, first: &[u8], second: &[u8]) -> Result<Vec<u8>, AllocEr
 }
 
 /// Returns the message for a line of the log that has an error.
-fn log_line(alloc: Global, line: u64, fault: &LineFault) -> Result<Vec<u8>, AllocError>
-    ensures { IfOk result (λ text. text.items ≡ codes "log line " ++ decimal line ++ codes ": " ++ line_fault_text fault.now) }
+fn log_line(alloc: Global, line: u64, fault: &LineFault) -> Result<Vec<u8>, Memory>
+    ensures { IfOk result (λ text. text.items
+        ≡ codes "log line " ++ decimal line ++ codes ": " ++ line_fault_text fault.now) }
 {
-    let mut text = Vec::from_slice(alloc, b"log line ")?;
-    text.extend_from_slice(line.to_string(alloc)?.as_bytes())?;
-    text.extend_from_slice(b": ")?;
-    text.extend_from_slice(line_fault_word(fault))?;
+    let mut text = Vec::new(alloc);
+    put_number(b"log line ", line, &mut text)?;
+    put_text(b": ", &mut text)?;
+    put_text(fault.word(), &mut text)?;
     Ok(text)
 }
 
 /// Returns the message for a line of the log that is too long.
-fn line_too_long(alloc: Global, line: u64) -> Result<Vec<u8>, AllocError>
-    ensures { IfOk result (λ text. text.items ≡ codes "log line " ++ decimal line ++ codes ": too long") }
+fn line_too_long(alloc: Global, line: u64) -> Result<Vec<u8>, Memory>
+    ensures { IfOk result (λ text. text.items
+        ≡ codes "log line " ++ decimal line ++ codes ": too long") }
 {
-    let mut text = Vec::from_slice(alloc, b"log line ")?;
-    text.extend_from_slice(line.to_string(alloc)?.as_bytes())?;
-    text.extend_from_slice(b": too long")?;
+    let mut text = Vec::new(alloc);
+    put_number(b"log line ", line, &mut text)?;
+    put_text(b": too long", &mut text)?;
     Ok(text)
 }
 
 /// Returns the message for why prefixes.txt is refused.
-fn table_refused(alloc: Global, fault: &TablesFault) -> Result<Vec<u8>, AllocError>
-    ensures { IfOk result (λ text. text.items ≡ codes "prefixes.txt refused: " ++ tables_fault_text fault.now) }
+fn table_refused(alloc: Global, fault: &TablesFault) -> Result<Vec<u8>, Memory>
+    ensures { IfOk result (λ text. text.items
+        ≡ codes "prefixes.txt refused: " ++ tables_fault_text fault.now) }
 {
     let fault = tables_fault(alloc, fault)?;
     joined(alloc, b"prefixes.txt refused: ", fault.as_slice())
 }
 
 /// Returns the reason for `status`, which goes between the program's name and the line feed.
-fn reason(alloc: Global, status: &Status) -> Result<Vec<u8>, AllocError>
+fn reason(alloc: Global, status: &Status) -> Result<Vec<u8>, Memory>
     ensures { IfOk result (λ text. text.items ≡ reason_of status.now) }
 {
     match status {
         Status::Done => Ok(Vec::new(alloc)),
-        Status::Usage => Vec::from_slice(alloc, b"bad usage"),
+        Status::Usage => owned(alloc, b"bad usage"),
         Status::LogLine { line, fault } => log_line(alloc, *line, fault),
         Status::PeersRefused(fault) => {
             joined(alloc, b"peers.dat refused: ", peers_fault_word(fault))
         }
-        Status::AsmapRefused(fault) => {
-            joined(alloc, b"asmap.dat refused: ", code_fault_word(fault))
-        }
+        Status::AsmapRefused(fault) => joined(
+            alloc,
+            b"asmap.dat refused: ",
+            code_fault_word(fault),
+        ),
         Status::TableRefused(fault) => table_refused(alloc, fault),
-        Status::ReadFault => Vec::from_slice(alloc, b"log cannot be read"),
-        Status::WriteFault => Vec::from_slice(alloc, b"output cannot be written"),
-        Status::DiskFault => Vec::from_slice(alloc, b"folder failed"),
-        Status::LogTooLong => Vec::from_slice(alloc, b"log too long"),
-        Status::NoKey => Vec::from_slice(alloc, b"no peers.dat and no key"),
-        Status::Memory => Vec::from_slice(alloc, b"out of memory"),
+        Status::ReadFault => owned(alloc, b"log cannot be read"),
+        Status::WriteFault => owned(alloc, b"output cannot be written"),
+        Status::DiskFault => owned(alloc, b"folder failed"),
+        Status::LogTooLong => owned(alloc, b"log too long"),
+        Status::NoKey => owned(alloc, b"no peers.dat and no key"),
+        Status::Memory => owned(alloc, b"out of memory"),
         Status::LineTooLong { line } => line_too_long(alloc, *line),
         Status::NoFile { name } => joined(alloc, name.file_name().as_bytes(), b" is missing"),
-        Status::BansRefused(fault) => {
-            joined(alloc, b"banlist.json refused: ", ban_fault_word(fault))
-        }
-        Status::TooManyRows => Vec::from_slice(alloc, b"asmap.dat has more than 2000000 rows"),
+        Status::BansRefused(fault) => joined(alloc, b"banlist.json refused: ", fault.word()),
+        Status::TooManyRows => owned(alloc, b"asmap.dat has more than 2000000 rows"),
     }
 }
 
 /// Returns the whole line for standard error.
-fn line_of(alloc: Global, reason: &[u8]) -> Result<Vec<u8>, AllocError>
+fn line_of(alloc: Global, reason: &[u8]) -> Result<Vec<u8>, Memory>
     ensures { IfOk result (λ text. text.items ≡ line_of reason.now) }
 {
     let mut text = Vec::from_slice(alloc, b"addrman: ")?;

@@ -10,7 +10,7 @@ use Rattle.std.proofs.lemmas.List.Elements.{All-nil, All-cons, All-head, All-tai
 use Rattle.std.proofs.lemmas.List.Kept.{AllPairs-cons, AllPairs-filter}
 use Rattle.net_addr.specs.Same.{same_address, same_address-Decides}
 use Rattle.ban_list.specs.Subnet.{IsProper}
-use Rattle.ban_list.specs.Bans.{same_subnet, is_of, AreBans, listed, put, Outcome, outcome, outcome_by}
+use Rattle.ban_list.specs.Bans.{same_subnet, is_of, AreBans, listed, put, Outcome, reply_outcome, outcome_by}
 use Rattle.ban_list.specs.declared.bans.BanReply.{BanReply}
 use Rattle.ban_list.specs.declared.bans.BanReply.TheVariants.{Added, Kept, Full}
 use Rattle.ban_list.specs.declared.subnet.Subnet.{Subnet}
@@ -165,15 +165,15 @@ outcome_sound : (o : Option Ban) (new : Ban) (bans : List Ban) → listed new.su
 outcome_sound (Some old) new bans e p h = kept_or (nat_le new.until old.until) bans (put new bans) Kept Added h (λ _. AreBans-put new bans p h (omega (arith, length-put_listed new old bans e, h.few)))
 outcome_sound None new bans e p h = kept_or (nat_le MAX_BANS (length bans)) bans (put new bans) Full Added h (λ f. AreBans-put new bans p h (omega (arith, length-put new bans, below_of MAX_BANS (length bans) f)))
 
-pub AreBans-outcome : (new : Ban) (bans : List Ban) → IsProper new.subnet → AreBans bans → AreBans (outcome new bans).bans
-AreBans-outcome new bans p h = outcome_sound (listed new.subnet bans) new bans refl p h
+pub AreBans-reply_outcome : (new : Ban) (bans : List Ban) → IsProper new.subnet → AreBans bans → AreBans (reply_outcome new bans).bans
+AreBans-reply_outcome new bans p h = outcome_sound (listed new.subnet bans) new bans refl p h
 
 -- a ban that is listed for less long, and one that is not listed
-pub outcome-longer : (new old : Ban) (bans : List Ban) → listed new.subnet bans ≡ Some old → nat_le new.until old.until ≡ false → (outcome new bans).bans ≡ put new bans
-outcome-longer new old bans e f = rw (e, f) refl
+pub reply_outcome-longer : (new old : Ban) (bans : List Ban) → listed new.subnet bans ≡ Some old → nat_le new.until old.until ≡ false → (reply_outcome new bans).bans ≡ put new bans
+reply_outcome-longer new old bans e f = rw (e, f) refl
 
-pub outcome-new : (new : Ban) (bans : List Ban) → listed new.subnet bans ≡ None → length bans < MAX_BANS → (outcome new bans).bans ≡ put new bans
-outcome-new new bans e lt =
+pub reply_outcome-new : (new : Ban) (bans : List Ban) → listed new.subnet bans ≡ None → length bans < MAX_BANS → (reply_outcome new bans).bans ≡ put new bans
+reply_outcome-new new bans e lt =
     let f : nat_le MAX_BANS (length bans) ≡ false = grind (arith, nat_tests) in
     rw (e, f) refl
 

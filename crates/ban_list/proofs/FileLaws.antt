@@ -1,5 +1,5 @@
 -- A file is that of one list at most, or has one fault.
-use Rattle.std.proofs.Common.{◌≡◌, ℕ, suc, ◌+◌, ◌<◌, ◌≤◌, List, [], ◌∷◌, ◌++◌, length, map, take, drop, drop-cons, get_or, refl, sym, ap, ◌∙◌, subst, arith, inl, inr}
+use Rattle.std.proofs.Common.{◌≡◌, ℕ, zero, suc, ◌+◌, ◌<◌, ◌≤◌, List, [], ◌∷◌, ◌++◌, length, map, take, drop, drop-cons, get_or, refl, sym, ap, ◌∙◌, subst, arith, inl, inr}
 use Rattle.std.specs.Prelude.{option_and_then, codes}
 use Rattle.std.specs.List.{fold}
 use Rattle.std.proofs.lemmas.Grind.{take_at_read}
@@ -41,6 +41,22 @@ elements_count [] (ban ∷ bans) d new h is = cc
 elements_count (e ∷ ds) [] d new h is = inl (h.0, elements_count ds [] d new h.1 is)
 elements_count (e ∷ ds) (ban ∷ bans) d new (inl h) is = inl (h.0, elements_count ds (ban ∷ bans) d new h.1 is)
 elements_count (e ∷ ds) (ban ∷ bans) d new (inr h) is = inr (h.0, elements_count ds bans d new h.1 is)
+
+-- no more elements count than there are
+pub fewer : (ds : List Data) (bans : List Ban) → AreElements ds bans → length bans ≤ length ds
+unfolding AreElements
+fewer [] bans h = omega (arith, ap length h)
+fewer (d ∷ ds) [] h = omega arith
+fewer (d ∷ ds) (ban ∷ bans) (inl pass) = omega (arith, fewer ds (ban ∷ bans) pass.1)
+fewer (d ∷ ds) (ban ∷ bans) (inr is) = omega (arith, fewer ds bans is.1)
+
+taken : {V : Type 0} (f : V → Data) (i : ℕ) (es : List V) → length (map f (take i es)) ≤ length es
+taken f zero es = omega arith
+taken f (suc i) [] = omega arith
+taken f (suc i) (e ∷ es) = omega (arith, taken f i es)
+
+pub fewer_taken : {V : Type 0} (f : V → Data) (i : ℕ) (es : List V) (bans : List Ban) → AreElements (map f (take i es)) bans → length bans ≤ length es
+fewer_taken f i es bans h = omega (arith, fewer (map f (take i es)) bans h, taken f i es)
 
 -- the bans of the elements are known from these
 pub elements_one : (ds : List Data) (a b : List Ban) → AreElements ds a → AreElements ds b → a ≡ b

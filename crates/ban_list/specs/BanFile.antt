@@ -1,5 +1,5 @@
 -- The file of a list of bans (`banlist.json`).
-use Rattle.std.specs.Prelude.{◌≡◌, ◌⊎◌, ℕ, ◌<◌, ◌≤◌, List, [], ◌∷◌, map, length, codes, min, Option, Some, None, option_and_then, IsUtf8}
+use Rattle.std.specs.Prelude.{◌≡◌, ◌⊎◌, ℕ, ◌+◌, ◌<◌, ◌≤◌, List, [], ◌∷◌, map, length, codes, min, Option, Some, None, option_and_then, IsUtf8}
 use Rattle.std.specs.List.{fold}
 use Rattle.serde_json.specs.Data.{Num, unsigned, negative, float, Data, number, string, array, object, member, no_members}
 use Rattle.serde_json.specs.Find.{get, as_array, as_number, as_str, as_u64}
@@ -71,6 +71,16 @@ pub record IsBanFile (bytes : List ℕ) (bans : List Ban) : Type 0 where
   pub few : length counted ≤ MAX_BANS
   pub made : bans ≡ merged counted
 
+-- this many elements of the file do not count
+pub record PassesOver (bytes : List ℕ) (count : ℕ) : Type 0 where
+  pub value : Data
+  pub json : IsJson bytes value
+  pub elements : List Data
+  pub form : HasElements value elements
+  pub counted : List Ban
+  pub are_counted : AreElements elements counted
+  pub rest : length counted + count ≡ length elements
+
 -- an object without such an array, or no object
 pub record HasNoForm (bytes : List ℕ) : Type 0 where
   pub value : Data
@@ -117,8 +127,8 @@ file_data bans =
     object (member (codes "banned_nets") (array (items_of (map ban_data bans))) no_members)
 
 -- the file that is written for a list: without spaces and line feeds
-unfoldable pub file_text : List Ban → List ℕ
-file_text bans = compact_text (file_data bans)
+unfoldable pub bans_text : List Ban → List ℕ
+bans_text bans = compact_text (file_data bans)
 
 -- what is written of a ban is read as the ban; for private clauses
 pub record IsReadBack (ban : Ban) : Type 0 where

@@ -39,8 +39,8 @@ abbrev pub current : ℕ → List Ban → List Ban
 current now bans = filter (λ ban. nat_lt now ban.until) bans
 
 -- the bans of other subnets
-abbrev pub without : Subnet → List Ban → List Ban
-without subnet bans = filter (λ ban. not (is_of subnet ban)) bans
+abbrev pub without_ban : Subnet → List Ban → List Ban
+without_ban subnet bans = filter (λ ban. not (is_of subnet ban)) bans
 
 -- the ban in the place of the ban of its subnet, or last if there is none
 unfoldable pub put : Ban → List Ban → List Ban
@@ -62,9 +62,9 @@ outcome_by None new bans =
 
 -- a ban besides those that are not over: the answer is `Kept` if its subnet is listed until that
 -- time or later, and `Full` if it is not listed and there is no room
-abbrev pub outcome : Ban → List Ban → Outcome
-outcome new bans = outcome_by (listed new.subnet bans) new bans
+abbrev pub reply_outcome : Ban → List Ban → Outcome
+reply_outcome new bans = outcome_by (listed new.subnet bans) new bans
 
 -- the bans that are over are dropped first
 abbrev pub after_ban : Ban → List Ban → Outcome
-after_ban new bans = outcome new (current new.created bans)
+after_ban new bans = reply_outcome new (current new.created bans)

@@ -2,3 +2,4 @@ pub mod Subnet
 pub mod SubnetText
 pub mod Bans
 pub mod BanFile
+pub mod FaultTexts

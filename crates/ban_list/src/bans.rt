@@ -44,7 +44,7 @@ impl Bans {
     ghost use Rattle.std.specs.Prelude.{◌≡◌, [], IfOk, IfSome, OnOk, OnErr, option_map, find, is_some, All, length, ◌≤◌};
     ghost use Rattle.ban_list.specs.BanFile.{merged};
     ghost use Rattle.ban_list.specs.Subnet.{IsProper};
-    ghost use Rattle.ban_list.specs.Bans.{AreBans, after_ban, ban_of, listed, without, stops};
+    ghost use Rattle.ban_list.specs.Bans.{AreBans, after_ban, ban_of, listed, without_ban, stops};
     ghost use Rattle.ban_list.specs.declared.bans.TheConstants.{MAX_BANS};
 
     /// Makes an empty list.
@@ -102,9 +102,9 @@ impl Bans {
     /// Takes the ban of a subnet out of the list. Returns `false` if the subnet is not listed.
     pub fn unban(&mut self, subnet: &Subnet) -> bool
         ensures found { result ≡ is_some (listed subnet.now self.old) }
-        ensures bans { self.new ≡ without subnet.now self.old }
+        ensures bans { self.new ≡ without_ban subnet.now self.old }
     {
-        let found = index_of(&self.bans, subnet) < self.bans.len();
+        let found = index_of(&self.bans, subnet).is_some();
         drop_subnet(&mut self.bans, subnet);
         found
     }

@@ -1,7 +1,7 @@
-ghost use Rattle.std.specs.Prelude.{◌≡◌, ◌<◌, ◌≤◌, length, Some, None, slice_index_or};
+ghost use Rattle.std.specs.Prelude.{◌≡◌, ◌<◌, ◌≤◌, length, Some, None, IfSome, IfNone, is_some, slice_index_or};
 ghost use Rattle.std.specs.List.{position_or_len};
 ghost use Rattle.std.specs.Vec.{vec_len, vec_capacity};
-ghost use Rattle.ban_list.specs.Bans.{outcome, current, without, is_of, listed};
+ghost use Rattle.ban_list.specs.Bans.{reply_outcome, current, without_ban, is_of, listed};
 ghost use Rattle.ban_list.specs.declared.ban.Ban.{Ban};
 ghost use Rattle.ban_list.specs.declared.bans.TheConstants.{MAX_BANS};
 
@@ -18,7 +18,7 @@ pub(crate) fn drop_over(bans: &mut Vec<Ban>, now: u32)
 
 /// Drops the bans of a subnet.
 pub(crate) fn drop_subnet(bans: &mut Vec<Ban>, subnet: &Subnet)
-    ensures { bans.new.items ≡ without subnet.now bans.old.items }
+    ensures { bans.new.items ≡ without_ban subnet.now bans.old.items }
 {
     bans.retain(|ban| !ban.is_of(subnet));
 }
@@ -27,11 +27,10 @@ pub(crate) fn drop_subnet(bans: &mut Vec<Ban>, subnet: &Subnet)
 /// is no room.
 pub(crate) fn put_longer(bans: &mut Vec<Ban>, ban: Ban) -> BanReply
     requires { vec_len bans.old < vec_capacity bans.old }
-    ensures reply { result ≡ (outcome ban bans.old.items).reply }
-    ensures bans { bans.new.items ≡ (outcome ban bans.old.items).bans }
+    ensures reply { result ≡ (reply_outcome ban bans.old.items).reply }
+    ensures bans { bans.new.items ≡ (reply_outcome ban bans.old.items).bans }
 {
-    let index = index_of(bans, &ban.subnet);
-    if index < bans.len() {
+    if let Some(index) = index_of(bans, &ban.subnet) {
         if bans[index].lasts_until(ban.until) {
             return BanReply::Kept;
         }
@@ -45,17 +44,21 @@ pub(crate) fn put_longer(bans: &mut Vec<Ban>, ban: Ban) -> BanReply
     BanReply::Added
 }
 
-/// Returns the index of the ban of a subnet, or the number of bans if there is none.
-pub(crate) fn index_of(bans: &[Ban], subnet: &Subnet) -> usize
-    ensures found { result < length bans.now → (d : Ban)
-        → listed subnet.now bans.now ≡ Some (slice_index_or bans.now result d) }
-    ensures none { length bans.now ≤ result → listed subnet.now bans.now ≡ None }
-    ensures first { result ≡ position_or_len (is_of subnet.now) bans.now }
+/// Returns the index of the ban of a subnet, if it is listed.
+pub(crate) fn index_of(bans: &[Ban], subnet: &Subnet) -> Option<usize>
+    ensures found { IfSome result (λ i. (d : Ban)
+        → listed subnet.now bans.now ≡ Some (slice_index_or bans.now i d)) }
+    ensures listed { is_some result ≡ is_some (listed subnet.now bans.now) }
+    ensures within { IfSome result (λ i. i < length bans.now) }
+    ensures first { IfSome result (λ i. i ≡ position_or_len (is_of subnet.now) bans.now) }
+    ensures none { IfNone result (listed subnet.now bans.now ≡ None) }
+    ensures past { IfNone result
+        (length bans.now ≤ position_or_len (is_of subnet.now) bans.now) }
 {
     for i in 0..bans.len() {
         if bans[i].is_of(subnet) {
-            return i;
+            return Some(i);
         }
     }
-    bans.len()
+    None
 }

@@ -1,4 +1,5 @@
 ghost use Rattle.std.specs.Prelude.{◌≡◌};
+ghost use Rattle.ban_list.specs.FaultTexts.{ban_fault_text};
 ghost use Rattle.ban_list.specs.declared.fault.BanFault.TheVariants as fault;
 
 use crate::Memory;
@@ -41,5 +42,20 @@ impl From<Memory> for BanFault {
 
     fn from(_: Memory) -> BanFault {
         BanFault::Memory
+    }
+}
+
+impl BanFault {
+    /// Returns the word for the fault, as it is printed.
+    pub fn word(&self) -> &'static [u8]
+        ensures { result.now ≡ ban_fault_text self.now }
+    {
+        match self {
+            BanFault::Json => b"json",
+            BanFault::Form => b"form",
+            BanFault::TooMany => b"too-many",
+            BanFault::TooLarge { .. } => b"too-large",
+            BanFault::Memory => b"out of memory",
+        }
     }
 }

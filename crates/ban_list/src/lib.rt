@@ -32,6 +32,6 @@ pub use law::{files_have_one_meaning, texts_have_one_meaning};
 pub use memory::Memory;
 pub use print::put_subnet;
 pub use read::parse_subnet;
-pub use read_file::{MAX_FILE, read_bans};
+pub use read_file::{MAX_FILE, passed_over, read_bans};
 pub use subnet::Subnet;
 pub use write_file::write_bans;

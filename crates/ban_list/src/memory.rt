@@ -21,3 +21,9 @@ impl<T: Drop> From<AllocFailed<T>> for Memory {
         Memory
     }
 }
+
+impl From<Memory> for net_addr::Memory {
+    fn from(_: Memory) -> net_addr::Memory {
+        net_addr::Memory
+    }
+}

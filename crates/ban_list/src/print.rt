@@ -5,9 +5,8 @@ ghost use Rattle.ban_list.specs.Subnet.{IsProper};
 ghost use Rattle.ban_list.specs.SubnetText.{IsSubnetText, ip_by, length_by, subnet_text};
 
 use crate::{Memory, Subnet};
-use itoa::Buffer;
-use net_addr::{Net, NetAddr, put_addr, put_ipv6};
-use std::alloc::{AllocError, Global};
+use net_addr::{Net, NetAddr, put_addr, put_ipv6, put_number, put_text};
+use std::alloc::Global;
 
 /// Appends the text of a subnet: an IPv4 or IPv6 address, a slash and the length, or only the
 /// address. If memory runs out, `out` is unchanged.
@@ -18,15 +17,7 @@ pub fn put_subnet(subnet: &Subnet, out: &mut Vec<u8>) -> Result<(), Memory>
     ensures reads_back { IsSubnetText (subnet_text subnet.now) subnet.now }
 {
     let text = text_of(subnet, *out.allocator())?;
-    put(text.as_slice(), out)
-}
-
-/// Appends `text`.
-fn put(text: &[u8], out: &mut Vec<u8>) -> Result<(), Memory>
-    ensures ok { OnOk result (out.new.items ≡ out.old.items ++ text.now) }
-    ensures err { OnErr result (out.new.items ≡ out.old.items) }
-{
-    out.extend_from_slice(text)?;
+    put_text(text.as_slice(), out)?;
     Ok(())
 }
 
@@ -56,15 +47,11 @@ fn put_ip(addr: &NetAddr, out: &mut Vec<u8>) -> Result<(), Memory>
 }
 
 /// Appends the length of a subnet, after a slash, in a network where it has one.
-fn put_length(net: Net, len: u16, out: &mut Vec<u8>) -> Result<(), AllocError>
+fn put_length(net: Net, len: u16, out: &mut Vec<u8>) -> Result<(), net_addr::Memory>
     ensures { OnOk result (out.new.items ≡ out.old.items ++ length_by net len) }
 {
     match net {
-        Net::Ipv4 | Net::Ipv6 => {
-            out.extend_from_slice(b"/")?;
-            out.extend_from_slice(Buffer::new().format(len).as_bytes())?;
-            Ok(())
-        }
+        Net::Ipv4 | Net::Ipv6 => put_number(b"/", u64::from(len), out),
         _ => Ok(()),
     }
 }

@@ -1,9 +1,9 @@
-ghost use Rattle.std.specs.Prelude.{◌≡◌, ◌⊎◌, List, ◌≤◌, ◌<◌, true, false, codes, map, length, All, IfOk, IfErr, IsErrAnd, MatchResult, option_and_then, option_map};
+ghost use Rattle.std.specs.Prelude.{◌≡◌, ◌⊎◌, List, ◌≤◌, ◌<◌, true, false, codes, map, length, All, IfOk, IfErr, IfSome, IsErrAnd, MatchResult, option_and_then, option_map};
 ghost use Rattle.serde_json.specs.Data.{Data};
 ghost use Rattle.serde_json.specs.Find.{get, as_array};
 ghost use Rattle.serde_json.specs.View.{view, items_view};
 ghost use Rattle.ban_list.specs.Subnet.{IsProper};
-ghost use Rattle.ban_list.specs.BanFile.{AreElements, HasBanFault, IsBanFile, IsJson};
+ghost use Rattle.ban_list.specs.BanFile.{AreElements, HasBanFault, IsBanFile, IsJson, PassesOver};
 ghost use Rattle.ban_list.specs.declared.ban.Ban.{Ban};
 ghost use Rattle.ban_list.specs.declared.fault.BanFault.{BanFault};
 ghost use Rattle.ban_list.specs.declared.fault.BanFault.TheVariants as faults;
@@ -46,6 +46,24 @@ pub fn read_bans(alloc: Global, bytes: &[u8]) -> Result<Bans, BanFault>
     Ok(Bans::of(alloc, counted.as_slice())?)
 }
 
+/// Returns how many elements of a file of bans do not count, and so are passed over. `None` if the
+/// file has no list of elements, or if memory runs out.
+pub fn passed_over(alloc: Global, bytes: &[u8]) -> Option<usize>
+    ensures { IfSome result (PassesOver bytes.now) }
+{
+    let value = match parse(alloc, bytes) {
+        Ok(value) => value,
+        Err(_) => return None,
+    };
+    let Some(elements) = elements_of(&value) else {
+        return None;
+    };
+    match counted_of(alloc, elements) {
+        Ok(counted) => Some(elements.len() - counted.len()),
+        Err(_) => None,
+    }
+}
+
 /// Parses a JSON text.
 fn parse(alloc: Global, bytes: &[u8]) -> Result<Value, BanFault>
     ensures ok { IfOk result (λ value. IsJson bytes.now (view value)) }
@@ -77,6 +95,7 @@ fn elements_of(value: &Value) -> Option<&[Value]>
 fn counted_of(alloc: Global, elements: &[Value]) -> Result<Vec<Ban>, AllocError>
     ensures counted { IfOk result (λ bans. AreElements (map view elements.now) bans.items) }
     ensures proper { IfOk result (λ bans. All (λ ban. IsProper ban.subnet) bans.items) }
+    ensures few { IfOk result (λ bans. length bans.items ≤ length elements.now) }
 {
     let mut counted = Vec::new(alloc);
     for element in elements {

@@ -3,7 +3,7 @@ ghost use Rattle.serde_json.specs.Data.{object, member, array, no_members};
 ghost use Rattle.serde_json.specs.View.{view, items_view};
 ghost use Rattle.ban_list.specs.Subnet.{IsProper};
 ghost use Rattle.ban_list.specs.SubnetText.{IsSubnetText, subnet_text};
-ghost use Rattle.ban_list.specs.BanFile.{IsBanFile, IsReadBack, ban_data, file_data, file_text};
+ghost use Rattle.ban_list.specs.BanFile.{IsBanFile, IsReadBack, ban_data, file_data, bans_text};
 
 use crate::{Ban, Bans, Memory, Subnet, put_subnet};
 use host_io::Bytes;
@@ -12,7 +12,7 @@ use std::alloc::Global;
 
 /// Writes a list of bans as the text of its file, which has no spaces and no line feed.
 pub fn write_bans(alloc: Global, bans: &Bans) -> Result<Bytes, Memory>
-    ensures text { IfOk result (λ bytes. bytes ≡ file_text bans.now) }
+    ensures text { IfOk result (λ bytes. bytes ≡ bans_text bans.now) }
     ensures reads_back { IfOk result (λ bytes. IsBanFile bytes bans.now) }
 {
     let elements = elements_of(bans.bans(), alloc)?;

@@ -1,4 +1,5 @@
 use Rattle.std.proofs.Common.{◌≡◌, ◌<◌, length, get_or, [], Some, sym, ap, ◌∙◌, subst, arith}
+use Rattle.std.specs.Prelude.{is_some}
 use Rattle.std.specs.List.{position_or_len}
 use Rattle.std.proofs.lemmas.List.Sums.{position_or_len_is}
 use Rattle.net_addr.specs.declared.net.Net.TheVariants.{Ipv4}
@@ -18,10 +19,20 @@ here c =
 pub returns-then-is_of-clause-first : goal.returns-then-is_of-clause-first
 returns-then-is_of-clause-first c = here c
 
+pub returns-then-is_of-clause-within : goal.returns-then-is_of-clause-within
+returns-then-is_of-clause-within c = omega (arith, c.loop-i.auto.i-end)
+
 pub returns-then-is_of-clause-found : goal.returns-then-is_of-clause-found
-returns-then-is_of-clause-found c = λ lt d.
+returns-then-is_of-clause-found c = λ d.
     let bans = c.args.bans.now in
-    found_at (is_of c.args.subnet.now) bans d (subst (λ n. n < length bans) (here c) lt) ∙ ap (λ n. Some (get_or bans n d)) (sym (here c))
+    let within : c.loop-i.i < length bans = omega arith in
+    found_at (is_of c.args.subnet.now) bans d (subst (λ n. n < length bans) (here c) within) ∙ ap (λ n. Some (get_or bans n d)) (sym (here c))
+
+pub returns-then-is_of-clause-listed : goal.returns-then-is_of-clause-listed
+returns-then-is_of-clause-listed c =
+    let bans = c.args.bans.now in
+    let within : c.loop-i.i < length bans = omega arith in
+    sym (ap is_some (found_at (is_of c.args.subnet.now) bans c.index-bans-i.result (subst (λ n. n < length bans) (here c) within)))
 
 blank : Ban
 blank = record { subnet = record { addr = record { net = Ipv4; bytes = [] }; len = 0 }; created = 0; until = 0 }
@@ -30,8 +41,11 @@ blank = record { subnet = record { addr = record { net = Ipv4; bytes = [] }; len
 none : (c : goal.After-loop-i) → length c.args.bans.now ≡ position_or_len (is_of c.args.subnet.now) c.args.bans.now
 none c = sym (position_or_len_is (is_of c.args.subnet.now) c.args.bans.now (length c.args.bans.now) blank (omega arith) (λ k lt. c.loop-i.invariant k blank (omega arith)) (λ lt. absurd (omega arith)))
 
-pub returns-clause-first : goal.returns-clause-first
-returns-clause-first c = none c
+pub returns-clause-past : goal.returns-clause-past
+returns-clause-past c = omega (arith, none c)
 
 pub returns-clause-none : goal.returns-clause-none
-returns-clause-none c = λ _. found_none (is_of c.args.subnet.now) c.args.bans.now (omega (arith, none c))
+returns-clause-none c = found_none (is_of c.args.subnet.now) c.args.bans.now (omega (arith, none c))
+
+pub returns-clause-listed : goal.returns-clause-listed
+returns-clause-listed c = sym (ap is_some (found_none (is_of c.args.subnet.now) c.args.bans.now (omega (arith, none c))))

@@ -4,7 +4,7 @@ use Rattle.serde_json.specs.View.{view}
 use Rattle.ban_list.specs.Subnet.{IsProper}
 use Rattle.ban_list.specs.BanFile.{AreElements}
 use Rattle.ban_list.specs.declared.ban.Ban.{Ban}
-use Rattle.ban_list.proofs.FileLaws.{elements_none, read_pass, read_count}
+use Rattle.ban_list.proofs.FileLaws.{elements_none, read_pass, read_count, fewer_taken}
 use Rattle.ban_list.proofs.read_file.counted_of.Goals.{in-Some+in_ok-push, in_default}
 use Rattle.ban_list.proofs.read_file.counted_of.Goals as goal
 
@@ -41,3 +41,6 @@ loop-element-preserved c =
             proper = subst (All HasProper) (sym items) c.loop-element.invariant.proper;
           }
     ]
+
+pub returns-clause-few : goal.returns-clause-few
+returns-clause-few c = fewer_taken view _ c.args.elements.now c.loop-element.counted.items c.loop-element.invariant.counted

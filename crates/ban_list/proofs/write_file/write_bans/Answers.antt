@@ -4,12 +4,12 @@ use Rattle.serde_json.specs.Read.{read, max_depth}
 use Rattle.serde_json.specs.View.{view, items_of}
 use Rattle.serde_json.specs.Written.{compact_text, has_float}
 use Rattle.serde_json.specs.Data.{depth}
-use Rattle.ban_list.specs.BanFile.{IsReadBack, ban_data, file_data, file_text}
+use Rattle.ban_list.specs.BanFile.{IsReadBack, ban_data, file_data, bans_text}
 use Rattle.ban_list.proofs.WriteLaws.{file_back, file_shallow, file_whole}
 use Rattle.ban_list.proofs.write_file.write_bans.Goals as goal
 
 pub returns-clause-text : goal.returns-clause-text
-unfolding file_text
+unfolding bans_text
 returns-clause-text c =
     let bans = c.args.bans.now in
     let value : view c.in_ok-file.file ≡ file_data bans =

@@ -1,7 +1,6 @@
 use Rattle.std.proofs.Common.{◌≡◌, not, length, arith, ap, ◌∙◌, subst, sym}
-use Rattle.std.specs.Prelude.{nat_lt, is_some, find}
-use Rattle.std.specs.List.{position_or_len}
-use Rattle.ban_list.specs.Bans.{AreBans, is_of}
+use Rattle.std.specs.Prelude.{is_some}
+use Rattle.ban_list.specs.Bans.{AreBans, is_of, listed}
 use Rattle.ban_list.specs.declared.ban.Ban.{Ban}
 use Rattle.ban_list.proofs.BanLaws.{AreBans-filter, is_found}
 use Rattle.ban_list.proofs.bans.Bans.unban.Goals as goal
@@ -11,9 +10,6 @@ invariant_of-self c = subst AreBans (sym c.drop_subnet.ensures) (AreBans-filter 
 
 pub returns-clause-found : goal.returns-clause-found
 returns-clause-found c =
-    let p = is_of c.args.subnet.now in
-    let bans = c.self.inside.bans.items in
-    let same : c.deref.result.now ≡ bans = c.deref.ensures.value in
-    let first = c.index_of.ensures.first ∙ ap (position_or_len p) same in
-    let count : c.len.result ≡ length bans = omega (arith, c.len.ensures, c.deref.ensures.len, ap length same) in
-    (λ i. nat_lt (first i) (count i)) ∙ is_found p bans ∙ ap (λ bs. is_some (find p bs)) c.self.view_is
+    let same : c.deref.result.now ≡ c.self.inside.bans.items = c.deref.ensures.value in
+    c.is_some-found.ensures ∙ c.index_of.ensures.listed
+    ∙ ap (λ bs. is_some (listed c.args.subnet.now bs)) (same ∙ c.self.view_is)
