@@ -5,6 +5,7 @@
 # make examples   compares what README.md and docs/FORMATS.md show with what the built program prints
 # make flood      an attack on the tables, hour by hour, as the page bin/flood.html
 # make endings    tries the exit codes of the built program and their texts
+# make mistakes   makes some hundred mistakes with it, and compares what standard error says
 # make lib        proves the library for C, and builds bin/lib/libaddrman.a and libaddrman.so.1
 # make lib-test   tries it from C, C++, Rust and Python, beside the built program
 # make packed     tries make install and make dist
@@ -21,7 +22,7 @@ DIST := addrman-$(VERSION)-x86_64-linux
 # Where the toolchain has its part of the C library: the allocator that the library calls.
 KIT = $(shell dirname "$$(dirname "$$(readlink -f "$$(command -v rt)")")")
 
-.PHONY: all try demo examples flood endings packed test figures lib lib-test install install-lib dist
+.PHONY: all try demo examples flood endings mistakes packed test figures lib lib-test install install-lib dist
 
 all:
 	mkdir -p bin
