@@ -15,14 +15,15 @@ from limit import Limit
 from lines import LARGEST_TIME, read_lines
 from log import ReplayLog, TableLog
 from opener import OpenerLog
+from picture import picture
 from places import group
 from tables import Tables
 from text import MASK, Fault, read_digits, read_number
 
 MAXIMUM_GENERATED_LINES = 100_000
-COMMANDS = "replay opener limit show compile decompile check lookup ban unban banned gen trial help version"
+COMMANDS = "replay opener limit show picture compile decompile check lookup ban unban banned gen trial help version"
 IN_PLACE = {b"--help": b"help", b"-h": b"help", b"--version": b"version"}
-OPTIONS = {"replay": ("--key", "--net"), "opener": ("--key", "--net"), "show": ("--net",)}
+OPTIONS = {"replay": ("--key", "--net"), "opener": ("--key", "--net"), "show": ("--net",), "picture": ("--net",)}
 
 
 def usage(value=None):
@@ -206,6 +207,9 @@ class Run:
     def show(self, _key: None, chain: str):
         for line in peers_file.shown(self.needed(self.peers(chain), "peers.dat")):
             self.print(line)
+
+    def picture(self, _key: None, chain: str):
+        self.print(picture(self.tables(None, chain)).removesuffix("\n"))
 
     def compile(self):
         rows = self.load("prefixes.txt", prefixes.MAXIMUM_BYTES, 6, prefixes.read_rows)

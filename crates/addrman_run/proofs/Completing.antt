@@ -1,6 +1,6 @@
 -- A run in which nothing is wrong and nothing fails is done, or out of memory.
 use Rattle.std.proofs.Common.{◌≡◌, ◌≢◌, ◌≤◌, ◌+◌, ℕ, zero, suc, List, [], ◌∷◌, ◌++◌, length, refl, sym, ap, ◌∙◌, subst, inl, inr, arith}
-use Rattle.std.specs.Prelude.{◌⊎◌, All, IfSome, Option, Some}
+use Rattle.std.specs.Prelude.{◌⊎◌, All, IfSome, Option, Some, None}
 use Rattle.std.proofs.lemmas.Bool.{ne_eqb}
 use Rattle.std.proofs.lemmas.List.Elements.{All-head, All-tail}
 use Rattle.addr_limit.specs.Laws.{no_fault as no_limit_fault}
@@ -37,6 +37,7 @@ use Rattle.addrman_run.specs.Limit.{LimitEnds, Limited}
 use Rattle.addrman_run.specs.Log.{LogOutcome, streams_of}
 use Rattle.addrman_run.specs.OneText.{OneText}
 use Rattle.addrman_run.specs.Opener.{OpenerEnds, OpenerRan}
+use Rattle.addrman_run.specs.Picture.{PictureEnds}
 use Rattle.addrman_run.specs.Outcome.{Ends, HasCause}
 use Rattle.addrman_run.specs.LookupLines.{HasFault as LookupFault, LacksMap, LookedUp, LookupLinesEnds}
 use Rattle.addrman_run.specs.Replay.{IsUntouched, NotOpened, ReplayEnds, Replayed}
@@ -216,6 +217,13 @@ file_line_done name IsLine Refuses old new DiskFault ends cause fine calm = absu
 file_line_done name IsLine Refuses old new (NoFile file) ends cause fine calm = absurd (fine.0 ends.text.1)
 file_line_done name IsLine Refuses old new other ends cause fine calm = absurd (fine.1 other ends.text.0)
 
+picture_done : (chain : Chain) (old new : Outside) (answer : Status) → PictureEnds chain old new answer → HasCause old new answer → NoRefusal (ReportsOpening None chain old.past) → NothingFails old new → IsDone answer
+picture_done chain old new Done ends cause fine calm = inl refl
+picture_done chain old new Memory ends cause fine calm = inr refl
+picture_done chain old new WriteFault ends cause fine calm = absurd (no_write_fault old new cause calm)
+picture_done chain old new DiskFault ends cause fine calm = absurd (no_disk_fault old new cause calm ends.left.0)
+picture_done chain old new other ends cause fine calm = absurd (fine other ends.text.0)
+
 compile_done : (old new : Outside) (answer : Status) → CompileEnds old new answer → HasCause old new answer → IsUsable name.Prefixes ReportsTable old.past → NothingFails old new → IsDone answer
 compile_done old new Done ends cause fine calm = inl refl
 compile_done old new Memory ends cause fine calm = inr refl
@@ -266,6 +274,7 @@ done request.Limit old new answer ends cause fine calm = limit_done old new answ
 done (request.Lookup peer) old new answer ends cause fine calm = file_line_done _ _ _ old new answer ends cause fine calm
 done request.LookupLines old new answer ends cause fine calm = lookup_lines_done old new answer ends cause fine calm
 done (request.Show chain) old new answer ends cause fine calm = file_line_done _ _ _ old new answer ends cause fine calm
+done (request.Picture chain) old new answer ends cause fine calm = picture_done chain old new answer ends cause fine calm
 done (request.Ban subnet now until) old new answer ends cause fine calm = bans_done _ old new answer ends cause fine calm
 done (request.Unban subnet) old new answer ends cause fine calm = bans_done _ old new answer ends cause fine calm
 done (request.Banned peer now) old new answer ends cause fine calm = bans_done _ old new answer ends cause fine calm

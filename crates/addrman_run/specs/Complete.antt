@@ -1,6 +1,6 @@
 -- When a run has to do what it is asked for: nothing is wrong with the log and the files, and
 -- nothing fails.
-use Rattle.std.specs.Prelude.{◌≡◌, ◌⊎◌, ◌≤◌, ℕ, List, All, length, Option, Some, ⊤}
+use Rattle.std.specs.Prelude.{◌≡◌, ◌⊎◌, ◌≤◌, ℕ, List, All, length, Option, Some, None, ⊤}
 use Rattle.addr_limit.specs.Lines.{SaysEvent}
 use Rattle.addr_limit.specs.declared.event.Event.{Event}
 use Rattle.host_io.specs.Faults.{Rose}
@@ -27,7 +27,7 @@ use Rattle.addrman_run.specs.Replay.{Replayed}
 use Rattle.addrman_run.specs.Show.{ReportsPeers}
 use Rattle.addrman_run.specs.Tables.{ReportsTable}
 use Rattle.arguments.specs.declared.request.Request.{Request}
-use Rattle.arguments.specs.declared.request.Request.TheVariants.{Show}
+use Rattle.arguments.specs.declared.request.Request.TheVariants.{Show, Picture}
 use Rattle.arguments.specs.declared.request.Request.TheVariants.{Replay, Opener, Compile, Check, Lookup, LookupLines}
 use Rattle.arguments.specs.declared.request.Request.TheVariants.{Decompile, Limit}
 use Rattle.arguments.specs.declared.request.Request.TheVariants.{Ban, Unban, Banned}
@@ -84,6 +84,7 @@ NothingIsWrong Limit at = IsGoodLog IsLimitLine at.left
 NothingIsWrong (Lookup peer) at = IsUsable name.Asmap ReportsAsmap at.past
 NothingIsWrong LookupLines at = IsGoodLog IsLookupLine at.left × IsUsable name.Asmap ReportsAsmap at.past
 NothingIsWrong (Show chain) at = IsUsable name.Peers (ReportsPeers chain) at.past
+NothingIsWrong (Picture chain) at = NoRefusal (ReportsOpening None chain at.past)
 NothingIsWrong (Ban subnet now until) at = NoRefusal (ReportsBans at.past)
 NothingIsWrong (Unban subnet) at = NoRefusal (ReportsBans at.past)
 NothingIsWrong (Banned peer now) at = NoRefusal (ReportsBans at.past)

@@ -115,6 +115,10 @@ IsNotOpened key chain (Some bytes) status =
 abbrev pub LineEnds : List ℕ → Option (List ℕ) → Option (List ℕ) → Status → Type 0
 LineEnds line old new status = ((status ≡ Done) × Appended old new line) ⊎ ((status ≡ WriteFault) × AppendedPart old new line)
 
+-- how the writing of a text that is made first ends: memory ran out, or as that of a line
+abbrev pub TextEnds : List ℕ → Option (List ℕ) → Option (List ℕ) → Status → Type 0
+TextEnds text old new status = ((status ≡ Memory) × (new ≡ old)) ⊎ LineEnds text old new status
+
 -- the file of the folder's table, and the line about both
 abbrev pub IsNewAsmap : Option Past → List ℕ → List ℕ → Type 0
 IsNewAsmap past file line = (rows : List Row) × IsCompiled past rows file × (line ≡ compile_text rows file)

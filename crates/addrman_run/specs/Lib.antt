@@ -17,6 +17,7 @@ pub mod Decompile
 pub mod Compile
 pub mod Bans
 pub mod Show
+pub mod Picture
 pub mod Generate
 pub mod Opening
 pub mod Trial

@@ -29,6 +29,7 @@ mod opener;
 mod opening;
 mod output;
 mod peers_fault;
+mod picture;
 mod replay;
 mod report;
 mod show;

@@ -18,6 +18,7 @@ use crate::limit::limit;
 use crate::lookup::Lookup;
 use crate::lookup_lines::lookup_lines;
 use crate::opener::opener;
+use crate::picture::picture;
 use crate::replay::replay;
 use crate::show::Show;
 use crate::trial::trial;
@@ -90,6 +91,7 @@ fn carry_out<L: Source, F: Folder, K: Sink, H: BuildHasher + Drop>(
         Request::Lookup { peer } => write_file_line(alloc, &Lookup { peer }, folder, out),
         Request::LookupLines => lookup_lines(alloc, log, folder, out),
         Request::Show { chain } => write_file_line(alloc, &Show { chain }, folder, out),
+        Request::Picture { chain } => picture(alloc, hasher, chain, folder, out),
         Request::Ban { subnet, now, until } => {
             change_bans(alloc, &BanSubnet { subnet, now, until }, folder, out)
         }

@@ -25,6 +25,7 @@ page_of name.Replay = page_in pages.REPLAY
 page_of name.Opener = page_in pages.OPENER
 page_of name.Limit = page_in pages.LIMIT
 page_of name.Show = page_in pages.SHOW
+page_of name.Picture = page_in pages.PICTURE
 page_of name.Compile = page_in pages.COMPILE
 page_of name.Decompile = page_in pages.DECOMPILE
 page_of name.Check = page_in pages.CHECK

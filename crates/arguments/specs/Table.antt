@@ -12,7 +12,7 @@ use Rattle.arguments.specs.Options.{IsNet, IsOpeningOptions}
 use Rattle.arguments.specs.declared.name.CommandName.{CommandName}
 use Rattle.arguments.specs.declared.name.CommandName.TheVariants as name
 use Rattle.arguments.specs.declared.request.Request.{Request}
-use Rattle.arguments.specs.declared.request.Request.TheVariants.{Replay, Opener, Compile, Check, Decompile, Limit, Lookup, LookupLines, Show, Ban, Unban, Banned, Gen, Trial, Help, Version}
+use Rattle.arguments.specs.declared.request.Request.TheVariants.{Replay, Opener, Compile, Check, Decompile, Limit, Lookup, LookupLines, Show, Picture, Ban, Unban, Banned, Gen, Trial, Help, Version}
 
 -- THE NAME
 
@@ -22,6 +22,7 @@ word_of name.Replay = codes "replay"
 word_of name.Opener = codes "opener"
 word_of name.Limit = codes "limit"
 word_of name.Show = codes "show"
+word_of name.Picture = codes "picture"
 word_of name.Compile = codes "compile"
 word_of name.Decompile = codes "decompile"
 word_of name.Check = codes "check"
@@ -97,6 +98,7 @@ form_of name.Replay = Opening
 form_of name.Opener = Opening
 form_of name.Lookup = PeerOrLines
 form_of name.Show = Network
+form_of name.Picture = Network
 form_of name.Ban = Period
 form_of name.Unban = OfSubnet
 form_of name.Banned = Fields (OfPeer ∷ Number 0 max_time ∷ [])
@@ -116,6 +118,7 @@ name_of Limit = name.Limit
 name_of (Lookup peer) = name.Lookup
 name_of LookupLines = name.Lookup
 name_of (Show chain) = name.Show
+name_of (Picture chain) = name.Picture
 name_of (Ban subnet now until) = name.Ban
 name_of (Unban subnet) = name.Unban
 name_of (Banned peer now) = name.Banned
@@ -130,6 +133,7 @@ values_of (Replay key chain) = TheOpening key chain
 values_of (Opener key chain) = TheOpening key chain
 values_of (Lookup peer) = TheFields (ThePeer peer ∷ [])
 values_of (Show chain) = TheChain chain
+values_of (Picture chain) = TheChain chain
 values_of (Ban subnet now until) = ThePeriod subnet now until
 values_of (Unban subnet) = TheSubnet subnet
 values_of (Banned peer now) = TheFields (ThePeer peer ∷ TheNumber now ∷ [])

@@ -13,6 +13,7 @@ pub enum CommandName {
     Opener,
     Limit,
     Show,
+    Picture,
     Compile,
     Decompile,
     Check,
@@ -27,11 +28,12 @@ pub enum CommandName {
 }
 
 /// All names, each once, in the order in which the help lists them.
-pub const NAMES: [CommandName; 15] = [
+pub const NAMES: [CommandName; 16] = [
     CommandName::Replay,
     CommandName::Opener,
     CommandName::Limit,
     CommandName::Show,
+    CommandName::Picture,
     CommandName::Compile,
     CommandName::Decompile,
     CommandName::Check,
@@ -54,6 +56,7 @@ impl Keyword for CommandName {
             CommandName::Opener => b"opener",
             CommandName::Limit => b"limit",
             CommandName::Show => b"show",
+            CommandName::Picture => b"picture",
             CommandName::Compile => b"compile",
             CommandName::Decompile => b"decompile",
             CommandName::Check => b"check",
@@ -81,6 +84,7 @@ impl CommandName {
             CommandName::Opener => pages::OPENER,
             CommandName::Limit => pages::LIMIT,
             CommandName::Show => pages::SHOW,
+            CommandName::Picture => pages::PICTURE,
             CommandName::Compile => pages::COMPILE,
             CommandName::Decompile => pages::DECOMPILE,
             CommandName::Check => pages::CHECK,

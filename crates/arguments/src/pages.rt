@@ -67,6 +67,20 @@ Codes    0 done, 2 bad usage, 4 peers.dat is refused, 8 the output cannot be wri
 ",
 );
 
+pub(crate) const PICTURE: Page = (
+    "picture [--net CHAIN]",
+    "draws the tables of peers.dat, an SVG",
+    "\
+Reads    asmap.dat, if it is there, and peers.dat.
+Writes   one SVG: both tables, with the six source groups that have the most slots in
+         colours, and a list of them.
+CHAIN    main, test, signet or regtest; main if it is left out.
+Codes    0 done, 2 bad usage, 4 peers.dat is refused, 5 asmap.dat is refused,
+         8 the output cannot be written, 9 the folder failed, 11 peers.dat is missing,
+         12 out of memory.
+",
+);
+
 pub(crate) const COMPILE: Page = (
     "compile",
     "compiles prefixes.txt into asmap.dat",

@@ -75,6 +75,12 @@ fn read_after(alloc: Global, name: CommandName, rest: &[String]) -> Option<Reque
             };
             Some(Request::Show { chain })
         }
+        CommandName::Picture => {
+            let Some(chain) = read_net(rest) else {
+                return None;
+            };
+            Some(Request::Picture { chain })
+        }
         CommandName::Ban => {
             let Some((subnet, now, until)) = read_period(rest) else {
                 return None;

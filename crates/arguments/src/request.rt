@@ -37,6 +37,11 @@ pub enum Request {
     Show {
         chain: Chain,
     },
+    /// `picture --net CHAIN`: write a picture of the tables that peers.dat, a file of this chain, opens
+    /// with asmap.dat.
+    Picture {
+        chain: Chain,
+    },
     /// `ban SUBNET NOW UNTIL`: drop the bans of banlist.json that are over, and ban the subnet until
     /// a later time, unless it is banned until then or later already, or the list is full.
     Ban {
