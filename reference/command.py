@@ -4,6 +4,7 @@ import hashlib
 
 import bans
 import help_texts
+import node_json
 import peers_file
 import prefixes
 from addresses import Peer, read_peer
@@ -21,9 +22,10 @@ from tables import Tables
 from text import MASK, Fault, read_digits, read_number
 
 MAXIMUM_GENERATED_LINES = 100_000
-COMMANDS = "replay opener limit show picture compile decompile check lookup ban unban banned gen trial help version"
+COMMANDS = "replay opener limit show picture raw info compile decompile check lookup ban unban banned bans gen trial help version"
 IN_PLACE = {b"--help": b"help", b"-h": b"help", b"--version": b"version"}
-OPTIONS = {"replay": ("--key", "--net"), "opener": ("--key", "--net"), "show": ("--net",), "picture": ("--net",)}
+OPTIONS = {"replay": ("--key", "--net"), "opener": ("--key", "--net"), "show": ("--net",),
+           "picture": ("--net",), "raw": ("--net",), "info": ("--net",)}
 
 
 def usage(value=None):
@@ -211,6 +213,12 @@ class Run:
     def picture(self, _key: None, chain: str):
         self.print(picture(self.tables(None, chain)).removesuffix("\n"))
 
+    def raw(self, _key: None, chain: str):
+        self.print(node_json.raw(self.tables(None, chain)))
+
+    def info(self, _key: None, chain: str):
+        self.print(node_json.info(self.tables(None, chain)))
+
     def compile(self):
         rows = self.load("prefixes.txt", prefixes.MAXIMUM_BYTES, 6, prefixes.read_rows)
         code = compile_rows(self.needed(rows, "prefixes.txt"))
@@ -238,7 +246,7 @@ class Run:
         peer = usage(read_peer(argument))
         self.print(looked_up(peer, self.needed(self.asmap(), "asmap.dat")))
 
-    def bans(self) -> dict:
+    def ban_list(self) -> dict:
         """The folder's list of bans."""
         return self.load("banlist.json", bans.MAXIMUM_BYTES, 16, bans.read_list) or {}
 
@@ -246,7 +254,7 @@ class Run:
         subnet, now, until = usage(bans.read_subnet(subnet_text)), time(now_text), time(until_text)
         if now >= until:
             usage()
-        listed = self.bans()
+        listed = self.ban_list()
         answer = bans.ban(listed, subnet, now, until)
         if answer == "ban added":
             self.put("banlist.tmp", "banlist.json", bans.written_list(listed))
@@ -254,7 +262,7 @@ class Run:
 
     def unban(self, subnet_text: bytes):
         subnet = usage(bans.read_subnet(subnet_text))
-        listed = self.bans()
+        listed = self.ban_list()
         if listed.pop(subnet, None) is None:
             self.print("absent")
             return
@@ -263,7 +271,11 @@ class Run:
 
     def banned(self, peer_text: bytes, now_text: bytes):
         address, now = usage(read_peer(peer_text)).address, time(now_text)
-        self.print(bans.banned(self.bans(), address, now))
+        self.print(bans.banned(self.ban_list(), address, now))
+
+    def bans(self, now_text: bytes):
+        now = time(now_text)
+        self.print(node_json.banned(self.ban_list(), now))
 
 
 def run(arguments: list[str], read, write, folder: Folder) -> tuple[int, str]:

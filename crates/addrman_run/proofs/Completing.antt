@@ -43,6 +43,7 @@ use Rattle.addrman_run.specs.LookupLines.{HasFault as LookupFault, LacksMap, Loo
 use Rattle.addrman_run.specs.Replay.{IsUntouched, NotOpened, ReplayEnds, Replayed}
 use Rattle.addrman_run.specs.Asmaps.{ReportsAsmap}
 use Rattle.addrman_run.specs.Tables.{ReportsTable}
+use Rattle.addrman_run.specs.TextOut.{TextEnds}
 use Rattle.arguments.specs.declared.request.Request.TheVariants as request
 use Rattle.arguments.specs.declared.request.Request.{Request}
 use Rattle.addrman_run.specs.declared.status.Status.TheVariants.{Done, LogLine, PeersRefused, AsmapRefused, ReadFault, WriteFault, DiskFault, LogTooLong, NoKey, Memory, LineTooLong, NoFile}
@@ -224,6 +225,15 @@ picture_done chain old new WriteFault ends cause fine calm = absurd (no_write_fa
 picture_done chain old new DiskFault ends cause fine calm = absurd (no_disk_fault old new cause calm ends.left.0)
 picture_done chain old new other ends cause fine calm = absurd (fine other ends.text.0)
 
+-- a command that needs no file, and writes a text
+text_done : (IsText : Option Past → List ℕ → Type 0) (Refuses : Option Past → Status → Type 0) (old new : Outside) (answer : Status)
+    → TextEnds IsText Refuses old new answer → HasCause old new answer → NoRefusal (Refuses old.past) → NothingFails old new → IsDone answer
+text_done IsText Refuses old new Done ends cause fine calm = inl refl
+text_done IsText Refuses old new Memory ends cause fine calm = inr refl
+text_done IsText Refuses old new WriteFault ends cause fine calm = absurd (no_write_fault old new cause calm)
+text_done IsText Refuses old new DiskFault ends cause fine calm = absurd (no_disk_fault old new cause calm ends.left.0)
+text_done IsText Refuses old new other ends cause fine calm = absurd (fine other ends.text.0)
+
 compile_done : (old new : Outside) (answer : Status) → CompileEnds old new answer → HasCause old new answer → IsUsable name.Prefixes ReportsTable old.past → NothingFails old new → IsDone answer
 compile_done old new Done ends cause fine calm = inl refl
 compile_done old new Memory ends cause fine calm = inr refl
@@ -275,9 +285,12 @@ done (request.Lookup peer) old new answer ends cause fine calm = file_line_done 
 done request.LookupLines old new answer ends cause fine calm = lookup_lines_done old new answer ends cause fine calm
 done (request.Show chain) old new answer ends cause fine calm = file_line_done _ _ _ old new answer ends cause fine calm
 done (request.Picture chain) old new answer ends cause fine calm = picture_done chain old new answer ends cause fine calm
+done (request.Raw chain) old new answer ends cause fine calm = text_done _ _ old new answer ends cause fine calm
+done (request.Info chain) old new answer ends cause fine calm = text_done _ _ old new answer ends cause fine calm
 done (request.Ban subnet now until) old new answer ends cause fine calm = bans_done _ old new answer ends cause fine calm
 done (request.Unban subnet) old new answer ends cause fine calm = bans_done _ old new answer ends cause fine calm
 done (request.Banned peer now) old new answer ends cause fine calm = bans_done _ old new answer ends cause fine calm
+done (request.Bans now) old new answer ends cause fine calm = bans_done _ old new answer ends cause fine calm
 done (request.Gen first count) old new answer ends cause fine calm = gen_done first count old new answer ends.text cause calm
 done (request.Trial first count) old new answer ends cause fine calm = one_text_done _ old new answer ends.text cause calm
 done (request.Help command) old new answer ends cause fine calm = one_text_done _ old new answer ends.text cause calm

@@ -18,6 +18,8 @@ use Rattle.host_io.specs.Writing.{Appended, AppendedPart}
 use Rattle.host_io.specs.declared.name.Name.{Name}
 use Rattle.host_io.specs.declared.name.Name.TheVariants as name
 use Rattle.net_addr.specs.Address.{Address}
+use Rattle.node_json.specs.Bans.{bans_json}
+use Rattle.node_json.specs.Value.{json_text}
 use Rattle.save_store.specs.Saves.{NoMore}
 use Rattle.addrman_run.specs.Compile.{IsInPlace}
 use Rattle.addrman_run.specs.InFolder.{IsAbsent, IsFileIn, IsTooLarge}
@@ -85,6 +87,10 @@ found_text (Some ban) =
 abbrev pub banned_change : Address → ℕ → List Ban → Change
 banned_change addr now bans =
     record { line = found_text (find (stops addr now) bans); saved = None }
+
+-- `bans`: the bans that are not over, as JSON
+abbrev pub bans_change : ℕ → List Ban → Change
+bans_change now bans = record { line = json_text (bans_json now bans); saved = None }
 
 -- HOW THEY END
 

@@ -27,10 +27,10 @@ use Rattle.addrman_run.specs.Replay.{Replayed}
 use Rattle.addrman_run.specs.Show.{ReportsPeers}
 use Rattle.addrman_run.specs.Tables.{ReportsTable}
 use Rattle.arguments.specs.declared.request.Request.{Request}
-use Rattle.arguments.specs.declared.request.Request.TheVariants.{Show, Picture}
+use Rattle.arguments.specs.declared.request.Request.TheVariants.{Show, Picture, Raw, Info}
 use Rattle.arguments.specs.declared.request.Request.TheVariants.{Replay, Opener, Compile, Check, Lookup, LookupLines}
 use Rattle.arguments.specs.declared.request.Request.TheVariants.{Decompile, Limit}
-use Rattle.arguments.specs.declared.request.Request.TheVariants.{Ban, Unban, Banned}
+use Rattle.arguments.specs.declared.request.Request.TheVariants.{Ban, Unban, Banned, Bans}
 use Rattle.addrman_run.specs.declared.status.Status.{Status}
 use Rattle.addrman_run.specs.declared.status.Status.TheVariants.{Done, Memory}
 
@@ -85,9 +85,12 @@ NothingIsWrong (Lookup peer) at = IsUsable name.Asmap ReportsAsmap at.past
 NothingIsWrong LookupLines at = IsGoodLog IsLookupLine at.left × IsUsable name.Asmap ReportsAsmap at.past
 NothingIsWrong (Show chain) at = IsUsable name.Peers (ReportsPeers chain) at.past
 NothingIsWrong (Picture chain) at = NoRefusal (ReportsOpening None chain at.past)
+NothingIsWrong (Raw chain) at = NoRefusal (ReportsOpening None chain at.past)
+NothingIsWrong (Info chain) at = NoRefusal (ReportsOpening None chain at.past)
 NothingIsWrong (Ban subnet now until) at = NoRefusal (ReportsBans at.past)
 NothingIsWrong (Unban subnet) at = NoRefusal (ReportsBans at.past)
 NothingIsWrong (Banned peer now) at = NoRefusal (ReportsBans at.past)
+NothingIsWrong (Bans now) at = NoRefusal (ReportsBans at.past)
 NothingIsWrong other at = ⊤
 
 -- No count of faults rose; that of the folder may have risen after bytes of the log were taken.

@@ -18,6 +18,8 @@ pub mod Compile
 pub mod Bans
 pub mod Show
 pub mod Picture
+pub mod TablesJson
+pub mod TextOut
 pub mod Generate
 pub mod Opening
 pub mod Trial

@@ -12,15 +12,17 @@ use Rattle.addrman_run.specs.Limit.{LimitEnds}
 use Rattle.addrman_run.specs.Opener.{OpenerEnds}
 use Rattle.addrman_run.specs.Show.{ShowEnds}
 use Rattle.addrman_run.specs.Picture.{PictureEnds}
+use Rattle.addrman_run.specs.TablesJson.{TablesJsonEnds}
+use Rattle.addrman_run.specs.declared.tables_json.TablesJson.TheVariants as json
 use Rattle.addrman_run.specs.Generate.{GenEnds}
 use Rattle.addrman_run.specs.Help.{HelpEnds, VersionEnds}
 use Rattle.addrman_run.specs.Trial.{TrialEnds}
-use Rattle.addrman_run.specs.Bans.{BansEnds, ban_change, unban_change, banned_change}
+use Rattle.addrman_run.specs.Bans.{BansEnds, ban_change, unban_change, banned_change, bans_change}
 use Rattle.arguments.specs.declared.request.Request.{Request}
-use Rattle.arguments.specs.declared.request.Request.TheVariants.{Show, Picture}
+use Rattle.arguments.specs.declared.request.Request.TheVariants.{Show, Picture, Raw, Info}
 use Rattle.arguments.specs.declared.request.Request.TheVariants.{Replay, Opener, Compile, Check, Lookup, LookupLines}
 use Rattle.arguments.specs.declared.request.Request.TheVariants.{Decompile, Limit}
-use Rattle.arguments.specs.declared.request.Request.TheVariants.{Ban, Unban, Banned}
+use Rattle.arguments.specs.declared.request.Request.TheVariants.{Ban, Unban, Banned, Bans}
 use Rattle.arguments.specs.declared.request.Request.TheVariants.{Gen, Trial, Help, Version}
 use Rattle.addrman_run.specs.declared.status.Status.{Status}
 use Rattle.addrman_run.specs.declared.status.Status.TheVariants as status
@@ -37,9 +39,12 @@ Ends (Lookup peer) old new answer = LookupEnds peer old new answer
 Ends LookupLines old new answer = LookupLinesEnds old new answer
 Ends (Show chain) old new answer = ShowEnds chain old new answer
 Ends (Picture chain) old new answer = PictureEnds chain old new answer
+Ends (Raw chain) old new answer = TablesJsonEnds json.Raw chain old new answer
+Ends (Info chain) old new answer = TablesJsonEnds json.Info chain old new answer
 Ends (Ban subnet now until) old new answer = BansEnds (ban_change (ban_of subnet now until)) old new answer
 Ends (Unban subnet) old new answer = BansEnds (unban_change subnet) old new answer
 Ends (Banned peer now) old new answer = BansEnds (banned_change peer.addr now) old new answer
+Ends (Bans now) old new answer = BansEnds (bans_change now) old new answer
 Ends (Gen start lines) old new answer = GenEnds start lines old new answer
 Ends (Trial start lines) old new answer = TrialEnds start lines old new answer
 Ends (Help command) old new answer = HelpEnds command old new answer

@@ -7,7 +7,7 @@ ghost use Rattle.host_io.specs.declared.name.Name.TheVariants as name;
 ghost use Rattle.save_store.specs.Saves.{PublishesOrNot};
 ghost use Rattle.ban_list.specs.declared.ban.Ban.{Ban};
 ghost use Rattle.addrman_run.specs.Bans.{AreBansIn, BansText, Change, IsOldOrNewList};
-ghost use Rattle.addrman_run.specs.Bans.{ban_change, banned_change, found_text, reply_text, saved_by, unban_change};
+ghost use Rattle.addrman_run.specs.Bans.{ban_change, banned_change, found_text, reply_text, saved_by, unban_change, bans_change};
 ghost use Rattle.addrman_run.specs.Inside.{AnswerEnds, IsNoBans, IsNoList};
 ghost use Rattle.log_run.specs.Counts.{IsCounted};
 
@@ -17,6 +17,7 @@ use crate::{Memory, Status};
 use ban_list::{Ban, BanFault, BanReply, Bans, Subnet, put_subnet, read_bans, write_bans};
 use host_io::{Bytes, Folder, Name, Sink};
 use net_addr::{NetAddr, Peer, put_number};
+use node_json::bans_text;
 use std::alloc::Global;
 
 /// The line that a command writes, and the file that it saves first, if the list is a new one.
@@ -172,6 +173,23 @@ impl BanCommand for FindBan {
 
     fn answer(&self, alloc: Global, bans: &mut Bans) -> Result<Answer, Memory> {
         let line = find_line(alloc, &self.peer.addr, self.now, bans)?;
+        Ok(Answer { line, file: None })
+    }
+}
+
+/// The command that prints the bans that are not over.
+#[derive(Drop)]
+pub(crate) struct ListBans {
+    pub(crate) now: u32,
+}
+
+impl BanCommand for ListBans {
+    ghost change = { λ list. bans_change list.now };
+
+    ghost is_proper = { λ _. ⊤ };
+
+    fn answer(&self, alloc: Global, bans: &mut Bans) -> Result<Answer, Memory> {
+        let line = bans_text(alloc, self.now, bans.bans())?;
         Ok(Answer { line, file: None })
     }
 }

@@ -35,6 +35,7 @@ mod report;
 mod show;
 mod status;
 mod tables_fault;
+mod tables_json;
 mod top;
 mod trial;
 mod trial_line;

@@ -1,20 +1,15 @@
-ghost use Rattle.std.specs.Prelude.{◌≡◌, ◌≢◌, IfOk, MatchOption};
-ghost use Rattle.host_io.specs.declared.name.Name.TheVariants as name;
+ghost use Rattle.std.specs.Prelude.{◌≡◌, ◌≢◌, IfOk};
+ghost use Rattle.log_run.specs.Counts.{IsCounted};
 ghost use Rattle.table_picture.specs.Picture.{picture_of};
-ghost use Rattle.addrman_run.specs.InFolder.{IsAbsent};
-ghost use Rattle.addrman_run.specs.Inside.{IsLoaded, TextEnds};
-ghost use Rattle.addrman_run.specs.declared.input.Input.TheVariants as input;
-ghost use Rattle.addrman_run.specs.Outcome.{IsCounted};
+ghost use Rattle.addrman_run.specs.Inside.{TextEnds};
 ghost use Rattle.addrman_run.specs.Picture.{PictureText};
 
-use crate::input::{Input, load_input};
 use crate::opening::open_folder;
 use crate::output::write_line;
 use crate::{Memory, Status};
 use group_counts::Lent;
 use host_io::{Bytes, Folder, Sink};
 use peers_file::Chain;
-use placing::Placer;
 use std::alloc::Global;
 use std::hash::BuildHasher;
 use std::marker::Brand;
@@ -36,31 +31,26 @@ pub(crate) fn picture<F: Folder, K: Sink, H: BuildHasher + Drop>(
     ensures write { IsCounted Status.WriteFault (K.faults out.old) (K.faults out.new) result }
     ensures same { F.past folder.new ≡ F.past folder.old }
 {
-    let asmap = match load_input(alloc, Input::Asmap, folder) {
-        Ok(asmap) => asmap,
-        Err(status) => return status,
-    };
-    draw(alloc, &hasher, chain, &asmap, folder, out)
+    let mut asmap = None;
+    draw(alloc, &hasher, chain, &mut asmap, folder, out)
 }
 
-/// Opens the tables of the folder, whose asmap is in the bytes, and writes their picture.
+/// Opens the tables of the folder, whose asmap's bytes stay in `asmap`, and writes their picture.
 fn draw<'a, F: Folder, K: Sink, H: BuildHasher + Drop>(
     alloc: Global,
     hasher: &'a H,
     chain: Chain,
-    asmap: &'a Option<Bytes>,
+    asmap: &'a mut Option<Bytes>,
     folder: &mut F,
     out: &mut K,
 ) -> Status
-    requires asmap { MatchOption asmap.now (IsAbsent name.Asmap (F.past folder.old))
-        (IsLoaded input.Asmap (F.past folder.old)) }
     ensures text { PictureText chain (F.past folder.old) (K.written out.old) (K.written out.new) result }
     ensures disk { IsCounted Status.DiskFault (F.faults folder.old) (F.faults folder.new) result }
     ensures write { IsCounted Status.WriteFault (K.faults out.old) (K.faults out.new) result }
     ensures same { F.past folder.new ≡ F.past folder.old }
 {
     match open_folder(alloc, Lent::of(hasher), None, chain, asmap, folder) {
-        Ok((tables, placer)) => write_picture(alloc, hasher, &tables, &placer, out),
+        Ok(tables) => write_picture(alloc, hasher, &tables, out),
         Err(status) => status,
     }
 }
@@ -70,15 +60,13 @@ fn write_picture<K: Sink, H: BuildHasher, G: BuildHasher>(
     alloc: Global,
     hasher: &G,
     tables: &Tables<'_, H>,
-    placer: &Placer<'_>,
     out: &mut K,
 ) -> Status
-    requires { placer.now ≡ tables.now.places }
     ensures text { TextEnds (picture_of tables.now) (K.written out.old) (K.written out.new) result }
     ensures write { IsCounted Status.WriteFault (K.faults out.old) (K.faults out.new) result }
     ensures no_disk { result ≢ Status.DiskFault }
 {
-    match text_of::<Brand, H, G>(alloc, hasher, tables, placer, Blank::new(1)) {
+    match text_of::<Brand, H, G>(alloc, hasher, tables, Blank::new(1)) {
         Ok(text) => write_line(text.as_slice(), out),
         Err(_) => Status::Memory,
     }
@@ -89,18 +77,23 @@ fn text_of<L: Ledger, H: BuildHasher, G: BuildHasher>(
     alloc: Global,
     hasher: &G,
     tables: &Tables<'_, H>,
-    placer: &Placer<'_>,
     blank: Blank,
 ) -> Result<Vec<u8>, Memory>
     requires name { blank.name ≡ L.name }
     requires parts { blank.parts ≡ L.parts }
     requires one { blank.parts ≡ 1 }
-    requires placer { placer.now ≡ tables.now.places }
     ensures { IfOk result (λ text. text.items ≡ picture_of tables.now) }
 {
     let mut steps = Steps::<L>::none(blank);
     let mut text = Vec::new(alloc);
-    match put_picture(alloc, hasher, tables, placer, &mut text, &mut steps) {
+    match put_picture(
+        alloc,
+        hasher,
+        tables,
+        tables.placer(),
+        &mut text,
+        &mut steps,
+    ) {
         Ok(()) => Ok(text),
         Err(_) => Err(Memory),
     }

@@ -7,7 +7,7 @@ ghost use Rattle.addrman_run.specs.Outcome.{Ends, HasCause};
 ghost use Rattle.arguments.specs.declared.request.Request.{Request};
 
 use crate::Status;
-use crate::bans::{BanSubnet, FindBan, UnbanSubnet, change_bans};
+use crate::bans::{BanSubnet, FindBan, ListBans, UnbanSubnet, change_bans};
 use crate::check::Check;
 use crate::compile::compile_table;
 use crate::decompile::Decompile;
@@ -21,6 +21,7 @@ use crate::opener::opener;
 use crate::picture::picture;
 use crate::replay::replay;
 use crate::show::Show;
+use crate::tables_json::{TablesJson, write_tables_json};
 use crate::trial::trial;
 use arguments::{Request, read_request};
 use host_io::{Folder, Sink, Source};
@@ -37,8 +38,10 @@ use std::hash::BuildHasher;
 /// `decompile` writes the table of prefixes that it encodes, and `lookup PEER` writes the AS number
 /// and the group that it gives the peer's address, `lookup -` those of each peer of the log. `limit` carries out the lines of the log under
 /// the limit on received addresses, and writes the log that is left. `show --net CHAIN` lists what
-/// peers.dat has. `ban SUBNET NOW UNTIL` and `unban SUBNET` change the list of bans in
-/// banlist.json, and `banned PEER NOW` writes which ban covers the peer's address. `gen START LINES`
+/// peers.dat has, `raw --net CHAIN` prints its records by their slots, and `info --net CHAIN` how
+/// many each network has, both as JSON. `ban SUBNET NOW UNTIL` and `unban SUBNET` change the list of bans in
+/// banlist.json, `banned PEER NOW` writes which ban covers the peer's address, and `bans NOW` the
+/// bans that are not over, as JSON. `gen START LINES`
 /// writes a generated log, and `trial START LINES` carries it out from empty tables and writes one
 /// line about the replies. `help COMMAND` writes the page of a command, and `help` the list of all;
 /// `version` writes the version and the toolchain.
@@ -92,11 +95,18 @@ fn carry_out<L: Source, F: Folder, K: Sink, H: BuildHasher + Drop>(
         Request::LookupLines => lookup_lines(alloc, log, folder, out),
         Request::Show { chain } => write_file_line(alloc, &Show { chain }, folder, out),
         Request::Picture { chain } => picture(alloc, hasher, chain, folder, out),
+        Request::Raw { chain } => {
+            write_tables_json(alloc, hasher, TablesJson::Raw, chain, folder, out)
+        }
+        Request::Info { chain } => {
+            write_tables_json(alloc, hasher, TablesJson::Info, chain, folder, out)
+        }
         Request::Ban { subnet, now, until } => {
             change_bans(alloc, &BanSubnet { subnet, now, until }, folder, out)
         }
         Request::Unban { subnet } => change_bans(alloc, &UnbanSubnet { subnet }, folder, out),
         Request::Banned { peer, now } => change_bans(alloc, &FindBan { peer, now }, folder, out),
+        Request::Bans { now } => change_bans(alloc, &ListBans { now }, folder, out),
         Request::Gen { start, lines } => generate(alloc, start, lines, out),
         Request::Trial { start, lines } => trial(alloc, hasher, start, lines, out),
         Request::Help { command } => help(alloc, command, out),

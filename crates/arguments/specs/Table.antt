@@ -12,7 +12,7 @@ use Rattle.arguments.specs.Options.{IsNet, IsOpeningOptions}
 use Rattle.arguments.specs.declared.name.CommandName.{CommandName}
 use Rattle.arguments.specs.declared.name.CommandName.TheVariants as name
 use Rattle.arguments.specs.declared.request.Request.{Request}
-use Rattle.arguments.specs.declared.request.Request.TheVariants.{Replay, Opener, Compile, Check, Decompile, Limit, Lookup, LookupLines, Show, Picture, Ban, Unban, Banned, Gen, Trial, Help, Version}
+use Rattle.arguments.specs.declared.request.Request.TheVariants.{Replay, Opener, Compile, Check, Decompile, Limit, Lookup, LookupLines, Show, Picture, Raw, Info, Ban, Unban, Banned, Bans, Gen, Trial, Help, Version}
 
 -- THE NAME
 
@@ -23,6 +23,8 @@ word_of name.Opener = codes "opener"
 word_of name.Limit = codes "limit"
 word_of name.Show = codes "show"
 word_of name.Picture = codes "picture"
+word_of name.Raw = codes "raw"
+word_of name.Info = codes "info"
 word_of name.Compile = codes "compile"
 word_of name.Decompile = codes "decompile"
 word_of name.Check = codes "check"
@@ -30,6 +32,7 @@ word_of name.Lookup = codes "lookup"
 word_of name.Ban = codes "ban"
 word_of name.Unban = codes "unban"
 word_of name.Banned = codes "banned"
+word_of name.Bans = codes "bans"
 word_of name.Gen = codes "gen"
 word_of name.Trial = codes "trial"
 word_of name.Help = codes "help"
@@ -99,9 +102,12 @@ form_of name.Opener = Opening
 form_of name.Lookup = PeerOrLines
 form_of name.Show = Network
 form_of name.Picture = Network
+form_of name.Raw = Network
+form_of name.Info = Network
 form_of name.Ban = Period
 form_of name.Unban = OfSubnet
 form_of name.Banned = Fields (OfPeer ∷ Number 0 max_time ∷ [])
+form_of name.Bans = Fields (Number 0 max_time ∷ [])
 form_of name.Gen = Fields (u64_field ∷ Number 1 MAX_LINES ∷ [])
 form_of name.Trial = Fields (u64_field ∷ Number 1 MAX_LINES ∷ [])
 form_of name.Help = OfCommand
@@ -119,9 +125,12 @@ name_of (Lookup peer) = name.Lookup
 name_of LookupLines = name.Lookup
 name_of (Show chain) = name.Show
 name_of (Picture chain) = name.Picture
+name_of (Raw chain) = name.Raw
+name_of (Info chain) = name.Info
 name_of (Ban subnet now until) = name.Ban
 name_of (Unban subnet) = name.Unban
 name_of (Banned peer now) = name.Banned
+name_of (Bans now) = name.Bans
 name_of (Gen start lines) = name.Gen
 name_of (Trial start lines) = name.Trial
 name_of (Help command) = name.Help
@@ -134,9 +143,12 @@ values_of (Opener key chain) = TheOpening key chain
 values_of (Lookup peer) = TheFields (ThePeer peer ∷ [])
 values_of (Show chain) = TheChain chain
 values_of (Picture chain) = TheChain chain
+values_of (Raw chain) = TheChain chain
+values_of (Info chain) = TheChain chain
 values_of (Ban subnet now until) = ThePeriod subnet now until
 values_of (Unban subnet) = TheSubnet subnet
 values_of (Banned peer now) = TheFields (ThePeer peer ∷ TheNumber now ∷ [])
+values_of (Bans now) = TheFields (TheNumber now ∷ [])
 values_of (Gen start lines) = TheFields (TheNumber start ∷ TheNumber lines ∷ [])
 values_of (Trial start lines) = TheFields (TheNumber start ∷ TheNumber lines ∷ [])
 values_of (Help command) = TheCommand command

@@ -81,6 +81,32 @@ Codes    0 done, 2 bad usage, 4 peers.dat is refused, 5 asmap.dat is refused,
 ",
 );
 
+pub(crate) const RAW: Page = (
+    "raw [--net CHAIN]",
+    "prints the records of peers.dat by the slots that they are in, as JSON",
+    "\
+Reads    peers.dat; asmap.dat, if it is there.
+Writes   what Bitcoin Core's getrawaddrman returns.
+CHAIN    main, test, signet or regtest; main if it is left out.
+Codes    0 done, 2 bad usage, 4 peers.dat is refused, 5 asmap.dat is refused,
+         8 the output cannot be written, 9 the folder failed, 11 no peers.dat,
+         12 out of memory.
+",
+);
+
+pub(crate) const INFO: Page = (
+    "info [--net CHAIN]",
+    "prints how many records of peers.dat each network has, as JSON",
+    "\
+Reads    peers.dat; asmap.dat, if it is there.
+Writes   what Bitcoin Core's getaddrmaninfo returns.
+CHAIN    main, test, signet or regtest; main if it is left out.
+Codes    0 done, 2 bad usage, 4 peers.dat is refused, 5 asmap.dat is refused,
+         8 the output cannot be written, 9 the folder failed, 11 no peers.dat,
+         12 out of memory.
+",
+);
+
 pub(crate) const COMPILE: Page = (
     "compile",
     "compiles prefixes.txt into asmap.dat",
@@ -163,6 +189,18 @@ pub(crate) const BANNED: Page = (
 Reads    banlist.json, if it is there.
 Writes   `banned`, the subnet and the time until which it is banned; or `free`.
 PEER     an address with a port, as 1.2.3.4:8333 or [2001:470::1]:8333.
+NOW      a time in seconds since 1970.
+Codes    0 done, 2 bad usage, 8 the output cannot be written, 9 the folder failed,
+         12 out of memory, 16 banlist.json is refused.
+",
+);
+
+pub(crate) const BANS: Page = (
+    "bans NOW",
+    "prints the bans that are not over, as JSON",
+    "\
+Reads    banlist.json, if it is there.
+Writes   what Bitcoin Core's listbanned returns.
 NOW      a time in seconds since 1970.
 Codes    0 done, 2 bad usage, 8 the output cannot be written, 9 the folder failed,
          12 out of memory, 16 banlist.json is refused.

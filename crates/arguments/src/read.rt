@@ -81,6 +81,18 @@ fn read_after(alloc: Global, name: CommandName, rest: &[String]) -> Option<Reque
             };
             Some(Request::Picture { chain })
         }
+        CommandName::Raw => {
+            let Some(chain) = read_net(rest) else {
+                return None;
+            };
+            Some(Request::Raw { chain })
+        }
+        CommandName::Info => {
+            let Some(chain) = read_net(rest) else {
+                return None;
+            };
+            Some(Request::Info { chain })
+        }
         CommandName::Ban => {
             let Some((subnet, now, until)) = read_period(rest) else {
                 return None;
@@ -98,6 +110,12 @@ fn read_after(alloc: Global, name: CommandName, rest: &[String]) -> Option<Reque
                 return None;
             };
             Some(Request::Banned { peer, now })
+        }
+        CommandName::Bans => {
+            let Some((now, ())) = read_values::<(Time, ())>(alloc, rest) else {
+                return None;
+            };
+            Some(Request::Bans { now })
         }
         CommandName::Gen => {
             let Some((start, (lines, ()))) = read_values::<Load>(alloc, rest) else {

@@ -42,6 +42,16 @@ pub enum Request {
     Picture {
         chain: Chain,
     },
+    /// `raw --net CHAIN`: print the records of peers.dat, a file of this chain, by the slots that they
+    /// are in, as JSON.
+    Raw {
+        chain: Chain,
+    },
+    /// `info --net CHAIN`: print how many records of peers.dat, a file of this chain, each network
+    /// has, as JSON.
+    Info {
+        chain: Chain,
+    },
     /// `ban SUBNET NOW UNTIL`: drop the bans of banlist.json that are over, and ban the subnet until
     /// a later time, unless it is banned until then or later already, or the list is full.
     Ban {
@@ -56,6 +66,10 @@ pub enum Request {
     /// `banned PEER NOW`: say which ban of banlist.json covers the peer's address.
     Banned {
         peer: Peer,
+        now: u32,
+    },
+    /// `bans NOW`: print the bans of banlist.json that are not over, as JSON.
+    Bans {
         now: u32,
     },
     /// `gen START LINES`: write the generated log of a number with this many lines.

@@ -1,0 +1,25 @@
+-- How a command ends that writes a text about files of the folder.
+use Rattle.std.proofs.Common.{◌≡◌, ℕ, List, refl, sym, subst, inl, inr}
+use Rattle.std.specs.Prelude.{Option, None}
+use Rattle.host_io.specs.Past.{Past}
+use Rattle.peers_file.specs.declared.chain.Chain.{Chain}
+use Rattle.addrman_run.specs.Inside.{LineEnds}
+use Rattle.addrman_run.specs.Opening.{IsUnopened, ReportsOpening}
+use Rattle.addrman_run.specs.TextOut.{TextOut}
+use Rattle.addrman_run.specs.declared.status.Status.{Status}
+use Rattle.addrman_run.specs.declared.status.Status.TheVariants.{Done, WriteFault, DiskFault, Memory}
+
+-- no tables were opened
+pub unopened_out : (IsText : Option Past → List ℕ → Type 0) (chain : Chain) (past : Option Past) (written : Option (List ℕ)) (status : Status)
+    → IsUnopened None chain past status → TextOut IsText (ReportsOpening None chain) past written written status
+unopened_out IsText chain past written Done why = absurd why
+unopened_out IsText chain past written WriteFault why = absurd why
+unopened_out IsText chain past written DiskFault why = refl
+unopened_out IsText chain past written Memory why = refl
+unopened_out IsText chain past written other why = (why, refl)
+
+-- the text was written, or a part of it
+pub text_out : (IsText : Option Past → List ℕ → Type 0) (Refuses : Option Past → Status → Type 0) (past : Option Past) (text : List ℕ) (old new : Option (List ℕ)) (status : Status)
+    → IsText past text → LineEnds text old new status → TextOut IsText Refuses past old new status
+text_out IsText Refuses past text old new status is (inl whole) = subst (TextOut IsText Refuses past old new) (sym whole.0) (text, is, whole.1)
+text_out IsText Refuses past text old new status is (inr part) = subst (TextOut IsText Refuses past old new) (sym part.0) (text, is, part.1)

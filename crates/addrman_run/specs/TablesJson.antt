@@ -1,0 +1,28 @@
+-- What the commands write that print the tables of peers.dat as JSON, and how they end.
+use Rattle.std.specs.Prelude.{ℕ, List, Option, None}
+use Rattle.host_io.specs.Past.{Past}
+use Rattle.host_io.specs.Outside.{Outside}
+use Rattle.json.specs.Json.{Json}
+use Rattle.node_json.specs.Info.{info_json}
+use Rattle.node_json.specs.Raw.{raw_json}
+use Rattle.node_json.specs.Value.{IsJsonText}
+use Rattle.peers_file.specs.declared.chain.Chain.{Chain}
+use Rattle.table_machine.specs.State.{State}
+use Rattle.addrman_run.specs.Opening.{Opened, ReportsOpening}
+use Rattle.addrman_run.specs.TextOut.{TextEnds}
+use Rattle.addrman_run.specs.declared.status.Status.{Status}
+use Rattle.addrman_run.specs.declared.tables_json.TablesJson.{TablesJson}
+use Rattle.addrman_run.specs.declared.tables_json.TablesJson.TheVariants.{Raw, Info}
+
+abbrev pub json_of : TablesJson → State → Json
+json_of Raw st = raw_json st
+json_of Info st = info_json st
+
+-- a text of the tables that the folder's peers.dat and asmap.dat open
+abbrev pub IsTablesText : TablesJson → Chain → Option Past → List ℕ → Type 0
+IsTablesText which chain past text =
+    (tables : State) × Opened None chain past tables × IsJsonText (json_of which tables) text
+
+-- files are refused as a replay without a key refuses them
+abbrev pub TablesJsonEnds : TablesJson → Chain → Outside → Outside → Status → Type 0
+TablesJsonEnds which chain = TextEnds (IsTablesText which chain) (ReportsOpening None chain)

@@ -1,0 +1,73 @@
+ghost use Rattle.std.specs.Prelude.{◌≡◌, IfOk, None};
+ghost use Rattle.log_run.specs.Counts.{IsCounted};
+ghost use Rattle.node_json.specs.Value.{IsJsonText};
+ghost use Rattle.addrman_run.specs.Opening.{ReportsOpening};
+ghost use Rattle.addrman_run.specs.TablesJson.{IsTablesText, json_of};
+ghost use Rattle.addrman_run.specs.TextOut.{TextOut};
+
+use crate::Status;
+use crate::opening::open_folder;
+use crate::output::write_line;
+use host_io::{Folder, Sink};
+use node_json::{info_text, raw_text};
+use peers_file::Chain;
+use std::alloc::{AllocError, Global};
+use std::hash::BuildHasher;
+use std::marker::Brand;
+use std::sync::ledger::{Blank, Ledger};
+use steps::Steps;
+use tables::Tables;
+
+/// What is printed of the tables.
+#[derive(Clone, Copy)]
+pub(crate) enum TablesJson {
+    /// The records by the slots that they are in.
+    Raw,
+    /// How many records each network has.
+    Info,
+}
+
+/// Returns the text of the tables. The steps are counted, and nobody reads how many.
+fn text_of<L: Ledger, H: BuildHasher>(
+    alloc: Global,
+    which: TablesJson,
+    tables: &Tables<'_, H>,
+    blank: Blank,
+) -> Result<Vec<u8>, AllocError>
+    requires name { blank.name ≡ L.name }
+    requires parts { blank.parts ≡ L.parts }
+    requires one { blank.parts ≡ 1 }
+    ensures { IfOk result (λ text. IsJsonText (json_of which tables.now) text.items) }
+{
+    let mut steps = Steps::<L>::none(blank);
+    match which {
+        TablesJson::Raw => raw_text(alloc, tables, &mut steps),
+        TablesJson::Info => info_text(alloc, tables),
+    }
+}
+
+/// Opens the tables of the folder's peers.dat under its asmap, and writes the text of them.
+pub(crate) fn write_tables_json<F: Folder, K: Sink, H: BuildHasher + Drop>(
+    alloc: Global,
+    hasher: H,
+    which: TablesJson,
+    chain: Chain,
+    folder: &mut F,
+    out: &mut K,
+) -> Status
+    ensures text { TextOut (IsTablesText which chain) (ReportsOpening None chain)
+        (F.past folder.old) (K.written out.old) (K.written out.new) result }
+    ensures disk { IsCounted Status.DiskFault (F.faults folder.old) (F.faults folder.new) result }
+    ensures write { IsCounted Status.WriteFault (K.faults out.old) (K.faults out.new) result }
+    ensures same { F.past folder.new ≡ F.past folder.old }
+{
+    let mut asmap = None;
+    let tables = match open_folder(alloc, hasher, None, chain, &mut asmap, folder) {
+        Ok(tables) => tables,
+        Err(status) => return status,
+    };
+    match text_of::<Brand, H>(alloc, which, &tables, Blank::new(1)) {
+        Ok(text) => write_line(text.as_slice(), out),
+        Err(_) => Status::Memory,
+    }
+}

@@ -1,0 +1,93 @@
+"""The tables as Bitcoin Core's RPC prints them."""
+
+import json
+
+from addresses import CJDNS, I2P, IPV4, IPV6, ONION, UNROUTABLE, Address, class_of, routable
+from bans import Ban, Subnet
+from names import name_of
+from tables import Record, Tables
+
+
+def network_name(address: Address) -> str:
+    """The name of the class of an address."""
+    own_class = class_of(address)
+    return "not_publicly_routable" if own_class == UNROUTABLE else own_class
+
+
+def record_members(tables: Tables, record: Record) -> dict:
+    """The members of a record, in order."""
+    peer, source = record.peer, record.source
+    number, source_number = map(tables.asmap.number_of, (peer.address, source))
+    return {
+        "address": name_of(peer.address),
+        **({"mapped_as": number} if number else {}),
+        "port": peer.port,
+        "services": record.services,
+        "time": record.time,
+        "network": network_name(peer.address),
+        "source": name_of(source),
+        "source_network": network_name(source),
+        **({"source_mapped_as": source_number} if source_number else {}),
+    }
+
+
+def places_of(tables: Tables, record: Record) -> list[tuple[int, int]]:
+    """The buckets and slots of a record."""
+    if record.tried:
+        return [tables.tried_place(record)]
+    return [(bucket, tables.new_slot(record, bucket)) for bucket in record.buckets]
+
+
+def raw(tables: Tables) -> str:
+    """The records of both tables by their slots."""
+    both = {}
+    for name, tried in ("new", False), ("tried", True):
+        placed = [
+            (place, record)
+            for record in tables.records.values() if record.tried == tried
+            for place in places_of(tables, record)
+        ]
+        placed.sort(key=lambda pair: pair[0])
+        both[name] = {
+            f"{bucket}/{slot}": record_members(tables, record) for (bucket, slot), record in placed
+        }
+    return json.dumps(both, indent=2)
+
+
+def counts(records: list[Record]) -> dict:
+    """How many records are in each table."""
+    tried = sum(record.tried for record in records)
+    return {"new": len(records) - tried, "tried": tried, "total": len(records)}
+
+
+def info(tables: Tables) -> str:
+    """How many records each network has."""
+    records = list(tables.records.values())
+    rows = {
+        network: counts([
+            record for record in records
+            if record.peer.address.network == network and routable(record.peer.address)
+        ])
+        for network in (IPV4, IPV6, ONION, I2P, CJDNS)
+    }
+    return json.dumps({**rows, "all_networks": counts(records)}, indent=2)
+
+
+def subnet_name(subnet: Subnet) -> str:
+    """The name of a subnet."""
+    name = name_of(Address(subnet.network, subnet.data))
+    return f"{name}/{subnet.length}" if subnet.network in (IPV4, IPV6) else name
+
+
+def banned(bans: dict[Subnet, Ban], now: int) -> str:
+    """The bans that end after a time."""
+    return json.dumps([
+        {
+            "address": subnet_name(subnet),
+            "ban_created": ban.made,
+            "banned_until": ban.until,
+            "ban_duration": max(0, ban.until - ban.made),
+            "time_remaining": ban.until - now,
+        }
+        for subnet, ban in bans.items() if ban.until > now
+    ], indent=2)
