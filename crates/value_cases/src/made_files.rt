@@ -22,7 +22,7 @@ pub(crate) struct Sizes {
 }
 
 /// Appends the record of an IPv4 address.
-fn put_rec(bytes: &mut Vec<u8>, addr: u32) -> Result<(), Unread> {
+pub(crate) fn put_rec(bytes: &mut Vec<u8>, addr: u32) -> Result<(), Unread> {
     bytes.extend_from_slice(&[0x60, 0x5b, 3, 0x20, 0xe0, 0xd4, 0x53, 0x65, 1, 1, 4])?;
     bytes.extend_from_slice(&addr.to_be_bytes())?;
     bytes.extend_from_slice(&[0x20, 0x8d, 1, 4, 1, 2, 3, 4, 1])?;
@@ -54,8 +54,18 @@ fn put_buckets(bytes: &mut Vec<u8>, sizes: Sizes) -> Result<(), Unread> {
     Ok(())
 }
 
-/// Appends what comes before the records, under the key of zeros.
-fn put_head(bytes: &mut Vec<u8>, sizes: Sizes) -> Result<(), Unread> {
+/// Appends what comes after the records: the indexes, no asmap, and the sum of the file.
+pub(crate) fn put_rest(bytes: &mut Vec<u8>, sizes: Sizes) -> Result<(), Unread> {
+    put_buckets(bytes, sizes)?;
+    bytes.extend_from_slice(&[0; 32])?;
+    let sum = hashed_twice(bytes.as_slice());
+    bytes.extend_from_slice(&sum)?;
+    Ok(())
+}
+
+/// Makes the file what comes before the records, under the key of zeros.
+pub(crate) fn put_head(bytes: &mut Vec<u8>, sizes: Sizes) -> Result<(), Unread> {
+    bytes.clear();
     bytes.extend_from_slice(&[0xf9, 0xbe, 0xb4, 0xd9, 4, 0x24])?;
     bytes.extend_from_slice(&[0; 32])?;
     bytes.extend_from_slice(&sizes.new.to_le_bytes())?;
@@ -68,15 +78,10 @@ fn put_head(bytes: &mut Vec<u8>, sizes: Sizes) -> Result<(), Unread> {
 /// records are of 8.0.0.0 and the addresses after it, the tried ones of 11.0.0.0 and every 65,537th
 /// after it.
 pub(crate) fn put_file(bytes: &mut Vec<u8>, sizes: Sizes) -> Result<(), Unread> {
-    bytes.clear();
     put_head(bytes, sizes)?;
     put_recs(bytes, sizes.new, 8 << 24, 1)?;
     put_recs(bytes, sizes.tried, 11 << 24, 65_537)?;
-    put_buckets(bytes, sizes)?;
-    bytes.extend_from_slice(&[0; 32])?;
-    let sum = hashed_twice(bytes.as_slice());
-    bytes.extend_from_slice(&sum)?;
-    Ok(())
+    put_rest(bytes, sizes)
 }
 
 /// Returns how many bytes there are, and their SHA-256.

@@ -12,6 +12,7 @@ mod bans;
 mod codes;
 mod damage;
 mod fields;
+mod filled_file;
 mod index_calls;
 mod limiter_calls;
 mod limits;

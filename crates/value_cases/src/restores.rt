@@ -1,4 +1,5 @@
 use crate::fields::Fields;
+use crate::filled_file::put_filled;
 use crate::made_files::{Sizes, again, listing, put_file};
 use crate::tables_state::Hasher;
 use crate::text::{bytes_of, owned};
@@ -79,6 +80,7 @@ pub(crate) fn answer<L: Ledger>(
         "piece" => add_bytes(alloc, fields.word(), bytes)?,
         "zeros" => add_zeros(fields.small()?, bytes)?,
         "made" => make(bytes, fields)?,
+        "filled" => put_filled(alloc, bytes)?,
         "again" => return again(alloc, bytes.as_slice()),
         "listing" => return listing(alloc, bytes.as_slice()),
         _ => return restore(alloc, bytes.as_slice(), tables, steps),

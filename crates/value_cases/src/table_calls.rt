@@ -161,15 +161,9 @@ fn mask<L: Ledger>(
 
 /// Returns the network of the name.
 fn net_of(name: &str) -> Result<Net, Unread> {
-    match name {
-        "ipv4" => Ok(Net::Ipv4),
-        "ipv6" => Ok(Net::Ipv6),
-        "onion" => Ok(Net::Onion),
-        "i2p" => Ok(Net::I2p),
-        "cjdns" => Ok(Net::Cjdns),
-        "internal" => Ok(Net::Internal),
-        "unroutable" => Ok(Net::Unroutable),
-        _ => Err(Unread::Form),
+    match Net::of_name(name.as_bytes()) {
+        Some(net) => Ok(net),
+        None => Err(Unread::Form),
     }
 }
 

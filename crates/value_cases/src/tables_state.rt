@@ -70,7 +70,7 @@ fn answer_counted<L: Ledger>(
     }
     let tables = &mut state.tables;
     match call.name {
-        "piece" | "zeros" | "made" | "restore" | "again" | "listing" => {
+        "piece" | "zeros" | "made" | "filled" | "restore" | "again" | "listing" => {
             let bytes = &mut state.bytes;
             restores::answer(alloc, bytes, tables, call.name, &mut fields, &mut steps)
         }
