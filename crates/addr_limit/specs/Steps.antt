@@ -71,7 +71,7 @@ message_line c (p ∷ ps) = addrv2_line c.addr (map (λ q. q.0) (p ∷ ps)) (map
 abbrev pub limit_entries : Conn → List (Option Entry × ℕ) → Outcome
 limit_entries c pairs =
     with_output (message_line c (filter_map for_output (intake c pairs))) (Some (after_entries c
-        pairs))
+    pairs))
 
 abbrev pub limit_message : ℕ → Conn → Result (List (Option Entry)) MsgFault → List ℕ → Outcome
 limit_message now c (Err fault) words =
