@@ -1,9 +1,12 @@
 /// The forms of the command line, one a command.
-static COMMANDS: [&str; 15] = [
+static COMMANDS: [&str; 19] = [
     "replay --key HEX64 --net CHAIN",
     "opener --key HEX64 --net CHAIN",
     "limit",
     "show --net CHAIN",
+    "picture --net CHAIN",
+    "raw --net CHAIN",
+    "info --net CHAIN",
     "compile",
     "decompile",
     "check",
@@ -11,6 +14,7 @@ static COMMANDS: [&str; 15] = [
     "ban SUBNET NOW UNTIL",
     "unban SUBNET",
     "banned PEER NOW",
+    "bans NOW",
     "gen START LINES",
     "trial START LINES",
     "help COMMAND",
