@@ -32,10 +32,12 @@ def main() -> int:
             is_unread = True
             raise
 
-    code, text = command.run(sys.argv[1:], lambda: os.read(0, MAXIMUM_PIECE), write, Folder())
-    if text and not is_unread:
+    said: list[str] = []
+    code, text = command.run(sys.argv[1:], lambda: os.read(0, MAXIMUM_PIECE), write, Folder(), said)
+    lines = [line for line in (text, *said) if line]
+    if lines and not is_unread:
         try:
-            write_all(2, f"addrman: {text}\n".encode())
+            write_all(2, "".join(f"addrman: {line}\n" for line in lines).encode())
             if not sys.argv[1:]:
                 write_all(2, help_texts.list_of_commands().encode())
         except OSError:

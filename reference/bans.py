@@ -89,8 +89,8 @@ def read_element(element) -> tuple[Subnet, Ban] | None:
     return subnet, Ban(*(min(max(time, 0), LARGEST_TIME) for time in times))
 
 
-def read_list(data: bytes) -> dict[Subnet, Ban]:
-    """The bans of a file, in its order; raises Fault."""
+def read_list(data: bytes) -> tuple[dict[Subnet, Ban], int]:
+    """The bans of a file, in its order, and how many elements are passed over; raises Fault."""
     value = read_json(data)
     elements = value.get("banned_nets") if isinstance(value, dict) else None
     if type(elements) is not list:
@@ -98,7 +98,7 @@ def read_list(data: bytes) -> dict[Subnet, Ban]:
     pairs = [pair for element in elements if (pair := read_element(element)) is not None]
     if len(pairs) > MAXIMUM_BANS:
         raise Fault("too-many")
-    return dict(pairs)
+    return dict(pairs), len(elements) - len(pairs)
 
 
 def written_list(bans: dict[Subnet, Ban]) -> bytes:

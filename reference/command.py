@@ -93,6 +93,7 @@ class Run:
 
     def __init__(self, read, write, folder: Folder):
         self.read, self.write, self.folder = read, write, folder
+        self.passed_over = 0
 
     def print(self, line: str | bytes):
         """Writes a line."""
@@ -248,7 +249,9 @@ class Run:
 
     def ban_list(self) -> dict:
         """The folder's list of bans."""
-        return self.load("banlist.json", bans.MAXIMUM_BYTES, 16, bans.read_list) or {}
+        read = self.load("banlist.json", bans.MAXIMUM_BYTES, 16, bans.read_list)
+        listed, self.passed_over = read or ({}, 0)
+        return listed
 
     def ban(self, subnet_text: bytes, now_text: bytes, until_text: bytes):
         subnet, now, until = usage(bans.read_subnet(subnet_text)), time(now_text), time(until_text)
@@ -278,14 +281,17 @@ class Run:
         self.print(node_json.banned(self.ban_list(), now))
 
 
-def run(arguments: list[str], read, write, folder: Folder) -> tuple[int, str]:
-    """Carries out a command; its code and its text."""
+def run(arguments: list[str], read, write, folder: Folder, said: list[str] | None = None) -> tuple[int, str]:
+    """Carries out a command; its code and its text. What is said of a run that is done goes to `said`, if it is given."""
     try:
-        Run(read, write, folder).command([argument.encode() for argument in arguments])
+        carried_out = Run(read, write, folder)
+        carried_out.command([argument.encode() for argument in arguments])
     except UnicodeEncodeError:
         return 1, "the arguments cannot be read"
     except Stop as stop:
         return stop.code, stop.text
     except MemoryError:
         return 12, "out of memory"
+    if said is not None and arguments[0] in ("ban", "unban") and carried_out.passed_over:
+        said.append(f"elements of banlist.json passed over: {carried_out.passed_over}")
     return 0, ""

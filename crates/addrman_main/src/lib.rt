@@ -11,7 +11,7 @@
 mod ended;
 mod second;
 
-use crate::second::{Again, Facts, second_lines};
+use crate::second::{Again, Facts, passed_over_by, second_lines};
 use addrman_run::{Status, run, status_line};
 use arguments::help_text;
 pub use ended::Ended;
@@ -113,6 +113,7 @@ where
     let mut lines = LastLines::make(alloc);
     let mut error = None;
     let mut folder = DirFolder::make(files);
+    let passed_over = passed_over_by(alloc, words, &mut folder);
     let status = {
         let mut log = StdSource::make(KeptReader::make(input, &mut lines));
         let mut out = StdSink::make(NotedWriter::make(output, &mut error));
@@ -125,6 +126,7 @@ where
         output: error,
         notes,
         again: &again,
+        passed_over,
     };
     let said = lines_of(alloc, &status, &facts);
     Ended::with(&status, said)

@@ -1,5 +1,6 @@
 use addrman_run::{PeersFault, Status, TablesFault};
 use arguments::{Request, read_request};
+use ban_list::{MAX_FILE, passed_over};
 use hints::{
     LastLines, Notes, asmap_hint, bans_hint, compile_hint, duplicate_hint, line_hint, missing_hint,
     peers_hint, stream_hint, table_hint, usage_hint,
@@ -30,6 +31,33 @@ pub(crate) struct Facts<'a> {
     pub notes: &'a Notes,
     /// What was read again of the files that the status is about.
     pub again: &'a Again,
+    /// How many elements of banlist.json the run passed over, if it may have saved the list.
+    pub passed_over: usize,
+}
+
+/// Returns how many elements of banlist.json a run passes over that changes the list, and 0 for
+/// another run.
+pub(crate) fn passed_over_by<F: Folder>(
+    alloc: Global,
+    words: &[String],
+    folder: &mut F,
+) -> usize {
+    if !changes_bans(alloc, words) {
+        return 0;
+    }
+    match load(alloc, folder, Name::Bans, MAX_FILE as u64) {
+        Ok(Some(bytes)) => passed_over(alloc, bytes.items()).unwrap_or(0),
+        _ => 0,
+    }
+}
+
+/// Returns whether the arguments ask to change the list of bans.
+fn changes_bans(alloc: Global, words: &[String]) -> bool {
+    match read_request(alloc, words) {
+        Some(Request::Ban { .. }) => true,
+        Some(Request::Unban { .. }) => true,
+        _ => false,
+    }
 }
 
 /// What is read of the folder after the run.
@@ -104,6 +132,11 @@ fn put_lines(
             "the key of the arguments is not used: peers.dat has its own",
             text,
         )?;
+    }
+    if facts.passed_over > 0 && *status == Status::Done {
+        let mut hint = String::from_str(alloc, "elements of banlist.json passed over: ")?;
+        hint.push_str(facts.passed_over.to_string(alloc)?.as_str())?;
+        put_line(hint.as_str(), text)?;
     }
     if facts.notes.is_unsaved() {
         put_line(
