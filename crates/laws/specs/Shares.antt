@@ -1,4 +1,4 @@
--- What the groups of some addresses can do to a pick.
+-- What the groups of some addresses can do to a round of a search.
 use Rattle.std.specs.Prelude.{◌≡◌, ℕ, ◌<◌, ◌≤◌, ◌+◌, ◌*◌, ◌^◌, List, length, Bool, true, false, Contains, count_by, Option, Some}
 use Rattle.std.specs.List.{range_with_len}
 use Rattle.net_addr.specs.Address.{Address}

@@ -3,14 +3,15 @@
 //!
 //! Proved:
 //!
-//! 1. How many of a round's random words select a record: the slots from which a round comes to its
-//!    own, summed over its buckets, times the words that accept it (`picks_are_counted`). And how
-//!    many lists of words end a search of several rounds at it (`searches_are_counted`).
+//! 1. How many triples of a round's residues select a record: the slots from which a round finds
+//!    it, summed over its buckets, times the residues that accept it (`picks_are_counted`). And how
+//!    many lists of residues end a search of several rounds at it (`searches_are_counted`).
 //! 2. Each arrangement of the records comes from exactly one list of draws, and a sample is its
 //!    beginning (`shuffles_are_fair`, `samples_are_shuffles`).
-//! 3. After each line of a log, all but 64 buckets a group of the new table, and all but 8 of the
-//!    tried one, lead to no record that some groups put there; and all but one a pair of groups,
-//!    if they announce peers of some groups only (`groups_reach_few`).
+//! 3. After each line of a log, all but 64 buckets a group of the new table lead to no record that
+//!    sources of the groups put there, and all but 8 of the tried one to none with their addresses.
+//!    At most one bucket's triples a pair of groups select theirs, if they announce peers of some
+//!    groups only (`groups_reach_few`).
 //! 4. A record is lost only if it is terrible and its last slot goes to another, or if a tried
 //!    record that a success displaces takes that slot (`losses_have_causes`,
 //!    `runs_lose_with_causes`).
