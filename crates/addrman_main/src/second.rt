@@ -37,11 +37,7 @@ pub(crate) struct Facts<'a> {
 
 /// Returns how many elements of banlist.json a run passes over that changes the list, and 0 for
 /// another run.
-pub(crate) fn passed_over_by<F: Folder>(
-    alloc: Global,
-    words: &[String],
-    folder: &mut F,
-) -> usize {
+pub(crate) fn passed_over_by<F: Folder>(alloc: Global, words: &[String], folder: &mut F) -> usize {
     if !changes_bans(alloc, words) {
         return 0;
     }
