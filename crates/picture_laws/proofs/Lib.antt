@@ -1,3 +1,11 @@
 pub mod Plain
-pub mod Markups
 pub mod Names
+pub mod Markups
+pub mod Groups
+pub mod Listed
+pub mod Found
+pub mod Sums
+pub mod Buckets
+pub mod Rows
+pub mod DotsOf
+pub mod Trees

@@ -7,10 +7,9 @@ use Rattle.std.proofs.lemmas.List.Elements.{All-append, All-from_recursion, All-
 use Rattle.picture_text.specs.Elements.{colour, count_text, ground, label, name_text, new_title, row_text, swatch, tried_title, wide_text}
 use Rattle.picture_text.specs.Head.{Label, head_text, labels, labels_text, meaning, opening_text, styles, svg_attributes, tile, tile_attributes}
 use Rattle.picture_text.specs.Maps.{ground_text, map_opening, map_text, name_at, path_element, paths_text}
-use Rattle.picture_text.specs.Markup.{IsAttribute, IsBreak, IsMarkup, IsPlain, element, is_plain, single}
+use Rattle.picture_text.specs.Markup.{IsAttribute, IsBreak, IsMarkup, IsPlain, element, is_plain}
 use Rattle.picture_text.specs.Markup.IsMarkup.{beside, characters, empty, line_feed, nested, nothing}
-use Rattle.picture_text.specs.Picture.{body_text, free_row, group_row, group_rows, in_new, in_tried, listed_keys, maps_text, names_of, occupied, others_name, others_of, others_row, others_text, picture_text, rows_text, titles_text, top_of, wide_of}
-use Rattle.picture_text.specs.Marks.{marks_of}
+use Rattle.picture_text.specs.Picture.{body_text, free_row, group_row, group_rows, listed_keys, maps_text, names_of, others_name, others_of, others_row, others_text, picture_text, rows_text, titles_text, top_of}
 use Rattle.dot_runs.specs.Tables.{path_text}
 use Rattle.picture_laws.proofs.Plain.{plain-append, plain-colour, plain-decimal, plain-numbered, plain-path}
 

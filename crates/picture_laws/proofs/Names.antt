@@ -1,10 +1,9 @@
 -- The names of groups need no escapes.
-use Rattle.std.proofs.Common.{◌≡◌, ℕ, zero, suc, ◌+◌, ◌-◌, ◌*◌, ◌/◌, ◌%◌, ◌<◌, ◌≤◌, ◌^◌, ◌==◌, Bool, true, false, cond, List, [], ◌∷◌, ◌++◌, length, take, get_or, refl, sym, ap, ◌∙◌, inl, inr, arith}
+use Rattle.std.proofs.Common.{◌≡◌, ℕ, zero, suc, ◌+◌, ◌-◌, ◌*◌, ◌/◌, ◌%◌, ◌<◌, ◌≤◌, ◌^◌, ◌==◌, Bool, true, false, cond, List, [], ◌∷◌, ◌++◌, take, refl, ap, ◌∙◌, inl, inr, arith}
 use Rattle.std.specs.Prelude.{All, codes, decimal, slice_index, unwrap_or}
 use Rattle.std.specs.Int.{w128, from_be_bytes, to_be_bytes}
 use Rattle.std.specs.Net.Addr.{segments_of}
 use Rattle.std.specs.Net.Text.{hex_groups_text}
-use Rattle.std.specs.List.{list_all}
 use Rattle.std.proofs.lemmas.List.Sums.{list_all-from_AllPass}
 use Rattle.std.proofs.lemmas.List.Elements.{All-head, All-tail, All-weaker}
 use Rattle.std.proofs.NetLemmas.Alphabet.{IsHexOrColon, All-hex_groups_text}
@@ -19,7 +18,7 @@ use Rattle.net_addr.specs.declared.net.Net.TheVariants.{Unroutable, Ipv4, Ipv6, 
 use Rattle.net_group.specs.Group.{he_net}
 use Rattle.placing.specs.Places.{Places, asn}
 use Rattle.picture_text.specs.Markup.{IsPlain, is_plain}
-use Rattle.picture_text.specs.Names.{ipv4_name, ipv6_name, letter, letters_text, name_by, name_of, name_with, prefix_text}
+use Rattle.picture_text.specs.Names.{ipv4_name, ipv6_name, letter, letters_text, name_by, name_of, prefix_text}
 use Rattle.picture_laws.proofs.Plain.{plain-append, plain-cons, plain-decimal, plain-numbered}
 
 same : (c low : ℕ) → low ≤ c → is_plain c ≡ is_plain (low + (c - low))

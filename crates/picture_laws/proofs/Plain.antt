@@ -1,12 +1,12 @@
 -- Texts that need no escapes.
-use Rattle.std.proofs.Common.{◌≡◌, ℕ, zero, suc, ◌+◌, ◌*◌, ◌/◌, ◌%◌, ◌<◌, ◌==◌, ◌&&◌, Bool, true, false, cond, List, [], ◌∷◌, ◌++◌, refl, sym, ap, subst, ◌∙◌, arith, length}
+use Rattle.std.proofs.Common.{◌≡◌, ℕ, zero, suc, ◌/◌, ◌%◌, ◌==◌, Bool, true, false, cond, List, [], ◌∷◌, ◌++◌, refl, ◌∙◌, arith, length}
 use Rattle.std.specs.Prelude.{codes, decimal}
 use Rattle.std.specs.Fmt.{digit_glyph, digits, digits_onto}
 use Rattle.std.specs.List.{flat_map, list_all}
 use Rattle.std.proofs.lemmas.Bool.{and_from}
 use Rattle.std.proofs.lemmas.List.Folds.{list_all-append}
 use Rattle.net_addr.specs.NetBits.{each_below}
-use Rattle.dot_runs.specs.Runs.{Run, rect_text, row_text, run_text, runs_from}
+use Rattle.dot_runs.specs.Runs.{Run, rect_text, run_text, runs_from}
 use Rattle.dot_runs.specs.Tables.{path_text, row_marks, row_x, row_y, table_row}
 use Rattle.std.specs.List.{range_with_len}
 use Rattle.picture_text.specs.Elements.{colour}

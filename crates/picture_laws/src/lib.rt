@@ -3,4 +3,7 @@
 
 mod law;
 
-pub use law::{names_are_plain, picture_is_a_tree};
+pub use law::{
+    keys_tell_groups, names_are_plain, picture_is_a_tree, pictures_are_trees, slots_are_counted,
+    slots_are_drawn,
+};

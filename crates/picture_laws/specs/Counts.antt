@@ -1,0 +1,40 @@
+-- The numbers of the picture are counts of slots and buckets of the state.
+use Rattle.std.specs.Prelude.{◌≡◌, ℕ, ◌+◌, ◌≤◌, List, [], ◌++◌, length, codes, is_some, bytes_eq, slice_index_or}
+use Rattle.std.specs.List.{count_by, flat_map, range_with_len, sum_by}
+use Rattle.table_machine.specs.State.{State}
+use Rattle.picture_text.specs.Elements.{colour, count_text, ground, new_title, row_text, tried_title}
+use Rattle.picture_text.specs.Maps.{name_at}
+use Rattle.picture_text.specs.Picture.{free_row, group_rows, listed_keys, others_name, others_text, titles_text, top_of}
+use Rattle.picture_laws.specs.Slots.{all_marks, all_slots, is_free, is_of, is_unlisted, keys_of, listed_groups, new_buckets, new_slots, tried_slots}
+
+-- the row of a group: its slots in both tables, those in the tried one, and its buckets of the new
+abbrev pub counted_row : State → List (List ℕ) → List ℕ → ℕ → List ℕ
+counted_row st names g index =
+    row_text (top_of index) (colour index) (name_at names index)
+    (all_slots (is_of st.places g) st) (tried_slots (is_of st.places g) st)
+    ++ count_text 1056 (top_of index + 10) (new_buckets (is_of st.places g) st)
+
+-- the row of the listed group at an index
+abbrev pub row_at : State → List (List ℕ) → ℕ → List ℕ
+row_at st names index = counted_row st names (slice_index_or (listed_groups st) index []) index
+
+-- Each number of the titles and of the list is a count of slots or buckets. The rows of the listed
+-- groups and of the others have each occupied slot once: each group is listed once, and the sums
+-- are all slots with a record.
+pub record CountsSlots (st : State) : Type 0 where
+  pub titles : titles_text (keys_of st)
+      ≡ new_title (new_slots is_some st) ++ tried_title (tried_slots is_some st)
+  pub groups : (names : List (List ℕ)) → group_rows (keys_of st) (listed_keys (keys_of st)) names
+      ≡ flat_map (row_at st names) (range_with_len 0 (length (listed_groups st)))
+  pub others : (count : ℕ) → others_text (all_marks st) count
+      ≡ row_text (top_of 6) (colour 6) (others_name count)
+      (all_slots (is_unlisted st) st) (tried_slots (is_unlisted st) st)
+  pub free : (index : ℕ) → free_row (keys_of st) index
+      ≡ row_text (top_of index) ground (codes "free")
+      (all_slots is_free st) (tried_slots is_free st)
+  pub few : length (listed_groups st) ≤ 6
+  pub once : (g : List ℕ) → count_by (λ h. bytes_eq h g) (listed_groups st) ≤ 1
+  pub new_sum : sum_by (λ g. new_slots (is_of st.places g) st) (listed_groups st)
+      + new_slots (is_unlisted st) st ≡ new_slots is_some st
+  pub tried_sum : sum_by (λ g. tried_slots (is_of st.places g) st) (listed_groups st)
+      + tried_slots (is_unlisted st) st ≡ tried_slots is_some st
