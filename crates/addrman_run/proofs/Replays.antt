@@ -23,6 +23,10 @@ use Rattle.addrman_run.specs.Opening.{Opened, Opens, file_in, places_of}
 use Rattle.addrman_run.specs.Opening.Opens.{from_file, from_key}
 use Rattle.causes.specs.Kept.{IsOpening, KeepsCauses}
 use Rattle.causes.proofs.Laws.{keeps_causes}
+use Rattle.laws.specs.LostLines.{KeepsLosses}
+use Rattle.laws.specs.Shares.{KeepsShares}
+use Rattle.laws.proofs.RunsOf.{keeps_losses}
+use Rattle.laws.proofs.SharesOf.{keeps_shares}
 use Rattle.placing.specs.Places.{Places}
 use Rattle.table_machine.specs.Sound.{IsSound}
 use Rattle.manager.specs.Machine.{Machine}
@@ -95,6 +99,13 @@ module _ (key : Option (List ℕ)) (chain : Chain) (past : Option Past) (map : O
   keeps lines =
       subst (λ p. KeepsCauses (file_in opens) p (at_start chain st) lines) (sym same_places) (keeps_causes (file_in opens) b.places (at_start chain st) b.opening lines)
 
+  shares_of : (lines : List (List ℕ)) → KeepsShares (file_in opens) st.places (at_start chain st) lines
+  shares_of lines =
+      subst (λ p. KeepsShares (file_in opens) p (at_start chain st) lines) (sym same_places) (keeps_shares (file_in opens) b.places (at_start chain st) lines b.opening)
+
+  losses_of : (lines : List (List ℕ)) → KeepsLosses (at_start chain st) lines
+  losses_of lines = keeps_losses (file_in opens) b.places (at_start chain st) b.opening lines
+
 module _ {F : Type 0} (past : F → Option Past) (faults : F → ℕ) where
   later_rose : (n f g h : ℕ) → f ≤ g → RoseBy n g h → RoseBy n f h
   later_rose n f g h le (inl r) = inl (omega (arith, le, r))
@@ -128,6 +139,8 @@ module _ {F : Type 0} (past : F → Option Past) (faults : F → ℕ) where
             (later_rose (failed h.ended) old.folder_faults (faults w) (faults r.ran.now.1) earlier k.failures);
         pieces = subst (IsOpen r.ran.now.0.job) (sym now_past) k.is_open;
         causes = keeps key chain old.past map tables opens o (lines_of r.ran.log);
+        shares = shares_of key chain old.past map tables opens o (lines_of r.ran.log);
+        losses = losses_of key chain old.past map tables opens o (lines_of r.ran.log);
         reopens = λ before h after.
             let k = keeps key chain old.past map tables opens o (lines_of r.ran.log) in
             reopens chain map h.now.machine.tables (k.sound before h after) (ap (λ p. p.map) (k.same_places before h after ∙ same_places key chain old.past map tables opens o) ∙ o.with_map);
