@@ -19,7 +19,7 @@ use Rattle.laws.proofs.Draws.{sum_const}
 use Rattle.laws.proofs.SearchOf.{sum_constant}
 use Rattle.laws.proofs.Within.{count_within}
 
-sum_at_most : {X : Type 0} (f g : X → ℕ) (xs : List X) → All (λ x. f x ≤ g x) xs → sum_by f xs ≤ sum_by g xs
+pub sum_at_most : {X : Type 0} (f g : X → ℕ) (xs : List X) → All (λ x. f x ≤ g x) xs → sum_by f xs ≤ sum_by g xs
 sum_at_most f g [] h = omega arith
 sum_at_most f g (x ∷ xs) h =
     let one = sum_by-cons f x xs in

@@ -1,19 +1,23 @@
 -- Worked examples of each law over a table of three records, computed over the definitions. Buckets
 -- and slots are given, and not found by hashes.
-use Rattle.std.proofs.Common.{◌≡◌, ℕ, ◌^◌, Bool, true, ◌&&◌, not, ◌==◌, [], ◌∷◌, map, find, filter_map, count_by, Option, Some, None, refl, if◌then◌else◌}
+use Rattle.std.proofs.Common.{◌≡◌, ℕ, ◌^◌, Bool, true, false, ◌&&◌, not, ◌==◌, List, [], ◌∷◌, ◌++◌, map, find, filter_map, count_by, Option, Some, None, refl, if◌then◌else◌}
 use Rattle.std.specs.List.{range_with_len}
 use Rattle.net_addr.specs.NetSet.{all}
 use Rattle.net_addr.specs.Ranges.{in_range}
+use Rattle.peer_rec.specs.Rec.{buckets_of, is_terrible}
+use Rattle.peer_rec.specs.declared.picked.Picked.TheVariants.{One}
 use Rattle.peer_rec.specs.declared.place.Place.TheVariants.{New, Tried}
 use Rattle.peer_rec.specs.declared.rec.Rec.{Rec}
-use Rattle.table_machine.specs.Entries.{enter_occupied, with_last}
-use Rattle.table_machine.specs.Picks.{is_wanted}
+use Rattle.table_machine.specs.Entries.{enter_occupied, with_last, with_record}
+use Rattle.table_machine.specs.Picks.{candidates, first_accepted, first_factor, is_accepted, is_wanted, next_factor}
 use Rattle.table_machine.specs.Restart.{restart}
 use Rattle.table_machine.specs.State.{State}
-use Rattle.table_machine.proofs.ExampleStates.{failed, now, rec, state}
+use Rattle.table_machine.specs.Tried.{clear_new}
+use Rattle.table_machine.proofs.ExampleStates.{failed, now, peer, rec, state}
 use Rattle.laws.specs.Chances.{accepting_words}
 use Rattle.laws.specs.LostLines.{lost_count, made_count}
 use Rattle.laws.specs.Rounds.{around, gap, holds}
+use Rattle.laws.specs.Searches.{candidate_in, round}
 use Rattle.laws.specs.Shuffle.{exchanged}
 
 -- Three records of bucket 5: one that never failed, one that failed twice an hour ago, and one
@@ -104,6 +108,58 @@ lost_one = refl
 
 made_one : made_count three after ≡ 1
 made_one = refl
+
+-- A search of two rounds that ends at the second record. The first round's bucket is empty, so it
+-- uses two words; the second round's candidate is refused, and then accepted by a word that would
+-- not accept it at the first factor.
+abbrev empty_round : List ℕ
+empty_round = 7 ∷ 9 ∷ []
+
+no_candidate : candidate_in three true all (round 7 9 0) ≡ None
+unfolding in_range
+no_candidate = refl
+
+two_words : candidates three true all (empty_round ++ 5 ∷ []) ≡ candidates three true all (5 ∷ [])
+unfolding in_range
+two_words = refl
+
+abbrev met : List (Rec × ℕ)
+met = (second, 467721938) ∷ (second, 561266325) ∷ []
+
+ends_at_second : first_accepted now first_factor met ≡ One (peer 2) 1699996400
+ends_at_second = refl
+
+refused_at_first : map (λ m. is_accepted m.0 now first_factor m.1) met ≡ false ∷ false ∷ []
+refused_at_first = refl
+
+accepting_at_second : accepting_words second now (next_factor first_factor) ≡ 561266326
+accepting_at_second = refl
+
+-- A success of the first record displaces a tried record, which goes back to the slot of bucket 5
+-- that the third one was in: that one is lost, though nothing says that it was terrible.
+abbrev before : State
+before = state (failed 0 1 0 (New (3 ∷ [])) ∷ failed 1 2 0 Tried ∷ failed 2 3 0 (New (5 ∷ [])) ∷ []) (0 ∷ 1 ∷ 2 ∷ []) [] 3
+
+abbrev displaced : State
+displaced =
+    let left = with_record before (failed 0 1 0 (New [])) in
+    with_record (with_record (clear_new left 5 (Some (failed 2 3 0 (New (5 ∷ []))))) (failed 1 2 0 (New (5 ∷ []))))
+    (failed 0 1 0 Tried)
+
+numbers_displaced : map (λ (r : Rec). r.number) displaced.records ≡ 0 ∷ 1 ∷ []
+numbers_displaced = refl
+
+buckets_displaced : map buckets_of displaced.records ≡ [] ∷ (5 ∷ []) ∷ []
+buckets_displaced = refl
+
+not_terrible : is_terrible (failed 2 3 0 (New (5 ∷ []))) now ≡ false
+not_terrible = refl
+
+lost_by_success : lost_count before displaced ≡ 1
+lost_by_success = refl
+
+made_by_success : made_count before displaced ≡ 0
+made_by_success = refl
 
 -- after a restart the tried record comes last, and the tries are as if long ago
 abbrev mixed : State

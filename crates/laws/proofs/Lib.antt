@@ -13,8 +13,11 @@ pub mod Balance
 pub mod PeersOf
 pub mod RunsOf
 pub mod SomeOf
+pub mod Residues
 pub mod SearchOf
+pub mod RoundsOf
 pub mod BoundOf
+pub mod OddsOf
 pub mod Restarted
 pub mod SharesOf
 mod Examples

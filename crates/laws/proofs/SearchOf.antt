@@ -43,10 +43,10 @@ sum_constant k (x ∷ xs) = sum_by-cons (λ y. k) x xs ∙ ap (λ m. k + m) (sum
     more n = omega arith
 
 -- the sum over some buckets, starts and words
-abbrev over : List ℕ → List ℕ → List ℕ → (Round → ℕ) → ℕ
+abbrev pub over : List ℕ → List ℕ → List ℕ → (Round → ℕ) → ℕ
 over buckets starts words f = sum_by (λ b. sum_by (λ s. sum_by (λ w. f (round b s w)) words) starts) buckets
 
-over-constant : (buckets starts words : List ℕ) (k : ℕ) → over buckets starts words (λ x. k) ≡ length buckets * (length starts * (length words * k))
+pub over-constant : (buckets starts words : List ℕ) (k : ℕ) → over buckets starts words (λ x. k) ≡ length buckets * (length starts * (length words * k))
 over-constant buckets starts words k =
     (λ i. sum_by (λ b. sum_by (λ s. sum_constant k words i) starts) buckets)
     ∙ (λ i. sum_by (λ b. sum_constant (length words * k) starts i) buckets)

@@ -26,7 +26,7 @@ use Rattle.laws.proofs.SomeOf.{candidate-there}
 use Rattle.laws.proofs.Within.{count_outside}
 use Rattle.laws.specs.Shares.{AreBy, AreOf, IsOf, IsShared, KeepsShares, LeadsTo}
 
-Contains-flat_map : {X : Type 0} (f : X → List ℕ) (xs : List X) (x : X) (b : ℕ) → Contains xs x → Contains (f x) b → Contains (flat_map f xs) b
+pub Contains-flat_map : {X : Type 0} (f : X → List ℕ) (xs : List X) (x : X) (b : ℕ) → Contains xs x → Contains (f x) b → Contains (flat_map f xs) b
 Contains-flat_map f [] x b c h = absurd (none_in_nil x c)
 Contains-flat_map {X} f (y ∷ xs) x b c h =
     let later = Contains-flat_map f xs x b in

@@ -1,5 +1,6 @@
 pub mod Rounds
 pub mod Chances
+pub mod Odds
 pub mod Shuffle
 pub mod Samples
 pub mod Losses

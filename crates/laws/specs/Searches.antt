@@ -1,13 +1,13 @@
 -- How many lists of random words end a search of one table at a record, over several rounds.
 use Rattle.std.specs.Prelude.{ℕ, zero, suc, ◌^◌, List, [], ◌∷◌, Bool, false, not, cond, sum_by, is_some, Option, Some, None}
-use Rattle.std.specs.List.{range_with_len}
+use Rattle.std.specs.List.{list_any, range_with_len}
 use Rattle.net_addr.specs.Same.{same_peer}
 use Rattle.net_addr.specs.declared.peer.Peer.{Peer}
 use Rattle.peer_rec.specs.declared.picked.Picked.{Picked}
 use Rattle.peer_rec.specs.declared.picked.Picked.TheVariants.{One}
 use Rattle.peer_rec.specs.declared.rec.Rec.{Rec}
 use Rattle.slot_grid.specs.declared.sizes.TheConstants.{SLOTS}
-use Rattle.table_machine.specs.Picks.{bucket_count, candidates, first_accepted, first_candidate, is_accepted}
+use Rattle.table_machine.specs.Picks.{bucket_count, candidates, first_accepted, first_candidate, is_accepted, is_wanted, occupant_at}
 use Rattle.table_machine.specs.State.{State}
 use Rattle.laws.specs.Rounds.{holds}
 
@@ -74,6 +74,12 @@ ending_lists st in_new nets now factor peer n =
 abbrev pub idle_rounds : State → Bool → List ℕ → ℕ
 idle_rounds st in_new nets =
     sum_rounds in_new (λ r. one_if (not (is_some (candidate_in st in_new nets r))))
+
+-- a bucket has a candidate, from each of its slots on
+abbrev pub has_candidate : State → Bool → List ℕ → ℕ → Bool
+has_candidate st in_new nets bucket =
+    list_any (λ slot. holds (is_wanted nets) (occupant_at st in_new bucket slot))
+    (range_with_len 0 SLOTS)
 
 -- how many refuse their candidate
 abbrev pub refusing_rounds : State → Bool → List ℕ → ℕ → ℕ → ℕ

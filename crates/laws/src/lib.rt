@@ -22,14 +22,18 @@
 
 mod groups;
 mod losses;
+mod odds;
 mod picks;
 mod restarts;
 mod samples;
 mod searches;
+mod words;
 
 pub use groups::groups_reach_few;
 pub use losses::{losses_have_causes, runs_lose_with_causes};
+pub use odds::odds_are_bounded;
 pub use picks::{picks_are_counted, rounds_are_counted};
 pub use restarts::restarts_keep_records;
 pub use samples::{samples_are_shuffles, shuffles_are_fair};
-pub use searches::searches_are_counted;
+pub use searches::{rounds_are_of_three_kinds, searches_are_counted};
+pub use words::residues_decide;

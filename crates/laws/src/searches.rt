@@ -1,6 +1,7 @@
-ghost use Rattle.std.specs.Prelude.{◌≡◌, ℕ, suc, ◌+◌, ◌*◌, ◌^◌, List, Bool, Contains};
-ghost use Rattle.laws.specs.Chances.{picking_words};
-ghost use Rattle.laws.specs.Searches.{all_lists, ending_lists, idle_rounds, refusing_rounds};
+ghost use Rattle.std.specs.Prelude.{◌≡◌, ℕ, suc, ◌+◌, ◌*◌, ◌^◌, List, Bool, true, not, Contains, count_by};
+ghost use Rattle.std.specs.List.{range_with_len};
+ghost use Rattle.laws.specs.Chances.{picking_words, words_for};
+ghost use Rattle.laws.specs.Searches.{all_lists, ending_lists, has_candidate, idle_rounds, refusing_rounds};
 ghost use Rattle.net_addr.specs.declared.peer.Peer.{Peer};
 ghost use Rattle.peer_rec.specs.declared.rec.Rec.{Rec};
 ghost use Rattle.slot_grid.specs.declared.sizes.TheConstants.{SLOTS};
@@ -24,4 +25,17 @@ pub fn searches_are_counted()
     ensures all { (in_new : Bool) (n : ℕ) →
         all_lists in_new (suc n)
         ≡ bucket_count in_new * (SLOTS * (2 ^ 30 * all_lists in_new n)) }
+{}
+
+/// Of all rounds, those of the buckets without a candidate are idle. Of the others, those that do
+/// not select their candidate refuse it.
+pub fn rounds_are_of_three_kinds()
+    ensures idle { (st : State) (in_new : Bool) (nets : List ℕ) →
+        idle_rounds st in_new nets
+        ≡ count_by (λ b. not (has_candidate st in_new nets b))
+        (range_with_len 0 (bucket_count in_new)) * (SLOTS * 2 ^ 30) }
+    ensures all { (st : State) (in_new : Bool) (nets : List ℕ) (now factor : ℕ) →
+        words_for st in_new nets now factor (λ r. true) + idle_rounds st in_new nets
+        + refusing_rounds st in_new nets now factor
+        ≡ bucket_count in_new * (SLOTS * 2 ^ 30) }
 {}

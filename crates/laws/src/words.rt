@@ -1,0 +1,22 @@
+ghost use Rattle.std.specs.List.{range_with_len};
+ghost use Rattle.std.specs.Prelude.{ℕ, Bool, List, ◌≡◌, ◌==◌, ◌<◌, ◌*◌, ◌%◌, ◌^◌, count_by, map};
+ghost use Rattle.peer_rec.specs.declared.rec.Rec.{Rec};
+ghost use Rattle.slot_grid.specs.declared.sizes.TheConstants.{SLOTS};
+ghost use Rattle.table_machine.specs.Picks.{bucket_count, candidate, is_accepted, select};
+ghost use Rattle.table_machine.specs.State.{State};
+
+/// A round depends on the residues of its three words only, and a pick on the low 30 bits of its
+/// words. Of the words below a multiple of n, equally many have each residue modulo n.
+pub fn residues_decide()
+    ensures round { (st : State) (in_new : Bool) (nets : List ℕ) (r : Rec) (now factor : ℕ)
+        (bucket start word other_bucket other_start other_word : ℕ) →
+        bucket % bucket_count in_new ≡ other_bucket % bucket_count in_new →
+        start % SLOTS ≡ other_start % SLOTS → word % 2 ^ 30 ≡ other_word % 2 ^ 30 →
+        (candidate st in_new nets bucket start ≡ candidate st in_new nets other_bucket other_start)
+        × (is_accepted r now factor word ≡ is_accepted r now factor other_word) }
+    ensures pick { (st : State) (new_only : Bool) (nets words : List ℕ) (now : ℕ) →
+        select st new_only nets (map (λ word. word % 2 ^ 30) words) now
+        ≡ select st new_only nets words now }
+    ensures even { (n residue times : ℕ) → residue < n →
+        count_by (λ word. word % n == residue) (range_with_len 0 (times * n)) ≡ times }
+{}
