@@ -19,5 +19,8 @@ pub mod RoundsOf
 pub mod BoundOf
 pub mod OddsOf
 pub mod Restarted
+pub mod AppendedOf
+pub mod PlacingOf
+pub mod OpeningOf
 pub mod SharesOf
 mod Examples

@@ -7,4 +7,5 @@ pub mod Losses
 pub mod LostLines
 pub mod Shares
 pub mod Restarts
+pub mod Openings
 pub mod Searches

@@ -23,6 +23,7 @@
 mod groups;
 mod losses;
 mod odds;
+mod openings;
 mod picks;
 mod restarts;
 mod samples;
@@ -32,6 +33,7 @@ mod words;
 pub use groups::groups_reach_few;
 pub use losses::{losses_have_causes, runs_lose_with_causes};
 pub use odds::odds_are_bounded;
+pub use openings::openings_lose_with_causes;
 pub use picks::{picks_are_counted, rounds_are_counted};
 pub use restarts::restarts_keep_records;
 pub use samples::{samples_are_shuffles, shuffles_are_fair};
