@@ -1,16 +1,14 @@
 -- The records of a file as they are appended: which are there, and which tried ones are lost.
-use Rattle.std.proofs.Common.{◌≡◌, ◌≢◌, ℕ, zero, suc, ◌+◌, ◌<◌, ◌≤◌, Bool, true, false, ◌||◌, not, is_some, List, [], ◌∷◌, length, Contains, slice_get, Option, Some, None, refl, sym, ap, subst, ◌∙◌, inl, inr, ⊎_elim, ◌⊎◌, arith, true≢false, if◌then◌else◌}
-use Rattle.std.proofs.lemmas.Bool.{both_ways}
+use Rattle.std.proofs.Common.{◌≡◌, ℕ, zero, suc, ◌+◌, ◌<◌, ◌≤◌, Bool, true, false, ◌||◌, not, is_some, List, [], ◌∷◌, length, Contains, slice_get, Option, Some, None, refl, sym, ap, subst, ◌∙◌, inl, inr, ⊎_elim, ◌⊎◌, arith, true≢false, if◌then◌else◌}
 use Rattle.std.proofs.lemmas.List.Elements.{Contains-append_left, Contains-push, Contains-push_cases}
 use Rattle.net_addr.specs.Ranges.{is_valid}
 use Rattle.placing.specs.Places.{Places, tried_bucket, tried_slot}
-use Rattle.peer_rec.specs.Rec.{is_tried}
 use Rattle.peer_rec.specs.declared.file_rec.FileRec.{FileRec}
 use Rattle.peer_rec.specs.declared.place.Place.TheVariants.{New, Tried}
 use Rattle.peer_rec.specs.declared.rec.Rec.{Rec}
 use Rattle.table_machine.specs.Entries.{with_last}
 use Rattle.table_machine.specs.Restoring.{record_of, with_all_new, with_all_tried, with_new, with_tried}
-use Rattle.table_machine.specs.State.{State, empty_state, is_tried_at, tried_occupant}
+use Rattle.table_machine.specs.State.{State, is_tried_at, tried_occupant}
 use Rattle.table_machine.proofs.Lists.{Contains-cases, find-Some, none_in_nil}
 
 -- numbers are below the next one, and each is the number of one record
@@ -151,10 +149,12 @@ module _ (st : State) (f : FileRec) (rs : List FileRec) where
       by : (b : Bool) → (not (is_valid f.peer.addr) || is_some (tried_occupant st f.peer)) ≡ b → IsTriedOrLost st new f
       by true is = why (is_valid f.peer.addr) (tried_occupant st f.peer) refl refl is (tried-step-is st f true is)
       by false is =
-          inl (st.next_number,
-          subst (λ (s : State). Contains (with_all_tried s rs).records (record_of f st.next_number Tried)) (sym (tried-step-is st f false is))
-          (tried-keeps (with_last st (record_of f st.next_number Tried)) rs (record_of f st.next_number Tried) (Contains-push st.records (record_of f st.next_number Tried))),
-          omega arith)
+          inl (
+            st.next_number,
+            subst (λ (s : State). Contains (with_all_tried s rs).records (record_of f st.next_number Tried)) (sym (tried-step-is st f false is))
+                (tried-keeps (with_last st (record_of f st.next_number Tried)) rs (record_of f st.next_number Tried) (Contains-push st.records (record_of f st.next_number Tried))),
+            omega arith,
+          )
 
 step-next : (st : State) (f : FileRec) → st.next_number ≤ (with_tried st f).next_number
 step-next st f = by (not (is_valid f.peer.addr) || is_some (tried_occupant st f.peer))

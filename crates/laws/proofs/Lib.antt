@@ -22,5 +22,6 @@ pub mod Restarted
 pub mod AppendedOf
 pub mod PlacingOf
 pub mod OpeningOf
+pub mod ReopeningOf
 pub mod SharesOf
 mod Examples

@@ -1,5 +1,5 @@
 -- How many words at most, and at least, select records of a table.
-use Rattle.std.proofs.Common.{◌≡◌, ℕ, ◌+◌, ◌-◌, ◌*◌, ◌/◌, ◌^◌, ◌<◌, ◌≤◌, min, Bool, true, false, not, ◌==◌, List, [], ◌∷◌, length, filter, flat_map, map, Contains, count_by, sum_by, Option, Some, None, refl, sym, ap, subst, ◌∙◌, arith, true≢false, if◌then◌else◌}
+use Rattle.std.proofs.Common.{◌≡◌, ℕ, ◌+◌, ◌-◌, ◌*◌, ◌/◌, ◌^◌, ◌≤◌, Bool, true, false, ◌==◌, List, [], ◌∷◌, length, filter, flat_map, map, Contains, count_by, sum_by, Option, Some, None, refl, sym, ap, subst, ◌∙◌, arith, true≢false, if◌then◌else◌}
 use Rattle.std.specs.List.{range_with_len}
 use Rattle.std.proofs.Math.Nat.{min-le_right, mul-le-mul_left, mul-le-mul_right}
 use Rattle.std.proofs.lemmas.Bool.{both_ways}
@@ -16,7 +16,7 @@ use Rattle.peer_rec.specs.declared.rec.Rec.{Rec}
 use Rattle.table_machine.specs.Picks.{first_candidate, is_wanted, occupant_at, slots_from}
 use Rattle.table_machine.specs.Sound.{IsSound}
 use Rattle.table_machine.specs.State.{State, is_new_at, is_tried_at}
-use Rattle.table_machine.proofs.Lists.{All-from_Contains, Contains-filter, Contains-from_filter, Contains-map, find-Some, none_in_nil}
+use Rattle.table_machine.proofs.Lists.{All-from_Contains, Contains-filter, Contains-from_filter, Contains-map, find-Some}
 use Rattle.table_machine.proofs.Records.{new_at_parts, same_record, tried_at-is_tried, tried_at_parts}
 use Rattle.laws.specs.Chances.{accepting_words, leading_slots, picking_words, words_for}
 use Rattle.laws.specs.Odds.{leading_starts, most_slots}

@@ -1,5 +1,5 @@
 -- What an opening keeps of the records of a file, and why it loses the others.
-use Rattle.std.proofs.Common.{◌≡◌, ℕ, ◌+◌, ◌<◌, ◌≤◌, Bool, true, false, not, is_some, List, [], ◌∷◌, ◌++◌, length, All, AllPairs, Contains, count_by, sum_by, find, slice_get, Option, Some, None, refl, sym, ap, subst, ◌∙◌, inl, inr, ⊎_elim, ◌⊎◌, arith, length-append}
+use Rattle.std.proofs.Common.{◌≡◌, ℕ, ◌+◌, ◌<◌, ◌≤◌, Bool, true, false, is_some, List, [], ◌++◌, length, All, AllPairs, Contains, count_by, sum_by, find, slice_get, Some, None, refl, sym, ap, subst, ◌∙◌, inl, inr, ⊎_elim, ◌⊎◌, arith, length-append}
 use Rattle.std.specs.List.{range_with_len}
 use Rattle.std.proofs.lemmas.Bool.{both_ways}
 use Rattle.std.proofs.lemmas.Option.{get_or_from_slice_get, slice_get_within}
@@ -11,14 +11,13 @@ use Rattle.placing.specs.Places.{Places, new_bucket, new_slot, tried_bucket, tri
 use Rattle.peer_rec.specs.Rec.{buckets_of, is_tried}
 use Rattle.peer_rec.specs.Snapshot.{Snapshot}
 use Rattle.peer_rec.specs.declared.file_rec.FileRec.{FileRec}
-use Rattle.peer_rec.specs.declared.place.Place.{Place}
 use Rattle.peer_rec.specs.declared.place.Place.TheVariants.{New, Tried}
 use Rattle.peer_rec.specs.declared.rec.Rec.{Rec}
-use Rattle.table_machine.specs.Restoring.{appended, drop_all, duplicate, place_all, record_of, restored, uses_buckets, with_all_new}
+use Rattle.table_machine.specs.Restoring.{appended, duplicate, place_all, record_of, restored, uses_buckets, with_all_new}
 use Rattle.table_machine.specs.Sound.{IsSound}
 use Rattle.table_machine.specs.State.{State, empty_state, find_peer, is_new_at, is_tried_at}
 use Rattle.table_machine.proofs.Buckets.{placed}
-use Rattle.table_machine.proofs.Lists.{All-from_Contains, Contains-cases, find-IsSome, none_in_nil}
+use Rattle.table_machine.proofs.Lists.{All-from_Contains, find-IsSome, none_in_nil}
 use Rattle.table_machine.proofs.Records.{new_at_parts, tried_at-is_tried}
 use Rattle.table_machine.proofs.RestartLaw.{in_range-below}
 use Rattle.table_machine.proofs.RestoredSound.{NotBefore, duplicate-apart}
@@ -26,7 +25,7 @@ use Rattle.laws.specs.Openings.{HasOther, IsFromFile, IsPlacedNew, IsPlacedTried
 use Rattle.laws.proofs.AppendedOf.{AreNumbered, IsNewOf, IsTriedOf, IsTriedOrLost, new-at, new-from, new-next, new-numbered, new-places, tried-at, tried-from, tried-keeps, tried-numbered, tried-places}
 use Rattle.laws.proofs.Balance.{count_not, count_single, one_if, sum_swap}
 use Rattle.laws.proofs.Counts.{sum_agree}
-use Rattle.laws.proofs.PlacingOf.{AreOnce, IsFull, IsGrown, IsKept, IsMore, IsPlaced, all-grown, all-kept, contains_some, settled}
+use Rattle.laws.proofs.PlacingOf.{AreOnce, IsFull, IsGrown, IsKept, IsMore, all-grown, all-kept, contains_some, settled}
 use Rattle.laws.proofs.SearchOf.{sum_constant}
 
 module _ (snap : Snapshot) (places : Places) (indexes : All (λ pair. pair.1 < length snap.new_recs) snap.listed) where
@@ -105,8 +104,8 @@ module _ (snap : Snapshot) (places : Places) (indexes : All (λ pair. pair.1 < l
           ⊎_elim (λ h. inl (h.0, kept.stays h.0 h.1 (inl h.3), h.2, h.3)) (λ full. inr (inr (λ bucket c.
           let one = full bucket c in (
             subst (λ (p : Places). HasOther left index f.peer (new_bucket p f.peer f.source)) (filled-places ∙ sym left-places)
-              (subst (λ (p : Places). HasOther left index f.peer (new_bucket p f.peer f.source)) (whole-places ∙ sym filled-places)
-              (subst (λ (p : Places). HasOther left index f.peer (new_bucket p f.peer f.source)) (sym whole-places) (source bucket full c))),
+                (subst (λ (p : Places). HasOther left index f.peer (new_bucket p f.peer f.source)) (whole-places ∙ sym filled-places)
+                (subst (λ (p : Places). HasOther left index f.peer (new_bucket p f.peer f.source)) (sym whole-places) (source bucket full c))),
             λ uses. other-left index f.peer bucket (one.1 (subst (λ (p : Places). uses_buckets snap p ≡ true) left-places uses)),
           ))))
           (settled n used whole snap.listed r whole-once low has (slice_get_within snap.new_recs index f is) valid)

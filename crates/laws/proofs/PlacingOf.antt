@@ -1,5 +1,5 @@
 -- Records of a file get buckets, or another one is at their slots; and those with none are dropped.
-use Rattle.std.proofs.Common.{◌≡◌, ◌≢◌, ℕ, zero, suc, ◌+◌, ◌<◌, ◌≤◌, Bool, true, false, ◌||◌, not, ◌==◌, List, [], ◌∷◌, length, Contains, Option, Some, None, refl, sym, ap, subst, ◌∙◌, inl, inr, ⊎_elim, ◌⊎◌, arith, true≢false, if◌then◌else◌}
+use Rattle.std.proofs.Common.{◌≡◌, ◌≢◌, ℕ, zero, suc, ◌<◌, ◌≤◌, Bool, true, false, ◌||◌, not, ◌==◌, List, [], ◌∷◌, length, Contains, Option, Some, None, refl, sym, ap, subst, ◌∙◌, inl, inr, ⊎_elim, ◌⊎◌, arith, true≢false, if◌then◌else◌}
 use Rattle.std.specs.Prelude.{⊤}
 use Rattle.std.proofs.lemmas.Bool.Decides.{Decides-eqb, eqb_tells}
 use Rattle.net_addr.specs.Ranges.{is_valid}
@@ -7,7 +7,6 @@ use Rattle.net_addr.specs.declared.peer.Peer.{Peer}
 use Rattle.placing.specs.Places.{Places, new_bucket, new_slot}
 use Rattle.peer_rec.specs.Buckets.{with_bucket}
 use Rattle.peer_rec.specs.Rec.{buckets_of}
-use Rattle.peer_rec.specs.declared.place.Place.{Place}
 use Rattle.peer_rec.specs.declared.place.Place.TheVariants.{New}
 use Rattle.peer_rec.specs.declared.rec.Rec.{Rec}
 use Rattle.table_machine.specs.Entries.{delete, give_bucket}
@@ -66,10 +65,13 @@ grown-trans n a b c one two = record {
 other-grown : (n : ℕ) (old new : State) (number : ℕ) (peer : Peer) (bucket : ℕ) → IsGrown n old new → HasOther old number peer bucket → HasOther new number peer bucket
 other-grown n old new number peer bucket grown h =
     let q = grown.later h.0 h.1 in
-    let same = number_of h.0 q.0 q.2.0 in
-    (q.0, q.1, λ is. h.2 (sym same ∙ is),
-    subst (λ (p : Places). is_new_at p bucket (new_slot p peer bucket) q.0 ≡ true) (sym grown.places)
-    (new_at-same old.places bucket (new_slot old.places peer bucket) h.0 q.0 (sym (peer_of h.0 q.0 q.2.0)) (q.2.1 bucket) h.3))
+    let same = number_of h.0 q.0 q.2.0 in (
+      q.0,
+      q.1,
+      λ is. h.2 (sym same ∙ is),
+      subst (λ (p : Places). is_new_at p bucket (new_slot p peer bucket) q.0 ≡ true) (sym grown.places)
+          (new_at-same old.places bucket (new_slot old.places peer bucket) h.0 q.0 (sym (peer_of h.0 q.0 q.2.0)) (q.2.1 bucket) h.3),
+    )
 
 -- a record gets a bucket
 module _ (n : ℕ) (st : State) (r : Rec) (bucket : ℕ) (once : AreOnce st) (has : Contains st.records r) (early : r.number < n) where
@@ -240,9 +242,10 @@ module _ (n : ℕ) (same : Bool) where
 
       lifted : (bucket : ℕ) → IsFull r st bucket → IsFull r final bucket
       lifted bucket h =
-          let whole = grown-trans n st next final one rest_grown in
-          (subst (λ (p : Places). HasOther final r.number r.peer (new_bucket p r.peer r.source)) (sym whole.places) (other-grown n st final r.number r.peer (new_bucket st.places r.peer r.source) whole h.0),
-          λ used. other-grown n st final r.number r.peer bucket whole (h.1 used))
+          let whole = grown-trans n st next final one rest_grown in (
+            subst (λ (p : Places). HasOther final r.number r.peer (new_bucket p r.peer r.source)) (sym whole.places) (other-grown n st final r.number r.peer (new_bucket st.places r.peer r.source) whole h.0),
+            λ used. other-grown n st final r.number r.peer bucket whole (h.1 used),
+          )
 
       kept : IsPlaced r next → IsPlaced r final
       kept h =
@@ -298,7 +301,7 @@ all-kept n st [] once low = kept-same n st
 all-kept n st (number ∷ numbers) once low =
     let one = drop-kept n st number once (low number (0, omega arith, refl)) in
     let rest = all-kept n (drop_record st (by_number st number)) numbers (λ r q cr cq same. once r q (one.earlier r cr) (one.earlier q cq) same)
-        (λ k c. let within = c.1 in low k (suc c.0, omega (arith, within), c.2)) in
+    (λ k c. let within = c.1 in low k (suc c.0, omega (arith, within), c.2)) in
     record {
       places = rest.places ∙ one.places;
       stays = λ q c why. rest.stays q (one.stays q c why) why;

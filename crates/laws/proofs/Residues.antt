@@ -1,14 +1,13 @@
 -- What a pick does depends on residues of its words only.
-use Rattle.std.proofs.Common.{◌≡◌, ◌≢◌, ℕ, zero, suc, ◌+◌, ◌-◌, ◌*◌, ◌%◌, ◌^◌, ◌<◌, ◌≤◌, Bool, true, false, cond, ◌&&◌, ◌||◌, ◌==◌, nat_lt, List, [], ◌∷◌, ◌++◌, map, count_by, Option, Some, None, refl, sym, ap, ◌∙◌, arith, if◌then◌else◌}
+use Rattle.std.proofs.Common.{◌≡◌, ◌≢◌, ℕ, zero, suc, ◌+◌, ◌-◌, ◌*◌, ◌%◌, ◌^◌, ◌<◌, ◌≤◌, Bool, true, false, cond, ◌&&◌, ◌||◌, ◌==◌, nat_lt, List, [], ◌∷◌, map, count_by, Option, Some, None, refl, sym, ap, ◌∙◌, arith, if◌then◌else◌}
 use Rattle.std.specs.List.{range_with_len}
 use Rattle.std.proofs.lemmas.Bool.{false_from_ne_true}
 use Rattle.std.proofs.lemmas.Bool.Decides.{Decides-eqb}
 use Rattle.std.proofs.lemmas.Nat.{mod-mul-add}
 use Rattle.peer_rec.specs.Rec.{chance}
-use Rattle.peer_rec.specs.declared.picked.Picked.{Picked}
 use Rattle.peer_rec.specs.declared.picked.Picked.TheVariants.{One, Nothing}
 use Rattle.peer_rec.specs.declared.rec.Rec.{Rec}
-use Rattle.table_machine.specs.Picks.{bucket_count, candidate, candidates, candidates_of, candidates_of_either, first_accepted, first_candidate, first_factor, is_accepted, next_factor, select, wanted_new, wanted_tried, with_candidate}
+use Rattle.table_machine.specs.Picks.{bucket_count, candidate, candidates, candidates_of_either, first_accepted, first_candidate, first_factor, is_accepted, next_factor, select, wanted_new, wanted_tried, with_candidate}
 use Rattle.table_machine.specs.State.{State}
 use Rattle.laws.proofs.Counts.{all_range, count_append, count_cons, count_no, range_split}
 
@@ -89,16 +88,16 @@ one_of : (n residue k : ℕ) → residue < n → count_by (λ w. w % n == residu
 one_of n residue k below =
     let cut : n ≡ residue + suc (n - residue - 1) = omega (arith, below) in
     let parts = ap (λ m. count_by (λ w. w % n == residue) (range_with_len (k * n) m)) cut
-        ∙ ap (count_by (λ w. w % n == residue)) (range_split (k * n) residue (suc (n - residue - 1)))
-        ∙ count_append (λ w. w % n == residue) (range_with_len (k * n) residue) (range_with_len (k * n + residue) (suc (n - residue - 1))) in
+    ∙ ap (count_by (λ w. w % n == residue)) (range_split (k * n) residue (suc (n - residue - 1)))
+    ∙ count_append (λ w. w % n == residue) (range_with_len (k * n) residue) (range_with_len (k * n + residue) (suc (n - residue - 1))) in
     let first = count_no (λ w. w % n == residue) (range_with_len (k * n) residue)
-        (all_range (λ w. (w % n == residue) ≡ false) (k * n) residue (λ w from to. other w from (omega (arith, to, below)) (λ is. omega (arith, is, to)))) in
+    (all_range (λ w. (w % n == residue) ≡ false) (k * n) residue (λ w from to. other w from (omega (arith, to, below)) (λ is. omega (arith, is, to)))) in
     let here = count_cons (λ w. w % n == residue) (k * n + residue) (range_with_len (k * n + residue + 1) (n - residue - 1)) in
     let one : ◌≡◌ {A = ℕ} (cond ((k * n + residue) % n == residue) 1 0) 1 =
-        ap {B = ℕ} (λ b. cond b 1 0) ((Decides-eqb ((k * n + residue) % n) residue).1 (mod-mul-add k n residue below)) in
+    ap {B = ℕ} (λ b. cond b 1 0) ((Decides-eqb ((k * n + residue) % n) residue).1 (mod-mul-add k n residue below)) in
     let last = count_no (λ w. w % n == residue) (range_with_len (k * n + residue + 1) (n - residue - 1))
-        (all_range (λ w. (w % n == residue) ≡ false) (k * n + residue + 1) (n - residue - 1)
-        (λ w from to. other w (omega (arith, from)) (omega (arith, from, to, below)) (λ is. omega (arith, is, from)))) in
+    (all_range (λ w. (w % n == residue) ≡ false) (k * n + residue + 1) (n - residue - 1)
+    (λ w from to. other w (omega (arith, from)) (omega (arith, from, to, below)) (λ is. omega (arith, is, from)))) in
     omega (arith, parts, first, here, one, last)
   where
     other : (w : ℕ) → k * n ≤ w → w < k * n + n → (w ≢ k * n + residue) → (w % n == residue) ≡ false
@@ -115,9 +114,9 @@ each_residue n residue (suc times) below =
     let longer : suc times * n ≡ times * n + n = omega arith in
     let from : 0 + times * n ≡ times * n = omega arith in
     let split = ap (λ m. count_by (λ w. w % n == residue) (range_with_len 0 m)) longer
-        ∙ ap (count_by (λ w. w % n == residue)) (range_split 0 (times * n) n)
-        ∙ count_append (λ w. w % n == residue) (range_with_len 0 (times * n)) (range_with_len (0 + times * n) n)
-        ∙ ap (λ a. count_by (λ w. w % n == residue) (range_with_len 0 (times * n)) + count_by (λ w. w % n == residue) (range_with_len a n)) from in
+    ∙ ap (count_by (λ w. w % n == residue)) (range_split 0 (times * n) n)
+    ∙ count_append (λ w. w % n == residue) (range_with_len 0 (times * n)) (range_with_len (0 + times * n) n)
+    ∙ ap (λ a. count_by (λ w. w % n == residue) (range_with_len 0 (times * n)) + count_by (λ w. w % n == residue) (range_with_len a n)) from in
     let before = each_residue n residue times below in
     let one = one_of n residue times below in
     omega (arith, split, before, one)

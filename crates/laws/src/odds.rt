@@ -11,9 +11,9 @@ ghost use Rattle.table_machine.specs.Sound.{IsSound};
 ghost use Rattle.table_machine.specs.State.{State};
 
 /// Records that pass a test, somebody's say, are selected by at most as many triples of residues as
-/// the starts that lead to their slots give. They have at most one slot of a bucket each, and at
-/// most eight buckets of the new table. Whatever else is in the tables, each start at a record's own
-/// slot leads to it.
+/// the starts that lead to their slots give. They have one slot of a bucket each at most, and eight
+/// buckets of the new table. And whatever else is in the tables, a record is selected from each of
+/// its own slots.
 pub fn odds_are_bounded()
     ensures gaps { (st : State) (in_new : Bool) (nets : List ℕ) (now factor : ℕ)
         (test : Rec → Bool) → IsSound st →
