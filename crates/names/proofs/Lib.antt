@@ -4,5 +4,6 @@ pub mod Letters
 pub mod Forms
 pub mod Lower
 pub mod Printed
+pub mod Readings
 mod Examples
 mod Checksums

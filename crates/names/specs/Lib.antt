@@ -1,3 +1,4 @@
 pub mod Base32
 pub mod Inside
 pub mod Name
+pub mod Text

@@ -5,6 +5,8 @@
 //! - `name_of` returns the name of an address, which parses as that address unless it is an IPv6
 //!   address of fc00::/8 or an address of CJDNS outside of it.
 //! - `parse_name` accepts exactly the grammar, so a text is the name of one address at most.
+//! - `parse_text` accepts a name, or an address as in a log, with or without a port; a text stands for
+//!   one address at most (`texts_have_one_meaning`).
 //! - The checksum in a name of Tor v3 is determined by the letters before it
 //!   (`checksums_are_determined`).
 #![tactic(auto)]
@@ -14,7 +16,9 @@ mod law;
 mod name;
 mod print;
 mod read;
+mod text;
 
-pub use law::checksums_are_determined;
+pub use law::{checksums_are_determined, texts_have_one_meaning};
 pub use print::name_of;
 pub use read::parse_name;
+pub use text::parse_text;
