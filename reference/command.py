@@ -7,7 +7,7 @@ import help_texts
 import node_json
 import peers_file
 import prefixes
-from addresses import Peer, read_peer
+from addresses import Address, Peer, address_text, class_of, read_peer, routable
 from asmap import MAXIMUM_BYTES as MAXIMUM_ASMAP
 from asmap import NO_ASMAP, Asmap, compile_rows, pack, rows_of
 from folder import Failed, Folder, Stop, read_file, write_file
@@ -15,6 +15,7 @@ from generator import generated
 from limit import Limit
 from lines import LARGEST_TIME, read_lines
 from log import ReplayLog, TableLog
+from names import name_of, read_text
 from opener import OpenerLog
 from picture import picture
 from places import group
@@ -22,7 +23,7 @@ from tables import Tables
 from text import MASK, Fault, read_digits, read_number
 
 MAXIMUM_GENERATED_LINES = 100_000
-COMMANDS = "replay opener limit show picture raw info compile decompile check lookup ban unban banned bans gen trial help version"
+COMMANDS = "replay opener limit show picture raw info compile decompile check lookup address ban unban banned bans gen trial help version"
 IN_PLACE = {b"--help": b"help", b"-h": b"help", b"--version": b"version"}
 OPTIONS = {"replay": ("--key", "--net"), "opener": ("--key", "--net"), "show": ("--net",),
            "picture": ("--net",), "raw": ("--net",), "info": ("--net",)}
@@ -71,6 +72,20 @@ def key_and_chain(options: dict[str, bytes]) -> tuple[bytes | None, str]:
 def looked_up(peer: Peer, asmap: Asmap) -> str:
     """What `lookup` prints of a peer."""
     return f"asn {asmap.number_of(peer.address)} group {group(peer.address, asmap).hex()}"
+
+
+def described(address: Address, asmap: Asmap) -> list[str]:
+    """What `address` prints."""
+    number = asmap.number_of(address)
+    return [
+        f"network {address.network}",
+        f"address {address_text(address)}",
+        f"name {name_of(address)}",
+        f"class {class_of(address)}",
+        f"routable {'yes' if routable(address) else 'no'}",
+        *([f"asn {number}"] if number else []),
+        f"group {group(address, asmap).hex()}",
+    ]
 
 
 def looked_up_line(line: bytes, asmap: Asmap) -> str | None:
@@ -246,6 +261,12 @@ class Run:
             return
         peer = usage(read_peer(argument))
         self.print(looked_up(peer, self.needed(self.asmap(), "asmap.dat")))
+
+    def address(self, argument: bytes):
+        address = usage(read_text(argument))
+        asmap = self.asmap() or NO_ASMAP
+        for line in described(address, asmap):
+            self.print(line)
 
     def ban_list(self) -> dict:
         """The folder's list of bans."""

@@ -13,7 +13,11 @@ use Rattle.asmap_vm.specs.declared.fault.CodeFault.TheVariants.{Insane}
 use Rattle.placing.specs.Inside.{asmap_of}
 use Rattle.addrman_run.specs.Asmaps.{IsMapIn, RefusesAsmap}
 use Rattle.addrman_run.specs.InFolder.{IsAbsent, IsFileIn}
-use Rattle.addrman_run.specs.Inside.{IsMapOf, IsLoaded}
+use Rattle.addrman_run.specs.Inside.{IsMapOf, IsLoaded, IsNoMap}
+use Rattle.addrman_run.specs.Opening.{IsUnopened}
+use Rattle.addrman_run.specs.declared.status.Status.{Status}
+use Rattle.addrman_run.specs.declared.status.Status.TheVariants.{AsmapRefused, DiskFault, Memory}
+use Rattle.peers_file.specs.declared.chain.Chain.{Chain}
 use Rattle.addrman_run.specs.declared.input.Input.TheVariants as input
 
 -- the asmap in the bytes that were loaded is the folder's
@@ -31,6 +35,13 @@ pub refuses : (past : Option Past) (loaded : Option (List ℕ)) (fault : CodeFau
 refuses past loaded fault found why =
     subst (RefusesAsmap past) (sym why.0)
     (why.1.0, subst (λ o. MatchOption o (IsAbsent name.Asmap past) (IsLoaded input.Asmap past)) why.1.1 found, why.1.2)
+
+-- without an asmap no tables are opened
+pub unmapped : (key : Option (List ℕ)) (chain : Chain) (past : Option Past) (status : Status) → IsNoMap past status → IsUnopened key chain past status
+unmapped key chain past DiskFault why = tt
+unmapped key chain past Memory why = tt
+unmapped key chain past (AsmapRefused fault) why = why
+unmapped key chain past other why = absurd why
 
 -- what was loaded is within the limit
 pub within : (past : Option Past) (loaded : Option (List ℕ)) →

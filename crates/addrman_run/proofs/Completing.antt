@@ -283,6 +283,7 @@ done request.Decompile old new answer ends cause fine calm = file_line_done _ _ 
 done request.Limit old new answer ends cause fine calm = limit_done old new answer ends cause fine calm
 done (request.Lookup peer) old new answer ends cause fine calm = file_line_done _ _ _ old new answer ends cause fine calm
 done request.LookupLines old new answer ends cause fine calm = lookup_lines_done old new answer ends cause fine calm
+done (request.Address addr) old new answer ends cause fine calm = text_done _ _ old new answer ends cause fine calm
 done (request.Show chain) old new answer ends cause fine calm = file_line_done _ _ _ old new answer ends cause fine calm
 done (request.Picture chain) old new answer ends cause fine calm = picture_done chain old new answer ends cause fine calm
 done (request.Raw chain) old new answer ends cause fine calm = text_done _ _ old new answer ends cause fine calm

@@ -3,7 +3,8 @@ use Rattle.std.proofs.Common.{◌≡◌, ℕ, List, refl, sym, subst, inl, inr}
 use Rattle.std.specs.Prelude.{Option, None}
 use Rattle.host_io.specs.Past.{Past}
 use Rattle.peers_file.specs.declared.chain.Chain.{Chain}
-use Rattle.addrman_run.specs.Inside.{LineEnds}
+use Rattle.addrman_run.specs.Asmaps.{ReportsAsmap}
+use Rattle.addrman_run.specs.Inside.{IsNoMap, LineEnds}
 use Rattle.addrman_run.specs.Opening.{IsUnopened, ReportsOpening}
 use Rattle.addrman_run.specs.TextOut.{TextOut}
 use Rattle.addrman_run.specs.declared.status.Status.{Status}
@@ -17,6 +18,15 @@ unopened_out IsText chain past written WriteFault why = absurd why
 unopened_out IsText chain past written DiskFault why = refl
 unopened_out IsText chain past written Memory why = refl
 unopened_out IsText chain past written other why = (why, refl)
+
+-- the folder's asmap was not loaded
+pub unmapped_out : (IsText : Option Past → List ℕ → Type 0) (past : Option Past) (written : Option (List ℕ)) (status : Status)
+    → IsNoMap past status → TextOut IsText ReportsAsmap past written written status
+unmapped_out IsText past written Done why = absurd why
+unmapped_out IsText past written WriteFault why = absurd why
+unmapped_out IsText past written DiskFault why = refl
+unmapped_out IsText past written Memory why = refl
+unmapped_out IsText past written other why = (why, refl)
 
 -- the text was written, or a part of it
 pub text_out : (IsText : Option Past → List ℕ → Type 0) (Refuses : Option Past → Status → Type 0) (past : Option Past) (text : List ℕ) (old new : Option (List ℕ)) (status : Status)

@@ -28,7 +28,7 @@ use Rattle.addrman_run.specs.Show.{ReportsPeers}
 use Rattle.addrman_run.specs.Tables.{ReportsTable}
 use Rattle.arguments.specs.declared.request.Request.{Request}
 use Rattle.arguments.specs.declared.request.Request.TheVariants.{Show, Picture, Raw, Info}
-use Rattle.arguments.specs.declared.request.Request.TheVariants.{Replay, Opener, Compile, Check, Lookup, LookupLines}
+use Rattle.arguments.specs.declared.request.Request.TheVariants.{Replay, Opener, Compile, Check, Lookup, LookupLines, Address}
 use Rattle.arguments.specs.declared.request.Request.TheVariants.{Decompile, Limit}
 use Rattle.arguments.specs.declared.request.Request.TheVariants.{Ban, Unban, Banned, Bans}
 use Rattle.addrman_run.specs.declared.status.Status.{Status}
@@ -83,6 +83,7 @@ NothingIsWrong Decompile at = IsUsable name.Asmap ReportsDecompile at.past
 NothingIsWrong Limit at = IsGoodLog IsLimitLine at.left
 NothingIsWrong (Lookup peer) at = IsUsable name.Asmap ReportsAsmap at.past
 NothingIsWrong LookupLines at = IsGoodLog IsLookupLine at.left × IsUsable name.Asmap ReportsAsmap at.past
+NothingIsWrong (Address addr) at = NoRefusal (ReportsAsmap at.past)
 NothingIsWrong (Show chain) at = IsUsable name.Peers (ReportsPeers chain) at.past
 NothingIsWrong (Picture chain) at = NoRefusal (ReportsOpening None chain at.past)
 NothingIsWrong (Raw chain) at = NoRefusal (ReportsOpening None chain at.past)

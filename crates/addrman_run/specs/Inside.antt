@@ -16,6 +16,7 @@ use Rattle.ban_list.specs.declared.ban.Ban.{Ban}
 use Rattle.ban_list.specs.declared.fault.BanFault.{BanFault}
 use Rattle.ban_list.specs.declared.fault.BanFault.TheVariants as ban
 use Rattle.ban_list.specs.declared.read_file.TheConstants as bans
+use Rattle.addrman_run.specs.Asmaps.{ReportsAsmap}
 use Rattle.addrman_run.specs.Bans.{AreBansIn, RefusesBans, Change}
 use Rattle.addrman_run.specs.Compile.{IsCompiled, IsInPlace, compile_text}
 use Rattle.addrman_run.specs.InFolder.{IsFileIn, IsAbsent, IsTooLarge}
@@ -151,6 +152,12 @@ IsMapOf None None = ⊤
 IsMapOf (Some bytes) (Some m) = (m.file ≡ bytes) × IsAsmap m
 IsMapOf None (Some m) = ⊥
 IsMapOf (Some bytes) None = ⊥
+
+-- why there is no asmap, though it may be absent: the folder failed, memory ran out, or it is refused
+abbrev pub IsNoMap : Option Past → Status → Type 0
+IsNoMap past DiskFault = ⊤
+IsNoMap past Memory = ⊤
+IsNoMap past other = ReportsAsmap past other
 
 -- why the bytes of banlist.json are not read: memory ran out, or their fault
 abbrev pub IsNoList : List ℕ → Status → Type 0

@@ -12,6 +12,7 @@ pub mod Help
 pub mod FileLine
 pub mod Lookup
 pub mod LookupLines
+pub mod Address
 pub mod Check
 pub mod Decompile
 pub mod Compile

@@ -5,6 +5,7 @@ use Rattle.log_run.specs.Counts.{IsCounted}
 use Rattle.addrman_run.specs.Replay.{ReplayEnds}
 use Rattle.addrman_run.specs.Lookup.{LookupEnds}
 use Rattle.addrman_run.specs.LookupLines.{LookupLinesEnds}
+use Rattle.addrman_run.specs.Address.{AddressEnds}
 use Rattle.addrman_run.specs.Check.{CheckEnds}
 use Rattle.addrman_run.specs.Decompile.{DecompileEnds}
 use Rattle.addrman_run.specs.Compile.{CompileEnds}
@@ -20,7 +21,7 @@ use Rattle.addrman_run.specs.Trial.{TrialEnds}
 use Rattle.addrman_run.specs.Bans.{BansEnds, ban_change, unban_change, banned_change, bans_change}
 use Rattle.arguments.specs.declared.request.Request.{Request}
 use Rattle.arguments.specs.declared.request.Request.TheVariants.{Show, Picture, Raw, Info}
-use Rattle.arguments.specs.declared.request.Request.TheVariants.{Replay, Opener, Compile, Check, Lookup, LookupLines}
+use Rattle.arguments.specs.declared.request.Request.TheVariants.{Replay, Opener, Compile, Check, Lookup, LookupLines, Address}
 use Rattle.arguments.specs.declared.request.Request.TheVariants.{Decompile, Limit}
 use Rattle.arguments.specs.declared.request.Request.TheVariants.{Ban, Unban, Banned, Bans}
 use Rattle.arguments.specs.declared.request.Request.TheVariants.{Gen, Trial, Help, Version}
@@ -37,6 +38,7 @@ Ends Decompile old new answer = DecompileEnds old new answer
 Ends Limit old new answer = LimitEnds old new answer
 Ends (Lookup peer) old new answer = LookupEnds peer old new answer
 Ends LookupLines old new answer = LookupLinesEnds old new answer
+Ends (Address addr) old new answer = AddressEnds addr old new answer
 Ends (Show chain) old new answer = ShowEnds chain old new answer
 Ends (Picture chain) old new answer = PictureEnds chain old new answer
 Ends (Raw chain) old new answer = TablesJsonEnds json.Raw chain old new answer

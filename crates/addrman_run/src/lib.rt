@@ -12,6 +12,7 @@
 //! while a whole line waits.
 #![tactic(auto)]
 
+mod address;
 mod bans;
 mod check;
 mod compile;

@@ -6,7 +6,8 @@ ghost use Rattle.placing.specs.Inside.{map_of};
 ghost use Rattle.peers_file.specs.Layout.{IsFile};
 ghost use Rattle.table_machine.specs.Restoring.{duplicate};
 ghost use Rattle.table_machine.specs.Sound.{IsSound};
-ghost use Rattle.addrman_run.specs.Inside.{IsKeyless, IsMapOf, IsNoSnapshot, IsNotOpened, IsNotRestored, OpensWith};
+ghost use Rattle.addrman_run.specs.Asmaps.{IsMapIn};
+ghost use Rattle.addrman_run.specs.Inside.{IsKeyless, IsMapOf, IsNoMap, IsNoSnapshot, IsNotOpened, IsNotRestored, OpensWith};
 ghost use Rattle.addrman_run.specs.Opening.{IsUnopened, Opened, tables_of};
 
 use crate::input::{Input, load_input};
@@ -129,6 +130,28 @@ fn check_map(bytes: &Option<Bytes>) -> Result<Option<Sane<'_>>, CodeFault>
     }
 }
 
+/// Loads and checks the folder's asmap, if there is one. Its bytes stay in `asmap`.
+pub(crate) fn open_map<'a, F: Folder>(
+    alloc: Global,
+    asmap: &'a mut Option<Bytes>,
+    folder: &mut F,
+) -> Result<Option<Sane<'a>>, Status>
+    ensures found { IfOk result (λ map. IsMapIn (F.past folder.old) (map_of map)) }
+    ensures cause { IfErr result (IsNoMap (F.past folder.old)) }
+    ensures disk { IsCounted (Err Status.DiskFault)
+        (F.faults folder.old) (F.faults folder.new) result }
+    ensures same { F.past folder.new ≡ F.past folder.old }
+{
+    *asmap = match load_input(alloc, Input::Asmap, folder) {
+        Ok(bytes) => bytes,
+        Err(status) => return Err(status),
+    };
+    match check_map(asmap) {
+        Ok(map) => Ok(map),
+        Err(fault) => Err(Status::AsmapRefused(fault)),
+    }
+}
+
 /// Opens the tables that a replay or an opener begins with: those of the folder's peers.dat, or if
 /// it is absent, empty ones with the key. Either way they have the folder's asmap, whose bytes stay
 /// in `asmap`.
@@ -148,13 +171,9 @@ pub(crate) fn open_folder<'a, F: Folder, H: BuildHasher + Drop>(
         (F.faults folder.old) (F.faults folder.new) result }
     ensures same { F.past folder.new ≡ F.past folder.old }
 {
-    *asmap = match load_input(alloc, Input::Asmap, folder) {
-        Ok(bytes) => bytes,
-        Err(status) => return Err(status),
-    };
-    let map = match check_map(asmap) {
+    let map = match open_map(alloc, asmap, folder) {
         Ok(map) => map,
-        Err(fault) => return Err(Status::AsmapRefused(fault)),
+        Err(status) => return Err(status),
     };
     let file = match load_input(alloc, Input::Peers, folder) {
         Ok(file) => file,

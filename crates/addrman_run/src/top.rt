@@ -7,6 +7,7 @@ ghost use Rattle.addrman_run.specs.Outcome.{Ends, HasCause};
 ghost use Rattle.arguments.specs.declared.request.Request.{Request};
 
 use crate::Status;
+use crate::address::write_address;
 use crate::bans::{BanSubnet, FindBan, ListBans, UnbanSubnet, change_bans};
 use crate::check::Check;
 use crate::compile::compile_table;
@@ -36,7 +37,7 @@ use std::hash::BuildHasher;
 /// a log whose lines open, test and close outbound connections in place of saving, and changes no
 /// file. `compile` compiles the folder's prefixes.txt into asmap.dat, `check` checks asmap.dat,
 /// `decompile` writes the table of prefixes that it encodes, and `lookup PEER` writes the AS number
-/// and the group that it gives the peer's address, `lookup -` those of each peer of the log. `limit` carries out the lines of the log under
+/// and the group that it gives the peer's address, `lookup -` those of each peer of the log. `address TEXT` writes what is known of an address. `limit` carries out the lines of the log under
 /// the limit on received addresses, and writes the log that is left. `show --net CHAIN` lists what
 /// peers.dat has, `raw --net CHAIN` prints its records by their slots, and `info --net CHAIN` how
 /// many each network has, both as JSON. `ban SUBNET NOW UNTIL` and `unban SUBNET` change the list of bans in
@@ -93,6 +94,7 @@ fn carry_out<L: Source, F: Folder, K: Sink, H: BuildHasher + Drop>(
         Request::Limit => limit(alloc, log, out),
         Request::Lookup { peer } => write_file_line(alloc, &Lookup { peer }, folder, out),
         Request::LookupLines => lookup_lines(alloc, log, folder, out),
+        Request::Address { addr } => write_address(alloc, &addr, folder, out),
         Request::Show { chain } => write_file_line(alloc, &Show { chain }, folder, out),
         Request::Picture { chain } => picture(alloc, hasher, chain, folder, out),
         Request::Raw { chain } => {

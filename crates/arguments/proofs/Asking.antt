@@ -15,16 +15,19 @@ use Rattle.grammar.specs.Table.{all_definite}
 use Rattle.grammar.specs.declared.fault.LineFault.{LineFault}
 use Rattle.grammar.specs.declared.fault.LineFault.TheVariants as fault
 use Rattle.grammar.proofs.TableLemmas.{no_fault_after, one_list}
+use Rattle.names.specs.Text.{IsTextOf}
+use Rattle.names.proofs.Readings.{one_text}
+use Rattle.net_addr.specs.Address.{Address as NetAddress}
 use Rattle.net_addr.specs.Text.{IsPeerText}
 use Rattle.net_addr.specs.declared.peer.Peer.{Peer}
 use Rattle.peers_file.specs.declared.chain.Chain.{Chain}
 use Rattle.arguments.specs.Options.{IsNet, IsOpeningOptions}
-use Rattle.arguments.specs.Table.{Asks, Fields, Form, HasNoValues, IsProperRequest, Network, OfCommand, OfSubnet, Opening, PeerOrLines, Period, Reads, TheChain, TheCommand, TheFields, TheOpening, ThePeriod, TheSubnet, Values, form_of, name_of, plain_word, values_of, word_of}
+use Rattle.arguments.specs.Table.{Asks, Fields, Form, HasNoValues, IsProperRequest, Network, OfAddress, OfCommand, OfSubnet, Opening, PeerOrLines, Period, Reads, TheAddress, TheChain, TheCommand, TheFields, TheOpening, ThePeriod, TheSubnet, Values, form_of, name_of, plain_word, values_of, word_of}
 use Rattle.arguments.specs.declared.name.CommandName.{CommandName}
 use Rattle.arguments.specs.declared.name.CommandName.TheVariants as name
 use Rattle.arguments.specs.declared.name.TheConstants.{NAMES}
 use Rattle.arguments.specs.declared.request.Request.{Request}
-use Rattle.arguments.specs.declared.request.Request.TheVariants.{Replay, Opener, Compile, Check, Decompile, Limit, Lookup, LookupLines, Show, Picture, Raw, Info, Ban, Unban, Banned, Bans, Gen, Trial, Help, Version}
+use Rattle.arguments.specs.declared.request.Request.TheVariants.{Replay, Opener, Compile, Check, Decompile, Limit, Lookup, LookupLines, Address, Show, Picture, Raw, Info, Ban, Unban, Banned, Bans, Gen, Trial, Help, Version}
 use Rattle.arguments.proofs.Choosing.{one_net, one_opening}
 use Rattle.arguments.proofs.Names.{name_found, one_command}
 
@@ -74,6 +77,9 @@ one_values OfSubnet texts v w is h k =
     h.2 ∙ ap TheSubnet (one_subnet k.0 h.1 k.1 (subst (λ t. IsSubnetText t h.1) same h.4) k.4) ∙ sym k.2
 one_values Period texts v w is h k = one_period texts v w h k
 one_values PeerOrLines texts v w is h k = one_lookup texts v w h k
+one_values OfAddress texts v w is h k =
+    let same = ap (λ ts. get_or ts 0 []) (sym h.3 ∙ k.3) in
+    h.2 ∙ ap TheAddress (one_text k.0 h.1 k.1 (subst (λ t. IsTextOf t h.1) same h.4) k.4) ∙ sym k.2
 one_values OfCommand texts v w is h k = h.1 ∙ ap TheCommand (one_command texts h.0 k.0 h.2 k.2) ∙ sym k.1
 
 definite_name : (n : CommandName) → definite_form (form_of n) ≡ true
@@ -90,6 +96,7 @@ request_by name.Decompile values = Decompile
 request_by name.Limit values = Limit
 request_by name.Lookup (TheFields (ThePeer peer ∷ [])) = Lookup peer
 request_by name.Lookup (TheFields []) = LookupLines
+request_by name.Address (TheAddress addr) = Address addr
 request_by name.Show (TheChain chain) = Show chain
 request_by name.Picture (TheChain chain) = Picture chain
 request_by name.Raw (TheChain chain) = Raw chain
@@ -231,6 +238,20 @@ no_word texts none v reads = none reads.0 reads.3
 pub found_subnet : (texts : List (List ℕ)) (word : List ℕ) (r : Option Subnet) → texts ≡ word ∷ [] → IfSome r (IsSubnetText word) → IfSome r (λ s. Reads OfSubnet texts (TheSubnet s))
 found_subnet texts word None is found = tt
 found_subnet texts word (Some s) is found = (word, s, refl, is, found)
+
+pub no_address : (texts : List (List ℕ)) (word : List ℕ) (r : Option NetAddress) → texts ≡ word ∷ [] → ((a : NetAddress) → IsTextOf word a → r ≡ Some a) → IfNone r (HasNoValues OfAddress texts)
+unfolding HasNoValues
+no_address texts word None is only = λ v reads.
+    none-some reads.1 (only reads.1 (subst (λ t. IsTextOf t reads.1) (ap (λ ts. get_or ts 0 []) (sym reads.3 ∙ is)) reads.4))
+no_address texts word (Some a) is only = tt
+
+pub no_text : (texts : List (List ℕ)) → ((word : List ℕ) → texts ≡ word ∷ [] → ⊥) → HasNoValues OfAddress texts
+unfolding HasNoValues
+no_text texts none v reads = none reads.0 reads.3
+
+pub found_address : (texts : List (List ℕ)) (word : List ℕ) (r : Option NetAddress) → texts ≡ word ∷ [] → IfSome r (IsTextOf word) → IfSome r (λ a. Reads OfAddress texts (TheAddress a))
+found_address texts word None is found = tt
+found_address texts word (Some a) is found = (word, a, refl, is, found)
 
 pub no_period : (texts : List (List ℕ)) (a b d : List ℕ) (r : Option (Subnet × ℕ × ℕ)) → texts ≡ a ∷ b ∷ d ∷ [] →
     ((s : Subnet) (n u : ℕ) → IsSubnetText a s → b ≡ decimal n → d ≡ decimal u → n < u → u ≤ max_time → r ≢ None) → IfNone r (HasNoValues Period texts)

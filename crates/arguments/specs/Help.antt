@@ -32,6 +32,7 @@ page_of name.Compile = page_in pages.COMPILE
 page_of name.Decompile = page_in pages.DECOMPILE
 page_of name.Check = page_in pages.CHECK
 page_of name.Lookup = page_in pages.LOOKUP
+page_of name.Address = page_in pages.ADDRESS
 page_of name.Ban = page_in pages.BAN
 page_of name.Unban = page_in pages.UNBAN
 page_of name.Banned = page_in pages.BANNED

@@ -6,13 +6,15 @@ use Rattle.ban_list.specs.SubnetText.{IsSubnetText}
 use Rattle.ban_list.specs.declared.subnet.Subnet.{Subnet}
 use Rattle.gen_load.specs.declared.generated.TheConstants.{MAX_LINES}
 use Rattle.grammar.specs.Fields.{AllMean, Kind, Number, OfPeer, Value, TheNumber, ThePeer, u64_field}
+use Rattle.names.specs.Text.{IsTextOf}
+use Rattle.net_addr.specs.Address.{Address as NetAddress}
 use Rattle.net_addr.specs.declared.peer.Peer.{Peer}
 use Rattle.peers_file.specs.declared.chain.Chain.{Chain}
 use Rattle.arguments.specs.Options.{IsNet, IsOpeningOptions}
 use Rattle.arguments.specs.declared.name.CommandName.{CommandName}
 use Rattle.arguments.specs.declared.name.CommandName.TheVariants as name
 use Rattle.arguments.specs.declared.request.Request.{Request}
-use Rattle.arguments.specs.declared.request.Request.TheVariants.{Replay, Opener, Compile, Check, Decompile, Limit, Lookup, LookupLines, Show, Picture, Raw, Info, Ban, Unban, Banned, Bans, Gen, Trial, Help, Version}
+use Rattle.arguments.specs.declared.request.Request.TheVariants.{Replay, Opener, Compile, Check, Decompile, Limit, Lookup, LookupLines, Address, Show, Picture, Raw, Info, Ban, Unban, Banned, Bans, Gen, Trial, Help, Version}
 
 -- THE NAME
 
@@ -29,6 +31,7 @@ word_of name.Compile = codes "compile"
 word_of name.Decompile = codes "decompile"
 word_of name.Check = codes "check"
 word_of name.Lookup = codes "lookup"
+word_of name.Address = codes "address"
 word_of name.Ban = codes "ban"
 word_of name.Unban = codes "unban"
 word_of name.Banned = codes "banned"
@@ -55,7 +58,7 @@ NameCommand texts (Some name) = texts ≡ word_of name ∷ []
 
 -- What comes after the name of a command: fields of these kinds; the options `--key` and `--net`;
 -- `--net` alone; a subnet; a subnet and two times, of which the first is the earlier one; the name of
--- a command or nothing; or a peer or `-`.
+-- a command or nothing; a peer or `-`; or what people write for an address.
 pub data Form : Type 0 where
   Fields : List Kind → Form
   Opening : Form
@@ -64,6 +67,7 @@ pub data Form : Type 0 where
   Period : Form
   OfCommand : Form
   PeerOrLines : Form
+  OfAddress : Form
 
 -- the values of the arguments after a name
 pub data Values : Type 0 where
@@ -73,6 +77,7 @@ pub data Values : Type 0 where
   TheSubnet : Subnet → Values
   ThePeriod : Subnet → ℕ → ℕ → Values
   TheCommand : Option CommandName → Values
+  TheAddress : NetAddress → Values
 
 -- the arguments after a name are of the form and have these values
 abbrev pub Reads : Form → List (List ℕ) → Values → Type 0
@@ -88,6 +93,8 @@ Reads Period texts v =
 Reads PeerOrLines texts v =
     ((v ≡ TheFields []) × (texts ≡ codes "-" ∷ []))
     ⊎ ((peer : Peer) × (v ≡ TheFields (ThePeer peer ∷ [])) × AllMean (OfPeer ∷ []) texts (ThePeer peer ∷ []))
+Reads OfAddress texts v =
+    (text : List ℕ) × (addr : NetAddress) × (v ≡ TheAddress addr) × (texts ≡ text ∷ []) × IsTextOf text addr
 Reads OfCommand texts v = (command : Option CommandName) × (v ≡ TheCommand command) × NameCommand texts command
 
 -- the arguments after a name are not of the form
@@ -100,6 +107,7 @@ abbrev pub form_of : CommandName → Form
 form_of name.Replay = Opening
 form_of name.Opener = Opening
 form_of name.Lookup = PeerOrLines
+form_of name.Address = OfAddress
 form_of name.Show = Network
 form_of name.Picture = Network
 form_of name.Raw = Network
@@ -123,6 +131,7 @@ name_of Decompile = name.Decompile
 name_of Limit = name.Limit
 name_of (Lookup peer) = name.Lookup
 name_of LookupLines = name.Lookup
+name_of (Address addr) = name.Address
 name_of (Show chain) = name.Show
 name_of (Picture chain) = name.Picture
 name_of (Raw chain) = name.Raw
@@ -141,6 +150,7 @@ abbrev pub values_of : Request → Values
 values_of (Replay key chain) = TheOpening key chain
 values_of (Opener key chain) = TheOpening key chain
 values_of (Lookup peer) = TheFields (ThePeer peer ∷ [])
+values_of (Address addr) = TheAddress addr
 values_of (Show chain) = TheChain chain
 values_of (Picture chain) = TheChain chain
 values_of (Raw chain) = TheChain chain

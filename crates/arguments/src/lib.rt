@@ -9,6 +9,7 @@
 //! returns the text that the definition puts together of the texts in `pages.rt`.
 #![tactic(auto)]
 
+mod address;
 mod bans;
 mod commands;
 mod help;

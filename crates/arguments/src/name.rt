@@ -20,6 +20,7 @@ pub enum CommandName {
     Decompile,
     Check,
     Lookup,
+    Address,
     Ban,
     Unban,
     Banned,
@@ -31,7 +32,7 @@ pub enum CommandName {
 }
 
 /// All names, each once, in the order in which the help lists them.
-pub const NAMES: [CommandName; 19] = [
+pub const NAMES: [CommandName; 20] = [
     CommandName::Replay,
     CommandName::Opener,
     CommandName::Limit,
@@ -43,6 +44,7 @@ pub const NAMES: [CommandName; 19] = [
     CommandName::Decompile,
     CommandName::Check,
     CommandName::Lookup,
+    CommandName::Address,
     CommandName::Ban,
     CommandName::Unban,
     CommandName::Banned,
@@ -69,6 +71,7 @@ impl Keyword for CommandName {
             CommandName::Decompile => b"decompile",
             CommandName::Check => b"check",
             CommandName::Lookup => b"lookup",
+            CommandName::Address => b"address",
             CommandName::Ban => b"ban",
             CommandName::Unban => b"unban",
             CommandName::Banned => b"banned",
@@ -100,6 +103,7 @@ impl CommandName {
             CommandName::Decompile => pages::DECOMPILE,
             CommandName::Check => pages::CHECK,
             CommandName::Lookup => pages::LOOKUP,
+            CommandName::Address => pages::ADDRESS,
             CommandName::Ban => pages::BAN,
             CommandName::Unban => pages::UNBAN,
             CommandName::Banned => pages::BANNED,

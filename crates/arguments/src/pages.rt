@@ -156,6 +156,20 @@ Codes    0 done, 2 bad usage, 3 a line has an error, 5 asmap.dat is refused, 7 t
 ",
 );
 
+pub(crate) const ADDRESS: Page = (
+    "address TEXT",
+    "prints what is known of an address",
+    "\
+Reads    asmap.dat, if it is there.
+Writes   a line each: network, address, name, class, whether it is routable, AS number,
+         left out if asmap.dat gives none, and group in hexadecimal.
+TEXT     a name, as pg6m..ryd.onion or 2001:470::1, or an address as in a log, as
+         [2001:470::1], with or without a port.
+Codes    0 done, 2 bad usage, 5 asmap.dat is refused, 8 the output cannot be written,
+         9 the folder failed, 12 out of memory.
+",
+);
+
 pub(crate) const BAN: Page = (
     "ban SUBNET NOW UNTIL",
     "bans a subnet in banlist.json until a time",

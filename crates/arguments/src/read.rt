@@ -4,6 +4,7 @@ ghost use Rattle.arguments.specs.declared.name.CommandName.TheVariants as name;
 ghost use Rattle.arguments.specs.declared.request.Request.{Request};
 
 use crate::Request;
+use crate::address::read_address;
 use crate::bans::{read_period, read_subnet};
 use crate::commands::{plain_word, read_command};
 use crate::name::{CommandName, NAMES};
@@ -69,6 +70,12 @@ fn read_after(alloc: Global, name: CommandName, rest: &[String]) -> Option<Reque
         CommandName::Decompile => only_name(rest, Request::Decompile),
         CommandName::Limit => only_name(rest, Request::Limit),
         CommandName::Lookup => read_lookup(alloc, rest),
+        CommandName::Address => {
+            let Some(addr) = read_address(rest) else {
+                return None;
+            };
+            Some(Request::Address { addr })
+        }
         CommandName::Show => {
             let Some(chain) = read_net(rest) else {
                 return None;

@@ -1,6 +1,6 @@
 use crate::CommandName;
 use ban_list::Subnet;
-use net_addr::Peer;
+use net_addr::{NetAddr, Peer};
 use peers_file::Chain;
 
 /// What the arguments ask for.
@@ -33,6 +33,10 @@ pub enum Request {
     },
     /// `lookup -`: say the same of the peer of each line of the log.
     LookupLines,
+    /// `address TEXT`: say what is known of the address.
+    Address {
+        addr: NetAddr,
+    },
     /// `show --net CHAIN`: list what peers.dat has, a file of this chain; of main without `--net`.
     Show {
         chain: Chain,

@@ -1,5 +1,5 @@
 /// The forms of the command line, one a command.
-static COMMANDS: [&str; 19] = [
+static COMMANDS: [&str; 20] = [
     "replay --key HEX64 --net CHAIN",
     "opener --key HEX64 --net CHAIN",
     "limit",
@@ -11,6 +11,7 @@ static COMMANDS: [&str; 19] = [
     "decompile",
     "check",
     "lookup PEER",
+    "address TEXT",
     "ban SUBNET NOW UNTIL",
     "unban SUBNET",
     "banned PEER NOW",

@@ -1,5 +1,6 @@
 use ban_list::parse_subnet;
 use grammar::{AddrClasses, Field, Networks, Payload, Random};
+use names::parse_text;
 use net_addr::{parse_addr, parse_number, parse_peer};
 use std::alloc::Global;
 
@@ -9,6 +10,7 @@ enum Kind {
     Addr,
     Peer,
     Subnet,
+    Text,
     Bytes,
     Words,
     Networks,
@@ -33,7 +35,7 @@ const MAX: u64 = 4_294_967_295;
 const TIME: &str = "a time in seconds since 1970, at most 4294967295";
 
 /// The names in forms, but for those of options.
-static NAMES: [Wanted; 18] = [
+static NAMES: [Wanted; 19] = [
     Wanted {
         name: "ADDR",
         kind: Kind::Addr,
@@ -115,6 +117,11 @@ static NAMES: [Wanted; 18] = [
         text: TIME,
     },
     Wanted {
+        name: "TEXT",
+        kind: Kind::Text,
+        text: "an address or a name, with or without a port, as 1.2.3.4 or NAME.onion",
+    },
+    Wanted {
         name: "UNTIL",
         kind: Kind::Number(0, MAX),
         text: "a time after NOW, in seconds since 1970, at most 4294967295",
@@ -138,6 +145,7 @@ impl Wanted {
             Kind::Addr => parse_addr(text).is_some(),
             Kind::Peer => parse_peer(text).is_some(),
             Kind::Subnet => parse_subnet(text).is_some(),
+            Kind::Text => parse_text(text).is_some(),
             Kind::Bytes => Payload::read(alloc, text).is_ok(),
             Kind::Words => Random::read(alloc, text).is_ok(),
             Kind::Networks => Networks::read(alloc, text).is_ok(),

@@ -3,38 +3,34 @@ use Rattle.placing.specs.Inside.{map_of}
 use Rattle.addrman_run.specs.Inside.{IsLoadFault}
 use Rattle.addrman_run.specs.Opening.{HasMap}
 use Rattle.addrman_run.specs.declared.input.Input.TheVariants as input
-use Rattle.addrman_run.proofs.Asmaps.{map_in, within}
 use Rattle.addrman_run.proofs.Openings.{err_so, found_before, no_peers, not_opened, ok_so, opens}
 use Rattle.addrman_run.proofs.opening.open_folder.Goals as goal
-
-pub check_map-requires : goal.check_map-requires
-check_map-requires g c = within (g.F.Folder.past c.args.folder.now) c.in-Ok.bytes c.in-Ok.ensures.found
 
 pub returns-in-Err-load_input-clause-cause : goal.returns-in-Err-load_input-clause-cause
 returns-in-Err-load_input-clause-cause g c =
     let past = g.F.Folder.past c.args.folder.now in
-    let map : HasMap past = (map_of c.in-Ok-check_map.map, map_in past c.in-Ok.bytes (map_of c.in-Ok-check_map.map) c.in-Ok.ensures.found c.in-Ok-check_map.ensures.found) in
+    let map : HasMap past = (map_of c.in-Ok.map, c.in-Ok.ensures.found) in
     no_peers c.args.key c.args.chain past map c.in-Err-load_input.status
-    (subst (λ p. IsLoadFault input.Peers p c.in-Err-load_input.status) c.load_input.ensures.same c.in-Err-load_input.ensures.cause)
+    (subst (λ p. IsLoadFault input.Peers p c.in-Err-load_input.status) c.open_map.ensures.same c.in-Err-load_input.ensures.cause)
 
 pub returns-clause-found : goal.returns-clause-found
 returns-clause-found g c =
     let past = g.F.Folder.past c.args.folder.now in
-    let map = map_of c.in-Ok-check_map.map in
+    let map = map_of c.in-Ok.map in
     ok_so _ _ c.open_tables.result
     (λ tables is. record {
       map = map;
-      has_map = map_in past c.in-Ok.bytes map c.in-Ok.ensures.found c.in-Ok-check_map.ensures.found;
+      has_map = c.in-Ok.ensures.found;
       opens = opens c.args.key c.args.chain past c.in-Ok-load_input.file map tables
-          (found_before _ past c.in-Ok-load_input.file c.load_input.ensures.same c.in-Ok-load_input.ensures.found) is;
+          (found_before _ past c.in-Ok-load_input.file c.open_map.ensures.same c.in-Ok-load_input.ensures.found) is;
     })
     c.open_tables.ensures.found
 
 pub returns-clause-cause : goal.returns-clause-cause
 returns-clause-cause g c =
     let past = g.F.Folder.past c.args.folder.now in
-    let map : HasMap past = (map_of c.in-Ok-check_map.map, map_in past c.in-Ok.bytes (map_of c.in-Ok-check_map.map) c.in-Ok.ensures.found c.in-Ok-check_map.ensures.found) in
+    let map : HasMap past = (map_of c.in-Ok.map, c.in-Ok.ensures.found) in
     err_so _ _ c.open_tables.result
     (λ status is. not_opened c.args.key c.args.chain past map c.in-Ok-load_input.file status
-    (found_before _ past c.in-Ok-load_input.file c.load_input.ensures.same c.in-Ok-load_input.ensures.found) is)
+    (found_before _ past c.in-Ok-load_input.file c.open_map.ensures.same c.in-Ok-load_input.ensures.found) is)
     c.open_tables.ensures.cause
