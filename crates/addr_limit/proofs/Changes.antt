@@ -1,5 +1,6 @@
 -- The calls of `Limiter` change the connections as the events say.
-use Rattle.std.proofs.Common.{◌≡◌, ℕ, ◌+◌, ◌≤◌, List, [], ◌∷◌, length, map, not, Option, Some, None, is_none, nat_lt, unwrap_or, if◌then◌else◌, ◌==◌, Bool, true, false, Ok, Err, refl, sym, ◌∙◌, ap, subst, arith}
+use Rattle.std.proofs.Common.{◌≡◌, ℕ, ◌+◌, ◌≤◌, List, [], ◌∷◌, length, map, not, Option, Some, None, is_none, nat_lt, unwrap_or, if◌then◌else◌, ◌==◌, Bool, true, false, Result, Ok, inl, inr, refl, sym, ◌∙◌, ap, subst, arith}
+use Rattle.std.specs.Prelude.{◌⊎◌}
 use Rattle.std.specs.List.{AllByRecursion, zip}
 use Rattle.std.specs.List.Sorted.{IsStrictlySortedBy}
 use Rattle.std.specs.Ordering.{nat_cmp}
@@ -14,7 +15,7 @@ use Rattle.addr_limit.specs.declared.request.Request.{Request}
 use Rattle.addr_limit.specs.declared.request.Request.TheVariants.{Open, Close, GetAddr, Message, Stat}
 use Rattle.addr_limit.specs.State.{find_conn, with_conn, without_conn, set_conn, AreRising}
 use Rattle.addr_limit.specs.Tokens.{refill, after_entry, after_entries}
-use Rattle.addr_limit.specs.Steps.{Outcome, new_conn, serve, limit_entries}
+use Rattle.addr_limit.specs.Steps.{Outcome, new_conn, serve, serve_none, limit_entries}
 use Rattle.addr_limit.specs.Calls.{after_open, after_asking, after_message}
 
 -- ---- a connection that stays
@@ -27,6 +28,21 @@ without-none number (c ∷ conns) h = by (c.number == number) h (without-none nu
         (if not b then c ∷ without_conn number conns else without_conn number conns) ≡ c ∷ conns
     by true e rest = absurd cc
     by false e rest = ap (λ cs. c ∷ cs) (rest e)
+
+-- a request besides `open` about a number that has no connection
+abbrev OpensNone : Request → Type 0
+OpensNone request =
+    (request ≡ Close) ⊎ ((request ≡ GetAddr) ⊎ (((read : Result (List (Option Entry)) MsgFault) × (words : List ℕ) × (request ≡ Message read words)) ⊎ (request ≡ Stat)))
+
+opens_none : (now number : ℕ) (request : Request) → OpensNone request → (serve_none now number request).conn ≡ None
+opens_none now number request (inl is) = ap (λ r. (serve_none now number r).conn) is
+opens_none now number request (inr (inl is)) = ap (λ r. (serve_none now number r).conn) is
+opens_none now number request (inr (inr (inl (read, words, is)))) = ap (λ r. (serve_none now number r).conn) is
+opens_none now number request (inr (inr (inr is))) = ap (λ r. (serve_none now number r).conn) is
+
+pub stays_closed : (now number : ℕ) (conns : List Conn) (request : Request) → find_conn number conns ≡ None → OpensNone request → conns ≡ set_conn number (serve_none now number request).conn conns
+stays_closed now number conns request absent is =
+    sym (ap (λ o. set_conn number o conns) (opens_none now number request is) ∙ without-none number conns absent)
 
 -- the numbers of all connections after the first are greater
 above : (c : Conn) (conns : List Conn) (d : Conn) (number : ℕ) → AllByRecursion (λ k. nat_cmp c.number k ≡ nat_cmp 0 1) (map (λ e. e.number) conns) → find_conn number conns ≡ Some d → nat_lt c.number number ≡ true
@@ -73,7 +89,7 @@ entries-length c [] (f ∷ fs) h = absurd (omega (arith, h))
 entries-length c (e ∷ es) [] h = absurd (omega (arith, h))
 entries-length c (e ∷ es) (f ∷ fs) h = entries-length (after_entry c) es fs (omega (arith, h))
 
-entries-pairs : (c : Conn) (entries : List (Option Entry)) (words : List ℕ) → nat_lt (length words) (length entries) ≡ false → after_entries c entries ≡ after_entries c (zip entries words)
+pub entries-pairs : (c : Conn) (entries : List (Option Entry)) (words : List ℕ) → nat_lt (length words) (length entries) ≡ false → after_entries c entries ≡ after_entries c (zip entries words)
 entries-pairs c entries words enough = entries-length c entries (zip entries words) (grind (arith, nat_tests, enough, length-zip entries words))
 
 -- ---- the requests
@@ -111,31 +127,6 @@ module _ (now number : ℕ) (conns : List Conn) (rising : AreRising conns) where
       by None same = sym same
       by (Some c) same = asked_or_not c c.asked same
 
-  pub stat-is : conns ≡ Next Stat
-  stat-is = by (find_conn number conns) (set-found number conns rising)
-    where
-      by : (o : Option Conn) → set_conn number o conns ≡ conns → conns ≡ set_conn number (serve now number o Stat).conn conns
-      by None same = sym same
-      by (Some c) same = sym same
-
-  pub refused-is : (fault : MsgFault) (words : List ℕ) → conns ≡ Next (Message (Err fault) words)
-  refused-is fault words = by (find_conn number conns) (set-found number conns rising)
-    where
-      by : (o : Option Conn) → set_conn number o conns ≡ conns → conns ≡ set_conn number (serve now number o (Message (Err fault) words)).conn conns
-      by None same = sym same
-      by (Some c) same = sym same
-
-  pub short-is : (entries : List (Option Entry)) (words : List ℕ) → nat_lt (length words) (length entries) ≡ true → conns ≡ Next (Message (Ok entries) words)
-  short-is entries words short = by (find_conn number conns) (set-found number conns rising)
-    where
-      by_test : (c : Conn) (b : Bool) (o p : Outcome) → o.conn ≡ Some c → b ≡ true → (if b then o else p).conn ≡ Some c
-      by_test c true o p is holds = is
-      by_test c false o p is holds = absurd cc
-
-      by : (o : Option Conn) → set_conn number o conns ≡ conns → conns ≡ set_conn number (serve now number o (Message (Ok entries) words)).conn conns
-      by None same = sym same
-      by (Some c) same = sym (ap (λ o. set_conn number o conns) (by_test c (nat_lt (length words) (length entries)) _ _ refl short) ∙ same)
-
   pub taken-is : (entries : List (Option Entry)) (words : List ℕ) → nat_lt (length words) (length entries) ≡ false →
       after_message now entries (find_conn number conns) conns ≡ Next (Message (Ok entries) words)
   taken-is entries words enough = by (find_conn number conns) (set-found number conns rising)
@@ -149,8 +140,3 @@ module _ (now number : ℕ) (conns : List Conn) (rising : AreRising conns) where
       by (Some c) same =
           ap (λ d. with_conn d conns) (entries-pairs (refill now c) entries words enough)
           ∙ sym (ap (λ o. set_conn number o conns) (by_test (nat_lt (length words) (length entries)) _ (limit_entries (refill now c) (zip entries words)) enough))
-
--- the connections after a request that is known
-pub along : (now number : ℕ) (conns new : List Conn) (request is : Request) → request ≡ is → new ≡ set_conn number (serve now number (find_conn number conns) is).conn conns →
-    new ≡ set_conn number (serve now number (find_conn number conns) request).conn conns
-along now number conns new request is same h = h ∙ ap (λ r. set_conn number (serve now number (find_conn number conns) r).conn conns) (sym same)

@@ -7,6 +7,8 @@ pub mod Fits
 mod Examples
 pub mod Events
 pub mod Entries
+pub mod Written
+pub mod Removed
 pub mod Messages
 pub mod Changes
 pub mod PassedOn

@@ -1,7 +1,8 @@
 //! The limit on the addresses that a node takes from each of its connections: a token bucket for
 //! each.
 //!
-//! Contracts see a `Limiter` as the clock and the list of connections, by rising number.
+//! Contracts see a `Limiter` as the list of connections, by rising number, and a `LimitLog` as the
+//! clock and the same list. A connection is found by one look-up under the caller's hasher.
 //!
 //! Proved: each call leaves the connections that the definition gives. A step never takes a
 //! connection above 2,000 tokens, or 1,000 before getaddr, if it was not above before. What one
@@ -10,6 +11,7 @@
 #![tactic(auto)]
 
 mod asked;
+mod by_number;
 mod conn;
 mod event;
 mod law;
@@ -20,6 +22,7 @@ mod payload;
 mod print;
 mod read;
 mod request;
+mod serving;
 mod verb;
 
 pub use asked::Asked;

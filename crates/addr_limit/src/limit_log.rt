@@ -1,36 +1,33 @@
 ghost use Rattle.std.specs.Prelude.{◌≡◌, ◌++◌, [], ◌∷◌, OnOk, OnErr};
-ghost use Rattle.addr_limit.specs.State.{find_conn, set_conn, AreRising};
-ghost use Rattle.addr_limit.specs.Steps.{serve};
-ghost use Rattle.addr_limit.specs.Inside.{IsShort, IsShortRead};
-ghost use Rattle.addr_limit.specs.declared.request.Request;
 
-use crate::passing::count_of;
-use crate::print::output_line;
 use crate::read::LimitLines;
 use crate::{Event, Limiter, Memory, Request};
-use addr_codecs::{Entries, MsgFault};
-use grammar::{LineFault, Words, read_said};
+use grammar::{LineFault, read_said};
 use host_io::LINE_FEED;
 use log_run::{LineSteps, Stop};
 use std::alloc::Global;
+use std::hash::BuildHasher;
 use std::marker::Model;
 
 /// A clock, and the connections.
 #[derive(Drop)]
-pub struct LimitLog {
+pub struct LimitLog<H: BuildHasher> {
     clock: u32,
-    limiter: Limiter,
+    limiter: Limiter<H>,
 }
 
-impl Model for LimitLog {
+impl<H: BuildHasher> Model for LimitLog<H> {
+    ghost use Rattle.std.specs.Coded.{codes};
     ghost use Rattle.addr_limit.specs.State.{State};
 
     ghost Value = { State };
 
+    ghost coded = { Prim.hlevel codes };
+
     ghost view = { λ l. record { clock = l.clock; conns = l.limiter } };
 }
 
-impl LimitLog {
+impl<H: BuildHasher> LimitLog<H> {
     ghost use Rattle.std.specs.Prelude.{◌≡◌, ◌≢◌, ◌≤◌, ◌++◌, ◌⊎◌, [], ◌∷◌, ℕ, List, length, Err, OnOk, OnErr};
     ghost use Rattle.addr_limit.specs.State.{start};
     ghost use Rattle.addr_limit.specs.Steps.{after, output, serve_in};
@@ -39,12 +36,12 @@ impl LimitLog {
     ghost use Rattle.addr_limit.specs.Inside.{IsShort, IsShortEvent};
 
     /// Makes the log of no lines: the clock is 0, and there are no connections.
-    pub fn make(alloc: Global) -> LimitLog
+    pub fn make(alloc: Global, hasher: H) -> LimitLog<H>
         ensures { result ≡ start }
     {
         LimitLog {
             clock: 0,
-            limiter: Limiter::make(alloc),
+            limiter: Limiter::make(alloc, hasher),
         }
     }
 
@@ -106,8 +103,7 @@ impl LimitLog {
         Ok(())
     }
 
-    /// Carries out a request about a number, and appends its output line. The line is appended
-    /// first, so that only opening a connection may fail after it, and is then taken back.
+    /// Carries out a request about a number, and appends its output line and a line feed.
     fn serve(
         &mut self,
         alloc: Global,
@@ -122,22 +118,12 @@ impl LimitLog {
         ensures err { OnErr result (self.new ≡ self.old) }
         ensures list { OnErr result (out.new.items ≡ out.old.items) }
     {
-        let found = self.limiter.find(number);
-        let text = output_line(alloc, self.clock, number, found, request)?;
-        let length = out.len();
-        out.extend_from_slice(text.as_slice())?;
-        match change(&mut self.limiter, self.clock, number, request) {
-            Ok(()) => Ok(()),
-            Err(fault) => {
-                out.truncate(length);
-                Err(fault)
-            }
-        }
+        self.limiter.serve(alloc, self.clock, number, request, out)
     }
 }
 
 /// The lines of a log, one step a line. They change nothing besides the log's own state.
-impl LineSteps<()> for LimitLog {
+impl<H: BuildHasher> LineSteps<()> for LimitLog<H> {
     ghost use Rattle.std.specs.Prelude.{⊤};
     ghost use Rattle.addr_limit.specs.Lines.{HasFault, LimitStep};
 
@@ -160,54 +146,6 @@ impl LineSteps<()> for LimitLog {
             Ok(()) => Ok(()),
             Err(fault) => Err(Stop::of(fault)),
         }
-    }
-}
-
-/// Changes the connection of a number as the request says, at a time in seconds since 1970.
-fn change(limiter: &mut Limiter, clock: u32, number: u32, request: &Request) -> Result<(), Memory>
-    requires rising { AreRising limiter.old }
-    requires short { IsShort request.now }
-    ensures change { OnOk result (limiter.new ≡ set_conn number
-        (serve clock number (find_conn number limiter.old) request.now).conn limiter.old) }
-    ensures err { OnErr result (limiter.new ≡ limiter.old) }
-{
-    match request {
-        Request::Open { addr, unlimited } => {
-            limiter.add_conn(number, *addr, *unlimited, clock)?;
-        }
-        Request::Close => {
-            limiter.close_conn(number);
-        }
-        Request::GetAddr => {
-            limiter.getaddr(number);
-        }
-        Request::Message { read, words } => {
-            limit_message(limiter, clock, number, read, words);
-        }
-        Request::Stat => {}
-    }
-    Ok(())
-}
-
-/// Spends the tokens for a message, unless it was refused or has too few random words.
-fn limit_message(
-    limiter: &mut Limiter,
-    clock: u32,
-    number: u32,
-    read: &Result<Entries, MsgFault>,
-    words: &Words,
-)
-    requires rising { AreRising limiter.old }
-    requires short { IsShortRead read.now }
-    ensures { limiter.new ≡ set_conn number (serve clock number (find_conn number limiter.old)
-        (Request.Message read.now words.now)).conn limiter.old }
-{
-    let Ok(entries) = read else {
-        return;
-    };
-    let entries = entries.items();
-    if entries.len() <= words.items().len() {
-        limiter.admit(number, count_of(entries), clock);
     }
 }
 

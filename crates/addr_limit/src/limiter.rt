@@ -1,53 +1,48 @@
-ghost use Rattle.std.specs.Prelude.{◌≡◌, ◌≤◌, Option, Some, None, is_some, is_none, IsSome, IfSome, IfOk, OnOk, OnErr, option_map, option_copied};
-ghost use Rattle.addr_limit.specs.State.{find_conn, with_conn, without_conn};
-ghost use Rattle.addr_limit.specs.Tokens.{refill, intake_count, admit_conn};
-ghost use Rattle.addr_limit.specs.Inside.{conns_of, AreKept, IsConn};
-
-use crate::{Asked, Conn, Memory};
+use crate::by_number::{admit_in, find_in, getaddr_in, put_in, remove_in, serve_in};
+use crate::{Asked, Conn, Memory, Request};
+use indexmap::IndexMap;
 use net_addr::NetAddr;
 use std::alloc::Global;
-use std::collections::BTreeMap;
+use std::hash::BuildHasher;
 use std::marker::Model;
 
-/// What an entry costs, in tenths of a token.
-const TOKEN: u32 = 10;
-
-/// The tokens that time gives, and getaddr once, in tenths: a thousand tokens.
-const THOUSAND: u32 = 10_000;
-
-/// The connections by number.
+/// The connections by number. A number is found by one look-up under the caller's hasher.
 #[derive(Drop)]
-pub struct Limiter {
-    conns: BTreeMap<u32, Conn>,
+pub struct Limiter<H: BuildHasher> {
+    conns: IndexMap<u32, Conn, H>,
 }
 
-impl Model for Limiter {
+impl<H: BuildHasher> Model for Limiter<H> {
+    ghost use Rattle.std.specs.Coded.{codes};
     ghost use Rattle.std.specs.Prelude.{List};
     ghost use Rattle.addr_limit.specs.declared.conn.Conn.{Conn};
-    ghost use Rattle.addr_limit.specs.Inside.{conns_of, AreKept};
+    ghost use Rattle.addr_limit.specs.Inside.{conns_of, AreEntries};
 
     ghost Value = { List Conn };
 
+    ghost coded = { Prim.hlevel codes };
+
     ghost view = { λ l. conns_of l.conns.entries };
 
-    ghost invariant = { λ l. AreKept l.conns.entries };
+    ghost invariant = { λ l. AreEntries l.conns.entries };
 }
 
-impl Limiter {
-    ghost use Rattle.std.specs.Prelude.{◌≡◌, ◌≤◌, [], Option, Some, List, length, take, is_some, is_none, IfSome, IfOk, OnOk, OnErr, option_map, option_copied};
+impl<H: BuildHasher> Limiter<H> {
+    ghost use Rattle.std.specs.Prelude.{◌≡◌, ◌≤◌, ◌++◌, [], ◌∷◌, Option, Some, List, length, take, is_some, is_none, IfSome, IfOk, OnOk, OnErr, option_map, option_copied};
     ghost use Rattle.net_addr.specs.declared.entry.Entry.{Entry};
     ghost use Rattle.addr_limit.specs.declared.conn.Conn.{Conn};
-    ghost use Rattle.addr_limit.specs.State.{find_conn, without_conn, IsBounded, AreRising};
-    ghost use Rattle.addr_limit.specs.Steps.{new_conn};
+    ghost use Rattle.addr_limit.specs.State.{find_conn, without_conn, set_conn, IsBounded, AreRising};
+    ghost use Rattle.addr_limit.specs.Steps.{new_conn, serve};
     ghost use Rattle.addr_limit.specs.Tokens.{refill, intake, intake_count, admit_conn};
     ghost use Rattle.addr_limit.specs.Calls.{asked_of, after_open, after_asking, after_taking, after_message};
+    ghost use Rattle.addr_limit.specs.Inside.{IsShort};
 
     /// Makes the limit, with no connections.
-    pub fn make(alloc: Global) -> Limiter
+    pub fn make(alloc: Global, hasher: H) -> Limiter<H>
         ensures { result ≡ [] }
     {
         Limiter {
-            conns: BTreeMap::new(alloc),
+            conns: IndexMap::with_hasher(alloc, hasher),
         }
     }
 
@@ -77,17 +72,7 @@ impl Limiter {
         if find_in(&self.conns, number).is_some() {
             return Ok(false);
         }
-        let conn = Conn {
-            number,
-            addr,
-            tenths: TOKEN,
-            moment: now,
-            asked: false,
-            unlimited,
-            processed: 0,
-            limited: 0,
-        };
-        put_in(&mut self.conns, conn)?;
+        put_in(&mut self.conns, number, addr, unlimited, now)?;
         Ok(true)
     }
 
@@ -96,7 +81,7 @@ impl Limiter {
         ensures answer { result ≡ is_some (find_conn number self.old) }
         ensures without { self.new ≡ without_conn number self.old }
     {
-        take_out(&mut self.conns, number)
+        remove_in(&mut self.conns, number)
     }
 
     /// Gives the connection of the number a thousand tokens, since getaddr was sent to it. A
@@ -105,20 +90,7 @@ impl Limiter {
         ensures answer { result ≡ asked_of (find_conn number self.old) }
         ensures conns { self.new ≡ after_asking (find_conn number self.old) self.old }
     {
-        let conn = match find_in(&self.conns, number) {
-            None => return Asked::Unknown,
-            Some(conn) => *conn,
-        };
-        if conn.asked {
-            return Asked::Already;
-        }
-        let asked = Conn {
-            tenths: conn.tenths + THOUSAND,
-            asked: true,
-            ..conn
-        };
-        replace(&mut self.conns, asked);
-        Asked::Granted
+        getaddr_in(&mut self.conns, number)
     }
 
     /// Takes a message of this many entries from the number's connection, at the time `now` in
@@ -137,115 +109,27 @@ impl Limiter {
             (c : Conn) → find_conn number self.old ≡ Some c →
             IfSome result (λ n. intake (refill now c) entries ≡ take n entries) }
     {
-        let Some(conn) = find_in(&self.conns, number) else {
-            return None;
-        };
-        let conn = refilled(conn, now);
-        let taken = intake_count(&conn, count);
-        replace(&mut self.conns, after(&conn, count));
-        Some(taken)
+        admit_in(&mut self.conns, number, count, now)
     }
-}
 
-/// Returns how many of this many entries are admitted from the connection at the time `clock`, in
-/// seconds since 1970.
-pub(crate) fn admitted(conn: &Conn, count: u32, clock: u32) -> u32
-    ensures count { result ≡ intake_count (refill clock conn.now) count }
-    ensures few { result ≤ count }
-{
-    intake_count(&refilled(conn, clock), count)
-}
-
-/// Returns the connection with the tokens of the time up to `clock`, in seconds since 1970.
-fn refilled(conn: &Conn, clock: u32) -> Conn
-    ensures value { result ≡ refill clock conn.now }
-    ensures conn { IsConn conn.now → IsConn result }
-{
-    let tenths = if conn.tenths < THOUSAND {
-        let more = conn
-            .tenths
-            .saturating_add(clock.saturating_sub(conn.moment));
-        more.min(THOUSAND)
-    } else {
-        conn.tenths
-    };
-    Conn {
-        tenths,
-        moment: clock,
-        ..*conn
+    /// Carries out a request about the connection of the number, at a time in seconds since 1970,
+    /// and appends its output line and a line feed. If memory runs out, nothing changes.
+    pub(crate) fn serve(
+        &mut self,
+        alloc: Global,
+        clock: u32,
+        number: u32,
+        request: &Request,
+        out: &mut Vec<u8>,
+    ) -> Result<(), Memory>
+        requires { IsShort request.now }
+        ensures conns { OnOk result (self.new ≡ set_conn number
+            (serve clock number (find_conn number self.old) request.now).conn self.old) }
+        ensures text { OnOk result (out.new.items ≡ out.old.items
+            ++ ((serve clock number (find_conn number self.old) request.now).text ++ 10 ∷ [])) }
+        ensures err { OnErr result (self.new ≡ self.old) }
+        ensures list { OnErr result (out.new.items ≡ out.old.items) }
+    {
+        serve_in(&mut self.conns, alloc, clock, number, request, out)
     }
-}
-
-/// Returns how many of this many entries are admitted.
-fn intake_count(conn: &Conn, count: u32) -> u32
-    ensures count { result ≡ intake_count conn.now count }
-    ensures few { result ≤ count }
-{
-    if conn.unlimited {
-        count
-    } else {
-        count.min(conn.tenths / TOKEN)
-    }
-}
-
-/// Returns the connection after this many entries.
-fn after(conn: &Conn, count: u32) -> Conn
-    requires { IsConn conn.now }
-    ensures value { result ≡ admit_conn conn.now count }
-    ensures conn { IsConn result }
-{
-    let taken = intake_count(conn, count);
-    Conn {
-        tenths: conn.tenths - TOKEN * count.min(conn.tenths / TOKEN),
-        processed: conn.processed.saturating_add(taken),
-        limited: conn.limited.saturating_add(count - taken),
-        ..*conn
-    }
-}
-
-/// Returns the connection of the number.
-fn find_in(conns: &BTreeMap<u32, Conn>, number: u32) -> Option<&Conn>
-    requires { AreKept conns.now.entries }
-    ensures found { option_copied result ≡ find_conn number (conns_of conns.now.entries) }
-    ensures conn { IfSome result (λ c. IsConn c.now × (c.now.number ≡ number)) }
-{
-    conns.get(&number)
-}
-
-/// Puts a connection at its position, where it replaces the one of its number.
-fn put_in(conns: &mut BTreeMap<u32, Conn>, conn: Conn) -> Result<(), Memory>
-    requires entries { AreKept conns.old.entries }
-    requires conn { IsConn conn }
-    ensures put { OnOk result (conns_of conns.new.entries
-        ≡ with_conn conn (conns_of conns.old.entries)) }
-    ensures full { OnErr result (find_conn conn.number (conns_of conns.old.entries) ≡ None) }
-    ensures err { OnErr result (conns.new.entries ≡ conns.old.entries) }
-    ensures entries { AreKept conns.new.entries }
-{
-    match conns.insert(conn.number, conn) {
-        Ok(_) => Ok(()),
-        Err(_) => Err(Memory),
-    }
-}
-
-/// Replaces a connection.
-fn replace(conns: &mut BTreeMap<u32, Conn>, conn: Conn)
-    requires entries { AreKept conns.old.entries }
-    requires conn { IsConn conn }
-    requires known { IsSome (find_conn conn.number (conns_of conns.old.entries)) }
-    ensures put { conns_of conns.new.entries ≡ with_conn conn (conns_of conns.old.entries) }
-    ensures entries { AreKept conns.new.entries }
-{
-    // A number that is there takes no memory.
-    let _ = put_in(conns, conn);
-}
-
-/// Removes the connection of the number. Returns `true` if there was one.
-fn take_out(conns: &mut BTreeMap<u32, Conn>, number: u32) -> bool
-    requires { AreKept conns.old.entries }
-    ensures answer { result ≡ is_some (find_conn number (conns_of conns.old.entries)) }
-    ensures out { conns_of conns.new.entries ≡ without_conn number (conns_of conns.old.entries) }
-    ensures entries { AreKept conns.new.entries }
-{
-    conns.remove(&number).is_some()
 }

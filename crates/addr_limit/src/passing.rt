@@ -39,8 +39,8 @@ pub(crate) fn passing_entries(
     ensures passing { IfOk result (λ s. ArePassing s.entries.items) }
 {
     let mut passing = Passing {
-        entries: Vec::new(alloc),
-        words: Vec::new(alloc),
+        entries: Vec::with_capacity(alloc, taken)?,
+        words: Vec::with_capacity(alloc, taken)?,
     };
     for i in 0..taken {
         if let Some(entry) = unless_hidden(&entries[i]) {

@@ -1,11 +1,11 @@
-ghost use Rattle.std.specs.Prelude.{◌≡◌, ◌++◌, [], ◌∷◌, codes, decimal, map, ℕ, List, if◌then◌else◌, IfOk, IfSome, OnOk, option_copied};
+ghost use Rattle.std.specs.Prelude.{◌≡◌, ◌++◌, [], ◌∷◌, codes, decimal, map, ℕ, List, if◌then◌else◌, IfOk, OnOk};
 ghost use Rattle.net_addr.specs.declared.entry.Entry.{Entry};
 ghost use Rattle.log_lines.specs.Replies.{reply_line, numbers_text};
-ghost use Rattle.addr_limit.specs.Steps.{comment, stat_text, addrv2_line, message_line, limit_message, serve, serve_none, serve_conn};
+ghost use Rattle.addr_limit.specs.Steps.{comment, stat_text, addrv2_line, message_line, limit_message, serve_none, serve_conn};
 ghost use Rattle.addr_limit.specs.Inside.{IsShort, IsShortRead, ArePassing};
 
-use crate::limiter::admitted;
 use crate::passing::{Passing, count_of, passing_entries};
+use crate::serving::admitted;
 use crate::{Conn, Memory, Request};
 use addr_codecs::{Entries, MsgFault, write_addrv2};
 use grammar::Words;
@@ -14,27 +14,11 @@ use log_lines::{Reply, reply_text};
 use net_addr::{Entry, NetAddr, put_addr, put_number, put_text};
 use std::alloc::Global;
 
-/// Returns the output line of a request, with its line feed, by the clock in seconds since 1970 and
-/// the connection that is found at the number.
-pub(crate) fn output_line(
-    alloc: Global,
-    clock: u32,
-    number: u32,
-    found: Option<&Conn>,
-    request: &Request,
-) -> Result<Vec<u8>, Memory>
-    requires { IsShort request.now }
-    ensures { IfOk result (λ text. text.items
-        ≡ (serve clock number (option_copied found.entry) request.now).text ++ 10 ∷ []) }
-{
-    match found {
-        None => unknown_line(alloc, number, request),
-        Some(conn) => known_line(alloc, clock, conn, request),
-    }
-}
+/// The room that a line gets at first, in bytes: enough for a message of one entry.
+const LINE_ROOM: usize = 160;
 
 /// Returns the output line of a request about a number that has no connection, at any time.
-fn unknown_line(alloc: Global, number: u32, request: &Request) -> Result<Vec<u8>, Memory>
+pub(crate) fn unknown_line(alloc: Global, number: u32, request: &Request) -> Result<Vec<u8>, Memory>
     ensures { (clock : ℕ) → IfOk result (λ text. text.items
         ≡ (serve_none clock number request.now).text ++ 10 ∷ []) }
 {
@@ -48,7 +32,12 @@ fn unknown_line(alloc: Global, number: u32, request: &Request) -> Result<Vec<u8>
 }
 
 /// Returns the output line of a request about a connection.
-fn known_line(alloc: Global, clock: u32, conn: &Conn, request: &Request) -> Result<Vec<u8>, Memory>
+pub(crate) fn known_line(
+    alloc: Global,
+    clock: u32,
+    conn: &Conn,
+    request: &Request,
+) -> Result<Vec<u8>, Memory>
     requires { IsShort request.now }
     ensures { IfOk result (λ text. text.items
         ≡ (serve_conn clock conn.now request.now).text ++ 10 ∷ []) }
@@ -163,7 +152,7 @@ fn addrv2_line(
 {
     let payload = write_addrv2(alloc, entries)?;
     let digits = hex::encode(alloc, payload.items())?;
-    let mut text = Vec::new(alloc);
+    let mut text = Vec::with_capacity(alloc, LINE_ROOM)?;
     put_text(b"addrv2 ", &mut text)?;
     put_addr(addr, &mut text)?;
     put_text(b" ", &mut text)?;
@@ -188,7 +177,7 @@ fn comment_line(alloc: Global, word: &[u8], number: u32, said: &[u8]) -> Result<
 fn comment(alloc: Global, word: &[u8], number: u32, said: &[u8]) -> Result<Vec<u8>, Memory>
     ensures { IfOk result (λ text. text.items ≡ comment word.now number said.now) }
 {
-    let mut text = Vec::new(alloc);
+    let mut text = Vec::with_capacity(alloc, LINE_ROOM)?;
     put_text(b"# ", &mut text)?;
     put_text(word, &mut text)?;
     put_number(b" ", u64::from(number), &mut text)?;

@@ -8,6 +8,7 @@ ghost use Rattle.placing.specs.Places.{coded_places};
 
 use addr_limit::Limiter;
 use box_parts::Parts;
+use keyed_hasher::Keyed;
 use std::alloc::Global;
 use std::marker::Model;
 use std::{mem, ptr};
@@ -15,7 +16,7 @@ use std::{mem, ptr};
 /// What an open handle of a limit keeps.
 #[derive(Drop)]
 pub struct KeptLimiter {
-    pub limiter: Limiter,
+    pub limiter: Limiter<Keyed>,
 }
 
 /// A pointer to what a handle keeps, or none. C sees a pointer without a type.

@@ -9,6 +9,7 @@ use crate::limiter_handle::{KeptLimiter, LimiterHandle};
 use crate::structs::AddrmanLimits;
 use crate::values::{AddrmanAddr, bit, read_addr};
 use addr_limit::{Asked, Conn, Limiter};
+use keyed_hasher::Keyed;
 use net_addr::NetAddr;
 use std::alloc::Global;
 
@@ -19,7 +20,8 @@ pub extern "C" fn addrman_limiter_open(alloc: Global, handle: &mut LimiterHandle
 {
     let _old = handle.take(alloc);
     let kept = KeptLimiter {
-        limiter: Limiter::make(alloc),
+        // Numbers are the node's own, so the keys need not be secret.
+        limiter: Limiter::make(alloc, Keyed::make(0, 0)),
     };
     match Box::new(alloc, kept) {
         Ok(kept) => {
@@ -40,7 +42,7 @@ pub extern "C" fn addrman_limiter_close(alloc: Global, handle: &mut LimiterHandl
 
 /// Opens a connection.
 fn connect_on(
-    limiter: &mut Limiter,
+    limiter: &mut Limiter<Keyed>,
     number: u32,
     addr: Option<NetAddr>,
     unlimited: bool,
@@ -137,7 +139,7 @@ pub extern "C" fn addrman_limiter_getaddr(
 }
 
 /// Takes a message of this many entries.
-fn admit_on(limiter: &mut Limiter, number: u32, count: u32, now: u32, admitted: &mut u32) -> u32
+fn admit_on(limiter: &mut Limiter<Keyed>, number: u32, count: u32, now: u32, admitted: &mut u32) -> u32
     ensures { AdmitCall count now (find_conn number limiter.old) limiter.old result admitted.new
         limiter.new }
 {
@@ -190,7 +192,7 @@ fn limits_of(conn: &Conn) -> AddrmanLimits
 }
 
 /// Writes what is known of the connection of a number.
-fn stat_on(limiter: &Limiter, number: u32, out: &mut AddrmanLimits) -> u32
+fn stat_on(limiter: &Limiter<Keyed>, number: u32, out: &mut AddrmanLimits) -> u32
     ensures { StatCall (find_conn number limiter.now) result out.new }
 {
     match limiter.find(number) {

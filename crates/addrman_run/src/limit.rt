@@ -10,10 +10,16 @@ use addr_limit::{LimitLog, connections_are_apart};
 use host_io::{Sink, Source};
 use log_run::run_log;
 use std::alloc::Global;
+use std::hash::BuildHasher;
 
 /// Carries out the lines of the log under the limit on received addresses, and writes the output
 /// line of each.
-pub(crate) fn limit<L: Source, K: Sink>(alloc: Global, log: &mut L, out: &mut K) -> Status
+pub(crate) fn limit<L: Source, K: Sink, H: BuildHasher + Drop>(
+    alloc: Global,
+    hasher: H,
+    log: &mut L,
+    out: &mut K,
+) -> Status
     ensures outcome { LimitOutcome
         (record { left = L.left log.old; written = K.written out.old })
         (record { left = L.left log.new; written = K.written out.new }) result }
@@ -23,7 +29,7 @@ pub(crate) fn limit<L: Source, K: Sink>(alloc: Global, log: &mut L, out: &mut K)
     ensures no_disk { result ≢ Status.DiskFault }
 {
     connections_are_apart();
-    let mut lines = LimitLog::make(alloc);
+    let mut lines = LimitLog::make(alloc, hasher);
     let mut world = ();
     status_of(run_log(alloc, log, &mut lines, &mut world, out))
 }

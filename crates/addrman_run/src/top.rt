@@ -91,7 +91,7 @@ fn carry_out<L: Source, F: Folder, K: Sink, H: BuildHasher + Drop>(
         Request::Compile => compile_table(alloc, folder, out),
         Request::Check => write_file_line(alloc, &Check, folder, out),
         Request::Decompile => write_file_line(alloc, &Decompile, folder, out),
-        Request::Limit => limit(alloc, log, out),
+        Request::Limit => limit(alloc, hasher, log, out),
         Request::Lookup { peer } => write_file_line(alloc, &Lookup { peer }, folder, out),
         Request::LookupLines => lookup_lines(alloc, log, folder, out),
         Request::Address { addr } => write_address(alloc, &addr, folder, out),

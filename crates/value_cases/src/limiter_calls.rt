@@ -1,6 +1,7 @@
 ghost use Rattle.std.specs.Prelude.{◌≤◌};
 
 use crate::fields::Fields;
+use crate::tables_state::Hasher;
 use crate::text::owned;
 use crate::unread::Unread;
 use addr_limit::{Conn, Limiter, Memory};
@@ -11,7 +12,7 @@ use std::alloc::Global;
 /// `conn N`.
 pub(crate) fn limiter_call(
     alloc: Global,
-    limiter: &mut Limiter,
+    limiter: &mut Limiter<Hasher>,
     name: &str,
     arguments: &str,
 ) -> Result<String, Unread> {
@@ -31,19 +32,19 @@ pub(crate) fn limiter_call(
 }
 
 /// Closes a connection.
-fn close(alloc: Global, limiter: &mut Limiter, number: u32) -> Result<String, Unread> {
+fn close(alloc: Global, limiter: &mut Limiter<Hasher>, number: u32) -> Result<String, Unread> {
     let closed = limiter.close_conn(number);
     Ok(format!(in alloc; "{closed}")?)
 }
 
 /// Notes that getaddr was sent.
-fn getaddr(alloc: Global, limiter: &mut Limiter, number: u32) -> Result<String, Unread> {
+fn getaddr(alloc: Global, limiter: &mut Limiter<Hasher>, number: u32) -> Result<String, Unread> {
     let asked = limiter.getaddr(number);
     Ok(format!(in alloc; "{asked:?}")?)
 }
 
 /// Opens a connection.
-fn add(alloc: Global, limiter: &mut Limiter, fields: &mut Fields<'_>) -> Result<String, Unread> {
+fn add(alloc: Global, limiter: &mut Limiter<Hasher>, fields: &mut Fields<'_>) -> Result<String, Unread> {
     let number = fields.small()?;
     let addr = fields.addr()?;
     let unlimited = fields.word() == "unlimited";
@@ -56,7 +57,7 @@ fn add(alloc: Global, limiter: &mut Limiter, fields: &mut Fields<'_>) -> Result<
 /// Takes as many messages of the same number of entries at one time.
 fn admit(
     alloc: Global,
-    limiter: &mut Limiter,
+    limiter: &mut Limiter<Hasher>,
     times: u32,
     fields: &mut Fields<'_>,
 ) -> Result<String, Unread> {
@@ -73,7 +74,7 @@ fn admit(
 }
 
 /// Returns how many entries of all these messages are admitted.
-fn admit_times(limiter: &mut Limiter, times: u32, number: u32, count: u32, now: u32) -> Option<u64>
+fn admit_times(limiter: &mut Limiter<Hasher>, times: u32, number: u32, count: u32, now: u32) -> Option<u64>
     requires { count ≤ 1000 }
 {
     let mut sum = 0u64;

@@ -1,23 +1,25 @@
 use crate::limiter_calls::limiter_call;
+use crate::tables_state::Hasher;
 use crate::text::owned;
 use crate::unread::Unread;
 use addr_limit::{LimitLog, Limiter};
 use log_lines::LineFault;
 use std::alloc::Global;
+use std::hash::BuildHasherDefault;
 
 /// A log of events, and connections.
 #[derive(Drop)]
 pub(crate) struct Limits {
-    log: LimitLog,
-    limiter: Limiter,
+    log: LimitLog<Hasher>,
+    limiter: Limiter<Hasher>,
 }
 
 impl Limits {
     /// Returns a log without lines, and no connections.
     pub fn make(alloc: Global) -> Limits {
         Limits {
-            log: LimitLog::make(alloc),
-            limiter: Limiter::make(alloc),
+            log: LimitLog::make(alloc, BuildHasherDefault::new()),
+            limiter: Limiter::make(alloc, BuildHasherDefault::new()),
         }
     }
 
@@ -32,7 +34,7 @@ impl Limits {
 }
 
 /// Carries out the line, and returns its output line or its fault.
-fn output_of(alloc: Global, log: &mut LimitLog, line: &[u8]) -> Result<String, Unread> {
+fn output_of(alloc: Global, log: &mut LimitLog<Hasher>, line: &[u8]) -> Result<String, Unread> {
     let mut out = Vec::new(alloc);
     match log.step(alloc, line, &mut out) {
         Ok(()) => line_of(alloc, out.as_slice()),

@@ -4,7 +4,7 @@ use Rattle.addr_limit.specs.Lines.{HasFault}
 use Rattle.addr_limit.proofs.limit_log.LimitLogLineStepsUnit.carry_out.Goals as goal
 
 pub returns-in-Err-clause-fault : goal.returns-in-Err-clause-fault
-returns-in-Err-clause-fault c = λ fault is.
+returns-in-Err-clause-fault g c = λ fault is.
     let same : c.of.result ≡ Fault fault = cc is in
     let told = c.of.ensures.fault fault same in
     (subst (HasFault c.args.line.now) (sym told.0) (c.in-Err.ensures.fault c.in-Err.fault refl told.1), refl)

@@ -1,17 +1,22 @@
-use Rattle.std.proofs.Common.{◌≡◌, Some, sym, ◌∙◌, ap}
+use Rattle.std.proofs.Common.{◌≡◌, ◌∙◌, ap, sym, refl, subst, take, option_map}
+use Rattle.std.specs.Prelude.{IfSome}
 use Rattle.addr_limit.specs.State.{find_conn}
+use Rattle.addr_limit.specs.Tokens.{refill, intake, intake_count}
+use Rattle.addr_limit.specs.Calls.{after_message}
+use Rattle.addr_limit.specs.Inside.{conns_of}
 use Rattle.addr_limit.proofs.Messages.{message_is, first_are}
+use Rattle.addr_limit.proofs.Written.{found_conn}
 use Rattle.addr_limit.proofs.limiter.Limiter.admit.Goals as goal
 
-found : (c : goal.After-replace) → find_conn c.args.number c.args.self.now ≡ Some c.in-Some.conn.now
-found c = ap (find_conn c.args.number) (sym c.self.view_is) ∙ sym c.in-Some.ensures.found
-
 pub returns-clause-entries : goal.returns-clause-entries
-returns-clause-entries c = λ entries many.
-    c.replace.ensures.put
-    ∙ message_is c.args.now c.args.count entries many _ c.in-Some.conn.now c.refilled-conn.result (found c) c.refilled-conn.ensures.value
-    c.args.self.now _ c.after.result (c.refilled-conn.ensures.conn c.in-Some.ensures.conn.0) c.after.ensures.value c.self.view_is
+returns-clause-entries g c = λ entries many.
+    let es = c.self.inside.conns.entries in
+    c.admit_in.ensures.conns
+    ∙ message_is c.args.now c.args.count entries (conns_of es) (find_conn c.args.number (conns_of es)) (found_conn c.args.number es c.self.invariant) many
+    ∙ ap (λ conns. after_message c.args.now entries (find_conn c.args.number conns) conns) c.self.view_is
 
 pub returns-clause-first : goal.returns-clause-first
-returns-clause-first c = λ entries many.
-    first_are c.args.now c.args.count entries many _ c.in-Some.conn.now c.refilled-conn.result (found c) c.refilled-conn.ensures.value c.intake_count-taken.result c.intake_count-taken.ensures.count
+returns-clause-first g c = λ entries many conn found.
+    subst (λ o. IfSome o (λ n. intake (refill c.args.now conn) entries ≡ take n entries))
+    (sym (c.admit_in.ensures.answer ∙ ap (option_map (λ d. intake_count (refill c.args.now d) c.args.count)) (ap (find_conn c.args.number) c.self.view_is ∙ found)))
+    (first_are c.args.now c.args.count entries conn _ many refl)
