@@ -2,6 +2,8 @@ ghost use Rattle.std.specs.Prelude.{◌≡◌, ◌≢◌, ℕ, List, ◌<◌, �
 ghost use Rattle.std.specs.List.{slice_split};
 ghost use Rattle.grammar.specs.Words.{pieces_after};
 
+use memchr::memchr;
+
 /// Returns the text before the first separator, and the text after it; the whole text if there is
 /// no separator.
 pub(crate) fn cut_piece(text: &[u8], separator: u8) -> (&[u8], Option<&[u8]>)
@@ -22,12 +24,10 @@ fn split_at(text: &[u8], separator: u8) -> Option<(&[u8], &[u8])>
     ensures first { IfSome result (λ parts. All (λ b. b ≢ separator) parts.0.now) }
     ensures none { IfNone result (All (λ b. b ≢ separator) text.now) }
 {
-    for (i, byte) in text.iter().enumerate() {
-        if *byte == separator {
-            return Some((&text[..i], &text[i + 1..]));
-        }
+    match memchr(separator, text) {
+        Some(i) => Some((&text[..i], &text[i + 1..])),
+        None => None,
     }
-    None
 }
 
 /// Returns the text after its first byte, if that is `byte`.

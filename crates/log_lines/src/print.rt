@@ -1,4 +1,4 @@
-ghost use Rattle.std.specs.Prelude.{◌≡◌, ◌++◌, codes, IfOk, OnOk, OnErr};
+ghost use Rattle.std.specs.Prelude.{◌≡◌, ◌++◌, codes, take, vec_len, IfOk, OnOk, OnErr};
 ghost use Rattle.std.specs.List.{flat_map};
 ghost use Rattle.net_addr.specs.Text.{peer_text};
 ghost use Rattle.log_lines.specs.Replies.{numbers_text, place_text, origin_text, seen_text, tries_text, rec_text, found_text, fault_text, good_text, known_text, timed_text, picked_text, size_text, resolved_text, sample_text, clash_text, dump_text, reply_line, reply_text};
@@ -18,8 +18,7 @@ pub fn reply_text(alloc: Global, reply: &Reply) -> Result<Vec<u8>, Memory>
     ensures { IfOk result (λ text. text.items ≡ reply_text reply.now) }
 {
     let mut text = Vec::with_capacity(alloc, REPLY_ROOM)?;
-    put_line(reply, &mut text)?;
-    put_text(&[LINE_FEED], &mut text)?;
+    append_reply(reply, &mut text)?;
     Ok(text)
 }
 
@@ -28,14 +27,32 @@ pub fn put_reply(reply: &Reply, out: &mut Vec<u8>) -> Result<(), Memory>
     ensures ok { OnOk result (out.new.items ≡ out.old.items ++ reply_text reply.now) }
     ensures err { OnErr result (out.new.items ≡ out.old.items) }
 {
-    let text = reply_text(*out.allocator(), reply)?;
-    out.extend_from_slice(text.as_slice())?;
-    Ok(())
+    let length = out.len();
+    match append_reply(reply, out) {
+        Ok(()) => Ok(()),
+        Err(fault) => {
+            out.truncate(length);
+            Err(fault)
+        }
+    }
+}
+
+// After `Memory` each of the functions below may leave a part of its text in the list.
+
+/// Appends the text of a reply, which ends with a line feed.
+#[tactic(auto, unfolding(crate::specs::Replies::reply_text))]
+fn append_reply(reply: &Reply, out: &mut Vec<u8>) -> Result<(), Memory>
+    ensures text { OnOk result (out.new.items ≡ out.old.items ++ reply_text reply.now) }
+    ensures kept { take (vec_len out.old) out.new.items ≡ out.old.items }
+{
+    put_line(reply, out)?;
+    put_text(&[LINE_FEED], out)
 }
 
 /// Appends the text of a reply without its line feed.
 fn put_line(reply: &Reply, out: &mut Vec<u8>) -> Result<(), Memory>
-    ensures { OnOk result (out.new.items ≡ out.old.items ++ reply_line reply.now) }
+    ensures text { OnOk result (out.new.items ≡ out.old.items ++ reply_line reply.now) }
+    ensures kept { take (vec_len out.old) out.new.items ≡ out.old.items }
 {
     match reply {
         Reply::Now { time } => put_number(b"now ", u64::from(*time), out),
@@ -105,7 +122,8 @@ fn known_word(known: bool) -> &'static [u8]
 
 /// Appends the peer's record, if there is one.
 fn put_found(found: &Option<Rec>, out: &mut Vec<u8>) -> Result<(), Memory>
-    ensures { OnOk result (out.new.items ≡ out.old.items ++ found_text found.now) }
+    ensures text { OnOk result (out.new.items ≡ out.old.items ++ found_text found.now) }
+    ensures kept { take (vec_len out.old) out.new.items ≡ out.old.items }
 {
     match found {
         Some(rec) => put_rec(rec, out),
@@ -115,7 +133,8 @@ fn put_found(found: &Option<Rec>, out: &mut Vec<u8>) -> Result<(), Memory>
 
 /// Appends the three counts.
 fn put_size(counts: &Counts, out: &mut Vec<u8>) -> Result<(), Memory>
-    ensures { OnOk result (out.new.items ≡ out.old.items ++ size_text counts.now) }
+    ensures text { OnOk result (out.new.items ≡ out.old.items ++ size_text counts.now) }
+    ensures kept { take (vec_len out.old) out.new.items ≡ out.old.items }
 {
     put_number(b"size new ", u64::from(counts.new_count), out)?;
     put_number(b" tried ", u64::from(counts.tried_count), out)?;
@@ -124,7 +143,8 @@ fn put_size(counts: &Counts, out: &mut Vec<u8>) -> Result<(), Memory>
 
 /// Appends the result of `select`.
 fn put_picked(picked: &Picked, out: &mut Vec<u8>) -> Result<(), Memory>
-    ensures { OnOk result (out.new.items ≡ out.old.items ++ picked_text picked.now) }
+    ensures text { OnOk result (out.new.items ≡ out.old.items ++ picked_text picked.now) }
+    ensures kept { take (vec_len out.old) out.new.items ≡ out.old.items }
 {
     match picked {
         Picked::One(peer, last_try) => put_timed(b"one ", peer, *last_try, out),
@@ -135,7 +155,9 @@ fn put_picked(picked: &Picked, out: &mut Vec<u8>) -> Result<(), Memory>
 
 /// Appends a text, a peer and a time in seconds since 1970.
 fn put_timed(word: &[u8], peer: &Peer, time: u32, out: &mut Vec<u8>) -> Result<(), Memory>
-    ensures { OnOk result (out.new.items ≡ out.old.items ++ timed_text word.now peer.now time) }
+    ensures text { OnOk result (out.new.items
+        ≡ out.old.items ++ timed_text word.now peer.now time) }
+    ensures kept { take (vec_len out.old) out.new.items ≡ out.old.items }
 {
     put_text(word, out)?;
     put_peer(peer, out)?;
@@ -143,8 +165,10 @@ fn put_timed(word: &[u8], peer: &Peer, time: u32, out: &mut Vec<u8>) -> Result<(
 }
 
 /// Appends the peers of a sample.
+#[tactic(auto, using(crate::proofs::Kept::kept_after))]
 fn put_sample(peers: &[Peer], out: &mut Vec<u8>) -> Result<(), Memory>
-    ensures { OnOk result (out.new.items ≡ out.old.items ++ sample_text peers.now) }
+    ensures text { OnOk result (out.new.items ≡ out.old.items ++ sample_text peers.now) }
+    ensures kept { take (vec_len out.old) out.new.items ≡ out.old.items }
 {
     put_number(b"sample ", peers.len() as u64, out)?;
     put_peers(peers, out)
@@ -152,8 +176,9 @@ fn put_sample(peers: &[Peer], out: &mut Vec<u8>) -> Result<(), Memory>
 
 /// Appends each peer after a space.
 fn put_peers(peers: &[Peer], out: &mut Vec<u8>) -> Result<(), Memory>
-    ensures { OnOk result (out.new.items ≡ out.old.items ++ flat_map (λ p.
+    ensures text { OnOk result (out.new.items ≡ out.old.items ++ flat_map (λ p.
         codes " " ++ peer_text p) peers.now) }
+    ensures kept { take (vec_len out.old) out.new.items ≡ out.old.items }
 {
     for peer in peers {
         put_text(b" ", out)?;
@@ -164,7 +189,8 @@ fn put_peers(peers: &[Peer], out: &mut Vec<u8>) -> Result<(), Memory>
 
 /// Appends how many collisions had which result.
 fn put_resolved(resolved: &Resolved, out: &mut Vec<u8>) -> Result<(), Memory>
-    ensures { OnOk result (out.new.items ≡ out.old.items ++ resolved_text resolved.now) }
+    ensures text { OnOk result (out.new.items ≡ out.old.items ++ resolved_text resolved.now) }
+    ensures kept { take (vec_len out.old) out.new.items ≡ out.old.items }
 {
     put_number(b"resolved erased ", u64::from(resolved.erased), out)?;
     put_number(b" moved ", u64::from(resolved.moved), out)?;
@@ -173,7 +199,8 @@ fn put_resolved(resolved: &Resolved, out: &mut Vec<u8>) -> Result<(), Memory>
 
 /// Appends the occupant of a collision's slot, and when it was last tried.
 fn put_clash(found: &Option<(Peer, u32)>, out: &mut Vec<u8>) -> Result<(), Memory>
-    ensures { OnOk result (out.new.items ≡ out.old.items ++ clash_text found.now) }
+    ensures text { OnOk result (out.new.items ≡ out.old.items ++ clash_text found.now) }
+    ensures kept { take (vec_len out.old) out.new.items ≡ out.old.items }
 {
     match found {
         Some((peer, last_try)) => put_timed(b"clash ", peer, *last_try, out),
@@ -183,16 +210,19 @@ fn put_clash(found: &Option<(Peer, u32)>, out: &mut Vec<u8>) -> Result<(), Memor
 
 /// Appends all records, each on a line, and how many there are.
 fn put_dump(recs: &[Rec], out: &mut Vec<u8>) -> Result<(), Memory>
-    ensures { OnOk result (out.new.items ≡ out.old.items ++ dump_text recs.now) }
+    ensures text { OnOk result (out.new.items ≡ out.old.items ++ dump_text recs.now) }
+    ensures kept { take (vec_len out.old) out.new.items ≡ out.old.items }
 {
     put_rec_lines(recs, out)?;
     put_number(b"end ", recs.len() as u64, out)
 }
 
 /// Appends each record on a line.
+#[tactic(auto, using(crate::proofs::Kept::kept_after))]
 fn put_rec_lines(recs: &[Rec], out: &mut Vec<u8>) -> Result<(), Memory>
-    ensures { OnOk result (out.new.items ≡ out.old.items ++ flat_map (λ r.
+    ensures text { OnOk result (out.new.items ≡ out.old.items ++ flat_map (λ r.
         rec_text r ++ codes "\n") recs.now) }
+    ensures kept { take (vec_len out.old) out.new.items ≡ out.old.items }
 {
     for rec in recs {
         put_rec(rec, out)?;
@@ -202,8 +232,10 @@ fn put_rec_lines(recs: &[Rec], out: &mut Vec<u8>) -> Result<(), Memory>
 }
 
 /// Appends a record, on one line.
+#[tactic(auto, using(crate::proofs::Kept::kept_after))]
 fn put_rec(rec: &Rec, out: &mut Vec<u8>) -> Result<(), Memory>
-    ensures { OnOk result (out.new.items ≡ out.old.items ++ rec_text rec.now) }
+    ensures text { OnOk result (out.new.items ≡ out.old.items ++ rec_text rec.now) }
+    ensures kept { take (vec_len out.old) out.new.items ≡ out.old.items }
 {
     put_origin(rec, out)?;
     put_seen(rec, out)?;
@@ -213,7 +245,8 @@ fn put_rec(rec: &Rec, out: &mut Vec<u8>) -> Result<(), Memory>
 
 /// Appends a record's peer and its source.
 fn put_origin(rec: &Rec, out: &mut Vec<u8>) -> Result<(), Memory>
-    ensures { OnOk result (out.new.items ≡ out.old.items ++ origin_text rec.now) }
+    ensures text { OnOk result (out.new.items ≡ out.old.items ++ origin_text rec.now) }
+    ensures kept { take (vec_len out.old) out.new.items ≡ out.old.items }
 {
     put_text(b"peer ", out)?;
     put_peer(&rec.peer, out)?;
@@ -223,7 +256,8 @@ fn put_origin(rec: &Rec, out: &mut Vec<u8>) -> Result<(), Memory>
 
 /// Appends when a record's peer was last seen, in seconds since 1970, and its services.
 fn put_seen(rec: &Rec, out: &mut Vec<u8>) -> Result<(), Memory>
-    ensures { OnOk result (out.new.items ≡ out.old.items ++ seen_text rec.now) }
+    ensures text { OnOk result (out.new.items ≡ out.old.items ++ seen_text rec.now) }
+    ensures kept { take (vec_len out.old) out.new.items ≡ out.old.items }
 {
     put_number(b" time ", u64::from(rec.time), out)?;
     put_number(b" services ", rec.services, out)
@@ -232,7 +266,8 @@ fn put_seen(rec: &Rec, out: &mut Vec<u8>) -> Result<(), Memory>
 /// Appends when a record's peer was reached and tried, in seconds since 1970, and how often it
 /// failed since.
 fn put_tries(rec: &Rec, out: &mut Vec<u8>) -> Result<(), Memory>
-    ensures { OnOk result (out.new.items ≡ out.old.items ++ tries_text rec.now) }
+    ensures text { OnOk result (out.new.items ≡ out.old.items ++ tries_text rec.now) }
+    ensures kept { take (vec_len out.old) out.new.items ≡ out.old.items }
 {
     put_number(b" success ", u64::from(rec.last_success), out)?;
     put_number(b" try ", u64::from(rec.last_try), out)?;
@@ -240,8 +275,10 @@ fn put_tries(rec: &Rec, out: &mut Vec<u8>) -> Result<(), Memory>
 }
 
 /// Appends the table of a record, and its buckets in the new table.
+#[tactic(auto, using(crate::proofs::Kept::kept_after))]
 fn put_place(place: &Place, out: &mut Vec<u8>) -> Result<(), Memory>
-    ensures { OnOk result (out.new.items ≡ out.old.items ++ place_text place.now) }
+    ensures text { OnOk result (out.new.items ≡ out.old.items ++ place_text place.now) }
+    ensures kept { take (vec_len out.old) out.new.items ≡ out.old.items }
 {
     match place {
         Place::Tried => put_text(b" tried", out),
@@ -254,7 +291,8 @@ fn put_place(place: &Place, out: &mut Vec<u8>) -> Result<(), Memory>
 
 /// Appends numbers with commas between them.
 fn put_numbers(numbers: &[u16], out: &mut Vec<u8>) -> Result<(), Memory>
-    ensures { OnOk result (out.new.items ≡ out.old.items ++ numbers_text numbers.now) }
+    ensures text { OnOk result (out.new.items ≡ out.old.items ++ numbers_text numbers.now) }
+    ensures kept { take (vec_len out.old) out.new.items ≡ out.old.items }
 {
     for (i, number) in numbers.iter().enumerate() {
         let comma: &[u8] = if i == 0 { b"" } else { b"," };

@@ -98,6 +98,15 @@ dotted_only text a none (i2p h) = absurd (none.label I2p _ tt h.spelled)
 dotted_only text a none (cjdns h) = absurd (none.label Cjdns _ tt h.spelled)
 dotted_only text a none (internal h) = absurd (none.label Internal _ tt h.spelled)
 
+-- a text of four numbers is only that of an IPv4 address
+pub dotted_alone : (text : List ℕ) (a b : Address) → IsDottedText text b → IsAddrText text a → IsDottedText text a
+dotted_alone text a b four (dotted h) = h
+dotted_alone text a b four (bracketed h) = absurd (omega (arith, dotted_first text b four, bracket_first text a h))
+dotted_alone text a b four (onion h) = absurd (omega (arith, dotted_first text b four, onion_first text a h))
+dotted_alone text a b four (i2p h) = absurd (omega (arith, dotted_first text b four, i2p_first text a h))
+dotted_alone text a b four (cjdns h) = absurd (omega (arith, dotted_first text b four, cjdns_first text a h))
+dotted_alone text a b four (internal h) = absurd (omega (arith, dotted_first text b four, internal_first text a h))
+
 -- the digits after a label are known from the whole
 hex_digits : (net : Net) (text rest : List ℕ) (a : Address) → text ≡ label_of net ++ rest → IsHexText net text a → IsHexOf net rest a
 hex_digits net text rest a e h =

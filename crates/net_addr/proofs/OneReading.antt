@@ -1,12 +1,12 @@
 -- The text of an address or a peer has one reading.
 use Rattle.std.proofs.Common.{◌≡◌, ℕ, List, [], ◌∷◌, drop, decimal, Result, Ok, refl, sym, ap, ◌∙◌, subst, arith, append_assoc}
-use Rattle.std.specs.Int.{w32, w128, to_be_bytes}
+use Rattle.std.specs.Int.{w128, to_be_bytes}
 use Rattle.std.proofs.lemmas.Fmt.{decimal_injective}
 use Rattle.std.proofs.NetLemmas.Theorems.{IsIpv4Text_unique, IsIpv6Text_unique}
 use Rattle.net_addr.specs.Address.{Address, length_of}
 use Rattle.net_addr.specs.OldForm.{address, from_v1}
 use Rattle.net_addr.specs.Inside.{HasLabel}
-use Rattle.net_addr.specs.Text.{label_of, IsHexText, IsBracketText, IsDottedText, IsAddrText, IsPeerText}
+use Rattle.net_addr.specs.Text.{IsHexText, IsBracketText, IsDottedText, IsAddrText, IsPeerText}
 use Rattle.net_addr.specs.Text.IsAddrText.{dotted, bracketed, onion, i2p, cjdns, internal}
 use Rattle.net_addr.specs.declared.net.Net.{Net}
 use Rattle.net_addr.specs.declared.net.Net.TheVariants.{Ipv4, Onion, I2p, Cjdns, Internal}

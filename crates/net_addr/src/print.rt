@@ -1,4 +1,4 @@
-ghost use Rattle.std.specs.Prelude.{◌≡◌, ◌+◌, ◌<◌, ◌≤◌, ◌^◌, ◌∷◌, ◌++◌, length, codes, decimal, IfOk, OnOk, OnErr};
+ghost use Rattle.std.specs.Prelude.{◌≡◌, ◌+◌, ◌<◌, ◌≤◌, ◌^◌, ◌∷◌, ◌++◌, length, take, vec_len, codes, decimal, IfOk, OnOk, OnErr};
 ghost use Rattle.std.specs.Int.{w32, w128, to_be_bytes};
 ghost use Rattle.hex.specs.Hex.{encode_lower};
 ghost use Rattle.net_addr.specs.Address.{IsAddress};
@@ -42,8 +42,14 @@ pub fn put_addr(addr: &NetAddr, out: &mut Vec<u8>) -> Result<(), Memory>
     ensures err { OnErr result (out.new.items ≡ out.old.items) }
     ensures reads_back { IsAddrText (addr_text addr.now) addr.now }
 {
-    let text = text_of(addr, *out.allocator())?;
-    put_text(text.as_slice(), out)
+    let length = out.len();
+    match append_addr(addr, out) {
+        Ok(()) => Ok(()),
+        Err(fault) => {
+            out.truncate(length);
+            Err(fault)
+        }
+    }
 }
 
 /// Appends the text of a peer.
@@ -52,37 +58,44 @@ pub fn put_peer(peer: &Peer, out: &mut Vec<u8>) -> Result<(), Memory>
     ensures err { OnErr result (out.new.items ≡ out.old.items) }
     ensures reads_back { IsPeerText (peer_text peer.now) peer.now }
 {
-    let text = text_of_peer(peer, *out.allocator())?;
-    put_text(text.as_slice(), out)
+    let length = out.len();
+    match append_peer(peer, out) {
+        Ok(()) => Ok(()),
+        Err(fault) => {
+            out.truncate(length);
+            Err(fault)
+        }
+    }
 }
 
-/// Returns the text of a peer.
-fn text_of_peer(peer: &Peer, alloc: Global) -> Result<Vec<u8>, AllocError>
-    ensures text { IfOk result (λ text. text.items ≡ peer_text peer.now) }
+/// Appends the text of a peer. After `Memory` a part of it may be in the list.
+fn append_peer(peer: &Peer, out: &mut Vec<u8>) -> Result<(), Memory>
+    ensures text { OnOk result (out.new.items ≡ out.old.items ++ peer_text peer.now) }
+    ensures kept { take (vec_len out.old) out.new.items ≡ out.old.items }
     ensures address { IsAddress peer.now.addr }
     ensures port { peer.now.port < 2 ^ 16 }
 {
     let port = peer.port;
-    let mut text = text_of(&peer.addr, alloc)?;
-    text.extend_from_slice(b":")?;
-    text.extend_from_slice(Buffer::new().format(port).as_bytes())?;
-    Ok(text)
+    append_addr(&peer.addr, out)?;
+    put_text(b":", out)?;
+    put_text(Buffer::new().format(port).as_bytes(), out)
 }
 
-/// Returns the text of an address.
-fn text_of(addr: &NetAddr, alloc: Global) -> Result<Vec<u8>, AllocError>
-    ensures text { IfOk result (λ text. text.items ≡ addr_text addr.now) }
+/// Appends the text of an address. After `Memory` a part of it may be in the list.
+fn append_addr(addr: &NetAddr, out: &mut Vec<u8>) -> Result<(), Memory>
+    ensures text { OnOk result (out.new.items ≡ out.old.items ++ addr_text addr.now) }
+    ensures kept { take (vec_len out.old) out.new.items ≡ out.old.items }
     ensures address { IsAddress addr.now }
 {
     let bytes = addr.bytes();
     match addr.net() {
-        Net::Ipv4 => Vec::from_slice(alloc, dotted(array_of(bytes)).as_slice()),
-        Net::Ipv6 => bracketed(bytes, alloc),
-        Net::Onion => labelled(Net::Onion, bytes, alloc),
-        Net::I2p => labelled(Net::I2p, bytes, alloc),
-        Net::Cjdns => labelled(Net::Cjdns, bytes, alloc),
-        Net::Internal => labelled(Net::Internal, bytes, alloc),
-        Net::Unroutable => Ok(Vec::new(alloc)),
+        Net::Ipv4 => put_text(dotted(array_of(bytes)).as_slice(), out),
+        Net::Ipv6 => append_bracketed(bytes, out),
+        Net::Onion => append_labelled(Net::Onion, bytes, out),
+        Net::I2p => append_labelled(Net::I2p, bytes, out),
+        Net::Cjdns => append_labelled(Net::Cjdns, bytes, out),
+        Net::Internal => append_labelled(Net::Internal, bytes, out),
+        Net::Unroutable => Ok(()),
     }
 }
 
@@ -93,29 +106,36 @@ fn groups(bytes: [u8; 16], alloc: Global) -> Result<String, AllocError>
     format!(in alloc; "{}", Ipv6Addr::from_octets(bytes).hex_groups())
 }
 
-/// Returns the text of an IPv6 address in square brackets.
-fn bracketed(bytes: &[u8], alloc: Global) -> Result<Vec<u8>, AllocError>
+/// Appends the text of an IPv6 address in square brackets. After `Memory` a part of it may be in the
+/// list.
+fn append_bracketed(bytes: &[u8], out: &mut Vec<u8>) -> Result<(), Memory>
     requires { length bytes.now ≡ 16 }
-    ensures { IfOk result (λ text. text.items ≡ codes "[" ++ ipv6_text bytes.now ++ codes "]") }
+    ensures text { OnOk result (out.new.items
+        ≡ out.old.items ++ codes "[" ++ ipv6_text bytes.now ++ codes "]") }
+    ensures kept { take (vec_len out.old) out.new.items ≡ out.old.items }
 {
-    let inner = groups(array_of(bytes), alloc)?;
-    let mut text = Vec::new(alloc);
-    text.extend_from_slice(b"[")?;
-    text.extend_from_slice(inner.as_bytes())?;
-    text.extend_from_slice(b"]")?;
-    Ok(text)
+    let groups = groups(array_of(bytes), *out.allocator())?;
+    put_text(b"[", out)?;
+    put_text(groups.as_bytes(), out)?;
+    put_text(b"]", out)
 }
 
-/// Returns the label of a network and the hexadecimal digits of the bytes.
-fn labelled(net: Net, bytes: &[u8], alloc: Global) -> Result<Vec<u8>, AllocError>
-    ensures { IfOk result (λ text. text.items ≡ label_of net ++ encode_lower bytes.now) }
+/// Appends the label of a network and the hexadecimal digits of the bytes. After `Memory` a part of
+/// it may be in the list.
+fn append_labelled(net: Net, bytes: &[u8], out: &mut Vec<u8>) -> Result<(), Memory>
+    requires { length bytes.now ≤ 32 }
+    ensures text { OnOk result (out.new.items
+        ≡ out.old.items ++ label_of net ++ encode_lower bytes.now) }
+    ensures kept { take (vec_len out.old) out.new.items ≡ out.old.items }
 {
-    let digits = hex::encode(alloc, bytes)?;
-    let mut text = Vec::new(alloc);
-    text.extend_from_slice(net.name())?;
-    text.extend_from_slice(b":")?;
-    text.extend_from_slice(digits.as_bytes())?;
-    Ok(text)
+    let mut digits = [0; 64];
+    let digits = &mut digits[..2 * bytes.len()];
+    let Ok(()) = hex::encode_to_slice(bytes, digits) else {
+        unreachable!()
+    };
+    put_text(net.name(), out)?;
+    put_text(b":", out)?;
+    put_text(digits, out)
 }
 
 /// Returns four decimal numbers with dots between them.

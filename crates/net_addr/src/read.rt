@@ -63,14 +63,16 @@ pub fn parse_addr(text: &[u8]) -> Option<NetAddr>
     ensures address { IfSome result IsAddress }
     ensures only { (a : Address) → IsAddrText text.now a → result ≡ Some a }
 {
+    if let Some(bits) = parse_ipv4(text) {
+        return Some(NetAddr::ipv4(bits.to_be_bytes()));
+    }
     if let Some(inner) = text.strip_prefix(b"[") {
         return parse_bracketed(inner);
     }
-    if let Some((net, digits)) = after_label(text) {
-        return from_hex(net, digits);
-    }
-    let bits = parse_ipv4(text)?;
-    Some(NetAddr::ipv4(bits.to_be_bytes()))
+    let Some((net, digits)) = after_label(text) else {
+        return None;
+    };
+    from_hex(net, digits)
 }
 
 /// Parses a peer: an address, a colon, and a port from 0 to 65535.

@@ -12,10 +12,18 @@ pub fn put_text(text: &[u8], out: &mut Vec<u8>) -> Result<(), Memory>
     Ok(())
 }
 
-/// Appends a text and a number after it, in decimal. After an error the text may be in the list.
+/// Appends a text and a number after it, in decimal. If memory runs out, nothing changes.
 pub fn put_number(word: &[u8], number: u64, out: &mut Vec<u8>) -> Result<(), Memory>
-    ensures { OnOk result (out.new.items ≡ out.old.items ++ word.now ++ decimal number) }
+    ensures ok { OnOk result (out.new.items ≡ out.old.items ++ word.now ++ decimal number) }
+    ensures err { OnErr result (out.new.items ≡ out.old.items) }
 {
+    let length = out.len();
     put_text(word, out)?;
-    put_text(Buffer::new().format(number).as_bytes(), out)
+    match put_text(Buffer::new().format(number).as_bytes(), out) {
+        Ok(()) => Ok(()),
+        Err(fault) => {
+            out.truncate(length);
+            Err(fault)
+        }
+    }
 }

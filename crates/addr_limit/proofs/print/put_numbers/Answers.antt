@@ -10,9 +10,9 @@ loop-i-preserved c =
       | then-i-eq0 w ↦
           let comma : c.if-i-eq0.comma.now ≡ [] = ap (λ b. b.now) w.comma-is in
           let more = numbers-first xs c.loop-i.i w.if-i-eq0.true (omega arith) in
-          simp (c.in_ok-put_number.ensures, comma, c.loop-i.invariant, more, append_assoc)
+          simp (c.in_ok-put_number.ensures.ok, comma, c.loop-i.invariant, more, append_assoc)
       | else-i-eq0 w ↦
           let comma : c.if-i-eq0.comma.now ≡ 44 ∷ [] = ap (λ b. b.now) w.comma-is in
           let more = numbers-more xs c.loop-i.i (omega arith) (omega arith) in
-          simp (c.in_ok-put_number.ensures, comma, c.loop-i.invariant, more, append_assoc)
+          simp (c.in_ok-put_number.ensures.ok, comma, c.loop-i.invariant, more, append_assoc)
     ]
