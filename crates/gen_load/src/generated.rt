@@ -1,4 +1,4 @@
-ghost use Rattle.std.specs.Prelude.{◌≡◌, ◌≤◌, ◌+◌, ◌++◌, ◌∷◌, [], IfOk, OnOk};
+ghost use Rattle.std.specs.Prelude.{◌≡◌, ◌≤◌, ◌+◌, ◌++◌, ◌∷◌, [], take, vec_len, OnOk};
 ghost use Rattle.gen_load.specs.Inside.{line_with, position_with};
 
 use crate::Memory;
@@ -7,7 +7,6 @@ use crate::position::Position;
 use net_addr::{put_number, put_text};
 use rand_core::SeedableRng;
 use rand_xoshiro::Xoshiro256PlusPlus;
-use std::alloc::Global;
 use std::marker::Model;
 
 /// The maximum number of lines of a log.
@@ -74,8 +73,14 @@ impl Gen {
             return Ok(false);
         }
         let mut position = self.position.clone()?;
-        let line = line_text(&mut position, self.begun, *out.allocator())?;
-        out.extend_from_slice(line.as_slice())?;
+        let length = out.len();
+        match append_line(&mut position, self.begun, out) {
+            Ok(()) => {}
+            Err(fault) => {
+                out.truncate(length);
+                return Err(fault);
+            }
+        }
         self.position = position;
         self.begun = true;
         self.left -= 1;
@@ -83,19 +88,19 @@ impl Gen {
     }
 }
 
-/// Returns the next line with its line feed: the first one, or one that is drawn.
-fn line_text(position: &mut Position, begun: bool, alloc: Global) -> Result<Vec<u8>, Memory>
+/// Appends the next line with its line feed: the first one, or one that is drawn. After `Memory` a
+/// part of it may be in the list.
+fn append_line(position: &mut Position, begun: bool, out: &mut Vec<u8>) -> Result<(), Memory>
     requires past_day { 86400 ≤ position.old.time }
     requires room { position.old.time + 600 ≤ 4294967295 }
-    ensures text { IfOk result (λ line. line.items ≡ line_with begun position.old) }
+    ensures text { OnOk result (out.new.items ≡ out.old.items ++ line_with begun position.old) }
     ensures after { OnOk result (position.new ≡ position_with begun position.old) }
+    ensures kept { take (vec_len out.old) out.new.items ≡ out.old.items }
 {
-    let mut line = Vec::new(alloc);
     if begun {
-        put_line(position, &mut line)?;
+        put_line(position, out)?;
     } else {
-        put_number(b"now ", u64::from(position.time), &mut line)?;
+        put_number(b"now ", u64::from(position.time), out)?;
     }
-    put_text(b"\n", &mut line)?;
-    Ok(line)
+    put_text(b"\n", out)
 }

@@ -1,4 +1,4 @@
-ghost use Rattle.std.specs.Prelude.{◌≡◌, ◌≤◌, ◌+◌, ◌++◌, codes, decimal, length, All, IfOk, OnOk, vec_len};
+ghost use Rattle.std.specs.Prelude.{◌≡◌, ◌≤◌, ◌+◌, ◌++◌, codes, decimal, length, take, All, IfOk, OnOk, vec_len};
 ghost use Rattle.net_addr.specs.declared.net.Net.TheVariants.{Ipv4, Ipv6};
 ghost use Rattle.gen_load.specs.Inside.{payload_text};
 ghost use Rattle.gen_load.specs.Log.{clock_line, addr_line, message_line, peer_line, select_line, clash_line, line_of, drawn_line, draw_entries, past_entries};
@@ -16,12 +16,15 @@ const SELECT_WORDS: u64 = 300;
 /// The seeds, and the words of `clash` lines, are below this.
 const SEEDS: u64 = 1 << 32;
 
+// After `Memory` each of the functions below may leave a part of its text in the list.
+
 /// Appends the next line without its line feed.
 pub fn put_line(position: &mut Position, out: &mut Vec<u8>) -> Result<(), Memory>
     requires past_day { 86400 ≤ position.old.time }
     requires room { position.old.time + 600 ≤ 4294967295 }
     ensures text { OnOk result (out.new.items ≡ out.old.items ++ (drawn_line position.old).text) }
     ensures after { OnOk result (position.new ≡ (drawn_line position.old).after) }
+    ensures kept { take (vec_len out.old) out.new.items ≡ out.old.items }
 {
     let number = position.draw(16);
     put_by_kind(kind_of(number), position, out)
@@ -34,6 +37,7 @@ fn put_by_kind(kind: Kind, position: &mut Position, out: &mut Vec<u8>) -> Result
     ensures text { OnOk result (out.new.items ≡
         out.old.items ++ (line_of kind position.old).text) }
     ensures after { OnOk result (position.new ≡ (line_of kind position.old).after) }
+    ensures kept { take (vec_len out.old) out.new.items ≡ out.old.items }
 {
     match kind {
         Kind::Now => put_now(position, out),
@@ -52,6 +56,7 @@ fn put_now(position: &mut Position, out: &mut Vec<u8>) -> Result<(), Memory>
     requires { position.old.time + 600 ≤ 4294967295 }
     ensures text { OnOk result (out.new.items ≡ out.old.items ++ (clock_line position.old).text) }
     ensures after { OnOk result (position.new ≡ (clock_line position.old).after) }
+    ensures kept { take (vec_len out.old) out.new.items ≡ out.old.items }
 {
     let growth = 1 + position.draw(600) as u32;
     position.time += growth;
@@ -69,6 +74,7 @@ fn put_peer_line(
         out.old.items ++ (peer_line word.now after.now position.old).text) }
     ensures after { OnOk result (position.new ≡
         (peer_line word.now after.now position.old).after) }
+    ensures kept { take (vec_len out.old) out.new.items ≡ out.old.items }
 {
     let peer = position.draw_peer();
     put_peer_between(word, &peer, after, out)
@@ -78,6 +84,7 @@ fn put_peer_line(
 fn put_select(position: &mut Position, out: &mut Vec<u8>) -> Result<(), Memory>
     ensures text { OnOk result (out.new.items ≡ out.old.items ++ (select_line position.old).text) }
     ensures after { OnOk result (position.new ≡ (select_line position.old).after) }
+    ensures kept { take (vec_len out.old) out.new.items ≡ out.old.items }
 {
     let seed = position.draw(SEEDS);
     put_number(b"select any all @", seed, out)?;
@@ -88,6 +95,7 @@ fn put_select(position: &mut Position, out: &mut Vec<u8>) -> Result<(), Memory>
 fn put_clash(position: &mut Position, out: &mut Vec<u8>) -> Result<(), Memory>
     ensures text { OnOk result (out.new.items ≡ out.old.items ++ (clash_line position.old).text) }
     ensures after { OnOk result (position.new ≡ (clash_line position.old).after) }
+    ensures kept { take (vec_len out.old) out.new.items ≡ out.old.items }
 {
     let word = position.draw(SEEDS);
     put_number(b"clash ", word, out)
@@ -98,6 +106,7 @@ fn put_message(position: &mut Position, out: &mut Vec<u8>) -> Result<(), Memory>
     requires { 86400 ≤ position.old.time }
     ensures text { OnOk result (out.new.items ≡ out.old.items ++ (addr_line position.old).text) }
     ensures after { OnOk result (position.new ≡ (addr_line position.old).after) }
+    ensures kept { take (vec_len out.old) out.new.items ≡ out.old.items }
 {
     let source = position.draw_peer();
     let count = 1 + position.draw(4);
@@ -118,7 +127,7 @@ fn draw_entries(
     ensures networks { IfOk result (λ es. All (λ e. e.peer.addr.net ≡ Ipv4) es.items) }
     ensures after { OnOk result (position.new ≡ past_entries count position.old) }
 {
-    let mut entries = Vec::new(alloc);
+    let mut entries = Vec::with_capacity(alloc, count as usize)?;
     for _ in 0..count {
         entries.push(position.draw_entry())?;
     }
@@ -134,8 +143,9 @@ fn put_addr_line(
 ) -> Result<(), Memory>
     requires count { length entries.now ≤ 4 }
     requires networks { All (λ e. e.peer.addr.net ≡ Ipv4) entries.now }
-    ensures { OnOk result (out.new.items ≡
+    ensures text { OnOk result (out.new.items ≡
         out.old.items ++ message_line source.now entries.now seed) }
+    ensures kept { take (vec_len out.old) out.new.items ≡ out.old.items }
 {
     put_text(b"addr ", out)?;
     put_addr(source, out)?;
@@ -149,7 +159,8 @@ fn put_addr_line(
 fn put_payload(entries: &[Entry], out: &mut Vec<u8>) -> Result<(), Memory>
     requires count { length entries.now ≤ 4 }
     requires networks { All (λ e. e.peer.addr.net ≡ Ipv4) entries.now }
-    ensures { OnOk result (out.new.items ≡ out.old.items ++ payload_text entries.now) }
+    ensures text { OnOk result (out.new.items ≡ out.old.items ++ payload_text entries.now) }
+    ensures kept { take (vec_len out.old) out.new.items ≡ out.old.items }
 {
     let alloc = *out.allocator();
     let payload = write_addr(alloc, entries)?;

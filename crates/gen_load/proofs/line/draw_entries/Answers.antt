@@ -28,9 +28,9 @@ at_end at end left whole none = ap (λ n. past_entries n at) (sym none) ∙ whol
 pub loop-init : goal.loop-init
 loop-init c = record {
   late = c.requires;
-  whole = (λ i. c.new-entries.ensures.items i ++ draw_entries (none i) c.args.position.now);
+  whole = (λ i. c.in_ok-entries.ensures.items i ++ draw_entries (none i) c.args.position.now);
   end = ap (λ n. past_entries n c.args.position.now) none;
-  counted = c.new-entries.ensures.len;
+  counted = c.in_ok-entries.ensures.len;
   networks = search rules;
 }
   where
