@@ -78,7 +78,7 @@ enum {
 enum {
     ADDRMAN_FAULT_TRUNCATED     = 1,  /* they end before a field does */
     ADDRMAN_FAULT_NON_CANONICAL = 2,  /* a CompactSize has more bytes than its value needs */
-    ADDRMAN_FAULT_TOO_MANY      = 3,  /* more than 1000 entries, or 100,000 bans */
+    ADDRMAN_FAULT_TOO_MANY      = 3,  /* over 1000 entries, 100,000 bans or 2,000,000 rows */
     ADDRMAN_FAULT_BAD_LENGTH    = 4,  /* addresses of the network have another length */
     ADDRMAN_FAULT_TOO_LONG      = 5,  /* an address of more than 512 bytes */
     ADDRMAN_FAULT_TRAILING      = 6,  /* bytes are left after the last field */
@@ -91,11 +91,17 @@ enum {
     ADDRMAN_FAULT_BUCKETS       = 16, /* the number of buckets is negative or too large */
     ADDRMAN_FAULT_TIME          = 17, /* a time before 1970 or after 2106; at: the record's index */
     ADDRMAN_FAULT_ATTEMPTS      = 18, /* negative attempts; at: the record's index */
-    ADDRMAN_FAULT_TOO_LARGE     = 19, /* more than 33,554,432 bytes; at: how many */
+    ADDRMAN_FAULT_TOO_LARGE     = 19, /* over 33,554,432 bytes, or 134,217,728 of a table; at: how many */
     ADDRMAN_FAULT_DUPLICATE     = 20, /* two valid records of one peer; at: the later one's index */
     ADDRMAN_FAULT_ASMAP         = 21, /* the asmap is not sane, or has more than 8,388,608 bytes */
     ADDRMAN_FAULT_JSON          = 30, /* a list of bans that is no JSON text, or nests too deep */
-    ADDRMAN_FAULT_FORM          = 31  /* it has no array under banned_nets */
+    ADDRMAN_FAULT_FORM          = 31, /* it has no array under banned_nets */
+    ADDRMAN_FAULT_LINE          = 40, /* a line of a table is no row; at: its number, from 1 */
+    ADDRMAN_FAULT_NUMBER        = 41, /* a prefix or a number is out of range; at: the line */
+    ADDRMAN_FAULT_HOST_BITS     = 42, /* a bit is set after the prefix; at: the line */
+    ADDRMAN_FAULT_REPEATED      = 43, /* an earlier line has the prefix; at: the line */
+    ADDRMAN_FAULT_EMPTY         = 44, /* the table has no rows */
+    ADDRMAN_FAULT_LONG_CODE     = 45  /* an asmap of more bits than one may have; at: how many */
 };
 typedef struct {
     uint32_t kind;
@@ -159,6 +165,19 @@ ADDRMAN_API addrman_result addrman_peer_text(const addrman_peer *peer, uint8_t *
  * RoutableCall (`is_routable`). */
 ADDRMAN_API addrman_result addrman_addr_routable(const addrman_addr *addr, uint32_t *routable);
 
+/* The address of the sixteen bytes that messages before BIP 155 have. Of any bytes there is one. Proved:
+ * `from_v1`. */
+ADDRMAN_API void addrman_addr_from_v1(const uint8_t v1[16], addrman_addr *addr);
+
+/* The sixteen bytes of an address. ADDRMAN_NONE: it has none, as an onion address. Proved: OldFormCall
+ * (`v1_bytes`). */
+ADDRMAN_API addrman_result addrman_addr_to_v1(const addrman_addr *addr, uint8_t v1[16]);
+
+/* The network that an address is reached through: ADDRMAN_IPV4 for IPv6 addresses of a tunnel from an
+ * IPv4 address, and ADDRMAN_UNROUTABLE if it can't be reached from everywhere. It is what the set of
+ * addrman_sample goes by. Proved: ClassCall (`net_class`). */
+ADDRMAN_API addrman_result addrman_addr_class(const addrman_addr *addr, uint32_t *network);
+
 /* ----------------------------------------------------------------------------------- tables */
 
 typedef struct addrman {
@@ -190,13 +209,55 @@ ADDRMAN_API ADDRMAN_MUST_USE addrman_result addrman_open_file(addrman *am, const
 /* Frees all memory of the object, and closes it. Proved: the object is closed. */
 ADDRMAN_API void addrman_close(addrman *am);
 
-/* Writes the file that keeps the tables (format 4) and how many bytes it has. A node replaces its
- * peers.dat so that a crash leaves the old file or the new one: it writes the bytes to another name
- * in the same folder, calls fsync, renames that over peers.dat, and calls fsync on the folder.
+/* Writes the file that keeps the tables (format 4) and how many bytes it has. addrman_save_begin says
+ * how a node puts them in the place of its peers.dat.
  *   ADDRMAN_ERR_SHORT_BUFFER  nothing is written but *length
  * Proved: WriteCall (`file_text` of `snapshot_of`); the tables are as they were. */
 ADDRMAN_API ADDRMAN_MUST_USE addrman_result addrman_write_file(addrman *am, addrman_chain chain,
     uint8_t *out, size_t capacity, size_t *length);
+
+/* ------------------------------------------------------------------------------------ saves */
+
+/* The library opens no file. A save says what to do in the folder of peers.dat, one request after
+ * another, and has its own copy of the file, so the tables may change meanwhile. The rules for objects
+ * of type addrman hold of it. */
+typedef struct addrman_save {
+    void *impl;
+    bool is_open;
+} addrman_save;
+#define ADDRMAN_SAVE_INIT { 0, false }
+
+typedef uint32_t addrman_request;
+enum {
+    ADDRMAN_CREATE,     /* make an empty file with a temporary name, as by O_CREAT and O_TRUNC */
+    ADDRMAN_APPEND,     /* append the bytes to it */
+    ADDRMAN_SYNC,       /* call fsync on it */
+    ADDRMAN_RENAME,     /* rename it to peers.dat */
+    ADDRMAN_SYNC_FOLDER /* call fsync on the folder */
+};
+
+/* Begins a save of the tables as they are, in pieces of at most `most` bytes, which is at least 1. What
+ * the save had is dropped first, and after any result other than ADDRMAN_OK it is closed.
+ * Proved: BeginCall. If the requests are carried out in their order, each after the one before has
+ * succeeded, then a crash at any moment leaves peers.dat as it was or whole with these tables, and
+ * after the last request always with these (`IsSafeSave`): of a disk that keeps the rules of `Disk`. */
+ADDRMAN_API ADDRMAN_MUST_USE addrman_result addrman_save_begin(addrman_save *save, addrman *am,
+    addrman_chain chain, uint32_t most);
+
+/* Writes what to do next, the bytes to append, and how many they are: 0 of another request. It says the
+ * same until addrman_save_done.
+ *   ADDRMAN_NONE              the file is saved
+ *   ADDRMAN_ERR_SHORT_BUFFER  `out` has room for fewer than *length bytes
+ * Proved: NextCall; the save is as it was. */
+ADDRMAN_API ADDRMAN_MUST_USE addrman_result addrman_save_next(addrman_save *save,
+    addrman_request *request, uint8_t *out, size_t capacity, size_t *length);
+
+/* What was to be done has succeeded, or has failed: then the save is over, and closed. Proved:
+ * DoneCall. */
+ADDRMAN_API addrman_result addrman_save_done(addrman_save *save, bool succeeded);
+
+/* Frees all memory of the object, and closes it. */
+ADDRMAN_API void addrman_save_close(addrman_save *save);
 
 /* --------------------------------------------------------------------------------- messages */
 
@@ -311,6 +372,21 @@ ADDRMAN_API ADDRMAN_MUST_USE addrman_result addrman_records(addrman *am, addrman
  * Proved: CheckCall (`IsSaneFile`). */
 ADDRMAN_API addrman_result addrman_asmap_check(const uint8_t *asmap, size_t length);
 
+/* Compiles a table of prefixes into an asmap, and writes that and how many bytes it has. A line of the
+ * table is a prefix and a number (1.2.3.0/24 AS5, 2001:db8::/32 AS6). The output is as it was after a
+ * result other than ADDRMAN_OK.
+ *   ADDRMAN_ERR_REFUSED  *fault says why
+ * Proved: CompileCall (`IsTableText`, `IsFault`, `compiled`, `best`). */
+ADDRMAN_API ADDRMAN_MUST_USE addrman_result addrman_asmap_compile(const uint8_t *table,
+    size_t table_length, uint8_t *out, size_t capacity, size_t *length, addrman_fault *fault);
+
+/* Turns an asmap back into a table whose longest prefixes give each address the number that the asmap
+ * gives, and writes its text and how many bytes that has.
+ *   ADDRMAN_ERR_REFUSED  it is not sane, or gives more than 2,000,000 rows
+ * Proved: BackCall (`rows_back`, `table_text`). */
+ADDRMAN_API ADDRMAN_MUST_USE addrman_result addrman_asmap_decompile(const uint8_t *asmap,
+    size_t asmap_length, uint8_t *out, size_t capacity, size_t *length, addrman_fault *fault);
+
 /* The number of the autonomous system that announces an address by the object's asmap, 0 if none is
  * known. Proved: AsnCall (`asn`). */
 ADDRMAN_API addrman_result addrman_asn(addrman *am, const addrman_addr *addr, uint32_t *asn);
@@ -363,6 +439,11 @@ typedef struct {
     uint32_t created, until;
 } addrman_ban;
 
+/* Parses the text of a subnet (1.2.3.0/24, 2001:db8::/32, onion:HEX): its address, and how many of its
+ * bits count. ADDRMAN_ERR_ARGUMENT: the text is none. Proved: SubnetCall (`IsSubnetText`). */
+ADDRMAN_API addrman_result addrman_subnet_parse(const uint8_t *text, size_t length,
+    addrman_addr *base, uint32_t *prefix);
+
 /* Opens the list that the bytes of a banlist.json have, or an empty one (length 0). What the object
  * had is dropped first, and after any result other than ADDRMAN_OK it is closed.
  *   ADDRMAN_ERR_REFUSED  *fault says why
@@ -377,8 +458,8 @@ ADDRMAN_API void addrman_bans_close(addrman_bans *bans);
 ADDRMAN_API ADDRMAN_MUST_USE addrman_result addrman_bans_write(addrman_bans *bans, uint8_t *out,
     size_t capacity, size_t *length);
 
-/* Drops the bans that are over, and bans the subnet of a text (1.2.3.0/24, 2001:db8::/32, onion:HEX)
- * from `now` until a time. *reply is one of the names above.
+/* Drops the bans that are over, and bans the subnet of a text (as addrman_subnet_parse reads it) from
+ * `now` until a time. *reply is one of the names above.
  *   ADDRMAN_ERR_ARGUMENT  the text is no subnet
  *   ADDRMAN_ERR_MEMORY    nothing changes
  * Proved: BanCall (`after_ban`). */

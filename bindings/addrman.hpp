@@ -58,15 +58,16 @@ template <class T> const T *at(const std::vector<T> &v)
     return v.empty() ? &none : v.data();
 }
 
-// Whatever has a length that is told if the output has too little room.
-template <class T, class Call> std::vector<T> filled(std::size_t room, Call call)
+// Whatever has a length that is told if the output has too little room; `fault` is that of the call.
+template <class T, class Call>
+std::vector<T> filled(std::size_t room, Call call, const addrman_fault &fault = {})
 {
     std::vector<T> out(room ? room : 1);
     std::size_t length = 0;
     addrman_result code;
     while ((code = call(out.data(), out.size(), &length)) == ADDRMAN_ERR_SHORT_BUFFER)
         out.resize(length);
-    check(code, {}, length);
+    check(code, fault, length);
     out.resize(length);
     return out;
 }
@@ -101,10 +102,36 @@ inline std::string text_of(const addrman_addr &addr)
     return std::string(out.begin(), out.end());
 }
 
+// The sixteen bytes of an address in messages before BIP 155, if it has some.
+inline std::optional<std::array<std::uint8_t, 16>> to_v1(const addrman_addr &addr)
+{
+    std::array<std::uint8_t, 16> out{};
+    auto code = addrman_addr_to_v1(&addr, out.data());
+    if (code == ADDRMAN_NONE) return {};
+    check(code);
+    return out;
+}
+
+inline addrman_addr from_v1(const std::array<std::uint8_t, 16> &v1)
+{
+    addrman_addr out{};
+    addrman_addr_from_v1(v1.data(), &out);
+    return out;
+}
+
+// The network that an address is reached through.
+inline std::uint32_t network_of(const addrman_addr &addr)
+{
+    std::uint32_t out = 0;
+    check(addrman_addr_class(&addr, &out));
+    return out;
+}
+
 // The tables, and the outbound peers that are open. One call at a time; not const, as in C.
 class tables {
     addrman am_ = ADDRMAN_INIT;
     bytes asmap_; // stays until the tables are closed
+    friend class save;
 
 public:
     tables(const key &k, const seed &s, bytes asmap = {}) : asmap_(std::move(asmap))
@@ -388,6 +415,63 @@ public:
         return out;
     }
 };
+
+// A save of tables, for callers that carry it out themselves.
+class save {
+    addrman_save save_ = ADDRMAN_SAVE_INIT;
+    std::size_t most_;
+
+public:
+    struct request {
+        addrman_request what;
+        bytes piece; // to append
+    };
+
+    save(tables &t, addrman_chain chain, std::uint32_t most) : most_(most)
+    {
+        check(addrman_save_begin(&save_, &t.am_, chain, most));
+    }
+    save(save &&o) noexcept
+        : save_(std::exchange(o.save_, addrman_save ADDRMAN_SAVE_INIT)), most_(o.most_) {}
+    save(const save &) = delete;
+    save &operator=(const save &) = delete;
+    ~save() { addrman_save_close(&save_); }
+
+    // What to do next, or nothing if the file is saved.
+    std::optional<request> next()
+    {
+        request out{0, bytes(most_)};
+        std::size_t length = 0;
+        auto code = addrman_save_next(&save_, &out.what, out.piece.data(), most_, &length);
+        if (code == ADDRMAN_NONE) return {};
+        check(code);
+        out.piece.resize(length);
+        return out;
+    }
+
+    // It has succeeded, or has failed, which ends the save.
+    void done(bool succeeded) { check(addrman_save_done(&save_, succeeded)); }
+};
+
+// Compiles the text of a table of prefixes into an asmap.
+inline bytes compile_asmap(std::string_view table)
+{
+    addrman_fault fault{};
+    auto text = reinterpret_cast<const std::uint8_t *>(table.empty() ? "" : table.data());
+    return filled<std::uint8_t>(0, [&](auto *p, auto n, auto *l) {
+        return addrman_asmap_compile(text, table.size(), p, n, l, &fault);
+    }, fault);
+}
+
+// The text of a table of prefixes that means the same as an asmap.
+inline std::string decompile_asmap(const bytes &asmap)
+{
+    addrman_fault fault{};
+    auto out = filled<std::uint8_t>(0, [&](auto *p, auto n, auto *l) {
+        return addrman_asmap_decompile(at(asmap), asmap.size(), p, n, l, &fault);
+    }, fault);
+    return std::string(out.begin(), out.end());
+}
 
 } // namespace libaddrman
 #endif

@@ -57,26 +57,36 @@ static void open_tables(addrman *am, const char *folder)
     if (code) stop("open", code);
 }
 
-/* Writes the whole file under another name, and then in the place of the old one, each step only after
- * the one before is on the disk: a crash leaves the old file or the new one. */
+/* Carries out what a save asks for, each request only after the one before: a crash leaves the old file
+ * or the new one. */
 static void save(addrman *am, const char *folder)
 {
-    uint8_t none;
-    size_t length, done = 0;
-    if (addrman_write_file(am, ADDRMAN_MAIN, &none, 0, &length) != ADDRMAN_ERR_SHORT_BUFFER) stop("write_file", 0);
-    uint8_t *bytes = malloc(length);
-    if (!bytes || addrman_write_file(am, ADDRMAN_MAIN, bytes, length, &length)) stop("write_file", 1);
-    int in = open(folder, O_RDONLY | O_DIRECTORY);
-    int file = openat(in, "peers.tmp", O_WRONLY | O_CREAT | O_TRUNC, 0600);
-    if (in < 0 || file < 0) stop("peers.tmp", 0);
-    while (done < length) {
-        ssize_t some = write(file, bytes + done, length - done);
-        if (some <= 0) stop("write", 0);
-        done += (size_t)some;
+    static uint8_t piece[65536];
+    addrman_save job = ADDRMAN_SAVE_INIT;
+    addrman_request request;
+    addrman_result code;
+    size_t length;
+    int file = -1, in = open(folder, O_RDONLY | O_DIRECTORY);
+    if (in < 0) stop(folder, 0);
+    if ((code = addrman_save_begin(&job, am, ADDRMAN_MAIN, sizeof piece))) stop("save_begin", code);
+    while ((code = addrman_save_next(&job, &request, piece, sizeof piece, &length)) == ADDRMAN_OK) {
+        bool done = false;
+        switch (request) {
+        case ADDRMAN_CREATE:
+            file = openat(in, "peers.tmp", O_WRONLY | O_CREAT | O_TRUNC, 0600);
+            done = file >= 0;
+            break;
+        case ADDRMAN_APPEND: done = write(file, piece, length) == (ssize_t)length; break;
+        case ADDRMAN_SYNC: done = fsync(file) == 0 && close(file) == 0; break;
+        case ADDRMAN_RENAME: done = renameat(in, "peers.tmp", in, "peers.dat") == 0; break;
+        case ADDRMAN_SYNC_FOLDER: done = fsync(in) == 0; break;
+        }
+        if (!done) stop("request of a save", request);
+        if ((code = addrman_save_done(&job, true))) stop("save_done", code);
     }
-    if (fsync(file) || close(file) || renameat(in, "peers.tmp", in, "peers.dat") || fsync(in)) stop("peers.dat", 0);
+    if (code != ADDRMAN_NONE) stop("save_next", code);
+    addrman_save_close(&job);
     close(in);
-    free(bytes);
 }
 
 /* Takes the message of a line. */

@@ -30,9 +30,9 @@ void *__wrap_realloc(void *old, size_t size)
     return fails() ? NULL : __real_realloc(old, size);
 }
 
-enum { CALLS = 10 };
+enum { CALLS = 13 };
 static const char *names[CALLS] = { "open", "take_message", "good", "add", "select", "sample", "records", "peer_text",
-                                    "write_file", "open_file" };
+                                    "write_file", "open_file", "save_begin", "asmap_compile", "asmap_decompile" };
 
 /* An addr message of three entries. */
 static size_t fill(uint8_t *out)
@@ -55,7 +55,7 @@ int main(void)
 {
     static const uint8_t key[32];
     static const uint64_t seed[2] = { 1, 2 }, words[12] = { 1, 2, 3, 4, 5, 6, 7, 8, 9, 10, 11, 12 };
-    static uint8_t payload[100], file[100000];
+    static uint8_t payload[100], file[100000], map[1000];
     size_t payload_length = fill(payload);
     unsigned wanted[CALLS] = { 0 }, without = 0;
     for (long fail = 1;; fail++) {
@@ -69,7 +69,8 @@ int main(void)
         addrman_counts counts;
         uint8_t text[100];
         uint32_t answer, code[CALLS];
-        size_t length = 0;
+        size_t length = 0, map_length = 0;
+        addrman_save job = ADDRMAN_SAVE_INIT;
         left = fail;
         code[0] = addrman_open(&a, key, seed, payload, 0);
         code[1] = addrman_take_message(&a, false, payload, payload_length, &source, words, 3, 1700000000, &added, &fault);
@@ -81,6 +82,9 @@ int main(void)
         code[7] = addrman_peer_text(&peer, text, sizeof text, &length);
         code[8] = addrman_write_file(&a, ADDRMAN_MAIN, file, sizeof file, &length);
         code[9] = code[8] ? 0 : addrman_open_file(&b, file, length, ADDRMAN_MAIN, seed, payload, 0, &fault);
+        code[10] = addrman_save_begin(&job, &a, ADDRMAN_MAIN, 1000);
+        code[11] = addrman_asmap_compile((const uint8_t *)"1.2.3.0/24 AS5\n", 15, map, sizeof map, &map_length, &fault);
+        code[12] = code[11] ? 0 : addrman_asmap_decompile(map, map_length, text, sizeof text, &length, &fault);
         bool reached = left == 0;
         left = 0;
         unsigned failed = 0;
@@ -100,6 +104,7 @@ int main(void)
         }
         addrman_close(&a);
         addrman_close(&b);
+        addrman_save_close(&job);
         if (!reached) {
             printf("%ld allocations failed in turn;", fail - 1);
             for (int i = 0; i < CALLS; i++)

@@ -127,22 +127,26 @@ static void put_record(const addrman_record *r)
     printf("\n");
 }
 
-static uint8_t *file(size_t *length)
-{
-    uint32_t code = addrman_write_file(&am, ADDRMAN_MAIN, bytes, 0, length);
-    if (code != ADDRMAN_ERR_SHORT_BUFFER) fail("write_file without room", code);
-    uint8_t *out = malloc(*length);
-    if ((code = addrman_write_file(&am, ADDRMAN_MAIN, out, *length, length))) fail("write_file", code);
-    return out;
-}
-
+/* A save by requests, in pieces of 1000 bytes. */
 static void save(void)
 {
+    addrman_save job = ADDRMAN_SAVE_INIT;
+    addrman_request request;
     size_t length;
-    uint8_t *out = file(&length);
-    FILE *to = fopen("peers.dat", "wb");
-    if (!to || fwrite(out, 1, length, to) != length || fclose(to)) fail("peers.dat", 0);
-    free(out);
+    uint8_t piece[1000];
+    FILE *to = NULL;
+    bool ok = true;
+    uint32_t code = addrman_save_begin(&job, &am, ADDRMAN_MAIN, sizeof piece);
+    if (code) fail("save_begin", code);
+    while (ok && (code = addrman_save_next(&job, &request, piece, sizeof piece, &length)) == ADDRMAN_OK) {
+        if (request == ADDRMAN_CREATE) ok = (to = fopen("peers.tmp", "wb")) != NULL;
+        else if (request == ADDRMAN_APPEND) ok = fwrite(piece, 1, length, to) == length;
+        else if (request == ADDRMAN_SYNC) ok = fclose(to) == 0;
+        else if (request == ADDRMAN_RENAME) ok = rename("peers.tmp", "peers.dat") == 0;
+        if (addrman_save_done(&job, ok)) fail("save_done", 0);
+    }
+    if (code != ADDRMAN_NONE) fail("save_next", code);
+    addrman_save_close(&job);
     printf("saved\n");
 }
 

@@ -149,8 +149,15 @@ static std::string reply(tables &am, const std::vector<std::string> &f, std::uin
         for (auto &r : records) out << text_of(r) << "\n";
         out << "end " << records.size();
     } else if (f[0] == "save") {
-        auto file = am.file(ADDRMAN_MAIN);
-        std::ofstream("peers.dat", std::ios::binary).write(reinterpret_cast<const char *>(file.data()), file.size());
+        // by requests, in pieces of 1000 bytes
+        save job(am, ADDRMAN_MAIN, 1000);
+        std::ofstream file;
+        while (auto request = job.next()) {
+            if (request->what == ADDRMAN_CREATE) file.open("peers.dat", std::ios::binary);
+            if (request->what == ADDRMAN_SYNC) file.close();
+            file.write(reinterpret_cast<const char *>(request->piece.data()), request->piece.size());
+            job.done(true);
+        }
         return "saved";
     } else throw std::runtime_error(f[0]);
     return out.str();

@@ -8,6 +8,19 @@ NAMES = ["unroutable", "ipv4", "ipv6", "onion", "i2p", "cjdns", "internal"]
 MASK = (1 << 64) - 1
 
 
+def save(am):
+    """A save by requests, in pieces of 1000 bytes."""
+    job, file = addrman.Save(am, 1000), b""
+    while request := job.next():
+        what, piece = request
+        file = b"" if what == "create" else file + piece
+        if what == "rename":
+            with open("peers.dat", "wb") as out:
+                out.write(file)
+        job.done()
+    return "saved"
+
+
 def drawn(seed, count):
     """The outputs of xoshiro256++, seeded as seed_from_u64 of Rust's rand_xoshiro does."""
     s = []
@@ -95,9 +108,7 @@ def reply(am, f, now):
         records = am.records()
         return "\n".join([record_text(r) for r in records] + [f"end {len(records)}"])
     if f[0] == "save":
-        with open("peers.dat", "wb") as out:
-            out.write(am.file())
-        return "saved"
+        return save(am)
     raise ValueError(f[0])
 
 

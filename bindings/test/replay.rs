@@ -1,8 +1,25 @@
 //! Carries out a log by the Rust crate, as replay.c does: replay KEY|FILE < LOG.
 
-use addrman::{AddrMan, Chain, Error, Fault, Good, Pick, Picked, Record, ALL_NETS};
+use addrman::{AddrMan, Chain, Error, Fault, Good, Pick, Picked, Record, Request, Save, ALL_NETS};
 use std::fmt::Write;
 use std::io::{self, BufRead, Write as _};
+
+/// A save by requests, in pieces of 1000 bytes.
+fn save(am: &mut AddrMan) -> Result<(), Error> {
+    let mut save = Save::begin(am, Chain::Main, 1000)?;
+    let mut file = Vec::new();
+    while let Some(request) = save.next()? {
+        match request {
+            Request::Create => file.clear(),
+            Request::Append(piece) => file.extend(piece),
+            Request::Sync => std::fs::write("peers.tmp", &file).unwrap(),
+            Request::Rename => std::fs::rename("peers.tmp", "peers.dat").unwrap(),
+            Request::SyncFolder => {}
+        }
+        save.done()?;
+    }
+    Ok(())
+}
 
 /// The outputs of xoshiro256++, seeded as seed_from_u64 of rand_xoshiro does.
 fn drawn(mut from: u64, count: usize) -> Vec<u64> {
@@ -130,7 +147,7 @@ fn reply(am: &mut AddrMan, f: &[&str], now: &mut u32) -> Result<String, Error> {
             format!("{lines}end {}", records.len())
         }
         "save" => {
-            std::fs::write("peers.dat", am.file(Chain::Main)?).unwrap();
+            save(am)?;
             "saved".to_string()
         }
         other => panic!("{other}"),

@@ -20,7 +20,8 @@ ASKED = ("unknown", "already", "granted")
 FAULTS = {1: "truncated", 2: "non-canonical", 3: "too-many", 4: "bad-length", 5: "too-long", 6: "trailing",
           10: "bad-magic", 11: "bad-sum", 12: "compat", 13: "version", 14: "count", 15: "record", 16: "buckets",
           17: "time", 18: "attempts", 19: "too-large", 20: "duplicate", 21: "asmap",
-          30: "json", 31: "form"}
+          30: "json", 31: "form", 40: "form", 41: "number", 42: "host-bits", 43: "repeated", 44: "empty", 45: "code-too-large"}
+REQUESTS = ("create", "append", "sync", "rename", "sync-folder")
 
 
 class _Handle(c.Structure):
@@ -141,6 +142,7 @@ _SIGNATURES = {
     "abi": [], "judge_feeler": [_U32, _U32, _U32],
     "addr_parse": [_P, _SIZE, _P], "peer_parse": [_P, _SIZE, _P],
     "addr_text": [_P, _P, _SIZE, _P], "peer_text": [_P, _P, _SIZE, _P], "addr_routable": [_P, _P],
+    "addr_from_v1": [_P, _P], "addr_to_v1": [_P, _P], "addr_class": [_P, _P], "subnet_parse": [_P, _SIZE, _P, _P],
     "open": [_P, _P, _P, _P, _SIZE], "open_file": [_P, _P, _SIZE, _U32, _P, _P, _SIZE, _P], "close": [_P],
     "write_file": [_P, _U32, _P, _SIZE, _P],
     "take_message": [_P, _BOOL, _P, _SIZE, _P, _P, _SIZE, _U32, _P, _P],
@@ -156,11 +158,13 @@ _SIGNATURES = {
     "limiter_open": [_P], "limiter_close": [_P], "limiter_add": [_P, _U32, _P, _BOOL, _U32, _P],
     "limiter_remove": [_P, _U32, _P], "limiter_getaddr": [_P, _U32, _P], "limiter_admit": [_P, _U32, _U32, _U32, _P],
     "limiter_stat": [_P, _U32, _P],
+    "asmap_compile": [_P, _SIZE, _P, _SIZE, _P, _P], "asmap_decompile": [_P, _SIZE, _P, _SIZE, _P, _P],
+    "save_begin": [_P, _P, _U32, _U32], "save_next": [_P, _P, _P, _SIZE, _P], "save_done": [_P, _BOOL], "save_close": [_P],
     "opener_judge": [_P, _P, _U32, _U32, _P], "opener_add": [_P, _P], "opener_remove": [_P, _P, _P],
 }
 for _name, _arguments in _SIGNATURES.items():
     _call = getattr(_lib, "addrman_" + _name)
-    _call.argtypes, _call.restype = _arguments, None if _name.endswith("close") else _U32
+    _call.argtypes, _call.restype = _arguments, None if _name.endswith(("close", "from_v1")) else _U32
 if _lib.addrman_abi() != ABI:
     raise ImportError("libaddrman has another ABI")
 
@@ -178,13 +182,13 @@ def _check(code: int, fault: Optional[_Fault] = None, need: int = 0) -> None:
         raise Error(code, {CLOSED: "closed", FULL: "full"}.get(code, f"code {code}"))
 
 
-def _filled(kind, room: int, call: Callable) -> list:
+def _filled(kind, room: int, call: Callable, fault: Optional[_Fault] = None) -> list:
     length = _SIZE()
     while True:
         out = (kind * max(room, 1))()
         code = call(out, len(out), c.byref(length))
         if code != SHORT_BUFFER:
-            _check(code, need=length.value)
+            _check(code, fault, length.value)
             return out[:length.value]
         room = length.value
 
@@ -225,9 +229,53 @@ def is_routable(addr: str) -> bool:
     return out.value != 0
 
 
+def from_v1(v1: bytes) -> str:
+    """The address of the sixteen bytes that messages before BIP 155 have."""
+    out = _Addr()
+    _lib.addrman_addr_from_v1((c.c_uint8 * 16)(*v1), c.byref(out))
+    return _addr_text(out)
+
+
+def to_v1(addr: str) -> Optional[bytes]:
+    """The sixteen bytes of an address. None: it has none, as an onion address."""
+    out = (c.c_uint8 * 16)()
+    code = _lib.addrman_addr_to_v1(c.byref(_addr(addr)), out)
+    if code == NONE:
+        return None
+    _check(code)
+    return bytes(out)
+
+
+def network(addr: str) -> int:
+    """The network that an address is reached through: one of UNROUTABLE, IPV4, ..."""
+    out = _U32()
+    _check(_lib.addrman_addr_class(c.byref(_addr(addr)), c.byref(out)))
+    return out.value
+
+
+def subnet(text: str) -> tuple[str, int]:
+    """The address of a subnet, and how many of its bits count."""
+    base, prefix, raw = _Addr(), _U32(), text.encode()
+    _check(_lib.addrman_subnet_parse(raw, len(raw), c.byref(base), c.byref(prefix)))
+    return _addr_text(base), prefix.value
+
+
 def asmap_is_sane(asmap: bytes) -> bool:
     """Whether the bytes are a sane asmap of at most 8,388,608 bytes."""
     return _lib.addrman_asmap_check(asmap, len(asmap)) == OK
+
+
+def compile_asmap(table: str) -> bytes:
+    """Compiles the text of a table of prefixes (lines as `1.2.3.0/24 AS5`) into an asmap."""
+    fault, raw = _Fault(), table.encode()
+    return bytes(_filled(c.c_uint8, 0, lambda p, n, l: _lib.addrman_asmap_compile(raw, len(raw), p, n, l, c.byref(fault)), fault))
+
+
+def decompile_asmap(asmap: bytes) -> str:
+    """The text of a table of prefixes that means the same as an asmap."""
+    fault = _Fault()
+    return bytes(_filled(c.c_uint8, 0, lambda p, n, l: _lib.addrman_asmap_decompile(
+        asmap, len(asmap), p, n, l, c.byref(fault)), fault)).decode()
 
 
 class AddrMan:
@@ -467,3 +515,28 @@ class Limiter:
             return None
         _check(code)
         return Limits(out.tenths, out.moment, out.processed, out.limited, out.asked != 0, out.unlimited != 0)
+
+
+class Save:
+    """A save of tables, for callers that carry it out themselves, each request after the one before. After the last a
+    crash leaves the new file, and until then the old one or the new one."""
+
+    def __init__(self, tables: AddrMan, most: int, chain: int = MAIN) -> None:
+        self._h, self._most = _Handle(), most
+        _check(_lib.addrman_save_begin(c.byref(self._h), c.byref(tables._h), chain, most))
+
+    def __del__(self) -> None:
+        _lib.addrman_save_close(c.byref(self._h))
+
+    def next(self) -> Optional[tuple[str, bytes]]:
+        """What to do next, one of REQUESTS, and the bytes to append. None: the file is saved."""
+        request, length, piece = _U32(), _SIZE(), (c.c_uint8 * self._most)()
+        code = _lib.addrman_save_next(c.byref(self._h), c.byref(request), piece, self._most, c.byref(length))
+        if code == NONE:
+            return None
+        _check(code)
+        return REQUESTS[request.value], bytes(piece[:length.value])
+
+    def done(self, succeeded: bool = True) -> None:
+        """It has succeeded, or has failed, which ends the save."""
+        _check(_lib.addrman_save_done(c.byref(self._h), succeeded))

@@ -23,6 +23,12 @@ pub enum Error {
     Refused(Fault),
 }
 
+impl Error {
+    fn with(self, fault: Fault) -> Error {
+        if let Error::Refused(_) = self { Error::Refused(fault) } else { self }
+    }
+}
+
 impl fmt::Display for Error {
     fn fmt(&self, out: &mut fmt::Formatter<'_>) -> fmt::Result {
         match self {
@@ -125,6 +131,31 @@ impl FromStr for Peer {
     fn from_str(text: &str) -> Result<Peer, Error> {
         let mut out = Peer::default();
         done(unsafe { raw::addrman_peer_parse(text.as_ptr(), text.len(), &mut out) })?;
+        Ok(out)
+    }
+}
+
+impl Addr {
+    /// Returns the address of the sixteen bytes that messages before BIP 155 have.
+    pub fn from_v1(v1: &[u8; 16]) -> Addr {
+        let mut out = Addr::default();
+        unsafe { raw::addrman_addr_from_v1(v1, &mut out) };
+        out
+    }
+
+    /// Returns the sixteen bytes of the address, or `None` if it has none, as an onion address.
+    pub fn to_v1(&self) -> Result<Option<[u8; 16]>, Error> {
+        let mut out = [0; 16];
+        match unsafe { raw::addrman_addr_to_v1(self, &mut out) } {
+            raw::NONE => Ok(None),
+            code => done(code).map(|()| Some(out)),
+        }
+    }
+
+    /// Returns the number of the network that the address is reached through.
+    pub fn reached_through(&self) -> Result<u32, Error> {
+        let mut out = 0;
+        done(unsafe { raw::addrman_addr_class(self, &mut out) })?;
         Ok(out)
     }
 }
@@ -472,4 +503,87 @@ impl Limiter {
             code => done(code).map(|()| Some(out)),
         }
     }
+}
+
+/// What a save asks for.
+#[derive(Clone, Debug, PartialEq, Eq)]
+pub enum Request {
+    /// Make an empty file with a temporary name.
+    Create,
+    /// Append these bytes to it.
+    Append(Vec<u8>),
+    /// Call fsync on it.
+    Sync,
+    /// Rename it to peers.dat.
+    Rename,
+    /// Call fsync on the folder.
+    SyncFolder,
+}
+
+/// A save of tables, for callers that carry it out themselves, each request after the one before.
+pub struct Save {
+    handle: raw::Handle,
+    most: usize,
+}
+
+unsafe impl Send for Save {}
+
+impl Drop for Save {
+    fn drop(&mut self) {
+        unsafe { raw::addrman_save_close(&mut self.handle) }
+    }
+}
+
+impl Save {
+    /// Begins a save of the tables as they are, in pieces of at most `most` bytes, at least 1.
+    pub fn begin(tables: &mut AddrMan, chain: Chain, most: u32) -> Result<Save, Error> {
+        let mut save = Save { handle: no_handle(), most: most as usize };
+        done(unsafe { raw::addrman_save_begin(&mut save.handle, &mut tables.handle, chain as u32, most) })?;
+        Ok(save)
+    }
+
+    /// Returns what to do next, or `None` if the file is saved.
+    pub fn next(&mut self) -> Result<Option<Request>, Error> {
+        let mut request = 0;
+        let mut piece = vec![0; self.most];
+        let mut length = 0;
+        match unsafe { raw::addrman_save_next(&mut self.handle, &mut request, piece.as_mut_ptr(), piece.len(), &mut length) } {
+            raw::NONE => return Ok(None),
+            code => done(code)?,
+        }
+        piece.truncate(length);
+        Ok(Some(match request {
+            0 => Request::Create,
+            1 => Request::Append(piece),
+            2 => Request::Sync,
+            3 => Request::Rename,
+            _ => Request::SyncFolder,
+        }))
+    }
+
+    /// It has succeeded.
+    pub fn done(&mut self) -> Result<(), Error> {
+        done(unsafe { raw::addrman_save_done(&mut self.handle, true) })
+    }
+}
+
+/// Parses the text of a subnet: its address, and how many bits of it count.
+pub fn parse_subnet(text: &str) -> Result<(Addr, u32), Error> {
+    let (mut base, mut prefix) = (Addr::default(), 0);
+    done(unsafe { raw::addrman_subnet_parse(text.as_ptr(), text.len(), &mut base, &mut prefix) })?;
+    Ok((base, prefix))
+}
+
+/// Compiles the text of a table of prefixes into an asmap.
+pub fn compile_asmap(table: &str) -> Result<Vec<u8>, Error> {
+    let mut fault = Fault::default();
+    let out = filled(0, |p, n, l| unsafe { raw::addrman_asmap_compile(table.as_ptr(), table.len(), p, n, l, &mut fault) });
+    out.map_err(|error| error.with(fault))
+}
+
+/// Returns the text of a table of prefixes that means the same as an asmap.
+pub fn decompile_asmap(asmap: &[u8]) -> Result<String, Error> {
+    let mut fault = Fault::default();
+    let out = filled(0, |p, n, l| unsafe { raw::addrman_asmap_decompile(asmap.as_ptr(), asmap.len(), p, n, l, &mut fault) });
+    Ok(String::from_utf8(out.map_err(|error| error.with(fault))?).expect("a table is ASCII"))
 }

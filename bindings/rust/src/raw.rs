@@ -132,6 +132,10 @@ extern "C" {
     pub fn addrman_addr_text(addr: *const Addr, out: *mut u8, capacity: usize, length: *mut usize) -> u32;
     pub fn addrman_peer_text(peer: *const Peer, out: *mut u8, capacity: usize, length: *mut usize) -> u32;
     pub fn addrman_addr_routable(addr: *const Addr, routable: *mut u32) -> u32;
+    pub fn addrman_addr_from_v1(v1: *const [u8; 16], out: *mut Addr);
+    pub fn addrman_addr_to_v1(addr: *const Addr, v1: *mut [u8; 16]) -> u32;
+    pub fn addrman_addr_class(addr: *const Addr, network: *mut u32) -> u32;
+    pub fn addrman_subnet_parse(text: *const u8, length: usize, base: *mut Addr, prefix: *mut u32) -> u32;
     pub fn addrman_open(am: *mut Handle, key: *const [u8; 32], seed: *const [u64; 2], asmap: *const u8, asmap_length: usize) -> u32;
     pub fn addrman_open_file(am: *mut Handle, bytes: *const u8, length: usize, chain: u32, seed: *const [u64; 2], asmap: *const u8, asmap_length: usize, fault: *mut Fault) -> u32;
     pub fn addrman_close(am: *mut Handle);
@@ -150,6 +154,12 @@ extern "C" {
     pub fn addrman_find(am: *mut Handle, peer: *const Peer, record: *mut Record) -> u32;
     pub fn addrman_records(am: *mut Handle, records: *mut Record, capacity: usize, length: *mut usize) -> u32;
     pub fn addrman_asmap_check(asmap: *const u8, length: usize) -> u32;
+    pub fn addrman_asmap_compile(table: *const u8, table_length: usize, out: *mut u8, capacity: usize, length: *mut usize, fault: *mut Fault) -> u32;
+    pub fn addrman_asmap_decompile(asmap: *const u8, asmap_length: usize, out: *mut u8, capacity: usize, length: *mut usize, fault: *mut Fault) -> u32;
+    pub fn addrman_save_begin(save: *mut Handle, am: *mut Handle, chain: u32, most: u32) -> u32;
+    pub fn addrman_save_next(save: *mut Handle, request: *mut u32, out: *mut u8, capacity: usize, length: *mut usize) -> u32;
+    pub fn addrman_save_done(save: *mut Handle, succeeded: bool) -> u32;
+    pub fn addrman_save_close(save: *mut Handle);
     pub fn addrman_asn(am: *mut Handle, addr: *const Addr, asn: *mut u32) -> u32;
     pub fn addrman_group(am: *mut Handle, addr: *const Addr, out: *mut u8, capacity: usize, length: *mut usize) -> u32;
     pub fn addrman_opener_judge(am: *mut Handle, candidate: *const Picked, now: u32, tries: u32, verdict: *mut u32) -> u32;

@@ -14,6 +14,7 @@ use Rattle.addrman_c.specs.declared.bans_handle.KeptBans.{KeptBans}
 use Rattle.addrman_c.specs.declared.code.TheConstants.{OK, CLOSED, MEMORY, ARGUMENT, REFUSED, NONE}
 use Rattle.addrman_c.specs.declared.structs.AddrmanBan.{AddrmanBan}
 use Rattle.addrman_c.specs.declared.structs.AddrmanFault.{AddrmanFault}
+use Rattle.addrman_c.specs.declared.values.AddrmanAddr.{AddrmanAddr}
 use Rattle.addrman_c.specs.Values.{address_in, bit, IsPut}
 
 -- A closed handle stays closed. An open one stays open, and its list before and after is as the
@@ -59,6 +60,12 @@ PrintCall bans code old new count =
 abbrev pub IsParsed : List ℕ → Option Subnet → Type 0
 IsParsed text None = (s : Subnet) → IsSubnetText text s → ⊥
 IsParsed text (Some s) = IsSubnetText text s
+
+-- a subnet, as the code and the outputs tell it; None is no subnet
+abbrev pub SubnetCall : Option Subnet → ℕ → AddrmanAddr → ℕ → Type 0
+SubnetCall None code base prefix = code ≡ ARGUMENT
+SubnetCall (Some s) code base prefix =
+    (code ≡ OK) × (address_in base ≡ Some s.addr) × (prefix ≡ s.len)
 
 -- the number of a reply in the header
 abbrev pub reply_number : BanReply → ℕ

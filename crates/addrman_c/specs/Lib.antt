@@ -1,3 +1,4 @@
+pub mod Asmaps
 pub mod Banning
 pub mod Calls
 pub mod Files
@@ -8,5 +9,6 @@ pub mod Loading
 pub mod OnHandle
 pub mod Outbound
 pub mod Sampling
+pub mod Saving
 pub mod Texts
 pub mod Values

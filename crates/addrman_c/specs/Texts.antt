@@ -1,8 +1,9 @@
 -- What the calls on addresses and their texts return and write.
-use Rattle.std.specs.Prelude.{◌≡◌, ◌⊎◌, ℕ, List, Option, Some, None}
-use Rattle.net_addr.specs.Address.{Address}
-use Rattle.net_addr.specs.Ranges.{is_routable}
-use Rattle.addrman_c.specs.declared.code.TheConstants.{OK, MEMORY, ARGUMENT}
+use Rattle.std.specs.Prelude.{◌≡◌, ◌⊎◌, ℕ, List, Option, Some, None, MatchOption}
+use Rattle.net_addr.specs.Address.{Address, number_of}
+use Rattle.net_addr.specs.OldForm.{v1_bytes}
+use Rattle.net_addr.specs.Ranges.{is_routable, net_class}
+use Rattle.addrman_c.specs.declared.code.TheConstants.{OK, MEMORY, ARGUMENT, NONE}
 use Rattle.addrman_c.specs.Values.{IsPut, bit}
 
 -- The text of a value; None is no value. If memory runs out or there is no value, the output is as
@@ -16,3 +17,14 @@ TextCall text_of (Some value) code old new count =
 abbrev pub RoutableCall : Option Address → ℕ → ℕ → Type 0
 RoutableCall None code routable = code ≡ ARGUMENT
 RoutableCall (Some addr) code routable = (code ≡ OK) × (routable ≡ bit (is_routable addr))
+
+-- the network that it is reached through; None is no address
+abbrev pub ClassCall : Option Address → ℕ → ℕ → Type 0
+ClassCall None code class = code ≡ ARGUMENT
+ClassCall (Some addr) code class = (code ≡ OK) × (class ≡ number_of (net_class addr))
+
+-- the sixteen bytes of its old form, if it has one; None is no address
+abbrev pub OldFormCall : Option Address → ℕ → List ℕ → List ℕ → Type 0
+OldFormCall None code old new = (code ≡ ARGUMENT) × (new ≡ old)
+OldFormCall (Some addr) code old new = MatchOption (v1_bytes addr) ((code ≡ NONE) × (new ≡ old))
+    (λ bytes. (code ≡ OK) × (new ≡ bytes))

@@ -2,7 +2,7 @@ ghost use Rattle.std.specs.Prelude.{◌≡◌, Option, None, IfOk, IfErr, IfSome
 ghost use Rattle.ban_list.specs.declared.subnet.Subnet.{Subnet};
 ghost use Rattle.ban_list.specs.Subnet.{IsProper};
 ghost use Rattle.addrman_c.specs.Values.{address_in};
-ghost use Rattle.addrman_c.specs.Banning.{OnBans, IsListOf, IsListFault, TellsList, ReadCall, PrintCall, IsParsed, BanCall, UnbanCall, CoverCall, IsBan, ban_fault_number, reply_number};
+ghost use Rattle.addrman_c.specs.Banning.{OnBans, IsListOf, IsListFault, TellsList, ReadCall, PrintCall, IsParsed, BanCall, UnbanCall, CoverCall, SubnetCall, IsBan, ban_fault_number, reply_number};
 
 use crate::bans_handle::{BansHandle, KeptBans};
 use crate::code::{ARGUMENT, CLOSED, MEMORY, NONE, OK, REFUSED};
@@ -129,6 +129,26 @@ fn parsed(text: &[u8]) -> Option<Subnet>
     ensures proper { IfSome result IsProper }
 {
     parse_subnet(text)
+}
+
+/// Writes a subnet as C sees it.
+fn put_subnet(subnet: Option<Subnet>, base: &mut AddrmanAddr, prefix: &mut u32) -> u32
+    ensures { SubnetCall subnet result base.new prefix.new }
+{
+    let Some(subnet) = subnet else {
+        return ARGUMENT;
+    };
+    *base = write_addr(&subnet.addr);
+    *prefix = u32::from(subnet.len);
+    OK
+}
+
+/// Parses the text of a subnet: its address, and how many bits of it count.
+#[unsafe(no_mangle)]
+pub extern "C" fn addrman_subnet_parse(text: &[u8], base: &mut AddrmanAddr, prefix: &mut u32) -> u32
+    ensures { (s : Option Subnet) × IsParsed text.now s × SubnetCall s result base.new prefix.new }
+{
+    put_subnet(parsed(text), base, prefix)
 }
 
 /// Returns the number of a reply in the header.

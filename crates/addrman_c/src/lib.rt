@@ -9,6 +9,7 @@
 #![tactic(auto)]
 
 mod abi;
+mod asmaps;
 mod bans;
 mod bans_handle;
 mod chain;
@@ -16,6 +17,7 @@ mod code;
 mod entries;
 mod group;
 mod handle;
+mod kinds;
 mod limiter_handle;
 mod limits;
 mod loading;
@@ -28,20 +30,26 @@ mod picks;
 mod reads;
 mod records;
 mod sampling;
+mod save_handle;
+mod saves;
 mod structs;
 mod text;
 mod values;
 mod writing;
 
 pub use abi::addrman_abi;
+pub use asmaps::{addrman_asmap_compile, addrman_asmap_decompile};
 pub use bans::{
     addrman_bans_add, addrman_bans_close, addrman_bans_covering, addrman_bans_open,
-    addrman_bans_remove, addrman_bans_write,
+    addrman_bans_remove, addrman_bans_write, addrman_subnet_parse,
 };
 pub use bans_handle::{BansHandle, KeptBans, LooseBans};
 pub use entries::{addrman_add, addrman_take_message};
 pub use group::{addrman_asmap_check, addrman_asn, addrman_group};
 pub use handle::{Handle, Kept, Loose};
+pub use kinds::{
+    addrman_addr_class, addrman_addr_from_v1, addrman_addr_routable, addrman_addr_to_v1,
+};
 pub use limiter_handle::{KeptLimiter, LimiterHandle, LooseLimiter};
 pub use limits::{
     addrman_limiter_add, addrman_limiter_admit, addrman_limiter_close, addrman_limiter_getaddr,
@@ -57,13 +65,12 @@ pub use picks::{addrman_resolve_collisions, addrman_select, addrman_select_colli
 pub use reads::addrman_size;
 pub use records::{addrman_find, addrman_records};
 pub use sampling::addrman_sample;
+pub use save_handle::{KeptSave, LooseSave, SaveHandle};
+pub use saves::{addrman_save_begin, addrman_save_close, addrman_save_done, addrman_save_next};
 pub use structs::{
     AddrmanAdded, AddrmanBan, AddrmanCounts, AddrmanFault, AddrmanLimits, AddrmanPicked,
     AddrmanRecord, AddrmanResolved,
 };
-pub use text::{
-    addrman_addr_parse, addrman_addr_routable, addrman_addr_text, addrman_peer_parse,
-    addrman_peer_text,
-};
+pub use text::{addrman_addr_parse, addrman_addr_text, addrman_peer_parse, addrman_peer_text};
 pub use values::{AddrmanAddr, AddrmanPeer};
 pub use writing::addrman_write_file;

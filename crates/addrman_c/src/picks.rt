@@ -10,9 +10,11 @@ use crate::handle::Handle;
 use crate::nets::read_nets;
 use crate::structs::{AddrmanPicked, AddrmanResolved};
 use crate::values::write_peer;
-use net_addr::Peer;
+use keyed_hasher::Keyed;
+use net_addr::{NetSet, Peer};
 use picking::Picked;
 use std::alloc::Global;
+use tables::Tables;
 
 /// Writes a pick, and returns the code that tells whether there is one.
 fn put_pick(pick: &Picked, picked: &mut AddrmanPicked) -> u32
@@ -29,6 +31,21 @@ fn put_pick(pick: &Picked, picked: &mut AddrmanPicked) -> u32
         Picked::Nothing => NONE,
         Picked::Exhausted => EXHAUSTED,
     }
+}
+
+/// Selects a peer to connect to.
+fn select_on(
+    tables: &Tables<'_, Keyed>,
+    new_only: bool,
+    nets: NetSet,
+    words: &[u64],
+    now: u32,
+    picked: &mut AddrmanPicked,
+) -> u32
+    ensures { PickCall (select tables.now new_only nets words.now now) result picked.new }
+{
+    let pick = uncounted::select(tables, new_only, nets, words, now);
+    put_pick(&pick, picked)
 }
 
 /// Selects a peer to connect to by random words, of the networks of a set.
@@ -49,9 +66,9 @@ pub extern "C" fn addrman_select(
     let Some(kept) = handle.take(alloc) else {
         return CLOSED;
     };
-    let pick = uncounted::select(&kept.tables, new_only, read_nets(nets), words, now);
+    let code = select_on(&kept.tables, new_only, read_nets(nets), words, now, picked);
     handle.put(kept);
-    put_pick(&pick, picked)
+    code
 }
 
 /// Writes the occupant of a collision's slot, and returns the code that tells whether there is one.

@@ -3,11 +3,11 @@ ghost use Rattle.net_addr.specs.Address.{Address};
 ghost use Rattle.net_addr.specs.Text.{IsAddrText, IsPeerText, addr_text, peer_text};
 ghost use Rattle.net_addr.specs.declared.peer.Peer.{Peer};
 ghost use Rattle.addrman_c.specs.Values.{address_in, peer_in};
-ghost use Rattle.addrman_c.specs.Texts.{TextCall, RoutableCall};
+ghost use Rattle.addrman_c.specs.Texts.{TextCall};
 
 use crate::code::{ARGUMENT, MEMORY, OK};
 use crate::output::put_all;
-use crate::values::{AddrmanAddr, AddrmanPeer, bit, read_addr, read_peer, write_addr, write_peer};
+use crate::values::{AddrmanAddr, AddrmanPeer, read_addr, read_peer, write_addr, write_peer};
 use net_addr::{NetAddr, Peer, parse_addr, parse_peer, put_addr, put_peer};
 use std::alloc::Global;
 
@@ -95,23 +95,4 @@ pub extern "C" fn addrman_peer_text(
     ensures { TextCall peer_text (peer_in peer.now) result out.old out.new length.new }
 {
     put_peer_text(alloc, read_peer(peer), out, length)
-}
-
-/// Tells whether an address is routable.
-fn put_routable(addr: Option<NetAddr>, routable: &mut u32) -> u32
-    ensures { RoutableCall addr result routable.new }
-{
-    let Some(addr) = addr else {
-        return ARGUMENT;
-    };
-    *routable = bit(addr.is_routable());
-    OK
-}
-
-/// Tells whether an address is routable.
-#[unsafe(no_mangle)]
-pub extern "C" fn addrman_addr_routable(addr: &AddrmanAddr, routable: &mut u32) -> u32
-    ensures { RoutableCall (address_in addr.now) result routable.new }
-{
-    put_routable(read_addr(addr), routable)
 }

@@ -15,7 +15,7 @@ use std::alloc::Global;
 use tables::Tables;
 
 /// Returns the bytes of the file that keeps the tables.
-fn file_of(alloc: Global, tables: &Tables<'_, Keyed>, chain: Chain) -> Option<Bytes>
+pub(crate) fn file_of(alloc: Global, tables: &Tables<'_, Keyed>, chain: Chain) -> Option<Bytes>
     ensures { IfSome result (λ bytes. bytes ≡ file_text chain (snapshot_of tables.now)) }
 {
     let Ok(snap) = uncounted::snapshot(tables) else {

@@ -1,5 +1,4 @@
-use Rattle.std.proofs.Common.{◌∙◌, refl, ap, subst}
-use Rattle.peer_rec.specs.declared.picked.Picked.{Picked}
+use Rattle.std.proofs.Common.{List, ℕ, refl, subst}
 use Rattle.table_machine.specs.Picks.{select}
 use Rattle.addrman_c.specs.Calls.{PickCall}
 use Rattle.addrman_c.specs.declared.handle.Kept.{Kept}
@@ -10,8 +9,9 @@ pub returns : goal.returns
 returns c =
     let a = c.args in
     let kept = c.in-Some.kept.value in
-    let picked = c.select-pick.ensures.picked
-    ∙ ap (λ (k : Kept). select k.tables a.new_only c.read_nets.result a.words.now a.now) c.deref.ensures
-    ∙ ap (λ nets. select kept.tables a.new_only nets a.words.now a.now) c.read_nets.ensures in
-    done _ _ _ kept kept _ c.in-Some.ensures.taken c.put.ensures refl
-    (subst (λ (pick : Picked). PickCall pick c.put_pick.result c.put_pick.new.picked) picked c.put_pick.ensures, refl)
+    let code = c.select_on-code in
+    done _ _ _ kept kept _ c.in-Some.ensures.taken c.put.ensures refl (
+      subst (λ (nets : List ℕ). PickCall (select kept.tables a.new_only nets a.words.now a.now) code.result code.new.picked) c.read_nets.ensures
+          (subst (λ (k : Kept). PickCall (select k.tables a.new_only c.read_nets.result a.words.now a.now) code.result code.new.picked) c.deref.ensures code.ensures),
+      refl,
+    )

@@ -1,0 +1,163 @@
+ghost use Rattle.std.specs.Prelude.{◌≡◌, ◌<◌, Option, None, IfSome};
+ghost use Rattle.peers_file.specs.Texts.{file_text};
+ghost use Rattle.save_requests.specs.Requests.{save_requests, IsSafeSave};
+ghost use Rattle.table_machine.specs.Snapshot.{snapshot_of};
+ghost use Rattle.addrman_c.specs.Files.{chain_of};
+ghost use Rattle.addrman_c.specs.OnHandle.{OnTables};
+ghost use Rattle.addrman_c.specs.Saving.{BeginCall, DoneCall, IsBegun, NextCall, OnSave, request_number};
+
+use crate::chain::chain_of;
+use crate::code::{ARGUMENT, CLOSED, MEMORY, NONE, OK};
+use crate::handle::Handle;
+use crate::output::put_all;
+use crate::save_handle::{KeptSave, SaveHandle};
+use crate::writing::file_of;
+use host_io::Bytes;
+use keyed_hasher::Keyed;
+use peers_file::Chain;
+use save_requests::{SaveRequest, SaveRequests};
+use std::alloc::Global;
+use tables::Tables;
+
+/// Puts a save of a file with these bytes into a box.
+fn boxed(alloc: Global, bytes: Bytes, most: u32) -> Option<Box<KeptSave>>
+    requires { 0 < most }
+    ensures { IfSome result (λ kept. IsBegun most bytes kept.value.requests) }
+{
+    let kept = KeptSave {
+        requests: SaveRequests::begin(bytes, most),
+    };
+    match Box::new(alloc, kept) {
+        Ok(kept) => Some(kept),
+        Err(_) => None,
+    }
+}
+
+/// Begins a save of tables.
+fn begun(
+    alloc: Global,
+    tables: &Tables<'_, Keyed>,
+    chain: Chain,
+    most: u32,
+) -> Option<Box<KeptSave>>
+    requires { 0 < most }
+    ensures { IfSome result (λ kept.
+        IsBegun most (file_text chain (snapshot_of tables.now)) kept.value.requests) }
+{
+    let bytes = file_of(alloc, tables, chain)?;
+    boxed(alloc, bytes, most)
+}
+
+/// Begins a save of tables, and keeps it in a handle that is closed.
+fn begin_on(
+    alloc: Global,
+    tables: &Tables<'_, Keyed>,
+    chain: Option<Chain>,
+    most: u32,
+    save: &mut SaveHandle,
+) -> u32
+    requires { save.old.loose.kept ≡ None }
+    ensures { BeginCall chain most tables.now result save.new.loose.kept }
+{
+    let Some(chain) = chain else {
+        return ARGUMENT;
+    };
+    if most == 0 {
+        return ARGUMENT;
+    }
+    let Some(kept) = begun(alloc, tables, chain, most) else {
+        return MEMORY;
+    };
+    save.put(kept);
+    OK
+}
+
+/// Begins a save of the tables as they are now, in pieces of at most `most` bytes. What the handle
+/// of the save had is dropped.
+#[unsafe(no_mangle)]
+pub extern "C" fn addrman_save_begin(
+    alloc: Global,
+    save: &mut SaveHandle,
+    handle: &mut Handle,
+    chain: u32,
+    most: u32,
+) -> u32
+    ensures tables { OnTables handle.old.loose.kept result handle.new.loose.kept (λ old new.
+        BeginCall (chain_of chain) most old result save.new.loose.kept × (new ≡ old)) }
+    ensures closed { handle.old.loose.kept ≡ None → save.new.loose.kept ≡ None }
+{
+    let _old = save.take(alloc);
+    let Some(kept) = handle.take(alloc) else {
+        return CLOSED;
+    };
+    let code = begin_on(alloc, &kept.tables, chain_of(chain), most, save);
+    handle.put(kept);
+    code
+}
+
+/// Returns the number of a request in the header.
+fn request_number(request: SaveRequest) -> u32
+    ensures { result ≡ request_number request }
+{
+    match request {
+        SaveRequest::Create => 0,
+        SaveRequest::Append => 1,
+        SaveRequest::Sync => 2,
+        SaveRequest::Rename => 3,
+        SaveRequest::SyncDir => 4,
+    }
+}
+
+/// Writes what a save asks for.
+fn next_on(requests: &SaveRequests, request: &mut u32, out: &mut [u8], length: &mut usize) -> u32
+    ensures { NextCall requests.now result request.new out.old out.new length.new }
+{
+    let Some(next) = requests.next() else {
+        return NONE;
+    };
+    *request = request_number(next);
+    put_all(out, requests.bytes(), length)
+}
+
+/// Writes what is to be done next, and the bytes to append and how many they are.
+#[unsafe(no_mangle)]
+pub extern "C" fn addrman_save_next(
+    alloc: Global,
+    save: &mut SaveHandle,
+    request: &mut u32,
+    out: &mut [u8],
+    length: &mut usize,
+) -> u32
+    ensures { OnSave save.old.loose.kept result save.new.loose.kept (λ old new.
+        NextCall old result request.new out.old out.new length.new × (new ≡ old)) }
+{
+    let Some(kept) = save.take(alloc) else {
+        return CLOSED;
+    };
+    let code = next_on(&kept.requests, request, out, length);
+    save.put(kept);
+    code
+}
+
+/// Notes that what was to be done has succeeded, or that it failed, which ends the save.
+#[unsafe(no_mangle)]
+pub extern "C" fn addrman_save_done(alloc: Global, save: &mut SaveHandle, succeeded: bool) -> u32
+    ensures { DoneCall succeeded save.old.loose.kept result save.new.loose.kept }
+{
+    let Some(mut kept) = save.take(alloc) else {
+        return CLOSED;
+    };
+    if succeeded {
+        kept.requests.done();
+        save.put(kept);
+    }
+    OK
+}
+
+/// Drops what the handle has.
+#[unsafe(no_mangle)]
+pub extern "C" fn addrman_save_close(alloc: Global, save: &mut SaveHandle)
+    ensures { save.new.loose.kept ≡ None }
+{
+    let _kept = save.take(alloc);
+}
