@@ -1,21 +1,29 @@
--- What the buckets of the new table list, by the numbers of its records.
-use Rattle.std.specs.Prelude.{ℕ, ◌==◌, List, [], ◌∷◌, flat_map, Option, Some, None}
-use Rattle.std.specs.List.{position_or_len, range_with_len}
+-- What a save gathers of the records, which no public clause cites.
+use Rattle.std.specs.Prelude.{◌≡◌, ℕ, List, [], ◌∷◌, map, Some, false, if◌then◌else◌, Contains, slice_get}
+use Rattle.peer_rec.specs.Rec.{is_tried}
+use Rattle.peer_rec.specs.declared.file_rec.FileRec.{FileRec}
 use Rattle.peer_rec.specs.declared.rec.Rec.{Rec}
-use Rattle.slot_grid.specs.declared.sizes.TheConstants.{SLOTS}
-use Rattle.table_machine.specs.State.{State, new_rec_at}
+use Rattle.peer_index.specs.Order.{Item, Order, rec_of}
+use Rattle.table_machine.specs.State.{State}
+use Rattle.table_machine.specs.Snapshot.{file_rec, index_in, new_records}
 
--- a bucket and the index of the record in a slot, nothing if the slot is empty
-abbrev pub pair_by : List ℕ → ℕ → Option Rec → List (ℕ × ℕ)
-pair_by numbers bucket None = []
-pair_by numbers bucket (Some r) = (bucket, position_or_len (λ n. n == r.number) numbers) ∷ []
+-- the number of a record, with the record's id
+abbrev pub number_id : Item → ℕ × ℕ
+number_id l = (l.rec.number, l.id)
 
--- what the bucket lists in its first slots
-unfoldable pub bucket_by : State → List ℕ → ℕ → ℕ → List (ℕ × ℕ)
-bucket_by st numbers bucket slots =
-    flat_map (λ slot. pair_by numbers bucket (new_rec_at st bucket slot)) (range_with_len 0 slots)
+-- the ids lead to the records, one after another
+abbrev pub LeadTo : Order → List Rec → List ℕ → Type 0
+LeadTo order recs ids = map (rec_of order) ids ≡ map Some recs
 
--- what the first buckets list
-unfoldable pub buckets_by : State → List ℕ → ℕ → List (ℕ × ℕ)
-buckets_by st numbers buckets =
-    flat_map (λ bucket. bucket_by st numbers bucket SLOTS) (range_with_len 0 buckets)
+-- what a file has of a record if it is in the new table, and if it is in the tried table
+abbrev pub new_part : Rec → List FileRec
+new_part r = if is_tried r then [] else file_rec r ∷ []
+
+abbrev pub tried_part : Rec → List FileRec
+tried_part r = if is_tried r then file_rec r ∷ [] else []
+
+-- by id, the index of each record of the new table among these
+abbrev pub AreIndexes : Order → State → List ℕ → Type 0
+AreIndexes order st indexes =
+    (id : ℕ) (r : Rec) → rec_of order id ≡ Some r → Contains st.records r → is_tried r ≡ false
+    → slice_get indexes id ≡ Some (index_in (new_records st) r)

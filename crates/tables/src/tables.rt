@@ -3,7 +3,6 @@ ghost use Rattle.slot_grid.specs.declared.sizes.TheConstants.{NEW_BUCKETS, TRIED
 
 use crate::known::{after_try, check_fields, still_connected, with_services};
 use crate::reach::Reach;
-use crate::saving::{new_numbers, new_recs, tried_recs};
 use crate::{Memory, Store};
 use arrayvec::ArrayVec;
 use net_addr::{Entry, NetAddr, NetSet, Peer};
@@ -394,18 +393,15 @@ impl<'a, H: BuildHasher> Tables<'a, H> {
         ensures found { IfOk result (λ snap. snap ≡ snapshot_of self.now) }
         ensures restart { IfOk result (λ snap. restored snap self.now.places ≡ restart self.now) }
         ensures no_duplicate { IfOk result (λ snap. duplicate snap ≡ None) }
-        ensures steps { steps.new ≤ steps.old + 2 * length self.now.order + 131072 }
+        ensures steps { steps.new
+            ≤ steps.old + 3 * length self.now.order + NEW_BUCKETS * SLOTS }
     {
-        let recs = self.recs(steps)?;
-        let alloc = self.store.alloc;
-        let numbers = new_numbers(alloc, recs.items())?;
-        let new_recs = new_recs(alloc, recs.items())?;
-        let tried_recs = tried_recs(alloc, recs.items())?;
-        let listed = self.listed(alloc, numbers.as_slice(), steps)?;
+        let gathered = self.store.gathered(steps)?;
+        let listed = self.store.listed(gathered.indexes.as_slice(), steps)?;
         let key = self.store.placer.key();
         let sum = self.store.placer.sum();
-        let new_recs = FileRecs::of(new_recs);
-        let tried_recs = FileRecs::of(tried_recs);
+        let new_recs = FileRecs::of(gathered.new_recs);
+        let tried_recs = FileRecs::of(gathered.tried_recs);
         let listed = Pairs::of(listed);
         Ok(Snapshot::make(
             key,

@@ -1,5 +1,4 @@
-use Rattle.std.proofs.Common.{◌≡◌, ◌∙◌, sym, subst}
-use Rattle.table_machine.specs.State.{State}
+use Rattle.std.proofs.Common.{sym, subst}
 use Rattle.table_machine.specs.Sound.{IsSound}
 use Rattle.table_machine.specs.Restoring.{restored}
 use Rattle.tables.proofs.Restored.{state-parts, stored-parts}
