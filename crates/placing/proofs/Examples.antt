@@ -5,7 +5,7 @@ use Rattle.wire_num.specs.CompactSize.{compact_size}
 use Rattle.net_addr.specs.Address.{Address}
 use Rattle.net_addr.specs.OldForm.{address}
 use Rattle.net_addr.specs.Ranges.{in_range}
-use Rattle.net_addr.specs.declared.net.Net.TheVariants.{Ipv4, Onion}
+use Rattle.net_addr.specs.declared.net.Net.TheVariants.{Ipv4, Ipv6, Onion, I2p, Cjdns}
 use Rattle.net_addr.specs.declared.peer.Peer.{Peer}
 use Rattle.asmap_vm.specs.Code.{asn_of, meaning}
 use Rattle.asmap_vm.specs.Code.Tree.{Return}
@@ -82,3 +82,79 @@ no_map = refl
 
 sum_without_a_map : sum_of None ≡ replicate 32 0
 sum_without_a_map = refl
+
+-- The eight places of Bitcoin Core's functional test of `getrawaddrman` (rpc_net.py): under the key
+-- 1, each peer announced by itself.
+abbrev one_key : List ℕ
+one_key = 1 ∷ replicate 31 0
+
+abbrev under_one : Places
+under_one = record { key = one_key; map = None }
+
+abbrev new_place : Peer → ℕ × ℕ
+new_place peer =
+    let bucket = new_bucket under_one peer peer.addr in (bucket, new_slot under_one peer bucket)
+
+abbrev tried_place : Peer → ℕ × ℕ
+tried_place peer =
+    let bucket = tried_bucket under_one peer in (bucket, tried_slot under_one peer bucket)
+
+abbrev peer_of : Address → ℕ → Peer
+peer_of addr port = record { addr = addr; port = port }
+
+-- 2.0.0.0:8333
+new_ipv4 : new_place (peer_of (address Ipv4
+    (0x02 ∷ 0x00 ∷ 0x00 ∷ 0x00 ∷ [])) 8333) ≡ (82, 8)
+unfolding new_bucket new_slot compact_size in_range cheap_hash double_sha256 sha256 digest_bytes hash_after compress rounds schedule first_words
+new_ipv4 = refl
+
+-- fc00:1:2:3:4:5:6:7, port 8333
+new_cjdns : new_place (peer_of (address Cjdns
+    (0xfc ∷ 0x00 ∷ 0x00 ∷ 0x01 ∷ 0x00 ∷ 0x02 ∷ 0x00 ∷ 0x03 ∷ 0x00 ∷ 0x04 ∷ 0x00 ∷ 0x05
+    ∷ 0x00 ∷ 0x06 ∷ 0x00 ∷ 0x07 ∷ [])) 8333) ≡ (336, 24)
+unfolding new_bucket new_slot compact_size in_range cheap_hash double_sha256 sha256 digest_bytes hash_after compress rounds schedule first_words
+new_cjdns = refl
+
+-- c4gfnttsuwqomiygupdqqqyy5y5emnk5c73hrfvatri67prd7vyq.b32.i2p:8333
+new_i2p : new_place (peer_of (address I2p
+    (0x17 ∷ 0x0c ∷ 0x56 ∷ 0xce ∷ 0x72 ∷ 0xa5 ∷ 0xa0 ∷ 0xe6 ∷ 0x23 ∷ 0x06 ∷ 0xa3 ∷ 0xc7
+    ∷ 0x08 ∷ 0x43 ∷ 0x18 ∷ 0xee ∷ 0x3a ∷ 0x46 ∷ 0x35 ∷ 0x5d ∷ 0x17 ∷ 0xf6 ∷ 0x78 ∷ 0x96
+    ∷ 0xa0 ∷ 0x9c ∷ 0x51 ∷ 0xef ∷ 0xbe ∷ 0x23 ∷ 0xfd ∷ 0x71 ∷ [])) 8333) ≡ (963, 46)
+unfolding new_bucket new_slot compact_size in_range cheap_hash double_sha256 sha256 digest_bytes hash_after compress rounds schedule first_words
+new_i2p = refl
+
+-- [2803:0:1234:abcd::1]:45324
+new_ipv6 : new_place (peer_of (address Ipv6
+    (0x28 ∷ 0x03 ∷ 0x00 ∷ 0x00 ∷ 0x12 ∷ 0x34 ∷ 0xab ∷ 0xcd ∷ 0x00 ∷ 0x00 ∷ 0x00 ∷ 0x00
+    ∷ 0x00 ∷ 0x00 ∷ 0x00 ∷ 0x01 ∷ [])) 45324) ≡ (613, 6)
+unfolding new_bucket new_slot compact_size in_range cheap_hash double_sha256 sha256 digest_bytes hash_after compress rounds schedule first_words
+new_ipv6 = refl
+
+-- 1.2.3.4:8333
+tried_ipv4 : tried_place (peer_of (address Ipv4
+    (0x01 ∷ 0x02 ∷ 0x03 ∷ 0x04 ∷ [])) 8333) ≡ (6, 33)
+unfolding tried_bucket tried_slot compact_size in_range cheap_hash double_sha256 sha256 digest_bytes hash_after compress rounds schedule first_words
+tried_ipv4 = refl
+
+-- [1233:3432:2434:2343:3234:2345:6546:4534]:8333
+tried_ipv6 : tried_place (peer_of (address Ipv6
+    (0x12 ∷ 0x33 ∷ 0x34 ∷ 0x32 ∷ 0x24 ∷ 0x34 ∷ 0x23 ∷ 0x43 ∷ 0x32 ∷ 0x34 ∷ 0x23 ∷ 0x45
+    ∷ 0x65 ∷ 0x46 ∷ 0x45 ∷ 0x34 ∷ [])) 8333) ≡ (197, 34)
+unfolding tried_bucket tried_slot compact_size in_range cheap_hash double_sha256 sha256 digest_bytes hash_after compress rounds schedule first_words
+tried_ipv6 = refl
+
+-- pg6mmjiyjmcrsslvykfwnntlaru7p5svn6y2ymmju6nubxndf4pscryd.onion:8333
+tried_onion : tried_place (peer_of (address Onion
+    (0x79 ∷ 0xbc ∷ 0xc6 ∷ 0x25 ∷ 0x18 ∷ 0x4b ∷ 0x05 ∷ 0x19 ∷ 0x49 ∷ 0x75 ∷ 0xc2 ∷ 0x8b
+    ∷ 0x66 ∷ 0xb6 ∷ 0x6b ∷ 0x04 ∷ 0x69 ∷ 0xf7 ∷ 0xf6 ∷ 0x55 ∷ 0x6f ∷ 0xb1 ∷ 0xac ∷ 0x31
+    ∷ 0x89 ∷ 0xa7 ∷ 0x9b ∷ 0x40 ∷ 0xdd ∷ 0xa3 ∷ 0x2f ∷ 0x1f ∷ [])) 8333) ≡ (72, 61)
+unfolding tried_bucket tried_slot compact_size in_range cheap_hash double_sha256 sha256 digest_bytes hash_after compress rounds schedule first_words
+tried_onion = refl
+
+-- nrfj6inpyf73gpkyool35hcmne5zwfmse3jl3aw23vk7chdemalyaqad.onion:45324
+tried_other_onion : tried_place (peer_of (address Onion
+    (0x6c ∷ 0x4a ∷ 0x9f ∷ 0x21 ∷ 0xaf ∷ 0xc1 ∷ 0x7f ∷ 0xb3 ∷ 0x3d ∷ 0x58 ∷ 0x73 ∷ 0x97
+    ∷ 0xbe ∷ 0x9c ∷ 0x4c ∷ 0x69 ∷ 0x3b ∷ 0x9b ∷ 0x15 ∷ 0x92 ∷ 0x26 ∷ 0xd2 ∷ 0xbd ∷ 0x82
+    ∷ 0xda ∷ 0xdd ∷ 0x55 ∷ 0xf1 ∷ 0x1c ∷ 0x64 ∷ 0x60 ∷ 0x17 ∷ [])) 45324) ≡ (139, 46)
+unfolding tried_bucket tried_slot compact_size in_range cheap_hash double_sha256 sha256 digest_bytes hash_after compress rounds schedule first_words
+tried_other_onion = refl
