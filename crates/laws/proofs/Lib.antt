@@ -18,6 +18,7 @@ pub mod SearchOf
 pub mod RoundsOf
 pub mod BoundOf
 pub mod OddsOf
+pub mod SearchesOf
 pub mod Restarted
 pub mod AppendedOf
 pub mod PlacingOf

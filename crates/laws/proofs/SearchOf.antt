@@ -23,7 +23,7 @@ use Rattle.laws.proofs.Counts.{all_range, sum_agree}
 use Rattle.laws.proofs.SomeOf.{candidate-there}
 
 -- sums of three products
-sum_three : {X : Type 0} (f g h : X → ℕ) (a b c : ℕ) (xs : List X)
+pub sum_three : {X : Type 0} (f g h : X → ℕ) (a b c : ℕ) (xs : List X)
     → sum_by (λ x. f x * a + g x * b + h x * c) xs ≡ sum_by f xs * a + sum_by g xs * b + sum_by h xs * c
 sum_three f g h a b c [] = omega arith
 sum_three f g h a b c (x ∷ xs) =

@@ -1,5 +1,5 @@
 -- How many lists of random words end a search of one table at a record, over several rounds.
-use Rattle.std.specs.Prelude.{ℕ, zero, suc, ◌^◌, List, [], ◌∷◌, Bool, false, not, cond, sum_by, is_some, Option, Some, None}
+use Rattle.std.specs.Prelude.{ℕ, zero, suc, ◌^◌, List, [], ◌∷◌, Bool, false, not, cond, sum_by, filter, is_some, Option, Some, None}
 use Rattle.std.specs.List.{list_any, range_with_len}
 use Rattle.net_addr.specs.Same.{same_peer}
 use Rattle.net_addr.specs.declared.peer.Peer.{Peer}
@@ -69,6 +69,11 @@ all_lists in_new n = sum_lists in_new n (λ rounds. 1)
 abbrev pub ending_lists : State → Bool → List ℕ → ℕ → ℕ → Peer → ℕ → ℕ
 ending_lists st in_new nets now factor peer n =
     sum_lists in_new n (λ rounds. one_if (ends_at st in_new nets now factor peer rounds))
+
+-- how many end it at a record that passes a test, added up over the records
+abbrev pub ending_at : State → Bool → List ℕ → ℕ → ℕ → (Rec → Bool) → ℕ → ℕ
+ending_at st in_new nets now factor test n =
+    sum_by (λ r. ending_lists st in_new nets now factor r.peer n) (filter test st.records)
 
 -- how many rounds have no candidate
 abbrev pub idle_rounds : State → Bool → List ℕ → ℕ

@@ -14,7 +14,9 @@
 //!    sources of the groups put there, and all but 8 of the tried one to none with their addresses.
 //!    At most one bucket's triples a pair of groups select theirs, if they announce peers of some
 //!    groups only (`groups_reach_few`). And of n records, however many groups: at most as many as
-//!    the starts that lead to their slots give, and 8 n buckets' (`odds_are_bounded`).
+//!    the starts that lead to their slots give, and 8 n buckets' (`odds_are_bounded`). What bounds
+//!    the triples bounds the share of the searches, however many rounds they take
+//!    (`searches_share_alike`).
 //! 4. A record is lost only if it is terrible and its last slot goes to another, or if a tried
 //!    record that a success displaces takes that slot (`losses_have_causes`,
 //!    `runs_lose_with_causes`).
@@ -42,5 +44,5 @@ pub use openings::openings_lose_with_causes;
 pub use picks::{picks_are_counted, rounds_are_counted};
 pub use restarts::restarts_keep_records;
 pub use samples::{samples_are_shuffles, shuffles_are_fair};
-pub use searches::{rounds_are_of_three_kinds, searches_are_counted};
+pub use searches::{rounds_are_of_three_kinds, searches_are_counted, searches_share_alike};
 pub use words::residues_decide;
