@@ -10,7 +10,7 @@ use host_io::Sink;
 use std::alloc::Global;
 
 /// The version, and the toolchain that proved it.
-pub(crate) const VERSION: &str = "addrman 0.1.0, proved with rattle-kit-13f\n";
+pub(crate) const VERSION: &str = "addrman 0.1.0, proved with rattle-kit-13b\n";
 
 /// Writes the page of a command, or the list of all.
 pub(crate) fn help<K: Sink>(alloc: Global, command: Option<CommandName>, out: &mut K) -> Status
