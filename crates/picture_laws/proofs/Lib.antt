@@ -9,3 +9,5 @@ pub mod Buckets
 pub mod Rows
 pub mod DotsOf
 pub mod Trees
+pub mod Ranked
+pub mod Most

@@ -124,7 +124,7 @@ placed-count p c (d ∷ ds) = by (comes_before c d) (placed-count p c ds)
     by true more = count-cons p c (d ∷ ds)
     by false more = omega (arith, more, count-cons p d (placed c ds), count-cons p d ds)
 
-order-count : (p : Counted → Bool) (cs ds : List Counted) → count_by p (fold (λ es c. placed c es) ds cs) ≡ count_by p ds + count_by p cs
+pub order-count : (p : Counted → Bool) (cs ds : List Counted) → count_by p (fold (λ es c. placed c es) ds cs) ≡ count_by p ds + count_by p cs
 order-count p [] ds = omega arith
 order-count p (c ∷ cs) ds = omega (arith, order-count p cs (placed c ds), placed-count p c ds, count-cons p c cs)
 
@@ -145,7 +145,7 @@ keys-back : (f : ℕ → Counted) → ((k : ℕ) → (f k).key ≡ k) → (ks : 
 keys-back f is [] = refl
 keys-back f is (k ∷ ks) = (λ i. is k i ∷ keys-back f is ks i)
 
-group-keys : (keys : List ℕ) → map (λ c. c.key) (groups_of keys) ≡ noted_keys (tally_of keys)
+pub group-keys : (keys : List ℕ) → map (λ c. c.key) (groups_of keys) ≡ noted_keys (tally_of keys)
 unfolding groups_of
 group-keys keys = keys-back (counted_at (tally_of keys)) (λ k. refl) (noted_keys (tally_of keys))
 

@@ -185,7 +185,7 @@ module _ (st : State) (each : All IsRec st.records) where
       map-map group_key (key_group st) (listed_keys (keys_of st))
       ∙ map-same (λ key. group_key (key_group st key)) (listed_keys (keys_of st)) (λ key some. (listed-key key some).0)
 
-  groups-long : length (listed_groups st) ≡ length (listed_keys (keys_of st))
+  pub groups-long : length (listed_groups st) ≡ length (listed_keys (keys_of st))
   unfolding listed_groups
   groups-long = length-map (listed_keys (keys_of st)) (key_group st)
 
@@ -198,7 +198,7 @@ module _ (st : State) (each : All IsRec st.records) where
       (sym is.0 ∙ ap group_key (sym at), subst IsGroup (sym at) is.1)
 
   -- the slots and the buckets of a group
-  slots-of : (g : List ℕ) → IsGroup g → occurrences (keys_of st) (group_key g) ≡ all_slots (is_of st.places g) st
+  pub slots-of : (g : List ℕ) → IsGroup g → occurrences (keys_of st) (group_key g) ≡ all_slots (is_of st.places g) st
   slots-of g is = count-all (λ k. k == group_key g) (is_of st.places g) (λ o has. key-of st.places g o is has)
 
   tried-of : (g : List ℕ) → IsGroup g → occurrences (in_tried (keys_of st)) (group_key g) ≡ tried_slots (is_of st.places g) st

@@ -1,5 +1,5 @@
 -- The numbers of the picture are counts of slots and buckets of the state.
-use Rattle.std.specs.Prelude.{◌≡◌, ℕ, ◌+◌, ◌≤◌, List, [], ◌++◌, length, codes, is_some, bytes_eq, slice_index_or}
+use Rattle.std.specs.Prelude.{◌≡◌, ℕ, ◌+◌, ◌≤◌, List, [], ◌++◌, length, All, codes, is_some, bytes_eq, slice_index_or}
 use Rattle.std.specs.List.{count_by, flat_map, range_with_len, sum_by}
 use Rattle.table_machine.specs.State.{State}
 use Rattle.picture_text.specs.Elements.{colour, count_text, ground, new_title, row_text, tried_title}
@@ -38,3 +38,9 @@ pub record CountsSlots (st : State) : Type 0 where
       + new_slots (is_unlisted st) st ≡ new_slots is_some st
   pub tried_sum : sum_by (λ g. tried_slots (is_of st.places g) st) (listed_groups st)
       + tried_slots (is_unlisted st) st ≡ tried_slots is_some st
+
+-- six groups are listed, and none of them has fewer slots than this one
+pub record IsBehind (st : State) (g : List ℕ) : Type 0 where
+  pub six : length (listed_groups st) ≡ 6
+  pub most : All (λ l. all_slots (is_of st.places g) st ≤ all_slots (is_of st.places l) st)
+      (listed_groups st)

@@ -1,7 +1,9 @@
-ghost use Rattle.std.specs.Prelude.{◌≡◌, ◌≢◌, ℕ, List, All};
+ghost use Rattle.std.specs.Prelude.{◌≡◌, ◌≢◌, ◌<◌, ℕ, true, List, All, Contains, Some};
 ghost use Rattle.net_addr.specs.Address.{Address, IsAddress};
-ghost use Rattle.picture_laws.specs.Counts.{CountsSlots};
+ghost use Rattle.peer_rec.specs.declared.rec.Rec.{Rec};
+ghost use Rattle.picture_laws.specs.Counts.{CountsSlots, IsBehind};
 ghost use Rattle.picture_laws.specs.Dots.{DrawsSlots};
+ghost use Rattle.picture_laws.specs.Slots.{all_slots, is_of, is_unlisted};
 ghost use Rattle.picture_text.specs.Markup.{IsMarkup, IsPlain};
 ghost use Rattle.picture_text.specs.Names.{name_of};
 ghost use Rattle.picture_text.specs.Picture.{picture_text};
@@ -12,6 +14,7 @@ ghost use Rattle.table_picture.specs.Keys.{group_key};
 ghost use Rattle.table_picture.specs.Picture.{picture_of};
 
 use dot_runs::one_dot;
+use group_counts::counts_are_of_slots;
 
 /// The picture is the text of a tree of elements. Its names, attributes and characters are
 /// printable ASCII, with nothing in them that has to be escaped, if the names of the groups are.
@@ -43,6 +46,15 @@ pub fn keys_tell_groups()
 pub fn slots_are_counted()
     ensures { (st : State) → IsSound st → CountsSlots st }
 {}
+
+/// A group with slots that is not listed has no more slots than any of the six that are.
+pub fn listed_groups_have_most()
+    ensures { (st : State) (r : Rec) → IsSound st → Contains st.records r →
+        0 < all_slots (is_of st.places (group st.places r.source)) st →
+        is_unlisted st (Some r) ≡ true → IsBehind st (group st.places r.source) }
+{
+    counts_are_of_slots();
+}
 
 /// The dot of each slot is covered by one rectangle, which has the mark of its record's group, or
 /// that of a free slot.
