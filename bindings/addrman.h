@@ -495,7 +495,8 @@ typedef struct {
     uint32_t asked, unlimited;   /* 1 or 0: getaddr was sent; there is no limit */
 } addrman_limits;
 
-/* Opens a limit without connections. Proved: StartCall. */
+/* Opens a limit without connections. The numbers of connections are the node's own: they are found
+ * under a hasher without a secret key, so no peer may choose them. Proved: StartCall. */
 ADDRMAN_API ADDRMAN_MUST_USE addrman_result addrman_limiter_open(addrman_limiter *limiter);
 
 /* Frees all memory of the object, and closes it. */
