@@ -1,6 +1,6 @@
 -- A run in which nothing is wrong and nothing fails is done, or out of memory.
 use Rattle.std.proofs.Common.{◌≡◌, ◌≢◌, ◌≤◌, ◌+◌, ℕ, zero, suc, List, [], ◌∷◌, ◌++◌, length, refl, sym, ap, ◌∙◌, subst, inl, inr, arith}
-use Rattle.std.specs.Prelude.{◌⊎◌, All, IfSome, Option, Some, None}
+use Rattle.std.specs.Prelude.{◌⊎◌, All, IfSome, Option, Some}
 use Rattle.std.proofs.lemmas.Bool.{ne_eqb}
 use Rattle.std.proofs.lemmas.List.Elements.{All-head, All-tail}
 use Rattle.addr_limit.specs.Laws.{no_fault as no_limit_fault}
@@ -37,7 +37,6 @@ use Rattle.addrman_run.specs.Limit.{LimitEnds, Limited}
 use Rattle.addrman_run.specs.Log.{LogOutcome, streams_of}
 use Rattle.addrman_run.specs.OneText.{OneText}
 use Rattle.addrman_run.specs.Opener.{OpenerEnds, OpenerRan}
-use Rattle.addrman_run.specs.Picture.{PictureEnds}
 use Rattle.addrman_run.specs.Outcome.{Ends, HasCause}
 use Rattle.addrman_run.specs.LookupLines.{HasFault as LookupFault, LacksMap, LookedUp, LookupLinesEnds}
 use Rattle.addrman_run.specs.Replay.{IsUntouched, NotOpened, ReplayEnds, Replayed}
@@ -218,13 +217,6 @@ file_line_done name IsLine Refuses old new DiskFault ends cause fine calm = absu
 file_line_done name IsLine Refuses old new (NoFile file) ends cause fine calm = absurd (fine.0 ends.text.1)
 file_line_done name IsLine Refuses old new other ends cause fine calm = absurd (fine.1 other ends.text.0)
 
-picture_done : (chain : Chain) (old new : Outside) (answer : Status) → PictureEnds chain old new answer → HasCause old new answer → NoRefusal (ReportsOpening None chain old.past) → NothingFails old new → IsDone answer
-picture_done chain old new Done ends cause fine calm = inl refl
-picture_done chain old new Memory ends cause fine calm = inr refl
-picture_done chain old new WriteFault ends cause fine calm = absurd (no_write_fault old new cause calm)
-picture_done chain old new DiskFault ends cause fine calm = absurd (no_disk_fault old new cause calm ends.left.0)
-picture_done chain old new other ends cause fine calm = absurd (fine other ends.text.0)
-
 -- a command that needs no file, and writes a text
 text_done : (IsText : Option Past → List ℕ → Type 0) (Refuses : Option Past → Status → Type 0) (old new : Outside) (answer : Status)
     → TextEnds IsText Refuses old new answer → HasCause old new answer → NoRefusal (Refuses old.past) → NothingFails old new → IsDone answer
@@ -285,7 +277,7 @@ done (request.Lookup peer) old new answer ends cause fine calm = file_line_done 
 done request.LookupLines old new answer ends cause fine calm = lookup_lines_done old new answer ends cause fine calm
 done (request.Address addr) old new answer ends cause fine calm = text_done _ _ old new answer ends cause fine calm
 done (request.Show chain) old new answer ends cause fine calm = file_line_done _ _ _ old new answer ends cause fine calm
-done (request.Picture chain) old new answer ends cause fine calm = picture_done chain old new answer ends cause fine calm
+done (request.Picture chain) old new answer ends cause fine calm = text_done _ _ old new answer ends cause fine calm
 done (request.Raw chain) old new answer ends cause fine calm = text_done _ _ old new answer ends cause fine calm
 done (request.Info chain) old new answer ends cause fine calm = text_done _ _ old new answer ends cause fine calm
 done (request.Ban subnet now until) old new answer ends cause fine calm = bans_done _ old new answer ends cause fine calm

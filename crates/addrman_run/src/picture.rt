@@ -1,8 +1,10 @@
-ghost use Rattle.std.specs.Prelude.{◌≡◌, ◌≢◌, IfOk};
+ghost use Rattle.std.specs.Prelude.{◌≡◌, ◌≢◌, IfOk, None};
 ghost use Rattle.log_run.specs.Counts.{IsCounted};
 ghost use Rattle.table_picture.specs.Picture.{picture_of};
 ghost use Rattle.addrman_run.specs.Inside.{TextEnds};
-ghost use Rattle.addrman_run.specs.Picture.{PictureText};
+ghost use Rattle.addrman_run.specs.Opening.{ReportsOpening};
+ghost use Rattle.addrman_run.specs.Picture.{IsPicture};
+ghost use Rattle.addrman_run.specs.TextOut.{TextOut};
 
 use crate::opening::open_folder;
 use crate::output::write_line;
@@ -26,7 +28,8 @@ pub(crate) fn picture<F: Folder, K: Sink, H: BuildHasher + Drop>(
     folder: &mut F,
     out: &mut K,
 ) -> Status
-    ensures text { PictureText chain (F.past folder.old) (K.written out.old) (K.written out.new) result }
+    ensures text { TextOut (IsPicture chain) (ReportsOpening None chain)
+        (F.past folder.old) (K.written out.old) (K.written out.new) result }
     ensures disk { IsCounted Status.DiskFault (F.faults folder.old) (F.faults folder.new) result }
     ensures write { IsCounted Status.WriteFault (K.faults out.old) (K.faults out.new) result }
     ensures same { F.past folder.new ≡ F.past folder.old }
@@ -44,7 +47,8 @@ fn draw<'a, F: Folder, K: Sink, H: BuildHasher + Drop>(
     folder: &mut F,
     out: &mut K,
 ) -> Status
-    ensures text { PictureText chain (F.past folder.old) (K.written out.old) (K.written out.new) result }
+    ensures text { TextOut (IsPicture chain) (ReportsOpening None chain)
+        (F.past folder.old) (K.written out.old) (K.written out.new) result }
     ensures disk { IsCounted Status.DiskFault (F.faults folder.old) (F.faults folder.new) result }
     ensures write { IsCounted Status.WriteFault (K.faults out.old) (K.faults out.new) result }
     ensures same { F.past folder.new ≡ F.past folder.old }
