@@ -9,7 +9,7 @@ use Rattle.json.specs.Lex.{tokens}
 use Rattle.json.specs.Json.{Json, document, if_last, value}
 use Rattle.json.specs.Tree.{json_tokens, members_tokens, depth, members_depth}
 use Rattle.json.proofs.Printed.Trees.{value-json_tokens}
-use Rattle.tables.proofs.Saves.{flat_map-more}
+use Rattle.tables.proofs.Gathered.{flat_map-more}
 use Rattle.node_json.specs.Inside.{tokens_of}
 use Rattle.node_json.specs.Value.{Member, members_of, object_of, unless_zero}
 
