@@ -18,13 +18,16 @@ use Rattle.session.specs.State as session
 use Rattle.session.proofs.OneHistory.{one_run}
 use Rattle.session.proofs.Promise.{IsKept, history, kept_line, kept_start}
 use Rattle.table_machine.specs.State.{State}
+use Rattle.addrman_run.proofs.FileIndexes.{file-below}
 use Rattle.addrman_run.proofs.Reopening.{reopens}
 use Rattle.addrman_run.specs.Opening.{Opened, Opens, file_in, places_of}
 use Rattle.addrman_run.specs.Opening.Opens.{from_file, from_key}
 use Rattle.causes.specs.Kept.{IsOpening, KeepsCauses}
 use Rattle.causes.proofs.Laws.{keeps_causes}
 use Rattle.laws.specs.LostLines.{KeepsLosses}
+use Rattle.laws.specs.Openings.{KeepsOpened}
 use Rattle.laws.specs.Shares.{KeepsShares}
+use Rattle.laws.proofs.OpeningOf.{keeps_at_opening}
 use Rattle.laws.proofs.RunsOf.{keeps_losses}
 use Rattle.laws.proofs.SharesOf.{keeps_shares}
 use Rattle.placing.specs.Places.{Places}
@@ -106,6 +109,11 @@ module _ (key : Option (List ℕ)) (chain : Chain) (past : Option Past) (map : O
   losses_of : (lines : List (List ℕ)) → KeepsLosses (at_start chain st) lines
   losses_of lines = keeps_losses (file_in opens) b.places (at_start chain st) b.opening lines
 
+-- what the opening loses of a file has a cause
+opening_of : (key : Option (List ℕ)) (chain : Chain) (past : Option Past) (map : Option Asmap) (st : State) (places : Places) (opens : Opens key chain past map st) → KeepsOpened (file_in opens) places
+opening_of key chain past map st places (from_file snap is_in no_duplicate is) = keeps_at_opening snap places (file-below chain is_in.0 snap is_in.2)
+opening_of key chain past map st places (from_key given absent is_key is) = tt
+
 module _ {F : Type 0} (past : F → Option Past) (faults : F → ℕ) where
   later_rose : (n f g h : ℕ) → f ≤ g → RoseBy n g h → RoseBy n f h
   later_rose n f g h le (inl r) = inl (omega (arith, le, r))
@@ -141,6 +149,7 @@ module _ {F : Type 0} (past : F → Option Past) (faults : F → ℕ) where
         causes = keeps key chain old.past map tables opens o (lines_of r.ran.log);
         shares = shares_of key chain old.past map tables opens o (lines_of r.ran.log);
         losses = losses_of key chain old.past map tables opens o (lines_of r.ran.log);
+        opening = opening_of key chain old.past map tables tables.places opens;
         reopens = λ before h after.
             let k = keeps key chain old.past map tables opens o (lines_of r.ran.log) in
             reopens chain map h.now.machine.tables (k.sound before h after) (ap (λ p. p.map) (k.same_places before h after ∙ same_places key chain old.past map tables opens o) ∙ o.with_map);

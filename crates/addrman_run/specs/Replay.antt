@@ -10,6 +10,7 @@ use Rattle.host_io.specs.declared.name.Name.TheVariants as name
 use Rattle.asmap_vm.specs.Asmap.{Asmap}
 use Rattle.causes.specs.Kept.{IsAfter, KeepsCauses}
 use Rattle.laws.specs.LostLines.{KeepsLosses}
+use Rattle.laws.specs.Openings.{KeepsOpened}
 use Rattle.laws.specs.Shares.{KeepsShares}
 use Rattle.log_lines.specs.Spelling.{HasFault}
 use Rattle.log_run.specs.Run.{Ran, Run}
@@ -45,13 +46,13 @@ HasOneHistory start =
 -- accepted, and the tables are open. The replies to the lines that are carried out were written,
 -- perhaps but for the last bytes of the last one, and lines and replies fix the history. A crash
 -- now, or at any moment since the start, leaves at peers.dat the file of a save of this run or what
--- it could leave at the start; a crash now leaves nothing older than the last save that was done. No
--- more saves have failed than the folder's count of faults rose by. After each line the tables are
--- sound, each bucket that a record is in has a cause, sources of one group reach few buckets, and a
--- tried record leaves only for another one of its slot. Few of a round's words select records that
--- sources of some groups put there. Over the next lines each record stays, or is lost in one of them
--- with a cause. The file of the tables after any line opens again, with the same asmap, as these
--- tables after a restart.
+-- it could leave at the start; a crash now leaves nothing older than the last save that was done.
+-- No more saves have failed than the folder's count of faults rose by. After each line the tables
+-- are sound, each bucket that a record is in has a cause, sources of one group reach few buckets,
+-- and a tried record leaves only for another one of its slot. Few of a round's words select records
+-- that sources of some groups put there. Over the next lines each record stays, or is lost in one
+-- of them with a cause; so it is with the records of the file that was opened. The file of the
+-- tables after any line opens again, with the same asmap, as these tables after a restart.
 pub record Replayed (key : Option (List ℕ)) (chain : Chain) (old new : Outside) (how : LogEnd) : Type 0 where
   pub tables : State
   pub opened : Opened key chain old.past tables
@@ -64,6 +65,7 @@ pub record Replayed (key : Option (List ℕ)) (chain : Chain) (old new : Outside
   pub causes : KeepsCauses (file_in opened.opens) tables.places (at_start chain tables) (lines_of ran.log)
   pub shares : KeepsShares (file_in opened.opens) tables.places (at_start chain tables) (lines_of ran.log)
   pub losses : KeepsLosses (at_start chain tables) (lines_of ran.log)
+  pub opening : KeepsOpened (file_in opened.opens) tables.places
   pub reopens : (before : List (List ℕ)) (h : History) → IsAfter (at_start chain tables) (lines_of ran.log) before h
       → ReopensAs chain opened.map h.now.machine.tables
 

@@ -1,5 +1,5 @@
 -- Why a record of a file is lost when the file is opened.
-use Rattle.std.specs.Prelude.{◌≡◌, ◌≢◌, ◌⊎◌, ℕ, ◌+◌, ◌<◌, ◌++◌, length, slice_get, count_by, true, false, not, is_some, IsSome, Contains, Some, None}
+use Rattle.std.specs.Prelude.{◌≡◌, ◌≢◌, ◌⊎◌, ℕ, ◌+◌, ◌<◌, ◌++◌, length, slice_get, count_by, true, false, not, is_some, IsSome, Contains, Option, Some, None, ⊤}
 use Rattle.net_addr.specs.Ranges.{is_valid}
 use Rattle.net_addr.specs.declared.peer.Peer.{Peer}
 use Rattle.placing.specs.Places.{Places, new_bucket, new_slot, tried_bucket, tried_slot}
@@ -72,6 +72,11 @@ pub record KeepsAtOpening (snap : Snapshot) (places : Places) : Type 0 where
   pub count : duplicate snap ≡ None → IsSound (restored snap places)
       → length (restored snap places).records + lost_at_opening snap places
       ≡ length snap.new_recs + length snap.tried_recs
+
+-- the same of the file that tables were opened from, if there was one
+abbrev pub KeepsOpened : Option Snapshot → Places → Type 0
+KeepsOpened None places = ⊤
+KeepsOpened (Some snap) places = KeepsAtOpening snap places
 
 -- the tables that are opened from a save of others, perhaps with another asmap
 abbrev pub opened_again : Places → State → State
