@@ -139,7 +139,13 @@ pub extern "C" fn addrman_limiter_getaddr(
 }
 
 /// Takes a message of this many entries.
-fn admit_on(limiter: &mut Limiter<Keyed>, number: u32, count: u32, now: u32, admitted: &mut u32) -> u32
+fn admit_on(
+    limiter: &mut Limiter<Keyed>,
+    number: u32,
+    count: u32,
+    now: u32,
+    admitted: &mut u32,
+) -> u32
     ensures { AdmitCall count now (find_conn number limiter.old) limiter.old result admitted.new
         limiter.new }
 {

@@ -44,7 +44,11 @@ fn getaddr(alloc: Global, limiter: &mut Limiter<Hasher>, number: u32) -> Result<
 }
 
 /// Opens a connection.
-fn add(alloc: Global, limiter: &mut Limiter<Hasher>, fields: &mut Fields<'_>) -> Result<String, Unread> {
+fn add(
+    alloc: Global,
+    limiter: &mut Limiter<Hasher>,
+    fields: &mut Fields<'_>,
+) -> Result<String, Unread> {
     let number = fields.small()?;
     let addr = fields.addr()?;
     let unlimited = fields.word() == "unlimited";
@@ -74,7 +78,13 @@ fn admit(
 }
 
 /// Returns how many entries of all these messages are admitted.
-fn admit_times(limiter: &mut Limiter<Hasher>, times: u32, number: u32, count: u32, now: u32) -> Option<u64>
+fn admit_times(
+    limiter: &mut Limiter<Hasher>,
+    times: u32,
+    number: u32,
+    count: u32,
+    now: u32,
+) -> Option<u64>
     requires { count ≤ 1000 }
 {
     let mut sum = 0u64;
