@@ -23,10 +23,11 @@ from tables import Tables
 from text import MASK, Fault, read_digits, read_number
 
 MAXIMUM_GENERATED_LINES = 100_000
-COMMANDS = "replay opener limit show picture raw info compile decompile check lookup address ban unban banned bans gen trial help version"
+COMMANDS = "replay opener limit show picture raw info groups compile decompile check lookup address ban unban banned bans gen trial help version"
 IN_PLACE = {b"--help": b"help", b"-h": b"help", b"--version": b"version"}
 OPTIONS = {"replay": ("--key", "--net"), "opener": ("--key", "--net"), "show": ("--net",),
-           "picture": ("--net",), "raw": ("--net",), "info": ("--net",)}
+           "picture": ("--net",), "raw": ("--net",), "info": ("--net",),
+           "groups": ("--net",)}
 
 
 def usage(value=None):
@@ -234,6 +235,9 @@ class Run:
 
     def info(self, _key: None, chain: str):
         self.print(node_json.info(self.tables(None, chain)))
+
+    def groups(self, _key: None, chain: str):
+        self.print(node_json.groups(self.tables(None, chain)))
 
     def compile(self):
         rows = self.load("prefixes.txt", prefixes.MAXIMUM_BYTES, 6, prefixes.read_rows)

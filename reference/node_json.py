@@ -5,6 +5,8 @@ import json
 from addresses import CJDNS, I2P, IPV4, IPV6, ONION, UNROUTABLE, Address, class_of, routable
 from bans import Ban, Subnet
 from names import name_of
+from picture import name as group_name
+from places import group
 from tables import Record, Tables
 
 
@@ -71,6 +73,58 @@ def info(tables: Tables) -> str:
         for network in (IPV4, IPV6, ONION, I2P, CJDNS)
     }
     return json.dumps({**rows, "all_networks": counts(records)}, indent=2)
+
+
+def counted_address(record: Record) -> Address:
+    """The address whose group a record counts for."""
+    return record.peer.address if record.tried else record.source
+
+
+def health(tables: Tables, records: list[Record]) -> dict:
+    """How well the asmap covers the records."""
+    numbers = [
+        tables.asmap.number_of(record.peer.address)
+        for record in records if class_of(record.peer.address) in (IPV4, IPV6)
+    ]
+    return {
+        "clearnet_peers": len(numbers),
+        "as_numbers": len(set(numbers) - {0}),
+        "unmapped": numbers.count(0),
+    }
+
+
+def groups(tables: Tables) -> str:
+    """How many slots, buckets and records each group has."""
+    records = sorted(tables.records.values(), key=lambda record: record.number)
+    members: dict[bytes, list[Record]] = {}
+    for record in records:
+        members.setdefault(group(counted_address(record), tables.asmap), []).append(record)
+
+    rows = []
+    for own, of_group in members.items():
+        first = counted_address(of_group[0])
+        number = tables.asmap.number_of(first)
+        new = [record for record in of_group if not record.tried]
+        slots = sum(len(record.buckets) for record in new)
+        tried = len(of_group) - len(new)
+        rows.append((-slots - tried, own, {
+            "group": group_name(first, number),
+            **({"mapped_as": number} if number else {}),
+            "new_slots": slots,
+            "new_buckets": len({bucket for record in new for bucket in record.buckets}),
+            "new_records": len(new),
+            "tried_records": tried,
+        }))
+    rows.sort(key=lambda row: row[:2])
+    return json.dumps({
+        "groups": [row for _, _, row in rows],
+        "totals": {
+            "groups": len(rows),
+            **{name: sum(row[name] for _, _, row in rows)
+               for name in ("new_slots", "new_records", "tried_records")},
+        },
+        "asmap": health(tables, records),
+    }, indent=2)
 
 
 def subnet_name(subnet: Subnet) -> str:

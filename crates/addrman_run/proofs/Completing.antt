@@ -280,6 +280,7 @@ done (request.Show chain) old new answer ends cause fine calm = file_line_done _
 done (request.Picture chain) old new answer ends cause fine calm = text_done _ _ old new answer ends cause fine calm
 done (request.Raw chain) old new answer ends cause fine calm = text_done _ _ old new answer ends cause fine calm
 done (request.Info chain) old new answer ends cause fine calm = text_done _ _ old new answer ends cause fine calm
+done (request.Groups chain) old new answer ends cause fine calm = text_done _ _ old new answer ends cause fine calm
 done (request.Ban subnet now until) old new answer ends cause fine calm = bans_done _ old new answer ends cause fine calm
 done (request.Unban subnet) old new answer ends cause fine calm = bans_done _ old new answer ends cause fine calm
 done (request.Banned peer now) old new answer ends cause fine calm = bans_done _ old new answer ends cause fine calm

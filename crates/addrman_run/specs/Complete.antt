@@ -27,7 +27,7 @@ use Rattle.addrman_run.specs.Replay.{Replayed}
 use Rattle.addrman_run.specs.Show.{ReportsPeers}
 use Rattle.addrman_run.specs.Tables.{ReportsTable}
 use Rattle.arguments.specs.declared.request.Request.{Request}
-use Rattle.arguments.specs.declared.request.Request.TheVariants.{Show, Picture, Raw, Info}
+use Rattle.arguments.specs.declared.request.Request.TheVariants.{Show, Picture, Raw, Info, Groups}
 use Rattle.arguments.specs.declared.request.Request.TheVariants.{Replay, Opener, Compile, Check, Lookup, LookupLines, Address}
 use Rattle.arguments.specs.declared.request.Request.TheVariants.{Decompile, Limit}
 use Rattle.arguments.specs.declared.request.Request.TheVariants.{Ban, Unban, Banned, Bans}
@@ -88,6 +88,7 @@ NothingIsWrong (Show chain) at = IsUsable name.Peers (ReportsPeers chain) at.pas
 NothingIsWrong (Picture chain) at = NoRefusal (ReportsOpening None chain at.past)
 NothingIsWrong (Raw chain) at = NoRefusal (ReportsOpening None chain at.past)
 NothingIsWrong (Info chain) at = NoRefusal (ReportsOpening None chain at.past)
+NothingIsWrong (Groups chain) at = NoRefusal (ReportsOpening None chain at.past)
 NothingIsWrong (Ban subnet now until) at = NoRefusal (ReportsBans at.past)
 NothingIsWrong (Unban subnet) at = NoRefusal (ReportsBans at.past)
 NothingIsWrong (Banned peer now) at = NoRefusal (ReportsBans at.past)

@@ -20,7 +20,7 @@ use Rattle.addrman_run.specs.Help.{HelpEnds, VersionEnds}
 use Rattle.addrman_run.specs.Trial.{TrialEnds}
 use Rattle.addrman_run.specs.Bans.{BansEnds, ban_change, unban_change, banned_change, bans_change}
 use Rattle.arguments.specs.declared.request.Request.{Request}
-use Rattle.arguments.specs.declared.request.Request.TheVariants.{Show, Picture, Raw, Info}
+use Rattle.arguments.specs.declared.request.Request.TheVariants.{Show, Picture, Raw, Info, Groups}
 use Rattle.arguments.specs.declared.request.Request.TheVariants.{Replay, Opener, Compile, Check, Lookup, LookupLines, Address}
 use Rattle.arguments.specs.declared.request.Request.TheVariants.{Decompile, Limit}
 use Rattle.arguments.specs.declared.request.Request.TheVariants.{Ban, Unban, Banned, Bans}
@@ -43,6 +43,7 @@ Ends (Show chain) old new answer = ShowEnds chain old new answer
 Ends (Picture chain) old new answer = PictureEnds chain old new answer
 Ends (Raw chain) old new answer = TablesJsonEnds json.Raw chain old new answer
 Ends (Info chain) old new answer = TablesJsonEnds json.Info chain old new answer
+Ends (Groups chain) old new answer = TablesJsonEnds json.Groups chain old new answer
 Ends (Ban subnet now until) old new answer = BansEnds (ban_change (ban_of subnet now until)) old new answer
 Ends (Unban subnet) old new answer = BansEnds (unban_change subnet) old new answer
 Ends (Banned peer now) old new answer = BansEnds (banned_change peer.addr now) old new answer

@@ -3,6 +3,7 @@ use Rattle.std.specs.Prelude.{ℕ, List, Option, None}
 use Rattle.host_io.specs.Past.{Past}
 use Rattle.host_io.specs.Outside.{Outside}
 use Rattle.json.specs.Json.{Json}
+use Rattle.node_json.specs.Groups.{groups_json}
 use Rattle.node_json.specs.Info.{info_json}
 use Rattle.node_json.specs.Raw.{raw_json}
 use Rattle.node_json.specs.Value.{IsJsonText}
@@ -12,11 +13,12 @@ use Rattle.addrman_run.specs.Opening.{Opened, ReportsOpening}
 use Rattle.addrman_run.specs.TextOut.{TextEnds}
 use Rattle.addrman_run.specs.declared.status.Status.{Status}
 use Rattle.addrman_run.specs.declared.tables_json.TablesJson.{TablesJson}
-use Rattle.addrman_run.specs.declared.tables_json.TablesJson.TheVariants.{Raw, Info}
+use Rattle.addrman_run.specs.declared.tables_json.TablesJson.TheVariants.{Raw, Info, Groups}
 
 abbrev pub json_of : TablesJson → State → Json
 json_of Raw st = raw_json st
 json_of Info st = info_json st
+json_of Groups st = groups_json st
 
 -- a text of the tables that the folder's peers.dat and asmap.dat open
 abbrev pub IsTablesText : TablesJson → Chain → Option Past → List ℕ → Type 0

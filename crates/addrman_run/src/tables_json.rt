@@ -5,13 +5,14 @@ ghost use Rattle.addrman_run.specs.Opening.{ReportsOpening};
 ghost use Rattle.addrman_run.specs.TablesJson.{IsTablesText, json_of};
 ghost use Rattle.addrman_run.specs.TextOut.{TextOut};
 
-use crate::Status;
 use crate::opening::open_folder;
 use crate::output::write_line;
-use host_io::{Folder, Sink};
-use node_json::{info_text, raw_text};
+use crate::{Memory, Status};
+use group_counts::Lent;
+use host_io::{Bytes, Folder, Sink};
+use node_json::{groups_text, info_text, raw_text};
 use peers_file::Chain;
-use std::alloc::{AllocError, Global};
+use std::alloc::Global;
 use std::hash::BuildHasher;
 use std::marker::Brand;
 use std::sync::ledger::{Blank, Ledger};
@@ -25,15 +26,18 @@ pub(crate) enum TablesJson {
     Raw,
     /// How many records each network has.
     Info,
+    /// How many slots, buckets and records each group has.
+    Groups,
 }
 
 /// Returns the text of the tables. The steps are counted, and nobody reads how many.
-fn text_of<L: Ledger, H: BuildHasher>(
+fn text_of<L: Ledger, H: BuildHasher, G: BuildHasher>(
     alloc: Global,
+    hasher: &G,
     which: TablesJson,
     tables: &Tables<'_, H>,
     blank: Blank,
-) -> Result<Vec<u8>, AllocError>
+) -> Result<Vec<u8>, Memory>
     requires name { blank.name ≡ L.name }
     requires parts { blank.parts ≡ L.parts }
     requires one { blank.parts ≡ 1 }
@@ -41,8 +45,12 @@ fn text_of<L: Ledger, H: BuildHasher>(
 {
     let mut steps = Steps::<L>::none(blank);
     match which {
-        TablesJson::Raw => raw_text(alloc, tables, &mut steps),
-        TablesJson::Info => info_text(alloc, tables),
+        TablesJson::Raw => Ok(raw_text(alloc, tables, &mut steps)?),
+        TablesJson::Info => Ok(info_text(alloc, tables)?),
+        TablesJson::Groups => match groups_text(alloc, hasher, tables, &mut steps) {
+            Ok(text) => Ok(text),
+            Err(_) => Err(Memory),
+        },
     }
 }
 
@@ -62,11 +70,30 @@ pub(crate) fn write_tables_json<F: Folder, K: Sink, H: BuildHasher + Drop>(
     ensures same { F.past folder.new ≡ F.past folder.old }
 {
     let mut asmap = None;
-    let tables = match open_folder(alloc, hasher, None, chain, &mut asmap, folder) {
+    write_opened(alloc, &hasher, which, chain, &mut asmap, folder, out)
+}
+
+/// Opens the tables, whose asmap's bytes stay in `asmap`, and writes the text of them.
+fn write_opened<'a, F: Folder, K: Sink, H: BuildHasher + Drop>(
+    alloc: Global,
+    hasher: &'a H,
+    which: TablesJson,
+    chain: Chain,
+    asmap: &'a mut Option<Bytes>,
+    folder: &mut F,
+    out: &mut K,
+) -> Status
+    ensures text { TextOut (IsTablesText which chain) (ReportsOpening None chain)
+        (F.past folder.old) (K.written out.old) (K.written out.new) result }
+    ensures disk { IsCounted Status.DiskFault (F.faults folder.old) (F.faults folder.new) result }
+    ensures write { IsCounted Status.WriteFault (K.faults out.old) (K.faults out.new) result }
+    ensures same { F.past folder.new ≡ F.past folder.old }
+{
+    let tables = match open_folder(alloc, Lent::of(hasher), None, chain, asmap, folder) {
         Ok(tables) => tables,
         Err(status) => return status,
     };
-    match text_of::<Brand, H>(alloc, which, &tables, Blank::new(1)) {
+    match text_of::<Brand, Lent<'_, H>, H>(alloc, hasher, which, &tables, Blank::new(1)) {
         Ok(text) => write_line(text.as_slice(), out),
         Err(_) => Status::Memory,
     }

@@ -40,7 +40,7 @@ use std::hash::BuildHasher;
 /// and the group that it gives the peer's address, `lookup -` those of each peer of the log. `address TEXT` writes what is known of an address. `limit` carries out the lines of the log under
 /// the limit on received addresses, and writes the log that is left. `show --net CHAIN` lists what
 /// peers.dat has, `raw --net CHAIN` prints its records by their slots, and `info --net CHAIN` how
-/// many each network has, both as JSON. `ban SUBNET NOW UNTIL` and `unban SUBNET` change the list of bans in
+/// many each network has, and `groups --net CHAIN` how many each group, all as JSON. `ban SUBNET NOW UNTIL` and `unban SUBNET` change the list of bans in
 /// banlist.json, `banned PEER NOW` writes which ban covers the peer's address, and `bans NOW` the
 /// bans that are not over, as JSON. `gen START LINES`
 /// writes a generated log, and `trial START LINES` carries it out from empty tables and writes one
@@ -102,6 +102,9 @@ fn carry_out<L: Source, F: Folder, K: Sink, H: BuildHasher + Drop>(
         }
         Request::Info { chain } => {
             write_tables_json(alloc, hasher, TablesJson::Info, chain, folder, out)
+        }
+        Request::Groups { chain } => {
+            write_tables_json(alloc, hasher, TablesJson::Groups, chain, folder, out)
         }
         Request::Ban { subnet, now, until } => {
             change_bans(alloc, &BanSubnet { subnet, now, until }, folder, out)

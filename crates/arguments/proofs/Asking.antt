@@ -27,7 +27,7 @@ use Rattle.arguments.specs.declared.name.CommandName.{CommandName}
 use Rattle.arguments.specs.declared.name.CommandName.TheVariants as name
 use Rattle.arguments.specs.declared.name.TheConstants.{NAMES}
 use Rattle.arguments.specs.declared.request.Request.{Request}
-use Rattle.arguments.specs.declared.request.Request.TheVariants.{Replay, Opener, Compile, Check, Decompile, Limit, Lookup, LookupLines, Address, Show, Picture, Raw, Info, Ban, Unban, Banned, Bans, Gen, Trial, Help, Version}
+use Rattle.arguments.specs.declared.request.Request.TheVariants.{Replay, Opener, Compile, Check, Decompile, Limit, Lookup, LookupLines, Address, Show, Picture, Raw, Info, Groups, Ban, Unban, Banned, Bans, Gen, Trial, Help, Version}
 use Rattle.arguments.proofs.Choosing.{one_net, one_opening}
 use Rattle.arguments.proofs.Names.{name_found, one_command}
 
@@ -101,6 +101,7 @@ request_by name.Show (TheChain chain) = Show chain
 request_by name.Picture (TheChain chain) = Picture chain
 request_by name.Raw (TheChain chain) = Raw chain
 request_by name.Info (TheChain chain) = Info chain
+request_by name.Groups (TheChain chain) = Groups chain
 request_by name.Ban (ThePeriod subnet now until) = Ban subnet now until
 request_by name.Unban (TheSubnet subnet) = Unban subnet
 request_by name.Banned (TheFields (ThePeer peer ∷ TheNumber now ∷ [])) = Banned peer now

@@ -28,6 +28,7 @@ page_of name.Show = page_in pages.SHOW
 page_of name.Picture = page_in pages.PICTURE
 page_of name.Raw = page_in pages.RAW
 page_of name.Info = page_in pages.INFO
+page_of name.Groups = page_in pages.GROUPS
 page_of name.Compile = page_in pages.COMPILE
 page_of name.Decompile = page_in pages.DECOMPILE
 page_of name.Check = page_in pages.CHECK

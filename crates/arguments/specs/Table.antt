@@ -14,7 +14,7 @@ use Rattle.arguments.specs.Options.{IsNet, IsOpeningOptions}
 use Rattle.arguments.specs.declared.name.CommandName.{CommandName}
 use Rattle.arguments.specs.declared.name.CommandName.TheVariants as name
 use Rattle.arguments.specs.declared.request.Request.{Request}
-use Rattle.arguments.specs.declared.request.Request.TheVariants.{Replay, Opener, Compile, Check, Decompile, Limit, Lookup, LookupLines, Address, Show, Picture, Raw, Info, Ban, Unban, Banned, Bans, Gen, Trial, Help, Version}
+use Rattle.arguments.specs.declared.request.Request.TheVariants.{Replay, Opener, Compile, Check, Decompile, Limit, Lookup, LookupLines, Address, Show, Picture, Raw, Info, Groups, Ban, Unban, Banned, Bans, Gen, Trial, Help, Version}
 
 -- THE NAME
 
@@ -27,6 +27,7 @@ word_of name.Show = codes "show"
 word_of name.Picture = codes "picture"
 word_of name.Raw = codes "raw"
 word_of name.Info = codes "info"
+word_of name.Groups = codes "groups"
 word_of name.Compile = codes "compile"
 word_of name.Decompile = codes "decompile"
 word_of name.Check = codes "check"
@@ -112,6 +113,7 @@ form_of name.Show = Network
 form_of name.Picture = Network
 form_of name.Raw = Network
 form_of name.Info = Network
+form_of name.Groups = Network
 form_of name.Ban = Period
 form_of name.Unban = OfSubnet
 form_of name.Banned = Fields (OfPeer ∷ Number 0 max_time ∷ [])
@@ -136,6 +138,7 @@ name_of (Show chain) = name.Show
 name_of (Picture chain) = name.Picture
 name_of (Raw chain) = name.Raw
 name_of (Info chain) = name.Info
+name_of (Groups chain) = name.Groups
 name_of (Ban subnet now until) = name.Ban
 name_of (Unban subnet) = name.Unban
 name_of (Banned peer now) = name.Banned
@@ -155,6 +158,7 @@ values_of (Show chain) = TheChain chain
 values_of (Picture chain) = TheChain chain
 values_of (Raw chain) = TheChain chain
 values_of (Info chain) = TheChain chain
+values_of (Groups chain) = TheChain chain
 values_of (Ban subnet now until) = ThePeriod subnet now until
 values_of (Unban subnet) = TheSubnet subnet
 values_of (Banned peer now) = TheFields (ThePeer peer ∷ TheNumber now ∷ [])

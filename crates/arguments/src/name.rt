@@ -16,6 +16,7 @@ pub enum CommandName {
     Picture,
     Raw,
     Info,
+    Groups,
     Compile,
     Decompile,
     Check,
@@ -32,7 +33,7 @@ pub enum CommandName {
 }
 
 /// All names, each once, in the order in which the help lists them.
-pub const NAMES: [CommandName; 20] = [
+pub const NAMES: [CommandName; 21] = [
     CommandName::Replay,
     CommandName::Opener,
     CommandName::Limit,
@@ -40,6 +41,7 @@ pub const NAMES: [CommandName; 20] = [
     CommandName::Picture,
     CommandName::Raw,
     CommandName::Info,
+    CommandName::Groups,
     CommandName::Compile,
     CommandName::Decompile,
     CommandName::Check,
@@ -67,6 +69,7 @@ impl Keyword for CommandName {
             CommandName::Picture => b"picture",
             CommandName::Raw => b"raw",
             CommandName::Info => b"info",
+            CommandName::Groups => b"groups",
             CommandName::Compile => b"compile",
             CommandName::Decompile => b"decompile",
             CommandName::Check => b"check",
@@ -99,6 +102,7 @@ impl CommandName {
             CommandName::Picture => pages::PICTURE,
             CommandName::Raw => pages::RAW,
             CommandName::Info => pages::INFO,
+            CommandName::Groups => pages::GROUPS,
             CommandName::Compile => pages::COMPILE,
             CommandName::Decompile => pages::DECOMPILE,
             CommandName::Check => pages::CHECK,

@@ -107,6 +107,20 @@ Codes    0 done, 2 bad usage, 4 peers.dat is refused, 5 asmap.dat is refused,
 ",
 );
 
+pub(crate) const GROUPS: Page = (
+    "groups [--net CHAIN]",
+    "prints how much of peers.dat each group has, as JSON",
+    "\
+Reads    peers.dat; asmap.dat, if it is there.
+Writes   for each group its slots, buckets and records; their sums; and how many records
+         asmap.dat gives an AS number.
+CHAIN    main, test, signet or regtest; main if it is left out.
+Codes    0 done, 2 bad usage, 4 peers.dat is refused, 5 asmap.dat is refused,
+         8 the output cannot be written, 9 the folder failed, 11 no peers.dat,
+         12 out of memory.
+",
+);
+
 pub(crate) const COMPILE: Page = (
     "compile",
     "compiles prefixes.txt into asmap.dat",

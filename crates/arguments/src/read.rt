@@ -100,6 +100,12 @@ fn read_after(alloc: Global, name: CommandName, rest: &[String]) -> Option<Reque
             };
             Some(Request::Info { chain })
         }
+        CommandName::Groups => {
+            let Some(chain) = read_net(rest) else {
+                return None;
+            };
+            Some(Request::Groups { chain })
+        }
         CommandName::Ban => {
             let Some((subnet, now, until)) = read_period(rest) else {
                 return None;

@@ -56,6 +56,11 @@ pub enum Request {
     Info {
         chain: Chain,
     },
+    /// `groups --net CHAIN`: print how many slots, buckets and records of peers.dat, a file of this
+    /// chain, each group has, as JSON.
+    Groups {
+        chain: Chain,
+    },
     /// `ban SUBNET NOW UNTIL`: drop the bans of banlist.json that are over, and ban the subnet until
     /// a later time, unless it is banned until then or later already, or the list is full.
     Ban {

@@ -8,7 +8,7 @@ use std::alloc::Global;
 use std::hash::BuildHasher;
 
 /// The groups of some slots, each with the number of its slots.
-type Tally<'a, H> = IndexMap<u128, u32, Lent<'a, H>>;
+pub type Tally<'a, H> = IndexMap<u128, u32, Lent<'a, H>>;
 
 /// Returns the groups of the keys with the number of their slots, in the order of the first ones. A
 /// key 0 is a free slot.
@@ -18,7 +18,7 @@ pub fn count_groups<H: BuildHasher>(
     hasher: &H,
     keys: &[u128],
 ) -> Result<Vec<Counted>, Memory>
-    requires few { length keys.now ≤ 81920 }
+    requires few { length keys.now ≤ 163840 }
     ensures groups { IfOk result (λ groups. groups.items ≡ groups_of keys.now) }
     ensures few { IfOk result (λ groups. length groups.items ≤ length keys.now) }
 {
@@ -40,12 +40,12 @@ fn list_groups<H: BuildHasher>(alloc: Global, map: &Tally<'_, H>) -> Result<Vec<
 }
 
 /// Counts the slots of each key. It takes two look-ups a slot.
-fn tally<'a, H: BuildHasher>(
+pub fn tally<'a, H: BuildHasher>(
     alloc: Global,
     hasher: &'a H,
     keys: &[u128],
 ) -> Result<Tally<'a, H>, Memory>
-    requires few { length keys.now ≤ 81920 }
+    requires few { length keys.now ≤ 163840 }
     ensures tally { IfOk result (λ map. map.entries ≡ tally_of keys.now) }
 {
     let mut map = IndexMap::with_hasher(alloc, Lent::of(hasher));
@@ -57,7 +57,7 @@ fn tally<'a, H: BuildHasher>(
 
 /// Counts one slot more of a key, unless it is 0.
 fn note<H: BuildHasher>(map: &mut Tally<'_, H>, key: u128) -> Result<(), Memory>
-    requires { (k : ℕ) → count_in map.old.entries k < 81920 }
+    requires { (k : ℕ) → count_in map.old.entries k < 163840 }
     ensures { OnOk result (map.new.entries ≡ noted map.old.entries key) }
 {
     if key != 0 {
@@ -68,7 +68,7 @@ fn note<H: BuildHasher>(map: &mut Tally<'_, H>, key: u128) -> Result<(), Memory>
 }
 
 /// Returns the count of a key, 0 if it has none.
-fn count_of<H: BuildHasher>(map: &Tally<'_, H>, key: u128) -> u32
+pub fn count_of<H: BuildHasher>(map: &Tally<'_, H>, key: u128) -> u32
     ensures { result ≡ count_in map.now.entries key }
 {
     match map.get(&key) {

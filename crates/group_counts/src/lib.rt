@@ -13,8 +13,8 @@ mod slots;
 
 pub use buckets::bucket_keys;
 pub use counted::Counted;
-pub use counting::{count_groups, counts_are_of_slots};
+pub use counting::{Tally, count_groups, count_of, counts_are_of_slots, tally};
 pub use lent::Lent;
 pub use memory::Memory;
-pub use ranking::{above, first_six};
+pub use ranking::{above, first_six, in_order};
 pub use slots::occurrences;

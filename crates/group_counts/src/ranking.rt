@@ -1,9 +1,10 @@
-ghost use Rattle.std.specs.Prelude.{◌≡◌, ◌<◌, ◌≤◌, length, take};
+ghost use Rattle.std.specs.Prelude.{◌≡◌, ◌<◌, ◌≤◌, length, take, IfOk, OnOk};
 ghost use Rattle.arrayvec.specs.ArrayVec.{array_vec_len};
-ghost use Rattle.group_counts.specs.Ranks.{above, comes_before, first_six, placed, rank_in};
+ghost use Rattle.group_counts.specs.Ranks.{above, comes_before, first_six, in_order, placed, rank_in};
 
-use crate::Counted;
+use crate::{Counted, Memory};
 use arrayvec::ArrayVec;
+use std::alloc::Global;
 
 /// Returns the six groups with the most slots, in order; of groups with as many, the one with the
 /// lower key comes first.
@@ -52,6 +53,27 @@ fn comes_before(group: Counted, other: Counted) -> bool
     ensures { result ≡ comes_before group other }
 {
     group.slots > other.slots || group.slots == other.slots && group.key < other.key
+}
+
+/// Returns the groups in order: of two, the one with more slots comes first, and of two with as many
+/// the one with the lower key. Its time grows with the square of their number.
+pub fn in_order(alloc: Global, groups: &[Counted]) -> Result<Vec<Counted>, Memory>
+    ensures { IfOk result (λ list. list.items ≡ in_order groups.now) }
+{
+    let mut list = Vec::new(alloc);
+    for group in groups {
+        put_in_order(&mut list, *group)?;
+    }
+    Ok(list)
+}
+
+/// Gives a group its place among those in order.
+fn put_in_order(list: &mut Vec<Counted>, group: Counted) -> Result<(), Memory>
+    ensures { OnOk result (list.new.items ≡ placed group list.old.items) }
+{
+    let at = rank_in(list.as_slice(), group);
+    list.insert(at, group)?;
+    Ok(())
 }
 
 /// Returns how many groups have more than `limit` slots.

@@ -1,5 +1,5 @@
 /// The forms of the command line, one a command.
-static COMMANDS: [&str; 20] = [
+static COMMANDS: [&str; 21] = [
     "replay --key HEX64 --net CHAIN",
     "opener --key HEX64 --net CHAIN",
     "limit",
@@ -7,6 +7,7 @@ static COMMANDS: [&str; 20] = [
     "picture --net CHAIN",
     "raw --net CHAIN",
     "info --net CHAIN",
+    "groups --net CHAIN",
     "compile",
     "decompile",
     "check",

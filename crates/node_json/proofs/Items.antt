@@ -12,7 +12,7 @@ use Rattle.node_json.specs.Bans.{ban_json, bans_json}
 use Rattle.node_json.specs.Inside.{items_tokens_of}
 use Rattle.node_json.specs.Value.{array_of, items_of}
 
-items-append : (xs ys : List Json) → items_tokens_of (xs ++ ys) ≡ items_tokens_of xs ++ items_tokens_of ys
+pub items-append : (xs ys : List Json) → items_tokens_of (xs ++ ys) ≡ items_tokens_of xs ++ items_tokens_of ys
 items-append [] ys = refl
 items-append (x ∷ xs) ys = ap (λ ts. json_tokens x ++ ts) (items-append xs ys) ∙ sym (append_assoc (json_tokens x) (items_tokens_of xs) (items_tokens_of ys))
 

@@ -2,3 +2,5 @@ pub mod Tokens
 pub mod Records
 pub mod Counts
 pub mod Items
+pub mod Listed
+pub mod Sums

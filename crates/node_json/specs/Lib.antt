@@ -1,5 +1,6 @@
 pub mod Value
-pub mod Inside
 pub mod Raw
 pub mod Info
+pub mod Groups
 pub mod Bans
+pub mod Inside

@@ -1,9 +1,27 @@
-ghost use Rattle.std.specs.Prelude.{◌≡◌, ◌+◌, count_by, length, not};
+ghost use Rattle.std.specs.Prelude.{◌≡◌, ◌+◌, ◌==◌, ℕ, List, count_by, length, not};
+ghost use Rattle.std.specs.List.{sum_by};
+ghost use Rattle.group_counts.specs.Tally.{occurrences};
 ghost use Rattle.peer_rec.specs.Rec.{is_tried};
 ghost use Rattle.table_machine.specs.State.{State};
+ghost use Rattle.node_json.specs.Groups.{record_keys, rows_of, source_keys};
+ghost use Rattle.node_json.specs.declared.part.Part.TheVariants.{Tried};
 
 /// The row of all networks counts every record, also one whose address is not routable.
 pub fn every_record_counts()
     ensures { (st : State) → count_by (λ r. not (is_tried r)) st.records
         + count_by is_tried st.records ≡ length st.records }
+{}
+
+/// The slots of the new table and the records of the tried one of all groups are all of them: a key
+/// is 0 only for a free slot, or a record that is not in the tried table.
+pub fn groups_add_up()
+    ensures { (st : State) → sum_by (λ row. row.numbers.slots + row.numbers.tried) (rows_of st)
+        ≡ count_by (λ k. not (k == 0)) (source_keys st)
+        + count_by (λ k. not (k == 0)) (record_keys st Tried) }
+{}
+
+/// Of the records that an asmap can map, those without an AS number and those with one are all.
+pub fn numbers_add_up()
+    ensures { (numbers : List ℕ) → occurrences numbers 0 + count_by (λ n. not (n == 0)) numbers
+        ≡ length numbers }
 {}

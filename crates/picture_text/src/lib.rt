@@ -13,4 +13,5 @@ mod pieces;
 
 pub use memory::Memory;
 pub use names::name_of;
+pub use parts::new_keys;
 pub use picture::{Groups, find_groups, put_picture};

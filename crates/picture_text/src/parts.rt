@@ -24,7 +24,7 @@ fn back<T>(all: &[T], count: usize) -> &[T]
 
 /// Returns the keys of the new table's slots.
 #[tactic(auto, unfolding(crate::specs::Picture::in_new))]
-pub(crate) fn new_keys(keys: &[u128]) -> &[u128]
+pub fn new_keys(keys: &[u128]) -> &[u128]
     requires { length keys.now ≡ 81920 }
     ensures is { result.now ≡ in_new keys.now }
     ensures long { length result.now ≡ 65536 }

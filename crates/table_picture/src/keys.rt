@@ -109,7 +109,7 @@ fn slot_key(placer: &Placer<'_>, rec: Option<&Rec>) -> u128
 
 /// Returns the key of a group.
 #[tactic(auto, unfolding(crate::specs::Keys::group_key))]
-fn group_key(group: &[u8]) -> u128
+pub fn group_key(group: &[u8]) -> u128
     requires { length group.now ≤ 11 }
     ensures { result ≡ group_key group.now }
 {

@@ -5,5 +5,6 @@ mod keys;
 mod memory;
 mod picture;
 
+pub use keys::{group_key, slot_keys};
 pub use memory::Memory;
-pub use picture::put_picture;
+pub use picture::{first_slot, put_picture};

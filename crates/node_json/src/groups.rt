@@ -1,0 +1,409 @@
+ghost use Rattle.std.specs.Prelude.{◌≡◌, ◌≤◌, ◌-◌, ◌+◌, [], ◌∷◌, ◌++◌, IfOk, OnOk, codes, filter, length, map, option_map, string_bytes};
+ghost use Rattle.std.specs.List.{flat_map};
+ghost use Rattle.json.specs.Json.{string};
+ghost use Rattle.json.specs.Tree.{json_tokens};
+ghost use Rattle.group_counts.specs.Ranks.{groups_of, in_order};
+ghost use Rattle.picture_text.specs.Markup.{IsPlain};
+ghost use Rattle.picture_text.specs.Names.{name_of};
+ghost use Rattle.picture_text.specs.Picture.{in_new};
+ghost use Rattle.placing.specs.Places.{asn};
+ghost use Rattle.node_json.specs.Groups.{first_in, group_members, groups_json, groups_members, health_members, is_clearnet, is_clearnet_class, items_by, number_members, part_key, row_items, rows_of, totals_by};
+ghost use Rattle.node_json.specs.Inside.{items_tokens_of, rows_tokens, tokens_of};
+ghost use Rattle.node_json.specs.Value.{IsJsonText, array_of, object_of};
+ghost use Rattle.node_json.specs.declared.part.Part.TheVariants.{Both};
+ghost use Rattle.table_picture.specs.Keys.{slot_keys};
+ghost use Rattle.group_counts.specs.Tally.{occurrences};
+
+use crate::Memory;
+use crate::numbers::{Numbers, Row, count_rows};
+use crate::part::{Part, counted_address, record_keys};
+use crate::put::{put_begin, put_number, put_string, put_unless_zero, with_end};
+use group_counts::{Counted, count_groups, in_order, occurrences};
+use json::{Pretty, Token};
+use net_addr::{Net, NetAddr};
+use peer_rec::{Rec, Recs};
+use picture_laws::names_are_plain;
+use picture_text::{name_of, new_keys};
+use placing::Placer;
+use std::alloc::{AllocError, Global};
+use std::hash::BuildHasher;
+use std::sync::ledger::Ledger;
+use steps::Steps;
+use table_picture::{first_slot, slot_keys};
+use tables::Tables;
+
+/// Appends the numbers of a group.
+#[tactic(auto, unfolding(crate::specs::Groups::number_members))]
+fn put_numbers(json: &mut Pretty, numbers: Numbers) -> Result<(), AllocError>
+    ensures { OnOk result (json.new ≡ json.old ++ tokens_of (number_members numbers)) }
+{
+    put_number(json, "new_slots", u64::from(numbers.slots))?;
+    put_number(json, "new_buckets", u64::from(numbers.buckets))?;
+    put_number(json, "new_records", u64::from(numbers.records))?;
+    put_number(json, "tried_records", u64::from(numbers.tried))?;
+    Ok(())
+}
+
+/// Appends the name of the group of an address.
+fn put_name(
+    alloc: Global,
+    json: &mut Pretty,
+    placer: &Placer<'_>,
+    addr: &NetAddr,
+) -> Result<(), Memory>
+    ensures { OnOk result (json.new
+        ≡ json.old ++ tokens_of ((codes "group", string (name_of placer.now addr.now)) ∷ [])) }
+{
+    let name = name_of(alloc, placer, addr)?;
+    let _own = addr.bytes();
+    names_are_plain();
+    put_string(json, "group", text_of(name.as_slice()))?;
+    Ok(())
+}
+
+/// Returns a plain text.
+fn text_of(name: &[u8]) -> &str
+    requires { IsPlain name.now }
+    ensures { result.now ≡ name.now }
+{
+    std::str::from_utf8(name).unwrap()
+}
+
+/// Appends the object of a group, of which this is an address.
+#[tactic(auto, unfolding(crate::specs::Groups::group_members))]
+fn put_group(
+    alloc: Global,
+    json: &mut Pretty,
+    placer: &Placer<'_>,
+    numbers: Numbers,
+    addr: &NetAddr,
+) -> Result<(), Memory>
+    ensures { OnOk result (json.new ≡ json.old
+        ++ json_tokens (object_of (group_members placer.now numbers addr.now))) }
+{
+    json.token(Token::BeginObject)?;
+    put_name(alloc, json, placer, addr)?;
+    put_unless_zero(json, "mapped_as", placer.asn(addr))?;
+    put_numbers(json, numbers)?;
+    json.token(Token::EndObject)?;
+    Ok(())
+}
+
+/// Appends the object of a group with its first record, if there is one.
+fn put_found(
+    alloc: Global,
+    json: &mut Pretty,
+    placer: &Placer<'_>,
+    numbers: Numbers,
+    rec: Option<&Rec>,
+) -> Result<(), Memory>
+    ensures { OnOk result (json.new ≡ json.old ++ items_tokens_of
+        (items_by placer.now numbers (option_map (λ r. r.now) rec.entry))) }
+{
+    match rec {
+        Some(rec) => put_group(alloc, json, placer, numbers, counted_address(rec)),
+        None => Ok(()),
+    }
+}
+
+/// Returns the first of the records with these keys that has the key, if there is one.
+fn first_in<'a>(keys: &[u128], recs: &'a [Rec], key: u128) -> Option<&'a Rec>
+    ensures { option_map (λ r. r.now) result ≡ first_in keys.now recs.now key }
+{
+    recs.get(first_slot(keys, key))
+}
+
+/// Appends the object of a row, for which the records have these keys.
+fn put_row(
+    alloc: Global,
+    json: &mut Pretty,
+    placer: &Placer<'_>,
+    keys: &[u128],
+    recs: &[Rec],
+    row: &Row,
+) -> Result<(), Memory>
+    ensures { OnOk result (json.new ≡ json.old
+        ++ items_tokens_of (row_items placer.now keys.now recs.now row.now)) }
+{
+    put_found(
+        alloc,
+        json,
+        placer,
+        row.numbers,
+        first_in(keys, recs, row.key),
+    )
+}
+
+/// Appends the objects of some rows.
+fn put_rows(
+    alloc: Global,
+    json: &mut Pretty,
+    placer: &Placer<'_>,
+    keys: &[u128],
+    recs: &[Rec],
+    rows: &[Row],
+) -> Result<(), Memory>
+    ensures { OnOk result (json.new ≡ json.old
+        ++ rows_tokens placer.now keys.now recs.now rows.now) }
+{
+    for row in rows {
+        put_row(alloc, json, placer, keys, recs, row)?;
+    }
+    Ok(())
+}
+
+/// Returns `true` for the classes of addresses that an asmap can map.
+fn is_clearnet_class(class: Net) -> bool
+    ensures { result ≡ is_clearnet_class class }
+{
+    matches!(class, Net::Ipv4 | Net::Ipv6)
+}
+
+/// Returns `true` if the address of a record is one that an asmap can map.
+fn is_clearnet(rec: &Rec) -> bool
+    ensures { result ≡ is_clearnet rec.now }
+{
+    is_clearnet_class(rec.peer.addr.net_class())
+}
+
+/// Returns the AS number of a record's address, 0 if it has none.
+fn number_of(placer: &Placer<'_>, rec: &Rec) -> u128
+    ensures { result ≡ asn placer.now.map rec.now.peer.addr }
+{
+    u128::from(placer.asn(&rec.peer.addr))
+}
+
+/// Returns the AS numbers of the records whose addresses an asmap can map.
+fn clearnet_numbers(
+    alloc: Global,
+    placer: &Placer<'_>,
+    recs: &[Rec],
+) -> Result<Vec<u128>, AllocError>
+    ensures { IfOk result (λ numbers. numbers.items
+        ≡ map (λ r. asn placer.now.map r.peer.addr) (filter is_clearnet recs.now)) }
+{
+    recs.iter()
+        .filter(|rec| is_clearnet(rec))
+        .map(|rec| number_of(placer, rec))
+        .collect(alloc)
+}
+
+/// Appends how well the asmap covers the records with these AS numbers.
+#[tactic(auto, unfolding(crate::specs::Groups::health_members))]
+fn put_health<H: BuildHasher>(
+    alloc: Global,
+    hasher: &H,
+    json: &mut Pretty,
+    numbers: &[u128],
+) -> Result<(), Memory>
+    requires { length numbers.now ≤ 81920 }
+    ensures { OnOk result (json.new ≡ json.old ++ tokens_of (health_members numbers.now)) }
+{
+    let groups = count_groups(alloc, hasher, numbers)?;
+    put_number(json, "clearnet_peers", numbers.len() as u64)?;
+    put_number(json, "as_numbers", groups.len() as u64)?;
+    put_number(json, "unmapped", u64::from(occurrences(numbers, 0)))?;
+    Ok(())
+}
+
+/// Appends the member with the health of the asmap.
+fn put_asmap<H: BuildHasher>(
+    alloc: Global,
+    hasher: &H,
+    json: &mut Pretty,
+    numbers: &[u128],
+) -> Result<(), Memory>
+    requires { length numbers.now ≤ 81920 }
+    ensures { OnOk result (json.new ≡ json.old
+        ++ tokens_of ((codes "asmap", object_of (health_members numbers.now)) ∷ [])) }
+{
+    put_begin(json, "asmap")?;
+    put_health(alloc, hasher, json, numbers)?;
+    json.token(Token::EndObject)?;
+    Ok(())
+}
+
+/// Appends how many groups there are, and the numbers of all of them.
+#[tactic(auto, unfolding(crate::specs::Groups::totals_by))]
+fn put_numbers_of_all(
+    json: &mut Pretty,
+    groups: u64,
+    slots: u32,
+    records: u32,
+    tried: u32,
+) -> Result<(), AllocError>
+    ensures { OnOk result (json.new ≡ json.old ++ tokens_of (totals_by groups slots records tried)) }
+{
+    put_number(json, "groups", groups)?;
+    put_number(json, "new_slots", u64::from(slots))?;
+    put_number(json, "new_records", u64::from(records))?;
+    put_number(json, "tried_records", u64::from(tried))?;
+    Ok(())
+}
+
+/// Appends the member with the numbers of all groups, from the keys of the slots of the new table.
+fn put_totals(
+    json: &mut Pretty,
+    groups: u64,
+    keys: &[u128],
+    records: u32,
+    tried: u32,
+) -> Result<(), AllocError>
+    requires { length keys.now ≡ 65536 }
+    ensures { OnOk result (json.new ≡ json.old ++ tokens_of ((
+      codes "totals",
+      object_of
+          (totals_by groups (65536 - occurrences keys.now 0) records tried),
+    ) ∷ [])) }
+{
+    put_begin(json, "totals")?;
+    put_numbers_of_all(json, groups, 65536 - occurrences(keys, 0), records, tried)?;
+    json.token(Token::EndObject)?;
+    Ok(())
+}
+
+/// Appends the member with the groups.
+fn put_array(
+    alloc: Global,
+    json: &mut Pretty,
+    placer: &Placer<'_>,
+    recs: &[Rec],
+    rows: &[Row],
+) -> Result<(), Memory>
+    ensures { OnOk result (json.new ≡ json.old ++ tokens_of ((
+      codes "groups",
+      array_of
+          (flat_map (row_items placer.now (map (part_key placer.now Both) recs.now) recs.now)
+          rows.now),
+    ) ∷ [])) }
+{
+    let keys = record_keys(alloc, placer, recs, Part::Both)?;
+    json.token(Token::Key("groups"))?;
+    json.token(Token::BeginArray)?;
+    put_rows(alloc, json, placer, keys.as_slice(), recs, rows)?;
+    json.token(Token::EndArray)?;
+    Ok(())
+}
+
+/// Returns two lists of keys, one after the other.
+fn joined(alloc: Global, first: &[u128], second: &[u128]) -> Result<Vec<u128>, AllocError>
+    ensures keys { IfOk result (λ keys. keys.items ≡ first.now ++ second.now) }
+    ensures long { IfOk result (λ keys. length keys.items
+        ≡ length first.now + length second.now) }
+{
+    let mut keys = Vec::from_slice(alloc, first)?;
+    keys.extend_from_slice(second)?;
+    Ok(keys)
+}
+
+/// Returns the groups that have slots of the new table, of which these are the keys among those of
+/// all slots, or records of the tried one with these keys.
+fn groups_in<H: BuildHasher>(
+    alloc: Global,
+    hasher: &H,
+    slots: &[u128],
+    tried: &[u128],
+) -> Result<Vec<Counted>, Memory>
+    requires slots { length slots.now ≡ 81920 }
+    requires tried { length tried.now ≤ 81920 }
+    ensures { IfOk result (λ groups. groups.items
+        ≡ in_order (groups_of (in_new slots.now ++ tried.now))) }
+{
+    let keys = joined(alloc, new_keys(slots), tried)?;
+    let groups = count_groups(alloc, hasher, keys.as_slice())?;
+    Ok(in_order(alloc, groups.as_slice())?)
+}
+
+/// Returns the rows of the groups, from the keys of all slots and all records.
+fn rows_of<H: BuildHasher, G: BuildHasher>(
+    alloc: Global,
+    hasher: &G,
+    tables: &Tables<'_, H>,
+    slots: &[u128],
+    recs: &[Rec],
+) -> Result<Vec<Row>, Memory>
+    requires slots { slots.now ≡ slot_keys tables.now tables.now.places }
+    requires long { length slots.now ≡ 81920 }
+    requires recs { recs.now ≡ tables.now.records }
+    requires few { length recs.now ≤ 81920 }
+    ensures { IfOk result (λ rows. rows.items ≡ rows_of tables.now) }
+{
+    let new = record_keys(alloc, tables.placer(), recs, Part::New)?;
+    let tried = record_keys(alloc, tables.placer(), recs, Part::Tried)?;
+    let groups = groups_in(alloc, hasher, slots, tried.as_slice())?;
+    count_rows(
+        alloc,
+        hasher,
+        groups.as_slice(),
+        slots,
+        new.as_slice(),
+        tried.as_slice(),
+    )
+}
+
+/// Appends the members of the whole, from the keys of all slots and all records.
+fn put_members<H: BuildHasher, G: BuildHasher>(
+    alloc: Global,
+    hasher: &G,
+    json: &mut Pretty,
+    tables: &Tables<'_, H>,
+    slots: &[u128],
+    recs: &[Rec],
+) -> Result<(), Memory>
+    requires slots { slots.now ≡ slot_keys tables.now tables.now.places }
+    requires long { length slots.now ≡ 81920 }
+    requires recs { recs.now ≡ tables.now.records }
+    requires few { length recs.now ≤ 81920 }
+    ensures { OnOk result (json.new ≡ json.old ++ tokens_of (groups_members tables.now)) }
+{
+    let rows = rows_of(alloc, hasher, tables, slots, recs)?;
+    let numbers = clearnet_numbers(alloc, tables.placer(), recs)?;
+    let counts = tables.counts();
+    put_array(alloc, json, tables.placer(), recs, rows.as_slice())?;
+    put_totals(
+        json,
+        rows.len() as u64,
+        new_keys(slots),
+        counts.new_count,
+        counts.tried_count,
+    )?;
+    put_asmap(alloc, hasher, json, numbers.as_slice())?;
+    Ok(())
+}
+
+/// Returns the text of the groups of the tables.
+pub fn groups_text<L: Ledger, H: BuildHasher, G: BuildHasher>(
+    alloc: Global,
+    hasher: &G,
+    tables: &Tables<'_, H>,
+    steps: &mut Steps<L>,
+) -> Result<Vec<u8>, Memory>
+    ensures { IfOk result (λ text. IsJsonText (groups_json tables.now) text.items) }
+{
+    let recs = few_recs(tables, steps)?;
+    let slots = slot_keys(alloc, tables, tables.placer(), steps)?;
+    let mut json = Pretty::new(alloc);
+    json.token(Token::BeginObject)?;
+    put_members(
+        alloc,
+        hasher,
+        &mut json,
+        tables,
+        slots.as_slice(),
+        recs.items(),
+    )?;
+    json.token(Token::EndObject)?;
+    Ok(with_end(json)?)
+}
+
+/// Returns the records, of which there are at most as many as slots.
+fn few_recs<L: Ledger, H: BuildHasher>(
+    tables: &Tables<'_, H>,
+    steps: &mut Steps<L>,
+) -> Result<Recs, Memory>
+    ensures recs { IfOk result (λ recs. recs ≡ tables.now.records) }
+    ensures few { length tables.now.records ≤ 81920 }
+{
+    let _counts = tables.counts();
+    Ok(tables.recs(steps)?)
+}
