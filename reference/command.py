@@ -3,6 +3,7 @@
 import hashlib
 
 import bans
+import difference
 import help_texts
 import node_json
 import peers_file
@@ -23,7 +24,7 @@ from tables import Tables
 from text import MASK, Fault, read_digits, read_number
 
 MAXIMUM_GENERATED_LINES = 100_000
-COMMANDS = "replay opener limit show picture raw info groups compile decompile check lookup address ban unban banned bans gen trial help version"
+COMMANDS = "replay opener limit show picture raw info groups compile decompile diff check lookup address ban unban banned bans gen trial help version"
 IN_PLACE = {b"--help": b"help", b"-h": b"help", b"--version": b"version"}
 OPTIONS = {"replay": ("--key", "--net"), "opener": ("--key", "--net"), "show": ("--net",),
            "picture": ("--net",), "raw": ("--net",), "info": ("--net",),
@@ -68,6 +69,15 @@ def key_and_chain(options: dict[str, bytes]) -> tuple[bytes | None, str]:
     chains = {chain.encode(): chain for chain in peers_file.CHAINS}
     key = usage(read_digits(options["--key"], 32)) if "--key" in options else None
     return key, usage(chains.get(options.get("--net", b"main")))
+
+
+def peers_option(arguments: list[bytes]) -> str | None:
+    """The chain of the file of peers that `--peers` asks for, None without it."""
+    if not arguments:
+        return None
+    if arguments[0] != b"--peers":
+        usage()
+    return key_and_chain(read_options(arguments[1:], ("--net",)))[1]
 
 
 def looked_up(peer: Peer, asmap: Asmap) -> str:
@@ -127,6 +137,9 @@ class Run:
         method = getattr(self, name)
         if name == "help":
             self.help(*[usage(known.get(argument)) for argument in arguments[1:]])
+            return
+        if name == "diff":
+            self.diff(peers_option(arguments[1:]))
             return
         if name in OPTIONS:
             method(*key_and_chain(read_options(arguments[1:], OPTIONS[name])))
@@ -201,9 +214,9 @@ class Run:
             raise Stop(14, f"{name} is missing")
         return value
 
-    def asmap(self) -> Asmap | None:
+    def asmap(self, name: str = "asmap.dat", code: int = 5) -> Asmap | None:
         """The asmap of the folder, if there is one."""
-        return self.load("asmap.dat", MAXIMUM_ASMAP, 5, Asmap)
+        return self.load(name, MAXIMUM_ASMAP, code, Asmap)
 
     def peers(self, chain: str) -> peers_file.PeersFile | None:
         """What the folder's file of peers has, if there is one."""
@@ -257,6 +270,18 @@ class Run:
             raise Stop(17, f"asmap.dat has more than {prefixes.MAXIMUM_ROWS} rows")
         if rows:
             self.print("\n".join(prefixes.row_text(row) for row in rows))
+
+    def diff(self, chain: str | None):
+        old = self.needed(self.asmap("asmap.old", 18), "asmap.old")
+        new = self.needed(self.asmap(), "asmap.dat")
+        file = None if chain is None else self.needed(self.peers(chain), "peers.dat")
+        found = difference.changes(old.tree, new.tree)
+        if len(found) > difference.MAXIMUM_CHANGES:
+            raise Stop(19, f"asmap.old and asmap.dat differ in more than {difference.MAXIMUM_CHANGES} prefixes")
+        lines = difference.lines_of(found)
+        if file is not None:
+            lines += difference.group_changes(old, new, [record.peer for record in file.new + file.tried])
+        self.print("\n".join(lines))
 
     def lookup(self, argument: bytes):
         if argument == b"-":

@@ -6,8 +6,9 @@ left part, right part, default) or ("match", bits, tree, default).
 
 from typing import NamedTuple
 
-from addresses import IPV4_IN_IPV6
-from asmap import ADDRESS_BITS, Row
+from addresses import IPV4_IN_IPV6, Peer, peer_text
+from asmap import ADDRESS_BITS, Asmap, Row
+from places import group
 from prefixes import IPV4_LENGTH, MAXIMUM_ROWS, row_text
 
 MAXIMUM_CHANGES = MAXIMUM_ROWS
@@ -94,3 +95,13 @@ def lines_of(found: list[Change]) -> list[str]:
         counts[change.is_ipv4()] += 1 << ADDRESS_BITS - len(change.path)
     total = f"# {counts[True]} IPv4 addresses changed; {counts[False]} IPv6 addresses changed"
     return [change.line() for change in found] + [total]
+
+
+def group_changes(old: Asmap, new: Asmap, peers: list[Peer]) -> list[str]:
+    """A line for each of the peers whose group changes, and one of how many these are."""
+    lines = []
+    for peer in peers:
+        before, after = (group(peer.address, asmap).hex() for asmap in (old, new))
+        if before != after:
+            lines.append(f"# {peer_text(peer)} group {after} was {before}")
+    return [*lines, f"# {len(lines)} of {len(peers)} records change their group"]

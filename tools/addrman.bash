@@ -2,7 +2,7 @@
 
 _addrman() {
     local word=${COMP_WORDS[COMP_CWORD]} before=${COMP_WORDS[COMP_CWORD - 1]}
-    local commands="replay opener limit show picture raw info groups compile decompile check lookup address ban unban banned bans gen trial help version"
+    local commands="replay opener limit show picture raw info groups compile decompile diff check lookup address ban unban banned bans gen trial help version"
     local chains="main test signet regtest"
     if ((COMP_CWORD == 1)); then
         mapfile -t COMPREPLY < <(compgen -W "$commands" -- "$word")
@@ -21,6 +21,7 @@ _addrman() {
     case ${COMP_WORDS[1]} in
         replay | opener) mapfile -t COMPREPLY < <(compgen -W "--key --net" -- "$word") ;;
         show | picture | raw | info | groups) mapfile -t COMPREPLY < <(compgen -W "--net" -- "$word") ;;
+        diff) mapfile -t COMPREPLY < <(compgen -W "--peers --net" -- "$word") ;;
         help | --help | -h) mapfile -t COMPREPLY < <(compgen -W "$commands" -- "$word") ;;
     esac
 }

@@ -173,6 +173,7 @@ fn hint_of(
         Status::LogLine { line, .. } => return log_hint(alloc, facts, *line),
         Status::PeersRefused(fault) => refused_hint(alloc, fault, facts.again.head.as_slice())?,
         Status::AsmapRefused(fault) => asmap_hint(alloc, fault)?,
+        Status::OldAsmapRefused(fault) => asmap_hint(alloc, fault)?,
         Status::TableRefused(TablesFault::Rows(fault)) => {
             table_hint(alloc, fault, facts.again.rows())?
         }

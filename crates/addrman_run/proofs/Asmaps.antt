@@ -3,6 +3,7 @@ use Rattle.std.proofs.Common.{◌≡◌, ◌≤◌, List, ℕ, length, subst, sy
 use Rattle.std.specs.Prelude.{Option, Some, None, IfSome, MatchOption}
 use Rattle.bit_code.specs.declared.bits.TheConstants.{MAX_ASMAP}
 use Rattle.host_io.specs.Past.{Past}
+use Rattle.host_io.specs.declared.name.Name.{Name}
 use Rattle.host_io.specs.declared.name.Name.TheVariants as name
 use Rattle.asmap_vm.specs.Asmap.{Asmap}
 use Rattle.asmap_vm.specs.Code.{Tree, IsSaneFile}
@@ -11,7 +12,7 @@ use Rattle.asmap_vm.specs.declared.sane.Sane.{Sane}
 use Rattle.asmap_vm.specs.declared.fault.CodeFault.{CodeFault}
 use Rattle.asmap_vm.specs.declared.fault.CodeFault.TheVariants.{Insane}
 use Rattle.placing.specs.Inside.{asmap_of}
-use Rattle.addrman_run.specs.Asmaps.{IsMapIn, RefusesAsmap}
+use Rattle.addrman_run.specs.Asmaps.{IsMapAt, IsMapIn, RefusesAsmap}
 use Rattle.addrman_run.specs.InFolder.{IsAbsent, IsFileIn}
 use Rattle.addrman_run.specs.Inside.{IsMapOf, IsLoaded, IsNoMap}
 use Rattle.addrman_run.specs.Opening.{IsUnopened}
@@ -49,8 +50,13 @@ pub within : (past : Option Past) (loaded : Option (List ℕ)) →
 within past None found = tt
 within past (Some bytes) found = found.0
 
+-- the asmap that was checked is that of the file
+pub checked_at : (file : Name) (past : Option Past) (s : Sane) (bytes : List ℕ) → IsFileIn file MAX_ASMAP past bytes →
+    (bytes_held s ≡ bytes) × (length bytes ≤ MAX_ASMAP) × IsSaneFile (tree_held s) bytes → IsMapAt file past (asmap_of s)
+checked_at file past s bytes found sane =
+    (subst (IsFileIn file MAX_ASMAP past) (sym sane.0) found, subst (IsSaneFile (tree_held s)) (sym sane.0) sane.2)
+
 -- the asmap that was checked is the folder's
 pub checked : (past : Option Past) (s : Sane) (bytes : List ℕ) → IsLoaded input.Asmap past bytes →
     (bytes_held s ≡ bytes) × (length bytes ≤ MAX_ASMAP) × IsSaneFile (tree_held s) bytes → IsMapIn past (Some (asmap_of s))
-checked past s bytes found sane =
-    (subst (IsFileIn name.Asmap MAX_ASMAP past) (sym sane.0) found, subst (IsSaneFile (tree_held s)) (sym sane.0) sane.2)
+checked past s bytes found sane = checked_at name.Asmap past s bytes found sane

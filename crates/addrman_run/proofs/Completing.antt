@@ -272,6 +272,7 @@ done (request.Opener key chain) old new answer ends cause fine calm = opener_don
 done request.Compile old new answer ends cause fine calm = compile_done old new answer ends cause fine calm
 done request.Check old new answer ends cause fine calm = file_line_done _ _ _ old new answer ends cause fine calm
 done request.Decompile old new answer ends cause fine calm = file_line_done _ _ _ old new answer ends cause fine calm
+done (request.Diff peers) old new answer ends cause fine calm = text_done _ _ old new answer ends.ends cause fine calm
 done request.Limit old new answer ends cause fine calm = limit_done old new answer ends cause fine calm
 done (request.Lookup peer) old new answer ends cause fine calm = file_line_done _ _ _ old new answer ends cause fine calm
 done request.LookupLines old new answer ends cause fine calm = lookup_lines_done old new answer ends cause fine calm

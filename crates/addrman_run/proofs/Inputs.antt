@@ -30,6 +30,7 @@ not_loaded P file past status why absent disk memory large = elim why [
 too_large : (IsLine : Option Past → List ℕ → Type 0) (Refuses : Option Past → Status → Type 0) (file : Input) (past : Option Past) (written : Option (List ℕ)) (size : ℕ) →
     Refuses past (too_large_of file size) → FileLineText (name_of file) IsLine Refuses past written written (too_large_of file size)
 too_large IsLine Refuses input.Asmap past written size refused = (refused, refl)
+too_large IsLine Refuses input.AsmapOld past written size refused = (refused, refl)
 too_large IsLine Refuses input.Prefixes past written size refused = (refused, refl)
 too_large IsLine Refuses input.Peers past written size refused = (refused, refl)
 too_large IsLine Refuses input.Bans past written size refused = (refused, refl)

@@ -1,6 +1,7 @@
--- The folder's asmap.dat.
+-- The asmaps of the folder.
 use Rattle.std.specs.Prelude.{◌≡◌, ℕ, List, Option, Some, None}
 use Rattle.host_io.specs.Past.{Past}
+use Rattle.host_io.specs.declared.name.Name.{Name}
 use Rattle.host_io.specs.declared.name.Name.TheVariants as name
 use Rattle.asmap_vm.specs.Asmap.{Asmap, IsAsmap}
 use Rattle.bit_code.specs.declared.bits.TheConstants.{MAX_ASMAP}
@@ -11,15 +12,24 @@ use Rattle.addrman_run.specs.InFolder.{IsFileIn, IsAbsent, IsTooLarge}
 use Rattle.addrman_run.specs.declared.status.Status.{Status}
 use Rattle.addrman_run.specs.declared.status.Status.TheVariants.{AsmapRefused}
 
+-- the asmap in a file of the folder
+abbrev pub IsMapAt : Name → Option Past → Asmap → Type 0
+IsMapAt file past m = IsFileIn file MAX_ASMAP past m.file × IsAsmap m
+
 -- the asmap of the folder's asmap.dat, none if there is no such file
 abbrev pub IsMapIn : Option Past → Option Asmap → Type 0
 IsMapIn past None = IsAbsent name.Asmap past
-IsMapIn past (Some m) = IsFileIn name.Asmap MAX_ASMAP past m.file × IsAsmap m
+IsMapIn past (Some m) = IsMapAt name.Asmap past m
 
--- why asmap.dat is refused: it is too large, or its bytes are the file of no sane tree
+-- why a file is refused as an asmap: it is too large, or its bytes are the file of no sane tree
+abbrev pub RefusesMapAt : Name → Option Past → CodeFault → Type 0
+RefusesMapAt file past (TooLarge size) = IsTooLarge file MAX_ASMAP past size
+RefusesMapAt file past Insane =
+    (bytes : List ℕ) × IsFileIn file MAX_ASMAP past bytes × ((t : Tree) → ¬ IsSaneFile t bytes)
+
+-- why asmap.dat is refused
 abbrev pub RefusesAsmap : Option Past → CodeFault → Type 0
-RefusesAsmap past (TooLarge size) = IsTooLarge name.Asmap MAX_ASMAP past size
-RefusesAsmap past Insane = (bytes : List ℕ) × IsFileIn name.Asmap MAX_ASMAP past bytes × ((t : Tree) → ¬ IsSaneFile t bytes)
+RefusesAsmap past fault = RefusesMapAt name.Asmap past fault
 
 -- a line about the folder's asmap
 abbrev pub IsAsmapLine : (Asmap → List ℕ) → Option Past → List ℕ → Type 0

@@ -20,6 +20,7 @@ use Rattle.session.specs.History.{failed}
 use Rattle.addrman_run.specs.Asmaps.{ReportsAsmap}
 use Rattle.addrman_run.specs.Bans.{ReportsBans}
 use Rattle.addrman_run.specs.Decompile.{ReportsDecompile}
+use Rattle.addrman_run.specs.Diff.{ReportsDiff}
 use Rattle.addrman_run.specs.InFolder.{IsAbsent}
 use Rattle.addrman_run.specs.LookupLines.{IsPeerLine}
 use Rattle.addrman_run.specs.Opening.{ReportsOpening}
@@ -29,7 +30,7 @@ use Rattle.addrman_run.specs.Tables.{ReportsTable}
 use Rattle.arguments.specs.declared.request.Request.{Request}
 use Rattle.arguments.specs.declared.request.Request.TheVariants.{Show, Picture, Raw, Info, Groups}
 use Rattle.arguments.specs.declared.request.Request.TheVariants.{Replay, Opener, Compile, Check, Lookup, LookupLines, Address}
-use Rattle.arguments.specs.declared.request.Request.TheVariants.{Decompile, Limit}
+use Rattle.arguments.specs.declared.request.Request.TheVariants.{Decompile, Diff, Limit}
 use Rattle.arguments.specs.declared.request.Request.TheVariants.{Ban, Unban, Banned, Bans}
 use Rattle.addrman_run.specs.declared.status.Status.{Status}
 use Rattle.addrman_run.specs.declared.status.Status.TheVariants.{Done, Memory}
@@ -80,6 +81,7 @@ NothingIsWrong (Opener key chain) at = IsGoodLog IsOpenerLine at.left × NoRefus
 NothingIsWrong Compile at = IsUsable name.Prefixes ReportsTable at.past
 NothingIsWrong Check at = IsUsable name.Asmap ReportsAsmap at.past
 NothingIsWrong Decompile at = IsUsable name.Asmap ReportsDecompile at.past
+NothingIsWrong (Diff peers) at = NoRefusal (ReportsDiff peers at.past)
 NothingIsWrong Limit at = IsGoodLog IsLimitLine at.left
 NothingIsWrong (Lookup peer) at = IsUsable name.Asmap ReportsAsmap at.past
 NothingIsWrong LookupLines at = IsGoodLog IsLookupLine at.left × IsUsable name.Asmap ReportsAsmap at.past

@@ -18,6 +18,7 @@ use Rattle.ban_list.specs.declared.fault.BanFault.TheVariants as ban
 use Rattle.ban_list.specs.declared.read_file.TheConstants as bans
 use Rattle.addrman_run.specs.Asmaps.{ReportsAsmap}
 use Rattle.addrman_run.specs.Bans.{AreBansIn, RefusesBans, Change}
+use Rattle.addrman_run.specs.Diff.{AsksRecords, RefusesRecords, ReportsDiff}
 use Rattle.addrman_run.specs.Compile.{IsCompiled, IsInPlace, compile_text}
 use Rattle.addrman_run.specs.InFolder.{IsFileIn, IsAbsent, IsTooLarge}
 use Rattle.addrman_run.specs.Tables.{RefusesTable}
@@ -42,12 +43,13 @@ use Rattle.peers_file.specs.declared.chain.Chain.{Chain}
 use Rattle.table_machine.specs.State.{State, empty_state}
 use Rattle.table_machine.specs.Restoring.{duplicate}
 use Rattle.addrman_run.specs.declared.status.Status.{Status}
-use Rattle.addrman_run.specs.declared.status.Status.TheVariants.{PeersRefused, BansRefused}
+use Rattle.addrman_run.specs.declared.status.Status.TheVariants.{PeersRefused, BansRefused, OldAsmapRefused}
 use Rattle.addrman_run.specs.declared.status.Status.TheVariants.{Done, LogLine, LineTooLong, LogTooLong, AsmapRefused, TableRefused, ReadFault, WriteFault, DiskFault, Memory, NoFile, NoKey}
 
 -- the name of a file that commands load
 abbrev pub name_of : Input → Name
 name_of input.Asmap = name.Asmap
+name_of input.AsmapOld = name.AsmapOld
 name_of input.Prefixes = name.Prefixes
 name_of input.Peers = name.Peers
 name_of input.Bans = name.Bans
@@ -55,6 +57,7 @@ name_of input.Bans = name.Bans
 -- the maximum size of it in bytes
 abbrev pub max_of : Input → ℕ
 max_of input.Asmap = MAX_ASMAP
+max_of input.AsmapOld = MAX_ASMAP
 max_of input.Prefixes = MAX_TEXT
 max_of input.Peers = MAX_FILE
 max_of input.Bans = bans.MAX_FILE
@@ -62,6 +65,7 @@ max_of input.Bans = bans.MAX_FILE
 -- the status for a file of more bytes
 abbrev pub too_large_of : Input → ℕ → Status
 too_large_of input.Asmap size = AsmapRefused (code.TooLarge size)
+too_large_of input.AsmapOld size = OldAsmapRefused (code.TooLarge size)
 too_large_of input.Prefixes size = TableRefused (Rows (table.TooLarge size))
 too_large_of input.Peers size = PeersRefused (File (peers.TooLarge size))
 too_large_of input.Bans size = BansRefused (ban.TooLarge size)
@@ -158,6 +162,21 @@ abbrev pub IsNoMap : Option Past → Status → Type 0
 IsNoMap past DiskFault = ⊤
 IsNoMap past Memory = ⊤
 IsNoMap past other = ReportsAsmap past other
+
+-- Why there are no lines about two asmaps, by the status. HasCause says why the folder fails.
+abbrev pub IsNoDifference : Option Chain → Option Past → Status → Type 0
+IsNoDifference peers past DiskFault = ⊤
+IsNoDifference peers past Memory = ⊤
+IsNoDifference peers past other = ReportsDiff peers past other
+
+-- why there are no lines about the records of peers.dat
+abbrev pub IsNoRecords : Option Chain → Option Past → Status → Type 0
+IsNoRecords peers past DiskFault = ⊤
+IsNoRecords peers past Memory = ⊤
+IsNoRecords peers past (NoFile file) =
+    (file ≡ name.Peers) × AsksRecords peers × IsAbsent name.Peers past
+IsNoRecords peers past (PeersRefused fault) = RefusesRecords peers past fault
+IsNoRecords peers past other = ⊥
 
 -- why the bytes of banlist.json are not read: memory ran out, or their fault
 abbrev pub IsNoList : List ℕ → Status → Type 0

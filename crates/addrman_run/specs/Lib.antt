@@ -15,6 +15,7 @@ pub mod LookupLines
 pub mod Address
 pub mod Check
 pub mod Decompile
+pub mod Diff
 pub mod Compile
 pub mod Bans
 pub mod Show
@@ -22,6 +23,7 @@ pub mod Picture
 pub mod TablesJson
 pub mod TextOut
 pub mod Generate
+pub mod GroupChanges
 pub mod Opening
 pub mod Trial
 pub mod Outcome

@@ -8,6 +8,7 @@ use Rattle.addrman_run.specs.LookupLines.{LookupLinesEnds}
 use Rattle.addrman_run.specs.Address.{AddressEnds}
 use Rattle.addrman_run.specs.Check.{CheckEnds}
 use Rattle.addrman_run.specs.Decompile.{DecompileEnds}
+use Rattle.addrman_run.specs.Diff.{DiffEnds}
 use Rattle.addrman_run.specs.Compile.{CompileEnds}
 use Rattle.addrman_run.specs.Limit.{LimitEnds}
 use Rattle.addrman_run.specs.Opener.{OpenerEnds}
@@ -22,7 +23,7 @@ use Rattle.addrman_run.specs.Bans.{BansEnds, ban_change, unban_change, banned_ch
 use Rattle.arguments.specs.declared.request.Request.{Request}
 use Rattle.arguments.specs.declared.request.Request.TheVariants.{Show, Picture, Raw, Info, Groups}
 use Rattle.arguments.specs.declared.request.Request.TheVariants.{Replay, Opener, Compile, Check, Lookup, LookupLines, Address}
-use Rattle.arguments.specs.declared.request.Request.TheVariants.{Decompile, Limit}
+use Rattle.arguments.specs.declared.request.Request.TheVariants.{Decompile, Diff, Limit}
 use Rattle.arguments.specs.declared.request.Request.TheVariants.{Ban, Unban, Banned, Bans}
 use Rattle.arguments.specs.declared.request.Request.TheVariants.{Gen, Trial, Help, Version}
 use Rattle.addrman_run.specs.declared.status.Status.{Status}
@@ -35,6 +36,7 @@ Ends (Opener key chain) old new answer = OpenerEnds key chain old new answer
 Ends Compile old new answer = CompileEnds old new answer
 Ends Check old new answer = CheckEnds old new answer
 Ends Decompile old new answer = DecompileEnds old new answer
+Ends (Diff peers) old new answer = DiffEnds peers old new answer
 Ends Limit old new answer = LimitEnds old new answer
 Ends (Lookup peer) old new answer = LookupEnds peer old new answer
 Ends LookupLines old new answer = LookupLinesEnds old new answer

@@ -17,7 +17,7 @@ use Rattle.addrman_run.specs.declared.status.Status.{Status}
 use Rattle.addrman_run.specs.declared.status.Status.TheVariants.{PeersRefused}
 use Rattle.addrman_run.specs.declared.status.Status.TheVariants.{Done, Usage, LogLine, AsmapRefused, TableRefused, ReadFault, WriteFault, DiskFault, LogTooLong, NoKey, Memory, LineTooLong, NoFile}
 use Rattle.addrman_run.specs.declared.status.Status.TheVariants.{TooManyRows}
-use Rattle.addrman_run.specs.declared.status.Status.TheVariants.{BansRefused}
+use Rattle.addrman_run.specs.declared.status.Status.TheVariants.{BansRefused, OldAsmapRefused, TooManyChanges}
 
 -- the exit code of the process
 abbrev pub code_of : Status → ℕ
@@ -37,6 +37,8 @@ code_of (LineTooLong line) = 13
 code_of (NoFile name) = 14
 code_of (BansRefused fault) = 16
 code_of TooManyRows = 17
+code_of (OldAsmapRefused fault) = 18
+code_of TooManyChanges = 19
 
 abbrev pub file_fault_text : FileFault → List ℕ
 file_fault_text file.Truncated = codes "truncated"
@@ -83,6 +85,8 @@ reason_of (LineTooLong n) = codes "log line " ++ decimal n ++ codes ": too long"
 reason_of (NoFile name) = file_name_of name ++ codes " is missing"
 reason_of (BansRefused fault) = codes "banlist.json refused: " ++ ban_fault_text fault
 reason_of TooManyRows = codes "asmap.dat has more than 2000000 rows"
+reason_of (OldAsmapRefused fault) = codes "asmap.old refused: " ++ code_fault_text fault
+reason_of TooManyChanges = codes "asmap.old and asmap.dat differ in more than 2000000 prefixes"
 
 abbrev pub line_of : List ℕ → List ℕ
 line_of reason = codes "addrman: " ++ reason ++ codes "\n"

@@ -19,6 +19,7 @@ use std::alloc::Global;
 #[derive(Clone, Copy)]
 pub(crate) enum Input {
     Asmap,
+    AsmapOld,
     Prefixes,
     Peers,
     Bans,
@@ -31,6 +32,7 @@ impl Input {
     {
         match self {
             Input::Asmap => Name::Asmap,
+            Input::AsmapOld => Name::AsmapOld,
             Input::Prefixes => Name::Prefixes,
             Input::Peers => Name::Peers,
             Input::Bans => Name::Bans,
@@ -43,6 +45,7 @@ impl Input {
     {
         match self {
             Input::Asmap => MAX_ASMAP as u64,
+            Input::AsmapOld => MAX_ASMAP as u64,
             Input::Prefixes => MAX_TEXT as u64,
             Input::Peers => MAX_FILE as u64,
             Input::Bans => ban_list::MAX_FILE as u64,
@@ -55,6 +58,7 @@ impl Input {
     {
         match self {
             Input::Asmap => Status::AsmapRefused(CodeFault::TooLarge { size }),
+            Input::AsmapOld => Status::OldAsmapRefused(CodeFault::TooLarge { size }),
             Input::Prefixes => {
                 Status::TableRefused(TablesFault::Rows(TableFault::TooLarge { size }))
             }

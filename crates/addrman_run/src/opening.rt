@@ -29,7 +29,7 @@ use tables::{RestoreFault, Tables};
 const MAX_RECORDS: u64 = 81_920;
 
 /// Reads the bytes of peers.dat.
-fn read_peers(alloc: Global, bytes: &[u8], chain: Chain) -> Result<Snapshot, Status>
+pub(crate) fn read_peers(alloc: Global, bytes: &[u8], chain: Chain) -> Result<Snapshot, Status>
     ensures found { IfOk result (IsFile chain bytes.now) }
     ensures cause { IfErr result (IsNoSnapshot chain bytes.now) }
 {

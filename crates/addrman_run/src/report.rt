@@ -30,6 +30,8 @@ pub fn code(status: &Status) -> u8
         Status::NoFile { .. } => 14,
         Status::BansRefused(_) => 16,
         Status::TooManyRows => 17,
+        Status::OldAsmapRefused(_) => 18,
+        Status::TooManyChanges => 19,
     }
 }
 
@@ -159,6 +161,15 @@ fn reason(alloc: Global, status: &Status) -> Result<Vec<u8>, Memory>
         Status::NoFile { name } => joined(alloc, name.file_name().as_bytes(), b" is missing"),
         Status::BansRefused(fault) => joined(alloc, b"banlist.json refused: ", fault.word()),
         Status::TooManyRows => owned(alloc, b"asmap.dat has more than 2000000 rows"),
+        Status::OldAsmapRefused(fault) => joined(
+            alloc,
+            b"asmap.old refused: ",
+            code_fault_word(fault),
+        ),
+        Status::TooManyChanges => owned(
+            alloc,
+            b"asmap.old and asmap.dat differ in more than 2000000 prefixes",
+        ),
     }
 }
 

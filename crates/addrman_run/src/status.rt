@@ -42,4 +42,9 @@ pub enum Status {
     TooManyRows,
     /// banlist.json is too large, or no file of a list of bans.
     BansRefused(BanFault),
+    /// asmap.old is too large, or no file of a sane tree.
+    OldAsmapRefused(CodeFault),
+    /// More prefixes than a table may have rows have one number in asmap.old and another one in
+    /// asmap.dat.
+    TooManyChanges,
 }

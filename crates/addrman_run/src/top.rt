@@ -12,6 +12,7 @@ use crate::bans::{BanSubnet, FindBan, ListBans, UnbanSubnet, change_bans};
 use crate::check::Check;
 use crate::compile::compile_table;
 use crate::decompile::Decompile;
+use crate::diff::diff;
 use crate::file_line::write_file_line;
 use crate::generate::generate;
 use crate::help::{help, version};
@@ -37,7 +38,10 @@ use std::hash::BuildHasher;
 /// a log whose lines open, test and close outbound connections in place of saving, and changes no
 /// file. `compile` compiles the folder's prefixes.txt into asmap.dat, `check` checks asmap.dat,
 /// `decompile` writes the table of prefixes that it encodes, and `lookup PEER` writes the AS number
-/// and the group that it gives the peer's address, `lookup -` those of each peer of the log. `address TEXT` writes what is known of an address. `limit` carries out the lines of the log under
+/// and the group that it gives the peer's address, `lookup -` those of each peer of the log.
+/// `address TEXT` writes what is known of an address. `diff` writes the prefixes whose number differs
+/// between asmap.old and asmap.dat, and `diff --peers --net CHAIN` also which records of peers.dat
+/// change their group. `limit` carries out the lines of the log under
 /// the limit on received addresses, and writes the log that is left. `show --net CHAIN` lists what
 /// peers.dat has, `raw --net CHAIN` prints its records by their slots, and `info --net CHAIN` how
 /// many each network has, and `groups --net CHAIN` how many each group, all as JSON. `ban SUBNET NOW UNTIL` and `unban SUBNET` change the list of bans in
@@ -91,6 +95,7 @@ fn carry_out<L: Source, F: Folder, K: Sink, H: BuildHasher + Drop>(
         Request::Compile => compile_table(alloc, folder, out),
         Request::Check => write_file_line(alloc, &Check, folder, out),
         Request::Decompile => write_file_line(alloc, &Decompile, folder, out),
+        Request::Diff { peers } => diff(alloc, peers, folder, out),
         Request::Limit => limit(alloc, hasher, log, out),
         Request::Lookup { peer } => write_file_line(alloc, &Lookup { peer }, folder, out),
         Request::LookupLines => lookup_lines(alloc, log, folder, out),

@@ -21,14 +21,14 @@ use Rattle.net_addr.specs.Address.{Address as NetAddress}
 use Rattle.net_addr.specs.Text.{IsPeerText}
 use Rattle.net_addr.specs.declared.peer.Peer.{Peer}
 use Rattle.peers_file.specs.declared.chain.Chain.{Chain}
-use Rattle.arguments.specs.Options.{IsNet, IsOpeningOptions}
-use Rattle.arguments.specs.Table.{Asks, Fields, Form, HasNoValues, IsProperRequest, Network, OfAddress, OfCommand, OfSubnet, Opening, PeerOrLines, Period, Reads, TheAddress, TheChain, TheCommand, TheFields, TheOpening, ThePeriod, TheSubnet, Values, form_of, name_of, plain_word, values_of, word_of}
+use Rattle.arguments.specs.Options.{IsNet, IsOpeningOptions, IsPeersOption}
+use Rattle.arguments.specs.Table.{Asks, Fields, Form, HasNoValues, IsProperRequest, Network, OfAddress, OfCommand, OfSubnet, Opening, PeerOrLines, Period, Reads, Records, TheAddress, TheChain, TheCommand, TheFields, TheOpening, ThePeriod, TheRecords, TheSubnet, Values, form_of, name_of, plain_word, values_of, word_of}
 use Rattle.arguments.specs.declared.name.CommandName.{CommandName}
 use Rattle.arguments.specs.declared.name.CommandName.TheVariants as name
 use Rattle.arguments.specs.declared.name.TheConstants.{NAMES}
 use Rattle.arguments.specs.declared.request.Request.{Request}
-use Rattle.arguments.specs.declared.request.Request.TheVariants.{Replay, Opener, Compile, Check, Decompile, Limit, Lookup, LookupLines, Address, Show, Picture, Raw, Info, Groups, Ban, Unban, Banned, Bans, Gen, Trial, Help, Version}
-use Rattle.arguments.proofs.Choosing.{one_net, one_opening}
+use Rattle.arguments.specs.declared.request.Request.TheVariants.{Replay, Opener, Compile, Check, Decompile, Diff, Limit, Lookup, LookupLines, Address, Show, Picture, Raw, Info, Groups, Ban, Unban, Banned, Bans, Gen, Trial, Help, Version}
+use Rattle.arguments.proofs.Choosing.{one_net, one_opening, one_peers}
 use Rattle.arguments.proofs.Names.{name_found, one_command}
 
 -- THE VALUES
@@ -72,6 +72,7 @@ one_values Opening texts v w is h k =
     let same = one_opening texts h.0 k.0 h.1 k.1 h.3 k.3 in
     h.2 ∙ (λ i. TheOpening (same.0 i) (same.1 i)) ∙ sym k.2
 one_values Network texts v w is h k = h.1 ∙ ap TheChain (one_net texts h.0 k.0 h.2 k.2) ∙ sym k.1
+one_values Records texts v w is h k = h.1 ∙ ap TheRecords (one_peers texts h.0 k.0 h.2 k.2) ∙ sym k.1
 one_values OfSubnet texts v w is h k =
     let same = ap (λ ts. get_or ts 0 []) (sym h.3 ∙ k.3) in
     h.2 ∙ ap TheSubnet (one_subnet k.0 h.1 k.1 (subst (λ t. IsSubnetText t h.1) same h.4) k.4) ∙ sym k.2
@@ -93,6 +94,7 @@ request_by name.Replay (TheOpening key chain) = Replay key chain
 request_by name.Opener (TheOpening key chain) = Opener key chain
 request_by name.Check values = Check
 request_by name.Decompile values = Decompile
+request_by name.Diff (TheRecords peers) = Diff peers
 request_by name.Limit values = Limit
 request_by name.Lookup (TheFields (ThePeer peer ∷ [])) = Lookup peer
 request_by name.Lookup (TheFields []) = LookupLines
@@ -280,3 +282,15 @@ pub no_net : (texts : List (List ℕ)) (r : Option Chain) → ((chain : Chain) �
 unfolding HasNoValues
 no_net texts None only = λ v reads. none-some reads.0 (only reads.0 reads.2)
 no_net texts (Some c) only = tt
+
+pub no_records : (texts : List (List ℕ)) (r : Option Chain) → (texts ≡ [] → ⊥) → ((chain : Chain) → IsPeersOption texts (Some chain) → r ≡ Some chain) → r ≡ None → HasNoValues Records texts
+unfolding HasNoValues
+no_records texts r some only none v reads = by reads.0 reads.2
+  where
+    by : (peers : Option Chain) → IsPeersOption texts peers → ⊥
+    by None is = some is
+    by (Some chain) is = none-some chain (sym none ∙ only chain is)
+
+pub only_after_peers : (texts : List (List ℕ)) (word : List ℕ) (rest : List (List ℕ)) (r : Option Chain) → texts ≡ word ∷ rest → ((chain : Chain) → IsNet rest chain → r ≡ Some chain) →
+    (chain : Chain) → IsPeersOption texts (Some chain) → r ≡ Some chain
+only_after_peers texts word rest r is only chain asks = only chain (subst (λ ts. IsNet ts chain) (ap (drop 1) (sym asks.1 ∙ is)) asks.2)

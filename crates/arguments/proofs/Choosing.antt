@@ -5,7 +5,7 @@ use Rattle.std.specs.Result.{result_ok}
 use Rattle.std.proofs.lemmas.List.{append_cancel_left, length-append}
 use Rattle.peers_file.specs.declared.chain.Chain.{Chain}
 use Rattle.peers_file.specs.declared.chain.Chain.TheVariants.{Main, Test, Signet, Regtest}
-use Rattle.arguments.specs.Options.{IsKey, IsOption, IsNet, IsKeyOption, IsOpeningOptions, chain_name}
+use Rattle.arguments.specs.Options.{IsKey, IsOption, IsNet, IsKeyOption, IsOpeningOptions, IsPeersOption, chain_name}
 
 -- the words begin with an option, in two words or in one, and go on with the rest
 abbrev Begins : List ℕ → List ℕ → List (List ℕ) → List (List ℕ) → Type 0
@@ -181,6 +181,13 @@ one_net texts a b (inl h) (inl k) = h.1 ∙ sym k.1
 one_net texts a b (inl h) (inr k) = absurd (omega (arith, third_of_none texts h.0, third_of_net (chain_name b) [] texts k))
 one_net texts a b (inr h) (inl k) = absurd (omega (arith, third_of_none texts k.0, third_of_net (chain_name a) [] texts h))
 one_net texts a b (inr h) (inr k) = one_chain a b (same_start (codes "--net") (chain_name a) (chain_name b) [] [] texts h k).0
+
+-- or the records of one file, or none
+pub one_peers : (texts : List (List ℕ)) (a b : Option Chain) → IsPeersOption texts a → IsPeersOption texts b → a ≡ b
+one_peers texts None None h k = refl
+one_peers texts None (Some b) h k = absurd (omega (arith, ap length (sym h ∙ k.1)))
+one_peers texts (Some a) None h k = absurd (omega (arith, ap length (sym k ∙ h.1)))
+one_peers texts (Some a) (Some b) h k = ap Some (one_net k.0 a b (subst (λ ts. IsNet ts a) (ap (drop 1) (sym h.1 ∙ k.1)) h.2) k.2)
 
 -- or one key
 one_key_option : (texts : List (List ℕ)) (k l : Option (List ℕ)) → IsKeyOption texts k → IsKeyOption texts l → k ≡ l

@@ -31,6 +31,7 @@ page_of name.Info = page_in pages.INFO
 page_of name.Groups = page_in pages.GROUPS
 page_of name.Compile = page_in pages.COMPILE
 page_of name.Decompile = page_in pages.DECOMPILE
+page_of name.Diff = page_in pages.DIFF
 page_of name.Check = page_in pages.CHECK
 page_of name.Lookup = page_in pages.LOOKUP
 page_of name.Address = page_in pages.ADDRESS

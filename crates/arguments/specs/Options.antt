@@ -23,6 +23,12 @@ chain_name Regtest = codes "regtest"
 abbrev pub IsNet : List (List ℕ) → Chain → Type 0
 IsNet options chain = ((options ≡ []) × (chain ≡ Main)) ⊎ IsOption (codes "--net") (chain_name chain) options
 
+-- the arguments ask for the records of a file of this chain, or for none
+abbrev pub IsPeersOption : List (List ℕ) → Option Chain → Type 0
+IsPeersOption options None = options ≡ []
+IsPeersOption options (Some chain) =
+    (rest : List (List ℕ)) × (options ≡ codes "--peers" ∷ rest) × IsNet rest chain
+
 -- the arguments choose a key, or none
 abbrev pub IsKeyOption : List (List ℕ) → Option (List ℕ) → Type 0
 IsKeyOption options None = options ≡ []

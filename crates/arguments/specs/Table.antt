@@ -10,11 +10,11 @@ use Rattle.names.specs.Text.{IsTextOf}
 use Rattle.net_addr.specs.Address.{Address as NetAddress}
 use Rattle.net_addr.specs.declared.peer.Peer.{Peer}
 use Rattle.peers_file.specs.declared.chain.Chain.{Chain}
-use Rattle.arguments.specs.Options.{IsNet, IsOpeningOptions}
+use Rattle.arguments.specs.Options.{IsNet, IsOpeningOptions, IsPeersOption}
 use Rattle.arguments.specs.declared.name.CommandName.{CommandName}
 use Rattle.arguments.specs.declared.name.CommandName.TheVariants as name
 use Rattle.arguments.specs.declared.request.Request.{Request}
-use Rattle.arguments.specs.declared.request.Request.TheVariants.{Replay, Opener, Compile, Check, Decompile, Limit, Lookup, LookupLines, Address, Show, Picture, Raw, Info, Groups, Ban, Unban, Banned, Bans, Gen, Trial, Help, Version}
+use Rattle.arguments.specs.declared.request.Request.TheVariants.{Replay, Opener, Compile, Check, Decompile, Diff, Limit, Lookup, LookupLines, Address, Show, Picture, Raw, Info, Groups, Ban, Unban, Banned, Bans, Gen, Trial, Help, Version}
 
 -- THE NAME
 
@@ -30,6 +30,7 @@ word_of name.Info = codes "info"
 word_of name.Groups = codes "groups"
 word_of name.Compile = codes "compile"
 word_of name.Decompile = codes "decompile"
+word_of name.Diff = codes "diff"
 word_of name.Check = codes "check"
 word_of name.Lookup = codes "lookup"
 word_of name.Address = codes "address"
@@ -58,12 +59,14 @@ NameCommand texts None = texts ≡ []
 NameCommand texts (Some name) = texts ≡ word_of name ∷ []
 
 -- What comes after the name of a command: fields of these kinds; the options `--key` and `--net`;
--- `--net` alone; a subnet; a subnet and two times, of which the first is the earlier one; the name of
--- a command or nothing; a peer or `-`; or what people write for an address.
+-- `--net` alone; `--peers` and `--net`, or nothing; a subnet; a subnet and two times, of which the
+-- first is the earlier one; the name of a command or nothing; a peer or `-`; or what people write
+-- for an address.
 pub data Form : Type 0 where
   Fields : List Kind → Form
   Opening : Form
   Network : Form
+  Records : Form
   OfSubnet : Form
   Period : Form
   OfCommand : Form
@@ -75,6 +78,7 @@ pub data Values : Type 0 where
   TheFields : List Value → Values
   TheOpening : Option (List ℕ) → Chain → Values
   TheChain : Chain → Values
+  TheRecords : Option Chain → Values
   TheSubnet : Subnet → Values
   ThePeriod : Subnet → ℕ → ℕ → Values
   TheCommand : Option CommandName → Values
@@ -86,6 +90,7 @@ Reads (Fields kinds) texts v = (values : List Value) × (v ≡ TheFields values)
 Reads Opening texts v =
     (key : Option (List ℕ)) × (chain : Chain) × (v ≡ TheOpening key chain) × IsOpeningOptions texts key chain
 Reads Network texts v = (chain : Chain) × (v ≡ TheChain chain) × IsNet texts chain
+Reads Records texts v = (peers : Option Chain) × (v ≡ TheRecords peers) × IsPeersOption texts peers
 Reads OfSubnet texts v =
     (text : List ℕ) × (subnet : Subnet) × (v ≡ TheSubnet subnet) × (texts ≡ text ∷ []) × IsSubnetText text subnet
 Reads Period texts v =
@@ -114,6 +119,7 @@ form_of name.Picture = Network
 form_of name.Raw = Network
 form_of name.Info = Network
 form_of name.Groups = Network
+form_of name.Diff = Records
 form_of name.Ban = Period
 form_of name.Unban = OfSubnet
 form_of name.Banned = Fields (OfPeer ∷ Number 0 max_time ∷ [])
@@ -130,6 +136,7 @@ name_of (Opener key chain) = name.Opener
 name_of Compile = name.Compile
 name_of Check = name.Check
 name_of Decompile = name.Decompile
+name_of (Diff peers) = name.Diff
 name_of Limit = name.Limit
 name_of (Lookup peer) = name.Lookup
 name_of LookupLines = name.Lookup
@@ -159,6 +166,7 @@ values_of (Picture chain) = TheChain chain
 values_of (Raw chain) = TheChain chain
 values_of (Info chain) = TheChain chain
 values_of (Groups chain) = TheChain chain
+values_of (Diff peers) = TheRecords peers
 values_of (Ban subnet now until) = ThePeriod subnet now until
 values_of (Unban subnet) = TheSubnet subnet
 values_of (Banned peer now) = TheFields (ThePeer peer ∷ TheNumber now ∷ [])

@@ -19,6 +19,7 @@ pub enum CommandName {
     Groups,
     Compile,
     Decompile,
+    Diff,
     Check,
     Lookup,
     Address,
@@ -33,7 +34,7 @@ pub enum CommandName {
 }
 
 /// All names, each once, in the order in which the help lists them.
-pub const NAMES: [CommandName; 21] = [
+pub const NAMES: [CommandName; 22] = [
     CommandName::Replay,
     CommandName::Opener,
     CommandName::Limit,
@@ -44,6 +45,7 @@ pub const NAMES: [CommandName; 21] = [
     CommandName::Groups,
     CommandName::Compile,
     CommandName::Decompile,
+    CommandName::Diff,
     CommandName::Check,
     CommandName::Lookup,
     CommandName::Address,
@@ -72,6 +74,7 @@ impl Keyword for CommandName {
             CommandName::Groups => b"groups",
             CommandName::Compile => b"compile",
             CommandName::Decompile => b"decompile",
+            CommandName::Diff => b"diff",
             CommandName::Check => b"check",
             CommandName::Lookup => b"lookup",
             CommandName::Address => b"address",
@@ -105,6 +108,7 @@ impl CommandName {
             CommandName::Groups => pages::GROUPS,
             CommandName::Compile => pages::COMPILE,
             CommandName::Decompile => pages::DECOMPILE,
+            CommandName::Diff => pages::DIFF,
             CommandName::Check => pages::CHECK,
             CommandName::Lookup => pages::LOOKUP,
             CommandName::Address => pages::ADDRESS,

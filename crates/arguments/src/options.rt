@@ -1,7 +1,7 @@
 ghost use Rattle.std.specs.Prelude.{◌≡◌, ◌⊎◌, ℕ, List, [], ◌∷◌, ◌++◌, codes, map, string_bytes, Option, Some, IfSome, IfNone};
 ghost use Rattle.std.specs.Option.{option_map};
-ghost use Rattle.arguments.specs.Options.{IsKey, IsKeyOption, IsNet, IsOpeningOptions, IsOption, chain_name};
-ghost use Rattle.arguments.specs.Table.{HasNoValues, Network, Opening};
+ghost use Rattle.arguments.specs.Options.{IsKey, IsKeyOption, IsNet, IsOpeningOptions, IsOption, IsPeersOption, chain_name};
+ghost use Rattle.arguments.specs.Table.{HasNoValues, Network, Opening, Records};
 ghost use Rattle.peers_file.specs.declared.chain.Chain.{Chain};
 
 use hex::FromHex;
@@ -72,6 +72,31 @@ pub(crate) fn read_net(words: &[String]) -> Option<Chain>
         return Some(Chain::Main);
     }
     read_chain(option_value(words, b"--net")?)
+}
+
+/// Reads the arguments that are `--peers` and after it those that choose a chain, or none.
+pub(crate) fn read_peers(words: &[String]) -> Option<Option<Chain>>
+    ensures found { IfSome result (IsPeersOption (map string_bytes words.now)) }
+    ensures none { IfNone result (HasNoValues Records (map string_bytes words.now)) }
+{
+    if words.is_empty() {
+        return Some(None);
+    }
+    let chain = read_after_peers(words)?;
+    Some(Some(chain))
+}
+
+/// Reads `--peers` and after it the arguments that choose a chain.
+fn read_after_peers(words: &[String]) -> Option<Chain>
+    ensures found { IfSome result (λ chain. IsPeersOption (map string_bytes words.now) (Some chain)) }
+    ensures only { (chain : Chain) → IsPeersOption (map string_bytes words.now) (Some chain) →
+        result ≡ Some chain }
+{
+    let (first, rest) = first_word(words)?;
+    if first == b"--peers".as_slice() {
+        return read_net(rest);
+    }
+    None
 }
 
 /// Reads the name of a chain.

@@ -144,6 +144,21 @@ Codes    0 done, 2 bad usage, 5 asmap.dat is refused, 8 the output cannot be wri
 ",
 );
 
+pub(crate) const DIFF: Page = (
+    "diff [--peers [--net CHAIN]]",
+    "prints the prefixes whose AS number differs between asmap.old and asmap.dat",
+    "\
+Reads    asmap.old and asmap.dat; with --peers also peers.dat.
+Writes   what diff of Bitcoin Core's asmap-tool.py prints; with --peers after it a line
+         for each record whose group differs, and how many these are.
+CHAIN    main, test, signet or regtest; main if it is left out.
+Codes    0 done, 2 bad usage, 4 peers.dat is refused, 5 asmap.dat is refused,
+         8 the output cannot be written, 9 the folder failed, 12 out of memory,
+         14 a file is missing, 18 asmap.old is refused, 19 more than 2,000,000
+         prefixes differ.
+",
+);
+
 pub(crate) const CHECK: Page = (
     "check",
     "checks that asmap.dat is sane",

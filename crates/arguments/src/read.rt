@@ -8,7 +8,7 @@ use crate::address::read_address;
 use crate::bans::{read_period, read_subnet};
 use crate::commands::{plain_word, read_command};
 use crate::name::{CommandName, NAMES};
-use crate::options::{first_word, only_word, read_net, read_opening};
+use crate::options::{first_word, only_word, read_net, read_opening, read_peers};
 use ban_list::texts_have_one_meaning;
 use gen_load::MAX_LINES;
 use grammar::{Between, Fields, LongBetween, OnePeer, find_keyword, read_fields};
@@ -68,6 +68,12 @@ fn read_after(alloc: Global, name: CommandName, rest: &[String]) -> Option<Reque
         CommandName::Compile => only_name(rest, Request::Compile),
         CommandName::Check => only_name(rest, Request::Check),
         CommandName::Decompile => only_name(rest, Request::Decompile),
+        CommandName::Diff => {
+            let Some(peers) = read_peers(rest) else {
+                return None;
+            };
+            Some(Request::Diff { peers })
+        }
         CommandName::Limit => only_name(rest, Request::Limit),
         CommandName::Lookup => read_lookup(alloc, rest),
         CommandName::Address => {

@@ -25,6 +25,11 @@ pub enum Request {
     Check,
     /// `decompile`: write the table of prefixes that asmap.dat encodes.
     Decompile,
+    /// `diff`: write the prefixes whose number differs between asmap.old and asmap.dat; with
+    /// `--peers --net CHAIN` also the records of peers.dat, a file of this chain, whose group does.
+    Diff {
+        peers: Option<Chain>,
+    },
     /// `limit`: limit the addresses that each connection may send, and write the log that is left.
     Limit,
     /// `lookup PEER`: say which AS number and group the peer's address has.

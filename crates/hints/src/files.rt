@@ -52,6 +52,7 @@ pub fn bans_hint(alloc: Global, fault: &BanFault) -> Result<String, AllocError> 
 pub fn missing_hint(alloc: Global, name: Name) -> Result<String, AllocError> {
     let text = match name {
         Name::Asmap => "addrman compile makes it from prefixes.txt of the current folder",
+        Name::AsmapOld => "it has to be in the current folder: the asmap of before",
         Name::Prefixes => "it has to be in the current folder, with rows as 1.2.0.0/16 AS6",
         _ => "it has to be in the current folder: copy that of a node which does not run",
     };

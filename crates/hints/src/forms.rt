@@ -1,5 +1,5 @@
 /// The forms of the command line, one a command.
-static COMMANDS: [&str; 21] = [
+static COMMANDS: [&str; 22] = [
     "replay --key HEX64 --net CHAIN",
     "opener --key HEX64 --net CHAIN",
     "limit",
@@ -10,6 +10,7 @@ static COMMANDS: [&str; 21] = [
     "groups --net CHAIN",
     "compile",
     "decompile",
+    "diff --peers --net CHAIN",
     "check",
     "lookup PEER",
     "address TEXT",

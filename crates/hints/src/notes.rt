@@ -123,11 +123,12 @@ pub(crate) fn name_at(path: &str) -> &'static str {
 }
 
 /// All files of a folder.
-static FILES: [Name; 7] = [
+static FILES: [Name; 8] = [
     Name::Peers,
     Name::PeersTemp,
     Name::Asmap,
     Name::AsmapTemp,
+    Name::AsmapOld,
     Name::Prefixes,
     Name::Bans,
     Name::BansTemp,

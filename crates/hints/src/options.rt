@@ -151,7 +151,7 @@ fn no_option(alloc: Global, form: &'static str, word: &str) -> Result<String, Al
     let command = keyword_of(form);
     let shown = quoted(alloc, word.as_bytes())?;
     let shown = shown.as_str();
-    if word.starts_with("-") || command == "show" {
+    if word.starts_with("-") || !(command == "replay" || command == "opener") {
         return format!(in alloc; "{shown} is no option of {command}; the form is \"{form}\"");
     }
     format!(in alloc;

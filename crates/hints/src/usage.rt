@@ -3,6 +3,14 @@ use crate::forms::Reader;
 use crate::options::explain_options;
 use std::alloc::{AllocError, Global};
 
+/// Returns the arguments after `--peers`, if they begin with it and the form has it.
+fn after_flag<'a>(form: &str, words: &'a [String]) -> &'a [String] {
+    match words {
+        [first, rest @ ..] if first.as_str() == "--peers" && form.contains("--peers") => rest,
+        _ => words,
+    }
+}
+
 /// Says which argument is wrong, and what is wanted there. The arguments are not those of a command.
 pub fn usage_hint(alloc: Global, words: &[String]) -> Result<String, AllocError> {
     let Some((command, rest)) = words.split_first() else {
@@ -20,7 +28,7 @@ pub fn usage_hint(alloc: Global, words: &[String]) -> Result<String, AllocError>
     if let Some(form) = Reader::Arguments.find_form(command.as_bytes())
         && form.contains("--")
     {
-        return explain_options(alloc, form, rest);
+        return explain_options(alloc, form, after_flag(form, rest));
     }
     if command.as_str() == "help"
         && let [name] = rest

@@ -13,7 +13,7 @@ use std::alloc::Global;
 use std::io;
 
 /// Statuses that none of the cases ends with, and the exit code and the text of each.
-const STATUSES: [(Status, &str); 9] = [
+const STATUSES: [(Status, &str); 10] = [
     (
         Status::LogLine {
             line: u64::MAX,
@@ -49,6 +49,10 @@ const STATUSES: [(Status, &str); 9] = [
     (
         Status::TooManyRows,
         "17 asmap.dat has more than 2000000 rows",
+    ),
+    (
+        Status::TooManyChanges,
+        "19 asmap.old and asmap.dat differ in more than 2000000 prefixes",
     ),
 ];
 
