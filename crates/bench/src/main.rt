@@ -4,6 +4,7 @@
 
 mod addresses;
 mod asmap_work;
+mod calls_work;
 mod codecs_work;
 mod compile_work;
 mod index_work;
@@ -47,6 +48,7 @@ where
     match task {
         Task::Asmap(work) => run_on_asmap(rt.alloc(), &mut DirFolder::make(rt), work),
         Task::Table(work) => run_on_text(rt.alloc(), &mut DirFolder::make(rt), work),
+        Task::Calls(work) => work.run(rt.alloc()),
         Task::Codecs(work) => work.run(rt.alloc()),
         Task::Index(work) => work.run(rt.alloc()),
         Task::Lines(work) => work.run(rt.alloc()),

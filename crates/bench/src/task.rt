@@ -1,4 +1,5 @@
 use crate::asmap_work::AsmapWork;
+use crate::calls_work::{CallsWork, Kind as CallsKind};
 use crate::codecs_work::{CodecsWork, Kind as CodecsKind};
 use crate::index_work::{IndexWork, Kind};
 use crate::lines_work::LinesWork;
@@ -10,6 +11,8 @@ use crate::table_work::TableWork;
 pub(crate) enum Task {
     /// Work over asmap.dat.
     Asmap(AsmapWork),
+    /// Calls on the tables.
+    Calls(CallsWork),
     /// Work on an index.
     Index(IndexWork),
     /// A log is split into lines.
@@ -44,8 +47,19 @@ fn codecs_kind(word: &String) -> Result<CodecsKind, Refusal> {
     }
 }
 
+/// Returns the kind of call that an argument names.
+fn calls_kind(word: &String) -> Result<CallsKind, Refusal> {
+    match word.as_str() {
+        "adds" => Ok(CallsKind::Adds),
+        "messages" => Ok(CallsKind::Messages),
+        "selects" => Ok(CallsKind::Selects),
+        _ => Err(Refusal::Usage),
+    }
+}
+
 impl Task {
-    /// Returns the task that the arguments name: `asmap N`, `check N`, `codecs KIND TIMES`,
+    /// Returns the task that the arguments name: `asmap N`, `check N`, `calls KIND TIMES`,
+    /// `codecs KIND TIMES`,
     /// `table N`, `matches N`, `compile TIMES`, `tables N`, `lines LENGTH TIMES`,
     /// `index-adds N TIMES`, `index-removes N TIMES`, `index-finds N SOME TIMES` or
     /// `index-turns N SOME TIMES`.
@@ -83,6 +97,10 @@ impl Task {
         if command == "codecs" {
             let kind = codecs_kind(what)?;
             return Ok(Task::Codecs(CodecsWork { kind, times }));
+        }
+        if command == "calls" {
+            let kind = calls_kind(what)?;
+            return Ok(Task::Calls(CallsWork { kind, times }));
         }
         let count = records_of(what)?;
         match command {
