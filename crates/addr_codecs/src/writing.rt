@@ -14,6 +14,10 @@ use net_addr::{Entry, INTERNAL_PREFIX, MAPPED_PREFIX, Net, NetAddr};
 use std::alloc::Global;
 use wire_num::put_compact;
 
+/// Room for an entry of a message, in bytes: most have at most 30, and the number of entries has one
+/// to three.
+const ENTRY_ROOM: usize = 32;
+
 /// Appends an IPv4 or IPv6 address in the old form.
 fn put_old_form(out: &mut Vec<u8>, addr: &NetAddr) -> Result<(), Memory>
     requires { (addr.now.net ≡ Ipv4) ⊎ (addr.now.net ≡ Ipv6) }
@@ -118,7 +122,7 @@ fn write_message(alloc: Global, form: Form, entries: &[Entry]) -> Result<Bytes, 
     ensures found { IfOk result (λ bytes. bytes ≡ message_text (text_in form) entries.now) }
     ensures entries { OnOk result (All IsEntry entries.now) }
 {
-    let mut out = Vec::new(alloc);
+    let mut out = Vec::with_capacity(alloc, entries.len().saturating_mul(ENTRY_ROOM))?;
     put_compact(entries.len() as u64, &mut out)?;
     for entry in entries {
         form.put_entry(&mut out, entry)?;
