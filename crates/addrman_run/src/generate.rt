@@ -1,14 +1,19 @@
-ghost use Rattle.std.specs.Prelude.{◌≡◌, ◌≢◌, ◌≤◌};
+ghost use Rattle.std.specs.Prelude.{◌≡◌, ◌≢◌, ◌≤◌, ◌++◌, [], List, ℕ, OnOk, OnErr};
 ghost use Rattle.gen_load.specs.declared.generated.TheConstants.{MAX_LINES};
+ghost use Rattle.host_io.specs.Faults.{Rose};
+ghost use Rattle.host_io.specs.Writing.{Appended, AppendedPart};
 ghost use Rattle.addrman_run.specs.Generate.{GenText};
 ghost use Rattle.log_run.specs.Counts.{IsCounted};
 
 use crate::Status;
-use gen_load::Gen;
-use host_io::{Sink, write_all};
+use gen_load::{Gen, MAX_LENGTH};
+use host_io::{Failed, Sink, write_all};
 use std::alloc::Global;
 
-/// Writes the generated log of a number, line by line.
+/// How many bytes of a log are written at once, or up to a line more.
+const PIECE: usize = 65_536;
+
+/// Writes the generated log of a number, in pieces.
 pub(crate) fn generate<K: Sink>(alloc: Global, start: u64, lines: u32, out: &mut K) -> Status
     requires { lines ≤ MAX_LINES }
     ensures text { GenText start lines (K.written out.old) (K.written out.new) result }
@@ -16,17 +21,39 @@ pub(crate) fn generate<K: Sink>(alloc: Global, start: u64, lines: u32, out: &mut
     ensures no_disk { result ≢ Status.DiskFault }
 {
     let mut log = Gen::make(start, lines);
-    let mut line = Vec::new(alloc);
+    let Ok(mut piece) = Vec::with_capacity(alloc, PIECE + MAX_LENGTH) else {
+        return Status::Memory;
+    };
     loop {
-        line.clear();
-        match log.next(&mut line) {
+        match log.next(&mut piece) {
             Ok(true) => {}
-            Ok(false) => return Status::Done,
+            Ok(false) => break,
             Err(_) => return Status::Memory,
         }
-        match write_all(out, line.as_slice()) {
+        match write_piece(&mut piece, out) {
             Ok(()) => {}
             Err(_) => return Status::WriteFault,
         }
     }
+    match write_all(out, piece.as_slice()) {
+        Ok(()) => Status::Done,
+        Err(_) => Status::WriteFault,
+    }
+}
+
+/// Writes the bytes and empties the list, once there are `PIECE` bytes or more. After an error a
+/// part of them is written.
+fn write_piece<K: Sink>(piece: &mut Vec<u8>, out: &mut K) -> Result<(), Failed>
+    ensures written { OnOk result ((text : List ℕ) × Appended (K.written out.old) (K.written out.new) text
+        × (text ++ piece.new.items ≡ piece.old.items)) }
+    ensures err { OnErr result (AppendedPart (K.written out.old) (K.written out.new) piece.old.items) }
+    ensures cause { OnErr result (Rose (K.faults out.old) (K.faults out.new)) }
+    ensures never_falls { K.faults out.old ≤ K.faults out.new }
+{
+    if piece.len() < PIECE {
+        return Ok(());
+    }
+    write_all(out, piece.as_slice())?;
+    piece.clear();
+    Ok(())
 }

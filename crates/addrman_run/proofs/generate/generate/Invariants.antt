@@ -3,12 +3,12 @@ use Rattle.gen_load.specs.Log.{log}
 use Rattle.addrman_run.proofs.Generating.{Writing}
 use Rattle.addrman_run.proofs.generate.generate.Given as goal
 
--- the lines so far are written
-abbrev pub invariant-loop-line : goal.invariant-loop-line
-invariant-loop-line g l = record {
-  writing : Writing (log l.fn.start l.fn.lines) l.log (g.K.Sink.written l.fn.out) (g.K.Sink.written l.out);
+-- the lines so far are written, but for those that wait
+abbrev pub invariant-loop-piece : goal.invariant-loop-piece
+invariant-loop-piece g l = record {
+  writing : Writing (log l.fn.start l.fn.lines) l.log l.piece.items (g.K.Sink.written l.fn.out) (g.K.Sink.written l.out);
   never_falls : g.K.Sink.faults l.fn.out ≤ g.K.Sink.faults l.out;
 }
 
-abbrev pub decreases-loop-line : goal.decreases-loop-line
-decreases-loop-line g l = length l.log
+abbrev pub decreases-loop-piece : goal.decreases-loop-piece
+decreases-loop-piece g l = length l.log
