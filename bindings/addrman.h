@@ -7,9 +7,9 @@
  * Ownership. An object of type addrman is a struct that the caller declares, begins with
  *   ADDRMAN_INIT, opens by addrman_open or addrman_open_file, and closes by addrman_close. It may be
  *   moved by plain assignment while no call uses it, and the old copy is then not used any more; it
- *   is never copied. Its fields are private. addrman_close of a closed object does nothing, and each
- *   other call on a closed object returns ADDRMAN_ERR_CLOSED. Nothing that a call returns has to be
- *   freed: results go into memory of the caller's.
+ *   is never copied. Its fields are private. addrman_close of a closed object does nothing; of the
+ *   other calls, all but those that open it return ADDRMAN_ERR_CLOSED. Nothing that a call returns
+ *   has to be freed: results go into memory of the caller's.
  * Memory. The library allocates by malloc, realloc and free alone. A call that can run out of memory
  *   returns ADDRMAN_ERR_MEMORY, and says what it then leaves. No call aborts.
  * Arguments. No pointer is null. One with a length of 0 may be any other pointer: pass the address of
@@ -27,7 +27,9 @@
  * PROOFS
  *
  * Each call is a function in Rattle (crates/addrman_c), and is proved to do what its clause says,
- * for all arguments that keep these rules. "Proved:" names the definitions of the clause. No proof
+ * for all arguments that keep these rules. "Proved:" names the definitions of the clause. That an
+ * output array stays as it was is part of the clause if the object is open; of that of addrman_sample
+ * only after ADDRMAN_ERR_SHORT_BUFFER. Of all other outputs it is seen by reading the code. No proof
  * sees the caller: that pointers are valid for their lengths, that an open object is not copied, and
  * that this header says what the functions' signatures say, are trusted, as are the compiler and the
  * C library.
@@ -89,9 +91,11 @@ enum {
     ADDRMAN_FAULT_COUNT         = 14, /* the number of records is negative or too large */
     ADDRMAN_FAULT_RECORD        = 15, /* at: the index of the record, the new ones first */
     ADDRMAN_FAULT_BUCKETS       = 16, /* the number of buckets is negative or too large */
-    ADDRMAN_FAULT_TIME          = 17, /* a time before 1970 or after 2106; at: the record's index */
+    ADDRMAN_FAULT_TIME          = 17, /* a last success before 1970 or after 2106; at: the record's
+                                         index */
     ADDRMAN_FAULT_ATTEMPTS      = 18, /* negative attempts; at: the record's index */
-    ADDRMAN_FAULT_TOO_LARGE     = 19, /* over 33,554,432 bytes, or 134,217,728 of a table; at: how many */
+    ADDRMAN_FAULT_TOO_LARGE     = 19, /* a peers.dat of over 33,554,432 bytes, or a table of over
+                                         134,217,728; at: how many */
     ADDRMAN_FAULT_DUPLICATE     = 20, /* two valid records of one peer; at: the later one's index */
     ADDRMAN_FAULT_ASMAP         = 21, /* the asmap is not sane, or has more than 8,388,608 bytes */
     ADDRMAN_FAULT_JSON          = 30, /* a list of bans that is no JSON text, or nests too deep */
@@ -154,8 +158,8 @@ ADDRMAN_API addrman_result addrman_addr_parse(const uint8_t *text, size_t length
 ADDRMAN_API addrman_result addrman_peer_parse(const uint8_t *text, size_t length,
     addrman_peer *peer);
 
-/* Write the text, which has no zero at its end, and its length: at most 73 bytes for an address and
- * 79 for a peer. Proved: TextCall (`addr_text`, `peer_text`). */
+/* Write the text, which has no zero at its end, and its length: at most 70 bytes for an address and
+ * 76 for a peer. Proved: TextCall (`addr_text`, `peer_text`). */
 ADDRMAN_API addrman_result addrman_addr_text(const addrman_addr *addr, uint8_t *out,
     size_t capacity, size_t *length);
 ADDRMAN_API addrman_result addrman_peer_text(const addrman_peer *peer, uint8_t *out,
@@ -173,9 +177,10 @@ ADDRMAN_API void addrman_addr_from_v1(const uint8_t v1[16], addrman_addr *addr);
  * (`v1_bytes`). */
 ADDRMAN_API addrman_result addrman_addr_to_v1(const addrman_addr *addr, uint8_t v1[16]);
 
-/* The network that an address is reached through: ADDRMAN_IPV4 for IPv6 addresses of a tunnel from an
- * IPv4 address, and ADDRMAN_UNROUTABLE if it can't be reached from everywhere. It is what the set of
- * addrman_sample goes by. Proved: ClassCall (`net_class`). */
+/* The network that an address is reached through: ADDRMAN_IPV4 for a routable IPv6 address that embeds
+ * an IPv4 address, as those of 6to4 and Teredo do; ADDRMAN_INTERNAL for an internal name; and
+ * ADDRMAN_UNROUTABLE for any other that is not routable. It is what the set of addrman_sample goes by.
+ * Proved: ClassCall (`net_class`). */
 ADDRMAN_API addrman_result addrman_addr_class(const addrman_addr *addr, uint32_t *network);
 
 /* ----------------------------------------------------------------------------------- tables */
@@ -240,14 +245,15 @@ enum {
  * the save had is dropped first, and after any result other than ADDRMAN_OK it is closed.
  * Proved: BeginCall. If the requests are carried out in their order, each after the one before has
  * succeeded, then a crash at any moment leaves peers.dat as it was or whole with these tables, and
- * after the last request always with these (`IsSafeSave`): of a disk that keeps the rules of `Disk`. */
+ * after the last request always with these (`IsSafeSave`): of a disk that keeps the rules of `Disk`,
+ * if nobody else changes the two files meanwhile. */
 ADDRMAN_API ADDRMAN_MUST_USE addrman_result addrman_save_begin(addrman_save *save, addrman *am,
     addrman_chain chain, uint32_t most);
 
 /* Writes what to do next, the bytes to append, and how many they are: 0 of another request. It says the
  * same until addrman_save_done.
  *   ADDRMAN_NONE              the file is saved
- *   ADDRMAN_ERR_SHORT_BUFFER  `out` has room for fewer than *length bytes
+ *   ADDRMAN_ERR_SHORT_BUFFER  only *request and *length are written: call it with more room
  * Proved: NextCall; the save is as it was. */
 ADDRMAN_API ADDRMAN_MUST_USE addrman_result addrman_save_next(addrman_save *save,
     addrman_request *request, uint8_t *out, size_t capacity, size_t *length);
@@ -278,7 +284,8 @@ ADDRMAN_API ADDRMAN_MUST_USE addrman_result addrman_take_message(addrman *am, bo
     addrman_fault *fault);
 
 /* Adds one entry that `source` announced, with a penalty in seconds and a random word: for seeds, and
- * for callers that read messages themselves. *accepted is 1 if the peer got a slot, else 0.
+ * for callers that read messages themselves. The time is not clamped. *accepted is 1 if the peer got
+ * a slot, else 0.
  *   ADDRMAN_ERR_MEMORY  nothing changes
  * Proved: AddCall (`add`). */
 ADDRMAN_API ADDRMAN_MUST_USE addrman_result addrman_add(addrman *am, const addrman_peer *peer,
@@ -322,9 +329,10 @@ ADDRMAN_API ADDRMAN_MUST_USE addrman_result addrman_select(addrman *am, bool new
  * records; 0 is no limit. `classes` is a set of networks, ADDRMAN_UNROUTABLE among them. It needs a
  * random word for each record (addrman_size tells how many there are). The order of the records
  * changes, which no other call shows. addrman_find has a peer's time and services.
- *   ADDRMAN_ERR_ARGUMENT      `percent` is above 100
+ *   ADDRMAN_ERR_ARGUMENT      `percent` is above 100, or there are 2^32 words or more
  *   ADDRMAN_ERR_SHORT_WORDS   nothing changes; *length is how many words are needed
- *   ADDRMAN_ERR_SHORT_BUFFER  nothing is written but *length: how many peers the sample has
+ *   ADDRMAN_ERR_SHORT_BUFFER  nothing is written but *length: how many peers the sample has. The order
+ *                             changes all the same
  *   ADDRMAN_ERR_MEMORY        nothing changes
  * Proved: SampleCall (`sample`). */
 ADDRMAN_API ADDRMAN_MUST_USE addrman_result addrman_sample(addrman *am, uint32_t max,
@@ -342,7 +350,7 @@ ADDRMAN_API addrman_result addrman_resolve_collisions(addrman *am, uint32_t now,
     addrman_resolved *resolved);
 
 /* Selects a collision by a random word, and writes the occupant of its slot, which a node then tests.
- *   ADDRMAN_NONE  there is no collision, or its record is gone
+ *   ADDRMAN_NONE  there is no collision, or its record is gone: then the collision is dropped
  * Proved: OccupantCall (`clash_pick`). */
 ADDRMAN_API addrman_result addrman_select_collision(addrman *am, uint64_t word,
     addrman_picked *occupant);
@@ -382,7 +390,8 @@ ADDRMAN_API ADDRMAN_MUST_USE addrman_result addrman_asmap_compile(const uint8_t 
 
 /* Turns an asmap back into a table whose longest prefixes give each address the number that the asmap
  * gives, and writes its text and how many bytes that has.
- *   ADDRMAN_ERR_REFUSED  it is not sane, or gives more than 2,000,000 rows
+ *   ADDRMAN_ERR_REFUSED  it is not sane, has more than 8,388,608 bytes, or gives more than 2,000,000
+ *                        rows
  * Proved: BackCall (`rows_back`, `table_text`). */
 ADDRMAN_API ADDRMAN_MUST_USE addrman_result addrman_asmap_decompile(const uint8_t *asmap,
     size_t asmap_length, uint8_t *out, size_t capacity, size_t *length, addrman_fault *fault);
@@ -404,7 +413,7 @@ enum { ADDRMAN_TAKE, ADDRMAN_SAME_GROUP, ADDRMAN_RECENT };
 
 /* Decides whether to connect to a candidate, in the try of this number, from 1 to 100. A peer that was
  * tried in the last ten minutes is taken only from the 31st try on. *verdict is one of the names
- * above, and changes nothing. Proved: JudgeCall (`judge`). */
+ * above; the object is as it was. Proved: JudgeCall (`judge`). */
 ADDRMAN_API addrman_result addrman_opener_judge(addrman *am, const addrman_picked *candidate,
     uint32_t now, uint32_t tries, uint32_t *verdict);
 
@@ -467,7 +476,7 @@ ADDRMAN_API ADDRMAN_MUST_USE addrman_result addrman_bans_add(addrman_bans *bans,
     const uint8_t *subnet, size_t length, uint32_t now, uint32_t until, uint32_t *reply);
 
 /* Takes the ban of a subnet out of the list. *known is 1 if it had one, else 0. Proved: UnbanCall
- * (`without`). */
+ * (`without_ban`). */
 ADDRMAN_API addrman_result addrman_bans_remove(addrman_bans *bans, const uint8_t *subnet,
     size_t length, uint32_t *known);
 
@@ -518,8 +527,9 @@ ADDRMAN_API addrman_result addrman_limiter_remove(addrman_limiter *limiter, uint
 ADDRMAN_API addrman_result addrman_limiter_getaddr(addrman_limiter *limiter, uint32_t number,
     uint32_t *answer);
 
-/* A message of `count` entries came, at most 1000. The first *admitted of them are let through.
- *   ADDRMAN_NONE  the number has no connection
+/* A message of `count` entries came. The first *admitted of them are let through.
+ *   ADDRMAN_ERR_ARGUMENT  `count` is above 1000
+ *   ADDRMAN_NONE          the number has no connection
  * Proved: AdmitCall (`after_taking`, `intake_count`). */
 ADDRMAN_API addrman_result addrman_limiter_admit(addrman_limiter *limiter, uint32_t number,
     uint32_t count, uint32_t now, uint32_t *admitted);
