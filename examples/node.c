@@ -10,6 +10,7 @@
  */
 #include "addrman.h"
 
+#include <errno.h>
 #include <fcntl.h>
 #include <stdio.h>
 #include <stdlib.h>
@@ -48,9 +49,12 @@ static void open_tables(addrman *am, const char *folder)
     addrman_result code;
     if (in) {
         size_t length = fread(bytes, 1, sizeof bytes, in);
+        if (ferror(in)) stop("peers.dat cannot be read", errno);
         fclose(in);
         code = addrman_open_file(am, bytes, length, ADDRMAN_MAIN, seed, bytes, 0, &fault);
         if (code == ADDRMAN_ERR_REFUSED) stop("peers.dat is refused, fault", fault.kind);
+    } else if (errno != ENOENT) {
+        stop("peers.dat cannot be opened", errno);
     } else {
         code = addrman_open(am, (const uint8_t *)draw(4), seed, bytes, 0);
     }
