@@ -112,8 +112,8 @@ pub(crate) const GROUPS: Page = (
     "prints how much of peers.dat each group has, as JSON",
     "\
 Reads    peers.dat; asmap.dat, if it is there.
-Writes   for each group its slots, buckets and records; their sums; and how many records
-         asmap.dat gives an AS number.
+Writes   for each group its slots, buckets and records; their sums; how many AS numbers
+         asmap.dat gives the records, and how many of these it gives none.
 CHAIN    main, test, signet or regtest; main if it is left out.
 Codes    0 done, 2 bad usage, 4 peers.dat is refused, 5 asmap.dat is refused,
          8 the output cannot be written, 9 the folder failed, 11 no peers.dat,
@@ -149,8 +149,9 @@ pub(crate) const DIFF: Page = (
     "prints the prefixes whose AS number differs between asmap.old and asmap.dat",
     "\
 Reads    asmap.old and asmap.dat; with --peers also peers.dat.
-Writes   what diff of Bitcoin Core's asmap-tool.py prints; with --peers after it a line
-         for each record whose group differs, and how many these are.
+Writes   what diff of Bitcoin Core's asmap-tool.py prints, but for its powers of two;
+         with --peers after it a line for each record whose group differs, and how many
+         these are.
 CHAIN    main, test, signet or regtest; main if it is left out.
 Codes    0 done, 2 bad usage, 4 peers.dat is refused, 5 asmap.dat is refused,
          8 the output cannot be written, 9 the folder failed, 12 out of memory,
