@@ -51,7 +51,8 @@ fn put_class(addr: Option<NetAddr>, class: &mut u32) -> u32
 }
 
 /// Tells the network that an address is reached through: that of the IPv4 address that an IPv6
-/// address embeds, for example, and that of number 0 if it is not routable.
+/// address embeds, for example, and that of number 0 if it is not routable. Names of internal
+/// addresses have their own.
 #[unsafe(no_mangle)]
 pub extern "C" fn addrman_addr_class(addr: &AddrmanAddr, class: &mut u32) -> u32
     ensures { ClassCall (address_in addr.now) result class.new }

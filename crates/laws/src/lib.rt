@@ -22,7 +22,8 @@
 //!    `runs_lose_with_causes`).
 //! 5. A restart loses no record and leaves each in its slots (`restarts_keep_records`). An opening
 //!    of whatever file loses a record only to others in its slots, or since its address is not
-//!    valid; so does a restart with another asmap (`openings_lose_with_causes`).
+//!    valid or no bucket lists it; so does a restart with another asmap
+//!    (`openings_lose_with_causes`).
 //!
 //! Not said: that random words are random, or that hashes spread records evenly.
 #![tactic(auto)]
