@@ -11,7 +11,7 @@ import prefixes
 from addresses import Address, Peer, address_text, class_of, read_peer, routable
 from asmap import MAXIMUM_BYTES as MAXIMUM_ASMAP
 from asmap import NO_ASMAP, Asmap, compile_rows, pack, rows_of
-from folder import Failed, Folder, Stop, read_file, write_file
+from folder import MAXIMUM_PIECE, Failed, Folder, Stop, read_file, write_file
 from generator import generated
 from limit import Limit
 from lines import LARGEST_TIME, read_lines
@@ -121,13 +121,17 @@ class Run:
         self.read, self.write, self.folder = read, write, folder
         self.passed_over = 0
 
+    def emit(self, data: bytes):
+        """Writes bytes."""
+        try:
+            self.write(data)
+        except OSError:
+            raise Stop(8, "output cannot be written")
+
     def print(self, line: str | bytes):
         """Writes a line."""
         data = line if isinstance(line, bytes) else line.encode()
-        try:
-            self.write(data + b"\n")
-        except OSError:
-            raise Stop(8, "output cannot be written")
+        self.emit(data + b"\n")
 
     def command(self, arguments: list[bytes]):
         """Carries out a command; raises Stop."""
@@ -168,8 +172,14 @@ class Run:
         self.each_line(Limit().output)
 
     def gen(self, start: bytes, lines: bytes):
+        piece = b""
         for line in generated(*start_and_lines(start, lines)):
-            self.print(line)
+            piece += line.encode() + b"\n"
+            if len(piece) >= MAXIMUM_PIECE:
+                self.emit(piece)
+                piece = b""
+        if piece:
+            self.emit(piece)
 
     def trial(self, start: bytes, lines: bytes):
         seed, count = start_and_lines(start, lines)
