@@ -16,7 +16,7 @@ ghost use Rattle.table_picture.specs.Picture.{picture_of};
 use dot_runs::one_dot;
 use group_counts::counts_are_of_slots;
 
-/// The picture is the text of a tree of elements. Its names, attributes and characters are
+/// The picture is the text of elements that nest. Its names, attributes and characters are
 /// printable ASCII, with nothing in them that has to be escaped, if the names of the groups are.
 pub fn picture_is_a_tree()
     ensures { (keys : List ℕ) (names : List (List ℕ)) → All IsPlain names →
@@ -28,7 +28,7 @@ pub fn names_are_plain()
     ensures { (places : Places) (a : Address) → IsAddress a → IsPlain (name_of places a) }
 {}
 
-/// So the picture of the tables is always the text of such a tree.
+/// So the picture of the tables is always the text of such elements.
 pub fn pictures_are_trees()
     ensures { (st : State) → IsSound st → IsMarkup (picture_of st) }
 {}
