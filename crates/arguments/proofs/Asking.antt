@@ -126,6 +126,10 @@ one_request a b texts names h k =
 
 -- WHAT IS READ
 
+pub if_none : {A : Type 0} (r : Option A) (P : Type 0) → P → IfNone r P
+if_none None P holds = holds
+if_none (Some x) P holds = tt
+
 -- the request that was read has this name, and the texts after it have its values
 abbrev pub IsAfter : CommandName → List (List ℕ) → Request → Type 0
 IsAfter n texts request = (name_of request ≡ n) × Reads (form_of n) texts (values_of request)

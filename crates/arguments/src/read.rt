@@ -47,6 +47,7 @@ fn request_of(alloc: Global, words: &[String]) -> Option<Request>
 }
 
 /// Reads the arguments after the name of a command.
+#[tactic(auto, using(crate::proofs::Asking::if_none))]
 fn read_after(alloc: Global, name: CommandName, rest: &[String]) -> Option<Request>
     ensures found { IfSome result (λ request. (name_of request ≡ name)
         × Reads (form_of name) (map string_bytes rest.now) (values_of request)) }
@@ -54,106 +55,65 @@ fn read_after(alloc: Global, name: CommandName, rest: &[String]) -> Option<Reque
 {
     match name {
         CommandName::Replay => {
-            let Some((key, chain)) = read_opening(rest) else {
-                return None;
-            };
+            let (key, chain) = read_opening(rest)?;
             Some(Request::Replay { key, chain })
         }
         CommandName::Opener => {
-            let Some((key, chain)) = read_opening(rest) else {
-                return None;
-            };
+            let (key, chain) = read_opening(rest)?;
             Some(Request::Opener { key, chain })
         }
         CommandName::Compile => only_name(rest, Request::Compile),
         CommandName::Check => only_name(rest, Request::Check),
         CommandName::Decompile => only_name(rest, Request::Decompile),
-        CommandName::Diff => {
-            let Some(peers) = read_peers(rest) else {
-                return None;
-            };
-            Some(Request::Diff { peers })
-        }
+        CommandName::Diff => Some(Request::Diff {
+            peers: read_peers(rest)?,
+        }),
         CommandName::Limit => only_name(rest, Request::Limit),
         CommandName::Lookup => read_lookup(alloc, rest),
-        CommandName::Address => {
-            let Some(addr) = read_address(rest) else {
-                return None;
-            };
-            Some(Request::Address { addr })
-        }
-        CommandName::Show => {
-            let Some(chain) = read_net(rest) else {
-                return None;
-            };
-            Some(Request::Show { chain })
-        }
-        CommandName::Picture => {
-            let Some(chain) = read_net(rest) else {
-                return None;
-            };
-            Some(Request::Picture { chain })
-        }
-        CommandName::Raw => {
-            let Some(chain) = read_net(rest) else {
-                return None;
-            };
-            Some(Request::Raw { chain })
-        }
-        CommandName::Info => {
-            let Some(chain) = read_net(rest) else {
-                return None;
-            };
-            Some(Request::Info { chain })
-        }
-        CommandName::Groups => {
-            let Some(chain) = read_net(rest) else {
-                return None;
-            };
-            Some(Request::Groups { chain })
-        }
+        CommandName::Address => Some(Request::Address {
+            addr: read_address(rest)?,
+        }),
+        CommandName::Show => Some(Request::Show {
+            chain: read_net(rest)?,
+        }),
+        CommandName::Picture => Some(Request::Picture {
+            chain: read_net(rest)?,
+        }),
+        CommandName::Raw => Some(Request::Raw {
+            chain: read_net(rest)?,
+        }),
+        CommandName::Info => Some(Request::Info {
+            chain: read_net(rest)?,
+        }),
+        CommandName::Groups => Some(Request::Groups {
+            chain: read_net(rest)?,
+        }),
         CommandName::Ban => {
-            let Some((subnet, now, until)) = read_period(rest) else {
-                return None;
-            };
+            let (subnet, now, until) = read_period(rest)?;
             Some(Request::Ban { subnet, now, until })
         }
-        CommandName::Unban => {
-            let Some(subnet) = read_subnet(rest) else {
-                return None;
-            };
-            Some(Request::Unban { subnet })
-        }
+        CommandName::Unban => Some(Request::Unban {
+            subnet: read_subnet(rest)?,
+        }),
         CommandName::Banned => {
-            let Some((peer, (now, ()))) = read_values::<(OnePeer, (Time, ()))>(alloc, rest) else {
-                return None;
-            };
+            let (peer, (now, ())) = read_values::<(OnePeer, (Time, ()))>(alloc, rest)?;
             Some(Request::Banned { peer, now })
         }
         CommandName::Bans => {
-            let Some((now, ())) = read_values::<(Time, ())>(alloc, rest) else {
-                return None;
-            };
+            let (now, ()) = read_values::<(Time, ())>(alloc, rest)?;
             Some(Request::Bans { now })
         }
         CommandName::Gen => {
-            let Some((start, (lines, ()))) = read_values::<Load>(alloc, rest) else {
-                return None;
-            };
+            let (start, (lines, ())) = read_values::<Load>(alloc, rest)?;
             Some(Request::Gen { start, lines })
         }
         CommandName::Trial => {
-            let Some((start, (lines, ()))) = read_values::<Load>(alloc, rest) else {
-                return None;
-            };
+            let (start, (lines, ())) = read_values::<Load>(alloc, rest)?;
             Some(Request::Trial { start, lines })
         }
-        CommandName::Help => {
-            let Some(command) = read_command(rest) else {
-                return None;
-            };
-            Some(Request::Help { command })
-        }
+        CommandName::Help => Some(Request::Help {
+            command: read_command(rest)?,
+        }),
         CommandName::Version => only_name(rest, Request::Version),
     }
 }
