@@ -35,7 +35,7 @@ use Rattle.manager.specs.Machine.{Machine}
 use Rattle.manager.specs.Messages.{clamp_time, message_penalty, take_entries, take_entry}
 use Rattle.manager.specs.Step.{MessageStep, Step}
 use Rattle.causes.specs.Tried.{MayDisplace, StaysTried, TakesSlot}
-use Rattle.causes.proofs.Along.{clash_pick-keeps, sample-keeps}
+use Rattle.table_machine.proofs.Folds.{clash_pick-keeps, sample-keeps}
 use Rattle.causes.proofs.Displaced.{Displacing, reached-stays}
 use Rattle.causes.proofs.Stays.{Fits, IsDisplaced, Stays, added-stays, marked-stays}
 

@@ -1,4 +1,3 @@
-pub mod Along
 pub mod Bytes
 pub mod Caused
 pub mod Displaced

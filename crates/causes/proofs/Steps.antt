@@ -21,7 +21,7 @@ use Rattle.manager.specs.Machine.{Machine}
 use Rattle.manager.specs.Messages.{clamp_time, message_penalty, take_entries, take_entry}
 use Rattle.manager.specs.Step.{MessageStep, Step}
 use Rattle.causes.specs.Accepted.{Accepts, TakesFor, peer_if, peers_taken}
-use Rattle.causes.proofs.Along.{clash_pick-keeps, resolve-keeps, sample-keeps}
+use Rattle.table_machine.proofs.Folds.{clash_pick-keeps, resolve-keeps, sample-keeps}
 use Rattle.causes.proofs.Caused.{EachBucket, EachRecord, added, marked, reached}
 
 clamped : (entry : Entry) (now : ℕ) → (clamp_time entry now).peer ≡ entry.peer

@@ -24,7 +24,7 @@ use Rattle.table_machine.proofs.Kept.{attempt-keeps_peers, connected-keeps_peers
 use Rattle.table_machine.proofs.Lists.{Contains-head, Contains-tail}
 use Rattle.table_machine.proofs.Reached.{good-sound}
 use Rattle.table_machine.proofs.Rest.{add-rest}
-use Rattle.causes.proofs.Along.{clash_pick-keeps, sample-keeps}
+use Rattle.table_machine.proofs.Folds.{clash_pick-keeps, sample-keeps}
 use Rattle.causes.proofs.Fits.{IsFit, IsFitMessage}
 use Rattle.laws.specs.Losses.{IsThere, LosesBySuccess}
 use Rattle.laws.specs.LostLines.{LosesAt, LosesBy, LosesByDecisions, LosesByEntries}

@@ -59,10 +59,16 @@ module _ (now : ℕ) (R : State → State → Type 0) (itself : (st : State) →
   resolve-along : (st : State) → R st (resolve st now).state
   resolve-along st = resolve_all-along st st.collisions
 
+-- What holds of a state holds after all decisions, if it is kept when a collision is dropped and
+-- over a success.
+module _ (now : ℕ) (P : State → Type 0) (erases : (st : State) (number : ℕ) → P st → P (erase_clash st number))
+    (succeeds : (st : State) (peer : Peer) → P st → P (good st now peer false).state) where
+  pub resolve-keeps : (st : State) → P st → P (resolve st now).state
+  resolve-keeps st =
+      resolve-along now (λ old new. P old → P new) (λ s h. h) (λ old middle new first second h. second (first h)) erases succeeds st
+
 pub resolve-sound : (st : State) (now : ℕ) → IsSound st → now < 2 ^ 32 → IsSound (resolve st now).state
-resolve-sound st now sound low =
-    resolve-along now (λ old new. IsSound old → IsSound new) (λ s is. is) (λ old middle new first second is. second (first is))
-    erase_clash-sound (λ s peer is. good-sound s now peer false is low) st sound
+resolve-sound st now sound low = resolve-keeps now IsSound erase_clash-sound (λ s peer is. good-sound s now peer false is low) st sound
 
 pub resolve-keeps_numbers : (st : State) (now : ℕ) → KeepsNumbers st (resolve st now).state
 resolve-keeps_numbers st now =
@@ -75,8 +81,8 @@ resolve-next st now = (resolve-keeps_numbers st now).0
 -- What holds of a state, and of it without any one collision, holds after a pick among the
 -- collisions.
 module _ (st : State) (P : State → Type 0) (same : P st) (erased : (number : ℕ) → P (erase_clash st number)) where
-  clash_pick-along : (word : ℕ) → P (clash_pick st word).state
-  clash_pick-along word = by (length st.collisions == 0) (by_number st number)
+  pub clash_pick-keeps : (word : ℕ) → P (clash_pick st word).state
+  clash_pick-keeps word = by (length st.collisions == 0) (by_number st number)
     where
       number : ℕ
       number = get_or st.collisions (word % length st.collisions) 0
@@ -91,10 +97,10 @@ module _ (st : State) (P : State → Type 0) (same : P st) (erased : (number : �
       by false (Some r) = picked (tried_occupant st r.peer)
 
 pub clash_pick-sound : (st : State) (word : ℕ) → IsSound st → IsSound (clash_pick st word).state
-clash_pick-sound st word sound = clash_pick-along st IsSound sound (λ number. erase_clash-sound st number sound) word
+clash_pick-sound st word sound = clash_pick-keeps st IsSound sound (λ number. erase_clash-sound st number sound) word
 
 pub clash_pick-keeps_numbers : (st : State) (word : ℕ) → KeepsNumbers st (clash_pick st word).state
-clash_pick-keeps_numbers st word = clash_pick-along st (KeepsNumbers st) (keeps_numbers-itself st) (λ number. keeps_numbers-itself st) word
+clash_pick-keeps_numbers st word = clash_pick-keeps st (KeepsNumbers st) (keeps_numbers-itself st) (λ number. keeps_numbers-itself st) word
 
 -- In a sound state a pick finds no occupant only if there is no collision, or the record of the one
 -- drawn was deleted.
@@ -144,6 +150,13 @@ module _ (classes : List ℕ) (now : ℕ) (R : State → State → Type 0) (itse
           let draw = mod_below word (length st.order - i) (omega arith) in
           chain st next rest.state (exchanges st i (i + word % (length st.order - i)) first (omega arith)) more
       by false h more = itself st
+
+-- What holds of a state holds after a sample, if it is kept over an exchange in the order.
+module _ (classes : List ℕ) (now : ℕ) (P : State → Type 0) (exchanges : (st : State) (i j : ℕ) → P st → P (order_swap st i j)) where
+  pub sample-keeps : (st : State) (max percent : ℕ) (words : List ℕ) → P st → P (sample st max percent classes words now).state
+  sample-keeps st max percent words =
+      sample_from-along classes now (λ old new. P old → P new) (λ s h. h) (λ old middle new first second h. second (first h))
+      (λ s i j first second. exchanges s i j) st 0 (sample_limit (length st.order) max percent) words
 
 pub sample-sound : (st : State) (most percent : ℕ) (classes : List ℕ) (words : List ℕ) (now : ℕ) → IsSound st → IsSound (sample st most percent classes words now).state
 sample-sound st most percent classes words now =
