@@ -10,7 +10,8 @@ use host_io::Sink;
 use std::alloc::Global;
 
 /// The version, and the toolchain that proved it. Kits of one logic prove the same.
-pub(crate) const VERSION: &str = "addrman 0.1.0, proved with rattle-kit-13 (logic dac8208d650f15bf)\n";
+pub(crate) const VERSION: &str =
+    "addrman 0.1.0, proved with rattle-kit-13 (logic dac8208d650f15bf)\n";
 
 /// Writes the page of a command, or the list of all.
 pub(crate) fn help<K: Sink>(alloc: Global, command: Option<CommandName>, out: &mut K) -> Status
