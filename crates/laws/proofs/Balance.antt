@@ -12,7 +12,7 @@ use Rattle.table_machine.proofs.Kept.{KeepsPeers}
 use Rattle.table_machine.proofs.Lists.{All-from_Contains, find-IsSome, find_none_from}
 use Rattle.table_machine.proofs.Rising.{pairs_head, pairs_tail}
 use Rattle.laws.specs.LostLines.{lost_count, made_count}
-use Rattle.laws.proofs.Counts.{count_cons, count_no, sum_agree}
+use Rattle.laws.proofs.Counts.{count_cons, count_no, count_not, sum_agree}
 
 pub sum_nothing : {X : Type 0} (xs : List X) → sum_by (λ x. 0) xs ≡ 0
 sum_nothing [] = refl
@@ -56,19 +56,6 @@ count_single {X} t (x ∷ xs) apart = by (t x) refl (count_single t xs (pairs_ta
     by false is rest all =
         let one : ◌≡◌ {A = ℕ} (cond (t x) 1 0) 0 = ap {B = ℕ} (λ b. cond b 1 0) is in
         rest ∙ omega (arith, one, all)
-
-not_one : (b : Bool) → ◌≡◌ (cond b 1 0 + cond (not b) 1 0) 1
-not_one true = omega arith
-not_one false = omega arith
-
-pub count_not : {X : Type 0} (p : X → Bool) (xs : List X) → count_by p xs + count_by (λ x. not (p x)) xs ≡ length xs
-count_not p [] = omega arith
-count_not p (x ∷ xs) =
-    let yes = count_cons p x xs in
-    let no = count_cons (λ y. not (p y)) x xs in
-    let rest = count_not p xs in
-    let here = not_one (p x) in
-    omega (arith, yes, no, rest, here)
 
 module _ (old new : State) (sound : IsSound old) (later : IsSound new) (keeps : KeepsPeers old new) where
   abbrev was : Rec → Bool

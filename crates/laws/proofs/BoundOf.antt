@@ -13,8 +13,8 @@ use Rattle.table_machine.specs.State.{State}
 use Rattle.table_machine.proofs.Lists.{All-from_Contains, Contains-list_any, list_any-Contains}
 use Rattle.laws.specs.Chances.{picks, words_for}
 use Rattle.laws.specs.Rounds.{holds}
-use Rattle.laws.proofs.Balance.{count_not, sum_nothing}
-use Rattle.laws.proofs.Counts.{count_no}
+use Rattle.laws.proofs.Balance.{sum_nothing}
+use Rattle.laws.proofs.Counts.{count_no, count_not}
 use Rattle.laws.proofs.Draws.{sum_const}
 use Rattle.laws.proofs.SearchOf.{sum_constant}
 use Rattle.laws.proofs.Within.{count_within}

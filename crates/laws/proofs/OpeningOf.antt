@@ -23,8 +23,8 @@ use Rattle.table_machine.proofs.RestartLaw.{in_range-below}
 use Rattle.table_machine.proofs.RestoredSound.{NotBefore, duplicate-apart}
 use Rattle.laws.specs.Openings.{HasOther, IsFromFile, IsPlacedNew, IsPlacedTried, KeepsAtOpening, LosesNew, LosesTried, lost_at_opening}
 use Rattle.laws.proofs.AppendedOf.{AreNumbered, IsNewOf, IsTriedOf, IsTriedOrLost, new-at, new-from, new-next, new-numbered, new-places, tried-at, tried-from, tried-keeps, tried-numbered, tried-places}
-use Rattle.laws.proofs.Balance.{count_not, count_single, one_if, sum_swap}
-use Rattle.laws.proofs.Counts.{sum_agree}
+use Rattle.laws.proofs.Balance.{count_single, one_if, sum_swap}
+use Rattle.laws.proofs.Counts.{count_not, sum_agree}
 use Rattle.laws.proofs.PlacingOf.{AreOnce, IsFull, IsGrown, IsKept, IsMore, all-grown, all-kept, contains_some, settled}
 use Rattle.laws.proofs.SearchOf.{sum_constant}
 

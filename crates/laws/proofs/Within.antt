@@ -4,7 +4,7 @@ use Rattle.std.specs.List.{range_with_len}
 use Rattle.std.proofs.lemmas.Bool.{and_parts, both_ways, false_from_ne_true}
 use Rattle.std.proofs.lemmas.Bool.Decides.{Decides-eqb, eqb_tells}
 use Rattle.std.proofs.lemmas.List.FromFn.{length-range_with_len}
-use Rattle.laws.proofs.Counts.{all_range, count_cons, count_no}
+use Rattle.laws.proofs.Counts.{all_range, count_cons, count_no, count_not}
 
 -- one number is in a range once at most
 one_at_most : (x a n : ℕ) → count_by (λ b. b == x) (range_with_len a n) ≤ 1
@@ -56,19 +56,6 @@ count_within p (x ∷ xs) n within =
         at : (k : ℕ) → k < length (x ∷ xs) → get_or (x ∷ xs) k b ≡ b → Contains xs b
         at zero low is = absurd (both_ways (not (b == x)) (ap not ((Decides-eqb b x).1 (sym is))) other)
         at (suc k) low is = (k, omega (arith, low), is)
-
-not_one : (b : Bool) → ◌≡◌ (cond b 1 0 + cond (not b) 1 0) 1
-not_one true = omega arith
-not_one false = omega arith
-
-count_not : (p : ℕ → Bool) (ns : List ℕ) → count_by p ns + count_by (λ b. not (p b)) ns ≡ length ns
-count_not p [] = omega arith
-count_not p (n ∷ ns) =
-    let yes = count_cons p n ns in
-    let no = count_cons (λ b. not (p b)) n ns in
-    let rest = count_not p ns in
-    let here = not_one (p n) in
-    omega (arith, yes, no, rest, here)
 
 -- all others pass
 pub count_outside : (p : ℕ → Bool) (xs : List ℕ) (n : ℕ) → ((b : ℕ) → b < n → p b ≡ false → Contains xs b) → n ≤ count_by p (range_with_len 0 n) + length xs
