@@ -6,45 +6,88 @@ ghost use Rattle.slot_grid.specs.declared.sizes.TheConstants.{NEW_BUCKETS, TRIED
 
 use crate::hash::{add_sized, double_sha256, finish};
 use arrayvec::ArrayVec;
-use asmap_vm::Sane;
+use asmap_vm::{OwnedSane, Sane};
 use net_addr::{NetAddr, Peer};
 use net_group::asmap_bits;
 use sha2::{Digest, Sha256};
 use slot_grid::{NEW_BUCKETS, SLOTS, TRIED_BUCKETS};
+use std::alloc::{AllocError, Global};
 use std::array::from_fn;
 use std::marker::Model;
+
+/// Where a placer has its asmap.
+#[derive(Drop)]
+pub(crate) enum Map<'a> {
+    None,
+    Lent(Sane<'a>),
+    Owned(OwnedSane),
+}
 
 /// What buckets and slots depend on: a node's secret key, which nobody else knows, and the node's
 /// asmap if it has one.
 #[derive(Drop)]
 pub struct Placer<'a> {
     key: [u8; 32],
-    asmap: Option<Sane<'a>>,
+    map: Map<'a>,
 }
 
 impl<'a> Model for Placer<'a> {
     ghost use Rattle.placing.specs.Places.{Places, coded_places};
-    ghost use Rattle.placing.specs.Inside.{map_of};
+    ghost use Rattle.std.specs.Prelude.{IfSome};
+    ghost use Rattle.asmap_vm.specs.Asmap.{IsAsmap};
+    ghost use Rattle.placing.specs.Inside.{map_in};
 
     ghost Value = { Places };
 
     ghost coded = { coded_places };
 
-    ghost view = { λ p. record { key = p.key; map = map_of p.asmap } };
+    ghost view = { λ p. record { key = p.key; map = map_in p.map } };
+
+    ghost invariant = { λ p. IfSome (map_in p.map) IsAsmap };
 }
 
 impl<'a> Placer<'a> {
-    ghost use Rattle.std.specs.Prelude.{◌≤◌, [], ◌∷◌};
+    ghost use Rattle.std.specs.Prelude.{◌≤◌, [], ◌∷◌, Some, IfOk};
     ghost use Rattle.std.specs.Int.{w64, to_le_bytes};
     ghost use Rattle.std.specs.List.{Contains};
     ghost use Rattle.placing.specs.Places.{IsPlaces, hash_of, sized, slot, group_choice, asn, sum_of, group, source_bucket, source_buckets, source_choice, group_bucket, group_buckets, new_bucket, tried_bucket, new_slot, tried_slot};
-    ghost use Rattle.placing.specs.Inside.{map_of};
+    ghost use Rattle.placing.specs.Inside.{asmap_of, map_of};
 
     /// Makes the placer of a node with this key and this asmap.
     pub fn make(key: [u8; 32], asmap: Option<Sane<'a>>) -> Placer<'a>
         ensures { result ≡ record { key = key; map = map_of asmap.entry } }
     {
-        Placer { key, asmap }
+        let map = match asmap {
+            Some(asmap) => Map::Lent(asmap),
+            None => Map::None,
+        };
+        Placer { key, map }
+    }
+
+    /// Makes the placer of a node with this key, and keeps a copy of this asmap in it.
+    pub fn with_copy(
+        alloc: Global,
+        key: [u8; 32],
+        asmap: &Sane<'_>,
+    ) -> Result<Placer<'a>, AllocError>
+        ensures { IfOk result (λ placer.
+            placer ≡ record { key = key; map = Some (asmap_of asmap.now) }) }
+    {
+        Ok(Placer {
+            key,
+            map: Map::Owned(OwnedSane::copy_of(alloc, asmap)?),
+        })
+    }
+
+    /// Returns the asmap.
+    fn asmap(&self) -> Option<Sane<'_>>
+        ensures { map_of result ≡ self.now.map }
+    {
+        match &self.map {
+            Map::None => None,
+            Map::Lent(asmap) => Some(*asmap),
+            Map::Owned(asmap) => Some(asmap.lent()),
+        }
     }
 
     /// Returns the node's secret key.
@@ -60,7 +103,7 @@ impl<'a> Placer<'a> {
     pub fn sum(&self) -> [u8; 32]
         ensures { result ≡ sum_of self.now.map }
     {
-        match &self.asmap {
+        match self.asmap() {
             Some(asmap) => double_sha256(asmap.code()),
             None => [0; 32],
         }
@@ -70,8 +113,8 @@ impl<'a> Placer<'a> {
     pub fn asn(&self, addr: &NetAddr) -> u32
         ensures { result ≡ asn self.now.map addr.now }
     {
-        match &self.asmap {
-            Some(asmap) => number_of(asmap, addr),
+        match self.asmap() {
+            Some(asmap) => number_of(&asmap, addr),
             None => 0,
         }
     }
@@ -237,6 +280,7 @@ fn copied(key: &[u8]) -> [u8; 32]
     requires { length key.now ≡ 32 }
     ensures value { result ≡ key.now }
     ensures all { All (λ b. b < 256) key.now }
+    ensures length { length key.now ≡ 32 }
 {
     let mut all = [0; 32];
     all.copy_from_slice(key);

@@ -1,12 +1,11 @@
 use Rattle.std.proofs.Common.{subst}
 use Rattle.placing.specs.Places.{IsPlaces}
-use Rattle.placing.proofs.Buckets.{IsAsmap-held}
 use Rattle.placing.proofs.placer.Placer.key.Goals as goal
 
 pub returns-clause-places : goal.returns-clause-places
 returns-clause-places c =
     subst IsPlaces c.self.view_is (record {
-      key_length = c.self.told;
+      key_length = c.copied.ensures.length;
       key_bytes = c.copied.ensures.all;
-      map = IsAsmap-held c.self.inside.asmap;
+      map = c.self.invariant;
     })
