@@ -195,16 +195,16 @@ typedef uint32_t addrman_chain;
 enum { ADDRMAN_MAIN, ADDRMAN_TEST, ADDRMAN_SIGNET, ADDRMAN_REGTEST };
 
 /* Opens empty tables. `key` is the node's secret: 32 random bytes. `seed` is fresh random numbers,
- * which only spread an index in memory. `asmap` is the bytes of an asmap file, or none (length 0),
- * and stays unchanged until the object is closed. What the object had is dropped first, and after any
- * result other than ADDRMAN_OK it is closed.
+ * which only spread an index in memory. `asmap` is the bytes of an asmap file, or none (length 0); the
+ * object has a copy of them. What the object had is dropped first, and after any result other than
+ * ADDRMAN_OK it is closed.
  *   ADDRMAN_ERR_REFUSED  the asmap is not sane, or has more than 8,388,608 bytes
  * Proved: OpenCall (`empty_state`). */
 ADDRMAN_API ADDRMAN_MUST_USE addrman_result addrman_open(addrman *am, const uint8_t key[32],
     const uint64_t seed[2], const uint8_t *asmap, size_t asmap_length);
 
 /* Opens the tables that the bytes of a peers.dat (formats 1 to 4) have, under the key in the file.
- * The bytes are not used afterwards; the asmap is, as by addrman_open.
+ * The bytes are not used afterwards.
  *   ADDRMAN_ERR_REFUSED  *fault says why
  * Proved: LoadCall (`IsFile`, `restored`, `HasFileFault`, `duplicate`). */
 ADDRMAN_API ADDRMAN_MUST_USE addrman_result addrman_open_file(addrman *am, const uint8_t *bytes,

@@ -130,34 +130,29 @@ inline std::uint32_t network_of(const addrman_addr &addr)
 // The tables, and the outbound peers that are open. One call at a time; not const, as in C.
 class tables {
     addrman am_ = ADDRMAN_INIT;
-    bytes asmap_; // stays until the tables are closed
     friend class save;
 
 public:
-    tables(const key &k, const seed &s, bytes asmap = {}) : asmap_(std::move(asmap))
+    tables(const key &k, const seed &s, const bytes &asmap = {})
     {
         addrman_fault fault{ADDRMAN_FAULT_ASMAP, 0};
-        check(addrman_open(&am_, k.data(), s.data(), at(asmap_), asmap_.size()), fault);
+        check(addrman_open(&am_, k.data(), s.data(), at(asmap), asmap.size()), fault);
     }
 
-    tables(const bytes &file, addrman_chain chain, const seed &s, bytes asmap = {})
-        : asmap_(std::move(asmap))
+    tables(const bytes &file, addrman_chain chain, const seed &s, const bytes &asmap = {})
     {
         addrman_fault fault{};
-        check(addrman_open_file(&am_, at(file), file.size(), chain, s.data(), at(asmap_),
-                  asmap_.size(), &fault),
+        check(addrman_open_file(&am_, at(file), file.size(), chain, s.data(), at(asmap), asmap.size(),
+                  &fault),
             fault);
     }
 
-    // A vector that is moved keeps its bytes at their place.
-    tables(tables &&o) noexcept
-        : am_(std::exchange(o.am_, addrman ADDRMAN_INIT)), asmap_(std::move(o.asmap_)) {}
+    tables(tables &&o) noexcept : am_(std::exchange(o.am_, addrman ADDRMAN_INIT)) {}
     tables &operator=(tables &&o) noexcept
     {
         if (this != &o) {
             addrman_close(&am_);
             am_ = std::exchange(o.am_, addrman ADDRMAN_INIT);
-            asmap_ = std::move(o.asmap_);
         }
         return *this;
     }

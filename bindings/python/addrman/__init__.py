@@ -284,23 +284,19 @@ class AddrMan:
 
     def __init__(self, key: bytes, seed: tuple[int, int], asmap: bytes = b""):
         """Empty tables under a secret key of 32 bytes."""
-        self._begin(asmap)
+        self._h = _Handle()
         if len(key) != 32:
             raise ValueError("a key has 32 bytes")
-        code = _lib.addrman_open(c.byref(self._h), key, _words(seed)[0], self._asmap, len(asmap))
+        code = _lib.addrman_open(c.byref(self._h), key, _words(seed)[0], asmap, len(asmap))
         _check(code, _Fault(21, 0))
-
-    def _begin(self, asmap: bytes) -> None:
-        self._h = _Handle()
-        self._asmap = c.create_string_buffer(asmap, len(asmap) + 1)     # stays while the tables are open
 
     @classmethod
     def load(cls, file: bytes, seed: tuple[int, int], chain: int = MAIN, asmap: bytes = b"") -> AddrMan:
         """The tables that the bytes of a peers.dat have."""
         self, fault = cls.__new__(cls), _Fault()
-        self._begin(asmap)
-        code = _lib.addrman_open_file(c.byref(self._h), file, len(file), chain, _words(seed)[0], self._asmap,
-                                      len(asmap), c.byref(fault))
+        self._h = _Handle()
+        code = _lib.addrman_open_file(c.byref(self._h), file, len(file), chain, _words(seed)[0], asmap, len(asmap),
+                                      c.byref(fault))
         _check(code, fault)
         return self
 

@@ -188,8 +188,6 @@ impl Addr {
 /// The tables, and the outbound peers that are open.
 pub struct AddrMan {
     handle: raw::Handle,
-    // The tables use its bytes, which stay where they are.
-    _asmap: Box<[u8]>,
 }
 
 unsafe impl Send for AddrMan {}
@@ -201,25 +199,19 @@ impl Drop for AddrMan {
 }
 
 impl AddrMan {
-    fn closed(asmap: &[u8]) -> AddrMan {
-        let handle = raw::Handle { opaque: std::ptr::null_mut(), is_open: false };
-        AddrMan { handle, _asmap: asmap.into() }
-    }
-
     /// Opens empty tables under a secret key; `seed` is fresh random numbers. No bytes are no asmap.
     pub fn open(key: &[u8; 32], seed: &[u64; 2], asmap: &[u8]) -> Result<AddrMan, Error> {
-        let mut am = AddrMan::closed(asmap);
-        let (map, length) = (am._asmap.as_ptr(), am._asmap.len());
-        let code = unsafe { raw::addrman_open(&mut am.handle, key, seed, map, length) };
+        let mut am = AddrMan { handle: no_handle() };
+        let code = unsafe { raw::addrman_open(&mut am.handle, key, seed, asmap.as_ptr(), asmap.len()) };
         checked(code, Fault { kind: 21, at: 0 }, 0)?;
         Ok(am)
     }
 
     /// Opens the tables that the bytes of a `peers.dat` have.
     pub fn load(file: &[u8], chain: Chain, seed: &[u64; 2], asmap: &[u8]) -> Result<AddrMan, Error> {
-        let mut am = AddrMan::closed(asmap);
+        let mut am = AddrMan { handle: no_handle() };
         let mut fault = Fault::default();
-        let (map, length) = (am._asmap.as_ptr(), am._asmap.len());
+        let (map, length) = (asmap.as_ptr(), asmap.len());
         let code = unsafe {
             raw::addrman_open_file(&mut am.handle, file.as_ptr(), file.len(), chain as u32, seed, map, length, &mut fault)
         };

@@ -6,12 +6,11 @@ ghost use Rattle.addrman_c.specs.Files.{chain_of};
 use crate::chain::chain_of;
 use crate::code::{ARGUMENT, MEMORY, OK, REFUSED};
 use crate::handle::{Handle, Kept};
-use crate::opening::{boxed, check_map};
+use crate::opening::{boxed, check_map, placer_of};
 use crate::structs::AddrmanFault;
 use asmap_vm::Sane;
 use keyed_hasher::Keyed;
 use peers_file::{Chain, FileFault, read_file};
-use placing::Placer;
 use std::alloc::Global;
 use tables::RestoreFault;
 
@@ -53,7 +52,7 @@ fn loaded(
     bytes: &[u8],
     chain: Chain,
     hasher: Keyed,
-    map: Option<Sane<'static>>,
+    map: Option<Sane<'_>>,
 ) -> Result<Box<Kept>, LoadFault>
     ensures found { IfOk result (λ kept. IsLoaded chain bytes.now (map_of map.entry) kept.value) }
     ensures cause { IfErr result (IsLoadFault chain bytes.now) }
@@ -63,7 +62,10 @@ fn loaded(
         Err(FileFault::Memory) => return Err(LoadFault::Memory),
         Err(fault) => return Err(LoadFault::Refused(fault)),
     };
-    match uncounted::restore(alloc, &snap, Placer::make(snap.key(), map), hasher) {
+    let Some(placer) = placer_of(alloc, snap.key(), map) else {
+        return Err(LoadFault::Memory);
+    };
+    match uncounted::restore(alloc, &snap, placer, hasher) {
         Ok(tables) => match boxed(alloc, tables) {
             Some(kept) => Ok(kept),
             None => Err(LoadFault::Memory),
@@ -101,7 +103,7 @@ pub extern "C" fn addrman_open_file(
     bytes: &[u8],
     chain: u32,
     seed: &[u64; 2],
-    asmap: &'static [u8],
+    asmap: &[u8],
     fault: &mut AddrmanFault,
 ) -> u32
     ensures { LoadCall (chain_of chain) bytes.now asmap.now result fault.new

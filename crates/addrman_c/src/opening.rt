@@ -12,7 +12,7 @@ use std::alloc::Global;
 use tables::Tables;
 
 /// Checks an asmap. No bytes are no asmap.
-pub(crate) fn check_map(bytes: &'static [u8]) -> Result<Option<Sane<'static>>, CodeFault>
+pub(crate) fn check_map(bytes: &[u8]) -> Result<Option<Sane<'_>>, CodeFault>
     ensures found { IfOk result (λ map. IsMapOf bytes.now (map_of map)) }
     ensures cause { IfErr result (λ fault. IsNoMap bytes.now) }
 {
@@ -22,6 +22,23 @@ pub(crate) fn check_map(bytes: &'static [u8]) -> Result<Option<Sane<'static>>, C
     match asmap_vm::check(bytes) {
         Ok(sane) => Ok(Some(sane)),
         Err(fault) => Err(fault),
+    }
+}
+
+/// Makes a placer that has a copy of the asmap, or returns `None` if there is no memory for it.
+pub(crate) fn placer_of(
+    alloc: Global,
+    key: [u8; 32],
+    map: Option<Sane<'_>>,
+) -> Option<Placer<'static>>
+    ensures { IfSome result (λ placer. placer ≡ record { key = key; map = map_of map.entry }) }
+{
+    let Some(map) = map else {
+        return Some(Placer::make(key, None));
+    };
+    match Placer::with_copy(alloc, key, &map) {
+        Ok(placer) => Some(placer),
+        Err(_) => None,
     }
 }
 
@@ -40,15 +57,11 @@ pub(crate) fn boxed(alloc: Global, tables: Tables<'static, Keyed>) -> Option<Box
 }
 
 /// Makes empty tables.
-fn empty(
-    alloc: Global,
-    key: [u8; 32],
-    hasher: Keyed,
-    map: Option<Sane<'static>>,
-) -> Option<Box<Kept>>
+fn empty(alloc: Global, key: [u8; 32], hasher: Keyed, map: Option<Sane<'_>>) -> Option<Box<Kept>>
     ensures { IfSome result (λ kept. IsOpened key (map_of map.entry) kept.value) }
 {
-    match Tables::open(alloc, Placer::make(key, map), hasher) {
+    let placer = placer_of(alloc, key, map)?;
+    match Tables::open(alloc, placer, hasher) {
         Ok(tables) => boxed(alloc, tables),
         Err(_) => None,
     }
@@ -61,7 +74,7 @@ pub extern "C" fn addrman_open(
     handle: &mut Handle,
     key: &[u8; 32],
     seed: &[u64; 2],
-    asmap: &'static [u8],
+    asmap: &[u8],
 ) -> u32
     ensures { OpenCall key.now asmap.now result handle.new.loose.kept }
 {
