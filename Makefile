@@ -8,6 +8,7 @@
 # make mistakes   makes some hundred mistakes with it, and compares what standard error says
 # make lib        proves the library for C, and builds bin/lib/libaddrman.a and libaddrman.so.1
 # make lib-test   tries it from C, C++, Rust and Python, beside the built program
+# make ci-lib-test  the same with what rt ci has just proved and built in this clone
 # make packed     tries make install and make dist
 # make figures    prints lines, words and the like, and checks the names that docs/DEFINITIONS.md lists
 # make install    copies program, manual page, completion, and the library for C if it is built,
@@ -22,7 +23,8 @@ DIST := addrman-$(VERSION)-x86_64-linux
 # Where the toolchain has its part of the C library: the allocator that the library calls.
 KIT = $(shell dirname "$$(dirname "$$(readlink -f "$$(command -v rt)")")")
 
-.PHONY: all try demo examples flood endings mistakes packed test figures lib lib-test install install-lib dist
+.PHONY: all try demo examples flood endings mistakes packed test figures lib lib-test ci-lib-test archive install \
+	install-lib dist
 
 all:
 	mkdir -p bin
@@ -68,10 +70,13 @@ test:
 figures:
 	tools/figures
 
-# One object, with the allocator in it and only addrman_* to be seen.
 lib:
-	mkdir -p bin/lib
 	cd crates/addrman_c && rt lib
+	$(MAKE) archive
+
+# One object, with the allocator in it and only addrman_* to be seen.
+archive:
+	mkdir -p bin/lib
 	ld -r -o bin/lib/addrman.o --whole-archive crates/addrman_c/out/libaddrman_c.a $(KIT)/c/liblibc_c.a
 	objcopy --wildcard --keep-global-symbol='addrman_*' bin/lib/addrman.o
 	rm -f bin/lib/libaddrman.a
@@ -82,6 +87,12 @@ lib:
 
 lib-test: all lib
 	tools/lib_test
+
+# rt lib takes nothing that rt ci has built, and would prove all libraries once more.
+ci-lib-test:
+	tools/lib_archive
+	$(MAKE) archive
+	tools/lib_test --program crates/addrman/out/addrman
 
 # Whoever installs need not have the toolchain: the program is built before, by make.
 bin/addrman:
