@@ -19,20 +19,19 @@
  * Time and randomness. No call reads a clock or draws a random number. Times are seconds since 1970,
  *   random words are uniform 64-bit numbers from a cryptographic generator, and both come from the
  *   caller, so each run can be repeated.
- * Results. After a result other than ADDRMAN_OK the outputs are as they were, unless the call says
- *   otherwise.
+ * Results. After a result other than ADDRMAN_OK the outputs are as they were, but for what the
+ *   result is about: *length after ADDRMAN_ERR_SHORT_BUFFER, *fault after ADDRMAN_ERR_REFUSED, and
+ *   what the call says. *fault is written after no other result.
  * Layout. The structs below are part of the ABI. ADDRMAN_ABI changes with them; compare it with
  *   addrman_abi().
  *
  * PROOFS
  *
  * Each call is a function in Rattle (crates/addrman_c), and is proved to do what its clause says,
- * for all arguments that keep these rules. "Proved:" names the definitions of the clause. That an
- * output array stays as it was is part of the clause if the object is open; of that of addrman_sample
- * only after ADDRMAN_ERR_SHORT_BUFFER. Of all other outputs it is seen by reading the code. No proof
- * sees the caller: that pointers are valid for their lengths, that an open object is not copied, and
- * that this header says what the functions' signatures say, are trusted, as are the compiler and the
- * C library.
+ * for all arguments that keep these rules. "Proved:" names the definitions of the clause. The rule
+ * "Results" is a clause of each call, too. No proof sees the caller: that pointers are valid for
+ * their lengths, that an open object is not copied, and that this header says what the functions'
+ * signatures say, are trusted, as are the compiler and the C library.
  */
 #ifndef ADDRMAN_H
 #define ADDRMAN_H
@@ -195,9 +194,9 @@ typedef uint32_t addrman_chain;
 enum { ADDRMAN_MAIN, ADDRMAN_TEST, ADDRMAN_SIGNET, ADDRMAN_REGTEST };
 
 /* Opens empty tables. `key` is the node's secret: 32 random bytes. `seed` is fresh random numbers,
- * which only spread an index in memory. `asmap` is the bytes of an asmap file, or none (length 0); the
- * object has a copy of them. What the object had is dropped first, and after any result other than
- * ADDRMAN_OK it is closed.
+ * which only spread an index in memory. `asmap` is the bytes of an asmap file, or none (length 0);
+ * the object has a copy of them. What the object had is dropped first, and after any result other
+ * than ADDRMAN_OK it is closed.
  *   ADDRMAN_ERR_REFUSED  the asmap is not sane, or has more than 8,388,608 bytes
  * Proved: OpenCall (`empty_state`). */
 ADDRMAN_API ADDRMAN_MUST_USE addrman_result addrman_open(addrman *am, const uint8_t key[32],
@@ -275,7 +274,8 @@ typedef struct {
  * Each entry needs a random word; more are ignored. Times are clamped as Bitcoin Core does, with a
  * penalty of 7200 seconds.
  *   ADDRMAN_ERR_REFUSED      nothing changes; *fault says why
- *   ADDRMAN_ERR_SHORT_WORDS  nothing changes; added->total is how many entries there are
+ *   ADDRMAN_ERR_SHORT_WORDS  nothing changes; added->total is how many entries there are, and
+ *                            added->accepted is 0
  *   ADDRMAN_ERR_MEMORY       some of the first entries may have been added, and the others not
  * Proved: MessageCall (`IsMessage`, `take_entries`, `HasMessageFault`). */
 ADDRMAN_API ADDRMAN_MUST_USE addrman_result addrman_take_message(addrman *am, bool is_v2,
@@ -326,13 +326,13 @@ ADDRMAN_API ADDRMAN_MUST_USE addrman_result addrman_select(addrman *am, bool new
     uint32_t nets, const uint64_t *words, size_t word_count, uint32_t now, addrman_picked *picked);
 
 /* Samples peers to announce to another node: at most `max`, and at most `percent` percent of all
- * records; 0 is no limit. `classes` is a set of networks, ADDRMAN_UNROUTABLE among them. It needs a
- * random word for each record (addrman_size tells how many there are). The order of the records
- * changes, which no other call shows. addrman_find has a peer's time and services.
+ * records; 0 is no limit. `classes` is a set of networks, ADDRMAN_UNROUTABLE among them. *length is
+ * how many peers the sample has. It needs a random word for each record (addrman_size tells how many
+ * there are). The order of the records changes, which no other call shows. addrman_find has a peer's
+ * time and services.
  *   ADDRMAN_ERR_ARGUMENT      `percent` is above 100, or there are 2^32 words or more
  *   ADDRMAN_ERR_SHORT_WORDS   nothing changes; *length is how many words are needed
- *   ADDRMAN_ERR_SHORT_BUFFER  nothing is written but *length: how many peers the sample has. The order
- *                             changes all the same
+ *   ADDRMAN_ERR_SHORT_BUFFER  nothing is written but *length. The order changes all the same
  *   ADDRMAN_ERR_MEMORY        nothing changes
  * Proved: SampleCall (`sample`). */
 ADDRMAN_API ADDRMAN_MUST_USE addrman_result addrman_sample(addrman *am, uint32_t max,

@@ -51,12 +51,23 @@ static size_t fill(uint8_t *out)
     return (size_t)(p - out);
 }
 
+/* Whether an object that is open knows a number by its asmap, whose bytes are gone. */
+static bool knows(addrman *am, const addrman_addr *addr)
+{
+    uint32_t asn, code = addrman_asn(am, addr, &asn);
+    return code == ADDRMAN_ERR_CLOSED || (code == ADDRMAN_OK && asn == 5);
+}
+
 int main(void)
 {
+    static const char table[] = "1.2.3.0/24 AS5\n";
     static const uint8_t key[32];
     static const uint64_t seed[2] = { 1, 2 }, words[12] = { 1, 2, 3, 4, 5, 6, 7, 8, 9, 10, 11, 12 };
-    static uint8_t payload[100], file[100000], map[1000];
+    static uint8_t payload[100], file[100000], map[1000], given[1000];
     size_t payload_length = fill(payload);
+    size_t given_length = 0;
+    addrman_fault none;
+    if (addrman_asmap_compile((const uint8_t *)table, sizeof table - 1, given, sizeof given, &given_length, &none)) return 1;
     unsigned wanted[CALLS] = { 0 }, without = 0;
     for (long fail = 1;; fail++) {
         addrman a = ADDRMAN_INIT, b = ADDRMAN_INIT;
@@ -72,7 +83,9 @@ int main(void)
         size_t length = 0, map_length = 0;
         addrman_save job = ADDRMAN_SAVE_INIT;
         left = fail;
-        code[0] = addrman_open(&a, key, seed, payload, 0);
+        memcpy(map, given, given_length);
+        code[0] = addrman_open(&a, key, seed, map, given_length);
+        memset(map, 0xff, given_length);
         code[1] = addrman_take_message(&a, false, payload, payload_length, &source, words, 3, 1700000000, &added, &fault);
         code[2] = addrman_good(&a, &peer, true, 1700000001, &answer);
         code[3] = addrman_add(&a, &peer, &source, 1700000000, 1, 7200, 0, 1700000002, &answer);
@@ -81,9 +94,11 @@ int main(void)
         code[6] = addrman_records(&a, records, 9, &length);
         code[7] = addrman_peer_text(&peer, text, sizeof text, &length);
         code[8] = addrman_write_file(&a, ADDRMAN_MAIN, file, sizeof file, &length);
-        code[9] = code[8] ? 0 : addrman_open_file(&b, file, length, ADDRMAN_MAIN, seed, payload, 0, &fault);
+        memcpy(map, given, given_length);
+        code[9] = code[8] ? 0 : addrman_open_file(&b, file, length, ADDRMAN_MAIN, seed, map, given_length, &fault);
+        memset(map, 0xff, given_length);
         code[10] = addrman_save_begin(&job, &a, ADDRMAN_MAIN, 1000);
-        code[11] = addrman_asmap_compile((const uint8_t *)"1.2.3.0/24 AS5\n", 15, map, sizeof map, &map_length, &fault);
+        code[11] = addrman_asmap_compile((const uint8_t *)table, sizeof table - 1, map, sizeof map, &map_length, &fault);
         code[12] = code[11] ? 0 : addrman_asmap_decompile(map, map_length, text, sizeof text, &length, &fault);
         bool reached = left == 0;
         left = 0;
@@ -100,6 +115,10 @@ int main(void)
         }
         if (failed > 1 || (code[0] == ADDRMAN_OK && addrman_size(&a, &counts) != ADDRMAN_OK)) {
             printf("allocation %ld: %u calls had no memory\n", fail, failed);
+            return 1;
+        }
+        if (!knows(&a, &source) || !knows(&b, &source)) {
+            printf("allocation %ld: an object has no copy of its asmap\n", fail);
             return 1;
         }
         addrman_close(&a);

@@ -15,6 +15,7 @@ use Rattle.addrman_c.specs.declared.code.TheConstants.{OK, CLOSED, MEMORY, ARGUM
 use Rattle.addrman_c.specs.declared.structs.AddrmanBan.{AddrmanBan}
 use Rattle.addrman_c.specs.declared.structs.AddrmanFault.{AddrmanFault}
 use Rattle.addrman_c.specs.declared.values.AddrmanAddr.{AddrmanAddr}
+use Rattle.addrman_c.specs.Loading.{fault_at}
 use Rattle.addrman_c.specs.Values.{address_in, bit, IsPut}
 
 -- A closed handle stays closed. An open one stays open, and its list before and after is as the
@@ -44,7 +45,7 @@ ban_fault_number Memory = 0
 -- how the code and the output tell why bytes are not read
 abbrev pub TellsList : BanFault → ℕ → AddrmanFault → Type 0
 TellsList Memory code out = code ≡ MEMORY
-TellsList why code out = (code ≡ REFUSED) × (out.kind ≡ ban_fault_number why)
+TellsList why code out = (code ≡ REFUSED) × (out ≡ fault_at (ban_fault_number why) 0)
 
 -- a list is read, or the handle is closed
 abbrev pub ReadCall : List ℕ → ℕ → AddrmanFault → Option KeptBans → Type 0

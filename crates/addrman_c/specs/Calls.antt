@@ -1,6 +1,6 @@
 -- What the calls on tables return, write and leave. A call's definition ends with the state
 -- before, the code, the outputs and the state after.
-use Rattle.std.specs.Prelude.{◌≡◌, ◌⊎◌, ℕ, ◌<◌, ◌≤◌, ◌^◌, List, take, length, slice_get, Bool, true, false, Option, Some, None, Result, Ok, Err, MatchOption, MatchResult}
+use Rattle.std.specs.Prelude.{◌≡◌, ◌⊎◌, ℕ, ◌<◌, ◌≤◌, ◌^◌, List, take, drop, length, slice_get, Bool, true, false, Option, Some, None, Result, Ok, Err, MatchOption, MatchResult}
 use Rattle.net_addr.specs.Address.{Address}
 use Rattle.net_addr.specs.declared.entry.Entry.{Entry}
 use Rattle.net_addr.specs.declared.peer.Peer.{Peer}
@@ -26,6 +26,7 @@ use Rattle.addrman_c.specs.declared.structs.AddrmanAdded.{AddrmanAdded}
 use Rattle.addrman_c.specs.declared.structs.AddrmanFault.{AddrmanFault}
 use Rattle.addrman_c.specs.declared.structs.AddrmanPicked.{AddrmanPicked}
 use Rattle.addrman_c.specs.declared.structs.AddrmanRecord.{AddrmanRecord}
+use Rattle.addrman_c.specs.Loading.{fault_at}
 use Rattle.addrman_c.specs.Values.{peer_in, address_in, bit}
 
 -- nothing is done, for the reason that the code says
@@ -91,7 +92,7 @@ Tells (Ok taken) code added fault =
     (code ≡ OK) × (added.accepted ≡ taken.accepted) × (added.total ≡ taken.total)
 Tells (Err Memory) code added fault = code ≡ MEMORY
 Tells (Err (Refused refused)) code added fault =
-    (code ≡ REFUSED) × (fault.kind ≡ fault_number refused)
+    (code ≡ REFUSED) × (fault ≡ fault_at (fault_number refused) 0)
 Tells (Err (ShortWords need have)) code added fault =
     (code ≡ SHORT_WORDS) × (added.accepted ≡ 0) × (added.total ≡ need)
 
@@ -145,10 +146,10 @@ AreRecords out recs = (length recs ≤ length out)
     × ((i : ℕ) (told : AddrmanRecord) (r : Rec) → slice_get out i ≡ Some told
     → slice_get recs i ≡ Some r → IsRecord told r)
 
--- all records, whole or not at all, and how many they are
+-- all records, whole or not at all, with nothing after them, and how many they are
 abbrev pub RecordsCall : List Rec → ℕ → List AddrmanRecord → List AddrmanRecord → ℕ → Type 0
 RecordsCall recs code old new count =
     ((code ≡ MEMORY) × (new ≡ old))
     ⊎ ((count ≡ length recs)
     × (((length old < length recs) × (code ≡ SHORT_BUFFER) × (new ≡ old))
-    ⊎ ((code ≡ OK) × AreRecords new recs)))
+    ⊎ ((code ≡ OK) × AreRecords new recs × (drop (length recs) new ≡ drop (length recs) old))))

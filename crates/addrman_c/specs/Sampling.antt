@@ -1,5 +1,5 @@
 -- What a sample returns, writes and leaves.
-use Rattle.std.specs.Prelude.{◌≡◌, ◌⊎◌, ℕ, ◌<◌, ◌≤◌, ◌^◌, List, length, slice_get, Some}
+use Rattle.std.specs.Prelude.{◌≡◌, ◌⊎◌, ℕ, ◌<◌, ◌≤◌, ◌^◌, List, length, drop, slice_get, Some}
 use Rattle.net_addr.specs.declared.peer.Peer.{Peer}
 use Rattle.table_machine.specs.State.{State}
 use Rattle.table_machine.specs.Picks.{sample}
@@ -14,12 +14,13 @@ ArePeers out peers = (length peers ≤ length out)
     × ((i : ℕ) (told : AddrmanPeer) (peer : Peer) → slice_get out i ≡ Some told
     → slice_get peers i ≡ Some peer → peer_in told ≡ Some peer)
 
--- peers are written whole, or the output is as it was if it has less room
+-- peers are written whole, and nothing after them; the output is as it was if it has less room
 abbrev pub PeersPut : List Peer → ℕ → List AddrmanPeer → List AddrmanPeer → ℕ → Type 0
 PeersPut peers code old new count =
     (count ≡ length peers)
     × (((length old < length peers) × (code ≡ SHORT_BUFFER) × (new ≡ old))
-    ⊎ ((code ≡ OK) × ArePeers new peers))
+    ⊎ ((code ≡ OK) × ArePeers new peers
+    × (drop (length peers) new ≡ drop (length peers) old)))
 
 -- A sample. Unless words or memory lack, the order of the records is that after the sample, also if
 -- the output has too little room.

@@ -1,7 +1,7 @@
-ghost use Rattle.std.specs.Prelude.{◌≡◌, IfOk, IfErr};
+ghost use Rattle.std.specs.Prelude.{◌≡◌, ◌≢◌, IfOk, IfErr};
 ghost use Rattle.addrman_c.specs.Asmaps.{BackCall, CompileCall, IsCompiled, IsNoAsmap, IsNoTable, IsTextOf, TellsNoAsmap, TellsNoTable, table_fault};
 
-use crate::code::{MEMORY, REFUSED};
+use crate::code::{MEMORY, OK, REFUSED, SHORT_BUFFER};
 use crate::output::put_all;
 use crate::structs::AddrmanFault;
 use asmap_back::{BackFault, decompile};
@@ -64,7 +64,8 @@ fn table_fault(fault: TableFault) -> AddrmanFault
 
 /// Writes why a text is not compiled, and returns the code.
 fn tell_no_asmap(why: NoAsmap, fault: &mut AddrmanFault) -> u32
-    ensures { TellsNoAsmap why result fault.new }
+    ensures call { TellsNoAsmap why result fault.new }
+    ensures fault { result ≢ REFUSED → fault.new ≡ fault.old }
 {
     *fault = match why {
         NoAsmap::Memory => return MEMORY,
@@ -85,7 +86,9 @@ pub extern "C" fn addrman_asmap_compile(
     length: &mut usize,
     fault: &mut AddrmanFault,
 ) -> u32
-    ensures { CompileCall text.now result out.old out.new length.new fault.new }
+    ensures call { CompileCall text.now result out.old out.new length.new fault.new }
+    ensures length { result ≢ OK → result ≢ SHORT_BUFFER → length.new ≡ length.old }
+    ensures fault { result ≢ REFUSED → fault.new ≡ fault.old }
 {
     match compiled(alloc, text) {
         Ok(file) => put_all(out, file.code(), length),
@@ -125,7 +128,8 @@ fn text_of(alloc: Global, asmap: &[u8]) -> Result<Vec<u8>, NoTable>
 
 /// Writes why an asmap is not turned back, and returns the code.
 fn tell_no_table(why: NoTable, fault: &mut AddrmanFault) -> u32
-    ensures { TellsNoTable why result fault.new }
+    ensures call { TellsNoTable why result fault.new }
+    ensures fault { result ≢ REFUSED → fault.new ≡ fault.old }
 {
     let kind = match why {
         NoTable::Memory => return MEMORY,
@@ -145,7 +149,9 @@ pub extern "C" fn addrman_asmap_decompile(
     length: &mut usize,
     fault: &mut AddrmanFault,
 ) -> u32
-    ensures { BackCall asmap.now result out.old out.new length.new fault.new }
+    ensures call { BackCall asmap.now result out.old out.new length.new fault.new }
+    ensures length { result ≢ OK → result ≢ SHORT_BUFFER → length.new ≡ length.old }
+    ensures fault { result ≢ REFUSED → fault.new ≡ fault.old }
 {
     match text_of(alloc, asmap) {
         Ok(text) => put_all(out, text.as_slice(), length),

@@ -1,11 +1,11 @@
-ghost use Rattle.std.specs.Prelude.{◌≡◌, Option, None, IfOk, IfErr, IfSome};
+ghost use Rattle.std.specs.Prelude.{◌≡◌, ◌≢◌, Option, None, IfOk, IfErr, IfSome};
 ghost use Rattle.ban_list.specs.declared.subnet.Subnet.{Subnet};
 ghost use Rattle.ban_list.specs.Subnet.{IsProper};
 ghost use Rattle.addrman_c.specs.Values.{address_in};
 ghost use Rattle.addrman_c.specs.Banning.{OnBans, IsListOf, IsListFault, TellsList, ReadCall, PrintCall, IsParsed, BanCall, UnbanCall, CoverCall, SubnetCall, IsBan, ban_fault_number, reply_number};
 
 use crate::bans_handle::{BansHandle, KeptBans};
-use crate::code::{ARGUMENT, CLOSED, MEMORY, NONE, OK, REFUSED};
+use crate::code::{ARGUMENT, CLOSED, MEMORY, NONE, OK, REFUSED, SHORT_BUFFER};
 use crate::output::put_all;
 use crate::structs::{AddrmanBan, AddrmanFault};
 use crate::values::{AddrmanAddr, bit, read_addr, write_addr};
@@ -49,7 +49,8 @@ fn ban_fault_number(fault: BanFault) -> u32
 
 /// Writes why a list is not read, and returns the code.
 fn tell(why: BanFault, fault: &mut AddrmanFault) -> u32
-    ensures { TellsList why result fault.new }
+    ensures call { TellsList why result fault.new }
+    ensures fault { result ≢ REFUSED → fault.new ≡ fault.old }
 {
     match why {
         BanFault::Memory => MEMORY,
@@ -71,7 +72,8 @@ pub extern "C" fn addrman_bans_open(
     json: &[u8],
     fault: &mut AddrmanFault,
 ) -> u32
-    ensures { ReadCall json.now result fault.new handle.new.loose.kept }
+    ensures call { ReadCall json.now result fault.new handle.new.loose.kept }
+    ensures fault { result ≢ REFUSED → fault.new ≡ fault.old }
 {
     let _old = handle.take(alloc);
     match read_list(alloc, json) {
@@ -96,7 +98,8 @@ pub extern "C" fn addrman_bans_close(alloc: Global, handle: &mut BansHandle)
 
 /// Writes the file of a list, and how many bytes it has.
 fn write_on(alloc: Global, bans: &Bans, out: &mut [u8], length: &mut usize) -> u32
-    ensures { PrintCall bans.now result out.old out.new length.new }
+    ensures call { PrintCall bans.now result out.old out.new length.new }
+    ensures length { result ≢ OK → result ≢ SHORT_BUFFER → length.new ≡ length.old }
 {
     match write_bans(alloc, bans) {
         Ok(bytes) => put_all(out, bytes.items(), length),
@@ -112,8 +115,10 @@ pub extern "C" fn addrman_bans_write(
     out: &mut [u8],
     length: &mut usize,
 ) -> u32
-    ensures { OnBans handle.old.loose.kept result handle.new.loose.kept (λ old new.
+    ensures call { OnBans handle.old.loose.kept result handle.new.loose.kept (λ old new.
         PrintCall old result out.old out.new length.new × (new ≡ old)) }
+    ensures same { result ≢ OK → out.new ≡ out.old }
+    ensures length { result ≢ OK → result ≢ SHORT_BUFFER → length.new ≡ length.old }
 {
     let Some(kept) = handle.take(alloc) else {
         return CLOSED;
@@ -133,7 +138,8 @@ fn parsed(text: &[u8]) -> Option<Subnet>
 
 /// Writes a subnet as C sees it.
 fn put_subnet(subnet: Option<Subnet>, base: &mut AddrmanAddr, prefix: &mut u32) -> u32
-    ensures { SubnetCall subnet result base.new prefix.new }
+    ensures call { SubnetCall subnet result base.new prefix.new }
+    ensures same { result ≢ OK → (base.new ≡ base.old) × (prefix.new ≡ prefix.old) }
 {
     let Some(subnet) = subnet else {
         return ARGUMENT;
@@ -146,7 +152,9 @@ fn put_subnet(subnet: Option<Subnet>, base: &mut AddrmanAddr, prefix: &mut u32) 
 /// Parses the text of a subnet: its address, and how many bits of it count.
 #[unsafe(no_mangle)]
 pub extern "C" fn addrman_subnet_parse(text: &[u8], base: &mut AddrmanAddr, prefix: &mut u32) -> u32
-    ensures { (s : Option Subnet) × IsParsed text.now s × SubnetCall s result base.new prefix.new }
+    ensures call { (s : Option Subnet) × IsParsed text.now s
+        × SubnetCall s result base.new prefix.new }
+    ensures same { result ≢ OK → (base.new ≡ base.old) × (prefix.new ≡ prefix.old) }
 {
     put_subnet(parsed(text), base, prefix)
 }
@@ -165,7 +173,8 @@ fn reply_number(reply: BanReply) -> u32
 /// Bans a subnet.
 fn ban_on(bans: &mut Bans, subnet: Option<Subnet>, now: u32, until: u32, reply: &mut u32) -> u32
     requires { IfSome subnet IsProper }
-    ensures { BanCall subnet now until bans.old result reply.new bans.new }
+    ensures call { BanCall subnet now until bans.old result reply.new bans.new }
+    ensures same { result ≢ OK → reply.new ≡ reply.old }
 {
     let Some(subnet) = subnet else {
         return ARGUMENT;
@@ -189,9 +198,10 @@ pub extern "C" fn addrman_bans_add(
     until: u32,
     reply: &mut u32,
 ) -> u32
-    ensures { OnBans handle.old.loose.kept result handle.new.loose.kept (λ old new.
+    ensures call { OnBans handle.old.loose.kept result handle.new.loose.kept (λ old new.
         (s : Option Subnet) × IsParsed subnet.now s
         × BanCall s now until old result reply.new new) }
+    ensures same { result ≢ OK → reply.new ≡ reply.old }
 {
     let Some(mut kept) = handle.take(alloc) else {
         return CLOSED;
@@ -203,7 +213,8 @@ pub extern "C" fn addrman_bans_add(
 
 /// Unbans a subnet.
 fn unban_on(bans: &mut Bans, subnet: Option<Subnet>, known: &mut u32) -> u32
-    ensures { UnbanCall subnet bans.old result known.new bans.new }
+    ensures call { UnbanCall subnet bans.old result known.new bans.new }
+    ensures same { result ≢ OK → known.new ≡ known.old }
 {
     let Some(subnet) = subnet else {
         return ARGUMENT;
@@ -220,8 +231,9 @@ pub extern "C" fn addrman_bans_remove(
     subnet: &[u8],
     known: &mut u32,
 ) -> u32
-    ensures { OnBans handle.old.loose.kept result handle.new.loose.kept (λ old new.
+    ensures call { OnBans handle.old.loose.kept result handle.new.loose.kept (λ old new.
         (s : Option Subnet) × IsParsed subnet.now s × UnbanCall s old result known.new new) }
+    ensures same { result ≢ OK → known.new ≡ known.old }
 {
     let Some(mut kept) = handle.take(alloc) else {
         return CLOSED;
@@ -245,7 +257,8 @@ fn write_ban(ban: &Ban) -> AddrmanBan
 
 /// Finds the ban of an address.
 fn covering_on(bans: &Bans, addr: Option<NetAddr>, now: u32, out: &mut AddrmanBan) -> u32
-    ensures { CoverCall addr now bans.now result out.new }
+    ensures call { CoverCall addr now bans.now result out.new }
+    ensures same { result ≢ OK → out.new ≡ out.old }
 {
     let Some(addr) = addr else {
         return ARGUMENT;
@@ -268,8 +281,9 @@ pub extern "C" fn addrman_bans_covering(
     now: u32,
     out: &mut AddrmanBan,
 ) -> u32
-    ensures { OnBans handle.old.loose.kept result handle.new.loose.kept (λ old new.
+    ensures call { OnBans handle.old.loose.kept result handle.new.loose.kept (λ old new.
         CoverCall (address_in addr.now) now old result out.new × (new ≡ old)) }
+    ensures same { result ≢ OK → out.new ≡ out.old }
 {
     let Some(kept) = handle.take(alloc) else {
         return CLOSED;

@@ -1,4 +1,4 @@
-ghost use Rattle.std.specs.Prelude.{◌≡◌};
+ghost use Rattle.std.specs.Prelude.{◌≡◌, ◌≢◌};
 ghost use Rattle.addrman_c.specs.Values.{peer_in, address_in};
 ghost use Rattle.addrman_c.specs.Calls.{AddCall, MessageCall, Tells, fault_number, form_of};
 ghost use Rattle.addrman_c.specs.OnHandle.{OnTables};
@@ -29,8 +29,9 @@ fn add_on(
     now: u32,
     accepted: &mut u32,
 ) -> u32
-    ensures { AddCall peer source time services penalty word now tables.old result accepted.new
+    ensures call { AddCall peer source time services penalty word now tables.old result accepted.new
         tables.new }
+    ensures same { result ≢ OK → accepted.new ≡ accepted.old }
 {
     let Some(peer) = peer else {
         return ARGUMENT;
@@ -69,9 +70,10 @@ pub extern "C" fn addrman_add(
     now: u32,
     accepted: &mut u32,
 ) -> u32
-    ensures { OnTables handle.old.loose.kept result handle.new.loose.kept
+    ensures call { OnTables handle.old.loose.kept result handle.new.loose.kept
         (λ old new. AddCall (peer_in peer.now) (address_in source.now) time services penalty word
         now old result accepted.new new) }
+    ensures same { result ≢ OK → accepted.new ≡ accepted.old }
 {
     let Some(mut kept) = handle.take(alloc) else {
         return CLOSED;
@@ -112,7 +114,9 @@ fn tell(
     added: &mut AddrmanAdded,
     fault: &mut AddrmanFault,
 ) -> u32
-    ensures { Tells answer result added.new fault.new }
+    ensures call { Tells answer result added.new fault.new }
+    ensures added { result ≢ OK → result ≢ SHORT_WORDS → added.new ≡ added.old }
+    ensures fault { result ≢ REFUSED → fault.new ≡ fault.old }
 {
     match answer {
         Ok(taken) => {
@@ -152,8 +156,10 @@ fn message_on(
     added: &mut AddrmanAdded,
     fault: &mut AddrmanFault,
 ) -> u32
-    ensures { MessageCall form payload.now source words.now now tables.old result added.new
+    ensures call { MessageCall form payload.now source words.now now tables.old result added.new
         fault.new tables.new }
+    ensures added { result ≢ OK → result ≢ SHORT_WORDS → added.new ≡ added.old }
+    ensures fault { result ≢ REFUSED → fault.new ≡ fault.old }
 {
     let Some(source) = source else {
         return ARGUMENT;
@@ -185,9 +191,11 @@ pub extern "C" fn addrman_take_message(
     added: &mut AddrmanAdded,
     fault: &mut AddrmanFault,
 ) -> u32
-    ensures { OnTables handle.old.loose.kept result handle.new.loose.kept
+    ensures call { OnTables handle.old.loose.kept result handle.new.loose.kept
         (λ old new. MessageCall (form_of is_v2) payload.now (address_in source.now) words.now now
         old result added.new fault.new new) }
+    ensures added { result ≢ OK → result ≢ SHORT_WORDS → added.new ≡ added.old }
+    ensures fault { result ≢ REFUSED → fault.new ≡ fault.old }
 {
     let Some(mut kept) = handle.take(alloc) else {
         return CLOSED;

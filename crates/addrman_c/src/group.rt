@@ -1,9 +1,9 @@
-ghost use Rattle.std.specs.Prelude.{◌≡◌};
+ghost use Rattle.std.specs.Prelude.{◌≡◌, ◌≢◌};
 ghost use Rattle.addrman_c.specs.Values.{address_in};
 ghost use Rattle.addrman_c.specs.Groups.{AsnCall, GroupCall, CheckCall};
 ghost use Rattle.addrman_c.specs.OnHandle.{OnTables};
 
-use crate::code::{ARGUMENT, CLOSED, OK, REFUSED};
+use crate::code::{ARGUMENT, CLOSED, OK, REFUSED, SHORT_BUFFER};
 use crate::handle::Handle;
 use crate::output::put_all;
 use crate::values::{AddrmanAddr, read_addr};
@@ -24,7 +24,8 @@ pub extern "C" fn addrman_asmap_check(bytes: &[u8]) -> u32
 
 /// Tells the number of the autonomous system of an address.
 fn asn_on(placer: &Placer<'_>, addr: Option<NetAddr>, asn: &mut u32) -> u32
-    ensures { AsnCall addr placer.now result asn.new }
+    ensures call { AsnCall addr placer.now result asn.new }
+    ensures same { result ≢ OK → asn.new ≡ asn.old }
 {
     let Some(addr) = addr else {
         return ARGUMENT;
@@ -41,8 +42,9 @@ pub extern "C" fn addrman_asn(
     addr: &AddrmanAddr,
     asn: &mut u32,
 ) -> u32
-    ensures { OnTables handle.old.loose.kept result handle.new.loose.kept
+    ensures call { OnTables handle.old.loose.kept result handle.new.loose.kept
         (λ old new. AsnCall (address_in addr.now) old.places result asn.new × (new ≡ old)) }
+    ensures same { result ≢ OK → asn.new ≡ asn.old }
 {
     let Some(kept) = handle.take(alloc) else {
         return CLOSED;
@@ -54,7 +56,8 @@ pub extern "C" fn addrman_asn(
 
 /// Writes the network group of an address, and its length.
 fn group_on(placer: &Placer<'_>, addr: Option<NetAddr>, out: &mut [u8], length: &mut usize) -> u32
-    ensures { GroupCall addr placer.now result out.old out.new length.new }
+    ensures call { GroupCall addr placer.now result out.old out.new length.new }
+    ensures length { result ≢ OK → result ≢ SHORT_BUFFER → length.new ≡ length.old }
 {
     let Some(addr) = addr else {
         return ARGUMENT;
@@ -71,9 +74,11 @@ pub extern "C" fn addrman_group(
     out: &mut [u8],
     length: &mut usize,
 ) -> u32
-    ensures { OnTables handle.old.loose.kept result handle.new.loose.kept
+    ensures call { OnTables handle.old.loose.kept result handle.new.loose.kept
         (λ old new. GroupCall (address_in addr.now) old.places result out.old out.new length.new
         × (new ≡ old)) }
+    ensures same { result ≢ OK → out.new ≡ out.old }
+    ensures length { result ≢ OK → result ≢ SHORT_BUFFER → length.new ≡ length.old }
 {
     let Some(kept) = handle.take(alloc) else {
         return CLOSED;

@@ -1,4 +1,4 @@
-ghost use Rattle.std.specs.Prelude.{◌≡◌, Some};
+ghost use Rattle.std.specs.Prelude.{◌≡◌, ◌≢◌, Some};
 ghost use Rattle.net_addr.specs.OldForm.{from_v1};
 ghost use Rattle.addrman_c.specs.Values.{address_in};
 ghost use Rattle.addrman_c.specs.Texts.{ClassCall, RoutableCall, OldFormCall};
@@ -41,7 +41,8 @@ pub extern "C" fn addrman_addr_to_v1(addr: &AddrmanAddr, out: &mut [u8; 16]) -> 
 
 /// Tells the network that an address is reached through.
 fn put_class(addr: Option<NetAddr>, class: &mut u32) -> u32
-    ensures { ClassCall addr result class.new }
+    ensures call { ClassCall addr result class.new }
+    ensures same { result ≢ OK → class.new ≡ class.old }
 {
     let Some(addr) = addr else {
         return ARGUMENT;
@@ -55,14 +56,16 @@ fn put_class(addr: Option<NetAddr>, class: &mut u32) -> u32
 /// addresses have their own.
 #[unsafe(no_mangle)]
 pub extern "C" fn addrman_addr_class(addr: &AddrmanAddr, class: &mut u32) -> u32
-    ensures { ClassCall (address_in addr.now) result class.new }
+    ensures call { ClassCall (address_in addr.now) result class.new }
+    ensures same { result ≢ OK → class.new ≡ class.old }
 {
     put_class(read_addr(addr), class)
 }
 
 /// Tells whether an address is routable.
 fn put_routable(addr: Option<NetAddr>, routable: &mut u32) -> u32
-    ensures { RoutableCall addr result routable.new }
+    ensures call { RoutableCall addr result routable.new }
+    ensures same { result ≢ OK → routable.new ≡ routable.old }
 {
     let Some(addr) = addr else {
         return ARGUMENT;
@@ -74,7 +77,8 @@ fn put_routable(addr: Option<NetAddr>, routable: &mut u32) -> u32
 /// Tells whether an address is routable.
 #[unsafe(no_mangle)]
 pub extern "C" fn addrman_addr_routable(addr: &AddrmanAddr, routable: &mut u32) -> u32
-    ensures { RoutableCall (address_in addr.now) result routable.new }
+    ensures call { RoutableCall (address_in addr.now) result routable.new }
+    ensures same { result ≢ OK → routable.new ≡ routable.old }
 {
     put_routable(read_addr(addr), routable)
 }

@@ -1,4 +1,4 @@
-ghost use Rattle.std.specs.Prelude.{◌≡◌, None, is_some};
+ghost use Rattle.std.specs.Prelude.{◌≡◌, ◌≢◌, None, is_some};
 ghost use Rattle.addr_limit.specs.State.{find_conn, without_conn};
 ghost use Rattle.addr_limit.specs.Calls.{asked_of, after_asking};
 ghost use Rattle.addrman_c.specs.Values.{address_in, bit};
@@ -49,7 +49,8 @@ fn connect_on(
     now: u32,
     is_new: &mut u32,
 ) -> u32
-    ensures { ConnectCall addr number unlimited now limiter.old result is_new.new limiter.new }
+    ensures call { ConnectCall addr number unlimited now limiter.old result is_new.new limiter.new }
+    ensures same { result ≢ OK → is_new.new ≡ is_new.old }
 {
     let Some(addr) = addr else {
         return ARGUMENT;
@@ -74,9 +75,10 @@ pub extern "C" fn addrman_limiter_add(
     now: u32,
     is_new: &mut u32,
 ) -> u32
-    ensures { OnLimiter handle.old.loose.kept result handle.new.loose.kept
+    ensures call { OnLimiter handle.old.loose.kept result handle.new.loose.kept
         (λ old new. ConnectCall (address_in addr.now) number unlimited now old result is_new.new
         new) }
+    ensures same { result ≢ OK → is_new.new ≡ is_new.old }
 {
     let Some(mut kept) = handle.take(alloc) else {
         return CLOSED;
@@ -95,9 +97,10 @@ pub extern "C" fn addrman_limiter_remove(
     number: u32,
     known: &mut u32,
 ) -> u32
-    ensures { OnLimiter handle.old.loose.kept result handle.new.loose.kept (λ old new.
+    ensures call { OnLimiter handle.old.loose.kept result handle.new.loose.kept (λ old new.
         (result ≡ OK) × (known.new ≡ bit (is_some (find_conn number old)))
         × (new ≡ without_conn number old)) }
+    ensures same { result ≢ OK → known.new ≡ known.old }
 {
     let Some(mut kept) = handle.take(alloc) else {
         return CLOSED;
@@ -126,9 +129,10 @@ pub extern "C" fn addrman_limiter_getaddr(
     number: u32,
     answer: &mut u32,
 ) -> u32
-    ensures { OnLimiter handle.old.loose.kept result handle.new.loose.kept (λ old new.
+    ensures call { OnLimiter handle.old.loose.kept result handle.new.loose.kept (λ old new.
         (result ≡ OK) × (answer.new ≡ asked_number (asked_of (find_conn number old)))
         × (new ≡ after_asking (find_conn number old) old)) }
+    ensures same { result ≢ OK → answer.new ≡ answer.old }
 {
     let Some(mut kept) = handle.take(alloc) else {
         return CLOSED;
@@ -146,8 +150,9 @@ fn admit_on(
     now: u32,
     admitted: &mut u32,
 ) -> u32
-    ensures { AdmitCall count now (find_conn number limiter.old) limiter.old result admitted.new
-        limiter.new }
+    ensures call { AdmitCall count now (find_conn number limiter.old) limiter.old result
+        admitted.new limiter.new }
+    ensures same { result ≢ OK → admitted.new ≡ admitted.old }
 {
     if count > 1000 {
         return ARGUMENT;
@@ -172,8 +177,9 @@ pub extern "C" fn addrman_limiter_admit(
     now: u32,
     admitted: &mut u32,
 ) -> u32
-    ensures { OnLimiter handle.old.loose.kept result handle.new.loose.kept (λ old new.
+    ensures call { OnLimiter handle.old.loose.kept result handle.new.loose.kept (λ old new.
         AdmitCall count now (find_conn number old) old result admitted.new new) }
+    ensures same { result ≢ OK → admitted.new ≡ admitted.old }
 {
     let Some(mut kept) = handle.take(alloc) else {
         return CLOSED;
@@ -199,7 +205,8 @@ fn limits_of(conn: &Conn) -> AddrmanLimits
 
 /// Writes what is known of the connection of a number.
 fn stat_on(limiter: &Limiter<Keyed>, number: u32, out: &mut AddrmanLimits) -> u32
-    ensures { StatCall (find_conn number limiter.now) result out.new }
+    ensures call { StatCall (find_conn number limiter.now) result out.new }
+    ensures same { result ≢ OK → out.new ≡ out.old }
 {
     match limiter.find(number) {
         Some(conn) => {
@@ -218,8 +225,9 @@ pub extern "C" fn addrman_limiter_stat(
     number: u32,
     out: &mut AddrmanLimits,
 ) -> u32
-    ensures { OnLimiter handle.old.loose.kept result handle.new.loose.kept (λ old new.
+    ensures call { OnLimiter handle.old.loose.kept result handle.new.loose.kept (λ old new.
         StatCall (find_conn number old) result out.new × (new ≡ old)) }
+    ensures same { result ≢ OK → out.new ≡ out.old }
 {
     let Some(kept) = handle.take(alloc) else {
         return CLOSED;

@@ -1,4 +1,4 @@
-ghost use Rattle.std.specs.Prelude.{◌≡◌, IfOk, IfErr};
+ghost use Rattle.std.specs.Prelude.{◌≡◌, ◌≢◌, IfOk, IfErr};
 ghost use Rattle.placing.specs.Inside.{map_of};
 ghost use Rattle.addrman_c.specs.Loading.{fault_of, IsLoaded, IsLoadFault, TellsLoad, LoadCall};
 ghost use Rattle.addrman_c.specs.Files.{chain_of};
@@ -77,7 +77,8 @@ fn loaded(
 
 /// Writes why a file is not loaded, and returns the code.
 fn tell(why: LoadFault, fault: &mut AddrmanFault) -> u32
-    ensures { TellsLoad why result fault.new }
+    ensures call { TellsLoad why result fault.new }
+    ensures fault { result ≢ REFUSED → fault.new ≡ fault.old }
 {
     match why {
         LoadFault::Memory => MEMORY,
@@ -106,8 +107,9 @@ pub extern "C" fn addrman_open_file(
     asmap: &[u8],
     fault: &mut AddrmanFault,
 ) -> u32
-    ensures { LoadCall (chain_of chain) bytes.now asmap.now result fault.new
+    ensures call { LoadCall (chain_of chain) bytes.now asmap.now result fault.new
         handle.new.loose.kept }
+    ensures fault { result ≢ REFUSED → fault.new ≡ fault.old }
 {
     let _old = handle.take(alloc);
     let Some(chain) = chain_of(chain) else {

@@ -1,4 +1,4 @@
-ghost use Rattle.std.specs.Prelude.{◌≡◌};
+ghost use Rattle.std.specs.Prelude.{◌≡◌, ◌≢◌};
 ghost use Rattle.table_machine.specs.Tried.{attempt, connected, set_services};
 ghost use Rattle.addrman_c.specs.Values.{peer_in};
 ghost use Rattle.addrman_c.specs.Calls.{GoodCall, KnownCall, good_number};
@@ -33,7 +33,8 @@ fn good_on(
     now: u32,
     outcome: &mut u32,
 ) -> u32
-    ensures { GoodCall peer testing now tables.old result outcome.new tables.new }
+    ensures call { GoodCall peer testing now tables.old result outcome.new tables.new }
+    ensures same { result ≢ OK → outcome.new ≡ outcome.old }
 {
     let Some(peer) = peer else {
         return ARGUMENT;
@@ -52,8 +53,9 @@ pub extern "C" fn addrman_good(
     now: u32,
     outcome: &mut u32,
 ) -> u32
-    ensures { OnTables handle.old.loose.kept result handle.new.loose.kept
+    ensures call { OnTables handle.old.loose.kept result handle.new.loose.kept
         (λ old new. GoodCall (peer_in peer.now) testing now old result outcome.new new) }
+    ensures same { result ≢ OK → outcome.new ≡ outcome.old }
 {
     let Some(mut kept) = handle.take(alloc) else {
         return CLOSED;
@@ -71,8 +73,9 @@ fn attempt_on(
     now: u32,
     known: &mut u32,
 ) -> u32
-    ensures { KnownCall peer (λ st peer. attempt st now peer counted) tables.old result known.new
-        tables.new }
+    ensures call { KnownCall peer (λ st peer. attempt st now peer counted) tables.old result
+        known.new tables.new }
+    ensures same { result ≢ OK → known.new ≡ known.old }
 {
     let Some(peer) = peer else {
         return ARGUMENT;
@@ -91,9 +94,10 @@ pub extern "C" fn addrman_attempt(
     now: u32,
     known: &mut u32,
 ) -> u32
-    ensures { OnTables handle.old.loose.kept result handle.new.loose.kept
+    ensures call { OnTables handle.old.loose.kept result handle.new.loose.kept
         (λ old new. KnownCall (peer_in peer.now) (λ st peer. attempt st now peer counted) old
         result known.new new) }
+    ensures same { result ≢ OK → known.new ≡ known.old }
 {
     let Some(mut kept) = handle.take(alloc) else {
         return CLOSED;
@@ -110,8 +114,9 @@ fn connected_on(
     now: u32,
     known: &mut u32,
 ) -> u32
-    ensures { KnownCall peer (λ st peer. connected st now peer) tables.old result known.new
+    ensures call { KnownCall peer (λ st peer. connected st now peer) tables.old result known.new
         tables.new }
+    ensures same { result ≢ OK → known.new ≡ known.old }
 {
     let Some(peer) = peer else {
         return ARGUMENT;
@@ -129,9 +134,10 @@ pub extern "C" fn addrman_connected(
     now: u32,
     known: &mut u32,
 ) -> u32
-    ensures { OnTables handle.old.loose.kept result handle.new.loose.kept
+    ensures call { OnTables handle.old.loose.kept result handle.new.loose.kept
         (λ old new. KnownCall (peer_in peer.now) (λ st peer. connected st now peer) old result
         known.new new) }
+    ensures same { result ≢ OK → known.new ≡ known.old }
 {
     let Some(mut kept) = handle.take(alloc) else {
         return CLOSED;
@@ -148,8 +154,9 @@ fn services_on(
     services: u64,
     known: &mut u32,
 ) -> u32
-    ensures { KnownCall peer (λ st peer. set_services st peer services) tables.old result
+    ensures call { KnownCall peer (λ st peer. set_services st peer services) tables.old result
         known.new tables.new }
+    ensures same { result ≢ OK → known.new ≡ known.old }
 {
     let Some(peer) = peer else {
         return ARGUMENT;
@@ -167,9 +174,10 @@ pub extern "C" fn addrman_set_services(
     services: u64,
     known: &mut u32,
 ) -> u32
-    ensures { OnTables handle.old.loose.kept result handle.new.loose.kept
+    ensures call { OnTables handle.old.loose.kept result handle.new.loose.kept
         (λ old new. KnownCall (peer_in peer.now) (λ st peer. set_services st peer services) old
         result known.new new) }
+    ensures same { result ≢ OK → known.new ≡ known.old }
 {
     let Some(mut kept) = handle.take(alloc) else {
         return CLOSED;

@@ -1,4 +1,4 @@
-ghost use Rattle.std.specs.Prelude.{◌≡◌};
+ghost use Rattle.std.specs.Prelude.{◌≡◌, ◌≢◌};
 ghost use Rattle.peer_open.specs.Verdicts.{judge_feeler};
 ghost use Rattle.addrman_c.specs.Values.{peer_in};
 ghost use Rattle.addrman_c.specs.Outbound.{verdict_number, JudgeCall, AddCall, RemoveCall};
@@ -32,7 +32,8 @@ fn judge_on(
     tries: u32,
     verdict: &mut u32,
 ) -> u32
-    ensures { JudgeCall peer last_try now tries kept.now result verdict.new }
+    ensures call { JudgeCall peer last_try now tries kept.now result verdict.new }
+    ensures same { result ≢ OK → verdict.new ≡ verdict.old }
 {
     let Some(peer) = peer else {
         return ARGUMENT;
@@ -52,9 +53,10 @@ pub extern "C" fn addrman_opener_judge(
     tries: u32,
     verdict: &mut u32,
 ) -> u32
-    ensures { OnHandle handle.old.loose.kept result handle.new.loose.kept (λ old new.
+    ensures call { OnHandle handle.old.loose.kept result handle.new.loose.kept (λ old new.
         JudgeCall (peer_in candidate.now.peer) candidate.now.last_try now tries old result
         verdict.new × (new ≡ old)) }
+    ensures same { result ≢ OK → verdict.new ≡ verdict.old }
 {
     let Some(kept) = handle.take(alloc) else {
         return CLOSED;
@@ -107,7 +109,8 @@ pub extern "C" fn addrman_opener_add(alloc: Global, handle: &mut Handle, peer: &
 
 /// Notes that a peer was closed.
 fn remove_on(kept: &mut Kept, peer: Option<Peer>, was_open: &mut u32) -> u32
-    ensures { RemoveCall peer kept.old result was_open.new kept.new }
+    ensures call { RemoveCall peer kept.old result was_open.new kept.new }
+    ensures same { result ≢ OK → was_open.new ≡ was_open.old }
 {
     let Some(peer) = peer else {
         return ARGUMENT;
@@ -124,8 +127,9 @@ pub extern "C" fn addrman_opener_remove(
     peer: &AddrmanPeer,
     was_open: &mut u32,
 ) -> u32
-    ensures { OnHandle handle.old.loose.kept result handle.new.loose.kept
+    ensures call { OnHandle handle.old.loose.kept result handle.new.loose.kept
         (λ old new. RemoveCall (peer_in peer.now) old result was_open.new new) }
+    ensures same { result ≢ OK → was_open.new ≡ was_open.old }
 {
     let Some(mut kept) = handle.take(alloc) else {
         return CLOSED;

@@ -1,4 +1,4 @@
-ghost use Rattle.std.specs.Prelude.{◌≡◌, ◌%◌};
+ghost use Rattle.std.specs.Prelude.{◌≡◌, ◌≢◌, ◌%◌};
 ghost use Rattle.net_addr.specs.NetBits.{nets_of};
 ghost use Rattle.table_machine.specs.Picks.{select};
 ghost use Rattle.table_machine.specs.Clashes.{resolve, clash_pick};
@@ -18,7 +18,8 @@ use tables::Tables;
 
 /// Writes a pick, and returns the code that tells whether there is one.
 fn put_pick(pick: &Picked, picked: &mut AddrmanPicked) -> u32
-    ensures { PickCall pick.now result picked.new }
+    ensures call { PickCall pick.now result picked.new }
+    ensures same { result ≢ OK → picked.new ≡ picked.old }
 {
     match pick {
         Picked::One(peer, last_try) => {
@@ -42,7 +43,8 @@ fn select_on(
     now: u32,
     picked: &mut AddrmanPicked,
 ) -> u32
-    ensures { PickCall (select tables.now new_only nets words.now now) result picked.new }
+    ensures call { PickCall (select tables.now new_only nets words.now now) result picked.new }
+    ensures same { result ≢ OK → picked.new ≡ picked.old }
 {
     let pick = uncounted::select(tables, new_only, nets, words, now);
     put_pick(&pick, picked)
@@ -59,9 +61,10 @@ pub extern "C" fn addrman_select(
     now: u32,
     picked: &mut AddrmanPicked,
 ) -> u32
-    ensures { OnTables handle.old.loose.kept result handle.new.loose.kept (λ old new.
+    ensures call { OnTables handle.old.loose.kept result handle.new.loose.kept (λ old new.
         PickCall (select old new_only (nets_of (nets % 128)) words.now now) result picked.new
         × (new ≡ old)) }
+    ensures same { result ≢ OK → picked.new ≡ picked.old }
 {
     let Some(kept) = handle.take(alloc) else {
         return CLOSED;
@@ -73,7 +76,8 @@ pub extern "C" fn addrman_select(
 
 /// Writes the occupant of a collision's slot, and returns the code that tells whether there is one.
 fn put_occupant(occupant: Option<(Peer, u32)>, picked: &mut AddrmanPicked) -> u32
-    ensures { OccupantCall occupant result picked.new }
+    ensures call { OccupantCall occupant result picked.new }
+    ensures same { result ≢ OK → picked.new ≡ picked.old }
 {
     match occupant {
         Some((peer, last_try)) => {
@@ -95,9 +99,10 @@ pub extern "C" fn addrman_select_collision(
     word: u64,
     occupant: &mut AddrmanPicked,
 ) -> u32
-    ensures { OnTables handle.old.loose.kept result handle.new.loose.kept (λ old new.
+    ensures call { OnTables handle.old.loose.kept result handle.new.loose.kept (λ old new.
         OccupantCall (clash_pick old word).answer result occupant.new
         × (new ≡ (clash_pick old word).state)) }
+    ensures same { result ≢ OK → occupant.new ≡ occupant.old }
 {
     let Some(mut kept) = handle.take(alloc) else {
         return CLOSED;
@@ -115,11 +120,12 @@ pub extern "C" fn addrman_resolve_collisions(
     now: u32,
     resolved: &mut AddrmanResolved,
 ) -> u32
-    ensures { OnTables handle.old.loose.kept result handle.new.loose.kept (λ old new.
+    ensures call { OnTables handle.old.loose.kept result handle.new.loose.kept (λ old new.
         (result ≡ OK) × (resolved.new.erased ≡ (resolve old now).answer.erased)
         × (resolved.new.moved ≡ (resolve old now).answer.moved)
         × (resolved.new.kept ≡ (resolve old now).answer.kept)
         × (new ≡ (resolve old now).state)) }
+    ensures same { result ≢ OK → resolved.new ≡ resolved.old }
 {
     let Some(mut kept) = handle.take(alloc) else {
         return CLOSED;

@@ -1,4 +1,4 @@
-ghost use Rattle.std.specs.Prelude.{◌≡◌, length, count_by, not};
+ghost use Rattle.std.specs.Prelude.{◌≡◌, ◌≢◌, length, count_by, not};
 ghost use Rattle.peer_rec.specs.Rec.{is_tried};
 ghost use Rattle.addrman_c.specs.OnHandle.{OnTables};
 
@@ -14,11 +14,12 @@ pub extern "C" fn addrman_size(
     handle: &mut Handle,
     counts: &mut AddrmanCounts,
 ) -> u32
-    ensures { OnTables handle.old.loose.kept result handle.new.loose.kept (λ old new.
+    ensures call { OnTables handle.old.loose.kept result handle.new.loose.kept (λ old new.
         (result ≡ OK) × (counts.new.new_count ≡ count_by (λ r. not (is_tried r)) old.records)
         × (counts.new.tried_count ≡ count_by is_tried old.records)
         × (counts.new.collisions ≡ length old.collisions)
         × (new ≡ old)) }
+    ensures same { result ≢ OK → counts.new ≡ counts.old }
 {
     let Some(kept) = handle.take(alloc) else {
         return CLOSED;

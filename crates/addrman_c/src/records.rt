@@ -1,4 +1,4 @@
-ghost use Rattle.std.specs.Prelude.{◌≡◌, ◌≤◌, length, take};
+ghost use Rattle.std.specs.Prelude.{◌≡◌, ◌≢◌, ◌≤◌, length, take, drop};
 ghost use Rattle.peer_rec.specs.Rec.{buckets_by};
 ghost use Rattle.addrman_c.specs.Values.{peer_in};
 ghost use Rattle.addrman_c.specs.Calls.{FindCall, IsRecord, AreRecords, RecordsCall};
@@ -51,7 +51,8 @@ fn write_record(rec: &Rec) -> AddrmanRecord
 
 /// Finds the record of a peer.
 fn find_on(tables: &Tables<'_, Keyed>, peer: Option<Peer>, out: &mut AddrmanRecord) -> u32
-    ensures { FindCall peer tables.now result out.new }
+    ensures call { FindCall peer tables.now result out.new }
+    ensures same { result ≢ OK → out.new ≡ out.old }
 {
     let Some(peer) = peer else {
         return ARGUMENT;
@@ -73,8 +74,9 @@ pub extern "C" fn addrman_find(
     peer: &AddrmanPeer,
     out: &mut AddrmanRecord,
 ) -> u32
-    ensures { OnTables handle.old.loose.kept result handle.new.loose.kept
+    ensures call { OnTables handle.old.loose.kept result handle.new.loose.kept
         (λ old new. FindCall (peer_in peer.now) old result out.new × (new ≡ old)) }
+    ensures same { result ≢ OK → out.new ≡ out.old }
 {
     let Some(kept) = handle.take(alloc) else {
         return CLOSED;
@@ -87,7 +89,8 @@ pub extern "C" fn addrman_find(
 /// Writes records to the start of an output that has room for them.
 fn put_records(out: &mut [AddrmanRecord], recs: &[Rec])
     requires { length recs.now ≤ length out.old }
-    ensures { AreRecords out.new recs.now }
+    ensures told { AreRecords out.new recs.now }
+    ensures rest { drop (length recs.now) out.new ≡ drop (length recs.now) out.old }
 {
     for i in 0..recs.len() {
         out[i] = write_record(&recs[i]);
@@ -96,7 +99,8 @@ fn put_records(out: &mut [AddrmanRecord], recs: &[Rec])
 
 /// Writes all records, whole or not at all, and how many they are.
 fn records_on(tables: &Tables<'_, Keyed>, out: &mut [AddrmanRecord], length: &mut usize) -> u32
-    ensures { RecordsCall tables.now.records result out.old out.new length.new }
+    ensures call { RecordsCall tables.now.records result out.old out.new length.new }
+    ensures length { result ≢ OK → result ≢ SHORT_BUFFER → length.new ≡ length.old }
 {
     let Ok(recs) = uncounted::recs(tables) else {
         return MEMORY;
@@ -118,8 +122,10 @@ pub extern "C" fn addrman_records(
     out: &mut [AddrmanRecord],
     length: &mut usize,
 ) -> u32
-    ensures { OnTables handle.old.loose.kept result handle.new.loose.kept (λ old new.
+    ensures call { OnTables handle.old.loose.kept result handle.new.loose.kept (λ old new.
         RecordsCall old.records result out.old out.new length.new × (new ≡ old)) }
+    ensures same { result ≢ OK → out.new ≡ out.old }
+    ensures length { result ≢ OK → result ≢ SHORT_BUFFER → length.new ≡ length.old }
 {
     let Some(kept) = handle.take(alloc) else {
         return CLOSED;

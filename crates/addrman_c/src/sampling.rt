@@ -1,4 +1,4 @@
-ghost use Rattle.std.specs.Prelude.{◌≤◌, ◌%◌, length};
+ghost use Rattle.std.specs.Prelude.{◌≡◌, ◌≢◌, ◌≤◌, ◌%◌, length, drop};
 ghost use Rattle.net_addr.specs.NetBits.{nets_of};
 ghost use Rattle.addrman_c.specs.Sampling.{ArePeers, PeersPut, SampleCall};
 ghost use Rattle.addrman_c.specs.OnHandle.{OnTables};
@@ -16,7 +16,8 @@ use tables::Tables;
 /// Writes peers to the start of an output that has room for them.
 fn put_start(out: &mut [AddrmanPeer], peers: &[Peer])
     requires { length peers.now ≤ length out.old }
-    ensures { ArePeers out.new peers.now }
+    ensures told { ArePeers out.new peers.now }
+    ensures rest { drop (length peers.now) out.new ≡ drop (length peers.now) out.old }
 {
     for i in 0..peers.len() {
         out[i] = write_peer(&peers[i]);
@@ -25,7 +26,8 @@ fn put_start(out: &mut [AddrmanPeer], peers: &[Peer])
 
 /// Writes peers, whole or not at all, and how many they are.
 fn put_peers(out: &mut [AddrmanPeer], peers: &[Peer], length: &mut usize) -> u32
-    ensures { PeersPut peers.now result out.old out.new length.new }
+    ensures call { PeersPut peers.now result out.old out.new length.new }
+    ensures same { result ≢ OK → out.new ≡ out.old }
 {
     *length = peers.len();
     if peers.len() > out.len() {
@@ -47,8 +49,11 @@ fn sample_on(
     out: &mut [AddrmanPeer],
     length: &mut usize,
 ) -> u32
-    ensures { SampleCall max percent classes words.now now tables.old result out.old out.new
+    ensures call { SampleCall max percent classes words.now now tables.old result out.old out.new
         length.new tables.new }
+    ensures same { result ≢ OK → out.new ≡ out.old }
+    ensures length { result ≢ OK → result ≢ SHORT_WORDS → result ≢ SHORT_BUFFER
+        → length.new ≡ length.old }
 {
     if percent > 100 {
         return ARGUMENT;
@@ -79,9 +84,12 @@ pub extern "C" fn addrman_sample(
     out: &mut [AddrmanPeer],
     length: &mut usize,
 ) -> u32
-    ensures { OnTables handle.old.loose.kept result handle.new.loose.kept (λ old new.
+    ensures call { OnTables handle.old.loose.kept result handle.new.loose.kept (λ old new.
         SampleCall max percent (nets_of (classes % 128)) words.now now old result out.old out.new
         length.new new) }
+    ensures same { result ≢ OK → out.new ≡ out.old }
+    ensures length { result ≢ OK → result ≢ SHORT_WORDS → result ≢ SHORT_BUFFER
+        → length.new ≡ length.old }
 {
     let Some(mut kept) = handle.take(alloc) else {
         return CLOSED;

@@ -1,4 +1,4 @@
-ghost use Rattle.std.specs.Prelude.{◌≡◌, ◌<◌, Option, None, IfSome};
+ghost use Rattle.std.specs.Prelude.{◌≡◌, ◌≢◌, ◌<◌, Option, None, IfSome};
 ghost use Rattle.peers_file.specs.Texts.{file_text};
 ghost use Rattle.save_requests.specs.Requests.{save_requests, IsSafeSave};
 ghost use Rattle.table_machine.specs.Snapshot.{snapshot_of};
@@ -7,7 +7,7 @@ ghost use Rattle.addrman_c.specs.OnHandle.{OnTables};
 ghost use Rattle.addrman_c.specs.Saving.{BeginCall, DoneCall, IsBegun, NextCall, OnSave, request_number};
 
 use crate::chain::chain_of;
-use crate::code::{ARGUMENT, CLOSED, MEMORY, NONE, OK};
+use crate::code::{ARGUMENT, CLOSED, MEMORY, NONE, OK, SHORT_BUFFER};
 use crate::handle::Handle;
 use crate::output::put_all;
 use crate::save_handle::{KeptSave, SaveHandle};
@@ -110,7 +110,9 @@ fn request_number(request: SaveRequest) -> u32
 
 /// Writes what a save asks for.
 fn next_on(requests: &SaveRequests, request: &mut u32, out: &mut [u8], length: &mut usize) -> u32
-    ensures { NextCall requests.now result request.new out.old out.new length.new }
+    ensures call { NextCall requests.now result request.new out.old out.new length.new }
+    ensures request { result ≢ OK → result ≢ SHORT_BUFFER → request.new ≡ request.old }
+    ensures length { result ≢ OK → result ≢ SHORT_BUFFER → length.new ≡ length.old }
 {
     let Some(next) = requests.next() else {
         return NONE;
@@ -128,8 +130,11 @@ pub extern "C" fn addrman_save_next(
     out: &mut [u8],
     length: &mut usize,
 ) -> u32
-    ensures { OnSave save.old.loose.kept result save.new.loose.kept (λ old new.
+    ensures call { OnSave save.old.loose.kept result save.new.loose.kept (λ old new.
         NextCall old result request.new out.old out.new length.new × (new ≡ old)) }
+    ensures same { result ≢ OK → out.new ≡ out.old }
+    ensures request { result ≢ OK → result ≢ SHORT_BUFFER → request.new ≡ request.old }
+    ensures length { result ≢ OK → result ≢ SHORT_BUFFER → length.new ≡ length.old }
 {
     let Some(kept) = save.take(alloc) else {
         return CLOSED;

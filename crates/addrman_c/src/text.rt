@@ -1,11 +1,11 @@
-ghost use Rattle.std.specs.Prelude.{◌≡◌, Some};
+ghost use Rattle.std.specs.Prelude.{◌≡◌, ◌≢◌, Some};
 ghost use Rattle.net_addr.specs.Address.{Address};
 ghost use Rattle.net_addr.specs.Text.{IsAddrText, IsPeerText, addr_text, peer_text};
 ghost use Rattle.net_addr.specs.declared.peer.Peer.{Peer};
 ghost use Rattle.addrman_c.specs.Values.{address_in, peer_in};
 ghost use Rattle.addrman_c.specs.Texts.{TextCall};
 
-use crate::code::{ARGUMENT, MEMORY, OK};
+use crate::code::{ARGUMENT, MEMORY, OK, SHORT_BUFFER};
 use crate::output::put_all;
 use crate::values::{AddrmanAddr, AddrmanPeer, read_addr, read_peer, write_addr, write_peer};
 use net_addr::{NetAddr, Peer, parse_addr, parse_peer, put_addr, put_peer};
@@ -17,6 +17,7 @@ pub extern "C" fn addrman_addr_parse(text: &[u8], out: &mut AddrmanAddr) -> u32
     ensures ok { (addr : Address) → IsAddrText text.now addr
         → (result ≡ OK) × (address_in out.new ≡ Some addr) }
     ensures none { ((addr : Address) → IsAddrText text.now addr → ⊥) → result ≡ ARGUMENT }
+    ensures same { result ≢ OK → out.new ≡ out.old }
 {
     match parse_addr(text) {
         Some(addr) => {
@@ -33,6 +34,7 @@ pub extern "C" fn addrman_peer_parse(text: &[u8], out: &mut AddrmanPeer) -> u32
     ensures ok { (peer : Peer) → IsPeerText text.now peer
         → (result ≡ OK) × (peer_in out.new ≡ Some peer) }
     ensures none { ((peer : Peer) → IsPeerText text.now peer → ⊥) → result ≡ ARGUMENT }
+    ensures same { result ≢ OK → out.new ≡ out.old }
 {
     match parse_peer(text) {
         Some(peer) => {
@@ -45,7 +47,8 @@ pub extern "C" fn addrman_peer_parse(text: &[u8], out: &mut AddrmanPeer) -> u32
 
 /// Writes the text of an address, whole or not at all, and its length.
 fn put_addr_text(alloc: Global, addr: Option<NetAddr>, out: &mut [u8], length: &mut usize) -> u32
-    ensures { TextCall addr_text addr result out.old out.new length.new }
+    ensures call { TextCall addr_text addr result out.old out.new length.new }
+    ensures length { result ≢ OK → result ≢ SHORT_BUFFER → length.new ≡ length.old }
 {
     let Some(addr) = addr else {
         return ARGUMENT;
@@ -59,7 +62,8 @@ fn put_addr_text(alloc: Global, addr: Option<NetAddr>, out: &mut [u8], length: &
 
 /// Writes the text of a peer, whole or not at all, and its length.
 fn put_peer_text(alloc: Global, peer: Option<Peer>, out: &mut [u8], length: &mut usize) -> u32
-    ensures { TextCall peer_text peer result out.old out.new length.new }
+    ensures call { TextCall peer_text peer result out.old out.new length.new }
+    ensures length { result ≢ OK → result ≢ SHORT_BUFFER → length.new ≡ length.old }
 {
     let Some(peer) = peer else {
         return ARGUMENT;
@@ -79,7 +83,8 @@ pub extern "C" fn addrman_addr_text(
     out: &mut [u8],
     length: &mut usize,
 ) -> u32
-    ensures { TextCall addr_text (address_in addr.now) result out.old out.new length.new }
+    ensures call { TextCall addr_text (address_in addr.now) result out.old out.new length.new }
+    ensures length { result ≢ OK → result ≢ SHORT_BUFFER → length.new ≡ length.old }
 {
     put_addr_text(alloc, read_addr(addr), out, length)
 }
@@ -92,7 +97,8 @@ pub extern "C" fn addrman_peer_text(
     out: &mut [u8],
     length: &mut usize,
 ) -> u32
-    ensures { TextCall peer_text (peer_in peer.now) result out.old out.new length.new }
+    ensures call { TextCall peer_text (peer_in peer.now) result out.old out.new length.new }
+    ensures length { result ≢ OK → result ≢ SHORT_BUFFER → length.new ≡ length.old }
 {
     put_peer_text(alloc, read_peer(peer), out, length)
 }

@@ -1,11 +1,11 @@
-ghost use Rattle.std.specs.Prelude.{◌≡◌, IfSome};
+ghost use Rattle.std.specs.Prelude.{◌≡◌, ◌≢◌, IfSome};
 ghost use Rattle.peers_file.specs.Texts.{file_text};
 ghost use Rattle.table_machine.specs.Snapshot.{snapshot_of};
 ghost use Rattle.addrman_c.specs.Files.{chain_of, WriteCall};
 ghost use Rattle.addrman_c.specs.OnHandle.{OnTables};
 
 use crate::chain::chain_of;
-use crate::code::{ARGUMENT, CLOSED, MEMORY};
+use crate::code::{ARGUMENT, CLOSED, MEMORY, OK, SHORT_BUFFER};
 use crate::handle::Handle;
 use crate::output::put_all;
 use host_io::Bytes;
@@ -35,7 +35,8 @@ fn write_on(
     out: &mut [u8],
     length: &mut usize,
 ) -> u32
-    ensures { WriteCall chain tables.now result out.old out.new length.new }
+    ensures call { WriteCall chain tables.now result out.old out.new length.new }
+    ensures length { result ≢ OK → result ≢ SHORT_BUFFER → length.new ≡ length.old }
 {
     let Some(chain) = chain else {
         return ARGUMENT;
@@ -55,8 +56,10 @@ pub extern "C" fn addrman_write_file(
     out: &mut [u8],
     length: &mut usize,
 ) -> u32
-    ensures { OnTables handle.old.loose.kept result handle.new.loose.kept (λ old new.
+    ensures call { OnTables handle.old.loose.kept result handle.new.loose.kept (λ old new.
         WriteCall (chain_of chain) old result out.old out.new length.new × (new ≡ old)) }
+    ensures same { result ≢ OK → out.new ≡ out.old }
+    ensures length { result ≢ OK → result ≢ SHORT_BUFFER → length.new ≡ length.old }
 {
     let Some(kept) = handle.take(alloc) else {
         return CLOSED;
