@@ -1,10 +1,10 @@
 -- Reading the pairs of buckets one after another, as a loop does.
-use Rattle.std.proofs.Common.{◌≡◌, ℕ, suc, ◌-◌, ◌+◌, ◌≤◌, ◌<◌, List, [], ◌∷◌, ◌++◌, length, All, AllPairs, Result, Ok, Err, refl, sym, ap, subst, ◌∙◌, append_assoc, arith, ltb, filter}
+use Rattle.std.proofs.Common.{◌≡◌, ℕ, suc, ◌-◌, ◌+◌, ◌≤◌, ◌<◌, List, [], ◌∷◌, ◌++◌, length, All, AllPairs, Result, Ok, Err, refl, sym, ap, subst, ◌∙◌, cond, map, arith, ltb, filter}
 use Rattle.std.specs.List.{flat_map}
 use Rattle.std.specs.Int.{w32}
-use Rattle.std.proofs.lemmas.Bool.{ltb-true}
-use Rattle.std.proofs.lemmas.List.{append-nil}
-use Rattle.std.proofs.lemmas.List.Elements.{All-append, All-nil, All-map, All-head, All-tail, All-from_recursion, filter_passes}
+use Rattle.std.proofs.lemmas.Bool.{ltb-true, lt-ltb, le-ltb}
+use Rattle.std.proofs.lemmas.List.{append-nil, append_assoc, map-append}
+use Rattle.std.proofs.lemmas.List.Elements.{All-append, All-nil, All-map, All-head, All-tail, All-from_recursion, filter-append, filter_passes}
 use Rattle.std.proofs.lemmas.List.Kept.{AllPairs-cons}
 use Rattle.wire_num.specs.Readings.{◌>>=◌, then_at, value_at, times_at, le_at}
 use Rattle.wire_num.proofs.ReadingLaws.{bind_ok, ok_is}
@@ -106,3 +106,36 @@ pairs_more n b bytes ps rest front all is e low inside rising =
       indexes = All-append (λ (p : ℕ × ℕ). p.1 < n) front ps inside (λ k d within. (own k d within).1);
       rising = rises b front ps low (λ k d within. (own k d within).0) rising;
     })
+
+-- the pairs of the indexes before, and of one more
+one_more : (n b i : ℕ) (front : List ℕ) → pairs_with n b (front ++ i ∷ []) ≡ pairs_with n b front ++ pairs_with n b (i ∷ [])
+one_more n b i front =
+    ap (map (λ k. (b, k))) (filter-append (λ k. ltb k n) front (i ∷ [])) ∙ map-append (λ k. (b, k)) (filter (λ k. ltb k n) front) (filter (λ k. ltb k n) (i ∷ []))
+
+-- an index of a new record adds its pair to a list
+pub pair_added : (n b i : ℕ) (front : List ℕ) (start now new : Pairs) → now ≡ start ++ pairs_with n b front → i < n → new ≡ now ++ (b, i) ∷ []
+    → new ≡ start ++ pairs_with n b (front ++ i ∷ [])
+pair_added n b i front start now new so_far lt is =
+    let one : pairs_with n b (i ∷ []) ≡ (b, i) ∷ [] = ap (λ t. map (λ (k : ℕ). (b, k)) (cond t (i ∷ []) [])) (lt-ltb i n lt) in
+    is ∙ ap (λ xs. xs ++ (b, i) ∷ []) so_far ∙ append_assoc start (pairs_with n b front) ((b, i) ∷ [])
+    ∙ ap (λ xs. start ++ xs) (ap (λ xs. pairs_with n b front ++ xs) (sym one) ∙ sym (one_more n b i front))
+
+-- any other index adds nothing
+pub pair_passed : (n b i : ℕ) (front : List ℕ) (start now new : Pairs) → now ≡ start ++ pairs_with n b front → n ≤ i → new ≡ now
+    → new ≡ start ++ pairs_with n b (front ++ i ∷ [])
+pair_passed n b i front start now new so_far le is =
+    let none : pairs_with n b (i ∷ []) ≡ [] = ap (λ t. map (λ (k : ℕ). (b, k)) (cond t (i ∷ []) [])) (le-ltb i n le) in
+    is ∙ so_far ∙ ap (λ xs. start ++ xs) (sym (append-nil (pairs_with n b front)) ∙ ap (λ xs. pairs_with n b front ++ xs) (sym none) ∙ sym (one_more n b i front))
+
+abbrev pub ReadIndexes : Type 0
+ReadIndexes = Result (List ℕ × List ℕ) FileFault
+
+-- the pairs of the indexes that a reading gives
+abbrev pub paired : ℕ → ℕ → ReadIndexes → Result (Pairs × List ℕ) FileFault
+paired n b read = read >>= λ x. Ok (pairs_with n b x.0, x.1)
+
+pub all_paired : (n b : ℕ) (read : ReadIndexes) (front rest : List ℕ) → read ≡ Ok (front, rest) → paired n b read ≡ Ok (pairs_with n b front, rest)
+all_paired n b read front rest is = ap (paired n b) is
+
+pub none_paired : (n b : ℕ) (read : ReadIndexes) (f : FileFault) → read ≡ Err f → paired n b read ≡ Err f
+none_paired n b read f is = ap (paired n b) is

@@ -1,5 +1,5 @@
 -- What reading a file from the start gives, field by field.
-use Rattle.std.specs.Prelude.{◌≡◌, ◌≢◌, ℕ, ◌/◌, ◌^◌, List, replicate, Result, Ok, Err, ◌&&◌, ◌==◌, nat_lt, nat_le, if◌then◌else◌}
+use Rattle.std.specs.Prelude.{◌≡◌, ◌≢◌, ℕ, ◌/◌, ◌^◌, List, ◌++◌, replicate, Result, Ok, Err, ◌&&◌, ◌==◌, nat_lt, nat_le, if◌then◌else◌}
 use Rattle.std.specs.List.{flat_map}
 use Rattle.std.specs.Int.{w16, w32, w64, cast_signed}
 use Rattle.std.specs.Int.Bits.{bit_xor}
@@ -115,3 +115,11 @@ abbrev pub GivesUnlessMemory : {X Y : Type 0} → (X → Y) → Result X FileFau
     → Result Y FileFault → Type 0
 GivesUnlessMemory view (Ok x) read = read ≡ Ok (view x)
 GivesUnlessMemory view (Err e) read = e ≢ Memory → read ≡ Err e
+
+-- The list is longer by what the reading gives, and the view of the answer is the rest of the
+-- bytes, unless memory ran out.
+abbrev pub AppendsUnlessMemory : {X Y : Type 0} → (X → List ℕ) → List Y → List Y
+    → Result X FileFault → Result (List Y × List ℕ) FileFault → Type 0
+AppendsUnlessMemory {Y = Y} view old new (Ok x) read =
+    (more : List Y) × (new ≡ old ++ more) × (read ≡ Ok (more, view x))
+AppendsUnlessMemory view old new (Err e) read = e ≢ Memory → read ≡ Err e

@@ -1,17 +1,24 @@
 ghost use Rattle.std.specs.Prelude.{◌≡◌, ◌≤◌, ◌<◌, ◌+◌, vec_len, All, AllPairs, IfOk};
 ghost use Rattle.std.specs.Int.{w32};
-ghost use Rattle.wire_num.specs.Readings.{Gives, times_at, le_at};
+ghost use Rattle.wire_num.specs.Readings.{Gives, then_at, times_at, value_at, le_at};
 ghost use Rattle.peer_rec.specs.declared.file_rec.TheConstants.{MAX_ATTEMPTS};
 ghost use Rattle.peers_file.specs.Layout.{entries_of, pairs_with};
-ghost use Rattle.peers_file.specs.Readings.{GivesUnlessMemory, field_at, record_in_at, bucket_at, all_buckets_at};
+ghost use Rattle.peers_file.specs.Readings.{GivesUnlessMemory, AppendsUnlessMemory, field_at, record_in_at, bucket_at, all_buckets_at};
 
 use crate::fault::FileFault;
 use crate::record::take_record;
 use peer_rec::FileRec;
-use std::alloc::{AllocError, Global};
+use std::alloc::Global;
 use wire_num::take_le32;
 
-/// Takes `count` records of a file's format, whose indexes begin with `first`.
+/// Bytes of a record, at least: one of format 3 or 4 whose addresses have no bytes.
+const MIN_RECORD: usize = 27;
+
+/// Bytes of an index.
+const INDEX: usize = 4;
+
+/// Takes `count` records of a file's format, whose indexes begin with `first`. Room is taken for as
+/// many as the bytes may have.
 pub(crate) fn take_records(
     alloc: Global,
     format: u8,
@@ -25,7 +32,8 @@ pub(crate) fn take_records(
     ensures count { IfOk result (λ x. vec_len x.0 ≡ count) }
     ensures attempts { IfOk result (λ x. All (λ r. r.attempts ≤ MAX_ATTEMPTS) x.0.items) }
 {
-    let mut recs = Vec::new(alloc);
+    let most = bytes.len() / MIN_RECORD;
+    let mut recs = Vec::with_capacity(alloc, most.min(count as usize))?;
     let mut rest = bytes;
     let end = first + count;
     for index in first..end {
@@ -47,41 +55,6 @@ fn take_index(bytes: &[u8]) -> Result<(u32, &[u8]), FileFault>
     Ok((index, rest))
 }
 
-/// Takes `count` indexes.
-fn take_indexes(alloc: Global, count: u32, bytes: &[u8]) -> Result<(Vec<u32>, &[u8]), FileFault>
-    ensures { GivesUnlessMemory (λ x. (x.0.items, x.1.now)) result
-        (times_at 0 count (λ _. field_at (le_at w32)) bytes.now) }
-{
-    let mut indexes = Vec::new(alloc);
-    let mut rest = bytes;
-    for _ in 0..count {
-        let (index, after) = match take_index(rest) {
-            Ok(found) => found,
-            Err(fault) => return Err(fault),
-        };
-        indexes.push(index)?;
-        rest = after;
-    }
-    Ok((indexes, rest))
-}
-
-/// Returns the indexes below `new_count` as pairs with the bucket.
-fn pairs_of(
-    alloc: Global,
-    new_count: u32,
-    bucket: u32,
-    indexes: &[u32],
-) -> Result<Vec<(u32, u32)>, AllocError>
-    ensures { IfOk result (λ pairs. pairs.items ≡ pairs_with new_count bucket indexes.now) }
-{
-    indexes
-        .iter()
-        .copied()
-        .filter(|index| *index < new_count)
-        .map(|index| (bucket, index))
-        .collect(alloc)
-}
-
 /// Returns how many entries are read after this count of them: none if it is negative.
 fn entries_of(number: u32) -> u32
     ensures { result ≡ entries_of number }
@@ -89,27 +62,48 @@ fn entries_of(number: u32) -> u32
     if number < 0x8000_0000 { number } else { 0 }
 }
 
-/// Takes the pairs of a bucket.
-#[tactic(auto, unfolding(crate::specs::Readings::bucket_at))]
-fn take_bucket(
-    alloc: Global,
+/// Takes `count` indexes, and appends those below `new_count` to the list as pairs with the bucket.
+fn take_pairs<'a>(
+    listed: &mut Vec<(u32, u32)>,
     new_count: u32,
     bucket: u32,
-    bytes: &[u8],
-) -> Result<(Vec<(u32, u32)>, &[u8]), FileFault>
-    ensures { GivesUnlessMemory (λ x. (x.0.items, x.1.now)) result
+    count: u32,
+    bytes: &'a [u8],
+) -> Result<&'a [u8], FileFault>
+    ensures { AppendsUnlessMemory (λ x. x.now) listed.old.items listed.new.items result (then_at
+        (times_at 0 count (λ _. field_at (le_at w32)))
+        (λ indexes. value_at (pairs_with new_count bucket indexes)) bytes.now) }
+{
+    let mut rest = bytes;
+    for _ in 0..count {
+        let (index, after) = match take_index(rest) {
+            Ok(found) => found,
+            Err(fault) => return Err(fault),
+        };
+        if index < new_count {
+            listed.push((bucket, index))?;
+        }
+        rest = after;
+    }
+    Ok(rest)
+}
+
+/// Takes a bucket, and appends its pairs to the list.
+#[tactic(auto, unfolding(crate::specs::Readings::bucket_at))]
+fn take_bucket<'a>(
+    listed: &mut Vec<(u32, u32)>,
+    new_count: u32,
+    bucket: u32,
+    bytes: &'a [u8],
+) -> Result<&'a [u8], FileFault>
+    ensures { AppendsUnlessMemory (λ x. x.now) listed.old.items listed.new.items result
         (bucket_at new_count bucket bytes.now) }
 {
     let (number, rest) = take_le32(bytes)?;
-    let (indexes, rest) = match take_indexes(alloc, entries_of(number), rest) {
-        Ok(found) => found,
-        Err(fault) => return Err(fault),
-    };
-    let pairs = pairs_of(alloc, new_count, bucket, indexes.as_slice())?;
-    Ok((pairs, rest))
+    take_pairs(listed, new_count, bucket, entries_of(number), rest)
 }
 
-/// Takes the pairs of the buckets from 0 on.
+/// Takes the pairs of the buckets from 0 on. Room is taken for as many as the bytes may have.
 pub(crate) fn take_buckets(
     alloc: Global,
     new_count: u32,
@@ -122,15 +116,13 @@ pub(crate) fn take_buckets(
     ensures indexes { IfOk result (λ x. All (λ pair. pair.1 < new_count) x.0.items) }
     ensures rising { IfOk result (λ x. AllPairs (λ pair later. pair.0 ≤ later.0) x.0.items) }
 {
-    let mut listed = Vec::new(alloc);
+    let mut listed = Vec::with_capacity(alloc, bytes.len() / INDEX)?;
     let mut rest = bytes;
     for bucket in 0..bucket_count {
-        let (pairs, after) = match take_bucket(alloc, new_count, bucket, rest) {
-            Ok(found) => found,
+        rest = match take_bucket(&mut listed, new_count, bucket, rest) {
+            Ok(after) => after,
             Err(fault) => return Err(fault),
         };
-        listed.extend_from_slice(pairs.as_slice())?;
-        rest = after;
     }
     Ok((listed, rest))
 }
