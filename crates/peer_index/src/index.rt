@@ -25,9 +25,9 @@ impl<T: Drop> From<AllocFailed<T>> for Memory {
 /// `add` takes memory, and a peer is found by one look-up under the caller's hasher.
 #[derive(Drop)]
 pub struct PeerIndex<H: BuildHasher> {
-    recs: Slab<Rec>,
-    order: IndexMap<Peer, usize, H>,
-    counts: Counts,
+    pub(crate) recs: Slab<Rec>,
+    pub(crate) order: IndexMap<Peer, usize, H>,
+    pub(crate) counts: Counts,
 }
 
 impl<H: BuildHasher> Model for PeerIndex<H> {
@@ -58,6 +58,20 @@ impl<H: BuildHasher> PeerIndex<H> {
             recs: Slab::new(alloc),
             order: IndexMap::with_hasher(alloc, hasher),
             counts: Counts::none(),
+        }
+    }
+
+    /// Takes room for more records.
+    pub fn reserve(&mut self, additional: usize) -> Result<(), Memory>
+        ensures { self.new ≡ self.old }
+    {
+        match self.recs.reserve_exact(additional) {
+            Ok(()) => {}
+            Err(_) => return Err(Memory),
+        }
+        match self.order.reserve(additional) {
+            Ok(()) => Ok(()),
+            Err(_) => Err(Memory),
         }
     }
 
@@ -174,15 +188,6 @@ impl<H: BuildHasher> PeerIndex<H> {
         let gone = self.order.swap_remove(peer).unwrap();
         let rec = self.recs.remove(gone);
         self.counts.lower(rec.network(), rec.place.is_tried());
-    }
-
-    /// Removes all records.
-    pub fn clear(&mut self)
-        ensures { self.new ≡ [] }
-    {
-        self.recs.clear();
-        self.order.clear();
-        self.counts = Counts::none();
     }
 
     /// Returns the id of the record at a position in the order.
