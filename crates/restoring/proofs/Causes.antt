@@ -1,7 +1,7 @@
 -- Why tables are not restored.
 use Rattle.std.proofs.Common.{◌≡◌, Ok, Err, Result, sym, subst}
-use Rattle.std.specs.Prelude.{IfErr, IsErrAnd}
-use Rattle.peer_rec.specs.Snapshot.{IsSnapshot, Snapshot}
+use Rattle.std.specs.Prelude.{◌<◌, All, IfErr, IsErrAnd}
+use Rattle.peer_rec.specs.Snapshot.{Snapshot}
 use Rattle.table_machine.proofs.RestoredSound.{IsFile}
 use Rattle.restoring.specs.Duplicates.{AreFileRecs}
 use Rattle.restoring.specs.declared.restore_fault.RestoreFault.{RestoreFault}
@@ -14,11 +14,11 @@ cause-memory snap (Ok x) is = tt
 cause-memory snap (Err e) is = subst (IsCause snap) (sym is) tt
 
 -- what is restored of a snapshot, whose records are in their ranges
-pub file-of : (snap : Snapshot) → IsSnapshot snap → AreFileRecs snap → IsFile snap
-file-of snap is fit = record {
-  few_new = is.few_new;
-  few_tried = is.few_tried;
+pub file-of : (snap : Snapshot) → AreFileRecs snap → All (λ pair. pair.0 < snap.bucket_count) snap.listed → IsFile snap
+file-of snap fit buckets = record {
+  few_new = fit.few_new;
+  few_tried = fit.few_tried;
   new_recs = fit.new_recs;
   tried_recs = fit.tried_recs;
-  buckets = is.buckets;
+  buckets = buckets;
 }

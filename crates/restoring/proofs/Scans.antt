@@ -1,14 +1,14 @@
 -- A search for duplicates, record by record.
-use Rattle.std.proofs.Common.{◌≡◌, ◌≢◌, ℕ, suc, ◌+◌, ◌<◌, ◌≤◌, Bool, true, false, ◌&&◌, ◌||◌, List, [], ◌∷◌, ◌++◌, length, get_or, take, drop, Option, Some, None, is_some, refl, sym, ap, subst, ◌∙◌, arith, true≢false, if◌then◌else◌}
+use Rattle.std.proofs.Common.{◌≡◌, ℕ, suc, ◌+◌, ◌<◌, ◌≤◌, Bool, true, false, ◌&&◌, ◌||◌, List, [], ◌∷◌, ◌++◌, length, get_or, take, drop, Option, Some, None, is_some, refl, sym, ap, subst, ◌∙◌, arith, true≢false, if◌then◌else◌, not}
 use Rattle.std.specs.List.{list_any}
 use Rattle.std.specs.Option.{option_or}
 use Rattle.std.proofs.lemmas.List.{append_assoc, append-nil, take_more, take_all, drop_more, drop_all}
 use Rattle.std.proofs.lemmas.List.Folds.{list_any-append}
 use Rattle.net_addr.specs.Ranges.{is_valid}
-use Rattle.net_addr.specs.Same.{same_peer, same_peer-Decides}
+use Rattle.net_addr.specs.Same.{same_peer}
 use Rattle.net_addr.specs.declared.peer.Peer.{Peer}
 use Rattle.peer_rec.specs.declared.file_rec.FileRec.{FileRec}
-use Rattle.peer_index.specs.Order.{Order, SameOtherIds, id_of}
+use Rattle.peer_index.specs.Peers.{has_peer}
 use Rattle.table_machine.specs.Restoring.{duplicate_from, is_repeated}
 use Rattle.restoring.specs.Duplicates.{AreIn}
 use Rattle.restoring.specs.Scanned.{IsScanned}
@@ -28,28 +28,35 @@ one-more : (earlier : List FileRec) (r : FileRec) (peer : Peer) → list_any (ha
 one-more earlier r peer = list_any-append (has peer) earlier (r ∷ []) ∙ ap (λ b. list_any (has peer) earlier || b) (or-false (has peer r))
 
 -- a record that is not valid adds no peer
-pub are-passed : (earlier : List FileRec) (index : Order) (r : FileRec) → AreIn earlier index → is_valid r.peer.addr ≡ false → AreIn (earlier ++ r ∷ []) index
-are-passed earlier index r are invalid peer =
+pub are-passed : (earlier : List FileRec) (peers : List Peer) (r : FileRec) → AreIn earlier peers → is_valid r.peer.addr ≡ false → AreIn (earlier ++ r ∷ []) peers
+are-passed earlier peers r are invalid peer =
     are peer ∙ sym (one-more earlier r peer ∙ ap (λ b. list_any (has peer) earlier || (b && same_peer r.peer peer)) invalid ∙ or-false (list_any (has peer) earlier))
 
--- a valid record of a new peer adds it
-pub are-more : (earlier : List FileRec) (index new : Order) (r : FileRec) (id : ℕ) → AreIn earlier index → is_valid r.peer.addr ≡ true
-    → id_of new r.peer ≡ Some id → SameOtherIds index new r.peer → AreIn (earlier ++ r ∷ []) new
-are-more earlier index new r id are valid known others peer = by (same_peer r.peer peer) refl
-  where
-    with : (b : Bool) → same_peer r.peer peer ≡ b → list_any (has peer) (earlier ++ r ∷ []) ≡ (list_any (has peer) earlier || b)
-    with b h = one-more earlier r peer ∙ (λ i. list_any (has peer) earlier || (valid i && h i))
+or-comm : (a b : Bool) → (a || b) ≡ (b || a)
+or-comm true b = sym (or-true b)
+or-comm false b = sym (or-false b)
 
-    by : (b : Bool) → same_peer r.peer peer ≡ b → is_some (id_of new peer) ≡ list_any (has peer) (earlier ++ r ∷ [])
-    by true h =
-        let same : r.peer ≡ peer = (same_peer-Decides r.peer peer).0 h in
-        ap (λ p. is_some (id_of new p)) (sym same) ∙ ap is_some known ∙ sym (with true h ∙ or-true (list_any (has peer) earlier))
-    by false h =
-        let differs : peer ≢ r.peer = λ same. true≢false (sym ((same_peer-Decides r.peer peer).1 (sym same)) ∙ h) in
-        ap is_some (others peer differs) ∙ are peer ∙ sym (with false h ∙ or-false (list_any (has peer) earlier))
+-- a valid record adds its peer
+pub are-more : (earlier : List FileRec) (peers new : List Peer) (r : FileRec) → AreIn earlier peers → is_valid r.peer.addr ≡ true
+    → ((other : Peer) → has_peer new other ≡ (same_peer r.peer other || has_peer peers other)) → AreIn (earlier ++ r ∷ []) new
+are-more earlier peers new r are valid added peer =
+    added peer
+    ∙ or-comm (same_peer r.peer peer) (has_peer peers peer)
+    ∙ (λ i. are peer i || (sym valid i && same_peer r.peer peer))
+    ∙ sym (one-more earlier r peer)
+
+-- what a set answers to the peer of a valid record
+pub is-old : (earlier : List FileRec) (peers : List Peer) (r : FileRec) (is_new : Bool) → AreIn earlier peers → is_valid r.peer.addr ≡ true → is_new ≡ not (has_peer peers r.peer)
+    → not is_new ≡ is_repeated earlier r
+is-old earlier peers r is_new are valid is =
+    ap not is ∙ twice (has_peer peers r.peer) ∙ (λ i. sym valid i && are r.peer i)
+  where
+    twice : (b : Bool) → not (not b) ≡ b
+    twice true = refl
+    twice false = refl
 
 -- the turn of a record
-module _ (earlier recs : List FileRec) (start : ℕ) (index : Order) (done at : ℕ) (r : FileRec) (scanned : IsScanned earlier recs start index done at)
+module _ (earlier recs : List FileRec) (start : ℕ) (peers : List Peer) (done at : ℕ) (r : FileRec) (scanned : IsScanned earlier recs start peers done at)
     (within : done < length recs) (is : r ≡ get_or recs done r) where
   rest-is : drop done recs ≡ r ∷ drop (done + 1) recs
   rest-is = drop_more recs done r within ∙ ap (λ x. x ∷ drop (done + 1) recs) (sym is)
@@ -65,7 +72,7 @@ module _ (earlier recs : List FileRec) (start : ℕ) (index : Order) (done at : 
       ∙ sym (ap (duplicate_from (earlier ++ take done recs) at) rest-is)
       ∙ scanned.same
 
-  pub scan-more : (new : Order) → is_repeated (earlier ++ take done recs) r ≡ false → AreIn ((earlier ++ take done recs) ++ r ∷ []) new
+  pub scan-more : (new : List Peer) → is_repeated (earlier ++ take done recs) r ≡ false → AreIn ((earlier ++ take done recs) ++ r ∷ []) new
       → IsScanned earlier recs start new (done + 1) (at + 1)
   scan-more new fresh are = record {
     are = subst (λ xs. AreIn xs new) (sym done-is) are;
@@ -76,19 +83,19 @@ module _ (earlier recs : List FileRec) (start : ℕ) (index : Order) (done at : 
         ∙ scanned.same;
   }
 
-pub scan-start : (earlier recs : List FileRec) (start : ℕ) (index : Order) → AreIn earlier index → IsScanned earlier recs start index 0 start
-scan-start earlier recs start index are = record {
-  are = subst (λ xs. AreIn xs index) (sym (append-nil earlier)) are;
+pub scan-start : (earlier recs : List FileRec) (start : ℕ) (peers : List Peer) → AreIn earlier peers → IsScanned earlier recs start peers 0 start
+scan-start earlier recs start peers are = record {
+  are = subst (λ xs. AreIn xs peers) (sym (append-nil earlier)) are;
   same = ap (λ xs. duplicate_from xs start recs) (append-nil earlier);
 }
 
 -- the end of the list
-module _ (earlier recs : List FileRec) (start : ℕ) (index : Order) (done at : ℕ) (scanned : IsScanned earlier recs start index done at) (all : length recs ≤ done) where
+module _ (earlier recs : List FileRec) (start : ℕ) (peers : List Peer) (done at : ℕ) (scanned : IsScanned earlier recs start peers done at) (all : length recs ≤ done) where
   pub scan-none : None ≡ duplicate_from earlier start recs
   scan-none = sym (ap (duplicate_from (earlier ++ take done recs) at) (drop_all done recs all)) ∙ scanned.same
 
-  pub scan-all : AreIn (earlier ++ recs) index
-  scan-all = subst (λ xs. AreIn (earlier ++ xs) index) (take_all done recs all) scanned.are
+  pub scan-all : AreIn (earlier ++ recs) peers
+  scan-all = subst (λ xs. AreIn (earlier ++ xs) peers) (take_all done recs all) scanned.are
 
 -- a list in two parts
 pub duplicate-append : (earlier xs ys : List FileRec) (start : ℕ)

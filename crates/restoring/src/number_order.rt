@@ -34,7 +34,7 @@ impl NumberOrder {
         ensures { IfOk result (λ order. order ≡ range_with_len 0 count) }
     {
         let numbers = counted(alloc, count)?;
-        let positions = counted(alloc, count)?;
+        let positions = Vec::from_slice(alloc, numbers.as_slice())?;
         Ok(NumberOrder { numbers, positions })
     }
 
@@ -66,7 +66,7 @@ impl NumberOrder {
 fn counted(alloc: Global, count: usize) -> Result<Vec<usize>, Memory>
     ensures { IfOk result (λ v. v.items ≡ range_with_len 0 count) }
 {
-    let mut numbers = Vec::new(alloc);
+    let mut numbers = Vec::with_capacity(alloc, count)?;
     for number in 0..count {
         numbers.push(number)?;
     }

@@ -2,6 +2,7 @@ ghost use Rattle.std.specs.Prelude.{◌≡◌, ◌+◌, ◌*◌, ◌≤◌, leng
 ghost use Rattle.placing.specs.Places.{IsPlaces};
 ghost use Rattle.table_machine.specs.Restoring.{duplicate, restored};
 ghost use Rattle.table_machine.specs.Sound.{IsSound};
+ghost use Rattle.restoring.specs.Duplicates.{AreFileRecs};
 ghost use Rattle.restoring.specs.Planned.{IsPlanned, settled};
 ghost use Rattle.restoring.specs.Restored.{ArePartsOf, IsCause};
 ghost use Rattle.slot_grid.specs.declared.sizes.TheConstants.{ALL_SLOTS};
@@ -10,7 +11,7 @@ ghost use Rattle.restoring.specs.Filled.{HasApart, filled};
 
 use crate::duplicates::duplicate;
 use crate::{Memory, Plan, RestoreFault};
-use peer_index::PeerIndex;
+use peer_index::{PeerIndex, PeerSet};
 use peer_rec::{Rec, Snapshot};
 use placing::Placer;
 use slot_grid::Grid;
@@ -43,12 +44,12 @@ pub fn restore<'a, H: BuildHasher + Drop, L: Ledger>(
         parts.placer parts.grid parts.index parts.next_number) }
     ensures no_duplicate { IfOk result (λ parts. duplicate snap.now ≡ None) }
     ensures cause { IfErr result (IsCause snap.now) }
-    ensures steps { steps.new ≤ steps.old + 2 * length snap.now.new_recs
-        + 4 * length snap.now.tried_recs + 4 * length snap.now.listed + 2 * ALL_SLOTS }
+    ensures steps { steps.new ≤ steps.old + length snap.now.new_recs
+        + 3 * length snap.now.tried_recs + 4 * length snap.now.listed + 2 * ALL_SLOTS }
 {
     // Its clause on the key says what holds of every placer.
     let _ = placer.key();
-    let mut index = PeerIndex::make(alloc, hasher);
+    let mut index = empty_index(alloc, snap, hasher, steps)?;
     let plan = final_plan(alloc, snap, placer, &mut index, steps)?;
     let next_number = plan.recs.len() as u64;
     Ok(Parts {
@@ -59,32 +60,49 @@ pub fn restore<'a, H: BuildHasher + Drop, L: Ledger>(
     })
 }
 
-/// Makes the plan of a file and settles it, unless two of the file's valid records have one peer.
-/// The index, which is empty, gets the plan's records.
+/// Makes an index with no records for those of a file, unless two of its valid records have one
+/// peer. The set by which that is found becomes the index.
+fn empty_index<H: BuildHasher + Drop, L: Ledger>(
+    alloc: Global,
+    snap: &Snapshot,
+    hasher: H,
+    steps: &mut Steps<L>,
+) -> Result<PeerIndex<H>, RestoreFault>
+    ensures empty { IfOk result (λ index. index ≡ []) }
+    ensures no_duplicate { IfOk result (λ index. duplicate snap.now ≡ None) }
+    ensures fit { IfOk result (λ index. AreFileRecs snap.now) }
+    ensures cause { IfErr result (IsCause snap.now) }
+    ensures steps { steps.new
+        ≤ steps.old + length snap.now.new_recs + length snap.now.tried_recs }
+{
+    let count = snap.new_recs().len() + snap.tried_recs().len();
+    let mut peers = PeerSet::with_room(alloc, hasher, count)?;
+    let found = duplicate(snap, &mut peers, steps)?;
+    if let Some(at) = found {
+        return Err(RestoreFault::Duplicate { index: at });
+    }
+    Ok(peers.into_index(alloc))
+}
+
+/// Makes the plan of a file in which no peer is repeated, and settles it. The index, which is empty,
+/// gets the plan's records.
 fn final_plan<'a, H: BuildHasher, L: Ledger>(
     alloc: Global,
     snap: &Snapshot,
     placer: Placer<'a>,
     index: &mut PeerIndex<H>,
     steps: &mut Steps<L>,
-) -> Result<Plan<'a>, RestoreFault>
+) -> Result<Plan<'a>, Memory>
     requires empty { index.old ≡ [] }
     requires places { IsPlaces placer }
+    requires no_duplicate { duplicate snap.now ≡ None }
+    requires fit { AreFileRecs snap.now }
     ensures sound { IfOk result (λ plan. IsSound (restored snap.now placer.entry)) }
     ensures parts { IfOk result (λ plan. ArePartsOf (restored snap.now placer.entry)
         plan.placer plan.grid index.new (length plan.recs.items)) }
-    ensures no_duplicate { IfOk result (λ plan. duplicate snap.now ≡ None) }
-    ensures cause { IfErr result (IsCause snap.now) }
-    ensures steps { steps.new ≤ steps.old + 2 * length snap.now.new_recs
-        + 4 * length snap.now.tried_recs + 4 * length snap.now.listed + 2 * ALL_SLOTS }
+    ensures steps { steps.new ≤ steps.old + 2 * length snap.now.tried_recs
+        + 4 * length snap.now.listed + 2 * ALL_SLOTS }
 {
-    // Its clause on the key says what holds of every snapshot.
-    let _ = snap.key();
-    let found = duplicate(snap, index, steps)?;
-    if let Some(at) = found {
-        return Err(RestoreFault::Duplicate { index: at });
-    }
-    index.clear();
     let mut plan = Plan::of(alloc, snap, placer, steps)?;
     settle(alloc, &mut plan, index, steps)?;
     Ok(plan)
@@ -129,6 +147,7 @@ fn fill<H: BuildHasher, L: Ledger>(
     ensures steps { steps.new ≤ steps.old + length order.now }
 {
     let mut ids = zeros(alloc, recs.len())?;
+    index.reserve(order.len())?;
     for number in order {
         let id = index.add(recs[*number].copy(), steps)?;
         ids[*number] = id;

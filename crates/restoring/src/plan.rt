@@ -35,8 +35,8 @@ impl<'a> Plan<'a> {
     ghost use Rattle.table_machine.specs.Restoring.{drop_record, give_if_empty, place_all, place_pair, with_all_new, with_all_tried, with_new, with_tried};
     ghost use Rattle.restoring.specs.Planned.{HasSpace, IsPlanned, dropping_by, give_listed, placed, settled, state_by};
 
-    /// Makes a plan with no records.
-    pub(crate) fn empty(alloc: Global, placer: Placer<'a>) -> Result<Plan<'a>, Memory>
+    /// Makes a plan with no records, and room for some.
+    pub(crate) fn empty(alloc: Global, placer: Placer<'a>, room: usize) -> Result<Plan<'a>, Memory>
         ensures plan { IfOk result IsPlanned }
         ensures state { IfOk result (λ p. state_by p ≡ empty_state placer.entry) }
         ensures placer { IfOk result (λ p. p.placer ≡ placer.entry) }
@@ -44,7 +44,7 @@ impl<'a> Plan<'a> {
         ensures recs { IfOk result (λ p. p.recs.items ≡ []) }
     {
         let grid = Grid::make(alloc)?;
-        let recs = Vec::new(alloc);
+        let recs = Vec::with_capacity(alloc, room)?;
         Ok(Plan {
             placer,
             recs,
@@ -64,13 +64,16 @@ impl<'a> Plan<'a> {
         ensures state { IfOk result (λ p. state_by p ≡ placed snap.now placer.entry) }
         ensures placer { IfOk result (λ p. p.placer ≡ placer.entry) }
         ensures news { IfOk result (λ p. p.news ≡ length snap.now.new_recs) }
+        ensures buckets { IfOk result (λ p.
+            All (λ pair. pair.0 < snap.now.bucket_count) snap.now.listed) }
         ensures steps { steps.new
             ≤ steps.old + 2 * length snap.now.tried_recs + 4 * length snap.now.listed }
     {
         let are_used = uses_buckets(snap, &placer);
-        let mut plan = Plan::empty(alloc, placer)?;
-        plan.add_all_new(snap.new_recs())?;
-        plan.add_all_tried(snap.tried_recs(), steps)?;
+        let (new_recs, tried_recs) = (snap.new_recs(), snap.tried_recs());
+        let mut plan = Plan::empty(alloc, placer, new_recs.len() + tried_recs.len())?;
+        plan.add_all_new(new_recs)?;
+        plan.add_all_tried(tried_recs, steps)?;
         plan.place_all(are_used, snap.listed(), steps);
         Ok(plan)
     }

@@ -48,3 +48,11 @@ impl From<Memory> for RestoreFault {
         RestoreFault::Memory
     }
 }
+
+impl From<peer_index::Memory> for RestoreFault {
+    ghost from_gives = { λ _ e. e ≡ Memory };
+
+    fn from(_: peer_index::Memory) -> RestoreFault {
+        RestoreFault::Memory
+    }
+}

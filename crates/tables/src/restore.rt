@@ -31,8 +31,8 @@ impl<'a, H: BuildHasher + Drop> Tables<'a, H> {
         ensures sound { IfOk result IsSound }
         ensures no_duplicate { IfOk result (λ t. duplicate snap.now ≡ None) }
         ensures cause { IfErr result (IsCause snap.now) }
-        ensures steps { steps.new ≤ steps.old + 2 * length snap.now.new_recs
-            + 4 * length snap.now.tried_recs + 4 * length snap.now.listed + 2 * ALL_SLOTS }
+        ensures steps { steps.new ≤ steps.old + length snap.now.new_recs
+            + 3 * length snap.now.tried_recs + 4 * length snap.now.listed + 2 * ALL_SLOTS }
     {
         let parts = restore(alloc, snap, placer, hasher, steps)?;
         let store = Store {

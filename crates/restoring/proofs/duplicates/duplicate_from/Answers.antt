@@ -7,9 +7,8 @@ use Rattle.restoring.proofs.duplicates.duplicate_from.Goals as goal
 
 pub loop-rec-init : goal.loop-rec-init
 loop-rec-init g c = record {
-  scanned = λ earlier are. scan-start earlier c.args.recs.now c.args.start c.args.index.now are;
+  scanned = λ earlier are. scan-start earlier c.args.recs.now c.args.start c.args.peers.now are;
   fit = λ k d within. absurd (omega arith);
-  room = omega arith;
   few = omega arith;
   steps = omega arith;
 }
@@ -18,7 +17,7 @@ pub returns-then-branch-clause-found : goal.returns-then-branch-clause-found
 returns-then-branch-clause-found g c earlier are =
     let l = c.loop-rec in
     let scanned = l.invariant.scanned earlier are in
-    scan-found earlier c.args.recs.now c.args.start l.index l.rec-index l.at c.rec-item.result scanned (search rules) c.rec-item.is
+    scan-found earlier c.args.recs.now c.args.start l.peers l.rec-index l.at c.rec-item.result scanned (search rules) c.rec-item.is
     (sym (c.in_ok-is_repeated.ensures.repeated (earlier ++ take l.rec-index c.args.recs.now) scanned.are) ∙ c.if-branch.true)
 
 pub loop-rec-preserved : goal.loop-rec-preserved
@@ -30,11 +29,10 @@ loop-rec-preserved g c =
       scanned = λ earlier are.
           (let scanned = l.invariant.scanned earlier are in
           let done = earlier ++ take l.rec-index c.args.recs.now in
-          scan-more earlier c.args.recs.now c.args.start l.index l.rec-index l.at r scanned within c.rec-item.is c.is_repeated.new.index
+          scan-more earlier c.args.recs.now c.args.start l.peers l.rec-index l.at r scanned within c.rec-item.is c.is_repeated.new.peers
           (sym (c.in_ok-is_repeated.ensures.repeated done scanned.are) ∙ c.if-branch.false)
           (c.in_ok-is_repeated.ensures.all done scanned.are c.if-branch.false));
       fit = All-more IsFileRec c.args.recs.now l.rec-index r within l.invariant.fit (subst IsFileRec c.rec-item.is c.in_ok-is_repeated.ensures.fit);
-      room = omega (arith, l.invariant.room, c.in_ok-is_repeated.ensures.room);
       few = omega (arith, l.invariant.few);
       steps = omega (arith, l.invariant.steps, c.is_repeated.ensures.steps);
     }
@@ -42,12 +40,12 @@ loop-rec-preserved g c =
 pub returns-clause-found : goal.returns-clause-found
 returns-clause-found g c earlier are =
     let l = c.loop-rec in
-    scan-none earlier c.args.recs.now c.args.start l.index l.rec-index l.at (l.invariant.scanned earlier are) (search rules)
+    scan-none earlier c.args.recs.now c.args.start l.peers l.rec-index l.at (l.invariant.scanned earlier are) (search rules)
 
 pub returns-clause-all : goal.returns-clause-all
 returns-clause-all g c earlier are none =
     let l = c.loop-rec in
-    scan-all earlier c.args.recs.now c.args.start l.index l.rec-index l.at (l.invariant.scanned earlier are) (search rules)
+    scan-all earlier c.args.recs.now c.args.start l.peers l.rec-index l.at (l.invariant.scanned earlier are) (search rules)
 
 pub returns-clause-fit : goal.returns-clause-fit
 returns-clause-fit g c none =

@@ -1,4 +1,4 @@
-use Rattle.std.proofs.Common.{All, ◌≡◌, ◌+◌, ◌*◌, ◌≤◌, List, length, take}
+use Rattle.std.proofs.Common.{All, ◌≡◌, ◌+◌, ◌≤◌, List, take}
 use Rattle.peer_rec.specs.Snapshot.{IsFileRec}
 use Rattle.peer_rec.specs.declared.file_rec.FileRec.{FileRec}
 use Rattle.restoring.specs.Duplicates.{AreIn}
@@ -7,9 +7,8 @@ use Rattle.restoring.proofs.duplicates.duplicate_from.Given as goal
 
 abbrev pub invariant-loop-rec : goal.invariant-loop-rec
 invariant-loop-rec g l = record {
-  scanned : (earlier : List FileRec) → AreIn earlier l.initial.index → IsScanned earlier l.recs l.start l.index l.rec-index l.at;
+  scanned : (earlier : List FileRec) → AreIn earlier l.initial.peers → IsScanned earlier l.recs l.start l.peers l.rec-index l.at;
   fit : All IsFileRec (take l.rec-index l.recs);
-  room : length l.index ≤ length l.initial.index + l.rec-index;
   few : l.at ≡ l.start + l.rec-index;
-  steps : l.steps ≤ l.fn.steps + 2 * l.rec-index;
+  steps : l.steps ≤ l.fn.steps + l.rec-index;
 }
