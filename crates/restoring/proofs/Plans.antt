@@ -19,6 +19,7 @@ use Rattle.placing.specs.Places.{new_bucket, new_slot, tried_bucket, tried_slot}
 use Rattle.peer_rec.specs.Rec.{buckets_of, is_tried}
 use Rattle.peer_rec.specs.Buckets.{with_bucket}
 use Rattle.peer_rec.specs.declared.file_rec.FileRec.{FileRec}
+use Rattle.peer_rec.specs.declared.place.Place.{Place}
 use Rattle.peer_rec.specs.declared.place.Place.TheVariants.{New, Tried}
 use Rattle.slot_grid.specs.Slots.{Slots, SameNew, SameTried, SameOtherNew, SameOtherTried, new_id, tried_id}
 use Rattle.table_machine.specs.State.{State, is_new_at, is_tried_at, new_rec_at, tried_occupant}
@@ -245,6 +246,10 @@ same_bool false false to back = refl
 -- the record with one more bucket
 abbrev pub with_one : Rec → ℕ → Rec
 with_one r bucket = record r { place = New (with_bucket bucket (buckets_of r)) }
+
+-- the same of a record in which the place is replaced
+pub placed-one : (q : Rec) (place : Place) (r : Rec) (bucket : ℕ) → q ≡ r → place ≡ New (with_bucket bucket (buckets_of r)) → record q { place = place } ≡ with_one r bucket
+placed-one q place r bucket is new = λ i. record (is i) { place = new i }
 
 -- the record at a position gets a bucket whose slot is empty
 module _ (places : Places) (recs : List Rec) (news : ℕ) (slots : Slots) (plan : IsPlan places recs news slots) (index bucket slot : ℕ) (r : Rec)

@@ -84,8 +84,8 @@ fn empty_index<H: BuildHasher + Drop, L: Ledger>(
     Ok(peers.into_index(alloc))
 }
 
-/// Makes the plan of a file in which no peer is repeated, and settles it. The index, which is empty,
-/// gets the plan's records.
+/// Makes the plan of a file in which no peer is repeated, and settles it. The index, which is
+/// empty, gets the plan's records.
 fn final_plan<'a, H: BuildHasher, L: Ledger>(
     alloc: Global,
     snap: &Snapshot,

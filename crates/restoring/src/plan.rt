@@ -242,8 +242,7 @@ impl<'a> Plan<'a> {
         if self.grid.new_at(bucket, slot, steps).is_some() {
             return false;
         }
-        let rec = rec.with_bucket(bucket);
-        self.recs[index] = rec;
+        self.recs[index].place = rec.place.with_bucket(bucket);
         self.grid.set_new(bucket, slot, Some(index), steps);
         true
     }
