@@ -1,4 +1,5 @@
-ghost use Rattle.std.specs.Prelude.{◌≡◌, ◌-◌, ◌*◌, ◌≤◌, ◌||◌, length, drop, map};
+ghost use Rattle.std.specs.Prelude.{◌≡◌, ◌-◌, ◌*◌, ◌≤◌, ◌==◌, ◌||◌, length, drop, map};
+ghost use Rattle.std.specs.List.{starts_with};
 ghost use Rattle.net_addr.specs.Ranges.{range, in_range, in_some, ipv4_invalid, ipv6_invalid, ipv4_local, ipv6_local, ipv4_reserved, ipv6_reserved, cjdns_range, nat64, siit, carried};
 
 use crate::old_form::array_of;
@@ -11,10 +12,30 @@ pub(crate) fn in_range(bytes: &[u8], base: &[u8], bits: usize) -> bool
 {
     let whole = bits / 8;
     let rest = bits % 8;
-    if !bytes.starts_with(&base[..whole]) {
+    if !begins_with(bytes, &base[..whole]) {
         return false;
     }
     rest == 0 || base[whole] >> (8 - rest) == bytes[whole] >> (8 - rest)
+}
+
+/// Returns `true` if the bytes begin with others. It stops at the first byte that differs, so for a
+/// few bytes it takes less time than the call of a slice, which compares bytes in groups.
+fn begins_with(bytes: &[u8], others: &[u8]) -> bool
+    ensures { result ≡ starts_with ◌==◌ bytes.now others.now }
+{
+    let mut left = bytes;
+    let mut right = others;
+    while let [y, ys @ ..] = right {
+        let [x, xs @ ..] = left else {
+            return false;
+        };
+        if *x != *y {
+            return false;
+        }
+        left = xs;
+        right = ys;
+    }
+    true
 }
 
 /// Returns `true` if the bytes are 0.0.0.0 or 255.255.255.255.
