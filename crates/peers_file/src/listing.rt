@@ -2,10 +2,12 @@ ghost use Rattle.std.specs.Prelude.{◌≡◌, ◌++◌, decimal, IfOk, OnOk};
 ghost use Rattle.hex.specs.Hex.{encode_lower};
 ghost use Rattle.peers_file.specs.Listing.{totals_text, summary_line, origin_text, history_text, record_line, record_lines, snapshot_text};
 
-use itoa::Buffer;
-use net_addr::{Memory, put_addr, put_peer};
+use net_addr::{Memory, put_addr, put_number, put_peer, put_text};
 use peer_rec::{FileRec, Snapshot};
 use std::alloc::Global;
+
+/// Room for a line in bytes: those of IPv4 peers have less, and the text grows if others need more.
+const LINE_ROOM: usize = 120;
 
 /// Returns the text that lists a snapshot: a line with its counts, key and checksum, then one for
 /// each record. The new records come first; each table counts its own from 0.
@@ -16,7 +18,8 @@ use std::alloc::Global;
 pub fn snapshot_text(alloc: Global, snap: &Snapshot) -> Result<Vec<u8>, Memory>
     ensures { IfOk result (λ text. text.items ≡ snapshot_text snap.now) }
 {
-    let mut text = Vec::new(alloc);
+    let lines = 2 + snap.new_recs().len() + snap.tried_recs().len();
+    let mut text = Vec::with_capacity(alloc, LINE_ROOM * lines)?;
     put_summary(snap, &mut text)?;
     put_lines(b"new ", snap.new_recs(), &mut text)?;
     put_lines(b"tried ", snap.tried_recs(), &mut text)?;
@@ -37,9 +40,9 @@ fn put_summary(snap: &Snapshot, out: &mut Vec<u8>) -> Result<(), Memory>
 fn put_totals(snap: &Snapshot, out: &mut Vec<u8>) -> Result<(), Memory>
     ensures { OnOk result (out.new.items ≡ out.old.items ++ totals_text snap.now) }
 {
-    put_field(b"file new ", snap.new_recs().len() as u64, out)?;
-    put_field(b" tried ", snap.tried_recs().len() as u64, out)?;
-    put_field(b" buckets ", u64::from(snap.bucket_count()), out)
+    put_number(b"file new ", snap.new_recs().len() as u64, out)?;
+    put_number(b" tried ", snap.tried_recs().len() as u64, out)?;
+    put_number(b" buckets ", u64::from(snap.bucket_count()), out)
 }
 
 /// Appends the records of a table, a line each, counted from 0.
@@ -56,7 +59,7 @@ fn put_lines(table: &[u8], recs: &[FileRec], out: &mut Vec<u8>) -> Result<(), Me
 fn put_line(table: &[u8], index: u64, rec: &FileRec, out: &mut Vec<u8>) -> Result<(), Memory>
     ensures { OnOk result (out.new.items ≡ out.old.items ++ record_line table.now index rec.now) }
 {
-    put_field(table, index, out)?;
+    put_number(table, index, out)?;
     put_origin(rec, out)?;
     put_history(rec, out)?;
     put_text(b"\n", out)
@@ -78,10 +81,10 @@ fn put_origin(rec: &FileRec, out: &mut Vec<u8>) -> Result<(), Memory>
 fn put_history(rec: &FileRec, out: &mut Vec<u8>) -> Result<(), Memory>
     ensures { OnOk result (out.new.items ≡ out.old.items ++ history_text rec.now) }
 {
-    put_field(b" time ", u64::from(rec.time), out)?;
-    put_field(b" services ", rec.services, out)?;
-    put_field(b" success ", u64::from(rec.last_success), out)?;
-    put_field(b" attempts ", u64::from(rec.attempts), out)
+    put_number(b" time ", u64::from(rec.time), out)?;
+    put_number(b" services ", rec.services, out)?;
+    put_number(b" success ", u64::from(rec.last_success), out)?;
+    put_number(b" attempts ", u64::from(rec.attempts), out)
 }
 
 /// Appends a text and 32 bytes in hexadecimal after it.
@@ -91,20 +94,4 @@ fn put_hex(word: &[u8], bytes: &[u8; 32], out: &mut Vec<u8>) -> Result<(), Memor
     put_text(word, out)?;
     let digits = hex::encode(*out.allocator(), bytes.as_slice())?;
     put_text(digits.as_bytes(), out)
-}
-
-/// Appends a text and a number after it.
-fn put_field(word: &[u8], number: u64, out: &mut Vec<u8>) -> Result<(), Memory>
-    ensures { OnOk result (out.new.items ≡ out.old.items ++ word.now ++ decimal number) }
-{
-    put_text(word, out)?;
-    put_text(Buffer::new().format(number).as_bytes(), out)
-}
-
-/// Appends the bytes.
-fn put_text(text: &[u8], out: &mut Vec<u8>) -> Result<(), Memory>
-    ensures { OnOk result (out.new.items ≡ out.old.items ++ text.now) }
-{
-    out.extend_from_slice(text)?;
-    Ok(())
 }

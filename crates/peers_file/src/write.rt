@@ -16,12 +16,20 @@ use addr_codecs::{Memory, put_address};
 use host_io::Bytes;
 use peer_rec::{FileRec, Snapshot};
 use placing::double_sha256;
+use slot_grid::NEW_BUCKETS;
 use std::alloc::Global;
 use wire_num::put_compact;
 
 /// The first field of a record: the bit of addresses as `addrv2` has them, and in the low 19 bits
 /// the version of Bitcoin Core that wrote such records first, which readers ignore.
 const LAYOUT: u32 = 0x2003_5b60;
+
+/// The maximum length of a record in bytes: two addresses have at most 34 each.
+const RECORD_ROOM: usize = 99;
+
+/// The maximum length in bytes of what is beside the records, but for the indexes that the buckets
+/// list: what comes before the records, the number of pairs of each bucket, and both sums.
+const OTHER_ROOM: usize = 50 + 4 * NEW_BUCKETS as usize + 64;
 
 /// Appends a number of four bytes, low byte first.
 fn put_number(out: &mut Vec<u8>, number: u32) -> Result<(), Memory>
@@ -38,8 +46,10 @@ fn put_front(out: &mut Vec<u8>, rec: &FileRec) -> Result<(), Memory>
     ensures time { OnOk result (rec.now.time < 2 ^ 32) }
     ensures services { OnOk result (rec.now.services < 2 ^ 64) }
 {
-    put_number(out, LAYOUT)?;
-    put_number(out, rec.time)?;
+    let time = rec.time;
+    let [a, b, c, d] = LAYOUT.to_le_bytes();
+    let [e, f, g, h] = time.to_le_bytes();
+    out.extend_from_slice(&[a, b, c, d, e, f, g, h])?;
     put_compact(rec.services, out)?;
     Ok(())
 }
@@ -64,8 +74,9 @@ fn put_marks(out: &mut Vec<u8>, rec: &FileRec) -> Result<(), Memory>
     ensures found { OnOk result (out.new.items ≡ out.old.items ++ marks_text rec.now) }
     ensures last_success { OnOk result (rec.now.last_success < 2 ^ 32) }
 {
-    out.extend_from_slice(&u64::from(rec.last_success).to_le_bytes())?;
-    put_number(out, rec.attempts)?;
+    let [a, b, c, d, e, f, g, h] = u64::from(rec.last_success).to_le_bytes();
+    let [i, j, k, l] = rec.attempts.to_le_bytes();
+    out.extend_from_slice(&[a, b, c, d, e, f, g, h, i, j, k, l])?;
     Ok(())
 }
 
@@ -181,7 +192,9 @@ pub fn write_file(alloc: Global, snap: &Snapshot, chain: Chain) -> Result<Bytes,
         → HasFileFault chain bytes fault → ⊥) }
     ensures short { IfOk result (λ bytes. length bytes < MAX_FILE) }
 {
-    let mut out = Vec::new(alloc);
+    let records = snap.new_recs().len() + snap.tried_recs().len();
+    let room = OTHER_ROOM + RECORD_ROOM * records + 4 * snap.listed().len();
+    let mut out = Vec::with_capacity(alloc, room)?;
     out.extend_from_slice(&chain.magic())?;
     put_body(&mut out, snap)?;
     let sum = double_sha256(out.as_slice());
