@@ -62,15 +62,19 @@ entries-length (suc n) at =
     let both = length-append (addr_entry_text (draw_entry at)) (flat_map addr_entry_text (draw_entries n (past (past at)))) in
     omega (arith, rest, first, both)
 
-payload-length : (n : ℕ) (at : Position) → n < 5 → length (encode_lower (message_text addr_entry_text (draw_entries n at))) ≤ 242
-payload-length n at few =
+pub message-short : (n : ℕ) (at : Position) → n < 5 → length (message_text addr_entry_text (draw_entries n at)) ≤ 121
+message-short n at few =
     let entries = draw_entries n at in
     let many = entries_length n at in
     let size : length (compact_size (length entries)) ≡ 1 = ap length (few_size (length entries) (omega (arith, many, few))) in
     let own = entries-length n at in
     let both = length-append (compact_size (length entries)) (flat_map addr_entry_text entries) in
-    let twice = length-encode_with lower_digits (message_text addr_entry_text entries) in
-    omega (arith, size, own, both, twice, few)
+    omega (arith, size, own, both, few)
+
+payload-length : (n : ℕ) (at : Position) → n < 5 → length (encode_lower (message_text addr_entry_text (draw_entries n at))) ≤ 242
+payload-length n at few =
+    let twice = length-encode_with lower_digits (message_text addr_entry_text (draw_entries n at)) in
+    omega (arith, message-short n at few, twice)
 
 message-length : (j seed n : ℕ) (at : Position) → j < 16384 → seed < 2 ^ 32 → n < 5 → length (message_line (peer_of j).addr (draw_entries n at) seed) ≤ 299
 message-length j seed n at small low few =

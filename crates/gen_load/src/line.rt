@@ -1,6 +1,8 @@
 ghost use Rattle.std.specs.Prelude.{◌≡◌, ◌≤◌, ◌+◌, ◌++◌, codes, decimal, length, take, All, IfOk, OnOk, vec_len};
 ghost use Rattle.net_addr.specs.declared.net.Net.TheVariants.{Ipv4, Ipv6};
+ghost use Rattle.addr_codecs.specs.Texts.{addr_entry_text, message_text};
 ghost use Rattle.gen_load.specs.Inside.{payload_text};
+ghost use Rattle.gen_load.specs.declared.line.TheConstants.{MAX_MESSAGE};
 ghost use Rattle.gen_load.specs.Log.{clock_line, addr_line, message_line, peer_line, select_line, clash_line, line_of, drawn_line, draw_entries, past_entries};
 
 use crate::kind::{Kind, kind_of};
@@ -15,6 +17,9 @@ const SELECT_WORDS: u64 = 300;
 
 /// The seeds, and the words of `clash` lines, are below this.
 const SEEDS: u64 = 1 << 32;
+
+/// The maximum length of a message in bytes: the number of entries takes one, each of four 30.
+const MAX_MESSAGE: usize = 1 + 30 * 4;
 
 // After `Memory` each of the functions below may leave a part of its text in the list.
 
@@ -143,6 +148,7 @@ fn put_addr_line(
 ) -> Result<(), Memory>
     requires count { length entries.now ≤ 4 }
     requires networks { All (λ e. e.peer.addr.net ≡ Ipv4) entries.now }
+    requires short { length (message_text addr_entry_text entries.now) ≤ MAX_MESSAGE }
     ensures text { OnOk result (out.new.items ≡
         out.old.items ++ message_line source.now entries.now seed) }
     ensures kept { take (vec_len out.old) out.new.items ≡ out.old.items }
@@ -159,11 +165,15 @@ fn put_addr_line(
 fn put_payload(entries: &[Entry], out: &mut Vec<u8>) -> Result<(), Memory>
     requires count { length entries.now ≤ 4 }
     requires networks { All (λ e. e.peer.addr.net ≡ Ipv4) entries.now }
+    requires short { length (message_text addr_entry_text entries.now) ≤ MAX_MESSAGE }
     ensures text { OnOk result (out.new.items ≡ out.old.items ++ payload_text entries.now) }
     ensures kept { take (vec_len out.old) out.new.items ≡ out.old.items }
 {
-    let alloc = *out.allocator();
-    let payload = write_addr(alloc, entries)?;
-    let digits = hex::encode(alloc, payload.items())?;
-    put_text(digits.as_bytes(), out)
+    let payload = write_addr(*out.allocator(), entries)?;
+    let mut digits = [0; 2 * MAX_MESSAGE];
+    let digits = &mut digits[..2 * payload.items().len()];
+    let Ok(()) = hex::encode_to_slice(payload.items(), digits) else {
+        unreachable!()
+    };
+    put_text(digits, out)
 }
