@@ -12,7 +12,7 @@ pub(crate) fn merge(alloc: Global, bans: &[Ban]) -> Result<Vec<Ban>, Memory>
     ensures { IfOk result (λ list. list.items ≡ merged bans.now) }
 {
     let map = by_subnet(alloc, bans)?;
-    let mut list = Vec::new(alloc);
+    let mut list = Vec::with_capacity(alloc, map.len())?;
     for ban in map.values() {
         list.push(*ban)?;
     }
@@ -23,7 +23,7 @@ pub(crate) fn merge(alloc: Global, bans: &[Ban]) -> Result<Vec<Ban>, Memory>
 fn by_subnet(alloc: Global, bans: &[Ban]) -> Result<IndexMap<Subnet, Ban>, Memory>
     ensures { IfOk result (λ map. values map ≡ merged bans.now) }
 {
-    let mut map = IndexMap::new(alloc);
+    let mut map = IndexMap::with_capacity(alloc, bans.len())?;
     for ban in bans {
         map.insert(ban.subnet, *ban)?;
     }

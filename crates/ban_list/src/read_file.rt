@@ -97,7 +97,7 @@ fn counted_of(alloc: Global, elements: &[Value]) -> Result<Vec<Ban>, AllocError>
     ensures proper { IfOk result (λ bans. All (λ ban. IsProper ban.subnet) bans.items) }
     ensures few { IfOk result (λ bans. length bans.items ≤ length elements.now) }
 {
-    let mut counted = Vec::new(alloc);
+    let mut counted = Vec::with_capacity(alloc, elements.len().min(MAX_BANS))?;
     for element in elements {
         if let Some(ban) = element_of(element) {
             counted.push(ban)?;

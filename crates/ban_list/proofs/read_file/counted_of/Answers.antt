@@ -16,8 +16,8 @@ none_is ban e = cc
 
 pub loop-element-init : goal.loop-element-init
 loop-element-init c = record {
-  counted = elements_none _ c.new-counted.ensures.items;
-  proper = subst (All HasProper) (sym c.new-counted.ensures.items) (All-nil HasProper);
+  counted = elements_none _ c.in_ok-counted.ensures.items;
+  proper = subst (All HasProper) (sym c.in_ok-counted.ensures.items) (All-nil HasProper);
 }
 
 pub loop-element-preserved : goal.loop-element-preserved
