@@ -8,6 +8,7 @@ pub mod Words
 pub mod Printed
 pub mod Forms
 pub mod Digits
+pub mod Decimals
 pub mod RangeExamples
 pub mod ReadExamples
 pub mod OneReading

@@ -6,7 +6,6 @@ ghost use Rattle.net_addr.specs.Text.{ipv4_text, ipv6_text, label_of, addr_text,
 ghost use Rattle.std.specs.String.{string_bytes};
 ghost use Rattle.arrayvec.specs.ArrayVec.{array_vec_len};
 
-use crate::append::append;
 use crate::old_form::array_of;
 use crate::text::put_text;
 use crate::{Memory, Net, NetAddr, Peer};
@@ -157,7 +156,7 @@ fn append_dotted<const N: usize>(out: &mut ArrayVec<u8, N>, byte: u8)
     ensures items { out.new.items ≡ out.old.items ++ 46 ∷ decimal byte }
     ensures short { array_vec_len out.new ≤ array_vec_len out.old + 4 }
 {
-    append(out, b".");
+    out.push(b'.');
     append_byte(out, byte);
 }
 
@@ -167,5 +166,14 @@ fn append_byte<const N: usize>(out: &mut ArrayVec<u8, N>, byte: u8)
     ensures items { out.new.items ≡ out.old.items ++ decimal byte }
     ensures short { array_vec_len out.new ≤ array_vec_len out.old + 3 }
 {
-    append(out, Buffer::new().format(byte).as_bytes());
+    if byte < 10 {
+        out.push(b'0' + byte);
+    } else if byte < 100 {
+        out.push(b'0' + byte / 10);
+        out.push(b'0' + byte % 10);
+    } else {
+        out.push(b'0' + byte / 100);
+        out.push(b'0' + byte / 10 % 10);
+        out.push(b'0' + byte % 10);
+    }
 }
