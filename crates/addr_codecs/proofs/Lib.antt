@@ -2,4 +2,5 @@ pub mod Addresses
 pub mod AddressLaws
 pub mod MessageLaws
 pub mod TextLaws
+pub mod WritingLaws
 pub mod Examples

@@ -79,8 +79,8 @@ fn append_address(addr: &NetAddr, out: &mut Vec<u8>) -> Result<(), Memory>
     ensures kept { take (vec_len out.old) out.new.items ≡ out.old.items }
 {
     let (prefix, bytes) = (prefix(addr.net()), addr.bytes());
-    out.extend_from_slice(&[id(addr.net())])?;
-    put_compact((prefix.len() + bytes.len()) as u64, out)?;
+    // A length below 253 is its own CompactSize.
+    out.extend_from_slice(&[id(addr.net()), (prefix.len() + bytes.len()) as u8])?;
     out.extend_from_slice(prefix)?;
     out.extend_from_slice(bytes)?;
     Ok(())
