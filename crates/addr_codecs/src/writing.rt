@@ -78,7 +78,13 @@ fn append_address(addr: &NetAddr, out: &mut Vec<u8>) -> Result<(), Memory>
     ensures address { OnOk result (IsAddress addr.now) }
     ensures kept { take (vec_len out.old) out.new.items ≡ out.old.items }
 {
-    let (prefix, bytes) = (prefix(addr.net()), addr.bytes());
+    let bytes = addr.bytes();
+    // Only an IPv4 address has four bytes.
+    if let [a, b, c, d] = bytes {
+        out.extend_from_slice(&[id(Net::Ipv4), 4, *a, *b, *c, *d])?;
+        return Ok(());
+    }
+    let prefix = prefix(addr.net());
     // A length below 253 is its own CompactSize.
     out.extend_from_slice(&[id(addr.net()), (prefix.len() + bytes.len()) as u8])?;
     out.extend_from_slice(prefix)?;
