@@ -3,8 +3,8 @@ ghost use Rattle.grammar.specs.Fields.{Number, OfAddr, OfPeer, Hex, Random, TheN
 
 use crate::field::{read_hex, read_number};
 use crate::nets::{read_classes, read_nets};
-use crate::random::{MAX_WORDS_TEXT, read_words};
-use crate::{Field, LineFault, Words};
+use crate::random::{MAX_WORDS_TEXT, read_source, read_words};
+use crate::{Field, LineFault, WordSource, Words};
 use host_io::Bytes;
 use net_addr::{NetAddr, NetSet, Peer, parse_addr, parse_peer};
 use std::alloc::Global;
@@ -118,6 +118,26 @@ impl Field for Random {
             return Err(LineFault::Memory);
         }
         read_words(alloc, text)
+    }
+}
+
+/// The same, to be drawn one after another: a seed is kept as it is, and no list is made.
+pub struct RandomSource;
+
+impl Field for RandomSource {
+    type Out = WordSource;
+
+    ghost kind = { Random };
+
+    ghost value = { λ words. TheWords words };
+
+    ghost may_stop = { ⊤ };
+
+    fn read(alloc: Global, text: &[u8]) -> Result<WordSource, LineFault> {
+        if text.len() > MAX_WORDS_TEXT {
+            return Err(LineFault::Memory);
+        }
+        read_source(alloc, text)
     }
 }
 

@@ -16,6 +16,7 @@
 #![tactic(auto)]
 
 mod choice;
+mod draws;
 mod fault;
 mod field;
 mod fields;
@@ -28,18 +29,23 @@ mod pieces;
 mod random;
 mod read;
 mod texts;
+mod word_source;
 mod words;
 
 pub use choice::{Choice, OneOf};
+pub use draws::Draws;
 pub use fault::LineFault;
 pub use field::{read_decimal, read_hex};
 pub use fields::{Field, Fields, read_fields};
 pub use grammar::Grammar;
 pub use keyword::{Keyword, find_keyword};
-pub use kinds::{AddrClasses, Between, LongBetween, Networks, OnePeer, Payload, Random, Source};
+pub use kinds::{
+    AddrClasses, Between, LongBetween, Networks, OnePeer, Payload, Random, RandomSource, Source,
+};
 pub use law::{fields_have_one_value, word_limits};
 pub use nets::{read_classes, read_nets};
-pub use random::{MAX_SEEDED, MAX_WORDS_TEXT, read_words, seeded_words};
+pub use random::{MAX_SEEDED, MAX_WORDS_TEXT, read_source, read_words, seeded_words};
 pub use read::{read_line, read_said, read_texts};
 pub use texts::{Texts, cut_field};
+pub use word_source::WordSource;
 pub use words::Words;

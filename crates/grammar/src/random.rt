@@ -4,11 +4,8 @@ ghost use Rattle.grammar.specs.Random.{seeded_words};
 ghost use Rattle.grammar.specs.declared.random.TheConstants.{MAX_WORDS_TEXT};
 
 use crate::pieces::{after_byte, cut_piece};
-use crate::{LineFault, Words};
+use crate::{Draws, LineFault, WordSource, Words};
 use net_addr::parse_number;
-use rand_core::SeedableRng;
-use rand_core::utils::NextWord;
-use rand_xoshiro::Xoshiro256PlusPlus;
 use std::alloc::{AllocError, Global};
 
 /// The maximum number of random words that a seed gives.
@@ -27,11 +24,30 @@ pub fn read_words(alloc: Global, text: &[u8]) -> Result<Words, LineFault>
     ensures fault { (f : LineFault) → result ≡ Err f →
         (f ≡ LineFault.Words) ⊎ (f ≡ LineFault.Memory) }
 {
+    match read_source(alloc, text) {
+        Ok(source) => match source.into_words(alloc) {
+            Ok(words) => Ok(words),
+            Err(_) => Err(LineFault::Memory),
+        },
+        Err(fault) => Err(fault),
+    }
+}
+
+/// Reads the same random words to be drawn one after another. A text `@S:N` takes no memory.
+pub fn read_source(alloc: Global, text: &[u8]) -> Result<WordSource, LineFault>
+    requires { length text.now ≤ MAX_WORDS_TEXT }
+    ensures found { IfOk result (λ words. AreWords text.now words) }
+    ensures only { (words : List ℕ) → AreWords text.now words →
+        (result ≡ Ok words) ⊎ (result ≡ Err LineFault.Memory) }
+    ensures seeded { (words : List ℕ) → AreSeeded text.now words → result ≡ Ok words }
+    ensures fault { (f : LineFault) → result ≡ Err f →
+        (f ≡ LineFault.Words) ⊎ (f ≡ LineFault.Memory) }
+{
     if is_dash(text) {
-        return Ok(Words::of(Vec::new(alloc)));
+        return Ok(WordSource::of(Words::of(Vec::new(alloc))));
     }
     match after_byte(text, b'@') {
-        Some(text) => read_seeded(alloc, text),
+        Some(text) => read_seeded(text),
         None => read_numbers(alloc, text),
     }
 }
@@ -45,7 +61,7 @@ fn is_dash(text: &[u8]) -> bool
 }
 
 /// Reads numbers below 2^64 with commas between them.
-fn read_numbers(alloc: Global, text: &[u8]) -> Result<Words, LineFault>
+fn read_numbers(alloc: Global, text: &[u8]) -> Result<WordSource, LineFault>
     requires { length text.now ≤ MAX_WORDS_TEXT }
     ensures found { IfOk result (λ words. AreNumbers text.now words) }
     ensures only { (words : List ℕ) → AreNumbers text.now words →
@@ -65,16 +81,14 @@ fn read_numbers(alloc: Global, text: &[u8]) -> Result<Words, LineFault>
         }
         rest = after;
     }
-    Ok(Words::of(words))
+    Ok(WordSource::of(Words::of(words)))
 }
 
 /// Reads the text after `@`: a seed, a colon, and the number of random words.
-fn read_seeded(alloc: Global, text: &[u8]) -> Result<Words, LineFault>
+fn read_seeded(text: &[u8]) -> Result<WordSource, LineFault>
     ensures found { IfOk result (λ words. AreSeeded (64 ∷ text.now) words) }
-    ensures only { (words : List ℕ) → AreSeeded (64 ∷ text.now) words →
-        (result ≡ Ok words) ⊎ (result ≡ Err LineFault.Memory) }
-    ensures fault { (f : LineFault) → result ≡ Err f →
-        (f ≡ LineFault.Words) ⊎ (f ≡ LineFault.Memory) }
+    ensures only { (words : List ℕ) → AreSeeded (64 ∷ text.now) words → result ≡ Ok words }
+    ensures fault { (f : LineFault) → result ≡ Err f → f ≡ LineFault.Words }
 {
     let (seed, rest) = cut_piece(text, b':');
     let Some(count) = rest else {
@@ -86,10 +100,7 @@ fn read_seeded(alloc: Global, text: &[u8]) -> Result<Words, LineFault>
     let Some(count) = parse_number(count, MAX_SEEDED) else {
         return Err(LineFault::Words);
     };
-    match seeded_words(alloc, seed, count) {
-        Ok(words) => Ok(words),
-        Err(_) => Err(LineFault::Memory),
-    }
+    Ok(WordSource::seeded(seed, count))
 }
 
 /// Returns the first words of the generator with this seed, as a field `@S:N` of a line gives them.
@@ -97,19 +108,9 @@ pub fn seeded_words(alloc: Global, seed: u64, count: u64) -> Result<Words, Alloc
     requires { count ≤ MAX_SEEDED }
     ensures { IfOk result (λ words. words ≡ seeded_words seed count) }
 {
-    let words = first_outputs(alloc, seed, count as usize)?;
-    Ok(Words::of(words))
-}
-
-/// Returns the first outputs of the generator with this seed.
-fn first_outputs(alloc: Global, seed: u64, count: usize) -> Result<Vec<u64>, AllocError>
-    ensures words { IfOk result (λ words. words.items ≡ seeded_words seed count) }
-    ensures length { IfOk result (λ words. vec_len words ≡ count) }
-{
-    let mut words = Vec::with_capacity(alloc, count)?;
-    let mut generator = Xoshiro256PlusPlus::seed_from_u64(seed);
-    for _ in 0..count {
-        words.push(generator.next_word())?;
+    let mut words = Vec::with_capacity(alloc, count as usize)?;
+    for word in Draws::seeded(seed, count) {
+        words.push(word)?;
     }
-    Ok(words)
+    Ok(Words::of(words))
 }

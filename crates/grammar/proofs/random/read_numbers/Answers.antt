@@ -27,9 +27,9 @@ returns-in_default-parse_number-clause-only c = λ words is.
 pub returns-clause-found : goal.returns-clause-found
 returns-clause-found c =
     let pieces = c.loop-rest.invariant.pieces ∙ ap (λ r. map decimal c.loop-rest.words.items ++ pieces_after 44 r) c.in_default.is ∙ append-nil (map decimal c.loop-rest.words.items) in
-    subst (AreNumbers c.args.text.now) (sym c.of.ensures) (whole_text c.args.text.now c.loop-rest.words.items pieces c.loop-rest.invariant.small)
+    subst (AreNumbers c.args.text.now) (sym (c.of-2.ensures ∙ c.of.ensures)) (whole_text c.args.text.now c.loop-rest.words.items pieces c.loop-rest.invariant.small)
 
 pub returns-clause-only : goal.returns-clause-only
 returns-clause-only c = λ words is.
     let pieces = c.loop-rest.invariant.pieces ∙ ap (λ r. map decimal c.loop-rest.words.items ++ pieces_after 44 r) c.in_default.is ∙ append-nil (map decimal c.loop-rest.words.items) in
-    inl (ap Ok (c.of.ensures ∙ same_numbers c.loop-rest.words.items words c.loop-rest.invariant.small is.1 (sym pieces ∙ numbers_cut c.args.text.now words is)))
+    inl (ap Ok (c.of-2.ensures ∙ c.of.ensures ∙ same_numbers c.loop-rest.words.items words c.loop-rest.invariant.small is.1 (sym pieces ∙ numbers_cut c.args.text.now words is)))

@@ -1,4 +1,4 @@
-use Rattle.std.proofs.Common.{◌≡◌, ℕ, ◌<◌, ◌^◌, List, [], ◌∷◌, ◌++◌, decimal, sym, ap, ◌∙◌, arith, append_assoc, inl, subst, codes, Bor, Option, Some, Ok}
+use Rattle.std.proofs.Common.{◌≡◌, ℕ, ◌<◌, ◌^◌, List, [], ◌∷◌, ◌++◌, decimal, sym, ap, ◌∙◌, arith, append_assoc, subst, codes, Bor, Option, Some, Ok}
 use Rattle.std.specs.Prelude.{◌==◌}
 use Rattle.std.specs.List.{slice_split}
 use Rattle.std.proofs.lemmas.Option.{none-some}
@@ -35,22 +35,22 @@ returns-in_default-parse_number-2-clause-only c = λ words s.
     let found = c.parse_number-2.ensures.only s.1 s.3 count in
     absurd (none-some s.1 (sym c.in_default-parse_number-2.is ∙ found))
 
-pub returns-in-Ok-clause-found : goal.returns-in-Ok-clause-found
-returns-in-Ok-clause-found c =
+pub returns-clause-found : goal.returns-clause-found
+returns-clause-found c =
     let cut = subst (λ r. slice_split (λ b. b == 58) c.args.text.now ≡ c.cut_piece.result.0.now ∷ pieces_after 58 r) c.in-Some.is c.cut_piece.ensures.cut in (
       c.in-Some-parse_number.seed,
       c.in-Some-parse_number-2.count,
       omega (arith, c.in-Some-parse_number.ensures.found.0),
       c.in-Some-parse_number-2.ensures.found.0,
       spelled c.args.text.now c.cut_piece.result.0.now c.in-Some.count c.in-Some-parse_number.seed c.in-Some-parse_number-2.count cut c.in-Some-parse_number.ensures.found.1 c.in-Some-parse_number-2.ensures.found.1,
-      c.in-Ok.ensures,
+      c.seeded.ensures,
     )
 
-pub returns-in-Ok-clause-only : goal.returns-in-Ok-clause-only
-returns-in-Ok-clause-only c = λ words s.
+pub returns-clause-only : goal.returns-clause-only
+returns-clause-only c = λ words s.
     let pieces = seeded_pieces c.args.text.now words c.cut_piece.result.0.now c.cut_piece.result.1 c.cut_piece.ensures.cut s in
     let count : c.in-Some.count.now ≡ decimal s.1 = same_rest c.cut_piece.result.1 pieces.1.0 c.in-Some.count (decimal s.1) pieces.1.1 c.in-Some.is pieces.1.2 in
     let small : s.1 < 2 ^ 64 = omega (arith, s.3) in
     let seeds = decimal_injective c.in-Some-parse_number.seed s.0 (omega (arith, c.in-Some-parse_number.ensures.found.0)) s.2 (sym c.in-Some-parse_number.ensures.found.1 ∙ pieces.0) in
     let counts = decimal_injective c.in-Some-parse_number-2.count s.1 (omega (arith, c.in-Some-parse_number-2.ensures.found.0)) small (sym c.in-Some-parse_number-2.ensures.found.1 ∙ count) in
-    inl (ap Ok (c.in-Ok.ensures ∙ (λ i. seeded_words (seeds i) (counts i)) ∙ sym s.5))
+    ap Ok (c.seeded.ensures ∙ (λ i. seeded_words (seeds i) (counts i)) ∙ sym s.5)

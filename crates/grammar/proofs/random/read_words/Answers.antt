@@ -1,12 +1,7 @@
-use Rattle.std.proofs.Common.{sym, ap, ◌∙◌, inl, Ok}
-use Rattle.grammar.proofs.WordLemmas.{no_words, only_seeded, only_numbers}
+use Rattle.std.proofs.Common.{ap, ◌∙◌, inl, Ok}
+use Rattle.grammar.proofs.WordLemmas.{one_words}
 use Rattle.grammar.proofs.random.read_words.Goals as goal
 
-pub returns-then-is_dash-clause-only : goal.returns-then-is_dash-clause-only
-returns-then-is_dash-clause-only c = λ words is. inl (ap Ok (c.of.ensures ∙ c.new.ensures.items ∙ sym (no_words c.args.text.now words (c.is_dash.ensures.yes (cc)) is)))
-
-pub returns-in-Some-clause-only : goal.returns-in-Some-clause-only
-returns-in-Some-clause-only c = λ words is. c.read_seeded.ensures.only words (only_seeded c.args.text.now c.in-Some.text.now words c.in-Some.ensures.found is)
-
-pub returns-in-None-clause-only : goal.returns-in-None-clause-only
-returns-in-None-clause-only c = λ words is. c.read_numbers.ensures.only words (only_numbers c.args.text.now words (λ dash. let yes = c.is_dash.ensures.no dash in absurd (cc)) c.in-None.ensures.none is)
+pub returns-in-Ok-into_words-clause-only : goal.returns-in-Ok-into_words-clause-only
+returns-in-Ok-into_words-clause-only c = λ words is.
+    inl (ap Ok (c.in-Ok-into_words.ensures ∙ one_words c.args.text.now c.in-Ok.source words c.in-Ok.ensures.found is))
