@@ -1,5 +1,5 @@
 -- The percentage of a `sample` line is at most 100.
-use Rattle.std.proofs.Common.{◌≡◌, ℕ, ◌≤◌, List, [], ◌∷◌, sym, ap, subst}
+use Rattle.std.proofs.Common.{ℕ, ◌≤◌, List, [], ◌∷◌, sym, ap, subst}
 use Rattle.grammar.specs.Fields.{AllMean, Value, TheNumber, TheAddr, ThePeer, TheBytes, TheWords, TheChoice, TheNets}
 use Rattle.log_lines.specs.Spelling.{kinds_of, values_of}
 use Rattle.log_lines.specs.declared.command.Command.TheVariants as c

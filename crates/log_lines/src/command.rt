@@ -1,4 +1,4 @@
-use crate::Words;
+use crate::{WordSource, Words};
 use host_io::Bytes;
 use net_addr::{NetAddr, NetSet, Peer};
 
@@ -46,11 +46,12 @@ pub enum Command {
     },
     /// Count the records.
     Size,
-    /// Select a peer to connect to, of one of these networks.
+    /// Select a peer to connect to, of one of these networks. The random words are drawn as they
+    /// are needed.
     Select {
         new_only: bool,
         nets: NetSet,
-        words: Words,
+        words: WordSource,
     },
     /// Select peers to announce, of these classes: at most `max` and at most `pct` percent of the
     /// records, 0 for no limit.

@@ -20,7 +20,7 @@ mod reply;
 mod verb;
 
 pub use command::Command;
-pub use grammar::{LineFault, Words, read_decimal, read_hex, read_words};
+pub use grammar::{LineFault, WordSource, Words, read_decimal, read_hex, read_words};
 pub use host_io::split_line;
 pub use law::lines_have_one_meaning;
 pub use net_addr::Memory;

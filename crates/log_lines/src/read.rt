@@ -1,19 +1,32 @@
-ghost use Rattle.std.specs.Prelude.{◌≡◌, ◌≢◌, ◌↔◌, ◌⊎◌, ⊤, IfOk, IfSome, Some, None, Ok, Err};
+ghost use Rattle.std.specs.Prelude.{◌≡◌, ◌≢◌, ◌↔◌, ◌⊎◌, ⊤, [], IfOk, IfSome, Some, None, Ok, Err};
 ghost use Rattle.host_io.specs.Lines.{IsPassedOver};
 ghost use Rattle.grammar.specs.Fields.{AllMean, AreAtFault};
 ghost use Rattle.grammar.specs.declared.fault.LineFault.{LineFault};
 ghost use Rattle.log_lines.specs.Laws.{one_after, one_fault, no_fault};
 ghost use Rattle.log_lines.specs.Spelling.{kinds_of, verb_of, values_of, SpellsAfter, HasFaultAfter, Spells, HasFault};
 ghost use Rattle.log_lines.specs.declared.command.Command.{Command};
+ghost use Rattle.log_lines.specs.declared.verb.Verb.TheVariants as verbs;
 
 use crate::choices::{Counting, NewOnly, Testing};
 use crate::verb::VERBS;
 use crate::{Command, Verb};
 use grammar::{
     AddrClasses, Between, Grammar, LineFault, LongBetween, Networks, OneOf, OnePeer, Payload,
-    Random, Source, Texts, find_keyword, read_fields,
+    Random, RandomSource, Source, Texts, find_keyword, read_fields,
 };
 use std::alloc::Global;
+
+/// A number of 32 bits.
+type Number = Between<0, { u32::MAX }>;
+
+/// A number of 64 bits.
+type LongNumber = LongBetween<0, { u64::MAX }>;
+
+/// The fields after `addr` and `addrv2`.
+type Message = (Source, (Payload, (Random, ())));
+
+/// A peer and one more field.
+type PeerAnd<F> = (OnePeer, (F, ()));
 
 /// The grammar of a log's lines.
 pub struct LogLines;
@@ -64,14 +77,11 @@ fn read_command<T: Texts>(alloc: Global, verb: Verb, rest: T) -> Result<Command,
 {
     match verb {
         Verb::Now => {
-            let (time, ()) = read_fields::<T, (Between<0, { u32::MAX }>, ())>(alloc, rest)?;
+            let (time, ()) = read_fields::<T, (Number, ())>(alloc, rest)?;
             Ok(Command::Now { time })
         }
         Verb::Addr => {
-            let (source, (payload, (words, ()))) = read_fields::<
-                T,
-                (Source, (Payload, (Random, ()))),
-            >(alloc, rest)?;
+            let (source, (payload, (words, ()))) = read_fields::<T, Message>(alloc, rest)?;
             Ok(Command::Addr {
                 source,
                 payload,
@@ -79,10 +89,7 @@ fn read_command<T: Texts>(alloc: Global, verb: Verb, rest: T) -> Result<Command,
             })
         }
         Verb::Addr2 => {
-            let (source, (payload, (words, ()))) = read_fields::<
-                T,
-                (Source, (Payload, (Random, ()))),
-            >(alloc, rest)?;
+            let (source, (payload, (words, ()))) = read_fields::<T, Message>(alloc, rest)?;
             Ok(Command::Addr2 {
                 source,
                 payload,
@@ -90,15 +97,11 @@ fn read_command<T: Texts>(alloc: Global, verb: Verb, rest: T) -> Result<Command,
             })
         }
         Verb::Good => {
-            let (peer, (testing, ())) = read_fields::<T, (OnePeer, (OneOf<Testing>, ()))>(
-                alloc, rest,
-            )?;
+            let (peer, (testing, ())) = read_fields::<T, PeerAnd<OneOf<Testing>>>(alloc, rest)?;
             Ok(Command::Good { peer, testing })
         }
         Verb::Attempt => {
-            let (peer, (count, ())) = read_fields::<T, (OnePeer, (OneOf<Counting>, ()))>(
-                alloc, rest,
-            )?;
+            let (peer, (count, ())) = read_fields::<T, PeerAnd<OneOf<Counting>>>(alloc, rest)?;
             Ok(Command::Attempt { peer, count })
         }
         Verb::Connected => {
@@ -106,73 +109,75 @@ fn read_command<T: Texts>(alloc: Global, verb: Verb, rest: T) -> Result<Command,
             Ok(Command::Connected { peer })
         }
         Verb::Services => {
-            let (peer, (services, ())) = read_fields::<
-                T,
-                (OnePeer, (LongBetween<0, { u64::MAX }>, ())),
-            >(alloc, rest)?;
+            let (peer, (services, ())) = read_fields::<T, PeerAnd<LongNumber>>(alloc, rest)?;
             Ok(Command::Services { peer, services })
         }
         Verb::Find => {
             let (peer, ()) = read_fields::<T, (OnePeer, ())>(alloc, rest)?;
             Ok(Command::Find { peer })
         }
-        Verb::Size => {
-            read_fields::<T, ()>(alloc, rest)?;
-            Ok(Command::Size)
-        }
-        Verb::Select => {
-            let (new_only, (nets, (words, ()))) = read_fields::<
-                T,
-                (OneOf<NewOnly>, (Networks, (Random, ()))),
-            >(alloc, rest)?;
-            Ok(Command::Select {
-                new_only,
-                nets,
-                words,
-            })
-        }
-        Verb::Sample => {
-            let (max, (pct, (classes, (words, ())))) = read_fields::<
-                T,
-                (
-                    Between<0, { u32::MAX }>,
-                    (Between<0, 100>, (AddrClasses, (Random, ()))),
-                ),
-            >(alloc, rest)?;
-            Ok(Command::Sample {
-                max,
-                pct,
-                classes,
-                words,
-            })
-        }
-        Verb::Resolve => {
-            read_fields::<T, ()>(alloc, rest)?;
-            Ok(Command::Resolve)
-        }
+        Verb::Size => read_nothing(alloc, Command::Size, rest),
+        Verb::Select => read_select(alloc, rest),
+        Verb::Sample => read_sample(alloc, rest),
+        Verb::Resolve => read_nothing(alloc, Command::Resolve, rest),
         Verb::Clash => {
-            let (word, ()) = read_fields::<T, (LongBetween<0, { u64::MAX }>, ())>(alloc, rest)?;
+            let (word, ()) = read_fields::<T, (LongNumber, ())>(alloc, rest)?;
             Ok(Command::Clash { word })
         }
-        Verb::Dump => {
-            read_fields::<T, ()>(alloc, rest)?;
-            Ok(Command::Dump)
-        }
-        Verb::Save => {
-            read_fields::<T, ()>(alloc, rest)?;
-            Ok(Command::Save)
-        }
-        Verb::SaveBegin => {
-            read_fields::<T, ()>(alloc, rest)?;
-            Ok(Command::SaveBegin)
-        }
+        Verb::Dump => read_nothing(alloc, Command::Dump, rest),
+        Verb::Save => read_nothing(alloc, Command::Save, rest),
+        Verb::SaveBegin => read_nothing(alloc, Command::SaveBegin, rest),
         Verb::SaveStep => {
             let (count, ()) = read_fields::<T, (Between<1, { u32::MAX }>, ())>(alloc, rest)?;
             Ok(Command::SaveStep { count })
         }
-        Verb::SaveEnd => {
-            read_fields::<T, ()>(alloc, rest)?;
-            Ok(Command::SaveEnd)
-        }
+        Verb::SaveEnd => read_nothing(alloc, Command::SaveEnd, rest),
     }
+}
+
+/// Reads no fields, and returns the command, which has none.
+fn read_nothing<T: Texts>(alloc: Global, command: Command, rest: T) -> Result<Command, LineFault>
+    ensures found { IfOk result (λ c. (c ≡ command) × AllMean [] (T.texts rest) []) }
+    ensures fault { (f : LineFault) → result ≡ Err f → f ≢ LineFault.Memory →
+        AreAtFault [] (T.texts rest) f }
+{
+    read_fields::<T, ()>(alloc, rest)?;
+    Ok(command)
+}
+
+/// Reads the fields after `select`.
+fn read_select<T: Texts>(alloc: Global, rest: T) -> Result<Command, LineFault>
+    ensures found { IfOk result (λ c. (verb_of c ≡ verbs.Select)
+        × AllMean (kinds_of verbs.Select) (T.texts rest) (values_of c)) }
+    ensures fault { (f : LineFault) → result ≡ Err f → f ≢ LineFault.Memory →
+        AreAtFault (kinds_of verbs.Select) (T.texts rest) f }
+{
+    let (new_only, (nets, (words, ()))) = read_fields::<
+        T,
+        (OneOf<NewOnly>, (Networks, (RandomSource, ()))),
+    >(alloc, rest)?;
+    Ok(Command::Select {
+        new_only,
+        nets,
+        words,
+    })
+}
+
+/// Reads the fields after `sample`.
+fn read_sample<T: Texts>(alloc: Global, rest: T) -> Result<Command, LineFault>
+    ensures found { IfOk result (λ c. (verb_of c ≡ verbs.Sample)
+        × AllMean (kinds_of verbs.Sample) (T.texts rest) (values_of c)) }
+    ensures fault { (f : LineFault) → result ≡ Err f → f ≢ LineFault.Memory →
+        AreAtFault (kinds_of verbs.Sample) (T.texts rest) f }
+{
+    let (max, (pct, (classes, (words, ())))) = read_fields::<
+        T,
+        (Number, (Between<0, 100>, (AddrClasses, (Random, ())))),
+    >(alloc, rest)?;
+    Ok(Command::Sample {
+        max,
+        pct,
+        classes,
+        words,
+    })
 }
