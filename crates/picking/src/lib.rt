@@ -1,9 +1,9 @@
 //! Picks from the tables: a peer to connect to, and peers to announce to another node. The caller
-//! gives the random words.
+//! gives the random words, in a slice or to be drawn as they are needed (`select_by`).
 //!
 //! Proved:
-//! - `select` gives the peer that the definition gives for the random words (`picked`), and has
-//!   refused at most 44 records if it uses up the words (`few`).
+//! - `select` and `select_by` give the peer that the definition gives for the random words (`picked`), and
+//!   have refused at most 44 records if they use up the words (`few`).
 //! - `sample` gives the peers and the order that the definition gives (`peers`, `state`), and says
 //!   `ShortWords` only if there are fewer words than records (`short`, `enough`); after a refusal
 //!   the tables are as before (`err`).
@@ -17,4 +17,4 @@ mod search;
 
 pub use peer_rec::{Peers, Picked};
 pub use sampling::{SampleFault, sample};
-pub use search::select;
+pub use search::{select, select_by};

@@ -3,6 +3,7 @@ ghost use Rattle.table_machine.specs.Picks.{candidate, candidates, first_accepte
 ghost use Rattle.peer_rec.specs.declared.picked.Picked.TheVariants.{Exhausted};
 
 use crate::bucket::first_candidate;
+use grammar::Draws;
 use net_addr::NetSet;
 use peer_rec::{Picked, Rec};
 use slot_grid::{NEW_BUCKETS, SLOTS, TRIED_BUCKETS};
@@ -64,26 +65,30 @@ fn search<H: BuildHasher, L: Ledger>(
     tables: &Tables<'_, H>,
     in_new: bool,
     nets: NetSet,
-    words: &[u64],
+    words: Draws<'_>,
     now: u32,
     steps: &mut Steps<L>,
 ) -> Picked
     ensures picked { result
-        ≡ first_accepted now first_factor (candidates tables.now in_new nets words.now) }
-    ensures steps { steps.new ≤ steps.old + 65 * length words.now }
+        ≡ first_accepted now first_factor (candidates tables.now in_new nets words.entry) }
+    ensures steps { steps.new ≤ steps.old + 65 * length words.entry }
 {
     let mut factor = PARTS;
     let mut rest = words;
-    while let [bucket, start, word, after @ ..] = rest {
-        match candidate(tables, in_new, nets, *bucket, *start, steps) {
+    let mut next = rest.next();
+    while let Some(bucket) = next {
+        let (Some(start), Some(word)) = (rest.next(), rest.next()) else {
+            return Picked::Exhausted;
+        };
+        match candidate(tables, in_new, nets, bucket, start, steps) {
             // The third word is left for the next round.
-            None => rest = &rest[2..],
+            None => next = Some(word),
             Some(rec) => {
-                if is_accepted(rec, now, factor, *word) {
+                if is_accepted(rec, now, factor, word) {
                     return Picked::One(rec.peer, rec.last_try);
                 }
                 factor = next_factor(factor);
-                rest = after;
+                next = rest.next();
             }
         }
     }
@@ -94,17 +99,17 @@ fn search<H: BuildHasher, L: Ledger>(
 fn search_either<H: BuildHasher, L: Ledger>(
     tables: &Tables<'_, H>,
     nets: NetSet,
-    words: &[u64],
+    mut words: Draws<'_>,
     now: u32,
     steps: &mut Steps<L>,
 ) -> Picked
     ensures picked { result
-        ≡ first_accepted now first_factor (candidates_of_either tables.now nets words.now) }
-    ensures steps { steps.new ≤ steps.old + 65 * length words.now }
+        ≡ first_accepted now first_factor (candidates_of_either tables.now nets words.entry) }
+    ensures steps { steps.new ≤ steps.old + 65 * length words.entry }
 {
-    match words {
-        [] => Picked::Exhausted,
-        [word, rest @ ..] => search(tables, word % 2 == 0, nets, rest, now, steps),
+    match words.next() {
+        None => Picked::Exhausted,
+        Some(word) => search(tables, word % 2 == 0, nets, words, now, steps),
     }
 }
 
@@ -113,7 +118,6 @@ fn search_either<H: BuildHasher, L: Ledger>(
 /// and then buckets and slots, and they accept a record by its chance (`AddrManImpl::Select_` in
 /// addrman.cpp of Bitcoin Core). A record whose address is not routable counts for
 /// `Net::Unroutable`. `Nothing` comes if no record is wanted, and `Exhausted` if the words run out.
-#[tactic(auto, using(table_machine::proofs::Refusals::few_refusals))]
 pub fn select<H: BuildHasher, L: Ledger>(
     tables: &Tables<'_, H>,
     new_only: bool,
@@ -126,6 +130,24 @@ pub fn select<H: BuildHasher, L: Ledger>(
     ensures few { result ≡ Exhausted
         → length (candidates_of tables.now new_only nets words.now) ≤ 44 }
     ensures steps { steps.new ≤ steps.old + 4 + 130 * (length words.now / 2 + 1) }
+{
+    select_by(tables, new_only, nets, Draws::of(words), now, steps)
+}
+
+/// The same with random words that are drawn one after another, as they are needed.
+#[tactic(auto, using(table_machine::proofs::Refusals::few_refusals))]
+pub fn select_by<H: BuildHasher, L: Ledger>(
+    tables: &Tables<'_, H>,
+    new_only: bool,
+    nets: NetSet,
+    words: Draws<'_>,
+    now: u32,
+    steps: &mut Steps<L>,
+) -> Picked
+    ensures picked { result ≡ select tables.now new_only nets words.entry now }
+    ensures few { result ≡ Exhausted
+        → length (candidates_of tables.now new_only nets words.entry) ≤ 44 }
+    ensures steps { steps.new ≤ steps.old + 4 + 130 * (length words.entry / 2 + 1) }
 {
     let (new, tried) = tables.wanted(nets);
     if new_only || tried == 0 {
