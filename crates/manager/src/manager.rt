@@ -5,9 +5,9 @@ ghost use Rattle.manager.specs.Step.{Step, MessageStep, LeavesEntries, SavesNoth
 use crate::messages::{MessageFault, take_message};
 use addr_codecs::Form;
 use host_io::Bytes;
-use log_lines::{Command, Reply, Words};
+use log_lines::{Command, Reply, WordSource, Words};
 use net_addr::{NetAddr, NetSet, Peer};
-use picking::{SampleFault, sample, select};
+use picking::{SampleFault, sample, select_by};
 use std::alloc::Global;
 use std::hash::BuildHasher;
 use std::marker::Model;
@@ -221,16 +221,16 @@ impl<'a, H: BuildHasher> Manager<'a, H> {
         &self,
         new_only: bool,
         nets: NetSet,
-        words: &Words,
+        words: &WordSource,
         steps: &mut Steps<L>,
     ) -> Reply
         ensures { Step self.now (Command.Select new_only nets words.now) result self.now }
     {
-        Reply::Picked(select(
+        Reply::Picked(select_by(
             &self.tables,
             new_only,
             nets,
-            words.items(),
+            words.draws(),
             self.clock,
             steps,
         ))

@@ -5,8 +5,8 @@ use Rattle.manager.proofs.manager.Manager.select.Goals as goal
 
 pub returns : goal.returns
 returns g c =
-    let words = c.items.ensures.items in (
-      ap reply.Picked (c.select.ensures.picked
+    let words = c.draws.ensures in (
+      ap reply.Picked (c.select_by.ensures.picked
           ∙ (λ j. select (c.self.view_is j).tables c.args.new_only c.args.nets (words j) (c.self.view_is j).clock)),
       refl,
     )
