@@ -3,8 +3,8 @@ use crate::{Draws, MAX_SEEDED, Words};
 use std::alloc::{AllocError, Global};
 use std::marker::Model;
 
-/// The random words of a line as it gives them: a list, or a seed and the number of words. Contracts
-/// see the words. Those of a seed take no memory.
+/// The random words of a line as it gives them: a list, or a seed and the number of words. Those of
+/// a seed take no memory. Contracts see the words.
 #[derive(Drop)]
 pub struct WordSource {
     given: Given,
@@ -42,7 +42,7 @@ impl WordSource {
         }
     }
 
-    /// Makes the source of the first `count` words of the generator with this seed. Takes no memory.
+    /// Makes the source of the first `count` words of the generator with this seed.
     pub fn seeded(seed: u64, count: u64) -> WordSource
         requires { count ≤ MAX_SEEDED }
         ensures { result ≡ seeded_words seed count }
