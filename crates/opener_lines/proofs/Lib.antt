@@ -1,5 +1,4 @@
 pub mod OneMeaning
-pub mod Prefixes
 pub mod Outcomes
 pub mod Done
 pub mod Fairness

@@ -69,7 +69,7 @@ fn outbound<H: BuildHasher, L: Ledger>(
     if opener.len() == MAX_OUTBOUND {
         return put_text(b"full\n", out);
     }
-    match find_outbound(alloc, manager, opener, seed, steps)? {
+    match find_outbound(manager, opener, seed, steps) {
         Found::Taken { peer, group, tries } => {
             let text = opened_text(alloc, &peer, group.as_slice(), tries)?;
             put_text(text.as_slice(), out)?;
@@ -101,7 +101,7 @@ fn feeler<H: BuildHasher, L: Ledger>(
     ensures numbers { manager.new.tables.next_number ≤ manager.old.tables.next_number + 1000 }
 {
     let occupant = occupant(alloc, manager, word, steps);
-    match find_feeler(alloc, manager, opener, &occupant, seed, steps)? {
+    match find_feeler(manager, opener, &occupant, seed, steps) {
         Outcome::Taken { peer, tries } => {
             let text = tested_text(alloc, &peer, tries)?;
             put_text(text.as_slice(), out)

@@ -1,11 +1,8 @@
-ghost use Rattle.std.specs.Prelude.{◌≡◌, ◌≢◌, ℕ, ◌+◌, ◌≤◌, ◌++◌, Bool, List, codes, decimal};
+ghost use Rattle.std.specs.Prelude.{◌≡◌, ℕ, ◌+◌, ◌≤◌, List, codes, decimal};
 ghost use Rattle.host_io.specs.Lines.{IsPassedOver};
 ghost use Rattle.grammar.specs.Fields.{AreWords};
 ghost use Rattle.grammar.specs.declared.fault.LineFault.{LineFault};
 ghost use Rattle.peer_open.specs.Groups.{AreApart};
-ghost use Rattle.peer_rec.specs.declared.picked.Picked.TheVariants.{Exhausted};
-ghost use Rattle.table_machine.specs.Picks.{select};
-ghost use Rattle.table_machine.specs.State as tables;
 ghost use Rattle.opener_lines.specs.Fair.{IsFair};
 ghost use Rattle.opener_lines.specs.Grammar.{Asks, HasFault};
 ghost use Rattle.opener_lines.specs.Lines.{LineStep};
@@ -45,13 +42,6 @@ pub fn tries_end_once()
     ensures some { (tries : ℕ → Try) → (found : Outcome) × HasOutcome tries found }
     ensures only { (tries : ℕ → Try) (a b : Outcome) → HasOutcome tries a → HasOutcome tries b →
         a ≡ b }
-{}
-
-/// A pick that ends within the first random words ends the same over all of them.
-pub fn first_words_decide()
-    ensures { (st : tables.State) (new_only : Bool) (nets xs ys : List ℕ) (now : ℕ) →
-        select st new_only nets xs now ≢ Exhausted →
-        select st new_only nets (xs ++ ys) now ≡ select st new_only nets xs now }
 {}
 
 /// The number of random words of a try.

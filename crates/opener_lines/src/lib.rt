@@ -20,8 +20,7 @@ mod tries;
 mod verb;
 
 pub use law::{
-    first_words_decide, groups_stay_apart, limits, opener_lines_have_one_meaning, tries_are_fair,
-    tries_end_once,
+    groups_stay_apart, limits, opener_lines_have_one_meaning, tries_are_fair, tries_end_once,
 };
 pub use line::opener_line;
 pub use opener_log::OpenerLog;

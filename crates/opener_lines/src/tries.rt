@@ -1,14 +1,13 @@
-ghost use Rattle.std.specs.Prelude.{◌≡◌, ◌≤◌, ◌<◌, IfOk};
+ghost use Rattle.std.specs.Prelude.{◌≡◌, ◌≤◌, ◌<◌};
 ghost use Rattle.opener_lines.specs.Inside.{Finds};
 ghost use Rattle.opener_lines.specs.Tries.{HasOutcome, ToKeep, ToTest, try_by};
 
 use crate::pick::{pick_of_feeler, pick_of_try};
 use arrayvec::ArrayVec;
 use manager::Manager;
-use net_addr::{Memory, Peer};
+use net_addr::Peer;
 use peer_open::{MAX_TRIES, Opener, Verdict};
 use picking::Picked;
-use std::alloc::Global;
 use std::hash::BuildHasher;
 use std::sync::ledger::Ledger;
 use steps::Steps;
@@ -38,67 +37,64 @@ pub(crate) enum Found {
 
 /// Makes tries for an outbound connection until one decides, at most `MAX_TRIES`.
 pub(crate) fn find_outbound<H: BuildHasher, L: Ledger>(
-    alloc: Global,
     manager: &Manager<'_, H>,
     opener: &Opener,
     seed: u32,
     steps: &mut Steps<L>,
-) -> Result<Found, Memory>
-    ensures { IfOk result (Finds manager.now opener.now seed) }
+) -> Found
+    ensures { Finds manager.now opener.now seed result }
 {
     for number in 1..MAX_TRIES + 1 {
-        match pick_of_try(alloc, manager, false, seed, number, steps)? {
+        match pick_of_try(manager, false, seed, number, steps) {
             Picked::One(peer, last_try) => {
                 let group = manager.tables().placer().group(&peer.addr);
                 let now = manager.clock();
                 match opener.judge(group.as_slice(), last_try, now, number) {
                     Verdict::Take => {
-                        return Ok(Found::Taken {
+                        return Found::Taken {
                             peer,
                             group,
                             tries: number,
-                        });
+                        };
                     }
                     Verdict::SameGroup => {}
                     Verdict::Recent => {}
                 }
             }
-            Picked::Nothing => return Ok(Found::Nothing),
+            Picked::Nothing => return Found::Nothing,
             Picked::Exhausted => {}
         }
     }
-    Ok(Found::GaveUp)
+    Found::GaveUp
 }
 
 /// Makes tries for a connection that tests a peer, until one decides, at most `MAX_TRIES`.
 pub(crate) fn find_feeler<H: BuildHasher, L: Ledger>(
-    alloc: Global,
     manager: &Manager<'_, H>,
     opener: &Opener,
     occupant: &Option<(Peer, u32)>,
     seed: u32,
     steps: &mut Steps<L>,
-) -> Result<Outcome, Memory>
-    ensures { IfOk result (λ found.
-        HasOutcome (try_by manager.now opener.now (ToTest occupant.now) seed) found) }
+) -> Outcome
+    ensures { HasOutcome (try_by manager.now opener.now (ToTest occupant.now) seed) result }
 {
     for number in 1..MAX_TRIES + 1 {
-        match pick_of_feeler(alloc, manager, occupant, seed, number, steps)? {
+        match pick_of_feeler(manager, occupant, seed, number, steps) {
             Picked::One(peer, last_try) => {
                 match opener.judge_feeler(last_try, manager.clock(), number) {
                     Verdict::Take => {
-                        return Ok(Outcome::Taken {
+                        return Outcome::Taken {
                             peer,
                             tries: number,
-                        });
+                        };
                     }
                     Verdict::SameGroup => {}
                     Verdict::Recent => {}
                 }
             }
-            Picked::Nothing => return Ok(Outcome::Nothing),
+            Picked::Nothing => return Outcome::Nothing,
             Picked::Exhausted => {}
         }
     }
-    Ok(Outcome::GaveUp)
+    Outcome::GaveUp
 }

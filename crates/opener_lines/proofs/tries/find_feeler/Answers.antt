@@ -12,15 +12,15 @@ loop-number-preserved g c =
     let seed = c.args.seed in
     let goal = ToTest c.args.occupant.now in
     let i = c.loop-number.number in
-    let pick = c.in_ok-peer.field-0 in
-    none_before_next (try_by m peers goal seed) i c.loop-number.invariant (elim c.match-branch-2.branch [
+    let pick = c.pick_of_feeler.result in
+    none_before_next (try_by m peers goal seed) i c.loop-number.invariant (elim c.match-pick_of_feeler.branch [
       | in-One+in-SameGroup w ↦
           let judged = w.judge_feeler.ensures.value ∙ ap (λ t. judge_feeler w.in-One.last_try t i) w.clock.ensures in
-          taken_or_next m peers goal seed i pick w.in-One.peer w.in-One.last_try w.judge_feeler.result c.in_ok-peer.ensures w.in-One.is judged
+          taken_or_next m peers goal seed i pick w.in-One.peer w.in-One.last_try w.judge_feeler.result c.pick_of_feeler.ensures w.in-One.is judged
           ∙ ap (λ v. try_of_verdict v w.in-One.peer) w.in-SameGroup.is
       | in-One+in-Recent w ↦
           let judged = w.judge_feeler.ensures.value ∙ ap (λ t. judge_feeler w.in-One.last_try t i) w.clock.ensures in
-          taken_or_next m peers goal seed i pick w.in-One.peer w.in-One.last_try w.judge_feeler.result c.in_ok-peer.ensures w.in-One.is judged
+          taken_or_next m peers goal seed i pick w.in-One.peer w.in-One.last_try w.judge_feeler.result c.pick_of_feeler.ensures w.in-One.is judged
           ∙ ap (λ v. try_of_verdict v w.in-One.peer) w.in-Recent.is
-      | in-Exhausted w ↦ words_end m peers goal seed i pick c.in_ok-peer.ensures w.in-Exhausted.is
+      | in-Exhausted w ↦ words_end m peers goal seed i pick c.pick_of_feeler.ensures w.in-Exhausted.is
     ])

@@ -13,19 +13,19 @@ loop-number-preserved g c =
     let peers = c.args.opener.now in
     let seed = c.args.seed in
     let i = c.loop-number.number in
-    let pick = c.in_ok-peer.field-0 in
-    none_before_next (try_by m peers ToKeep seed) i c.loop-number.invariant (elim c.match-branch-2.branch [
+    let pick = c.pick_of_try.result in
+    none_before_next (try_by m peers ToKeep seed) i c.loop-number.invariant (elim c.match-pick_of_try.branch [
       | in-One+in-SameGroup w ↦
           let its_group = w.as_slice.ensures.value ∙ w.group-group.ensures ∙ ap (λ p. group p w.in-One.peer.addr) (w.placer.ensures ∙ ap (λ (t : State). t.places) w.tables.ensures) in
           let judged = w.judge.ensures.value ∙ (λ j. judge peers (its_group j) w.in-One.last_try (w.clock-now.ensures j) i) in
-          taken_or_next m peers ToKeep seed i pick w.in-One.peer w.in-One.last_try w.judge.result c.in_ok-peer.ensures w.in-One.is judged
+          taken_or_next m peers ToKeep seed i pick w.in-One.peer w.in-One.last_try w.judge.result c.pick_of_try.ensures w.in-One.is judged
           ∙ ap (λ v. try_of_verdict v w.in-One.peer) w.in-SameGroup.is
       | in-One+in-Recent w ↦
           let its_group = w.as_slice.ensures.value ∙ w.group-group.ensures ∙ ap (λ p. group p w.in-One.peer.addr) (w.placer.ensures ∙ ap (λ (t : State). t.places) w.tables.ensures) in
           let judged = w.judge.ensures.value ∙ (λ j. judge peers (its_group j) w.in-One.last_try (w.clock-now.ensures j) i) in
-          taken_or_next m peers ToKeep seed i pick w.in-One.peer w.in-One.last_try w.judge.result c.in_ok-peer.ensures w.in-One.is judged
+          taken_or_next m peers ToKeep seed i pick w.in-One.peer w.in-One.last_try w.judge.result c.pick_of_try.ensures w.in-One.is judged
           ∙ ap (λ v. try_of_verdict v w.in-One.peer) w.in-Recent.is
-      | in-Exhausted w ↦ words_end m peers ToKeep seed i pick c.in_ok-peer.ensures w.in-Exhausted.is
+      | in-Exhausted w ↦ words_end m peers ToKeep seed i pick c.pick_of_try.ensures w.in-Exhausted.is
     ])
 
 pub returns-in-Take : goal.returns-in-Take
@@ -43,7 +43,7 @@ returns-in-Take g c =
         least = search rules;
         most = search rules;
         before = c.loop-number.invariant;
-        comes = taken_or_next m peers ToKeep seed i c.in_ok-peer.field-0 peer c.in-One.last_try c.judge.result c.in_ok-peer.ensures c.in-One.is judged
+        comes = taken_or_next m peers ToKeep seed i c.pick_of_try.result peer c.in-One.last_try c.judge.result c.pick_of_try.ensures c.in-One.is judged
             ∙ ap (λ v. try_of_verdict v peer) c.in-Take.is;
       };
       group = its_group;
@@ -59,7 +59,7 @@ returns-in-Nothing g c =
           least = search rules;
           most = search rules;
           before = c.loop-number.invariant;
-          comes = none_left c.args.manager.now c.args.opener.now ToKeep c.args.seed i c.in_ok-peer.field-0 c.in_ok-peer.ensures c.in-Nothing.is;
+          comes = none_left c.args.manager.now c.args.opener.now ToKeep c.args.seed i c.pick_of_try.result c.pick_of_try.ensures c.in-Nothing.is;
         },
       );
       group = tt;
