@@ -1,5 +1,5 @@
 -- What a request has done, and what it leaves.
-use Rattle.std.proofs.Common.{◌≡◌, ◌⊎◌, ℕ, ◌<◌, ◌≤◌, List, [], ◌∷◌, ◌++◌, length, Bool, true, false, not, ◌||◌, codes, cond, Option, Some, None, find, Result, Ok, Err, OnOk, OnErr, inl, inr, refl, sym, ap, subst, append-nil}
+use Rattle.std.proofs.Common.{◌≡◌, ◌⊎◌, ℕ, ◌<◌, List, [], ◌∷◌, ◌++◌, length, Bool, true, false, not, ◌||◌, codes, cond, Option, Some, None, find, Result, Ok, Err, OnOk, OnErr, inl, inr, refl, sym, ap, subst, append-nil}
 use Rattle.std.specs.List.{list_all}
 use Rattle.std.specs.Prelude.{bytes_eq}
 use Rattle.std.proofs.lemmas.Bool.{and_parts}
@@ -13,7 +13,6 @@ use Rattle.log_lines.proofs.Percents.{percent}
 use Rattle.log_lines.specs.declared.command.Command.{Command}
 use Rattle.log_lines.specs.declared.command.Command.TheVariants as c
 use Rattle.log_lines.specs.declared.reply.Reply.{Reply}
-use Rattle.log_lines.specs.declared.verb.Verb.TheVariants as v
 use Rattle.manager.specs.Machine.{Machine}
 use Rattle.manager.specs.Step as manager
 use Rattle.peer_open.specs.Groups as groups

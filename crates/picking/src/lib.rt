@@ -2,8 +2,8 @@
 //! gives the random words, in a slice or to be drawn as they are needed (`select_by`).
 //!
 //! Proved:
-//! - `select` and `select_by` give the peer that the definition gives for the random words (`picked`), and
-//!   have refused at most 44 records if they use up the words (`few`).
+//! - `select` and `select_by` give the peer that the definition gives for the random words
+//!   (`picked`), and have refused at most 44 records if they use up the words (`few`).
 //! - `sample` gives the peers and the order that the definition gives (`peers`, `state`), and says
 //!   `ShortWords` only if there are fewer words than records (`short`, `enough`); after a refusal
 //!   the tables are as before (`err`).
