@@ -3,7 +3,7 @@ use Rattle.std.proofs.Common.{ℕ, List, refl, sym, subst, inl, inr}
 use Rattle.std.specs.Prelude.{Option, None}
 use Rattle.host_io.specs.Past.{Past}
 use Rattle.peers_file.specs.declared.chain.Chain.{Chain}
-use Rattle.picture_laws.proofs.Trees.{picture-tree}
+use Rattle.picture_laws.proofs.Trees.{tree-of}
 use Rattle.table_machine.specs.Sound.{IsSound}
 use Rattle.table_machine.specs.State.{State}
 use Rattle.table_picture.specs.Picture.{picture_of}
@@ -20,4 +20,4 @@ pub made : (chain : Chain) (past : Option Past) (old new : Option (List ℕ)) (s
 made chain past old new st status opened sound (inl none) = subst (TextOut (IsPicture chain) (ReportsOpening None chain) past old new) (sym none.0) none.1
 made chain past old new st status opened sound (inr written) =
     text_out (IsPicture chain) (ReportsOpening None chain) past (picture_of st) old new status
-    (record { tables = st; opened = opened; is = refl; tree = picture-tree st sound.records }) written
+    (record { tables = st; opened = opened; is = refl; tree = tree-of st sound.records }) written

@@ -1,21 +1,21 @@
 -- What a picture of the tables writes, and how it ends.
-use Rattle.std.specs.Prelude.{◌≡◌, ℕ, List, Option, None}
+use Rattle.std.specs.Prelude.{◌≡◌, ℕ, List, Option, None, codes}
 use Rattle.host_io.specs.Outside.{Outside}
 use Rattle.host_io.specs.Past.{Past}
 use Rattle.peers_file.specs.declared.chain.Chain.{Chain}
-use Rattle.picture_text.specs.Markup.{IsMarkup}
+use Rattle.picture_text.specs.Markup.{IsTree}
 use Rattle.table_machine.specs.State.{State}
 use Rattle.table_picture.specs.Picture.{picture_of}
 use Rattle.addrman_run.specs.Opening.{Opened, ReportsOpening}
 use Rattle.addrman_run.specs.TextOut.{TextEnds}
 use Rattle.addrman_run.specs.declared.status.Status.{Status}
 
--- the picture of the tables that a replay without a key begins with, the text of elements that nest
+-- the picture of the tables that a replay without a key begins with, the text of one tree of elements
 pub record IsPicture (chain : Chain) (past : Option Past) (text : List ℕ) : Type 0 where
   pub tables : State
   pub opened : Opened None chain past tables
   pub is : text ≡ picture_of tables
-  pub tree : IsMarkup text
+  pub tree : IsTree (codes "svg") text
 
 -- files are refused as a replay without a key refuses them
 abbrev pub PictureEnds : Chain → Outside → Outside → Status → Type 0

@@ -1,5 +1,6 @@
 pub mod Plain
 pub mod Names
+pub mod Contents
 pub mod Markups
 pub mod Groups
 pub mod Listed
@@ -11,3 +12,4 @@ pub mod DotsOf
 pub mod Trees
 pub mod Ranked
 pub mod Most
+pub mod Wide

@@ -149,6 +149,16 @@ pub group-keys : (keys : List ℕ) → map (λ c. c.key) (groups_of keys) ≡ no
 unfolding groups_of
 group-keys keys = keys-back (counted_at (tally_of keys)) (λ k. refl) (noted_keys (tally_of keys))
 
+-- a key is in the tally of some keys once at most
+pub tally-once : (keys : List ℕ) (k : ℕ) → occurrences (map (λ e. e.0) (tally_of keys)) k ≤ 1
+unfolding times
+tally-once keys k = fold-once [] keys k (omega (arith, times-nil k))
+
+-- and none is that of a free slot
+pub tally-zero : (keys : List ℕ) → occurrences (map (λ e. e.0) (tally_of keys)) 0 ≡ 0
+unfolding times
+tally-zero keys = fold-zero [] keys ∙ times-nil 0
+
 module _ (keys : List ℕ) where
   listed-times : (k : ℕ) → occurrences (listed_keys keys) k ≤ times (tally_of keys) k
   unfolding listed_keys times

@@ -2,68 +2,74 @@
 use Rattle.std.proofs.Common.{◌≡◌, ℕ, zero, suc, ◌+◌, ◌*◌, ◌==◌, ◌&&◌, Bool, true, false, cond, List, [], ◌∷◌, ◌++◌, length, refl, sym, ap, subst, ◌∙◌, inl, inr, append_assoc}
 use Rattle.std.specs.Prelude.{All, codes, decimal}
 use Rattle.std.specs.List.{flat_map, list_all, range_with_len}
-use Rattle.std.proofs.lemmas.Bool.{and_parts}
+use Rattle.std.proofs.lemmas.Bool.{and_from, and_parts}
 use Rattle.std.proofs.lemmas.List.Elements.{All-append, All-from_recursion, All-head, All-nil, All-tail}
 use Rattle.picture_text.specs.Elements.{colour, count_text, ground, label, name_text, new_title, row_text, swatch, tried_title, wide_text}
 use Rattle.picture_text.specs.Head.{Label, head_text, labels, labels_text, meaning, opening_text, styles, svg_attributes, tile, tile_attributes}
 use Rattle.picture_text.specs.Maps.{ground_text, map_opening, map_text, name_at, path_element, paths_text}
-use Rattle.picture_text.specs.Markup.{IsAttribute, IsBreak, IsMarkup, IsPlain, element, is_plain}
-use Rattle.picture_text.specs.Markup.IsMarkup.{beside, characters, empty, line_feed, nested, nothing}
+use Rattle.picture_text.specs.Markup.{Attribute, IsPlain, IsTree, are_unique, element, is_attribute, is_name, is_plain}
 use Rattle.picture_text.specs.Picture.{body_text, free_row, group_row, group_rows, listed_keys, maps_text, names_of, others_name, others_of, others_row, others_text, picture_text, rows_text, titles_text, top_of}
 use Rattle.dot_runs.specs.Tables.{path_text}
+use Rattle.picture_laws.proofs.Contents.{AreAttributes, IsBreak, IsContent, beside, characters, empty, line_feed, nested, nothing, rooted}
 use Rattle.picture_laws.proofs.Plain.{plain-append, plain-colour, plain-decimal, plain-numbered, plain-path}
 
 -- attributes with values that need no escapes
-none : All IsAttribute []
-none = All-nil IsAttribute
+abbrev IsAttribute : Attribute → Type 0
+IsAttribute a = (is_name a.0 ≡ true) × IsPlain a.1
 
-one : (a : List ℕ × List ℕ) → IsAttribute a → All IsAttribute (a ∷ [])
-one a p = All-from_recursion IsAttribute (a ∷ []) (p, tt)
+attribute : (a : Attribute) → IsAttribute a → is_attribute a ≡ true
+attribute a p = and_from (is_name a.0) (list_all is_plain a.1) p.0 p.1
 
-two : (a b : List ℕ × List ℕ) → IsAttribute a → IsAttribute b → All IsAttribute (a ∷ b ∷ [])
-two a b p q = All-from_recursion IsAttribute (a ∷ b ∷ []) (p, (q, tt))
+more : (a : Attribute) (attributes : List Attribute) → IsAttribute a → AreAttributes attributes → AreAttributes (a ∷ attributes)
+more a attributes p each = and_from (is_attribute a) (list_all is_attribute attributes) (attribute a p) each
 
-three : (a b c : List ℕ × List ℕ) → IsAttribute a → IsAttribute b → IsAttribute c → All IsAttribute (a ∷ b ∷ c ∷ [])
-three a b c p q r = All-from_recursion IsAttribute (a ∷ b ∷ c ∷ []) (p, (q, (r, tt)))
+none : AreAttributes []
+none = refl
 
-four : (a b c d : List ℕ × List ℕ) → IsAttribute a → IsAttribute b → IsAttribute c → IsAttribute d → All IsAttribute (a ∷ b ∷ c ∷ d ∷ [])
-four a b c d p q r s = All-from_recursion IsAttribute (a ∷ b ∷ c ∷ d ∷ []) (p, (q, (r, (s, tt))))
+two : (a b : Attribute) → IsAttribute a → IsAttribute b → AreAttributes (a ∷ b ∷ [])
+two a b p q = more a (b ∷ []) p (more b [] q none)
 
-five : (a b c d e : List ℕ × List ℕ) → IsAttribute a → IsAttribute b → IsAttribute c → IsAttribute d → IsAttribute e → All IsAttribute (a ∷ b ∷ c ∷ d ∷ e ∷ [])
-five a b c d e p q r s t = All-from_recursion IsAttribute (a ∷ b ∷ c ∷ d ∷ e ∷ []) (p, (q, (r, (s, (t, tt)))))
+three : (a b c : Attribute) → IsAttribute a → IsAttribute b → IsAttribute c → AreAttributes (a ∷ b ∷ c ∷ [])
+three a b c p q r = more a (b ∷ c ∷ []) p (two b c q r)
+
+four : (a b c d : Attribute) → IsAttribute a → IsAttribute b → IsAttribute c → IsAttribute d → AreAttributes (a ∷ b ∷ c ∷ d ∷ [])
+four a b c d p q r s = more a (b ∷ c ∷ d ∷ []) p (three b c d q r s)
+
+five : (a b c d e : Attribute) → IsAttribute a → IsAttribute b → IsAttribute c → IsAttribute d → IsAttribute e → AreAttributes (a ∷ b ∷ c ∷ d ∷ e ∷ [])
+five a b c d e p q r s t = more a (b ∷ c ∷ d ∷ e ∷ []) p (four b c d e q r s t)
 
 feed : IsBreak (codes "\n")
 feed = inr refl
 
 -- a number among texts in an element
-numbered : (before : List ℕ) (n : ℕ) (after rest : List ℕ) → IsPlain before → IsPlain after → IsMarkup (before ++ (decimal n ++ after))
+numbered : (before : List ℕ) (n : ℕ) (after rest : List ℕ) → IsPlain before → IsPlain after → IsContent (before ++ (decimal n ++ after))
 numbered before n after rest p q = characters (before ++ (decimal n ++ after)) (plain-numbered before n after p q)
 
-label-markup : (x y class text : List ℕ) → IsPlain x → IsPlain y → IsPlain class → IsPlain text → IsMarkup (label x y class text)
+label-markup : (x y class text : List ℕ) → IsPlain x → IsPlain y → IsPlain class → IsPlain text → IsContent (label x y class text)
 label-markup x y class text p q r s =
-    nested (codes "text") ((codes "x", x) ∷ (codes "y", y) ∷ (codes "class", class) ∷ []) text (codes "\n") refl
+    nested (codes "text") ((codes "x", x) ∷ (codes "y", y) ∷ (codes "class", class) ∷ []) text (codes "\n") refl refl
     (three (codes "x", x) (codes "y", y) (codes "class", class) (refl, p) (refl, q) (refl, r)) (characters text s) feed
 
-count-markup : (x y n : ℕ) → IsMarkup (count_text x y n)
+count-markup : (x y n : ℕ) → IsContent (count_text x y n)
 unfolding count_text
 count-markup x y n =
-    nested (codes "text") ((codes "x", decimal x) ∷ (codes "y", decimal y) ∷ (codes "class", codes "n") ∷ []) (decimal n) (codes "\n") refl
+    nested (codes "text") ((codes "x", decimal x) ∷ (codes "y", decimal y) ∷ (codes "class", codes "n") ∷ []) (decimal n) (codes "\n") refl refl
     (three (codes "x", decimal x) (codes "y", decimal y) (codes "class", codes "n") (refl, plain-decimal x) (refl, plain-decimal y) (refl, refl))
     (characters (decimal n) (plain-decimal n)) feed
 
-name-markup : (y : ℕ) (name : List ℕ) → IsPlain name → IsMarkup (name_text y name)
+name-markup : (y : ℕ) (name : List ℕ) → IsPlain name → IsContent (name_text y name)
 unfolding name_text
 name-markup y name plain =
-    nested (codes "text") ((codes "x", codes "712") ∷ (codes "y", decimal y) ∷ []) name (codes "\n") refl
+    nested (codes "text") ((codes "x", codes "712") ∷ (codes "y", decimal y) ∷ []) name (codes "\n") refl refl
     (two (codes "x", codes "712") (codes "y", decimal y) (refl, refl) (refl, plain-decimal y)) (characters name plain) feed
 
-swatch-markup : (y : ℕ) (fill : List ℕ) → IsPlain fill → IsMarkup (swatch y fill)
+swatch-markup : (y : ℕ) (fill : List ℕ) → IsPlain fill → IsContent (swatch y fill)
 unfolding swatch
 swatch-markup y fill plain =
-    empty (codes "rect") ((codes "x", codes "694") ∷ (codes "y", decimal y) ∷ (codes "width", codes "11") ∷ (codes "height", codes "11") ∷ (codes "fill", fill) ∷ []) (codes "\n") refl
+    empty (codes "rect") ((codes "x", codes "694") ∷ (codes "y", decimal y) ∷ (codes "width", codes "11") ∷ (codes "height", codes "11") ∷ (codes "fill", fill) ∷ []) (codes "\n") refl refl
     (five (codes "x", codes "694") (codes "y", decimal y) (codes "width", codes "11") (codes "height", codes "11") (codes "fill", fill) (refl, refl) (refl, plain-decimal y) (refl, refl) (refl, refl) (refl, plain)) feed
 
-row-markup : (y : ℕ) (fill name : List ℕ) (slots tried : ℕ) → IsPlain fill → IsPlain name → IsMarkup (row_text y fill name slots tried)
+row-markup : (y : ℕ) (fill name : List ℕ) (slots tried : ℕ) → IsPlain fill → IsPlain name → IsContent (row_text y fill name slots tried)
 unfolding row_text
 row-markup y fill name slots tried p q =
     beside (swatch y fill) (name_text (y + 10) name ++ (count_text 896 (y + 10) slots ++ count_text 970 (y + 10) tried)) (swatch-markup y fill p)
@@ -71,52 +77,49 @@ row-markup y fill name slots tried p q =
     (beside (count_text 896 (y + 10) slots) (count_text 970 (y + 10) tried) (count-markup 896 (y + 10) slots) (count-markup 970 (y + 10) tried)))
 
 -- a text of a number between two texts, in an element
-between : (before after : List ℕ) (n : ℕ) (attributes : List (List ℕ × List ℕ)) → IsPlain before → IsPlain after → All IsAttribute attributes
-    → IsMarkup (element (codes "text") attributes (before ++ (decimal n ++ after)) (codes "\n"))
-between before after n attributes p q named =
-    nested (codes "text") attributes (before ++ (decimal n ++ after)) (codes "\n") refl named (characters (before ++ (decimal n ++ after)) (plain-numbered before n after p q)) feed
+between : (before after : List ℕ) (n : ℕ) (attributes : List Attribute) → IsPlain before → IsPlain after → are_unique attributes ≡ true → AreAttributes attributes
+    → IsContent (element (codes "text") attributes (before ++ (decimal n ++ after)) (codes "\n"))
+between before after n attributes p q unique named =
+    nested (codes "text") attributes (before ++ (decimal n ++ after)) (codes "\n") refl unique named (characters (before ++ (decimal n ++ after)) (plain-numbered before n after p q)) feed
 
 -- the same with the text behind it in one piece
-rejoin : (a : List ℕ → List ℕ) (d b c e : List ℕ) → b ++ c ≡ e → IsMarkup (a ((d ++ b) ++ c)) → IsMarkup (a (d ++ e))
-rejoin a d b c e same m = subst (λ (t : List ℕ). IsMarkup (a t)) (append_assoc d b c ∙ ap (λ (t : List ℕ). d ++ t) same) m
+rejoin : (a : List ℕ → List ℕ) (d b c e : List ℕ) → b ++ c ≡ e → IsContent (a ((d ++ b) ++ c)) → IsContent (a (d ++ e))
+rejoin a d b c e same m = subst (λ (t : List ℕ). IsContent (a t)) (append_assoc d b c ∙ ap (λ (t : List ℕ). d ++ t) same) m
 
-new-title-markup : (n : ℕ) → IsMarkup (new_title n)
+new-title-markup : (n : ℕ) → IsContent (new_title n)
 unfolding new_title
 new-title-markup n =
     rejoin (λ t. codes "<text x=\"56\" y=\"88\" class=\"b\">New table: " ++ t) (decimal n) (codes " of 65536 slots are occupied") (codes "</text>\n") (codes " of 65536 slots are occupied</text>\n") refl
-    (between (codes "New table: ") (codes " of 65536 slots are occupied") n ((codes "x", codes "56") ∷ (codes "y", codes "88") ∷ (codes "class", codes "b") ∷ []) refl refl
-    (three (codes "x", codes "56") (codes "y", codes "88") (codes "class", codes "b") (refl, refl) (refl, refl) (refl, refl)))
+    (between (codes "New table: ") (codes " of 65536 slots are occupied") n ((codes "x", codes "56") ∷ (codes "y", codes "88") ∷ (codes "class", codes "b") ∷ []) refl refl refl refl)
 
-tried-title-markup : (n : ℕ) → IsMarkup (tried_title n)
+tried-title-markup : (n : ℕ) → IsContent (tried_title n)
 unfolding tried_title
 tried-title-markup n =
     rejoin (λ t. codes "<text x=\"694\" y=\"88\" class=\"b\">Tried table: " ++ t) (decimal n) (codes " of 16384 slots are occupied") (codes "</text>\n") (codes " of 16384 slots are occupied</text>\n") refl
-    (between (codes "Tried table: ") (codes " of 16384 slots are occupied") n ((codes "x", codes "694") ∷ (codes "y", codes "88") ∷ (codes "class", codes "b") ∷ []) refl refl
-    (three (codes "x", codes "694") (codes "y", codes "88") (codes "class", codes "b") (refl, refl) (refl, refl) (refl, refl)))
+    (between (codes "Tried table: ") (codes " of 16384 slots are occupied") n ((codes "x", codes "694") ∷ (codes "y", codes "88") ∷ (codes "class", codes "b") ∷ []) refl refl refl refl)
 
-wide-markup : (n : ℕ) → IsMarkup (wide_text n)
+wide-markup : (n : ℕ) → IsContent (wide_text n)
 unfolding wide_text
 wide-markup n =
     rejoin (λ t. codes "<text x=\"694\" y=\"644\">Groups in more than 32 of the 1024 new buckets: " ++ t) (decimal n) [] (codes "</text>\n") (codes "</text>\n") refl
-    (between (codes "Groups in more than 32 of the 1024 new buckets: ") [] n ((codes "x", codes "694") ∷ (codes "y", codes "644") ∷ []) refl refl
-    (two (codes "x", codes "694") (codes "y", codes "644") (refl, refl) (refl, refl)))
+    (between (codes "Groups in more than 32 of the 1024 new buckets: ") [] n ((codes "x", codes "694") ∷ (codes "y", codes "644") ∷ []) refl refl refl refl)
 
 -- texts of rising numbers
-each-markup : (f : ℕ → List ℕ) (a n : ℕ) → ((k : ℕ) → IsMarkup (f k)) → IsMarkup (flat_map f (range_with_len a n))
+each-markup : (f : ℕ → List ℕ) (a n : ℕ) → ((k : ℕ) → IsContent (f k)) → IsContent (flat_map f (range_with_len a n))
 each-markup f a zero each = nothing
 each-markup f a (suc n) each = beside (f a) (flat_map f (range_with_len (a + 1) n)) (each a) (each-markup f (a + 1) n each)
 
-path-markup : (marks : List ℕ) (side : ℕ) (name : List ℕ) (index : ℕ) → IsPlain name → IsMarkup (path_element marks side name index)
+path-markup : (marks : List ℕ) (side : ℕ) (name : List ℕ) (index : ℕ) → IsPlain name → IsContent (path_element marks side name index)
 unfolding path_element
 path-markup marks side name index plain =
     let d : List ℕ = path_text (index + 1) side marks in
     let title : List ℕ = element (codes "title") [] name [] in
-    let attributes : List (List ℕ × List ℕ) = (codes "fill", colour index) ∷ (codes "d", d) ∷ [] in
-    subst (λ (t : List ℕ). IsMarkup (codes "<path fill=\"" ++ (colour index ++ (codes "\" d=\"" ++ (d ++ (codes "\"><title>" ++ t))))))
+    let attributes : List Attribute = (codes "fill", colour index) ∷ (codes "d", d) ∷ [] in
+    subst (λ (t : List ℕ). IsContent (codes "<path fill=\"" ++ (colour index ++ (codes "\" d=\"" ++ (d ++ (codes "\"><title>" ++ t))))))
     (append_assoc name (codes "</title>") (codes "</path>\n"))
-    (nested (codes "path") attributes title (codes "\n") refl
+    (nested (codes "path") attributes title (codes "\n") refl refl
     (two (codes "fill", colour index) (codes "d", d) (refl, plain-colour index) (refl, plain-path (index + 1) side marks))
-    (nested (codes "title") [] name [] refl none (characters name plain) (inl refl)) feed)
+    (nested (codes "title") [] name [] refl refl none (characters name plain) (inl refl)) feed)
 
 -- the name at an index
 plain-name : (names : List (List ℕ)) (index : ℕ) → All IsPlain names → IsPlain (name_at names index)
@@ -124,29 +127,29 @@ plain-name [] index each = refl
 plain-name (n ∷ ns) zero each = All-head IsPlain n ns each
 plain-name (n ∷ ns) (suc index) each = plain-name ns index (All-tail IsPlain n ns each)
 
-paths-markup : (marks : List ℕ) (side : ℕ) (names : List (List ℕ)) → All IsPlain names → IsMarkup (paths_text marks side names)
+paths-markup : (marks : List ℕ) (side : ℕ) (names : List (List ℕ)) → All IsPlain names → IsContent (paths_text marks side names)
 unfolding paths_text
 paths-markup marks side names each =
     each-markup (λ index. path_element marks side (name_at names index) index) 0 (length names) (λ index. path-markup marks side (name_at names index) index (plain-name names index each))
 
-ground-markup : (size : ℕ) → IsMarkup (ground_text size)
+ground-markup : (size : ℕ) → IsContent (ground_text size)
 unfolding ground_text
 ground-markup size =
-    empty (codes "rect") ((codes "width", decimal size) ∷ (codes "height", decimal size) ∷ (codes "fill", codes "url(#free)") ∷ []) (codes "\n") refl
+    empty (codes "rect") ((codes "width", decimal size) ∷ (codes "height", decimal size) ∷ (codes "fill", codes "url(#free)") ∷ []) (codes "\n") refl refl
     (three (codes "width", decimal size) (codes "height", decimal size) (codes "fill", codes "url(#free)") (refl, plain-decimal size) (refl, plain-decimal size) (refl, refl)) feed
 
-map-markup : (x side : ℕ) (marks : List ℕ) (names : List (List ℕ)) → All IsPlain names → IsMarkup (map_text x side marks names)
+map-markup : (x side : ℕ) (marks : List ℕ) (names : List (List ℕ)) → All IsPlain names → IsContent (map_text x side marks names)
 unfolding map_text map_opening
 map-markup x side marks names each =
     let inner : List ℕ = ground_text (9 * side) ++ paths_text marks side names in
     let value : List ℕ = codes "translate(" ++ (decimal x ++ codes " 98) scale(2)") in
-    let attributes : List (List ℕ × List ℕ) = (codes "transform", value) ∷ (codes "shape-rendering", codes "crispEdges") ∷ [] in
-    subst IsMarkup
+    let attributes : List Attribute = (codes "transform", value) ∷ (codes "shape-rendering", codes "crispEdges") ∷ [] in
+    subst IsContent
     (ap (λ (t : List ℕ). codes "<g transform=\"translate(" ++ t)
     (append_assoc (decimal x) (codes " 98) scale(2)") (codes "\" shape-rendering=\"crispEdges\">\n" ++ (inner ++ codes "</g>\n"))
     ∙ ap (λ (t : List ℕ). decimal x ++ (codes " 98) scale(2)\" shape-rendering=\"crispEdges\">\n" ++ t)) (append_assoc (ground_text (9 * side)) (paths_text marks side names) (codes "</g>\n"))
     ∙ sym (append_assoc (decimal x) (codes " 98) scale(2)\" shape-rendering=\"crispEdges\">\n") (ground_text (9 * side) ++ (paths_text marks side names ++ codes "</g>\n")))))
-    (nested (codes "g") attributes (codes "\n" ++ inner) (codes "\n") refl
+    (nested (codes "g") attributes (codes "\n" ++ inner) (codes "\n") refl refl
     (two (codes "transform", value) (codes "shape-rendering", codes "crispEdges") (refl, plain-numbered (codes "translate(") x (codes " 98) scale(2)") refl refl) (refl, refl))
     (beside (codes "\n") inner line_feed (beside (ground_text (9 * side)) (paths_text marks side names) (ground-markup (9 * side)) (paths-markup marks side names each))) feed)
 
@@ -154,33 +157,33 @@ plain-others : (n : ℕ) → IsPlain (others_name n)
 unfolding others_name
 plain-others n = plain-append (codes "other groups: ") (decimal n) refl (plain-decimal n)
 
-group-markup : (keys listed : List ℕ) (names : List (List ℕ)) (index : ℕ) → All IsPlain names → IsMarkup (group_row keys listed names index)
+group-markup : (keys listed : List ℕ) (names : List (List ℕ)) (index : ℕ) → All IsPlain names → IsContent (group_row keys listed names index)
 unfolding group_row
 group-markup keys listed names index each =
     beside _ _ (row-markup (top_of index) (colour index) (name_at names index) _ _ (plain-colour index) (plain-name names index each)) (count-markup 1056 (top_of index + 10) _)
 
-others-text-markup : (marks : List ℕ) (others : ℕ) → IsMarkup (others_text marks others)
+others-text-markup : (marks : List ℕ) (others : ℕ) → IsContent (others_text marks others)
 unfolding others_text
 others-text-markup marks others = row-markup (top_of 6) (colour 6) (others_name others) _ _ (plain-colour 6) (plain-others others)
 
-others-markup : (marks : List ℕ) (others : ℕ) → IsMarkup (others_row marks others)
+others-markup : (marks : List ℕ) (others : ℕ) → IsContent (others_row marks others)
 others-markup marks others = by (others == 0)
   where
-    by : (b : Bool) → IsMarkup (cond b [] (others_text marks others))
+    by : (b : Bool) → IsContent (cond b [] (others_text marks others))
     by true = nothing
     by false = others-text-markup marks others
 
-free-markup : (keys : List ℕ) (index : ℕ) → IsMarkup (free_row keys index)
+free-markup : (keys : List ℕ) (index : ℕ) → IsContent (free_row keys index)
 unfolding free_row
 free-markup keys index = row-markup (top_of index) ground (codes "free") _ _ refl refl
 
-rows-markup : (keys listed marks : List ℕ) (names : List (List ℕ)) (others : ℕ) → All IsPlain names → IsMarkup (rows_text keys listed marks names others)
+rows-markup : (keys listed marks : List ℕ) (names : List (List ℕ)) (others : ℕ) → All IsPlain names → IsContent (rows_text keys listed marks names others)
 unfolding rows_text group_rows
 rows-markup keys listed marks names others each =
     beside _ _ (each-markup (group_row keys listed names) 0 (length listed) (λ index. group-markup keys listed names index each))
     (beside _ _ (others-markup marks others) (free-markup keys (length names)))
 
-body-markup : (keys listed : List ℕ) (names : List (List ℕ)) (others : ℕ) → All IsPlain names → IsMarkup (body_text keys listed names others)
+body-markup : (keys listed : List ℕ) (names : List (List ℕ)) (others : ℕ) → All IsPlain names → IsContent (body_text keys listed names others)
 unfolding body_text titles_text maps_text
 body-markup keys listed names others each =
     beside _ _ (beside _ _ (new-title-markup _) (tried-title-markup _))
@@ -189,21 +192,20 @@ body-markup keys listed names others each =
 
 -- ---- what each picture has
 
-head-markup : IsMarkup head_text
+head-markup : IsContent head_text
 unfolding head_text
 head-markup =
-    beside _ _ (nested (codes "title") [] (codes "The tables of peers.dat") (codes "\n") refl none (characters _ refl) feed)
-    (beside _ _ (nested (codes "desc") [] meaning (codes "\n") refl none (characters _ refl) feed)
-    (beside _ _ (nested (codes "style") [] styles (codes "\n") refl none (characters _ refl) feed)
-    (beside _ _ (nested (codes "pattern") tile_attributes tile (codes "\n") refl (four _ _ _ _ (refl, refl) (refl, refl) (refl, refl) (refl, refl))
-    (empty (codes "path") ((codes "fill", codes "#eceff2") ∷ (codes "d", codes "M0 0h8v8h-8z") ∷ []) [] refl (two _ _ (refl, refl) (refl, refl)) (inl refl)) feed)
-    (empty (codes "rect") ((codes "width", codes "1080") ∷ (codes "height", codes "712") ∷ (codes "fill", codes "#fff") ∷ []) (codes "\n") refl
-    (three _ _ _ (refl, refl) (refl, refl) (refl, refl)) feed))))
+    beside _ _ (nested (codes "title") [] (codes "The tables of peers.dat") (codes "\n") refl refl none (characters _ refl) feed)
+    (beside _ _ (nested (codes "desc") [] meaning (codes "\n") refl refl none (characters _ refl) feed)
+    (beside _ _ (nested (codes "style") [] styles (codes "\n") refl refl none (characters _ refl) feed)
+    (beside _ _ (nested (codes "pattern") tile_attributes tile (codes "\n") refl refl refl
+    (empty (codes "path") ((codes "fill", codes "#eceff2") ∷ (codes "d", codes "M0 0h8v8h-8z") ∷ []) [] refl refl refl (inl refl)) feed)
+    (empty (codes "rect") ((codes "width", codes "1080") ∷ (codes "height", codes "712") ∷ (codes "fill", codes "#fff") ∷ []) (codes "\n") refl refl refl feed))))
 
 abbrev is_plain_label : Label → Bool
 is_plain_label l = list_all is_plain l.x && (list_all is_plain l.y && (list_all is_plain l.class && list_all is_plain l.text))
 
-each-label : (ls : List Label) → list_all is_plain_label ls ≡ true → IsMarkup (flat_map (λ l. label l.x l.y l.class l.text) ls)
+each-label : (ls : List Label) → list_all is_plain_label ls ≡ true → IsContent (flat_map (λ l. label l.x l.y l.class l.text) ls)
 each-label [] all = nothing
 each-label (l ∷ ls) all =
     let parts = and_parts (is_plain_label l) (list_all is_plain_label ls) all in
@@ -212,7 +214,7 @@ each-label (l ∷ ls) all =
     let class = and_parts (list_all is_plain l.class) (list_all is_plain l.text) y.1 in
     beside (label l.x l.y l.class l.text) (flat_map (λ l. label l.x l.y l.class l.text) ls) (label-markup l.x l.y l.class l.text x.0 y.0 class.0 class.1) (each-label ls parts.1)
 
-labels-markup : IsMarkup labels_text
+labels-markup : IsContent labels_text
 unfolding labels_text
 labels-markup = each-label labels refl
 
@@ -224,14 +226,14 @@ plain-names others names each = All-append IsPlain names (cond (others == 0) [] 
     by false = All-from_recursion IsPlain (others_name others ∷ []) (plain-others others, tt)
 
 -- the whole picture
-pub picture-markup : (keys : List ℕ) (names : List (List ℕ)) → All IsPlain names → IsMarkup (picture_text keys names)
+pub picture-tree : (keys : List ℕ) (names : List (List ℕ)) → All IsPlain names → IsTree (codes "svg") (picture_text keys names)
 unfolding picture_text opening_text
-picture-markup keys names each =
+picture-tree keys names each =
     let shown : List (List ℕ) = names_of (others_of keys) names in
     let body : List ℕ = body_text keys (listed_keys keys) shown (others_of keys) in
     let inner : List ℕ = codes "\n" ++ (head_text ++ (labels_text ++ body)) in
-    subst IsMarkup
+    subst (IsTree (codes "svg"))
     (ap (λ (t : List ℕ). codes "<svg xmlns=\"http://www.w3.org/2000/svg\" viewBox=\"0 0 1080 712\" role=\"img\">\n" ++ t)
     (append_assoc head_text (labels_text ++ body) (codes "</svg>\n") ∙ ap (λ (t : List ℕ). head_text ++ t) (append_assoc labels_text body (codes "</svg>\n"))))
-    (nested (codes "svg") svg_attributes inner (codes "\n") refl (three _ _ _ (refl, refl) (refl, refl) (refl, refl))
-    (beside (codes "\n") (head_text ++ (labels_text ++ body)) line_feed (beside head_text (labels_text ++ body) head-markup (beside labels_text body labels-markup (body-markup keys (listed_keys keys) shown (others_of keys) (plain-names (others_of keys) names each))))) feed)
+    (rooted (codes "svg") svg_attributes inner refl refl refl
+    (beside (codes "\n") (head_text ++ (labels_text ++ body)) line_feed (beside head_text (labels_text ++ body) head-markup (beside labels_text body labels-markup (body-markup keys (listed_keys keys) shown (others_of keys) (plain-names (others_of keys) names each))))))

@@ -100,10 +100,10 @@ count-split p (suc n) [] = refl
 count-split p (suc n) (x ∷ xs) = omega (arith, count-cons p x (take n xs), count-cons p x xs, count-split p n xs)
 
 -- a group has the slots that are counted for its key
-abbrev HasCount : List (ℕ × ℕ) → Counted → Type 0
+abbrev pub HasCount : List (ℕ × ℕ) → Counted → Type 0
 HasCount es c = c.slots ≡ count_in es c.key
 
-groups-count : (keys : List ℕ) → AllByRecursion (HasCount (tally_of keys)) (groups_of keys)
+pub groups-count : (keys : List ℕ) → AllByRecursion (HasCount (tally_of keys)) (groups_of keys)
 unfolding groups_of
 groups-count keys = each (map (λ e. e.0) (tally_of keys))
   where
@@ -125,7 +125,7 @@ counted-below es key slots (d ∷ ds) counts low some = by (counted-below es key
     by rest false e = rest (omega (arith, some, count-cons (λ c. c.key == key) d ds ∙ ap (λ (b : Bool). one_if b + count_by (λ c. c.key == key) ds) e))
 
 -- a key that is counted is in the tally
-in-tally : (es : List (ℕ × ℕ)) (k : ℕ) → occurrences (map (λ e. e.0) es) k ≡ 0 → count_in es k ≡ 0
+pub in-tally : (es : List (ℕ × ℕ)) (k : ℕ) → occurrences (map (λ e. e.0) es) k ≡ 0 → count_in es k ≡ 0
 in-tally [] k none = refl
 in-tally (e ∷ es) k none = by (in-tally es k) (k == e.0) refl (count-cons (λ j. j == k) e.0 (map (λ e. e.0) es))
   where
@@ -137,7 +137,7 @@ in-tally (e ∷ es) k none = by (in-tally es k) (k == e.0) refl (count-cons (λ 
     by rest false is sum = rest (omega (arith, none, sum))
 
 -- keys are as often in a list as their groups
-count-back : (g : List ℕ) (gs : List (List ℕ)) → IsGroup g → AllByRecursion IsGroup gs → occurrences (map group_key gs) (group_key g) ≤ count_by (λ h. bytes_eq h g) gs
+pub count-back : (g : List ℕ) (gs : List (List ℕ)) → IsGroup g → AllByRecursion IsGroup gs → occurrences (map group_key gs) (group_key g) ≤ count_by (λ h. bytes_eq h g) gs
 count-back g [] is each = omega arith
 count-back g (h ∷ gs) is each = by (group_key h == group_key g) refl (count-cons (λ h. bytes_eq h g) h gs) (count-cons (λ j. j == group_key g) (group_key h) (map group_key gs)) (count-back g gs is each.1)
   where
@@ -161,7 +161,7 @@ long zero (x ∷ xs) p some = omega arith
 long (suc n) [] p some = absurd (omega arith)
 long (suc n) (x ∷ xs) p some = omega (arith, long n xs p some)
 
-zero-or-more : (n : ℕ) → (n ≡ 0) ⊎ (0 < n)
+pub zero-or-more : (n : ℕ) → (n ≡ 0) ⊎ (0 < n)
 zero-or-more zero = inl refl
 zero-or-more (suc n) = inr (omega arith)
 

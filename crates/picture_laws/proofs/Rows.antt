@@ -34,14 +34,14 @@ drop-front [] b = refl
 drop-front (x ∷ a) b = drop-front a b
 
 -- a map that leaves each element of the list
-map-same : (f : ℕ → ℕ) (ks : List ℕ) → ((k : ℕ) → 0 < occurrences ks k → f k ≡ k) → map f ks ≡ ks
+pub map-same : (f : ℕ → ℕ) (ks : List ℕ) → ((k : ℕ) → 0 < occurrences ks k → f k ≡ k) → map f ks ≡ ks
 map-same f [] same = refl
 map-same f (k ∷ ks) same = λ i. same k here i ∷ map-same f ks (λ j some. same j (omega (arith, some, count-cons (λ l. l == j) k ks))) i
   where
     here : 0 < occurrences (k ∷ ks) k
     here = omega (arith, count-cons (λ j. j == k) k ks, ap one_if (eq-eqb k k refl))
 
-map-map : (f : List ℕ → ℕ) (g : ℕ → List ℕ) (ks : List ℕ) → map f (map g ks) ≡ map (λ k. f (g k)) ks
+pub map-map : (f : List ℕ → ℕ) (g : ℕ → List ℕ) (ks : List ℕ) → map f (map g ks) ≡ map (λ k. f (g k)) ks
 map-map f g [] = refl
 map-map f g (k ∷ ks) = ap (λ (t : List ℕ). f (g k) ∷ t) (map-map f g ks)
 
@@ -87,7 +87,7 @@ count-both p (k ∷ ks) = by (p k) (count-both p ks) (count-cons p k ks) (count-
     by false rest one other = omega (arith, rest, one, other)
 
 -- groups are as often in a list as their keys, or less often
-count-keys : (g : List ℕ) (gs : List (List ℕ)) → count_by (λ h. bytes_eq h g) gs ≤ occurrences (map group_key gs) (group_key g)
+pub count-keys : (g : List ℕ) (gs : List (List ℕ)) → count_by (λ h. bytes_eq h g) gs ≤ occurrences (map group_key gs) (group_key g)
 count-keys g [] = omega arith
 count-keys g (h ∷ gs) = by (bytes_eq h g) refl (count-cons (λ h. bytes_eq h g) h gs) (count-cons (λ j. j == group_key g) (group_key h) (map group_key gs)) (count-keys g gs)
   where
@@ -152,7 +152,7 @@ module _ (st : State) (each : All IsRec st.records) where
       sum_by-append (λ k. cond (p k) 1 0) (new_keys st st.places) (tried_keys st st.places)
       ∙ (λ i. count-new st each p test same i + count-tried st each p test same i)
 
-  count-in-new : (p : ℕ → Bool) (test : Option Rec → Bool) → ((o : Option Rec) → HasSource st.places o → p (slot_key st.places o) ≡ test o)
+  pub count-in-new : (p : ℕ → Bool) (test : Option Rec → Bool) → ((o : Option Rec) → HasSource st.places o → p (slot_key st.places o) ≡ test o)
       → count_by p (in_new (keys_of st)) ≡ new_slots test st
   count-in-new p test same = ap (count_by p) in-new ∙ count-new st each p test same
 
@@ -169,15 +169,21 @@ module _ (st : State) (each : All IsRec st.records) where
       by false true = tried-source st each ((slot - 65536) / 64) ((slot - 65536) % 64)
       by false false = tt
 
-  -- a listed key is that of its group
-  listed-key : (key : ℕ) → 0 < occurrences (listed_keys (keys_of st)) key → (group_key (key_group st key) ≡ key) × IsGroup (key_group st key)
-  listed-key key some =
-      let slot = first-slot (keys_of st) key (omega (arith, some, listed-some (keys_of st) key)) in
+  -- the key of a slot is that of its group
+  pub found-key : (key : ℕ) → (key ≡ 0 → ⊥) → 0 < occurrences (keys_of st) key → (group_key (key_group st key) ≡ key) × IsGroup (key_group st key)
+  found-key key other some =
+      let slot = first-slot (keys_of st) key some in
       let at = key-in st st.places (position_or_len (λ j. j == key) (keys_of st)) slot.0 in
       by-record st.places key (rec_in st (position_or_len (λ j. j == key) (keys_of st)))
       (rec-source (position_or_len (λ j. j == key) (keys_of st)))
       (sym at ∙ slot.1)
-      (λ zero_key. omega (arith, some, ap (occurrences (listed_keys (keys_of st))) zero_key, listed-zero (keys_of st)))
+      other
+
+  -- a listed key is one
+  listed-key : (key : ℕ) → 0 < occurrences (listed_keys (keys_of st)) key → (group_key (key_group st key) ≡ key) × IsGroup (key_group st key)
+  listed-key key some =
+      found-key key (λ zero_key. omega (arith, some, ap (occurrences (listed_keys (keys_of st))) zero_key, listed-zero (keys_of st)))
+      (omega (arith, some, listed-some (keys_of st) key))
 
   pub listed-are : map group_key (listed_groups st) ≡ listed_keys (keys_of st)
   unfolding listed_groups
@@ -214,19 +220,24 @@ module _ (st : State) (each : All IsRec st.records) where
       bucket-at (bucket_keys st st.places) 0 1024 b (tried_keys st st.places) (λ k. length-map-range_with_len (λ s. slot_key st.places (new_rec_at st k s)) 0 64) (omega (arith, low))
       ∙ ap (bucket_keys st st.places) (omega arith)
 
-  buckets-of : (g : List ℕ) → IsGroup g → occurrences (buckets.bucket_keys (keys_of st)) (group_key g) ≡ new_buckets (is_of st.places g) st
+  -- how many have a key, by a test that agrees with it on records
+  pub buckets-by : (key : ℕ) (test : Option Rec → Bool) → ((o : Option Rec) → HasSource st.places o → (slot_key st.places o == key) ≡ test o)
+      → occurrences (buckets.bucket_keys (keys_of st)) key ≡ new_buckets test st
   unfolding buckets.bucket_keys new_buckets
-  buckets-of g is =
-      count-flat (λ k. k == group_key g) (λ b. buckets.once (buckets.bucket_of (keys_of st) b)) (range_with_len 0 1024)
-      ∙ sum-same (λ b. occurrences (buckets.once (buckets.bucket_of (keys_of st) b)) (group_key g))
-      (λ b. one_if (list_any (λ s. is_of st.places g (new_rec_at st b s)) (range_with_len 0 64))) 0 1024 own
+  buckets-by key test same =
+      count-flat (λ k. k == key) (λ b. buckets.once (buckets.bucket_of (keys_of st) b)) (range_with_len 0 1024)
+      ∙ sum-same (λ b. occurrences (buckets.once (buckets.bucket_of (keys_of st) b)) key)
+      (λ b. one_if (list_any (λ s. test (new_rec_at st b s)) (range_with_len 0 64))) 0 1024 own
     where
-      own : (b : ℕ) → b < 0 + 1024 → occurrences (buckets.once (buckets.bucket_of (keys_of st) b)) (group_key g) ≡ one_if (list_any (λ s. is_of st.places g (new_rec_at st b s)) (range_with_len 0 64))
+      own : (b : ℕ) → b < 0 + 1024 → occurrences (buckets.once (buckets.bucket_of (keys_of st) b)) key ≡ one_if (list_any (λ s. test (new_rec_at st b s)) (range_with_len 0 64))
       own b low =
-          in-bucket (buckets.bucket_of (keys_of st) b) (group_key g)
-          ∙ ap one_if (ap (list_any (λ j. j == group_key g)) (bucket-keys-at b low)
-          ∙ list_any-of (λ j. j == group_key g) (λ s. slot_key st.places (new_rec_at st b s)) (λ s. is_of st.places g (new_rec_at st b s))
-          (λ s. key-of st.places g (new_rec_at st b s) is (new-source st each b s)) (range_with_len 0 64))
+          in-bucket (buckets.bucket_of (keys_of st) b) key
+          ∙ ap one_if (ap (list_any (λ j. j == key)) (bucket-keys-at b low)
+          ∙ list_any-of (λ j. j == key) (λ s. slot_key st.places (new_rec_at st b s)) (λ s. test (new_rec_at st b s))
+          (λ s. same (new_rec_at st b s) (new-source st each b s)) (range_with_len 0 64))
+
+  pub buckets-of : (g : List ℕ) → IsGroup g → occurrences (buckets.bucket_keys (keys_of st)) (group_key g) ≡ new_buckets (is_of st.places g) st
+  buckets-of g is = buckets-by (group_key g) (is_of st.places g) (λ o has. key-of st.places g o is has)
 
   -- the listed groups
   pub few-groups : length (listed_groups st) ≤ 6

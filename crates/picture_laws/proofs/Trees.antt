@@ -1,18 +1,18 @@
--- The picture of a sound state is the text of a tree.
+-- The picture of a sound state is the text of one tree.
 use Rattle.std.proofs.Common.{◌≡◌, ℕ, ◌-◌, ◌/◌, ◌%◌, ◌==◌, Bool, true, false, cond, List, [], ◌∷◌, map, refl}
-use Rattle.std.specs.Prelude.{All, Option, Some, None, find, nat_lt}
+use Rattle.std.specs.Prelude.{All, codes, Option, Some, None, find, nat_lt}
 use Rattle.std.specs.List.{position_or_len}
 use Rattle.std.proofs.lemmas.List.Elements.{All-contains, All-from_recursion}
 use Rattle.std.specs.List.{AllByRecursion}
 use Rattle.peer_rec.specs.Rec.{IsRec}
 use Rattle.peer_rec.specs.declared.rec.Rec.{Rec}
-use Rattle.picture_text.specs.Markup.{IsMarkup, IsPlain}
+use Rattle.picture_text.specs.Markup.{IsPlain, IsTree}
 use Rattle.picture_text.specs.Picture.{listed_keys}
 use Rattle.table_machine.proofs.Lists.{find-Some}
 use Rattle.table_machine.specs.State.{State, is_new_at, is_tried_at, new_rec_at, tried_rec_at}
 use Rattle.table_picture.specs.Keys.{slot_keys}
 use Rattle.table_picture.specs.Picture.{key_name, picture_of, picture_under, rec_in, rec_name}
-use Rattle.picture_laws.proofs.Markups.{picture-markup}
+use Rattle.picture_laws.proofs.Markups.{picture-tree}
 use Rattle.picture_laws.proofs.Names.{name-plain}
 
 module _ (st : State) (each : All IsRec st.records) where
@@ -35,9 +35,9 @@ module _ (st : State) (each : All IsRec st.records) where
   each-name keys [] = tt
   each-name keys (k ∷ ks) = (slot-plain (position_or_len (λ j. j == k) keys), each-name keys ks)
 
-  pub picture-tree : IsMarkup (picture_of st)
+  pub tree-of : IsTree (codes "svg") (picture_of st)
   unfolding picture_under
-  picture-tree =
+  tree-of =
       let keys : List ℕ = slot_keys st st.places in
       let names : List (List ℕ) = map (key_name st st.places keys) (listed_keys keys) in
-      picture-markup keys names (All-from_recursion IsPlain names (each-name keys (listed_keys keys)))
+      picture-tree keys names (All-from_recursion IsPlain names (each-name keys (listed_keys keys)))

@@ -1,10 +1,10 @@
 -- The numbers of the picture are counts of slots and buckets of the state.
-use Rattle.std.specs.Prelude.{◌≡◌, ℕ, ◌+◌, ◌≤◌, List, [], ◌++◌, length, All, codes, is_some, bytes_eq, slice_index_or}
+use Rattle.std.specs.Prelude.{◌≡◌, ℕ, ◌+◌, ◌≤◌, List, [], ◌++◌, length, All, codes, if◌then◌else◌, is_some, bytes_eq, nat_lt, slice_index_or}
 use Rattle.std.specs.List.{count_by, flat_map, range_with_len, sum_by}
 use Rattle.table_machine.specs.State.{State}
-use Rattle.picture_text.specs.Elements.{colour, count_text, ground, new_title, row_text, tried_title}
+use Rattle.picture_text.specs.Elements.{colour, count_text, ground, new_title, row_text, tried_title, wide_text}
 use Rattle.picture_text.specs.Maps.{name_at}
-use Rattle.picture_text.specs.Picture.{free_row, group_rows, listed_keys, others_name, others_text, titles_text, top_of}
+use Rattle.picture_text.specs.Picture.{free_row, group_rows, listed_keys, others_name, others_text, titles_text, top_of, wide_of}
 use Rattle.picture_laws.specs.Slots.{all_marks, all_slots, is_free, is_of, is_unlisted, keys_of, listed_groups, new_buckets, new_slots, tried_slots}
 
 -- the row of a group: its slots in both tables, those in the tried one, and its buckets of the new
@@ -44,3 +44,11 @@ pub record IsBehind (st : State) (g : List ℕ) : Type 0 where
   pub six : length (listed_groups st) ≡ 6
   pub most : All (λ l. all_slots (is_of st.places g) st ≤ all_slots (is_of st.places l) st)
       (listed_groups st)
+
+-- The line below the list counts these groups: each group that is in more than 32 buckets of the
+-- new table is one of them, once, and no other group is.
+pub record CountsWide (st : State) : Type 0 where
+  pub groups : List (List ℕ)
+  pub each : (g : List ℕ) → count_by (λ h. bytes_eq h g) groups
+      ≡ (if nat_lt 32 (new_buckets (is_of st.places g) st) then 1 else 0)
+  pub line : wide_text (wide_of (keys_of st)) ≡ wide_text (length groups)

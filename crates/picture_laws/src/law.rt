@@ -1,10 +1,10 @@
-ghost use Rattle.std.specs.Prelude.{◌≡◌, ◌≢◌, ◌<◌, ℕ, true, List, All, Contains, Some};
+ghost use Rattle.std.specs.Prelude.{◌≡◌, ◌≢◌, ◌<◌, ℕ, true, List, All, Contains, Some, codes};
 ghost use Rattle.net_addr.specs.Address.{Address, IsAddress};
 ghost use Rattle.peer_rec.specs.declared.rec.Rec.{Rec};
-ghost use Rattle.picture_laws.specs.Counts.{CountsSlots, IsBehind};
+ghost use Rattle.picture_laws.specs.Counts.{CountsSlots, CountsWide, IsBehind};
 ghost use Rattle.picture_laws.specs.Dots.{DrawsSlots};
 ghost use Rattle.picture_laws.specs.Slots.{all_slots, is_of, is_unlisted};
-ghost use Rattle.picture_text.specs.Markup.{IsMarkup, IsPlain};
+ghost use Rattle.picture_text.specs.Markup.{IsPlain, IsTree};
 ghost use Rattle.picture_text.specs.Names.{name_of};
 ghost use Rattle.picture_text.specs.Picture.{picture_text};
 ghost use Rattle.placing.specs.Places.{Places, group};
@@ -16,11 +16,11 @@ ghost use Rattle.table_picture.specs.Picture.{picture_of};
 use dot_runs::one_dot;
 use group_counts::counts_are_of_slots;
 
-/// The picture is the text of elements that nest. Its names, attributes and characters are
-/// printable ASCII, with nothing in them that has to be escaped, if the names of the groups are.
+/// The picture is the text of one tree of elements, whose root is `svg`, if the names of the groups
+/// have nothing in them that has to be escaped.
 pub fn picture_is_a_tree()
     ensures { (keys : List ℕ) (names : List (List ℕ)) → All IsPlain names →
-        IsMarkup (picture_text keys names) }
+        IsTree (codes "svg") (picture_text keys names) }
 {}
 
 /// The name of a group is such a text.
@@ -28,9 +28,9 @@ pub fn names_are_plain()
     ensures { (places : Places) (a : Address) → IsAddress a → IsPlain (name_of places a) }
 {}
 
-/// So the picture of the tables is always the text of such elements.
+/// So the picture of the tables is always the text of such a tree.
 pub fn pictures_are_trees()
-    ensures { (st : State) → IsSound st → IsMarkup (picture_of st) }
+    ensures { (st : State) → IsSound st → IsTree (codes "svg") (picture_of st) }
 {}
 
 /// Addresses of different groups have different keys, none of which is that of a free slot.
@@ -45,6 +45,12 @@ pub fn keys_tell_groups()
 /// the records in them.
 pub fn slots_are_counted()
     ensures { (st : State) → IsSound st → CountsSlots st }
+{}
+
+/// The line below the list counts the groups that are in more than 32 buckets of the new table,
+/// each of them once.
+pub fn wide_groups_are_counted()
+    ensures { (st : State) → IsSound st → CountsWide st }
 {}
 
 /// A group with slots that is not listed has no more slots than any of the six that are.

@@ -1,11 +1,11 @@
 //! What the definition of the picture gives, in the words of the tables: which slots its numbers
-//! count, which groups it lists, what its dots show, and that its text is that of elements that
-//! nest. There is no program here, only definitions and laws.
+//! count, which groups it lists, what its dots show, and that its text is that of one tree. There is
+//! no program here, only definitions and laws.
 #![tactic(auto)]
 
 mod law;
 
 pub use law::{
     keys_tell_groups, listed_groups_have_most, names_are_plain, picture_is_a_tree,
-    pictures_are_trees, slots_are_counted, slots_are_drawn,
+    pictures_are_trees, slots_are_counted, slots_are_drawn, wide_groups_are_counted,
 };

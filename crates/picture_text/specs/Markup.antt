@@ -1,6 +1,6 @@
--- Texts of trees of elements (XML 1.0), with nothing in them that has to be escaped.
-use Rattle.std.specs.Prelude.{◌≡◌, ◌⊎◌, ℕ, ◌==◌, ◌&&◌, ◌||◌, not, nat_le, Bool, true, List, [], ◌∷◌, ◌++◌, All, codes}
-use Rattle.std.specs.List.{list_all}
+-- Documents of XML 1.0 in which nothing is escaped: the text of one tree of elements.
+use Rattle.std.specs.Prelude.{◌≡◌, ℕ, ◌==◌, ◌&&◌, ◌||◌, not, nat_le, Bool, true, false, List, [], ◌∷◌, ◌++◌, bytes_eq, codes}
+use Rattle.std.specs.List.{list_all, list_any}
 
 -- printable ASCII, but for the angle brackets, the ampersand and the quotation mark
 abbrev pub is_plain : ℕ → Bool
@@ -9,41 +9,76 @@ is_plain b = nat_le 32 b && nat_le b 126 && not (b == 60 || b == 62 || b == 38 |
 abbrev pub IsPlain : List ℕ → Type 0
 IsPlain text = list_all is_plain text ≡ true
 
--- a letter or a hyphen
-abbrev pub is_name_byte : ℕ → Bool
-is_name_byte b = nat_le 97 b && nat_le b 122 || nat_le 65 b && nat_le b 90 || b == 45
+-- character data: the same, and line feeds
+abbrev pub is_character : ℕ → Bool
+is_character b = is_plain b || b == 10
 
-abbrev pub IsName : List ℕ → Type 0
-IsName text = list_all is_name_byte text ≡ true
+abbrev pub is_letter : ℕ → Bool
+is_letter b = nat_le 97 b && nat_le b 122 || nat_le 65 b && nat_le b 90
+
+-- a name: a letter, and after it letters and hyphens
+abbrev pub is_name : List ℕ → Bool
+is_name [] = false
+is_name (b ∷ bs) = is_letter b && list_all (λ c. is_letter c || c == 45) bs
+
+-- an attribute: its name and its value
+abbrev pub Attribute : Type 0
+Attribute = List ℕ × List ℕ
+
+abbrev pub is_attribute : Attribute → Bool
+is_attribute a = is_name a.0 && list_all is_plain a.1
+
+-- no attribute name appears more than once in the same tag
+abbrev pub are_unique : List Attribute → Bool
+are_unique [] = true
+are_unique (a ∷ more) = not (list_any (λ b. bytes_eq a.0 b.0) more) && are_unique more
+
+-- a start-tag or an empty-element tag
+abbrev pub is_tag : List ℕ → List Attribute → Bool
+is_tag name attributes = is_name name && (list_all is_attribute attributes && are_unique attributes)
 
 -- attributes, each a name and a value, and the text after them
-abbrev pub attributes_text : List (List ℕ × List ℕ) → List ℕ → List ℕ
+abbrev pub attributes_text : List Attribute → List ℕ → List ℕ
 attributes_text [] rest = rest
-attributes_text (a ∷ more) rest = codes " " ++ (a.0 ++ (codes "=\"" ++ (a.1 ++ (codes "\"" ++ attributes_text more rest))))
-
-abbrev pub IsAttribute : List ℕ × List ℕ → Type 0
-IsAttribute a = IsName a.0 × IsPlain a.1
+attributes_text (a ∷ more) rest =
+    codes " " ++ (a.0 ++ (codes "=\"" ++ (a.1 ++ (codes "\"" ++ attributes_text more rest))))
 
 -- an element with what is in it, and the text after it
-abbrev pub element : List ℕ → List (List ℕ × List ℕ) → List ℕ → List ℕ → List ℕ
-element tag attributes inner rest =
-    codes "<" ++ (tag ++ attributes_text attributes (codes ">" ++ (inner ++ (codes "</" ++ (tag ++ (codes ">" ++ rest))))))
+abbrev pub element : List ℕ → List Attribute → List ℕ → List ℕ → List ℕ
+element name attributes inner rest =
+    codes "<" ++ (name ++ attributes_text attributes
+    (codes ">" ++ (inner ++ (codes "</" ++ (name ++ (codes ">" ++ rest))))))
 
 -- an element with nothing in it, and the text after it
-abbrev pub single : List ℕ → List (List ℕ × List ℕ) → List ℕ → List ℕ
-single tag attributes rest = codes "<" ++ (tag ++ attributes_text attributes (codes "/>" ++ rest))
+abbrev pub single : List ℕ → List Attribute → List ℕ → List ℕ
+single name attributes rest = codes "<" ++ (name ++ attributes_text attributes (codes "/>" ++ rest))
 
--- no line feed, or one
-abbrev pub IsBreak : List ℕ → Type 0
-IsBreak text = (text ≡ []) ⊎ (text ≡ 10 ∷ [])
+-- the content of an element: character data and elements, each with what comes after it
+pub data Content : Type 0 where
+  end : Content
+  characters : (text : List ℕ) → (after : Content) → Content
+  empty : (name : List ℕ) → (attributes : List Attribute) → (after : Content) → Content
+  nested : (name : List ℕ) → (attributes : List Attribute) → (inner after : Content)
+      → Content
 
--- the text of a list of trees: each is a text without markup, a line feed, or an element
-pub data IsMarkup : List ℕ → Type 0 where
-  nothing : IsMarkup []
-  characters : (text : List ℕ) → IsPlain text → IsMarkup text
-  line_feed : IsMarkup (10 ∷ [])
-  beside : (left right : List ℕ) → IsMarkup left → IsMarkup right → IsMarkup (left ++ right)
-  nested : (tag : List ℕ) (attributes : List (List ℕ × List ℕ)) (inner rest : List ℕ) → IsName tag → All IsAttribute attributes
-      → IsMarkup inner → IsBreak rest → IsMarkup (element tag attributes inner rest)
-  empty : (tag : List ℕ) (attributes : List (List ℕ × List ℕ)) (rest : List ℕ) → IsName tag → All IsAttribute attributes
-      → IsBreak rest → IsMarkup (single tag attributes rest)
+abbrev pub is_content : Content → Bool
+is_content Content.end = true
+is_content (Content.characters text after) = list_all is_character text && is_content after
+is_content (Content.empty name attributes after) = is_tag name attributes && is_content after
+is_content (Content.nested name attributes inner after) =
+    is_tag name attributes && (is_content inner && is_content after)
+
+abbrev pub content_text : Content → List ℕ
+content_text Content.end = []
+content_text (Content.characters text after) = text ++ content_text after
+content_text (Content.empty name attributes after) = single name attributes (content_text after)
+content_text (Content.nested name attributes inner after) =
+    element name attributes (content_text inner) (content_text after)
+
+-- A document: one root element of this name, and a line feed.
+pub record IsTree (root text : List ℕ) : Type 0 where
+  pub attributes : List Attribute
+  pub content : Content
+  pub tag : is_tag root attributes ≡ true
+  pub inside : is_content content ≡ true
+  pub whole : text ≡ element root attributes (content_text content) (codes "\n")
