@@ -4,3 +4,4 @@ pub mod Counts
 pub mod Items
 pub mod Listed
 pub mod Sums
+pub mod Firsts

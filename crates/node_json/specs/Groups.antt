@@ -1,5 +1,5 @@
 -- The groups of the tables: how many slots, buckets and records each has.
-use Rattle.std.specs.Prelude.{ℕ, ◌-◌, ◌==◌, Bool, true, false, not, List, [], ◌∷◌, ◌++◌, length, map, Option, Some, None, codes, count_by, filter, slice_get, if◌then◌else◌}
+use Rattle.std.specs.Prelude.{◌≡◌, ℕ, ◌-◌, ◌==◌, All, Bool, Contains, true, false, not, List, [], ◌∷◌, ◌++◌, length, map, Option, Some, None, bytes_eq, codes, count_by, filter, slice_get, if◌then◌else◌}
 use Rattle.std.specs.List.{flat_map, position_or_len}
 use Rattle.json.specs.Json.{Json, string}
 use Rattle.group_counts.specs.Buckets.{bucket_keys}
@@ -99,6 +99,26 @@ row_items places keys recs row = items_by places row.numbers (first_in keys recs
 unfoldable pub groups_array : State → Json
 groups_array st =
     array_of (flat_map (row_items st.places (record_keys st Both) st.records) (rows_of st))
+
+-- the group that a record counts for
+abbrev pub counted_group : Places → Rec → List ℕ
+counted_group places r = group places (counted_address r)
+
+-- the object of this group
+abbrev pub group_object : State → Rec → Json
+group_object st r =
+    object_of (group_members st.places (numbers_of st (group_key (counted_group st.places r)))
+    (counted_address r))
+
+-- The array has one object for each group that a record counts for, and no other: those of some
+-- records, of which one has the group of each record. There are as many as the totals say.
+pub record ListsGroups (st : State) : Type 0 where
+  pub recs : List Rec
+  pub known : All (Contains st.records) recs
+  pub once : (r : Rec) → Contains st.records r →
+      count_by (λ q. bytes_eq (counted_group st.places q) (counted_group st.places r)) recs ≡ 1
+  pub array : groups_array st ≡ array_of (map (group_object st) recs)
+  pub count : length recs ≡ length (groups_in st)
 
 -- THE WHOLE
 

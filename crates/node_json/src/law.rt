@@ -2,8 +2,9 @@ ghost use Rattle.std.specs.Prelude.{◌≡◌, ◌+◌, ◌==◌, ℕ, List, cou
 ghost use Rattle.std.specs.List.{sum_by};
 ghost use Rattle.group_counts.specs.Tally.{occurrences};
 ghost use Rattle.peer_rec.specs.Rec.{is_tried};
+ghost use Rattle.table_machine.specs.Sound.{IsSound};
 ghost use Rattle.table_machine.specs.State.{State};
-ghost use Rattle.node_json.specs.Groups.{record_keys, rows_of, source_keys};
+ghost use Rattle.node_json.specs.Groups.{ListsGroups, record_keys, rows_of, source_keys};
 ghost use Rattle.node_json.specs.declared.part.Part.TheVariants.{Tried};
 
 /// The row of all networks counts every record, also one whose address is not routable.
@@ -18,6 +19,12 @@ pub fn groups_add_up()
     ensures { (st : State) → sum_by (λ row. row.numbers.slots + row.numbers.tried) (rows_of st)
         ≡ count_by (λ k. not (k == 0)) (source_keys st)
         + count_by (λ k. not (k == 0)) (record_keys st Tried) }
+{}
+
+/// The groups of the text are those of the sources in the records of the new table and of the peers
+/// in those of the tried one, each once.
+pub fn groups_are_listed()
+    ensures { (st : State) → IsSound st → ListsGroups st }
 {}
 
 /// Of the records that an asmap can map, those without an AS number and those with one are all.

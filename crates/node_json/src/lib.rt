@@ -21,7 +21,7 @@ mod table;
 pub use bans::bans_text;
 pub use groups::groups_text;
 pub use info::info_text;
-pub use law::{every_record_counts, groups_add_up, numbers_add_up};
+pub use law::{every_record_counts, groups_add_up, groups_are_listed, numbers_add_up};
 pub use memory::Memory;
 pub use raw::raw_text;
 pub use table::Table;

@@ -154,6 +154,11 @@ pub tally-once : (keys : List ℕ) (k : ℕ) → occurrences (map (λ e. e.0) (t
 unfolding times
 tally-once keys k = fold-once [] keys k (omega (arith, times-nil k))
 
+-- one that is there is one of the keys
+pub tally-some : (keys : List ℕ) (k : ℕ) → occurrences (map (λ e. e.0) (tally_of keys)) k ≤ occurrences keys k
+unfolding times
+tally-some keys k = omega (arith, fold-more [] keys k, times-nil k)
+
 -- and none is that of a free slot
 pub tally-zero : (keys : List ℕ) → occurrences (map (λ e. e.0) (tally_of keys)) 0 ≡ 0
 unfolding times

@@ -34,7 +34,7 @@ placed-all P c (d ∷ ds) own each = by (comes_before c d) (placed-all P c ds ow
     by true more = (own, each)
     by false more = (each.0, more)
 
-order-all : (P : Counted → Type 0) (cs ds : List Counted) → AllByRecursion P cs → AllByRecursion P ds → AllByRecursion P (fold (λ es c. placed c es) ds cs)
+pub order-all : (P : Counted → Type 0) (cs ds : List Counted) → AllByRecursion P cs → AllByRecursion P ds → AllByRecursion P (fold (λ es c. placed c es) ds cs)
 order-all P [] ds each own = own
 order-all P (c ∷ cs) ds each own = order-all P cs (placed c ds) each.1 (placed-all P c ds each.0 own)
 

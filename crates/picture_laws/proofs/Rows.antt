@@ -50,7 +50,7 @@ flat-same : (f g : ℕ → List ℕ) (a n : ℕ) → ((i : ℕ) → i < a + n �
 flat-same f g a zero same = refl
 flat-same f g a (suc n) same = λ i. same a (omega arith) i ++ flat-same f g (a + 1) n (λ j low. same j (omega (arith, low))) i
 
-count-at : (ks : List ℕ) (i : ℕ) → i < length ks → 0 < occurrences ks (get_or ks i 0)
+pub count-at : (ks : List ℕ) (i : ℕ) → i < length ks → 0 < occurrences ks (get_or ks i 0)
 count-at [] i within = absurd (omega arith)
 count-at (k ∷ ks) zero within = omega (arith, count-cons (λ j. j == k) k ks, ap one_if (eq-eqb k k refl))
 count-at (k ∷ ks) (suc i) within = omega (arith, count-at ks i (omega (arith, within)), count-cons (λ j. j == get_or ks i 0) k ks)

@@ -36,7 +36,7 @@ any-found p (x ∷ xs) any = by (any-found p xs) (p x) refl any
     by more true e h = (x, e)
     by more false e h = more h
 
-count-found : (p : ℕ → Bool) (xs : List ℕ) → 0 < count_by p xs → (x : ℕ) × (p x ≡ true)
+pub count-found : (p : ℕ → Bool) (xs : List ℕ) → 0 < count_by p xs → (x : ℕ) × (p x ≡ true)
 count-found p [] some = absurd (omega (arith, some))
 count-found p (x ∷ xs) some = by (count-found p xs) (p x) refl (count-cons p x xs)
   where
@@ -44,7 +44,7 @@ count-found p (x ∷ xs) some = by (count-found p xs) (p x) refl (count-cons p x
     by more true e h = (x, e)
     by more false e h = more (omega (arith, some, h, ap one_if e))
 
-any-counts : (p : ℕ → Bool) (xs : List ℕ) → one_if (list_any p xs) ≤ count_by p xs
+pub any-counts : (p : ℕ → Bool) (xs : List ℕ) → one_if (list_any p xs) ≤ count_by p xs
 any-counts p [] = omega arith
 any-counts p (x ∷ xs) = by (p x) (any-counts p xs) (count-cons p x xs)
   where
@@ -117,7 +117,7 @@ filter-all es (c ∷ cs) each = by (is_wide c) refl (filter-all es cs each.1)
     by false e more = more
 
 -- a key that is counted is in the tally
-in-some : (es : List (ℕ × ℕ)) (k : ℕ) → 0 < count_in es k → 0 < occurrences (map (λ e. e.0) es) k
+pub in-some : (es : List (ℕ × ℕ)) (k : ℕ) → 0 < count_in es k → 0 < occurrences (map (λ e. e.0) es) k
 in-some es k some = by (zero-or-more (occurrences (map (λ e. e.0) es) k))
   where
     by : (occurrences (map (λ e. e.0) es) k ≡ 0) ⊎ (0 < occurrences (map (λ e. e.0) es) k) → 0 < occurrences (map (λ e. e.0) es) k
