@@ -10,10 +10,11 @@ use Rattle.host_io.specs.Writing.{Appended, AppendedPart}
 use Rattle.host_io.specs.declared.name.Name.TheVariants as name
 use Rattle.host_io.proofs.Moments.{begun, joined}
 use Rattle.save_store.specs.Saves.{PublishesOrNot}
-use Rattle.addrman_run.specs.Bans.{AreBansIn, RefusesBans, Change, IsOldOrNewList, IsSaved, BansText}
+use Rattle.addrman_run.specs.Bans.{AreBansIn, RefusesBans, ReportsBans, Change, IsOldOrNewList, IsSaved, BansText}
 use Rattle.addrman_run.specs.Compile.{IsInPlace}
 use Rattle.addrman_run.specs.InFolder.{IsAbsent}
 use Rattle.addrman_run.specs.Inside.{IsLoaded, IsLoadFault, IsNoList, IsNoBans, IsAnswer, AnswerEnds}
+use Rattle.addrman_run.specs.TextOut.{TextOut}
 use Rattle.addrman_run.specs.declared.input.Input.TheVariants as input
 use Rattle.addrman_run.specs.declared.status.Status.{Status}
 use Rattle.addrman_run.specs.declared.status.Status.TheVariants.{Done, WriteFault, DiskFault, Memory, BansRefused}
@@ -139,3 +140,14 @@ ended change old mid new line (Some bytes) before after status same is ends =
           lines change old new line before after status is.0 is.1 is.2
           (subst (λ o. IsSaved o old new) (sym made.1) (subst (λ b. IsInPlace name.Bans b new) made.2 done.0)) done.1
     ]
+
+-- no list was found, and nothing is written
+pub unlisted : (IsText : Option Past → List ℕ → Type 0) (past : Option Past) (written : Option (List ℕ)) (status : Status) →
+    IsNoBans past status → TextOut IsText ReportsBans past written written status
+unlisted IsText past written status why = elim why [
+  | inl disk ↦ subst (TextOut IsText ReportsBans past written written) (sym disk) refl
+  | inr more ↦ elim more [
+    | inl memory ↦ subst (TextOut IsText ReportsBans past written written) (sym memory) refl
+    | inr fault ↦ subst (TextOut IsText ReportsBans past written written) (sym fault.1) (fault.2, refl)
+  ]
+]

@@ -19,11 +19,12 @@ use Rattle.host_io.specs.declared.name.Name.{Name}
 use Rattle.host_io.specs.declared.name.Name.TheVariants as name
 use Rattle.net_addr.specs.Address.{Address}
 use Rattle.node_json.specs.Bans.{bans_json}
-use Rattle.node_json.specs.Value.{json_text}
+use Rattle.node_json.specs.Value.{IsJsonText}
 use Rattle.save_store.specs.Saves.{NoMore}
 use Rattle.addrman_run.specs.Compile.{IsInPlace}
 use Rattle.addrman_run.specs.InFolder.{IsAbsent, IsFileIn, IsTooLarge}
 use Rattle.addrman_run.specs.Log.{SameLog}
+use Rattle.addrman_run.specs.TextOut.{TextEnds}
 use Rattle.addrman_run.specs.declared.status.Status.{Status}
 use Rattle.addrman_run.specs.declared.status.Status.TheVariants.{Done, WriteFault, DiskFault, Memory, BansRefused}
 
@@ -88,11 +89,16 @@ abbrev pub banned_change : Address → ℕ → List Ban → Change
 banned_change addr now bans =
     record { line = found_text (find (stops addr now) bans); saved = None }
 
--- `bans`: the bans that are not over, as JSON
-abbrev pub bans_change : ℕ → List Ban → Change
-bans_change now bans = record { line = json_text (bans_json now bans); saved = None }
+-- `bans`: those of the list that are not over, as JSON
+abbrev pub IsBansText : ℕ → Option Past → List ℕ → Type 0
+IsBansText now past text =
+    (bans : List Ban) × AreBansIn past bans × IsJsonText (bans_json now bans) text
 
 -- HOW THEY END
+
+-- `bans` changes nothing
+abbrev pub ListEnds : ℕ → Outside → Outside → Status → Type 0
+ListEnds now = TextEnds (IsBansText now) ReportsBans
 
 -- The disk of a moment beside the one at the start: a crash leaves in banlist.json what it could
 -- leave there at the start, or the whole file of the new list; and at each other name but

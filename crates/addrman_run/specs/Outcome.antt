@@ -19,7 +19,7 @@ use Rattle.addrman_run.specs.declared.tables_json.TablesJson.TheVariants as json
 use Rattle.addrman_run.specs.Generate.{GenEnds}
 use Rattle.addrman_run.specs.Help.{HelpEnds, VersionEnds}
 use Rattle.addrman_run.specs.Trial.{TrialEnds}
-use Rattle.addrman_run.specs.Bans.{BansEnds, ban_change, unban_change, banned_change, bans_change}
+use Rattle.addrman_run.specs.Bans.{BansEnds, ListEnds, ban_change, unban_change, banned_change}
 use Rattle.arguments.specs.declared.request.Request.{Request}
 use Rattle.arguments.specs.declared.request.Request.TheVariants.{Show, Picture, Raw, Info, Groups}
 use Rattle.arguments.specs.declared.request.Request.TheVariants.{Replay, Opener, Compile, Check, Lookup, LookupLines, Address}
@@ -49,7 +49,7 @@ Ends (Groups chain) old new answer = TablesJsonEnds json.Groups chain old new an
 Ends (Ban subnet now until) old new answer = BansEnds (ban_change (ban_of subnet now until)) old new answer
 Ends (Unban subnet) old new answer = BansEnds (unban_change subnet) old new answer
 Ends (Banned peer now) old new answer = BansEnds (banned_change peer.addr now) old new answer
-Ends (Bans now) old new answer = BansEnds (bans_change now) old new answer
+Ends (Bans now) old new answer = ListEnds now old new answer
 Ends (Gen start lines) old new answer = GenEnds start lines old new answer
 Ends (Trial start lines) old new answer = TrialEnds start lines old new answer
 Ends (Help command) old new answer = HelpEnds command old new answer

@@ -6,9 +6,10 @@ ghost use Rattle.host_io.specs.Past.{Always};
 ghost use Rattle.host_io.specs.declared.name.Name.TheVariants as name;
 ghost use Rattle.save_store.specs.Saves.{PublishesOrNot};
 ghost use Rattle.ban_list.specs.declared.ban.Ban.{Ban};
-ghost use Rattle.addrman_run.specs.Bans.{AreBansIn, BansText, Change, IsOldOrNewList};
-ghost use Rattle.addrman_run.specs.Bans.{ban_change, banned_change, found_text, reply_text, saved_by, unban_change, bans_change};
+ghost use Rattle.addrman_run.specs.Bans.{AreBansIn, BansText, Change, IsBansText, IsOldOrNewList, ReportsBans};
+ghost use Rattle.addrman_run.specs.Bans.{ban_change, banned_change, found_text, reply_text, saved_by, unban_change};
 ghost use Rattle.addrman_run.specs.Inside.{AnswerEnds, IsNoBans, IsNoList};
+ghost use Rattle.addrman_run.specs.TextOut.{TextOut};
 ghost use Rattle.log_run.specs.Counts.{IsCounted};
 
 use crate::input::{Input, load_input};
@@ -177,23 +178,6 @@ impl BanCommand for FindBan {
     }
 }
 
-/// The command that prints the bans that are not over.
-#[derive(Drop)]
-pub(crate) struct ListBans {
-    pub(crate) now: u32,
-}
-
-impl BanCommand for ListBans {
-    ghost change = { λ list. bans_change list.now };
-
-    ghost is_proper = { λ _. ⊤ };
-
-    fn answer(&self, alloc: Global, bans: &mut Bans) -> Result<Answer, Memory> {
-        let line = bans_text(alloc, self.now, bans.bans())?;
-        Ok(Answer { line, file: None })
-    }
-}
-
 /// Saves the file of an answer, if it has one, and then writes its line.
 fn write_answer<F: Folder, K: Sink>(answer: &Answer, folder: &mut F, out: &mut K) -> Status
     ensures ends { AnswerEnds answer.now.line.items answer.now.file (F.past folder.old)
@@ -235,6 +219,29 @@ pub(crate) fn change_bans<F: Folder, K: Sink, C: BanCommand>(
     };
     match command.answer(alloc, &mut bans) {
         Ok(answer) => write_answer(&answer, folder, out),
+        Err(_) => Status::Memory,
+    }
+}
+
+/// Writes the bans of the folder's banlist.json that are not over at `now`, as JSON.
+pub(crate) fn list_bans<F: Folder, K: Sink>(
+    alloc: Global,
+    now: u32,
+    folder: &mut F,
+    out: &mut K,
+) -> Status
+    ensures text { TextOut (IsBansText now) ReportsBans
+        (F.past folder.old) (K.written out.old) (K.written out.new) result }
+    ensures disk { IsCounted Status.DiskFault (F.faults folder.old) (F.faults folder.new) result }
+    ensures write { IsCounted Status.WriteFault (K.faults out.old) (K.faults out.new) result }
+    ensures same { F.past folder.new ≡ F.past folder.old }
+{
+    let bans = match load_bans(alloc, folder) {
+        Ok(bans) => bans,
+        Err(status) => return status,
+    };
+    match bans_text(alloc, now, bans.bans()) {
+        Ok(text) => write_line(text.as_slice(), out),
         Err(_) => Status::Memory,
     }
 }

@@ -8,7 +8,7 @@ ghost use Rattle.arguments.specs.declared.request.Request.{Request};
 
 use crate::Status;
 use crate::address::write_address;
-use crate::bans::{BanSubnet, FindBan, ListBans, UnbanSubnet, change_bans};
+use crate::bans::{BanSubnet, FindBan, UnbanSubnet, change_bans, list_bans};
 use crate::check::Check;
 use crate::compile::compile_table;
 use crate::decompile::Decompile;
@@ -116,7 +116,7 @@ fn carry_out<L: Source, F: Folder, K: Sink, H: BuildHasher + Drop>(
         }
         Request::Unban { subnet } => change_bans(alloc, &UnbanSubnet { subnet }, folder, out),
         Request::Banned { peer, now } => change_bans(alloc, &FindBan { peer, now }, folder, out),
-        Request::Bans { now } => change_bans(alloc, &ListBans { now }, folder, out),
+        Request::Bans { now } => list_bans(alloc, now, folder, out),
         Request::Gen { start, lines } => generate(alloc, start, lines, out),
         Request::Trial { start, lines } => trial(alloc, hasher, start, lines, out),
         Request::Help { command } => help(alloc, command, out),
