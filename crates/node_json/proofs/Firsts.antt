@@ -1,17 +1,16 @@
 -- Each group that a record counts for has one row, and each row has a record.
-use Rattle.std.proofs.Common.{◌≡◌, ◌≢◌, ◌⊎◌, inl, inr, ℕ, suc, ◌+◌, ◌*◌, ◌<◌, ◌≤◌, ◌==◌, ◌&&◌, not, Bool, true, false, cond, List, [], ◌∷◌, ◌++◌, length, map, get_or, refl, sym, ap, subst, ◌∙◌, arith, length-append}
-use Rattle.std.specs.Prelude.{All, Contains, IsSome, Option, Some, None, bytes_eq, find, slice_get}
-use Rattle.std.specs.List.{AllByRecursion, count_by, flat_map, fold, list_any, position_or_len, range_with_len, sum_by}
+use Rattle.std.proofs.Common.{◌≡◌, ◌⊎◌, inl, inr, ℕ, suc, ◌+◌, ◌*◌, ◌<◌, ◌≤◌, ◌==◌, not, Bool, true, false, cond, List, [], ◌∷◌, ◌++◌, length, map, get_or, refl, sym, ap, subst, ◌∙◌, arith, length-append}
+use Rattle.std.specs.Prelude.{Contains, IsSome, Option, Some, None, bytes_eq, find, slice_get}
+use Rattle.std.specs.List.{AllByRecursion, count_by, flat_map, list_any, position_or_len, range_with_len, sum_by}
 use Rattle.std.proofs.lemmas.Bool.{and_parts, both_ways, eq-eqb, eqb-true}
 use Rattle.std.proofs.lemmas.List.{map-append}
 use Rattle.std.proofs.lemmas.List.Elements.{All-contains, All-from_recursion, All-head}
 use Rattle.std.proofs.lemmas.List.Sums.{sum_by-append, sum_by-cons}
 use Rattle.std.proofs.lemmas.Slice.Eq.{bytes_eq-Decides}
 use Rattle.group_counts.proofs.Counts.{counts}
-use Rattle.group_counts.specs.Ranks.{groups_of, in_order}
-use Rattle.group_counts.specs.Tally.{count_in, occurrences, tally_of}
+use Rattle.group_counts.specs.Ranks.{groups_of}
+use Rattle.group_counts.specs.Tally.{occurrences, tally_of}
 use Rattle.group_counts.specs.declared.counted.Counted.{Counted}
-use Rattle.json.specs.Json.{Json}
 use Rattle.net_addr.specs.Address.{IsAddress}
 use Rattle.peer_rec.specs.Rec.{IsPlace, IsRec, buckets_by, buckets_of, is_tried, tried_by}
 use Rattle.peer_rec.specs.declared.place.Place.{Place}
@@ -20,18 +19,18 @@ use Rattle.peer_rec.specs.declared.rec.Rec.{Rec}
 use Rattle.picture_laws.proofs.Found.{count-new, new-key-at, new-length}
 use Rattle.picture_laws.proofs.Groups.{IsGroup, group-is, key-some, key-tells}
 use Rattle.picture_laws.proofs.Listed.{count-cons, count-map, group-keys, one_if, order-count, tally-once, tally-some, tally-zero}
-use Rattle.picture_laws.proofs.Ranked.{order-all, zero-or-more}
+use Rattle.picture_laws.proofs.Ranked.{zero-or-more}
 use Rattle.picture_laws.proofs.Rows.{count-at, in-new}
 use Rattle.picture_laws.proofs.Wide.{any-counts, count-found, in-some}
 use Rattle.picture_laws.specs.Slots.{new_slots}
-use Rattle.placing.specs.Places.{Places, group, new_slot}
+use Rattle.placing.specs.Places.{group, new_slot}
 use Rattle.table_machine.proofs.Counts.{new_slot-below}
 use Rattle.table_machine.proofs.Lists.{Contains-head, Contains-list_any, Contains-map, Contains-tail, find-IsSome, find-None, find-Some, find_only}
 use Rattle.table_machine.proofs.Records.{new_at_from, same_record}
 use Rattle.table_machine.specs.Sound.{IsSound}
 use Rattle.table_machine.specs.State.{State, is_new_at, new_rec_at}
 use Rattle.table_picture.specs.Keys.{group_key, new_keys, slot_key}
-use Rattle.node_json.specs.Groups.{ListsGroups, counted_address, counted_group, first_in, group_members, group_object, groups_array, groups_in, items_by, numbers_of, part_key, record_keys, row_items, row_of, rows_of, source_keys}
+use Rattle.node_json.specs.Groups.{ListsGroups, counted_address, counted_group, group_members, group_object, groups_array, groups_in, items_by, numbers_of, part_key, record_keys, row_items, row_of, rows_of, source_keys}
 use Rattle.node_json.specs.Value.{array_of, object_of}
 use Rattle.node_json.specs.declared.part.Part.TheVariants.{Both, Tried}
 

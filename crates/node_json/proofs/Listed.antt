@@ -20,9 +20,9 @@ use Rattle.table_machine.specs.State.{State}
 use Rattle.node_json.specs.declared.numbers.Numbers.{Numbers}
 use Rattle.node_json.specs.declared.numbers.Row.{Row}
 use Rattle.node_json.specs.declared.part.Part.TheVariants.{Both}
-use Rattle.node_json.specs.Groups.{clearnet_numbers, counted_address, first_in, group_members, groups_array, groups_json, groups_members, health_members, is_clearnet, items_by, number_members, record_keys, row_items, rows_of, totals_by, totals_members}
+use Rattle.node_json.specs.Groups.{counted_address, first_in, group_members, groups_array, groups_json, groups_members, health_members, is_clearnet, items_by, number_members, record_keys, row_items, rows_of, totals_by}
 use Rattle.node_json.specs.Inside.{items_tokens_of, tokens_of}
-use Rattle.node_json.specs.Value.{array_of, items_of, number_of, object_of, unless_zero}
+use Rattle.node_json.specs.Value.{array_of, items_of, number_of, unless_zero}
 use Rattle.node_json.proofs.Items.{array_value, items-append}
 use Rattle.node_json.proofs.Tokens.{AreShallow, shallow-append, shallow_object, shallow_unless}
 

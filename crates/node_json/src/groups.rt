@@ -21,7 +21,7 @@ use crate::put::{put_begin, put_number, put_string, put_unless_zero, with_end};
 use group_counts::{Counted, count_groups, in_order, occurrences};
 use json::{Pretty, Token};
 use net_addr::{Net, NetAddr};
-use peer_rec::{Rec, Recs};
+use peer_rec::Rec;
 use picture_laws::names_are_plain;
 use picture_text::{name_of, new_keys};
 use placing::Placer;
@@ -353,12 +353,11 @@ fn put_members<H: BuildHasher, G: BuildHasher>(
     requires slots { slots.now ≡ slot_keys tables.now tables.now.places }
     requires long { length slots.now ≡ 81920 }
     requires recs { recs.now ≡ tables.now.records }
-    requires few { length recs.now ≤ 81920 }
     ensures { OnOk result (json.new ≡ json.old ++ tokens_of (groups_members tables.now)) }
 {
+    let counts = tables.counts();
     let rows = rows_of(alloc, hasher, tables, slots, recs)?;
     let numbers = clearnet_numbers(alloc, tables.placer(), recs)?;
-    let counts = tables.counts();
     put_array(alloc, json, tables.placer(), recs, rows.as_slice())?;
     put_totals(
         json,
@@ -380,7 +379,7 @@ pub fn groups_text<L: Ledger, H: BuildHasher, G: BuildHasher>(
 ) -> Result<Vec<u8>, Memory>
     ensures { IfOk result (λ text. IsJsonText (groups_json tables.now) text.items) }
 {
-    let recs = few_recs(tables, steps)?;
+    let recs = tables.recs(steps)?;
     let slots = slot_keys(alloc, tables, tables.placer(), steps)?;
     let mut json = Pretty::new(alloc);
     json.token(Token::BeginObject)?;
@@ -394,16 +393,4 @@ pub fn groups_text<L: Ledger, H: BuildHasher, G: BuildHasher>(
     )?;
     json.token(Token::EndObject)?;
     Ok(with_end(json)?)
-}
-
-/// Returns the records, of which there are at most as many as slots.
-fn few_recs<L: Ledger, H: BuildHasher>(
-    tables: &Tables<'_, H>,
-    steps: &mut Steps<L>,
-) -> Result<Recs, Memory>
-    ensures recs { IfOk result (λ recs. recs ≡ tables.now.records) }
-    ensures few { length tables.now.records ≤ 81920 }
-{
-    let _counts = tables.counts();
-    Ok(tables.recs(steps)?)
 }

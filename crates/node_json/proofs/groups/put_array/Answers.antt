@@ -1,4 +1,4 @@
-use Rattle.std.proofs.Common.{◌++◌, ◌∙◌, ap, codes, map, sym}
+use Rattle.std.proofs.Common.{◌++◌, ◌∙◌, ap, codes, map}
 use Rattle.std.specs.List.{flat_map}
 use Rattle.node_json.specs.Groups.{part_key, row_items}
 use Rattle.node_json.specs.Inside.{rows_tokens}

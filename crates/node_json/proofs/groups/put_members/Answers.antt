@@ -1,20 +1,39 @@
-use Rattle.std.proofs.Common.{◌≡◌, ℕ, ◌-◌, ◌≤◌, List, [], ◌∷◌, ◌++◌, ◌∙◌, ap, arith, rules, codes, filter, length, map}
+use Rattle.std.proofs.Common.{◌≡◌, ℕ, ◌-◌, ◌≤◌, [], ◌∷◌, ◌++◌, ◌∙◌, ap, arith, rules, codes, count_by, filter, length, map, not}
 use Rattle.std.specs.List.{flat_map}
 use Rattle.std.proofs.lemmas.List.{length-map}
 use Rattle.group_counts.specs.Tally.{occurrences}
 use Rattle.picture_text.specs.Picture.{in_new}
+use Rattle.peer_rec.specs.Rec.{is_tried}
+use Rattle.table_machine.specs.State.{State}
 use Rattle.placing.specs.Places.{asn}
 use Rattle.node_json.specs.Groups.{clearnet_numbers, groups_array, groups_in, groups_members, health_members, is_clearnet, part_key, record_keys, row_items, row_of, rows_of, source_keys, totals_by, totals_members}
 use Rattle.node_json.specs.Inside.{tokens_of}
 use Rattle.node_json.specs.Value.{Member, array_of, object_of}
 use Rattle.node_json.specs.declared.part.Part.TheVariants.{Both}
+use Rattle.node_json.proofs.Counts.{counts_all}
 use Rattle.node_json.proofs.Listed.{few_numbers}
 use Rattle.node_json.proofs.Tokens.{member_more, no_member}
 use Rattle.node_json.proofs.groups.put_members.Goals as goal
 
+-- there are at most as many records as slots
+few : (st : State) (new tried n : ℕ) → new ≡ count_by (λ r. not (is_tried r)) st.records → tried ≡ count_by is_tried st.records → new ≤ 65536 → tried ≤ 16384 → n ≡ length st.records
+    → n ≤ 81920
+few st new tried n p q r s is = omega (arith, counts_all is_tried st.records, p, q, r, s, is)
+
+pub rows_of-requires-clause-few : goal.rows_of-requires-clause-few
+rows_of-requires-clause-few g c =
+    few c.args.tables.now c.counts-counts.result.new_count c.counts-counts.result.tried_count _ c.counts-counts.ensures.new c.counts-counts.ensures.tried c.counts-counts.ensures.few_new c.counts-counts.ensures.few_tried
+    (ap length c.requires.recs)
+
 pub put_asmap-requires : goal.put_asmap-requires
 put_asmap-requires g c =
-    omega (arith, ap length (c.as_slice-2.ensures.value ∙ c.in_ok-numbers.ensures), few_numbers c.placer.result.now c.args.recs.now, c.requires.few)
+    omega (
+      arith,
+      ap length (c.as_slice-2.ensures.value ∙ c.in_ok-numbers.ensures),
+      few_numbers c.placer.result.now c.args.recs.now,
+      few c.args.tables.now c.counts-counts.result.new_count c.counts-counts.result.tried_count _ c.counts-counts.ensures.new c.counts-counts.ensures.tried c.counts-counts.ensures.few_new c.counts-counts.ensures.few_tried
+          (ap length c.requires.recs),
+    )
 
 pub returns : goal.returns
 unfolding groups_members groups_array clearnet_numbers rows_of record_keys source_keys

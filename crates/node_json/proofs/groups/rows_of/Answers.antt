@@ -1,4 +1,4 @@
-use Rattle.std.proofs.Common.{◌≡◌, ℕ, List, ◌++◌, ◌∙◌, map}
+use Rattle.std.proofs.Common.{◌≡◌, ◌++◌, ◌∙◌, map}
 use Rattle.group_counts.specs.Ranks.{groups_of, in_order}
 use Rattle.group_counts.specs.declared.counted.Counted.{Counted}
 use Rattle.picture_text.specs.Picture.{in_new}

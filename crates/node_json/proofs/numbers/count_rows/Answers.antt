@@ -1,5 +1,4 @@
 use Rattle.std.proofs.Common.{◌≡◌, ◌∙◌, ap, map}
-use Rattle.group_counts.specs.Buckets.{bucket_keys}
 use Rattle.group_counts.specs.Tally.{tally_of}
 use Rattle.group_counts.specs.declared.counted.Counted.{Counted}
 use Rattle.node_json.specs.Inside.{row_by, row_in}
