@@ -11,8 +11,8 @@ use Rattle.net_addr.specs.declared.net.Net.TheVariants.{Unroutable, Ipv4, Ipv6, 
 use Rattle.wire_num.specs.CompactSize.{compact_size}
 use Rattle.wire_num.specs.Format.{sequence, value, check}
 use Rattle.wire_num.specs.Fields.{some_bytes, byte, compact}
-use Rattle.wire_num.specs.Readings.{◌>>=◌, bytes_at, byte_at, compact_at, then_at, value_at, check_at, under_at}
-use Rattle.wire_num.proofs.ReadingLaws.{Reads, Reads-then, Reads-value, Reads-check, Reads-under, Reads-same, check-then}
+use Rattle.wire_num.specs.Readings.{◌>>=◌, bytes_at, byte_at, compact_at, then_at, value_at, check_at, map_fault_at}
+use Rattle.wire_num.proofs.ReadingLaws.{Reads, Reads-then, Reads-value, Reads-check, Reads-map_fault, Reads-same, check-then}
 use Rattle.wire_num.proofs.FieldLaws.{Reads-some_bytes, Reads-byte}
 use Rattle.wire_num.proofs.CompactLaws.{Reads-compact}
 use Rattle.wire_num.proofs.WritingLaws.{spells-then, spells-value, spells-check, spells-some_bytes, spells-compact, spells-byte}
@@ -26,20 +26,20 @@ use Rattle.addr_codecs.specs.Texts.{address_text, id_of, prefix_of}
 
 -- ---- reading
 
-length_field : Reads (address_field compact) (under_at in_address compact_at)
-length_field = Reads-under in_address compact compact_at Reads-compact
+length_field : Reads (address_field compact) (map_fault_at in_address compact_at)
+length_field = Reads-map_fault in_address compact compact_at Reads-compact
 
-byte_field : Reads (address_field byte) (under_at in_address byte_at)
-byte_field = Reads-under in_address byte byte_at Reads-byte
+byte_field : Reads (address_field byte) (map_fault_at in_address byte_at)
+byte_field = Reads-map_fault in_address byte byte_at Reads-byte
 
-bytes_field : (n : ℕ) → Reads (address_field (some_bytes n)) (under_at in_address (bytes_at n))
-bytes_field n = Reads-under in_address (some_bytes n) (bytes_at n) (Reads-some_bytes n)
+bytes_field : (n : ℕ) → Reads (address_field (some_bytes n)) (map_fault_at in_address (bytes_at n))
+bytes_field n = Reads-map_fault in_address (some_bytes n) (bytes_at n) (Reads-some_bytes n)
 
 Reads-length : (network : Option Net) → Reads (address_length network) (length_at network)
 unfolding address_length length_at
 Reads-length network =
     let right = λ (len : ℕ) (bytes : List ℕ). cond (leb len 512) (check_at (is_length network len) BadLength len bytes) (Err TooLong) in
-    Reads-then (address_field compact) (λ len. sequence (check (leb len 512) TooLong len) (λ short. check (is_length network short) BadLength short)) (under_at in_address compact_at) right length_field (λ len.
+    Reads-then (address_field compact) (λ len. sequence (check (leb len 512) TooLong len) (λ short. check (is_length network short) BadLength short)) (map_fault_at in_address compact_at) right length_field (λ len.
     Reads-same (sequence (check (leb len 512) TooLong len) (λ short. check (is_length network short) BadLength short)) (then_at (check_at (leb len 512) TooLong len) (λ short. check_at (is_length network short) BadLength short)) (right len)
     (Reads-then (check (leb len 512) TooLong len) (λ short. check (is_length network short) BadLength short) (check_at (leb len 512) TooLong len) (λ short. check_at (is_length network short) BadLength short) (Reads-check (leb len 512) TooLong len) (λ short. Reads-check (is_length network short) BadLength short))
     (λ bytes. check-then (leb len 512) TooLong len (λ short. check_at (is_length network short) BadLength short) bytes))
@@ -48,12 +48,12 @@ pub Reads-address : Reads addrv2_address address_at
 unfolding addrv2_address address_at
 Reads-address =
     Reads-then (address_field byte) (λ id. sequence (address_length (network_of id)) (λ len. sequence (address_field (some_bytes len)) (λ bytes. value (address_of (network_of id) bytes))))
-    (under_at in_address byte_at) (λ id bytes. length_at (network_of id) bytes >>= λ len. under_at in_address (bytes_at len.0) len.1 >>= λ part. Ok (address_of (network_of id) part.0, part.1))
+    (map_fault_at in_address byte_at) (λ id bytes. length_at (network_of id) bytes >>= λ len. map_fault_at in_address (bytes_at len.0) len.1 >>= λ part. Ok (address_of (network_of id) part.0, part.1))
     byte_field (λ id.
     Reads-then (address_length (network_of id)) (λ len. sequence (address_field (some_bytes len)) (λ bytes. value (address_of (network_of id) bytes)))
-    (length_at (network_of id)) (λ len bytes. under_at in_address (bytes_at len) bytes >>= λ part. Ok (address_of (network_of id) part.0, part.1))
+    (length_at (network_of id)) (λ len bytes. map_fault_at in_address (bytes_at len) bytes >>= λ part. Ok (address_of (network_of id) part.0, part.1))
     (Reads-length (network_of id)) (λ len.
-    Reads-then (address_field (some_bytes len)) (λ bytes. value (address_of (network_of id) bytes)) (under_at in_address (bytes_at len)) (λ part. value_at (address_of (network_of id) part)) (bytes_field len) (λ part. Reads-value (address_of (network_of id) part))))
+    Reads-then (address_field (some_bytes len)) (λ bytes. value (address_of (network_of id) bytes)) (map_fault_at in_address (bytes_at len)) (λ part. value_at (address_of (network_of id) part)) (bytes_field len) (λ part. Reads-value (address_of (network_of id) part))))
 
 -- ---- writing
 

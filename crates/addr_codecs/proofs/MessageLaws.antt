@@ -5,10 +5,10 @@ use Rattle.std.specs.Int.{w16, w32, w64, to_le_bytes, to_be_bytes, from_le_bytes
 use Rattle.net_addr.specs.OldForm.{from_v1}
 use Rattle.net_addr.specs.declared.entry.Entry.{Entry}
 use Rattle.wire_num.specs.declared.fault.WireFault.{WireFault}
-use Rattle.wire_num.specs.Format.{Format, sequence, value, check, times, under, HasFault}
+use Rattle.wire_num.specs.Format.{Format, sequence, value, check, times, map_fault, HasFault}
 use Rattle.wire_num.specs.Fields.{some_bytes, le, be, compact}
-use Rattle.wire_num.specs.Readings.{◌>>=◌, bytes_at, le_at, be_at, compact_at, times_at, then_at, value_at, check_at, under_at, all_of}
-use Rattle.wire_num.proofs.ReadingLaws.{AreBytes, Reads, reads_all, Reads-then, Reads-value, Reads-check, Reads-times, Reads-under, Reads-same, check-then}
+use Rattle.wire_num.specs.Readings.{◌>>=◌, bytes_at, le_at, be_at, compact_at, times_at, then_at, value_at, check_at, map_fault_at, all_of}
+use Rattle.wire_num.proofs.ReadingLaws.{AreBytes, Reads, reads_all, Reads-then, Reads-value, Reads-check, Reads-times, Reads-map_fault, Reads-same, check-then}
 use Rattle.wire_num.proofs.FieldLaws.{Reads-some_bytes, Reads-number, le32, le64, be16}
 use Rattle.wire_num.proofs.CompactLaws.{Reads-compact}
 use Rattle.addr_codecs.specs.declared.fault.MsgFault.{MsgFault}
@@ -22,22 +22,22 @@ use Rattle.addr_codecs.specs.Layout.{field, entry, addr_entry, addrv2_address, a
 use Rattle.addr_codecs.specs.Inside.{addr_entry_at, addrv2_entry_at, message_at, entry_at, GivesUnlessMemory}
 
 abbrev field_at : {A : Type 0} → (List ℕ → Result (A × List ℕ) WireFault) → List ℕ → Result (A × List ℕ) MsgFault
-field_at r bytes = under_at of_wire r bytes
+field_at r bytes = map_fault_at of_wire r bytes
 
 time_field : Reads (field (le w32)) (field_at (le_at w32))
-time_field = Reads-under of_wire (le w32) (le_at w32) (Reads-number w32 (to_le_bytes w32) (from_le_bytes w32) le32)
+time_field = Reads-map_fault of_wire (le w32) (le_at w32) (Reads-number w32 (to_le_bytes w32) (from_le_bytes w32) le32)
 
 services_field : Reads (field (le w64)) (field_at (le_at w64))
-services_field = Reads-under of_wire (le w64) (le_at w64) (Reads-number w64 (to_le_bytes w64) (from_le_bytes w64) le64)
+services_field = Reads-map_fault of_wire (le w64) (le_at w64) (Reads-number w64 (to_le_bytes w64) (from_le_bytes w64) le64)
 
 port_field : Reads (field (be w16)) (field_at (be_at w16))
-port_field = Reads-under of_wire (be w16) (be_at w16) (Reads-number w16 (to_be_bytes w16) (from_be_bytes w16) be16)
+port_field = Reads-map_fault of_wire (be w16) (be_at w16) (Reads-number w16 (to_be_bytes w16) (from_be_bytes w16) be16)
 
 bytes_field : (n : ℕ) → Reads (field (some_bytes n)) (field_at (bytes_at n))
-bytes_field n = Reads-under of_wire (some_bytes n) (bytes_at n) (Reads-some_bytes n)
+bytes_field n = Reads-map_fault of_wire (some_bytes n) (bytes_at n) (Reads-some_bytes n)
 
 compact_field : Reads (field compact) (field_at compact_at)
-compact_field = Reads-under of_wire compact compact_at Reads-compact
+compact_field = Reads-map_fault of_wire compact compact_at Reads-compact
 
 pub Reads-addr_entry : Reads addr_entry addr_entry_at
 unfolding addr_entry addr_entry_at
@@ -53,20 +53,20 @@ Reads-addr_entry =
     (bytes_field 16) (λ old.
     Reads-then (field (be w16)) (λ port. value (Some (entry time services port (from_v1 old)))) (field_at (be_at w16)) (λ port. value_at (Some (entry time services port (from_v1 old)))) port_field (λ port. Reads-value (Some (entry time services port (from_v1 old)))))))
 
-address_part : Reads (under of_address addrv2_address) (under_at of_address address_at)
-address_part = Reads-under of_address addrv2_address address_at Reads-address
+address_part : Reads (map_fault of_address addrv2_address) (map_fault_at of_address address_at)
+address_part = Reads-map_fault of_address addrv2_address address_at Reads-address
 
 pub Reads-addrv2_entry : Reads addrv2_entry addrv2_entry_at
 unfolding addrv2_entry addrv2_entry_at
 Reads-addrv2_entry =
-    Reads-then (field (le w32)) (λ time. sequence (field compact) (λ services. sequence (under of_address addrv2_address) (λ addr. sequence (field (be w16)) (λ port. value (option_map (entry time services port) addr)))))
-    (field_at (le_at w32)) (λ time bytes. field_at compact_at bytes >>= λ services. under_at of_address address_at services.1 >>= λ addr. field_at (be_at w16) addr.1 >>= λ port. Ok (option_map (entry time services.0 port.0) addr.0, port.1))
+    Reads-then (field (le w32)) (λ time. sequence (field compact) (λ services. sequence (map_fault of_address addrv2_address) (λ addr. sequence (field (be w16)) (λ port. value (option_map (entry time services port) addr)))))
+    (field_at (le_at w32)) (λ time bytes. field_at compact_at bytes >>= λ services. map_fault_at of_address address_at services.1 >>= λ addr. field_at (be_at w16) addr.1 >>= λ port. Ok (option_map (entry time services.0 port.0) addr.0, port.1))
     time_field (λ time.
-    Reads-then (field compact) (λ services. sequence (under of_address addrv2_address) (λ addr. sequence (field (be w16)) (λ port. value (option_map (entry time services port) addr))))
-    (field_at compact_at) (λ services bytes. under_at of_address address_at bytes >>= λ addr. field_at (be_at w16) addr.1 >>= λ port. Ok (option_map (entry time services port.0) addr.0, port.1))
+    Reads-then (field compact) (λ services. sequence (map_fault of_address addrv2_address) (λ addr. sequence (field (be w16)) (λ port. value (option_map (entry time services port) addr))))
+    (field_at compact_at) (λ services bytes. map_fault_at of_address address_at bytes >>= λ addr. field_at (be_at w16) addr.1 >>= λ port. Ok (option_map (entry time services port.0) addr.0, port.1))
     compact_field (λ services.
-    Reads-then (under of_address addrv2_address) (λ addr. sequence (field (be w16)) (λ port. value (option_map (entry time services port) addr)))
-    (under_at of_address address_at) (λ addr bytes. field_at (be_at w16) bytes >>= λ port. Ok (option_map (entry time services port.0) addr, port.1))
+    Reads-then (map_fault of_address addrv2_address) (λ addr. sequence (field (be w16)) (λ port. value (option_map (entry time services port) addr)))
+    (map_fault_at of_address address_at) (λ addr bytes. field_at (be_at w16) bytes >>= λ port. Ok (option_map (entry time services port.0) addr, port.1))
     address_part (λ addr.
     Reads-then (field (be w16)) (λ port. value (option_map (entry time services port) addr)) (field_at (be_at w16)) (λ port. value_at (option_map (entry time services port) addr)) port_field (λ port. Reads-value (option_map (entry time services port) addr)))))
 

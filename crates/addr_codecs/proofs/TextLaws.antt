@@ -12,14 +12,14 @@ use Rattle.net_addr.specs.declared.entry.Entry.{Entry}
 use Rattle.net_addr.specs.declared.net.Net.{Net}
 use Rattle.net_addr.specs.declared.net.Net.TheVariants.{Unroutable, Ipv4, Ipv6, Onion, I2p, Cjdns, Internal}
 use Rattle.wire_num.specs.CompactSize.{compact_size}
-use Rattle.wire_num.specs.Format.{Format, sequence, value, check, times, under}
+use Rattle.wire_num.specs.Format.{Format, sequence, value, check, times, map_fault}
 use Rattle.wire_num.specs.Fields.{some_bytes, le, be, compact}
 use Rattle.addr_codecs.specs.declared.fault.MsgFault.{MsgFault}
 use Rattle.addr_codecs.specs.declared.fault.MsgFault.TheVariants.{TooMany}
 use Rattle.addr_codecs.specs.Entries.{IsEntry}
 use Rattle.addr_codecs.specs.Faults.{of_wire, of_address}
 use Rattle.addr_codecs.proofs.AddressLaws.{own_ipv6, spells-address}
-use Rattle.wire_num.proofs.WritingLaws.{spells-then, spells-value, spells-check, spells-under, spells-number, spells-compact, spells-some_bytes, spells-times}
+use Rattle.wire_num.proofs.WritingLaws.{spells-then, spells-value, spells-check, spells-map_fault, spells-number, spells-compact, spells-some_bytes, spells-times}
 use Rattle.addr_codecs.specs.Layout.{field, entry, addr_entry, addrv2_address, addrv2_entry, message}
 use Rattle.addr_codecs.specs.Texts.{addr_entry_text, addrv2_entry_text, address_text, message_text}
 
@@ -84,9 +84,9 @@ of_addrv2_entry e h =
     let port = e.peer.port in
     let addr = e.peer.addr in
     let last = spells-then (field (be w16)) (λ p. value (option_map (entry time services p) (Some addr))) (to_be_bytes w16 port) [] port (Some e) (spells-number of_wire w16 (to_be_bytes w16) port h.port) (spells-value MsgFault (Some e)) in
-    let third = spells-then (under of_address addrv2_address) (λ a. sequence (field (be w16)) (λ p. value (option_map (entry time services p) a))) (address_text addr) (to_be_bytes w16 port ++ []) (Some addr) (Some e) (spells-under of_address addrv2_address (address_text addr) (Some addr) (spells-address addr h.addr)) last in
-    let second = spells-then (field compact) (λ s. sequence (under of_address addrv2_address) (λ a. sequence (field (be w16)) (λ p. value (option_map (entry time s p) a)))) (compact_size services) (address_text addr ++ (to_be_bytes w16 port ++ [])) services (Some e) (spells-compact of_wire services h.services) third in
-    let first = spells-then (field (le w32)) (λ t. sequence (field compact) (λ s. sequence (under of_address addrv2_address) (λ a. sequence (field (be w16)) (λ p. value (option_map (entry t s p) a)))))
+    let third = spells-then (map_fault of_address addrv2_address) (λ a. sequence (field (be w16)) (λ p. value (option_map (entry time services p) a))) (address_text addr) (to_be_bytes w16 port ++ []) (Some addr) (Some e) (spells-map_fault of_address addrv2_address (address_text addr) (Some addr) (spells-address addr h.addr)) last in
+    let second = spells-then (field compact) (λ s. sequence (map_fault of_address addrv2_address) (λ a. sequence (field (be w16)) (λ p. value (option_map (entry time s p) a)))) (compact_size services) (address_text addr ++ (to_be_bytes w16 port ++ [])) services (Some e) (spells-compact of_wire services h.services) third in
+    let first = spells-then (field (le w32)) (λ t. sequence (field compact) (λ s. sequence (map_fault of_address addrv2_address) (λ a. sequence (field (be w16)) (λ p. value (option_map (entry t s p) a)))))
     (to_le_bytes w32 time) (compact_size services ++ (address_text addr ++ (to_be_bytes w16 port ++ []))) time (Some e) (spells-number of_wire w32 (to_le_bytes w32) time h.time) second in
     let regrouped : to_le_bytes w32 time ++ (compact_size services ++ (address_text addr ++ (to_be_bytes w16 port ++ []))) ≡ to_le_bytes w32 time ++ compact_size services ++ address_text addr ++ to_be_bytes w16 port = simp append_assoc in
     subst (λ (t : List ℕ). addrv2_entry.spells t (Some e)) regrouped first

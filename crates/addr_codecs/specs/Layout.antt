@@ -7,7 +7,7 @@ use Rattle.net_addr.specs.OldForm.{from_v1}
 use Rattle.net_addr.specs.declared.entry.Entry.{Entry}
 use Rattle.net_addr.specs.declared.net.Net.{Net}
 use Rattle.wire_num.specs.declared.fault.WireFault.{WireFault}
-use Rattle.wire_num.specs.Format.{Format, ◌>>=◌, value, check, times, under, HasFault}
+use Rattle.wire_num.specs.Format.{Format, ◌>>=◌, value, check, times, map_fault, HasFault}
 use Rattle.wire_num.specs.Fields.{some_bytes, byte, le, be, compact}
 use Rattle.addr_codecs.specs.Faults.{of_wire, in_address, of_address}
 use Rattle.addr_codecs.specs.Network.{network_of, is_length, address_of}
@@ -19,7 +19,7 @@ use Rattle.addr_codecs.specs.declared.address_fault.AddressFault.{AddressFault}
 use Rattle.addr_codecs.specs.declared.address_fault.AddressFault.TheVariants.{BadLength, TooLong}
 
 abbrev pub field : {A : Type 0} → Format WireFault A → Format MsgFault A
-field p = under of_wire p
+field p = map_fault of_wire p
 
 abbrev pub entry : ℕ → ℕ → ℕ → Address → Entry
 entry time services port addr =
@@ -36,7 +36,7 @@ addr_entry = do
 
 -- a field of an address
 abbrev pub address_field : {A : Type 0} → Format WireFault A → Format AddressFault A
-address_field p = under in_address p
+address_field p = map_fault in_address p
 
 -- the length of an address, at most 512 and that of its network
 unfoldable pub address_length : Option Net → Format AddressFault ℕ
@@ -58,7 +58,7 @@ unfoldable pub addrv2_entry : Format MsgFault (Option Entry)
 addrv2_entry = do
   time ← field (le w32)
   services ← field compact
-  addr ← under of_address addrv2_address
+  addr ← map_fault of_address addrv2_address
   port ← field (be w16)
   value (option_map (entry time services port) addr)
 

@@ -7,17 +7,17 @@ use Rattle.std.specs.Fmt.{digits}
 use Rattle.hex.specs.Hex.{encode_with}
 use Rattle.wire_num.specs.CompactSize.{compact_size}
 use Rattle.addr_codecs.specs.Texts.{addrv2_entry_text, address_text}
-use Rattle.addr_limit.specs.State.{State, start}
-use Rattle.addr_limit.specs.Steps.{after, output}
+use Rattle.addr_limit.specs.State.{LimitState, start}
+use Rattle.addr_limit.specs.Steps.{after_event, output}
 use Rattle.addr_limit.specs.declared.event.Event.{Event}
 use Rattle.addr_limit.specs.declared.event.Event.TheVariants.{Now, Of}
 use Rattle.addr_limit.specs.declared.request.Request.{Request}
 use Rattle.addr_limit.specs.declared.request.Request.TheVariants.{Open, GetAddr, Message, Stat}
 
 -- the outputs for events; a line that sets the clock has no text here
-abbrev outputs : State → List Event → List (List ℕ)
+abbrev outputs : LimitState → List Event → List (List ℕ)
 outputs st [] = []
-outputs st (e ∷ es) = output st [] e ∷ outputs (after st e) es
+outputs st (e ∷ es) = output st [] e ∷ outputs (after_event st e) es
 
 abbrev us : Address
 us = record { net = Ipv4; bytes = 1 ∷ 2 ∷ 3 ∷ 4 ∷ [] }

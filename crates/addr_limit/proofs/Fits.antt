@@ -6,8 +6,8 @@ use Rattle.net_addr.specs.declared.entry.Entry.{Entry}
 use Rattle.addr_codecs.specs.declared.fault.MsgFault.{MsgFault}
 use Rattle.addr_limit.specs.declared.conn.Conn.{Conn}
 use Rattle.addr_limit.specs.Tokens.{refill, after_entry, after_entries, after_getaddr}
-use Rattle.addr_limit.specs.State.{State, find_conn, with_conn, without_conn, set_conn, IsBounded, AreBounded}
-use Rattle.addr_limit.specs.Steps.{Outcome, serve, limit_message, limit_entries, after}
+use Rattle.addr_limit.specs.State.{LimitState, find_conn, with_conn, without_conn, set_conn, IsBounded, AreBounded}
+use Rattle.addr_limit.specs.Steps.{Outcome, serve, limit_message, limit_entries, after_event}
 use Rattle.addr_limit.specs.declared.event.Event.{Event}
 use Rattle.addr_limit.specs.declared.event.Event.TheVariants.{Now, Of, Nothing}
 use Rattle.addr_limit.specs.declared.request.Request.{Request}
@@ -81,7 +81,7 @@ without-bounded number (c ∷ conns) all = by (not (c.number == number)) (withou
     by false rest = rest
 
 -- no line gives a connection more
-pub after-bounded : (st : State) (e : Event) → AreBounded st.conns → AreBounded (after st e).conns
+pub after-bounded : (st : LimitState) (e : Event) → AreBounded st.conns → AreBounded (after_event st e).conns
 after-bounded st (Now time) all = all
 after-bounded st Nothing all = all
 after-bounded st (Of number request) all = by (serve st.clock number (find_conn number st.conns) request).conn (serve-bounded st.clock number (find_conn number st.conns) request (find-bounded number st.conns all))

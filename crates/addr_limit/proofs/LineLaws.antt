@@ -6,15 +6,15 @@ use Rattle.std.proofs.lemmas.Slice.Eq.{bytes_eq-Decides}
 use Rattle.addr_codecs.specs.declared.form.Form.{Form}
 use Rattle.addr_codecs.specs.declared.form.Form.TheVariants.{Addr, Addrv2}
 use Rattle.grammar.specs.Fields.{Kind, OfAddr, Hex, Random, Either, Value, TheNumber, TheAddr, TheBytes, TheWords, TheChoice, AllMean, u32_field}
-use Rattle.addr_limit.specs.State.{State}
-use Rattle.addr_limit.specs.Steps.{after}
+use Rattle.addr_limit.specs.State.{LimitState}
+use Rattle.addr_limit.specs.Steps.{after_event}
 use Rattle.addr_limit.specs.declared.event.Event.{Event}
 use Rattle.addr_limit.specs.declared.request.Request.{Request}
 use Rattle.addr_limit.specs.declared.request.Request.TheVariants.{Close, GetAddr, Stat}
 use Rattle.addr_limit.specs.Apart.{DependsOn, IsLastOutput}
 use Rattle.addr_limit.specs.declared.verb.Verb.{Verb}
 use Rattle.addr_limit.specs.declared.verb.Verb.TheVariants as v
-use Rattle.addr_limit.specs.Lines.{kinds_of, message_kinds, verb_at, SaysEvent, SaysBy, SaysMessage, SaysOf, SaysRequest, LimitStep, are_about, is_about, is_about_by}
+use Rattle.addr_limit.specs.Lines.{limit_kinds, message_kinds, verb_at, SaysEvent, SaysBy, SaysMessage, SaysOf, SaysRequest, LimitStep, are_about, is_about, is_about_by}
 use Rattle.addr_limit.proofs.Apart.{depends_on, last_output}
 use Rattle.addr_limit.proofs.Served.{part_of, concerns, others_leave, answers_alike}
 
@@ -52,9 +52,9 @@ named number n (text ∷ texts) kinds rest about is low means =
 pub about_is : (number : ℕ) (line : List ℕ) (e : Event) → number < 2 ^ 64 → SaysEvent line e → is_about number line ≡ concerns number e
 about_is number line e low (word, texts, is, says) = ap (are_about number) is ∙ by (verb_at word) says
   where
-    open_line : (values : List Value) → AllMean (kinds_of v.Open) texts values → SaysOf v.Open values e → is_about_by number (Some v.Open) texts ≡ concerns number e
+    open_line : (values : List Value) → AllMean (limit_kinds v.Open) texts values → SaysOf v.Open values e → is_about_by number (Some v.Open) texts ≡ concerns number e
     open_line values means (n, addr, unlimited, h, said) =
-        named number n texts (OfAddr ∷ Either (codes "unlimited") (codes "limited") ∷ []) (TheAddr addr ∷ TheChoice unlimited ∷ []) (is_about_by number (Some v.Open)) (λ t ts. refl) low (subst (λ vs. AllMean (kinds_of v.Open) texts vs) h means) ∙ sym (ap (concerns number) said)
+        named number n texts (OfAddr ∷ Either (codes "unlimited") (codes "limited") ∷ []) (TheAddr addr ∷ TheChoice unlimited ∷ []) (is_about_by number (Some v.Open)) (λ t ts. refl) low (subst (λ vs. AllMean (limit_kinds v.Open) texts vs) h means) ∙ sym (ap (concerns number) said)
 
     request_line : (request : Request) (about : List (List ℕ) → Bool) → ((text : List ℕ) (rest : List (List ℕ)) → about (text ∷ rest) ≡ bytes_eq text (decimal number))
         → (values : List Value) → AllMean (u32_field ∷ []) texts values → SaysRequest request values e → about texts ≡ concerns number e
@@ -77,14 +77,14 @@ about_is number line e low (word, texts, is, says) = ap (are_about number) is �
     by (Some v.Stat) (values, means, said) = request_line Stat (is_about_by number (Some v.Stat)) (λ t ts. refl) values means said
 
 -- each output line for a number is that of a log of the number's own lines and the times
-pub limits_apart : (number : ℕ) → number < 2 ^ 64 → (start : State) → DependsOn LimitStep start (is_about number)
+pub limits_apart : (number : ℕ) → number < 2 ^ 64 → (start : LimitState) → DependsOn LimitStep start (is_about number)
 limits_apart number low start = depends_on LimitStep (part_of number) (is_about number)
     (λ s line out t step h. ap (part_of number) step.3 ∙ others_leave number s step.0 (sym (about_is number line step.0 low step.1) ∙ h))
     (λ s line out t u step h same.
     let both = answers_alike number s u line step.0 (sym (about_is number line step.0 low step.1) ∙ h) same in
-    (after u step.0, (step.0, step.1, step.2 ∙ ap (λ text. text ++ 10 ∷ []) (sym both.0), refl), both.1 ∙ ap (part_of number) (sym step.3)))
+    (after_event u step.0, (step.0, step.1, step.2 ∙ ap (λ text. text ++ 10 ∷ []) (sym both.0), refl), both.1 ∙ ap (part_of number) (sym step.3)))
     start
 
 -- what a line of a connection gives is what only the times and the lines of this connection give
-pub limits_apart_by_line : (number : ℕ) → number < 2 ^ 64 → (start : State) → IsLastOutput LimitStep start (is_about number)
+pub limits_apart_by_line : (number : ℕ) → number < 2 ^ 64 → (start : LimitState) → IsLastOutput LimitStep start (is_about number)
 limits_apart_by_line number low start = last_output LimitStep start (is_about number) (limits_apart number low start)

@@ -6,8 +6,8 @@ use Rattle.net_addr.specs.declared.entry.Entry.{Entry}
 use Rattle.addr_codecs.specs.declared.fault.MsgFault.{MsgFault}
 use Rattle.addr_limit.specs.declared.conn.Conn.{Conn}
 use Rattle.addr_limit.specs.Tokens.{refill, after_entries, after_entry}
-use Rattle.addr_limit.specs.State.{State, find_conn}
-use Rattle.addr_limit.specs.Steps.{Outcome, serve, serve_in, limit_message, limit_entries, after, output}
+use Rattle.addr_limit.specs.State.{LimitState, find_conn}
+use Rattle.addr_limit.specs.Steps.{Outcome, serve, serve_in, limit_message, limit_entries, after_event, output}
 use Rattle.addr_limit.specs.declared.event.Event.{Event}
 use Rattle.addr_limit.specs.declared.event.Event.TheVariants.{Now, Of, Nothing}
 use Rattle.addr_limit.specs.declared.request.Request.{Request}
@@ -45,7 +45,7 @@ module _ (now number : ℕ) where
   serve-number (Some c) Stat h = h
 
 -- the clock, and the connection of the number
-abbrev pub part_of : ℕ → State → ℕ × Option Conn
+abbrev pub part_of : ℕ → LimitState → ℕ × Option Conn
 part_of number st = (st.clock, find_conn number st.conns)
 
 -- the event is a time, or a request about the number
@@ -54,26 +54,26 @@ concerns number (Now time) = true
 concerns number (Of other request) = other == number
 concerns number Nothing = false
 
-served-number : (st : State) (number : ℕ) (request : Request) → HasNumber number (serve_in st number request).conn
+served-number : (st : LimitState) (number : ℕ) (request : Request) → HasNumber number (serve_in st number request).conn
 served-number st number request = serve-number st.clock number (find_conn number st.conns) request (find_conn-number number st.conns)
 
-pub others_leave : (number : ℕ) (st : State) (e : Event) → concerns number e ≡ false → part_of number (after st e) ≡ part_of number st
+pub others_leave : (number : ℕ) (st : LimitState) (e : Event) → concerns number e ≡ false → part_of number (after_event st e) ≡ part_of number st
 others_leave number st (Now time) h = absurd (true≢false h)
 others_leave number st (Of other request) h =
     ap (λ o. (st.clock, o)) (find_other-set_conn number other (serve_in st other request).conn st.conns (served-number st other request) (λ e. eqb-false other number h (sym e)))
 others_leave number st Nothing h = refl
 
-served_alike : (number : ℕ) (s u : State) (request : Request) → part_of number u ≡ part_of number s → serve_in u number request ≡ serve_in s number request
+served_alike : (number : ℕ) (s u : LimitState) (request : Request) → part_of number u ≡ part_of number s → serve_in u number request ≡ serve_in s number request
 served_alike number s u request same = ap (λ p. serve p.0 number p.1 request) same
 
-found_after : (number : ℕ) (st : State) (request : Request) → part_of number (after st (Of number request)) ≡ (st.clock, (serve_in st number request).conn)
+found_after : (number : ℕ) (st : LimitState) (request : Request) → part_of number (after_event st (Of number request)) ≡ (st.clock, (serve_in st number request).conn)
 found_after number st request = ap (λ o. (st.clock, o)) (find-set_conn number (serve_in st number request).conn st.conns (served-number st number request))
 
-pub answers_alike : (number : ℕ) (s u : State) (line : List ℕ) (e : Event) → concerns number e ≡ true → part_of number u ≡ part_of number s →
-    (output u line e ≡ output s line e) × (part_of number (after u e) ≡ part_of number (after s e))
+pub answers_alike : (number : ℕ) (s u : LimitState) (line : List ℕ) (e : Event) → concerns number e ≡ true → part_of number u ≡ part_of number s →
+    (output u line e ≡ output s line e) × (part_of number (after_event u e) ≡ part_of number (after_event s e))
 answers_alike number s u line (Now time) h same = (refl, ap (λ p. (time, p.1)) same)
 answers_alike number s u line (Of other request) h same =
-    subst (λ n. (output u line (Of n request) ≡ output s line (Of n request)) × (part_of number (after u (Of n request)) ≡ part_of number (after s (Of n request))))
+    subst (λ n. (output u line (Of n request) ≡ output s line (Of n request)) × (part_of number (after_event u (Of n request)) ≡ part_of number (after_event s (Of n request))))
     (sym (eqb-true other number h)) (
       ap (λ o. o.text) (served_alike number s u request same),
       found_after number u request ∙ (λ i. ((same i).0, (served_alike number s u request same i).conn)) ∙ sym (found_after number s request),

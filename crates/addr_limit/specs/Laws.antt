@@ -14,7 +14,7 @@ use Rattle.grammar.specs.Fields.{Value, TheNumber, TheAddr, TheBytes, TheWords, 
 use Rattle.grammar.specs.Table.{all_definite}
 use Rattle.grammar.specs.declared.fault.LineFault.{LineFault}
 use Rattle.grammar.proofs.TableLemmas.{one_list, one_fault_after, no_fault_after}
-use Rattle.addr_limit.specs.Lines.{kinds_of, verb_at, IsRead, SaysMessage, SaysRequest, SaysOf, SaysBy, SaysAfter, FaultBy, FaultAfter}
+use Rattle.addr_limit.specs.Lines.{limit_kinds, verb_at, IsRead, SaysMessage, SaysRequest, SaysOf, SaysBy, SaysAfter, FaultBy, FaultAfter}
 use Rattle.addr_limit.specs.declared.event.Event.{Event}
 use Rattle.addr_limit.specs.declared.event.Event.TheVariants.{Now, Of}
 use Rattle.addr_limit.specs.declared.request.Request.{Request}
@@ -55,7 +55,7 @@ choice_in other = false
 abbrev at : List Value → ℕ → Value
 at values i = get_or values i (TheNumber 0)
 
-definite : (verb : Verb) → all_definite (kinds_of verb) ≡ true
+definite : (verb : Verb) → all_definite (limit_kinds verb) ≡ true
 definite v.Now = refl
 definite v.Open = refl
 definite v.Close = refl
@@ -114,7 +114,7 @@ one_event word texts a b = by (verb_at word)
     by : (o : Option Verb) → SaysBy o texts a → SaysBy o texts b → a ≡ b
     by None h k = h ∙ sym k
     by (Some verb) h k =
-        one_of verb h.0 a b h.2 (subst (λ vs. SaysOf verb vs b) (sym (one_list (kinds_of verb) texts h.0 k.0 (definite verb) h.1 k.1)) k.2)
+        one_of verb h.0 a b h.2 (subst (λ vs. SaysOf verb vs b) (sym (one_list (limit_kinds verb) texts h.0 k.0 (definite verb) h.1 k.1)) k.2)
 
 -- ---- faults
 
@@ -123,11 +123,11 @@ one_fault word texts f g = by (verb_at word)
   where
     by : (o : Option Verb) → FaultBy o texts f → FaultBy o texts g → f ≡ g
     by None h k = absurd h
-    by (Some verb) h k = one_fault_after (Some (kinds_of verb)) texts f g h k
+    by (Some verb) h k = one_fault_after (Some (limit_kinds verb)) texts f g h k
 
 pub no_fault : (word : List ℕ) (texts : List (List ℕ)) (a : Event) (f : LineFault) → SaysAfter word texts a → FaultAfter word texts f → ⊥
 no_fault word texts a f = by (verb_at word)
   where
     by : (o : Option Verb) → SaysBy o texts a → FaultBy o texts f → ⊥
     by None h k = k
-    by (Some verb) h k = no_fault_after (Some (kinds_of verb)) texts h.0 f h.1 k
+    by (Some verb) h k = no_fault_after (Some (limit_kinds verb)) texts h.0 f h.1 k

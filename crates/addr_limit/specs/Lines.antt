@@ -10,8 +10,8 @@ use Rattle.grammar.specs.Fields.{Kind, OfAddr, Hex, Random, Either, Value, TheNu
 use Rattle.grammar.specs.Reading as reading
 use Rattle.grammar.specs.Words.{fields_of}
 use Rattle.grammar.specs.declared.fault.LineFault.{LineFault}
-use Rattle.addr_limit.specs.State.{State}
-use Rattle.addr_limit.specs.Steps.{after, output}
+use Rattle.addr_limit.specs.State.{LimitState}
+use Rattle.addr_limit.specs.Steps.{after_event, output}
 use Rattle.addr_limit.specs.declared.event.Event.{Event}
 use Rattle.addr_limit.specs.declared.event.Event.TheVariants.{Now, Of, Nothing}
 use Rattle.addr_limit.specs.declared.request.Request.{Request}
@@ -20,32 +20,32 @@ use Rattle.addr_limit.specs.declared.verb.Verb.{Verb}
 use Rattle.addr_limit.specs.declared.verb.Verb.TheVariants as v
 
 -- the first word of a line
-abbrev pub word_of : Verb → List ℕ
-word_of v.Now = codes "now"
-word_of v.Open = codes "open"
-word_of v.Close = codes "close"
-word_of v.GetAddr = codes "getaddr"
-word_of v.From = codes "from"
-word_of v.From2 = codes "from2"
-word_of v.Stat = codes "stat"
+abbrev pub limit_word : Verb → List ℕ
+limit_word v.Now = codes "now"
+limit_word v.Open = codes "open"
+limit_word v.Close = codes "close"
+limit_word v.GetAddr = codes "getaddr"
+limit_word v.From = codes "from"
+limit_word v.From2 = codes "from2"
+limit_word v.Stat = codes "stat"
 
 abbrev pub message_kinds : List Kind
 message_kinds = u32_field ∷ Hex ∷ Random ∷ []
 
 -- the kinds of the fields after it
-abbrev pub kinds_of : Verb → List Kind
-kinds_of v.Now = u32_field ∷ []
-kinds_of v.Open = u32_field ∷ OfAddr ∷ Either (codes "unlimited") (codes "limited") ∷ []
-kinds_of v.Close = u32_field ∷ []
-kinds_of v.GetAddr = u32_field ∷ []
-kinds_of v.From = message_kinds
-kinds_of v.From2 = message_kinds
-kinds_of v.Stat = u32_field ∷ []
+abbrev pub limit_kinds : Verb → List Kind
+limit_kinds v.Now = u32_field ∷ []
+limit_kinds v.Open = u32_field ∷ OfAddr ∷ Either (codes "unlimited") (codes "limited") ∷ []
+limit_kinds v.Close = u32_field ∷ []
+limit_kinds v.GetAddr = u32_field ∷ []
+limit_kinds v.From = message_kinds
+limit_kinds v.From2 = message_kinds
+limit_kinds v.Stat = u32_field ∷ []
 
 -- the verb of a first word, if it is a keyword
 abbrev pub verb_at : List ℕ → Option Verb
 verb_at word =
-    find (λ verb. bytes_eq (word_of verb) word)
+    find (λ verb. bytes_eq (limit_word verb) word)
     (v.Now ∷ v.Open ∷ v.Close ∷ v.GetAddr ∷ v.From ∷ v.From2 ∷ v.Stat ∷ [])
 
 -- the payload of a message reads as entries, at most 1000, or has a fault
@@ -84,7 +84,7 @@ SaysOf v.Stat values event = SaysRequest Stat values event
 abbrev pub SaysBy : Option Verb → List (List ℕ) → Event → Type 0
 SaysBy None texts event = event ≡ Nothing
 SaysBy (Some verb) texts event =
-    (values : List Value) × AllMean (kinds_of verb) texts values × SaysOf verb values event
+    (values : List Value) × AllMean (limit_kinds verb) texts values × SaysOf verb values event
 
 -- the same by the first word
 abbrev pub SaysAfter : List ℕ → List (List ℕ) → Event → Type 0
@@ -93,7 +93,7 @@ SaysAfter word texts event = SaysBy (verb_at word) texts event
 -- what is wrong in the texts after a verb: they are counted and tested before anything is done
 abbrev pub FaultBy : Option Verb → List (List ℕ) → LineFault → Type 0
 FaultBy None texts f = ⊥
-FaultBy (Some verb) texts f = AreAtFault (kinds_of verb) texts f
+FaultBy (Some verb) texts f = AreAtFault (limit_kinds verb) texts f
 
 abbrev pub FaultAfter : List ℕ → List (List ℕ) → LineFault → Type 0
 FaultAfter word texts f = FaultBy (verb_at word) texts f
@@ -103,14 +103,14 @@ abbrev pub SaysEvent : List ℕ → Event → Type 0
 SaysEvent line event = reading.Says SaysAfter (fields_of line) event
 
 -- what is wrong in a line
-abbrev pub HasFault : List ℕ → LineFault → Type 0
-HasFault line f = reading.Says FaultAfter (fields_of line) f
+abbrev pub HasEventFault : List ℕ → LineFault → Type 0
+HasEventFault line f = reading.Says FaultAfter (fields_of line) f
 
 -- the step of a line: its text is its output line and a line feed
-abbrev pub LimitStep : State → List ℕ → List ℕ → State → Type 0
+abbrev pub LimitStep : LimitState → List ℕ → List ℕ → LimitState → Type 0
 LimitStep old line text new =
     (event : Event) × SaysEvent line event × (text ≡ output old line event ++ 10 ∷ [])
-    × (new ≡ after old event)
+    × (new ≡ after_event old event)
 
 -- a `now` line, or one with a number that is this one
 abbrev pub is_about_by : ℕ → Option Verb → List (List ℕ) → Bool

@@ -5,11 +5,11 @@ use Rattle.std.specs.List.Sorted.{IsStrictlySortedBy}
 use Rattle.std.specs.Ordering.{nat_cmp}
 use Rattle.addr_limit.specs.declared.conn.Conn.{Conn}
 
-pub record State : Type 0 where
+pub record LimitState : Type 0 where
   pub clock : ℕ
   pub conns : List Conn
 
-abbrev pub start : State
+abbrev pub start : LimitState
 start = record { clock = 0; conns = [] }
 
 -- the connection of the number, if it has one

@@ -13,7 +13,7 @@ use Rattle.addr_codecs.specs.declared.fault.MsgFault.{MsgFault}
 use Rattle.log_lines.specs.Replies.{fault_text, numbers_text}
 use Rattle.addr_limit.specs.declared.conn.Conn.{Conn}
 use Rattle.addr_limit.specs.Tokens.{refill, after_entries, intake, after_getaddr}
-use Rattle.addr_limit.specs.State.{State, find_conn, set_conn}
+use Rattle.addr_limit.specs.State.{LimitState, find_conn, set_conn}
 use Rattle.addr_limit.specs.declared.request.Request.{Request}
 use Rattle.addr_limit.specs.declared.request.Request.TheVariants.{Open, Close, GetAddr, Message, Stat}
 use Rattle.addr_limit.specs.declared.event.Event.{Event}
@@ -116,18 +116,18 @@ abbrev pub serve : ℕ → ℕ → Option Conn → Request → Outcome
 serve now number None request = serve_none now number request
 serve now number (Some c) request = serve_conn now c request
 
-abbrev pub serve_in : State → ℕ → Request → Outcome
+abbrev pub serve_in : LimitState → ℕ → Request → Outcome
 serve_in st number request = serve st.clock number (find_conn number st.conns) request
 
 -- the state after a line
-abbrev pub after : State → Event → State
-after st (Now time) = record st { clock = time }
-after st (Of number request) =
+abbrev pub after_event : LimitState → Event → LimitState
+after_event st (Now time) = record st { clock = time }
+after_event st (Of number request) =
     record st { conns = set_conn number (serve_in st number request).conn st.conns }
-after st Nothing = st
+after_event st Nothing = st
 
 -- the output line: the line itself, unless it is a request
-abbrev pub output : State → List ℕ → Event → List ℕ
+abbrev pub output : LimitState → List ℕ → Event → List ℕ
 output st line (Now time) = line
 output st line (Of number request) = (serve_in st number request).text
 output st line Nothing = line

@@ -18,9 +18,9 @@ pub struct LimitLog<H: BuildHasher> {
 
 impl<H: BuildHasher> Model for LimitLog<H> {
     ghost use Rattle.std.specs.Coded.{codes};
-    ghost use Rattle.addr_limit.specs.State.{State};
+    ghost use Rattle.addr_limit.specs.State.{LimitState};
 
-    ghost Value = { State };
+    ghost Value = { LimitState };
 
     ghost coded = { Prim.hlevel codes };
 
@@ -30,9 +30,9 @@ impl<H: BuildHasher> Model for LimitLog<H> {
 impl<H: BuildHasher> LimitLog<H> {
     ghost use Rattle.std.specs.Prelude.{◌≡◌, ◌≢◌, ◌≤◌, ◌++◌, ◌⊎◌, [], ◌∷◌, ℕ, List, length, Err, OnOk, OnErr};
     ghost use Rattle.addr_limit.specs.State.{start};
-    ghost use Rattle.addr_limit.specs.Steps.{after, output, serve_in};
+    ghost use Rattle.addr_limit.specs.Steps.{after_event, output, serve_in};
     ghost use Rattle.addr_limit.specs.declared.event.Event.TheVariants.{Of};
-    ghost use Rattle.addr_limit.specs.Lines.{HasFault, LimitStep};
+    ghost use Rattle.addr_limit.specs.Lines.{HasEventFault, LimitStep};
     ghost use Rattle.addr_limit.specs.Inside.{IsShort, IsShortEvent};
 
     /// Makes the log of no lines: the clock is 0, and there are no connections.
@@ -53,8 +53,8 @@ impl<H: BuildHasher> LimitLog<H> {
             × LimitStep self.old line.now text self.new
             × (out.new.items ≡ out.old.items ++ text)) }
         ensures fault { (f : LineFault) → result ≡ Err f → f ≢ LineFault.Memory →
-            HasFault line.now f }
-        ensures only_fault { (f : LineFault) → HasFault line.now f →
+            HasEventFault line.now f }
+        ensures only_fault { (f : LineFault) → HasEventFault line.now f →
             (result ≡ Err f) ⊎ (result ≡ Err LineFault.Memory) }
         ensures err { OnErr result (self.new ≡ self.old) }
         ensures list { OnErr result (out.new.items ≡ out.old.items) }
@@ -78,7 +78,7 @@ impl<H: BuildHasher> LimitLog<H> {
         out: &mut Vec<u8>,
     ) -> Result<(), Memory>
         requires { IsShortEvent event.now }
-        ensures state { OnOk result (self.new ≡ after self.old event.now) }
+        ensures state { OnOk result (self.new ≡ after_event self.old event.now) }
         ensures text { OnOk result (out.new.items
             ≡ out.old.items ++ (output self.old line.now event.now ++ 10 ∷ [])) }
         ensures err { OnErr result (self.new ≡ self.old) }
@@ -112,7 +112,7 @@ impl<H: BuildHasher> LimitLog<H> {
         out: &mut Vec<u8>,
     ) -> Result<(), Memory>
         requires { IsShort request.now }
-        ensures state { OnOk result (self.new ≡ after self.old (Of number request.now)) }
+        ensures state { OnOk result (self.new ≡ after_event self.old (Of number request.now)) }
         ensures text { OnOk result (out.new.items
             ≡ out.old.items ++ ((serve_in self.old number request.now).text ++ 10 ∷ [])) }
         ensures err { OnErr result (self.new ≡ self.old) }
@@ -125,11 +125,11 @@ impl<H: BuildHasher> LimitLog<H> {
 /// The lines of a log, one step a line. They change nothing besides the log's own state.
 impl<H: BuildHasher> LineSteps<()> for LimitLog<H> {
     ghost use Rattle.std.specs.Prelude.{⊤};
-    ghost use Rattle.addr_limit.specs.Lines.{HasFault, LimitStep};
+    ghost use Rattle.addr_limit.specs.Lines.{HasEventFault, LimitStep};
 
     ghost step = { λ old before line text new after. LimitStep old line text new };
 
-    ghost has_fault = { HasFault };
+    ghost has_fault = { HasEventFault };
 
     ghost ready = { λ l world. ⊤ };
 

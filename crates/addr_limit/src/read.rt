@@ -2,7 +2,7 @@ ghost use Rattle.std.specs.Prelude.{◌≡◌, ◌≢◌, [], ◌∷◌, List, S
 ghost use Rattle.grammar.specs.Fields.{Value, u32_field, AllMean, AreAtFault};
 ghost use Rattle.grammar.specs.declared.fault.LineFault.{LineFault};
 ghost use Rattle.addr_limit.specs.Laws.{no_fault, one_event, one_fault};
-ghost use Rattle.addr_limit.specs.Lines.{FaultAfter, SaysAfter, SaysBy, SaysMessage, SaysRequest, kinds_of, message_kinds};
+ghost use Rattle.addr_limit.specs.Lines.{FaultAfter, SaysAfter, SaysBy, SaysMessage, SaysRequest, limit_kinds, message_kinds};
 
 use crate::payload::read_entries;
 use crate::verb::VERBS;
@@ -69,7 +69,7 @@ impl<T: Texts> Grammar<T> for LimitLines {
 fn read_event<T: Texts>(alloc: Global, verb: Verb, rest: T) -> Result<Event, LineFault>
     ensures found { IfOk result (SaysBy (Some verb) (T.texts rest)) }
     ensures fault { (f : LineFault) → result ≡ Err f → f ≢ LineFault.Memory →
-        AreAtFault (kinds_of verb) (T.texts rest) f }
+        AreAtFault (limit_kinds verb) (T.texts rest) f }
 {
     match verb {
         Verb::Now => {

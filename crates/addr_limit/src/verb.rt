@@ -1,4 +1,4 @@
-ghost use Rattle.addr_limit.specs.Lines.{word_of};
+ghost use Rattle.addr_limit.specs.Lines.{limit_word};
 
 use grammar::Keyword;
 
@@ -26,7 +26,7 @@ pub(crate) const VERBS: [Verb; 7] = [
 ];
 
 impl Keyword for Verb {
-    ghost word = { word_of };
+    ghost word = { limit_word };
 
     fn word(self) -> &'static [u8] {
         match self {

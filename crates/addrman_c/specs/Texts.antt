@@ -1,6 +1,6 @@
 -- What the calls on addresses and their texts return and write.
 use Rattle.std.specs.Prelude.{◌≡◌, ◌⊎◌, ℕ, List, Option, Some, None, MatchOption}
-use Rattle.net_addr.specs.Address.{Address, number_of}
+use Rattle.net_addr.specs.Address.{Address, net_number}
 use Rattle.net_addr.specs.OldForm.{v1_bytes}
 use Rattle.net_addr.specs.Ranges.{is_routable, net_class}
 use Rattle.addrman_c.specs.declared.code.TheConstants.{OK, MEMORY, ARGUMENT, NONE}
@@ -21,7 +21,7 @@ RoutableCall (Some addr) code routable = (code ≡ OK) × (routable ≡ bit (is_
 -- the network that it is reached through; None is no address
 abbrev pub ClassCall : Option Address → ℕ → ℕ → Type 0
 ClassCall None code class = code ≡ ARGUMENT
-ClassCall (Some addr) code class = (code ≡ OK) × (class ≡ number_of (net_class addr))
+ClassCall (Some addr) code class = (code ≡ OK) × (class ≡ net_number (net_class addr))
 
 -- the sixteen bytes of its old form, if it has one; None is no address
 abbrev pub OldFormCall : Option Address → ℕ → List ℕ → List ℕ → Type 0

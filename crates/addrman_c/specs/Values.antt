@@ -1,8 +1,8 @@
 -- What the structs of the header mean.
 use Rattle.std.specs.Int.{bit_at}
 use Rattle.std.specs.Prelude.{◌≡◌, ◌≤◌, ◌<◌, ◌⊎◌, ◌++◌, ℕ, List, take, drop, length, Bool, true, false, ◌&&◌, ◌==◌, not, nat_le, Option, Some, None, option_map, if◌then◌else◌}
-use Rattle.net_addr.specs.Address.{Address, length_of, number_of, is_old_form}
-use Rattle.net_addr.specs.NetSet.{with}
+use Rattle.net_addr.specs.Address.{Address, length_of, net_number, is_old_form}
+use Rattle.net_addr.specs.NetSet.{with_net}
 use Rattle.net_addr.specs.OldForm.{address}
 use Rattle.net_addr.specs.declared.net.Net.{Net}
 use Rattle.net_addr.specs.declared.net.Net.TheVariants.{Unroutable, Ipv4, Ipv6, Onion, I2p, Cjdns, Internal}
@@ -54,7 +54,7 @@ IsPut bytes old code count new =
 
 -- the set with one more network, if its bit is set
 abbrev pub with_bit : ℕ → List ℕ → Net → List ℕ
-with_bit bits nets net = if bit_at bits (number_of net) == 1 then with nets net else nets
+with_bit bits nets net = if bit_at bits (net_number net) == 1 then with_net nets net else nets
 
 -- 1 for true and 0 for false
 abbrev pub bit : Bool → ℕ

@@ -4,7 +4,7 @@ use Rattle.std.specs.Prelude.{◌⊎◌, All, IfSome, Option, Some}
 use Rattle.std.proofs.lemmas.Bool.{ne_eqb}
 use Rattle.std.proofs.lemmas.List.Elements.{All-head, All-tail}
 use Rattle.addr_limit.specs.Laws.{no_fault as no_limit_fault}
-use Rattle.addr_limit.specs.Lines.{FaultAfter, HasFault as LimitFault, SaysAfter}
+use Rattle.addr_limit.specs.Lines.{FaultAfter, HasEventFault, SaysAfter}
 use Rattle.ban_list.specs.declared.ban.Ban.{Ban}
 use Rattle.host_io.specs.Faults.{Rose}
 use Rattle.host_io.specs.Lines.{lines_of, onto_first}
@@ -13,7 +13,7 @@ use Rattle.host_io.specs.Past.{Past}
 use Rattle.host_io.specs.declared.name.Name.TheVariants as name
 use Rattle.host_io.specs.declared.name.Name.{Name}
 use Rattle.log_lines.proofs.OneMeaning.{spelled_no_fault}
-use Rattle.log_lines.specs.Spelling.{HasFault}
+use Rattle.log_lines.specs.Spelling.{HasCommandFault}
 use Rattle.grammar.proofs.TableLemmas.{no_fault_after, of_same}
 use Rattle.grammar.specs.Fields.{OfPeer, ThePeer}
 use Rattle.grammar.specs.Words.{fields_of}
@@ -24,7 +24,7 @@ use Rattle.log_run.specs.declared.end.LogEnd.TheVariants as end
 use Rattle.log_run.specs.declared.end.LogEnd.{LogEnd}
 use Rattle.log_run.specs.declared.limits.TheConstants.{MAX_LINE, MAX_LOG}
 use Rattle.opener_lines.proofs.OneMeaning.{asked_no_fault}
-use Rattle.opener_lines.specs.Grammar.{HasFault as OpenerFault}
+use Rattle.opener_lines.specs.Grammar.{HasRequestFault}
 use Rattle.peers_file.specs.declared.chain.Chain.{Chain}
 use Rattle.session.specs.History.{RoseBy}
 use Rattle.addrman_run.specs.Bans.{BansEnds, Change, ReportsBans}
@@ -38,7 +38,7 @@ use Rattle.addrman_run.specs.Log.{LogOutcome, streams_of}
 use Rattle.addrman_run.specs.OneText.{OneText}
 use Rattle.addrman_run.specs.Opener.{OpenerEnds, OpenerRan}
 use Rattle.addrman_run.specs.Outcome.{Ends, HasCause}
-use Rattle.addrman_run.specs.LookupLines.{HasFault as LookupFault, LacksMap, LookedUp, LookupLinesEnds}
+use Rattle.addrman_run.specs.LookupLines.{HasPeerFault, LacksMap, LookedUp, LookupLinesEnds}
 use Rattle.addrman_run.specs.Replay.{IsUntouched, NotOpened, ReplayEnds, Replayed}
 use Rattle.addrman_run.specs.Asmaps.{ReportsAsmap}
 use Rattle.addrman_run.specs.Tables.{ReportsTable}
@@ -116,18 +116,18 @@ module _ {S : Type 0} (step : Steps S) (has_fault : List ℕ → LineFault → T
 
 -- ---- each command
 
-replay_line : (line : List ℕ) (fault : LineFault) → IsReplayLine line → HasFault line fault → ⊥
+replay_line : (line : List ℕ) (fault : LineFault) → IsReplayLine line → HasCommandFault line fault → ⊥
 replay_line line fault (inl passed) why = why.0 passed
 replay_line line fault (inr (command, spells)) why = spelled_no_fault line command fault spells why
 
-opener_line : (line : List ℕ) (fault : LineFault) → IsOpenerLine line → OpenerFault line fault → ⊥
+opener_line : (line : List ℕ) (fault : LineFault) → IsOpenerLine line → HasRequestFault line fault → ⊥
 opener_line line fault (inl passed) why = why.0 passed
 opener_line line fault (inr (asked, asks)) why = asked_no_fault line asked fault asks why
 
-limit_line : (line : List ℕ) (fault : LineFault) → IsLimitLine line → LimitFault line fault → ⊥
+limit_line : (line : List ℕ) (fault : LineFault) → IsLimitLine line → HasEventFault line fault → ⊥
 limit_line line fault (event, says) why = of_same {C = λ a f. ⊥} SaysAfter FaultAfter no_limit_fault (fields_of line) event fault says why
 
-lookup_line : (line : List ℕ) (fault : LineFault) → IsLookupLine line → LookupFault line fault → ⊥
+lookup_line : (line : List ℕ) (fault : LineFault) → IsLookupLine line → HasPeerFault line fault → ⊥
 lookup_line line fault (inl passed) why = why.0 passed
 lookup_line line fault (inr (peer, is)) why = no_fault_after (Some (OfPeer ∷ [])) (fields_of line) (ThePeer peer ∷ []) fault is why.1
 

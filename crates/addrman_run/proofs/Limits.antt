@@ -4,19 +4,19 @@ use Rattle.std.specs.List.{flat_map}
 use Rattle.log_run.specs.Run.{Ran, Run, Streams}
 use Rattle.log_run.specs.declared.end.LogEnd.{LogEnd}
 use Rattle.addr_limit.specs.Apart.{IsLastOutput, Outputs}
-use Rattle.addr_limit.specs.Lines.{HasFault, LimitStep, is_about}
-use Rattle.addr_limit.specs.State.{State, start}
+use Rattle.addr_limit.specs.Lines.{HasEventFault, LimitStep, is_about}
+use Rattle.addr_limit.specs.State.{LimitState, start}
 use Rattle.addrman_run.specs.Inside.{status_of}
 use Rattle.addrman_run.specs.Limit.{LimitOutcome, Limited}
 use Rattle.addrman_run.proofs.Seen.{Seen, by_status, ran_of}
 
 -- the output lines of a run
-record Given (s : State) (lines : List (List ℕ)) (text : List ℕ) (t : State) : Type 0 where
+record Given (s : LimitState) (lines : List (List ℕ)) (text : List ℕ) (t : LimitState) : Type 0 where
   outputs : List (List ℕ)
   each : Outputs LimitStep s lines outputs t
   whole : text ≡ flat_map (λ output. output) outputs
 
-given : (s : State) (lines : List (List ℕ)) (text : List ℕ) (t : State) → Run LimitStep s lines text t → Given s lines text t
+given : (s : LimitState) (lines : List (List ℕ)) (text : List ℕ) (t : LimitState) → Run LimitStep s lines text t → Given s lines text t
 given s [] text t run = record { outputs = []; each = (refl, run.1); whole = run.0 }
 given s (line ∷ lines) text t run =
     let rest = given run.2 lines run.1 t run.5 in
@@ -27,7 +27,7 @@ given s (line ∷ lines) text t run =
     }
 
 limited : (old new : Streams) (how : LogEnd) → ((number : ℕ) → number < 2 ^ 32 → IsLastOutput LimitStep start (is_about number))
-    → Ran LimitStep HasFault start old new how → Limited old new how
+    → Ran LimitStep HasEventFault start old new how → Limited old new how
 limited old new how law r =
     let run = given start r.carried r.replies r.now r.runs in
     record {
@@ -40,10 +40,10 @@ limited old new how law r =
     }
 
 -- how the limit ends, from its run beside a world
-pub outcome_of : {W : Type 0} (s : State) (w : W) (old new : Streams) (how : LogEnd) → s ≡ start
+pub outcome_of : {W : Type 0} (s : LimitState) (w : W) (old new : Streams) (how : LogEnd) → s ≡ start
     → ((number : ℕ) → number < 2 ^ 32 → IsLastOutput LimitStep start (is_about number))
-    → Ran (Seen {S = State × W} (λ p. p.0) LimitStep HasFault) HasFault (s, w) old new how → LimitOutcome old new (status_of how)
+    → Ran (Seen {S = LimitState × W} (λ p. p.0) LimitStep HasEventFault) HasEventFault (s, w) old new how → LimitOutcome old new (status_of how)
 outcome_of {W = W} s w old new how begins law r =
     by_status (Limited old new) (λ answer. ⊥) how
     (limited old new how law
-    (subst (λ t. Ran LimitStep HasFault t old new how) begins (ran_of {S = State × W} (λ p. p.0) LimitStep HasFault (s, w) old new how r)))
+    (subst (λ t. Ran LimitStep HasEventFault t old new how) begins (ran_of {S = LimitState × W} (λ p. p.0) LimitStep HasEventFault (s, w) old new how r)))

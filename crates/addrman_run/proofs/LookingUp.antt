@@ -9,7 +9,7 @@ use Rattle.log_run.specs.declared.end.LogEnd.{LogEnd}
 use Rattle.net_addr.specs.declared.peer.Peer.{Peer}
 use Rattle.addrman_run.specs.Asmaps.{IsMapIn}
 use Rattle.addrman_run.specs.Lookup.{lookup_text}
-use Rattle.addrman_run.specs.LookupLines.{ArePeers, HasFault, IsPeerLine, LookedUp, LookupStep}
+use Rattle.addrman_run.specs.LookupLines.{ArePeers, HasPeerFault, IsPeerLine, LookedUp, LookupStep}
 use Rattle.addrman_run.proofs.Seen.{Seen, ran_of}
 
 -- the peers of a run's lines, and the text about them
@@ -38,13 +38,13 @@ given map (line ∷ lines) text end run =
     let rest = given map lines run.1 end (subst (λ m. Run LookupStep m lines run.1 end) run.4.0 run.5) in
     one_more map line lines run.0 run.1 text run.3 run.4.1 rest
 
-pub looked_up : (past : Option Past) (map : Asmap) (old new : Streams) (how : LogEnd) → IsMapIn past (Some map) → Ran LookupStep HasFault map old new how → LookedUp past old new how
+pub looked_up : (past : Option Past) (map : Asmap) (old new : Streams) (how : LogEnd) → IsMapIn past (Some map) → Ran LookupStep HasPeerFault map old new how → LookedUp past old new how
 looked_up past map old new how is r =
     let run = given map r.carried r.replies r.now r.runs in
     record { map = map; has_map = is; ran = r; peers = run.peers; each = run.each; whole = run.whole }
 
 -- the same of a run beside a world, of which the asmap is seen
 pub looked_up_by : {S W : Type 0} (past : Option Past) (seen : S → Asmap) (s : S) (w : W) (old new : Streams) (how : LogEnd) → IsMapIn past (Some (seen s))
-    → Ran (Seen {S = S × W} (λ p. seen p.0) LookupStep HasFault) HasFault (s, w) old new how → LookedUp past old new how
+    → Ran (Seen {S = S × W} (λ p. seen p.0) LookupStep HasPeerFault) HasPeerFault (s, w) old new how → LookedUp past old new how
 looked_up_by {S = S} {W = W} past seen s w old new how is r =
-    looked_up past (seen s) old new how is (ran_of {S = S × W} (λ p. seen p.0) LookupStep HasFault (s, w) old new how r)
+    looked_up past (seen s) old new how is (ran_of {S = S × W} (λ p. seen p.0) LookupStep HasPeerFault (s, w) old new how r)

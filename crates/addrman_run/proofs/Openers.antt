@@ -8,10 +8,10 @@ use Rattle.log_run.specs.Run.{Ran, Run}
 use Rattle.log_run.specs.declared.end.LogEnd.{LogEnd}
 use Rattle.manager.specs.Machine.{Machine}
 use Rattle.opener_lines.specs.Fair.{IsFair}
-use Rattle.opener_lines.specs.Grammar.{HasFault}
+use Rattle.opener_lines.specs.Grammar.{HasRequestFault}
 use Rattle.opener_lines.specs.Lines.{LineStep}
 use Rattle.opener_lines.specs.State as opener
-use Rattle.opener_lines.specs.State.{Answer, Step, peers_after}
+use Rattle.opener_lines.specs.State.{Answer, RequestStep, peers_after}
 use Rattle.opener_lines.specs.declared.tries.Outcome.{Outcome}
 use Rattle.opener_lines.specs.declared.tries.Outcome.TheVariants.{GaveUp, Taken}
 use Rattle.opener_lines.specs.declared.tries.Outcome.TheVariants as outcome
@@ -29,9 +29,9 @@ use Rattle.addrman_run.proofs.Seen.{Seen, ran_of}
 
 -- ---- the rules
 
-apart_after : ((old new : opener.State) (line text : List ℕ) → LineStep old line text new → AreApart old.open_peers → AreApart new.open_peers)
-    → (s : opener.State) (lines : List (List ℕ)) (text : List ℕ) (t : opener.State) → Run LineStep s lines text t → AreApart s.open_peers → AreApart t.open_peers
-apart_after law s [] text t run apart = subst (λ (x : opener.State). AreApart x.open_peers) (sym run.1) apart
+apart_after : ((old new : opener.OpenerState) (line text : List ℕ) → LineStep old line text new → AreApart old.open_peers → AreApart new.open_peers)
+    → (s : opener.OpenerState) (lines : List (List ℕ)) (text : List ℕ) (t : opener.OpenerState) → Run LineStep s lines text t → AreApart s.open_peers → AreApart t.open_peers
+apart_after law s [] text t run apart = subst (λ (x : opener.OpenerState). AreApart x.open_peers) (sym run.1) apart
 apart_after law s (line ∷ lines) text t run apart =
     apart_after law run.2 lines run.1 t run.5 (law s run.2 line run.0 run.4 apart)
 
@@ -45,10 +45,10 @@ few_tried places (Taken peer i) open_peers few = omega (arith, few, length-appen
 few_tried places outcome.Nothing open_peers few = omega (arith, few)
 few_tried places GaveUp open_peers few = omega (arith, few)
 
-abbrev AreFew : opener.State → Type 0
+abbrev AreFew : opener.OpenerState → Type 0
 AreFew s = length s.open_peers ≤ MAX_OUTBOUND
 
-step_few : (old new : opener.State) (asked : Request) (answer : Answer) → Step old asked answer new → AreFew old → AreFew new
+step_few : (old new : opener.OpenerState) (asked : Request) (answer : Answer) → RequestStep old asked answer new → AreFew old → AreFew new
 step_few old new (request.Outbound seed) answer (inl full) few = subst AreFew (sym full.2) few
 step_few old new (request.Outbound seed) answer (inr tried) few =
     subst AreFew (sym tried.1.3) (few_tried old.machine.tables.places tried.1.0 old.open_peers tried.0)
@@ -57,11 +57,11 @@ step_few old new (request.Close peer) answer step few =
     subst AreFew (sym step.1) (few_left (λ o. not (same_peer o.peer peer)) old.open_peers MAX_OUTBOUND few)
 step_few old new (request.Machine asked) answer step few = subst AreFew (sym step.4) few
 
-line_few : (old new : opener.State) (line text : List ℕ) → LineStep old line text new → AreFew old → AreFew new
+line_few : (old new : opener.OpenerState) (line text : List ℕ) → LineStep old line text new → AreFew old → AreFew new
 line_few old new line text (inl passed) few = subst AreFew (sym passed.2) few
 line_few old new line text (inr done) few = step_few old new done.0 done.1 done.3 few
 
-few_after : (s : opener.State) (lines : List (List ℕ)) (text : List ℕ) (t : opener.State) → Run LineStep s lines text t → AreFew s → AreFew t
+few_after : (s : opener.OpenerState) (lines : List (List ℕ)) (text : List ℕ) (t : opener.OpenerState) → Run LineStep s lines text t → AreFew s → AreFew t
 few_after s [] text t run few = subst AreFew (sym run.1) few
 few_after s (line ∷ lines) text t run few = few_after run.2 lines run.1 t run.5 (line_few s run.2 line run.0 run.4 few)
 
@@ -69,17 +69,17 @@ none_open : AreApart []
 none_open i j d le lt = absurd (omega (arith, lt))
 
 -- what an opener has done, from its run beside a world
-pub ran_by : {W : Type 0} (key : Option (List ℕ)) (chain : Chain) (st : tables.State) (start : opener.State) (w : W) (old new : Outside) (how : LogEnd)
+pub ran_by : {W : Type 0} (key : Option (List ℕ)) (chain : Chain) (st : tables.State) (start : opener.OpenerState) (w : W) (old new : Outside) (how : LogEnd)
     → Opened key chain old.past st → start ≡ opener_start st
-    → ((old new : opener.State) (line text : List ℕ) → LineStep old line text new → AreApart old.open_peers → AreApart new.open_peers)
-    → ((old new : opener.State) (asked : Request) (answer : Answer) → Step old asked answer new → IsFair old asked answer)
-    → Ran (Seen {S = opener.State × W} (λ p. p.0) LineStep HasFault) HasFault (start, w) (streams_of old) (streams_of new) how
+    → ((old new : opener.OpenerState) (line text : List ℕ) → LineStep old line text new → AreApart old.open_peers → AreApart new.open_peers)
+    → ((old new : opener.OpenerState) (asked : Request) (answer : Answer) → RequestStep old asked answer new → IsFair old asked answer)
+    → Ran (Seen {S = opener.OpenerState × W} (λ p. p.0) LineStep HasRequestFault) HasRequestFault (start, w) (streams_of old) (streams_of new) how
     → OpenerRan key chain old new how
 ran_by {W = W} key chain st start w old new how opened begins apart fair r = record {
   tables = st;
   opened = opened;
-  ran = subst (λ s. Ran LineStep HasFault s (streams_of old) (streams_of new) how) begins
-      (ran_of {S = opener.State × W} (λ p. p.0) LineStep HasFault (start, w) (streams_of old) (streams_of new) how r);
+  ran = subst (λ s. Ran LineStep HasRequestFault s (streams_of old) (streams_of new) how) begins
+      (ran_of {S = opener.OpenerState × W} (λ p. p.0) LineStep HasRequestFault (start, w) (streams_of old) (streams_of new) how r);
   rules = record {
     apart = λ lines text now run. apart_after apart (opener_start st) lines text now run none_open;
     few = λ lines text now run. few_after (opener_start st) lines text now run (omega arith);
@@ -88,6 +88,6 @@ ran_by {W = W} key chain st start w old new how opened begins apart fair r = rec
 }
 
 -- the opener at the start
-pub starts : (st : tables.State) (made : opener.State) (machine : Machine) → made ≡ opener.state machine []
+pub starts : (st : tables.State) (made : opener.OpenerState) (machine : Machine) → made ≡ opener.state machine []
     → machine ≡ record { tables = st; clock = 0 } → made ≡ opener_start st
 starts st made machine is_made is_machine = is_made ∙ ap (λ m. opener.state m []) is_machine

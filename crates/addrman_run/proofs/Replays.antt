@@ -6,14 +6,14 @@ use Rattle.host_io.specs.Outside.{Outside}
 use Rattle.host_io.specs.Past.{Always, Past}
 use Rattle.host_io.specs.Reading.{TakesAtMost}
 use Rattle.asmap_vm.specs.Asmap.{Asmap}
-use Rattle.log_lines.specs.Spelling.{HasFault}
+use Rattle.log_lines.specs.Spelling.{HasCommandFault}
 use Rattle.log_run.specs.Run.{Run, Streams, last_reply}
 use Rattle.log_run.specs.Worlds.{RanIn, both}
 use Rattle.log_run.specs.declared.end.LogEnd.{LogEnd}
 use Rattle.peers_file.specs.declared.chain.Chain.{Chain}
 use Rattle.session.specs.Events.{Ended}
 use Rattle.session.specs.Folders.{IsOpen, SessionStep}
-use Rattle.session.specs.History.{AtExit, Now, RoseBy, SinceEntry, Step, failed, fresh, onto}
+use Rattle.session.specs.History.{AtExit, Now, RoseBy, SinceEntry, HistoryStep, failed, fresh, onto}
 use Rattle.session.specs.State as session
 use Rattle.session.proofs.OneHistory.{one_run}
 use Rattle.session.proofs.Promise.{IsKept, history, kept_line, kept_start}
@@ -39,19 +39,19 @@ use Rattle.addrman_run.proofs.Seen.{ran_as}
 
 module _ {F : Type 0} (past : F → Option Past) (faults : F → ℕ) where
   -- a run of a session and a folder
-  abbrev pub RunIn : session.State → F → List (List ℕ) → List ℕ → session.State → F → Type 0
+  abbrev pub RunIn : session.SessionState → F → List (List ℕ) → List ℕ → session.SessionState → F → Type 0
   RunIn s w lines text t v = Run (both (SessionStep past faults)) (s, w) lines text (t, v)
 
   -- the history of such a run, and what it keeps
-  pub record Followed (s : session.State) (w : F) (before : List Ended) (lines : List (List ℕ)) (text : List ℕ) (t : session.State) (v : F)
+  pub record Followed (s : session.SessionState) (w : F) (before : List Ended) (lines : List (List ℕ)) (text : List ℕ) (t : session.SessionState) (v : F)
       (run : RunIn s w lines text t v) (old : Option Past) (f : ℕ) : Type 0 where
     pub ended : List Ended
-    pub runs : Run Step (history s before) lines text (history t ended)
-    pub last : (none : List ℕ) → last_reply Step (history s before) lines text (history t ended) none runs
+    pub runs : Run HistoryStep (history s before) lines text (history t ended)
+    pub last : (none : List ℕ) → last_reply HistoryStep (history s before) lines text (history t ended) none runs
         ≡ last_reply (both (SessionStep past faults)) (s, w) lines text (t, v) none run
     pub kept : IsKept t ended old (past v) f (faults v)
 
-  pub follow : (lines : List (List ℕ)) (text : List ℕ) (s t : session.State) (w v : F) (ended : List Ended) (old : Option Past) (f : ℕ)
+  pub follow : (lines : List (List ℕ)) (text : List ℕ) (s t : session.SessionState) (w v : F) (ended : List Ended) (old : Option Past) (f : ℕ)
       (run : RunIn s w lines text t v) → IsKept s ended old (past w) f (faults w)
       → Followed s w ended lines text t v run old f
   follow [] text s t w v ended old f run kept = record {
@@ -123,7 +123,7 @@ module _ {F : Type 0} (past : F → Option Past) (faults : F → ℕ) where
   replayed_from : (key : Option (List ℕ)) (chain : Chain) (tables : State) (old new : Outside) (w v : F) (how : LogEnd)
       → Opened key chain old.past tables → IsSound tables → tables.next_number ≤ 81920 → past w ≡ old.past → old.folder_faults ≤ faults w
       → new.past ≡ past v → new.folder_faults ≡ faults v
-      → RanIn (SessionStep past faults) HasFault (at_start chain tables, w) (streams_of old) (streams_of new) v how
+      → RanIn (SessionStep past faults) HasCommandFault (at_start chain tables, w) (streams_of old) (streams_of new) v how
       → Replayed key chain old new how
   replayed_from key chain tables old new w v how opened sound few same_past earlier ends_past ends_faults r =
       let start = at_start chain tables in
@@ -139,7 +139,7 @@ module _ {F : Type 0} (past : F → Option Past) (faults : F → ℕ) where
       record {
         tables = tables;
         opened = opened;
-        ran = ran_as (both (SessionStep past faults)) Step HasFault (start, w) (fresh start) (streams_of old) (streams_of new) how r.ran last h.runs (h.last []);
+        ran = ran_as (both (SessionStep past faults)) HistoryStep HasCommandFault (start, w) (fresh start) (streams_of old) (streams_of new) how r.ran last h.runs (h.last []);
         fixed = λ lines text a b its other. (one_run (fresh start) a b lines text text [] [] its other refl).1;
         at_exit = subst (λ p. Now (AtExit last) p new.past) same_past (subst (Now (AtExit last) (past w)) (sym now_past) k.exit);
         since_entry = subst (λ p. Always p new.past (SinceEntry last)) same_past (subst (λ p. Always (past w) p (SinceEntry last)) (sym now_past) k.since);
@@ -155,23 +155,23 @@ module _ {F : Type 0} (past : F → Option Past) (faults : F → ℕ) where
             reopens chain map h.now.machine.tables (k.sound before h after) (ap (λ p. p.map) (k.same_places before h after ∙ same_places key chain old.past map tables opens o) ∙ o.with_map);
       }
 
-  pub replayed : (key : Option (List ℕ)) (chain : Chain) (tables : State) (start : session.State) (old new : Outside) (w v : F) (how : LogEnd)
+  pub replayed : (key : Option (List ℕ)) (chain : Chain) (tables : State) (start : session.SessionState) (old new : Outside) (w v : F) (how : LogEnd)
       → Opened key chain old.past tables → start ≡ at_start chain tables → IsSound tables
       → tables.next_number ≤ 81920 → past w ≡ old.past → old.folder_faults ≤ faults w
       → new.past ≡ past v → new.folder_faults ≡ faults v
-      → RanIn (SessionStep past faults) HasFault (start, w) (streams_of old) (streams_of new) v how
+      → RanIn (SessionStep past faults) HasCommandFault (start, w) (streams_of old) (streams_of new) v how
       → Replayed key chain old new how
   replayed key chain tables start old new w v how opened begins sound few same_past earlier ends_past ends_faults r =
       replayed_from key chain tables old new w v how opened sound few same_past earlier ends_past ends_faults
-      (subst (λ s. RanIn (SessionStep past faults) HasFault (s, w) (streams_of old) (streams_of new) v how) begins r)
+      (subst (λ s. RanIn (SessionStep past faults) HasCommandFault (s, w) (streams_of old) (streams_of new) v how) begins r)
 
-  rises_by : (lines : List (List ℕ)) (text : List ℕ) (s t : session.State) (w v : F) → Run (both (SessionStep past faults)) (s, w) lines text (t, v) → faults w ≤ faults v
+  rises_by : (lines : List (List ℕ)) (text : List ℕ) (s t : session.SessionState) (w v : F) → Run (both (SessionStep past faults)) (s, w) lines text (t, v) → faults w ≤ faults v
   rises_by [] text s t w v run = omega (arith, ap (λ p. faults p.1) run.1)
   rises_by (line ∷ lines) text s t w v run = omega (arith, run.4.2, rises_by lines run.1 run.2.0 t run.2.1 v run.5)
 
   -- the folder's count of faults does not fall
-  pub rises : (start : session.State) (old new : Streams) (w v : F) (how : LogEnd)
-      → RanIn (SessionStep past faults) HasFault (start, w) old new v how → faults w ≤ faults v
+  pub rises : (start : session.SessionState) (old new : Streams) (w v : F) (how : LogEnd)
+      → RanIn (SessionStep past faults) HasCommandFault (start, w) old new v how → faults w ≤ faults v
   rises start old new w v how r =
       omega (
         arith,
@@ -187,6 +187,6 @@ takes_none None most = tt
 takes_none (Some bytes) most = (0, omega arith, refl)
 
 -- the session at the start
-pub starts : (chain : Chain) (tables : State) (made : session.State) (machine : Machine) → made ≡ session.state chain machine None
+pub starts : (chain : Chain) (tables : State) (made : session.SessionState) (machine : Machine) → made ≡ session.state chain machine None
     → machine ≡ record { tables = tables; clock = 0 } → made ≡ at_start chain tables
 starts chain tables made machine is_state is_machine = is_state ∙ ap (λ m. session.state chain m None) is_machine

@@ -21,7 +21,7 @@ use Rattle.log_run.proofs.OneMore.{Run-more}
 use Rattle.log_run.specs.Run.{Run}
 use Rattle.session.specs.Events.{Ended}
 use Rattle.session.specs.Folders.{IsOpen}
-use Rattle.session.specs.History.{Step, fresh, onto}
+use Rattle.session.specs.History.{HistoryStep, fresh, onto}
 use Rattle.session.specs.State as session
 use Rattle.session.proofs.Promise.{history}
 use Rattle.addrman_run.proofs.Generating.{at_end}
@@ -31,21 +31,21 @@ use Rattle.addrman_run.specs.Replay.{at_start}
 use Rattle.addrman_run.specs.Trial.{IsTrial, sizes_text, trial_start, with_counts, with_sum}
 
 -- the lines so far have their replies, of which the hasher holds all
-pub record Trying (start : session.State) (log now : List (List ℕ)) (st : session.State) (hasher : Sha256) (bytes : ℕ) : Type 0 where
+pub record Trying (start : session.SessionState) (log now : List (List ℕ)) (st : session.SessionState) (hasher : Sha256) (bytes : ℕ) : Type 0 where
   pub answered : List (List ℕ)
   pub text : List ℕ
   pub ended : List Ended
-  pub runs : Run Step (fresh start) answered text (history st ended)
+  pub runs : Run HistoryStep (fresh start) answered text (history st ended)
   pub whole : answered ++ map without_feed now ≡ map without_feed log
   pub hash : Holds256 hasher text
   pub count : bytes ≡ length text
   pub is_open : IsOpen st.job None
   pub room : st.machine.tables.next_number + 1000 * length now ≤ 100000000
 
-open_none : (st : session.State) → st.job ≡ None → IsOpen st.job None
+open_none : (st : session.SessionState) → st.job ≡ None → IsOpen st.job None
 open_none st is = subst (λ j. IsOpen j None) (sym is) tt
 
-pub tries_none : (start : session.State) (log : List (List ℕ)) (hasher : Sha256) → length log ≤ MAX_LINES → start.machine.tables.next_number ≡ 0 → start.job ≡ None → Holds256 hasher []
+pub tries_none : (start : session.SessionState) (log : List (List ℕ)) (hasher : Sha256) → length log ≤ MAX_LINES → start.machine.tables.next_number ≡ 0 → start.job ≡ None → Holds256 hasher []
     → Trying start log log start hasher 0
 tries_none start log hasher few empty closed hash = record {
   answered = [];
@@ -67,7 +67,7 @@ one_less : (now after : List (List ℕ)) → now ≢ [] → after ≡ lines_afte
 one_less [] after some is = absurd (some refl)
 one_less (line ∷ lines) after some is = omega (arith, ap length is)
 
-pub tries_line : (start : session.State) (log now after : List (List ℕ)) (st new : session.State) (hasher next : Sha256) (bytes more : ℕ) (line before reply : List ℕ)
+pub tries_line : (start : session.SessionState) (log now after : List (List ℕ)) (st new : session.SessionState) (hasher next : Sha256) (bytes more : ℕ) (line before reply : List ℕ)
     → Trying start log now st hasher bytes → now ≢ [] → line ≡ next_line now → after ≡ lines_after now → before ≡ []
     → Replied st (without_feed line) before reply new → IsOpen new.job None → new.machine.tables.next_number ≤ st.machine.tables.next_number + 1000
     → ((m : List ℕ) → Holds256 hasher m → Holds256 next (m ++ reply)) → more ≡ bytes + length reply → Trying start log after new next more
@@ -77,7 +77,7 @@ tries_line start log now after st new hasher next bytes more line before reply t
       answered = t.answered ++ without_feed line ∷ [];
       text = t.text ++ reply;
       ended = onto step.1 t.ended;
-      runs = Run-more Step t.answered (fresh start) (history st t.ended) (history new (onto step.1 t.ended)) (without_feed line) t.text reply t.runs
+      runs = Run-more HistoryStep t.answered (fresh start) (history st t.ended) (history new (onto step.1 t.ended)) (without_feed line) t.text reply t.runs
           (step.1, subst (λ r. session.LineStep st (without_feed line) r new step.1) (sym is_reply) step.2, refl);
       whole = append_assoc t.answered (without_feed line ∷ []) (map without_feed after)
           ∙ ap (λ xs. t.answered ++ xs) (ap (λ l. without_feed l ∷ map without_feed after) is ∙ ap (λ ls. without_feed (next_line now) ∷ map without_feed ls) is_after ∙ cut_first now some)
@@ -88,11 +88,11 @@ tries_line start log now after st new hasher next bytes more line before reply t
       room = omega (arith, t.room, numbers, one_less now after some is_after);
     }
 
-pub tries_all : (start : session.State) (log now : List (List ℕ)) (st : session.State) (hasher : Sha256) (bytes : ℕ) (sum : List ℕ) (digest : List ℕ → List ℕ) → Trying start log now st hasher bytes → (now ≢ [] → ⊥)
-    → ((m : List ℕ) → Holds256 hasher m → sum ≡ digest m) → (text : List ℕ) × (ended : List Ended) × Run Step (fresh start) (map without_feed log) text (history st ended) × (bytes ≡ length text) × (sum ≡ digest text)
+pub tries_all : (start : session.SessionState) (log now : List (List ℕ)) (st : session.SessionState) (hasher : Sha256) (bytes : ℕ) (sum : List ℕ) (digest : List ℕ → List ℕ) → Trying start log now st hasher bytes → (now ≢ [] → ⊥)
+    → ((m : List ℕ) → Holds256 hasher m → sum ≡ digest m) → (text : List ℕ) × (ended : List Ended) × Run HistoryStep (fresh start) (map without_feed log) text (history st ended) × (bytes ≡ length text) × (sum ≡ digest text)
 tries_all start log now st hasher bytes sum digest t none is =
     let all : t.answered ≡ map without_feed log = sym (append-nil t.answered) ∙ ap (λ xs. t.answered ++ map without_feed xs) (sym (at_end now none)) ∙ t.whole in
-    (t.text, t.ended, subst (λ ls. Run Step (fresh start) ls t.text (history st t.ended)) all t.runs, t.count, is t.text t.hash)
+    (t.text, t.ended, subst (λ ls. Run HistoryStep (fresh start) ls t.text (history st t.ended)) all t.runs, t.count, is t.text t.hash)
 
 drawn_count : (n : ℕ) (at : Position) → length (drawn_lines n at) ≡ n
 drawn_count zero at = refl
@@ -110,20 +110,20 @@ counts_are : (c : Counts) (st : State) → c.new_count ≡ count_by (λ r. not (
 counts_are c st new tried clashes = λ i. record { new_count = new i; tried_count = tried i; clashes = clashes i }
 
 -- the line about the replies of a generated log
-pub is_trial : (start lines bytes : ℕ) (sum line : List ℕ) (made : List (List ℕ)) (first last : session.State) (tables : State) (c : Counts) → first ≡ trial_start → made ≡ log start lines
+pub is_trial : (start lines bytes : ℕ) (sum line : List ℕ) (made : List (List ℕ)) (first last : session.SessionState) (tables : State) (c : Counts) → first ≡ trial_start → made ≡ log start lines
     → HasReplies first (map without_feed made) last bytes sum → lines_of (concat (log start lines)) ≡ map without_feed (log start lines) → tables ≡ last.machine.tables
     → c.new_count ≡ count_by (λ r. not (is_tried r)) tables.records → c.tried_count ≡ count_by is_tried tables.records → c.clashes ≡ length tables.collisions
     → line ≡ with_sum (with_counts (sizes_text lines bytes) c) sum → IsTrial start lines line
 is_trial start lines bytes sum line made first last tables c begins is_made (text, ended, run, count, hash) cut same new tried clashes is = record {
   replies = text;
   last = history last ended;
-  runs = subst (λ s. Run Step (fresh s) (lines_of (concat (log start lines))) text (history last ended)) begins
-      (subst (λ ls. Run Step (fresh first) ls text (history last ended)) (ap (map without_feed) is_made ∙ sym cut) run);
+  runs = subst (λ s. Run HistoryStep (fresh s) (lines_of (concat (log start lines))) text (history last ended)) begins
+      (subst (λ ls. Run HistoryStep (fresh first) ls text (history last ended)) (ap (map without_feed) is_made ∙ sym cut) run);
   is = is ∙ (λ i. with_sum (with_counts (sizes_text lines (count i)) ((counts_are c tables new tried clashes ∙ ap counts_of same) i)) (hash i));
 }
 
 -- the session at the start
-pub begins : (first : session.State) (machine : Machine) (tables : State) (places : Places) → first ≡ session.state Main machine None → machine ≡ record { tables = tables; clock = 0 }
+pub begins : (first : session.SessionState) (machine : Machine) (tables : State) (places : Places) → first ≡ session.state Main machine None → machine ≡ record { tables = tables; clock = 0 }
     → tables ≡ empty_state places → places ≡ places_of (replicate 32 0) None → first ≡ trial_start
 begins first machine tables places f m t p = f ∙ ap (λ x. session.state Main x None) m ∙ ap (at_start Main) (t ∙ ap empty_state p)
 

@@ -9,12 +9,12 @@ use Rattle.host_io.specs.Outside.{Outside}
 use Rattle.host_io.specs.Past.{Past}
 use Rattle.host_io.specs.declared.name.Name.{Name}
 use Rattle.host_io.specs.declared.name.Name.TheVariants as name
-use Rattle.log_lines.specs.Spelling.{Spells}
+use Rattle.log_lines.specs.Spelling.{SpellsCommand}
 use Rattle.log_lines.specs.declared.command.Command.{Command}
 use Rattle.log_run.specs.declared.end.LogEnd.{LogEnd}
 use Rattle.log_run.specs.declared.limits.TheConstants.{MAX_LINE, MAX_LOG}
 use Rattle.net_addr.specs.declared.peer.Peer.{Peer}
-use Rattle.opener_lines.specs.Grammar.{Asks}
+use Rattle.opener_lines.specs.Grammar.{LineAsks}
 use Rattle.opener_lines.specs.declared.request.Request as opener
 use Rattle.session.specs.History.{failed}
 use Rattle.addrman_run.specs.Asmaps.{ReportsAsmap}
@@ -39,11 +39,11 @@ use Rattle.addrman_run.specs.declared.status.Status.TheVariants.{Done, Memory}
 
 -- a line that a replay carries out: it is passed over, or parses as a command
 abbrev pub IsReplayLine : List ℕ → Type 0
-IsReplayLine line = IsPassedOver line ⊎ ((command : Command) × Spells line command)
+IsReplayLine line = IsPassedOver line ⊎ ((command : Command) × SpellsCommand line command)
 
 -- a line that an opener carries out
 abbrev pub IsOpenerLine : List ℕ → Type 0
-IsOpenerLine line = IsPassedOver line ⊎ ((asked : opener.Request) × Asks line asked)
+IsOpenerLine line = IsPassedOver line ⊎ ((asked : opener.Request) × LineAsks line asked)
 
 -- a line that the limit carries out
 abbrev pub IsLimitLine : List ℕ → Type 0

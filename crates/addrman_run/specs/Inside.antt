@@ -33,7 +33,7 @@ use Rattle.log_run.specs.Run.{Run}
 use Rattle.log_run.specs.declared.end.LogEnd.{LogEnd}
 use Rattle.log_run.specs.declared.end.LogEnd.TheVariants as end
 use Rattle.session.specs.Events.{Ended}
-use Rattle.session.specs.History.{Step, fresh}
+use Rattle.session.specs.History.{HistoryStep, fresh}
 use Rattle.session.specs.State as session
 use Rattle.session.specs.State.{LineStep}
 use Rattle.sha2.specs.Sha256.{sha256}
@@ -202,12 +202,12 @@ AnswerEnds line None before after old new status = (after ≡ before) × LineEnd
 AnswerEnds line (Some file) before after old new status = SaveEnds name.Bans file line after old new status
 
 -- a line of a generated log was carried out, and its reply appended
-abbrev pub Replied : session.State → List ℕ → List ℕ → List ℕ → session.State → Type 0
+abbrev pub Replied : session.SessionState → List ℕ → List ℕ → List ℕ → session.SessionState → Type 0
 Replied old line before after new =
     (text : List ℕ) × (ended : Option Ended) × LineStep old line text new ended × (after ≡ before ++ text)
 
 -- the replies to some lines have so many bytes and this SHA-256
-abbrev pub HasReplies : session.State → List (List ℕ) → session.State → ℕ → List ℕ → Type 0
+abbrev pub HasReplies : session.SessionState → List (List ℕ) → session.SessionState → ℕ → List ℕ → Type 0
 HasReplies old lines new bytes sum =
-    (text : List ℕ) × (ended : List Ended) × Run Step (fresh old) lines text (record { now = new; ended = ended })
+    (text : List ℕ) × (ended : List Ended) × Run HistoryStep (fresh old) lines text (record { now = new; ended = ended })
     × (bytes ≡ length text) × (sum ≡ sha256 text)

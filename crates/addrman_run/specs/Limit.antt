@@ -4,8 +4,8 @@ use Rattle.std.specs.List.{flat_map, last_or}
 use Rattle.host_io.specs.Outside.{Outside}
 use Rattle.host_io.specs.Reading.{TakesAtMost}
 use Rattle.addr_limit.specs.Apart.{Outputs}
-use Rattle.addr_limit.specs.Lines.{HasFault, LimitStep, is_about}
-use Rattle.addr_limit.specs.State.{State, start}
+use Rattle.addr_limit.specs.Lines.{HasEventFault, LimitStep, is_about}
+use Rattle.addr_limit.specs.State.{LimitState, start}
 use Rattle.log_run.specs.Run.{Ran, Streams}
 use Rattle.log_run.specs.declared.end.LogEnd.{LogEnd}
 use Rattle.log_run.specs.declared.limits.TheConstants.{MAX_LOG}
@@ -14,20 +14,20 @@ use Rattle.addrman_run.specs.declared.status.Status.{Status}
 
 -- Each chosen line has the output that it would have among the chosen lines only: the last output
 -- of a run over the chosen lines up to it.
-abbrev pub AreApart : (List ℕ → Bool) → List (List ℕ) → List (List ℕ) → Type 0
-AreApart about lines outs =
+abbrev pub AreIndependent : (List ℕ → Bool) → List (List ℕ) → List (List ℕ) → Type 0
+AreIndependent about lines outs =
     (before : List (List ℕ)) (line : List ℕ) (after : List (List ℕ)) → lines ≡ before ++ line ∷ after → about line ≡ true →
-    (own : List (List ℕ)) × (own_end : State) × (front : List (List ℕ)) × (out : List ℕ) × (back : List (List ℕ)) ×
+    (own : List (List ℕ)) × (own_end : LimitState) × (front : List (List ℕ)) × (out : List ℕ) × (back : List (List ℕ)) ×
     Outputs LimitStep start (filter about (before ++ line ∷ [])) own own_end × (outs ≡ front ++ out ∷ back) × (length front ≡ length before) × (last_or None own ≡ Some out)
 
 -- A run over the log under the limit, by its end. Each line that is carried out has one output, and
 -- that of a line that names a number depends on the lines of that number and the `now` lines only.
 pub record Limited (old new : Streams) (how : LogEnd) : Type 0 where
-  pub ran : Ran LimitStep HasFault start old new how
+  pub ran : Ran LimitStep HasEventFault start old new how
   pub outputs : List (List ℕ)
   pub each : Outputs LimitStep start ran.carried outputs ran.now
   pub whole : ran.replies ≡ flat_map (λ output. output) outputs
-  pub apart : (number : ℕ) → number < 2 ^ 32 → AreApart (is_about number) ran.carried outputs
+  pub apart : (number : ℕ) → number < 2 ^ 32 → AreIndependent (is_about number) ran.carried outputs
 
 -- how the limit ends, by its status
 abbrev pub LimitOutcome : Streams → Streams → Status → Type 0

@@ -27,8 +27,8 @@ abbrev pub IsPeerLine : List ℕ → Peer → Type 0
 IsPeerLine line peer = AllMean (OfPeer ∷ []) (fields_of line) (ThePeer peer ∷ [])
 
 -- the line is neither passed over nor a peer, and this is its fault
-abbrev pub HasFault : List ℕ → LineFault → Type 0
-HasFault line fault = ¬ IsPassedOver line × AreAtFault (OfPeer ∷ []) (fields_of line) fault
+abbrev pub HasPeerFault : List ℕ → LineFault → Type 0
+HasPeerFault line fault = ¬ IsPassedOver line × AreAtFault (OfPeer ∷ []) (fields_of line) fault
 
 -- A line is passed over, or its peer is looked up in the asmap.
 abbrev pub LookupStep : Steps Asmap
@@ -49,7 +49,7 @@ ArePeers (line ∷ lines) peers =
 pub record LookedUp (past : Option Past) (old new : Streams) (how : LogEnd) : Type 0 where
   pub map : Asmap
   pub has_map : IsMapIn past (Some map)
-  pub ran : Ran LookupStep HasFault map old new how
+  pub ran : Ran LookupStep HasPeerFault map old new how
   pub peers : List Peer
   pub each : ArePeers ran.carried peers
   pub whole : ran.replies ≡ flat_map (λ peer. lookup_text map peer.addr) peers

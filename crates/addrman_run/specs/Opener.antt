@@ -8,10 +8,10 @@ use Rattle.log_run.specs.declared.limits.TheConstants.{MAX_LOG}
 use Rattle.peer_open.specs.Groups.{AreApart}
 use Rattle.peer_open.specs.declared.opener.TheConstants.{MAX_OUTBOUND}
 use Rattle.opener_lines.specs.Fair.{IsFair}
-use Rattle.opener_lines.specs.Grammar.{HasFault}
+use Rattle.opener_lines.specs.Grammar.{HasRequestFault}
 use Rattle.opener_lines.specs.Lines.{LineStep}
 use Rattle.opener_lines.specs.State as opener
-use Rattle.opener_lines.specs.State.{Answer, Step}
+use Rattle.opener_lines.specs.State.{Answer, RequestStep}
 use Rattle.opener_lines.specs.declared.request.Request.{Request}
 use Rattle.peers_file.specs.declared.chain.Chain.{Chain}
 use Rattle.table_machine.specs.State as tables
@@ -21,24 +21,24 @@ use Rattle.addrman_run.specs.Replay.{NotOpened}
 use Rattle.addrman_run.specs.declared.status.Status.{Status}
 
 -- what an opener begins with: the tables, at the time 0, and no open peers
-abbrev pub opener_start : tables.State → opener.State
+abbrev pub opener_start : tables.State → opener.OpenerState
 opener_start st = opener.state (record { tables = st; clock = 0 }) []
 
 -- Whatever lines were carried out: at most ten peers are open, no two of them in one group, and a
 -- peer that answers the next request was taken by the rules.
-pub record KeepsRules (start : opener.State) : Type 0 where
-  pub apart : (lines : List (List ℕ)) (text : List ℕ) (now : opener.State) → Run LineStep start lines text now
+pub record KeepsRules (start : opener.OpenerState) : Type 0 where
+  pub apart : (lines : List (List ℕ)) (text : List ℕ) (now : opener.OpenerState) → Run LineStep start lines text now
       → AreApart now.open_peers
-  pub few : (lines : List (List ℕ)) (text : List ℕ) (now : opener.State) → Run LineStep start lines text now
+  pub few : (lines : List (List ℕ)) (text : List ℕ) (now : opener.OpenerState) → Run LineStep start lines text now
       → length now.open_peers ≤ MAX_OUTBOUND
-  pub fair : (lines : List (List ℕ)) (text : List ℕ) (now : opener.State) → Run LineStep start lines text now
-      → (asked : Request) (answer : Answer) (next : opener.State) → Step now asked answer next → IsFair now asked answer
+  pub fair : (lines : List (List ℕ)) (text : List ℕ) (now : opener.OpenerState) → Run LineStep start lines text now
+      → (asked : Request) (answer : Answer) (next : opener.OpenerState) → RequestStep now asked answer next → IsFair now asked answer
 
 -- An opener that got past its opening, by the end of its run over the log.
 pub record OpenerRan (key : Option (List ℕ)) (chain : Chain) (old new : Outside) (how : LogEnd) : Type 0 where
   pub tables : tables.State
   pub opened : Opened key chain old.past tables
-  pub ran : Ran LineStep HasFault (opener_start tables) (streams_of old) (streams_of new) how
+  pub ran : Ran LineStep HasRequestFault (opener_start tables) (streams_of old) (streams_of new) how
   pub rules : KeepsRules (opener_start tables)
 
 -- how an opener ends, by its status

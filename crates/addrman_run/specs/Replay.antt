@@ -12,13 +12,13 @@ use Rattle.causes.specs.Kept.{IsAfter, KeepsCauses}
 use Rattle.laws.specs.LostLines.{KeepsLosses}
 use Rattle.laws.specs.Openings.{KeepsOpened}
 use Rattle.laws.specs.Shares.{KeepsShares}
-use Rattle.log_lines.specs.Spelling.{HasFault}
+use Rattle.log_lines.specs.Spelling.{HasCommandFault}
 use Rattle.log_run.specs.Run.{Ran, Run}
 use Rattle.log_run.specs.declared.end.LogEnd.{LogEnd}
 use Rattle.log_run.specs.declared.limits.TheConstants.{MAX_LOG}
 use Rattle.peers_file.specs.declared.chain.Chain.{Chain}
 use Rattle.session.specs.Folders.{IsOpen}
-use Rattle.session.specs.History.{AtExit, History, Now, RoseBy, SinceEntry, Step, failed, fresh}
+use Rattle.session.specs.History.{AtExit, History, Now, RoseBy, SinceEntry, HistoryStep, failed, fresh}
 use Rattle.session.specs.State as session
 use Rattle.table_machine.specs.Restart.{restart}
 use Rattle.table_machine.specs.State.{State}
@@ -27,7 +27,7 @@ use Rattle.addrman_run.specs.Opening.{IsUnopened, Opened, Opens, file_in}
 use Rattle.addrman_run.specs.declared.status.Status.{Status}
 
 -- the session that a replay begins with: the tables, at the time 0, and no open save
-abbrev pub at_start : Chain → State → session.State
+abbrev pub at_start : Chain → State → session.SessionState
 at_start chain tables = session.state chain (record { tables = tables; clock = 0 }) None
 
 -- Where peers.dat has the file of these tables, it opens, and only as they are after a restart.
@@ -40,7 +40,7 @@ ReopensAs chain map st =
 -- lines and their replies fix the history
 abbrev pub HasOneHistory : History → Type 0
 HasOneHistory start =
-    (lines : List (List ℕ)) (text : List ℕ) (a b : History) → Run Step start lines text a → Run Step start lines text b → a ≡ b
+    (lines : List (List ℕ)) (text : List ℕ) (a b : History) → Run HistoryStep start lines text a → Run HistoryStep start lines text b → a ≡ b
 
 -- A replay that got past its opening, by the end of its run over the log. The folder's asmap is
 -- accepted, and the tables are open. The replies to the lines that are carried out were written,
@@ -56,7 +56,7 @@ HasOneHistory start =
 pub record Replayed (key : Option (List ℕ)) (chain : Chain) (old new : Outside) (how : LogEnd) : Type 0 where
   pub tables : State
   pub opened : Opened key chain old.past tables
-  pub ran : Ran Step HasFault (fresh (at_start chain tables)) (streams_of old) (streams_of new) how
+  pub ran : Ran HistoryStep HasCommandFault (fresh (at_start chain tables)) (streams_of old) (streams_of new) how
   pub fixed : HasOneHistory (fresh (at_start chain tables))
   pub at_exit : Now (AtExit ran.now) old.past new.past
   pub since_entry : Always old.past new.past (SinceEntry ran.now)

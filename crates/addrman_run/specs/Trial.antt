@@ -10,7 +10,7 @@ use Rattle.log_run.specs.Run.{Run}
 use Rattle.manager.specs.Step.{counts_of}
 use Rattle.peer_rec.specs.declared.counts.Counts.{Counts}
 use Rattle.peers_file.specs.declared.chain.Chain.TheVariants.{Main}
-use Rattle.session.specs.History.{History, Step, fresh}
+use Rattle.session.specs.History.{History, HistoryStep, fresh}
 use Rattle.session.specs.State as session
 use Rattle.table_machine.specs.State.{empty_state}
 use Rattle.addrman_run.specs.OneText.{OneTextEnds}
@@ -19,7 +19,7 @@ use Rattle.addrman_run.specs.Replay.{at_start}
 use Rattle.addrman_run.specs.declared.status.Status.{Status}
 
 -- the session that a trial begins with: empty tables under a key of 32 zero bytes, with no asmap
-abbrev pub trial_start : session.State
+abbrev pub trial_start : session.SessionState
 trial_start = at_start Main (empty_state (places_of (replicate 32 0) None))
 
 -- the parts of the line about a trial
@@ -42,7 +42,7 @@ trial_text lines replies counts = with_sum (with_counts (sizes_text lines (lengt
 pub record IsTrial (start lines : ℕ) (line : List ℕ) : Type 0 where
   pub replies : List ℕ
   pub last : History
-  pub runs : Run Step (fresh trial_start) (lines_of (concat (log start lines))) replies last
+  pub runs : Run HistoryStep (fresh trial_start) (lines_of (concat (log start lines))) replies last
   pub is : line ≡ trial_text lines replies (counts_of last.now.machine.tables)
 
 abbrev pub TrialEnds : ℕ → ℕ → Outside → Outside → Status → Type 0

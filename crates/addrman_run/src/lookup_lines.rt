@@ -44,12 +44,12 @@ fn put_lookup(
 impl<'a> LineSteps<()> for LookupLines<'a> {
     ghost use Rattle.std.specs.Prelude.{⊤};
     ghost use Rattle.placing.specs.Inside.{asmap_of};
-    ghost use Rattle.addrman_run.specs.LookupLines.{HasFault, LookupStep};
+    ghost use Rattle.addrman_run.specs.LookupLines.{HasPeerFault, LookupStep};
 
     ghost step = { λ old before line text new after.
         LookupStep (asmap_of old.asmap) line text (asmap_of new.asmap) };
 
-    ghost has_fault = { HasFault };
+    ghost has_fault = { HasPeerFault };
 
     ghost ready = { λ l world. ⊤ };
 

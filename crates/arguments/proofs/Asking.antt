@@ -22,7 +22,7 @@ use Rattle.net_addr.specs.Text.{IsPeerText}
 use Rattle.net_addr.specs.declared.peer.Peer.{Peer}
 use Rattle.peers_file.specs.declared.chain.Chain.{Chain}
 use Rattle.arguments.specs.Options.{IsNet, IsOpeningOptions, IsPeersOption}
-use Rattle.arguments.specs.Table.{Asks, Fields, Form, HasNoValues, IsProperRequest, Network, OfAddress, OfCommand, OfSubnet, Opening, PeerOrLines, Period, Reads, Records, TheAddress, TheChain, TheCommand, TheFields, TheOpening, ThePeriod, TheRecords, TheSubnet, Values, form_of, name_of, plain_word, values_of, word_of}
+use Rattle.arguments.specs.Table.{Asks, Fields, Form, HasNoValues, IsProperRequest, Network, OfAddress, OfCommand, OfSubnet, Opening, PeerOrLines, Period, Reads, Records, TheAddress, TheChain, TheCommand, TheFields, TheOpening, ThePeriod, TheRecords, TheSubnet, Values, form_of, name_of, plain_word, request_values, command_word}
 use Rattle.arguments.specs.declared.name.CommandName.{CommandName}
 use Rattle.arguments.specs.declared.name.CommandName.TheVariants as name
 use Rattle.arguments.specs.declared.name.TheConstants.{NAMES}
@@ -114,14 +114,14 @@ request_by name.Help (TheCommand command) = Help command
 request_by name.Version values = Version
 request_by other values = Compile
 
-request_back : (r : Request) → request_by (name_of r) (values_of r) ≡ r
+request_back : (r : Request) → request_by (name_of r) (request_values r) ≡ r
 unfolding request_by
 request_back Compile = refl
 request_back other = refl
 
-one_request : (a b : Request) (texts : List (List ℕ)) → name_of a ≡ name_of b → Reads (form_of (name_of a)) texts (values_of a) → Reads (form_of (name_of b)) texts (values_of b) → a ≡ b
+one_request : (a b : Request) (texts : List (List ℕ)) → name_of a ≡ name_of b → Reads (form_of (name_of a)) texts (request_values a) → Reads (form_of (name_of b)) texts (request_values b) → a ≡ b
 one_request a b texts names h k =
-    let values = one_values (form_of (name_of a)) texts (values_of a) (values_of b) (definite_name (name_of a)) h (subst (λ n. Reads (form_of n) texts (values_of b)) (sym names) k) in
+    let values = one_values (form_of (name_of a)) texts (request_values a) (request_values b) (definite_name (name_of a)) h (subst (λ n. Reads (form_of n) texts (request_values b)) (sym names) k) in
     sym (request_back a) ∙ (λ i. request_by (names i) (values i)) ∙ request_back b
 
 -- WHAT IS READ
@@ -132,40 +132,40 @@ if_none (Some x) P holds = tt
 
 -- the request that was read has this name, and the texts after it have its values
 abbrev pub IsAfter : CommandName → List (List ℕ) → Request → Type 0
-IsAfter n texts request = (name_of request ≡ n) × Reads (form_of n) texts (values_of request)
+IsAfter n texts request = (name_of request ≡ n) × Reads (form_of n) texts (request_values request)
 
-pub found_asks : (words texts : List (List ℕ)) (word plain : List ℕ) (n : CommandName) (r : Option Request) → words ≡ word ∷ texts → plain ≡ plain_word word → plain ≡ word_of n → IfSome r (IsAfter n texts) → IfSome r (Asks words)
+pub found_asks : (words texts : List (List ℕ)) (word plain : List ℕ) (n : CommandName) (r : Option Request) → words ≡ word ∷ texts → plain ≡ plain_word word → plain ≡ command_word n → IfSome r (IsAfter n texts) → IfSome r (Asks words)
 found_asks words texts word plain n None is of_word named found = tt
 found_asks words texts word plain n (Some request) is of_word named found = (
   word,
   texts,
   is,
-  sym of_word ∙ named ∙ ap word_of (sym found.0),
-  subst (λ m. Reads (form_of m) texts (values_of request)) (sym found.0) found.1,
+  sym of_word ∙ named ∙ ap command_word (sym found.0),
+  subst (λ m. Reads (form_of m) texts (request_values request)) (sym found.0) found.1,
 )
 
-head_of : (words texts : List (List ℕ)) (word : List ℕ) (request : Request) → words ≡ word ∷ texts → (asks : Asks words request) → plain_word word ≡ word_of (name_of request)
+head_of : (words texts : List (List ℕ)) (word : List ℕ) (request : Request) → words ≡ word ∷ texts → (asks : Asks words request) → plain_word word ≡ command_word (name_of request)
 head_of words texts word request is asks = ap plain_word (ap (λ ws. get_or ws 0 []) (sym is ∙ asks.2)) ∙ asks.3
 
 only_after : (n : CommandName) (texts : List (List ℕ)) (r : Option Request) → IfSome r (IsAfter n texts) → IfNone r (HasNoValues (form_of n) texts) →
-    (request : Request) → n ≡ name_of request → Reads (form_of (name_of request)) texts (values_of request) → r ≡ Some request
+    (request : Request) → n ≡ name_of request → Reads (form_of (name_of request)) texts (request_values request) → r ≡ Some request
 unfolding HasNoValues
-only_after n texts None found none request is reads = absurd (none (values_of request) (subst (λ m. Reads (form_of m) texts (values_of request)) (sym is) reads))
+only_after n texts None found none request is reads = absurd (none (request_values request) (subst (λ m. Reads (form_of m) texts (request_values request)) (sym is) reads))
 only_after n texts (Some read) found none request is reads =
-    ap Some (one_request read request texts (found.0 ∙ is) (subst (λ m. Reads (form_of m) texts (values_of read)) (sym found.0) found.1) reads)
+    ap Some (one_request read request texts (found.0 ∙ is) (subst (λ m. Reads (form_of m) texts (request_values read)) (sym found.0) found.1) reads)
 
 pub only_asked : (words texts : List (List ℕ)) (word plain : List ℕ) (found : Option CommandName) (n : CommandName) (r : Option Request) → words ≡ word ∷ texts → plain ≡ plain_word word →
-    found ≡ find (λ k. bytes_eq (word_of k) plain) NAMES → found ≡ Some n → IfSome r (IsAfter n texts) → IfNone r (HasNoValues (form_of n) texts) →
+    found ≡ find (λ k. bytes_eq (command_word k) plain) NAMES → found ≡ Some n → IfSome r (IsAfter n texts) → IfNone r (HasNoValues (form_of n) texts) →
     (request : Request) → Asks words request → r ≡ Some request
 only_asked words texts word plain found n r is of_word searched some reads none request asks =
     let same : Some n ≡ Some (name_of request) = sym some ∙ searched ∙ name_found plain (name_of request) (of_word ∙ head_of words texts word request is asks) in
     let names = ap (λ o. unwrap_or o n) same in
     let rest = ap (drop 1) (sym asks.2 ∙ is) in
-    only_after n texts r reads none request names (subst (λ ts. Reads (form_of (name_of request)) ts (values_of request)) rest asks.4)
+    only_after n texts r reads none request names (subst (λ ts. Reads (form_of (name_of request)) ts (request_values request)) rest asks.4)
 
 -- a word that is no name asks for nothing
 pub none_asked : (words texts : List (List ℕ)) (word plain : List ℕ) (found : Option CommandName) → words ≡ word ∷ texts → plain ≡ plain_word word →
-    found ≡ find (λ k. bytes_eq (word_of k) plain) NAMES → found ≡ None → (request : Request) → Asks words request → ⊥
+    found ≡ find (λ k. bytes_eq (command_word k) plain) NAMES → found ≡ None → (request : Request) → Asks words request → ⊥
 none_asked words texts word plain found is of_word searched none request asks =
     none-some (name_of request) (sym none ∙ searched ∙ name_found plain (name_of request) (of_word ∙ head_of words texts word request is asks))
 
@@ -207,7 +207,7 @@ module _ (law : (text : List ℕ) (s : Subnet) → IsSubnetText text s → IsPro
   unfolding subnet_in
   proper_subnet texts s reads = subst IsProper (sym (ap (λ v. subnet_in v s) reads.2)) (law reads.0 reads.1 reads.4)
 
-  proper : (request : Request) (texts : List (List ℕ)) → Reads (form_of (name_of request)) texts (values_of request) → IsProperRequest request
+  proper : (request : Request) (texts : List (List ℕ)) → Reads (form_of (name_of request)) texts (request_values request) → IsProperRequest request
   proper (Ban subnet now until) texts reads = proper_period texts subnet now until reads
   proper (Unban subnet) texts reads = proper_subnet texts subnet reads
   proper (Gen start lines) texts reads = few_lines texts start lines reads

@@ -19,29 +19,29 @@ use Rattle.arguments.specs.declared.request.Request.TheVariants.{Replay, Opener,
 -- THE NAME
 
 -- the name of a command
-abbrev pub word_of : CommandName → List ℕ
-word_of name.Replay = codes "replay"
-word_of name.Opener = codes "opener"
-word_of name.Limit = codes "limit"
-word_of name.Show = codes "show"
-word_of name.Picture = codes "picture"
-word_of name.Raw = codes "raw"
-word_of name.Info = codes "info"
-word_of name.Groups = codes "groups"
-word_of name.Compile = codes "compile"
-word_of name.Decompile = codes "decompile"
-word_of name.Diff = codes "diff"
-word_of name.Check = codes "check"
-word_of name.Lookup = codes "lookup"
-word_of name.Address = codes "address"
-word_of name.Ban = codes "ban"
-word_of name.Unban = codes "unban"
-word_of name.Banned = codes "banned"
-word_of name.Bans = codes "bans"
-word_of name.Gen = codes "gen"
-word_of name.Trial = codes "trial"
-word_of name.Help = codes "help"
-word_of name.Version = codes "version"
+abbrev pub command_word : CommandName → List ℕ
+command_word name.Replay = codes "replay"
+command_word name.Opener = codes "opener"
+command_word name.Limit = codes "limit"
+command_word name.Show = codes "show"
+command_word name.Picture = codes "picture"
+command_word name.Raw = codes "raw"
+command_word name.Info = codes "info"
+command_word name.Groups = codes "groups"
+command_word name.Compile = codes "compile"
+command_word name.Decompile = codes "decompile"
+command_word name.Diff = codes "diff"
+command_word name.Check = codes "check"
+command_word name.Lookup = codes "lookup"
+command_word name.Address = codes "address"
+command_word name.Ban = codes "ban"
+command_word name.Unban = codes "unban"
+command_word name.Banned = codes "banned"
+command_word name.Bans = codes "bans"
+command_word name.Gen = codes "gen"
+command_word name.Trial = codes "trial"
+command_word name.Help = codes "help"
+command_word name.Version = codes "version"
 
 -- the name of the command that an option in its place asks for; any other word is itself
 unfoldable pub plain_word : List ℕ → List ℕ
@@ -56,7 +56,7 @@ plain_word word =
 -- the texts are the name of a command, or there are none
 abbrev pub NameCommand : List (List ℕ) → Option CommandName → Type 0
 NameCommand texts None = texts ≡ []
-NameCommand texts (Some name) = texts ≡ word_of name ∷ []
+NameCommand texts (Some name) = texts ≡ command_word name ∷ []
 
 -- What comes after the name of a command: fields of these kinds; the options `--key` and `--net`;
 -- `--net` alone; `--peers` and `--net`, or nothing; a subnet; a subnet and two times, of which the
@@ -156,32 +156,32 @@ name_of (Help command) = name.Help
 name_of Version = name.Version
 
 -- the values of its arguments
-abbrev pub values_of : Request → Values
-values_of (Replay key chain) = TheOpening key chain
-values_of (Opener key chain) = TheOpening key chain
-values_of (Lookup peer) = TheFields (ThePeer peer ∷ [])
-values_of (Address addr) = TheAddress addr
-values_of (Show chain) = TheChain chain
-values_of (Picture chain) = TheChain chain
-values_of (Raw chain) = TheChain chain
-values_of (Info chain) = TheChain chain
-values_of (Groups chain) = TheChain chain
-values_of (Diff peers) = TheRecords peers
-values_of (Ban subnet now until) = ThePeriod subnet now until
-values_of (Unban subnet) = TheSubnet subnet
-values_of (Banned peer now) = TheFields (ThePeer peer ∷ TheNumber now ∷ [])
-values_of (Bans now) = TheFields (TheNumber now ∷ [])
-values_of (Gen start lines) = TheFields (TheNumber start ∷ TheNumber lines ∷ [])
-values_of (Trial start lines) = TheFields (TheNumber start ∷ TheNumber lines ∷ [])
-values_of (Help command) = TheCommand command
-values_of other = TheFields []
+abbrev pub request_values : Request → Values
+request_values (Replay key chain) = TheOpening key chain
+request_values (Opener key chain) = TheOpening key chain
+request_values (Lookup peer) = TheFields (ThePeer peer ∷ [])
+request_values (Address addr) = TheAddress addr
+request_values (Show chain) = TheChain chain
+request_values (Picture chain) = TheChain chain
+request_values (Raw chain) = TheChain chain
+request_values (Info chain) = TheChain chain
+request_values (Groups chain) = TheChain chain
+request_values (Diff peers) = TheRecords peers
+request_values (Ban subnet now until) = ThePeriod subnet now until
+request_values (Unban subnet) = TheSubnet subnet
+request_values (Banned peer now) = TheFields (ThePeer peer ∷ TheNumber now ∷ [])
+request_values (Bans now) = TheFields (TheNumber now ∷ [])
+request_values (Gen start lines) = TheFields (TheNumber start ∷ TheNumber lines ∷ [])
+request_values (Trial start lines) = TheFields (TheNumber start ∷ TheNumber lines ∷ [])
+request_values (Help command) = TheCommand command
+request_values other = TheFields []
 
 -- the arguments ask for this
 abbrev pub Asks : List (List ℕ) → Request → Type 0
 Asks words request =
     (word : List ℕ) × (texts : List (List ℕ)) × (words ≡ word ∷ texts)
-    × (plain_word word ≡ word_of (name_of request))
-    × Reads (form_of (name_of request)) texts (values_of request)
+    × (plain_word word ≡ command_word (name_of request))
+    × Reads (form_of (name_of request)) texts (request_values request)
 
 -- WHAT A REQUEST PROMISES
 

@@ -1,6 +1,6 @@
 ghost use Rattle.std.specs.Prelude.{◌≡◌};
 ghost use Rattle.arguments.specs.Help.{page_of};
-ghost use Rattle.arguments.specs.Table.{word_of};
+ghost use Rattle.arguments.specs.Table.{command_word};
 
 use crate::pages;
 use crate::pages::Page;
@@ -60,7 +60,7 @@ pub const NAMES: [CommandName; 22] = [
 ];
 
 impl Keyword for CommandName {
-    ghost word = { word_of };
+    ghost word = { command_word };
 
     fn word(self) -> &'static [u8] {
         match self {

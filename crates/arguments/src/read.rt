@@ -1,5 +1,5 @@
 ghost use Rattle.std.specs.Prelude.{◌≡◌, ◌↔◌, [], ◌∷◌, codes, map, string_bytes, Some, IfSome, IfNone, IsTrue};
-ghost use Rattle.arguments.specs.Table.{Asks, Fields, HasNoValues, IsProperRequest, PeerOrLines, Reads, TheFields, form_of, name_of, values_of};
+ghost use Rattle.arguments.specs.Table.{Asks, Fields, HasNoValues, IsProperRequest, PeerOrLines, Reads, TheFields, form_of, name_of, request_values};
 ghost use Rattle.arguments.specs.declared.name.CommandName.TheVariants as name;
 ghost use Rattle.arguments.specs.declared.request.Request.{Request};
 
@@ -50,7 +50,7 @@ fn request_of(alloc: Global, words: &[String]) -> Option<Request>
 #[tactic(auto, using(crate::proofs::Asking::if_none))]
 fn read_after(alloc: Global, name: CommandName, rest: &[String]) -> Option<Request>
     ensures found { IfSome result (λ request. (name_of request ≡ name)
-        × Reads (form_of name) (map string_bytes rest.now) (values_of request)) }
+        × Reads (form_of name) (map string_bytes rest.now) (request_values request)) }
     ensures none { IfNone result (HasNoValues (form_of name) (map string_bytes rest.now)) }
 {
     match name {
@@ -122,7 +122,7 @@ fn read_after(alloc: Global, name: CommandName, rest: &[String]) -> Option<Reque
 #[tactic(auto, unfolding(crate::specs::Table::HasNoValues))]
 fn read_lookup(alloc: Global, rest: &[String]) -> Option<Request>
     ensures found { IfSome result (λ request. (name_of request ≡ name.Lookup)
-        × Reads PeerOrLines (map string_bytes rest.now) (values_of request)) }
+        × Reads PeerOrLines (map string_bytes rest.now) (request_values request)) }
     ensures none { IfNone result (HasNoValues PeerOrLines (map string_bytes rest.now)) }
 {
     if is_dash(rest) {

@@ -5,7 +5,7 @@ use Rattle.bit_code.specs.Coder.{digits, number_of, file_bits}
 use Rattle.bit_code.proofs.DigitLaws.{length-digits, digits-number_of, number_of-lt}
 use Rattle.bit_code.specs.Files as bit_file
 use Rattle.bit_code.specs.Prefixes.{begins_with}
-use Rattle.asmap_vm.specs.Code.{Tree, code, meaning, asn_of, IsSane, IsFileOf}
+use Rattle.asmap_vm.specs.Code.{Tree, code, meaning, asn_of, IsSane, IsTreeFile}
 use Rattle.prefix_table.specs.declared.row.Row.{Row}
 use Rattle.prefix_table.specs.Rows.{best, path, longest, IsTable, number_at}
 use Rattle.asmap_compile.specs.Compiled.{rows_kept, stays, compiled, tree_at}
@@ -83,7 +83,7 @@ unfolding compiled
 compiled_is table = refl
 
 -- the bytes of bits that are the code of a tree are its file
-pub file_from : (t : Tree) (bits : List Bool) (bytes : List ℕ) → bits ≡ code t → bit_file.IsFileOf bits bytes → IsFileOf t bytes
+pub file_from : (t : Tree) (bits : List Bool) (bytes : List ℕ) → bits ≡ code t → bit_file.IsFileOf bits bytes → IsTreeFile t bytes
 file_from t bits bytes e f =
     record {
       spelled = subst (λ bs. file_bits bytes ≡ bs ++ replicate (length (file_bits bytes) - length bs) false) e f.spelled;

@@ -70,13 +70,13 @@ abbrev pub IsSane : Tree → Type 0
 IsSane t = IsSaneWithin 128 t
 
 -- the bits of the file are the code of the tree and then at most seven zero-bits
-abbrev pub IsFileOf : Tree → List ℕ → Type 0
-IsFileOf t bytes = files.IsFileOf (code t) bytes
+abbrev pub IsTreeFile : Tree → List ℕ → Type 0
+IsTreeFile t bytes = files.IsFileOf (code t) bytes
 
 -- the file of a sane tree
 pub record IsSaneFile (t : Tree) (bytes : List ℕ) : Type 0 where
   pub sane : IsSane t
-  pub file : IsFileOf t bytes
+  pub file : IsTreeFile t bytes
 
 -- the number that a tree gives for these address bits under this default
 unfoldable pub meaning : Tree → List Bool → ℕ → ℕ

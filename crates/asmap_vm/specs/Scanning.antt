@@ -48,15 +48,15 @@ abbrev pub start : Scan
 start = record { offset = 0; left = 128; before = Nothing; pending = [] }
 
 -- the jump of each pending right part took an address bit of its own
-abbrev pub AreApart : List RightPart → Type 0
-AreApart [] = ⊤
-AreApart (right ∷ more) = (right.left + length more < 128) × AreApart more
+abbrev pub HaveOwnBits : List RightPart → Type 0
+HaveOwnBits [] = ⊤
+HaveOwnBits (right ∷ more) = (right.left + length more < 128) × HaveOwnBits more
 
 -- the offset is within the file, and no more jumps are open than address bits were taken
 pub record IsUnderWay (bits : List Bool) (scan : Scan) : Type 0 where
   pub offset : scan.offset ≤ length bits
   pub open_jumps : scan.left + length scan.pending ≤ 128
-  pub apart : AreApart scan.pending
+  pub apart : HaveOwnBits scan.pending
 
 -- no part is pending and no padding follows, or the next right part doesn't begin here
 abbrev pub IsStuckAt : List Bool → ℕ → List RightPart → Type 0

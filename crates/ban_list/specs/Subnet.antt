@@ -1,6 +1,6 @@
 -- Subnets, and the addresses that they cover.
 use Rattle.std.specs.Prelude.{◌≡◌, ◌≢◌, ◌==◌, ℕ, ◌-◌, ◌*◌, ◌/◌, ◌^◌, ◌≤◌, Bool, ◌&&◌, List, [], ◌∷◌, ⊤}
-use Rattle.net_addr.specs.Address.{Address, length_of, number_of}
+use Rattle.net_addr.specs.Address.{Address, length_of, net_number}
 use Rattle.net_addr.specs.Ranges.{range, in_range}
 use Rattle.net_addr.specs.declared.net.Net.{Net}
 use Rattle.net_addr.specs.declared.net.Net.TheVariants.{Ipv4, Ipv6, Onion, I2p, Cjdns, Internal}
@@ -44,4 +44,4 @@ pub record IsProper (s : Subnet) : Type 0 where
 -- netaddress.cpp)
 abbrev pub covers : Subnet → Address → Bool
 covers s a =
-    (number_of s.addr.net == number_of a.net) && in_range (range s.addr.bytes s.len) a.bytes
+    (net_number s.addr.net == net_number a.net) && in_range (range s.addr.bytes s.len) a.bytes

@@ -9,7 +9,7 @@ use Rattle.net_addr.specs.declared.entry.Entry.{Entry}
 use Rattle.net_addr.specs.declared.net.Net.{Net}
 use Rattle.net_addr.specs.declared.net.Net.TheVariants.{Unroutable, Ipv4, Ipv6, Onion, I2p, Cjdns, Internal}
 use Rattle.net_addr.proofs.Bytes.{All_bytes, IsAddress-from_v1, IsAddress-plain}
-use Rattle.wire_num.specs.Format.{Format, check, sequence, times, under, value}
+use Rattle.wire_num.specs.Format.{Format, check, sequence, times, map_fault, value}
 use Rattle.wire_num.specs.Fields.{byte, compact, number, some_bytes}
 use Rattle.wire_num.proofs.ReadingLaws.{AreBytes, AreBytes-rest}
 use Rattle.addr_codecs.specs.Entries.{IsEntry}
@@ -53,14 +53,14 @@ known-network id = by (id == 1) (id == 2) (id == 4) (id == 5) (id == 6)
     by false false false false false = tt
 
 right-length : (network : Option Net) (bytes : List ℕ) (len : ℕ) → (address_length network).spells bytes len → is_length network len ≡ true
-unfolding address_length sequence check under compact
+unfolding address_length sequence check map_fault compact
 right-length network bytes len h =
     let short = h.3 in
     let passes = short.3 in
     subst (λ n. is_length network n ≡ true) (passes.2) passes.0
 
 address-fits : (bytes : List ℕ) (o : Option Address) → AreBytes bytes → addrv2_address.spells bytes o → OfAddress o
-unfolding addrv2_address sequence check under some_bytes byte value
+unfolding addrv2_address sequence check map_fault some_bytes byte value
 address-fits bytes o fits h =
     let after_id = AreBytes-rest bytes h.2.front h.1 fits h.2.joined in
     let sized = h.3 in
@@ -77,7 +77,7 @@ abbrev OfEntry : Option Entry → Type 0
 OfEntry o = IfSome o IsEntry
 
 addr-fits : (bytes : List ℕ) (o : Option Entry) → AreBytes bytes → addr_entry.spells bytes o → OfEntry o
-unfolding addr_entry sequence under number some_bytes value
+unfolding addr_entry sequence map_fault number some_bytes value
 addr-fits bytes o fits h =
     let services = h.3 in
     let old = services.3 in
@@ -101,7 +101,7 @@ mapped-fits time services port None t s p a = tt
 mapped-fits time services port (Some addr) t s p a = record { time = t; services = s; addr = a; port = p }
 
 addrv2-fits : (bytes : List ℕ) (o : Option Entry) → AreBytes bytes → addrv2_entry.spells bytes o → OfEntry o
-unfolding addrv2_entry sequence under number compact value
+unfolding addrv2_entry sequence map_fault number compact value
 addrv2-fits bytes o fits h =
     let services = h.3 in
     let addr = services.3 in

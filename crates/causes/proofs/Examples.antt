@@ -23,10 +23,10 @@ use Rattle.placing.specs.Places.{Places, cheap_hash, double_sha256, new_bucket}
 use Rattle.peer_rec.specs.Snapshot.{Snapshot, snapshot}
 use Rattle.peer_rec.specs.declared.file_rec.FileRec.{FileRec}
 use Rattle.peers_file.specs.declared.chain.Chain.TheVariants.{Main}
-use Rattle.log_lines.specs.Spelling.{Spells}
+use Rattle.log_lines.specs.Spelling.{SpellsCommand}
 use Rattle.log_lines.specs.declared.command.Command.TheVariants as command
 use Rattle.session.specs.History.{fresh}
-use Rattle.session.specs.State.{State, state}
+use Rattle.session.specs.State.{SessionState, state}
 use Rattle.table_machine.specs.State as tables
 use Rattle.table_machine.proofs.Lists.{Contains-head}
 use Rattle.causes.specs.Accepted.{IsAccepted}
@@ -54,7 +54,7 @@ bucket_is = refl
 abbrev entry : Entry
 entry = record { time = 1700000000; services = 1; peer = peer 8333 }
 
-abbrev pub start : State
+abbrev pub start : SessionState
 start = state Main (record { tables = tables.empty_state zeros; clock = 1700000000 }) None
 
 abbrev payload_text : List ℕ
@@ -71,7 +71,7 @@ is_teller : IsAddrText (codes "1.2.3.4") teller
 unfolding digits
 is_teller = dotted (record { bits = 0x01020304; bits_text = (omega arith, refl); address = refl })
 
-spelled : Spells line (command.Addr teller payload (5 ∷ []))
+spelled : SpellsCommand line (command.Addr teller payload (5 ∷ []))
 unfolding decode_pairs digits
 spelled = (
   codes "addr",

@@ -15,7 +15,7 @@ use Rattle.wire_num.proofs.ReadingLaws.{AreBytes}
 use Rattle.addr_codecs.specs.Entries.{IsEntry}
 use Rattle.addr_codecs.specs.Layout.{IsAddrMessage, IsAddrv2Message}
 use Rattle.grammar.specs.Fields.{AllMean, Hex, Kind, Means, OfAddr, OfPeer, Random, TheAddr, TheBytes, TheNumber, Value, ThePeer, TheWords, u32_field, u64_field}
-use Rattle.log_lines.specs.Spelling.{Spells}
+use Rattle.log_lines.specs.Spelling.{SpellsCommand}
 use Rattle.log_lines.proofs.OneMeaning.{AreFieldsOf, fields_of_line}
 use Rattle.log_lines.specs.declared.command.Command.{Command}
 use Rattle.log_lines.specs.declared.command.Command.TheVariants as command
@@ -86,5 +86,5 @@ means-fit (command.Services peer services) texts h =
     omega (arith, same, most)
 means-fit other texts h = tt
 
-pub spelled-fits : (line : List ℕ) (asked : Command) → Spells line asked → IsFit asked
+pub spelled-fits : (line : List ℕ) (asked : Command) → SpellsCommand line asked → IsFit asked
 spelled-fits line asked h = means-fit asked h.1 (fields_of_line line asked h)

@@ -7,14 +7,14 @@ use Rattle.placing.specs.Places.{Places}
 use Rattle.peer_rec.specs.Rec.{buckets_of}
 use Rattle.peer_rec.specs.Snapshot.{Snapshot}
 use Rattle.peer_rec.specs.declared.rec.Rec.{Rec}
-use Rattle.log_lines.specs.Spelling.{Spells}
+use Rattle.log_lines.specs.Spelling.{SpellsCommand}
 use Rattle.log_lines.specs.declared.command.Command.{Command}
 use Rattle.log_lines.specs.declared.reply.Reply.{Reply}
 use Rattle.manager.specs.Machine.{Machine}
 use Rattle.manager.specs.Step as manager
-use Rattle.session.specs.History.{History, Step, fresh}
+use Rattle.session.specs.History.{History, HistoryStep, fresh}
 use Rattle.log_run.specs.Run.{Run}
-use Rattle.session.specs.State.{State}
+use Rattle.session.specs.State.{SessionState}
 use Rattle.table_machine.specs.Sound.{IsSound}
 use Rattle.table_machine.specs.State as tables
 use Rattle.causes.specs.Accepted.{Accepts, IsAccepted}
@@ -40,17 +40,17 @@ more-causes One Two Listed places number peer own b more (InFile listed) = InFil
 
 -- over a line tried records stay, or are displaced
 line-keeps_tried : (old : History) (line text : List ℕ) (new : History) → IsSound old.now.machine.tables → old.now.machine.clock < 2 ^ 32
-    → Step old line text new → KeepsTried old.now.machine line new.now.machine
+    → HistoryStep old line text new → KeepsTried old.now.machine line new.now.machine
 line-keeps_tried old line text new sound low step r has tried = ⊎_elim same moved (line_moves old line text new step)
   where
     same : new.now.machine ≡ old.now.machine → StaysTried new.now.machine.tables r ⊎ IsDisplaced old.now.machine line new.now.machine r
     same is = inl (r, subst (λ (m : Machine). Contains m.tables.records r) (sym is) has, refl, refl, tried)
 
-    moved : ((asked : Command) × (answer : Reply) × Spells line asked × manager.Step old.now.machine asked answer new.now.machine)
+    moved : ((asked : Command) × (answer : Reply) × SpellsCommand line asked × manager.Step old.now.machine asked answer new.now.machine)
         → StaysTried new.now.machine.tables r ⊎ IsDisplaced old.now.machine line new.now.machine r
     moved h = ⊎_elim inl (λ taken. inr (h.0, h.2, taken)) (step-keeps_tried old.now.machine h.0 h.1 new.now.machine sound low h.3 r has tried)
 
-module _ (file : Option Snapshot) (places : Places) (st : State) (opening : IsOpening file places st) where
+module _ (file : Option Snapshot) (places : Places) (st : SessionState) (opening : IsOpening file places st) where
   abbrev C : List (List ℕ) → ℕ → Peer → Address → ℕ → Type 0
   C lines = IsCaused (IsAccepted st lines) (IsListed file places) places
 
@@ -69,8 +69,8 @@ module _ (file : Option Snapshot) (places : Places) (st : State) (opening : IsOp
     caused = subst (λ (t : tables.State). Holds (C []) places t) (sym opening.tables) (opened-caused (IsAccepted st []) file places);
   }
 
-  module _ (done : List (List ℕ)) (text : List ℕ) (mid : History) (run : Run Step (fresh st) done text mid) (kept : IsKept done mid) (few : length done < 2 ^ 30)
-      (line reply : List ℕ) (next : History) (step : Step mid line reply next) where
+  module _ (done : List (List ℕ)) (text : List ℕ) (mid : History) (run : Run HistoryStep (fresh st) done text mid) (kept : IsKept done mid) (few : length done < 2 ^ 30)
+      (line reply : List ℕ) (next : History) (step : HistoryStep mid line reply next) where
     abbrev longer : List (List ℕ)
     longer = done ++ line ∷ []
 
@@ -91,7 +91,7 @@ module _ (file : Option Snapshot) (places : Places) (st : State) (opening : IsOp
       accepts = a.accepts;
     }
 
-    now : (asked : Command) → Spells line asked → (p : Peer) (s : Address) → Accepts mid.now.machine asked p s → IsAccepted st longer p s
+    now : (asked : Command) → SpellsCommand line asked → (p : Peer) (s : Address) → Accepts mid.now.machine asked p s → IsAccepted st longer p s
     now asked spells p s accepts = record {
       before = done;
       line = line;
@@ -127,7 +127,7 @@ module _ (file : Option Snapshot) (places : Places) (st : State) (opening : IsOp
               caused = subst (λ (m : Machine). Holds (C longer) places m.tables) as_before before;
             }
 
-        moved : ((asked : Command) × (answer : Reply) × Spells line asked × manager.Step mid.now.machine asked answer next.now.machine) → IsKept longer next
+        moved : ((asked : Command) × (answer : Reply) × SpellsCommand line asked × manager.Step mid.now.machine asked answer next.now.machine) → IsKept longer next
         moved h =
             let sound = step-sound mid.now.machine h.0 h.1 next.now.machine kept.sound kept.clock (omega (arith, numbers, low, few)) (spelled-fits line h.0 h.2) h.3 in
             let most = sound.0.1 in
@@ -140,15 +140,15 @@ module _ (file : Option Snapshot) (places : Places) (st : State) (opening : IsOp
                   (λ peer source accepts number own. Told source (now h.0 h.2 peer source accepts) refl) before h.3;
             }
 
-  kept-after : (done lines : List (List ℕ)) (text more : List ℕ) (mid h : History) → Run Step (fresh st) done text mid → IsKept done mid → length done + length lines ≤ 2 ^ 30
-      → Run Step mid lines more h → IsKept (done ++ lines) h
+  kept-after : (done lines : List (List ℕ)) (text more : List ℕ) (mid h : History) → Run HistoryStep (fresh st) done text mid → IsKept done mid → length done + length lines ≤ 2 ^ 30
+      → Run HistoryStep mid lines more h → IsKept (done ++ lines) h
   kept-after done [] text more mid h run kept few rest =
       subst (λ ls. IsKept ls h) (sym (append-nil done)) (subst (IsKept done) (sym rest.1) kept)
   kept-after done (line ∷ lines) text more mid h run kept few rest =
       let longer = length-append done (line ∷ []) in
       subst (λ ls. IsKept ls h) (append_assoc done (line ∷ []) lines)
       (kept-after (done ++ line ∷ []) lines (text ++ rest.0) rest.1 rest.2 h
-      (Run-more Step done (fresh st) mid rest.2 line text rest.0 run rest.4)
+      (Run-more HistoryStep done (fresh st) mid rest.2 line text rest.0 run rest.4)
       (kept-more done text mid run kept (omega (arith, few)) line rest.0 rest.2 rest.4) (omega (arith, few, longer)) rest.5)
 
   kept-at : (lines before : List (List ℕ)) (h : History) → IsAfter st lines before h → IsKept before h

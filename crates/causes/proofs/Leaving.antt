@@ -13,7 +13,7 @@ use Rattle.peer_rec.specs.Rec.{is_tried}
 use Rattle.peer_rec.specs.declared.rec.Rec.{Rec}
 use Rattle.peer_rec.specs.declared.place.Place.{Place}
 use Rattle.peer_rec.specs.declared.place.Place.TheVariants.{New, Tried}
-use Rattle.log_lines.specs.Spelling.{Spells}
+use Rattle.log_lines.specs.Spelling.{SpellsCommand}
 use Rattle.log_lines.specs.declared.command.Command.TheVariants as command
 use Rattle.manager.specs.Machine.{Machine}
 use Rattle.table_machine.specs.State.{State, empty_state}
@@ -74,7 +74,7 @@ is_peer = record {
   spelled = refl;
 }
 
-spelled : Spells line (command.Good (peer 873) false)
+spelled : SpellsCommand line (command.Good (peer 873) false)
 spelled = (codes "good", codes "8.8.8.8:873" ∷ codes "force" ∷ [], refl, (refl, ((peer 873, refl, is_peer), ((false, refl, refl), tt))))
 
 abbrev newcomer : Rec

@@ -17,7 +17,7 @@ use Rattle.peer_rec.specs.declared.rec.Rec.{Rec}
 use Rattle.peer_rec.specs.declared.place.Place.TheVariants.{New, Tried}
 use Rattle.table_machine.specs.State.{State, empty_state, by_number, new_rec_at, tried_occupant}
 use Rattle.table_machine.specs.Entries.{delete, with_last, with_record}
-use Rattle.table_machine.specs.Restoring.{appended, drop_all, drop_record, give_or, give_if_empty, place_all, place_pair, place_record, record_of, restored, uses_buckets, with_all_new, with_all_tried, with_new, with_tried}
+use Rattle.table_machine.specs.Restoring.{with_records, drop_all, drop_record, give_or, give_if_empty, place_all, place_pair, place_record, record_of, restored, uses_buckets, with_all_new, with_all_tried, with_new, with_tried}
 use Rattle.table_machine.proofs.Buckets.{placed}
 use Rattle.table_machine.proofs.Lists.{Contains-head, Contains-tail, none_in_nil}
 use Rattle.table_machine.proofs.Records.{changed_cases, number_found, without_number-cases}
@@ -57,8 +57,8 @@ tried-bare places st (r ∷ rs) h = tried-bare places (with_tried st r) rs (by (
     by true = h
     by false = last-bare places st (record_of r st.next_number Tried) h (λ b c. none_in_nil b c)
 
-appended-bare : (snap : Snapshot) (places : Places) → AreBare places (appended snap places)
-appended-bare snap places =
+with_records-bare : (snap : Snapshot) (places : Places) → AreBare places (with_records snap places)
+with_records-bare snap places =
     tried-bare places (with_all_new (empty_state places) snap.new_recs) snap.tried_recs
     (new-bare places (empty_state places) snap.new_recs (refl, λ r c. absurd (none_in_nil r c)))
 
@@ -74,7 +74,7 @@ module _ (Accepted : Peer → Address → Type 0) (snap : Snapshot) (places : Pl
 
   -- a record of the file has the number and the peer
   abbrev IsOfFile : Rec → Type 0
-  IsOfFile r = (q : Rec) × Contains (appended snap places).records q × (q.peer ≡ r.peer) × (q.number ≡ r.number)
+  IsOfFile r = (q : Rec) × Contains (with_records snap places).records q × (q.peer ≡ r.peer) × (q.number ≡ r.number)
 
   abbrev P : Rec → Type 0
   P r = EachBucket C r × IsOfFile r
@@ -139,9 +139,9 @@ module _ (Accepted : Peer → Address → Type 0) (snap : Snapshot) (places : Pl
 
   restored-holds : H (restored snap places)
   restored-holds =
-      let bare = appended-bare snap places in
-      dropped-hold (place_all (uses_buckets snap places) (appended snap places) snap.listed) (range_with_len 0 (length snap.new_recs))
-      (pairs-hold (appended snap places) snap.listed (λ p c. c) (bare.0, λ r c. (λ b l. absurd (bare.1 r c b l), (r, c, refl, refl))))
+      let bare = with_records-bare snap places in
+      dropped-hold (place_all (uses_buckets snap places) (with_records snap places) snap.listed) (range_with_len 0 (length snap.new_recs))
+      (pairs-hold (with_records snap places) snap.listed (λ p c. c) (bare.0, λ r c. (λ b l. absurd (bare.1 r c b l), (r, c, refl, refl))))
 
 -- each bucket that a run begins with
 pub opened-caused : (Accepted : Peer → Address → Type 0) (file : Option Snapshot) (places : Places)

@@ -4,14 +4,14 @@ use Rattle.net_addr.specs.Address.{Address}
 use Rattle.net_addr.specs.declared.entry.Entry.{Entry}
 use Rattle.net_addr.specs.declared.peer.Peer.{Peer}
 use Rattle.addr_codecs.specs.Layout.{IsAddrMessage, IsAddrv2Message}
-use Rattle.log_lines.specs.Spelling.{Spells}
+use Rattle.log_lines.specs.Spelling.{SpellsCommand}
 use Rattle.log_lines.specs.declared.command.Command.{Command}
 use Rattle.log_lines.specs.declared.command.Command.TheVariants as command
 use Rattle.manager.specs.Machine.{Machine}
 use Rattle.manager.specs.Messages.{take_entry}
-use Rattle.session.specs.History.{History, Step, fresh}
+use Rattle.session.specs.History.{History, HistoryStep, fresh}
 use Rattle.log_run.specs.Run.{Run}
-use Rattle.session.specs.State.{State}
+use Rattle.session.specs.State.{SessionState}
 use Rattle.table_machine.specs.State as tables
 
 -- the peer of an entry that got a slot
@@ -44,7 +44,7 @@ Accepts old other peer source = ⊥
 -- One of the lines is a message from the source, and an entry for the peer got a slot when the run
 -- came to this line. (How saves ended before it makes no difference: they leave the machine as it
 -- is.)
-pub record IsAccepted (st : State) (lines : List (List ℕ)) (peer : Peer)
+pub record IsAccepted (st : SessionState) (lines : List (List ℕ)) (peer : Peer)
     (source : Address) : Type 0 where
   pub before : List (List ℕ)
   pub line : List ℕ
@@ -52,7 +52,7 @@ pub record IsAccepted (st : State) (lines : List (List ℕ)) (peer : Peer)
   pub cut : lines ≡ before ++ line ∷ after
   pub text : List ℕ
   pub at : History
-  pub run : Run Step (fresh st) before text at
+  pub run : Run HistoryStep (fresh st) before text at
   pub asked : Command
-  pub spells : Spells line asked
+  pub spells : SpellsCommand line asked
   pub accepts : Accepts at.now.machine asked peer source

@@ -6,7 +6,7 @@ use Rattle.placing.specs.Places.{Places, group, group_buckets, new_bucket, sourc
 use Rattle.peer_rec.specs.Rec.{buckets_of, is_tried}
 use Rattle.peer_rec.specs.Snapshot.{Snapshot}
 use Rattle.peer_rec.specs.declared.rec.Rec.{Rec}
-use Rattle.table_machine.specs.Restoring.{appended}
+use Rattle.table_machine.specs.Restoring.{with_records}
 use Rattle.table_machine.specs.State.{State}
 
 -- The file lists the bucket for the record of this number and peer: its buckets are as many as in
@@ -16,7 +16,7 @@ abbrev pub IsListed : Option Snapshot → Places → ℕ → Peer → ℕ → Ty
 IsListed None places number peer bucket = ⊥
 IsListed (Some snap) places number peer bucket =
     (snap.bucket_count ≡ 1024) × (snap.sum ≡ sum_of places.map)
-    × ((r : Rec) × Contains (appended snap places).records r
+    × ((r : Rec) × Contains (with_records snap places).records r
     × (r.number ≡ number) × (r.peer ≡ peer))
     × Contains snap.listed (bucket, number)
 

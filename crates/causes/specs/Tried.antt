@@ -3,7 +3,7 @@ use Rattle.std.specs.Prelude.{◌≡◌, ◌≢◌, ◌⊎◌, ℕ, ◌+◌, ◌
 use Rattle.placing.specs.Places.{tried_bucket, tried_slot}
 use Rattle.peer_rec.specs.Rec.{is_tried}
 use Rattle.peer_rec.specs.declared.rec.Rec.{Rec}
-use Rattle.log_lines.specs.Spelling.{Spells}
+use Rattle.log_lines.specs.Spelling.{SpellsCommand}
 use Rattle.log_lines.specs.declared.command.Command.{Command}
 use Rattle.log_lines.specs.declared.command.Command.TheVariants as command
 use Rattle.manager.specs.Machine.{Machine}
@@ -35,7 +35,7 @@ MayDisplace old other r q = ⊥
 -- a record leaves the tried table in this line, for another one of its slot
 abbrev pub IsDisplaced : Machine → List ℕ → Machine → Rec → Type 0
 IsDisplaced old line new r =
-    (asked : Command) × Spells line asked
+    (asked : Command) × SpellsCommand line asked
     × ((q : Rec) × TakesSlot new.tables r q × MayDisplace old asked r q)
 
 -- each tried record stays in the tried table over a line, unless it is displaced

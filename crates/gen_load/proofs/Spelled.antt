@@ -29,7 +29,7 @@ use Rattle.addr_codecs.proofs.TextLaws.{FitsAddr, of_addr_entry, of_message}
 use Rattle.wire_num.proofs.ReadingLaws.{AreBytes-all, one_meaning}
 use Rattle.grammar.specs.Fields.{AreWords}
 use Rattle.grammar.specs.Random.{seeded_words}
-use Rattle.log_lines.specs.Spelling.{Spells}
+use Rattle.log_lines.specs.Spelling.{SpellsCommand}
 use Rattle.log_lines.specs.declared.command.Command.{Command}
 use Rattle.log_lines.specs.declared.command.Command.TheVariants as command
 use Rattle.grammar.proofs.WordLemmas.{decimal-lacks}
@@ -96,7 +96,7 @@ peer_drawn at = draw-small 16384 at (omega arith)
 
 -- the text spells a command that logs have
 abbrev pub HasCommand : List ℕ → Type 0
-HasCommand text = (c : Command) × IsDrawn c × Spells text c
+HasCommand text = (c : Command) × IsDrawn c × SpellsCommand text c
 
 pub now_spells : (time : ℕ) → time < 2 ^ 32 → HasCommand (codes "now " ++ decimal time)
 now_spells time small = (

@@ -3,7 +3,7 @@ use Rattle.std.specs.Prelude.{◌≡◌, ◌≢◌, ℕ, ◌-◌, ◌≤◌, Lis
 use Rattle.net_addr.specs.Ranges.{is_routable}
 use Rattle.net_addr.specs.declared.entry.Entry.{Entry}
 use Rattle.addr_codecs.specs.Layout.{IsAddrMessage}
-use Rattle.log_lines.specs.Spelling.{Spells}
+use Rattle.log_lines.specs.Spelling.{SpellsCommand}
 use Rattle.log_lines.specs.declared.command.Command.{Command}
 use Rattle.log_lines.specs.declared.command.Command.TheVariants as command
 use Rattle.gen_load.specs.declared.generated.TheConstants.{MAX_LENGTH}
@@ -34,8 +34,8 @@ pub record IsLine (line : List ℕ) : Type 0 where
   pub one_line : All (λ b. b ≢ 10) text
   pub short : length line ≤ MAX_LENGTH
   pub command : Command
-  pub spells : Spells text command
-  pub only : (other : Command) → Spells text other → other ≡ command
+  pub spells : SpellsCommand text command
+  pub only : (other : Command) → SpellsCommand text other → other ≡ command
   pub drawn : IsDrawn command
 
 -- a line without its line feed

@@ -8,9 +8,9 @@ use Rattle.std.proofs.lemmas.List.Elements.{All-nil, All-cons, All-head, All-tai
 use Rattle.std.proofs.lemmas.List.Quantifiers.{all_pairs_push}
 use Rattle.std.proofs.lemmas.List.Splits.{slice_split_at, slice_split_none, join_with_byte-slice_split, length-slice_split}
 use Rattle.std.proofs.lemmas.List.Sums.{fold-append, AllPass-from_list_all}
-use Rattle.net_addr.specs.Address.{number_of}
+use Rattle.net_addr.specs.Address.{net_number}
 use Rattle.net_addr.specs.Text.{net_name}
-use Rattle.net_addr.specs.NetSet.{all, none, with, has, has_number}
+use Rattle.net_addr.specs.NetSet.{all, none, with_net, has, has_number}
 use Rattle.net_addr.specs.declared.net.Net.{Net}
 use Rattle.net_addr.specs.declared.net.Net.TheVariants.{Unroutable, Ipv4, Ipv6, Onion, I2p, Cjdns, Internal}
 use Rattle.net_addr.proofs.NetSets.{has_number-filter}
@@ -57,7 +57,7 @@ net_at number =
     else if number == 5 then Cjdns
     else Internal
 
-net_at_back : (net : Net) → net_at (number_of net) ≡ net
+net_at_back : (net : Net) → net_at (net_number net) ≡ net
 unfolding net_at
 net_at_back Unroutable = refl
 net_at_back Ipv4 = refl
@@ -67,7 +67,7 @@ net_at_back I2p = refl
 net_at_back Cjdns = refl
 net_at_back Internal = refl
 
-same_number : (a b : Net) → number_of a ≡ number_of b → a ≡ b
+same_number : (a b : Net) → net_number a ≡ net_number b → a ≡ b
 same_number a b e = sym (net_at_back a) ∙ ap net_at e ∙ net_at_back b
 
 no_all : (net : Net) → codes "all" ≡ net_name net → ⊥
@@ -154,7 +154,7 @@ apart (x ∷ xs) later net h =
 
 -- ---- sets
 
-has-all : (net : Net) → has_number all (number_of net) ≡ true
+has-all : (net : Net) → has_number all (net_number net) ≡ true
 has-all Unroutable = refl
 has-all Ipv4 = refl
 has-all Ipv6 = refl
@@ -163,30 +163,30 @@ has-all I2p = refl
 has-all Cjdns = refl
 has-all Internal = refl
 
-has-with : (set : List ℕ) (n m : Net) → has (with set n) m ≡ (has set m || (number_of m == number_of n))
+has-with : (set : List ℕ) (n m : Net) → has (with_net set n) m ≡ (has set m || (net_number m == net_number n))
 has-with set n m =
-    has_number-filter (λ k. has_number set k || (k == number_of n)) (number_of m) all
-    ∙ ap (λ b. b && (has_number set (number_of m) || (number_of m == number_of n))) (has-all m)
+    has_number-filter (λ k. has_number set k || (k == net_number n)) (net_number m) all
+    ∙ ap (λ b. b && (has_number set (net_number m) || (net_number m == net_number n))) (has-all m)
 
 or_false : (a b : Bool) → (a || b) ≡ false → (a ≡ false) × (b ≡ false)
 or_false true b h = absurd (true≢false h)
 or_false false b h = (refl, h)
 
 -- what the set of some networks lacks is none of them
-pub set_lacks : (nets : List Net) (set : List ℕ) (net : Net) → has (fold with set nets) net ≡ false → (has set net ≡ false) × All (λ n. n ≢ net) nets
+pub set_lacks : (nets : List Net) (set : List ℕ) (net : Net) → has (fold with_net set nets) net ≡ false → (has set net ≡ false) × All (λ n. n ≢ net) nets
 set_lacks [] set net h = (h, All-nil (λ n. n ≢ net))
 set_lacks (n ∷ nets) set net h =
-    let rest = set_lacks nets (with set n) net h in
-    let parts = or_false (has set net) (number_of net == number_of n) (sym (has-with set n net) ∙ rest.0) in
-    (parts.0, All-cons (λ m. m ≢ net) n nets (λ e. true≢false (sym (eq-eqb (number_of net) (number_of n) (ap number_of (sym e))) ∙ parts.1)) rest.1)
+    let rest = set_lacks nets (with_net set n) net h in
+    let parts = or_false (has set net) (net_number net == net_number n) (sym (has-with set n net) ∙ rest.0) in
+    (parts.0, All-cons (λ m. m ≢ net) n nets (λ e. true≢false (sym (eq-eqb (net_number net) (net_number n) (ap net_number (sym e))) ∙ parts.1)) rest.1)
 
 -- and the other way round
-pub lacks_others : (nets : List Net) (set : List ℕ) (net : Net) → has set net ≡ false → All (λ n. n ≢ net) nets → has (fold with set nets) net ≡ false
+pub lacks_others : (nets : List Net) (set : List ℕ) (net : Net) → has set net ≡ false → All (λ n. n ≢ net) nets → has (fold with_net set nets) net ≡ false
 lacks_others [] set net h others = h
 lacks_others (n ∷ nets) set net h others =
-    let apart = ne_eqb (number_of net) (number_of n) (λ e. All-head (λ m. m ≢ net) n nets others (same_number n net (sym e))) in
-    lacks_others nets (with set n) net
-    (has-with set n net ∙ ap (λ b. b || (number_of net == number_of n)) h ∙ apart)
+    let apart = ne_eqb (net_number net) (net_number n) (λ e. All-head (λ m. m ≢ net) n nets others (same_number n net (sym e))) in
+    lacks_others nets (with_net set n) net
+    (has-with set n net ∙ ap (λ b. b || (net_number net == net_number n)) h ∙ apart)
     (All-tail (λ m. m ≢ net) n nets others)
 
 -- ---- a reading of names
@@ -208,7 +208,7 @@ so_far_none text = record {
 
 -- one name more
 pub so_far_next : (text : List ℕ) (rest after : Option (Bor (List ℕ))) (set name : List ℕ) (net : Net) → SoFar text rest set →
-    pieces_after 44 rest ≡ name ∷ pieces_after 44 after → name ≡ net_name net → has set net ≡ false → SoFar text after (with set net)
+    pieces_after 44 rest ≡ name ∷ pieces_after 44 after → name ≡ net_name net → has set net ≡ false → SoFar text after (with_net set net)
 so_far_next text rest after set name net s cut is lacks = record {
   nets = s.nets ++ net ∷ [];
   pieces = s.pieces
@@ -216,7 +216,7 @@ so_far_next text rest after set name net s cut is lacks = record {
       ∙ sym (append_assoc (map net_name s.nets) (net_name net ∷ []) (pieces_after 44 after))
       ∙ ap (λ ps. ps ++ pieces_after 44 after) (sym (map-append net_name s.nets (net ∷ [])));
   once = all_pairs_push (λ a b. a ≢ b) s.nets net s.once (set_lacks s.nets none net (subst (λ t. has t net ≡ false) s.same lacks)).1;
-  same = ap (λ t. with t net) s.same ∙ sym (fold-append with none s.nets (net ∷ []));
+  same = ap (λ t. with_net t net) s.same ∙ sym (fold-append with_net none s.nets (net ∷ []));
 }
 
 pieces_too : (text : List ℕ) (rest after : Option (Bor (List ℕ))) (set name : List ℕ) (ys : List Net) → (s : SoFar text rest set) →

@@ -3,7 +3,7 @@ use Rattle.std.specs.Prelude.{◌≡◌, ◌⊎◌, ◌≢◌, ℕ, ◌<◌, ◌
 use Rattle.std.specs.List.{join_with_byte}
 use Rattle.hex.specs.Hex.{decode_of}
 use Rattle.net_addr.specs.Address.{Address}
-use Rattle.net_addr.specs.NetSet.{all, none, with}
+use Rattle.net_addr.specs.NetSet.{all, none, with_net}
 use Rattle.net_addr.specs.Text.{net_name, IsAddrText, IsPeerText}
 use Rattle.net_addr.specs.declared.net.Net.{Net}
 use Rattle.net_addr.specs.declared.net.Net.TheVariants.{Unroutable}
@@ -71,7 +71,7 @@ pub record AreNames (text : List ℕ) (nets : List Net) : Type 0 where
 
 -- the set of the networks that are named
 abbrev pub set_of : List Net → List ℕ
-set_of nets = fold with none nets
+set_of nets = fold with_net none nets
 
 -- `all`, or the names of classes of addresses
 abbrev pub AreClasses : List ℕ → List ℕ → Type 0

@@ -26,7 +26,7 @@ use Rattle.table_machine.proofs.Reached.{good-sound}
 use Rattle.table_machine.proofs.Rest.{add-rest}
 use Rattle.table_machine.proofs.Folds.{clash_pick-keeps, sample-keeps}
 use Rattle.causes.proofs.Fits.{IsFit, IsFitMessage}
-use Rattle.laws.specs.Losses.{IsThere, LosesBySuccess}
+use Rattle.laws.specs.Losses.{HasRecord, LosesBySuccess}
 use Rattle.laws.specs.LostLines.{LosesAt, LosesBy, LosesByDecisions, LosesByEntries}
 use Rattle.laws.proofs.There.{entry_there, itself, marked_there, success_there, there-trans}
 
@@ -47,8 +47,8 @@ entry_sound st now (Some entry) source word sound room low from fits =
     let f = clamped-fits entry now low (fits entry refl) in
     (sound_add st now e source message_penalty word sound room f.addr f.port from f.time f.services, (add-rest st now e source message_penalty word).most)
 
-entry_over : (st : State) (now : ℕ) (entry : Option Entry) (source : Address) (word : ℕ) → IsSound st → (r : Rec) → IsThere st r
-    → IsThere (take_entry st now entry source word).state r ⊎ LosesAt st now entry (take_entry st now entry source word).state r
+entry_over : (st : State) (now : ℕ) (entry : Option Entry) (source : Address) (word : ℕ) → IsSound st → (r : Rec) → HasRecord st r
+    → HasRecord (take_entry st now entry source word).state r ⊎ LosesAt st now entry (take_entry st now entry source word).state r
 entry_over st now None source word sound r there = inl there
 entry_over st now (Some entry) source word sound r there =
     let e = clamp_time entry now in
@@ -56,8 +56,8 @@ entry_over st now (Some entry) source word sound r there =
     (entry_there st sound now e source message_penalty word there.0 there.1)
 
 pub entries_over : (st : State) (now : ℕ) (entries : List (Option Entry)) (source : Address) (words : List ℕ) → IsSound st → st.next_number + length entries < 2 ^ 63 → now < 2 ^ 32 → IsAddress source
-    → ((e : Entry) → Contains entries (Some e) → IsEntry e) → (r : Rec) → IsThere st r
-    → IsThere (take_entries st now entries source words).state r ⊎ LosesByEntries st now entries source words r
+    → ((e : Entry) → Contains entries (Some e) → IsEntry e) → (r : Rec) → HasRecord st r
+    → HasRecord (take_entries st now entries source words).state r ⊎ LosesByEntries st now entries source words r
 entries_over st now [] source words sound room low from fits r there = inl there
 entries_over st now (entry ∷ entries) source [] sound room low from fits r there = inl there
 entries_over st now (entry ∷ entries) source (word ∷ words) sound room low from fits r there =
@@ -73,9 +73,9 @@ erased_lost st new number r l = (l.0, record { bucket = l.1.bucket; last = l.1.l
 module _ (now : ℕ) (low : now < 2 ^ 32) (r : Rec) where
   -- one decision, and that it leaves a sound state
   abbrev Over : State → State → Type 0
-  Over st new = IsSound new × (IsThere new r ⊎ ((was : IsThere st r) × LosesBySuccess st new was.0))
+  Over st new = IsSound new × (HasRecord new r ⊎ ((was : HasRecord st r) × LosesBySuccess st new was.0))
 
-  decision_over : (st : State) (number : ℕ) → IsSound st → IsThere st r → (fate : Fate) (o : Option Rec) → Over st (after_fate fate st o number now)
+  decision_over : (st : State) (number : ℕ) → IsSound st → HasRecord st r → (fate : Fate) (o : Option Rec) → Over st (after_fate fate st o number now)
   decision_over st number sound there Erased o = (erase_clash-sound st number sound, inl there)
   decision_over st number sound there Kept o = (sound, inl there)
   decision_over st number sound there Moved None = (erase_clash-sound st number sound, inl there)
@@ -86,8 +86,8 @@ module _ (now : ℕ) (low : now < 2 ^ 32) (r : Rec) where
             (success_there st sound now newcomer.peer false there.0 there.1),
       )
 
-  pub decisions_over : (st : State) (numbers : List ℕ) → IsSound st → IsThere st r
-      → IsThere (resolve_all st now numbers).state r ⊎ LosesByDecisions st now numbers r
+  pub decisions_over : (st : State) (numbers : List ℕ) → IsSound st → HasRecord st r
+      → HasRecord (resolve_all st now numbers).state r ⊎ LosesByDecisions st now numbers r
   decisions_over st [] sound there = inl there
   decisions_over st (number ∷ numbers) sound there =
       let newcomer = by_number st number in
@@ -99,32 +99,32 @@ module _ (now : ℕ) (low : now < 2 ^ 32) (r : Rec) where
 -- a message
 message_over : (IsMessage : List (Option Entry) → Type 0) (HasFault : MsgFault → Type 0) (old : Machine) (source : Address) (words : List ℕ) (answer : Reply) (new : Machine)
     → IsSound old.tables → old.clock < 2 ^ 32 → old.tables.next_number < 2 ^ 62 → IsFitMessage IsMessage source
-    → MessageStep IsMessage HasFault old source words answer new → (r : Rec) → IsThere old.tables r
-    → IsThere new.tables r ⊎ ((entries : List (Option Entry)) × IsMessage entries × LosesByEntries old.tables old.clock entries source words r)
+    → MessageStep IsMessage HasFault old source words answer new → (r : Rec) → HasRecord old.tables r
+    → HasRecord new.tables r ⊎ ((entries : List (Option Entry)) × IsMessage entries × LosesByEntries old.tables old.clock entries source words r)
 message_over IsMessage HasFault old source words answer new sound low room fits step r there =
     ⊎_elim (λ refused. same refused.4)
     (λ taken. ⊎_elim (λ short. same short.2)
     (λ all.
     let few = (fits.1 taken.0 taken.1).0 in
-    ⊎_elim (λ t. inl (subst (λ (m : Machine). IsThere m.tables r) (sym all.2) t)) (λ l. inr (taken.0, taken.1, l))
+    ⊎_elim (λ t. inl (subst (λ (m : Machine). HasRecord m.tables r) (sym all.2) t)) (λ l. inr (taken.0, taken.1, l))
     (entries_over old.tables old.clock taken.0 source words sound (omega (arith, few, room)) low fits.0 (fits.1 taken.0 taken.1).1 r there)) taken.2) step
   where
-    same : new ≡ old → IsThere new.tables r ⊎ ((entries : List (Option Entry)) × IsMessage entries × LosesByEntries old.tables old.clock entries source words r)
-    same is = inl (subst (λ (m : Machine). IsThere m.tables r) (sym is) there)
+    same : new ≡ old → HasRecord new.tables r ⊎ ((entries : List (Option Entry)) × IsMessage entries × LosesByEntries old.tables old.clock entries source words r)
+    same is = inl (subst (λ (m : Machine). HasRecord m.tables r) (sym is) there)
 
 -- a command
 pub command_over : (old : Machine) (asked : Command) (answer : Reply) (new : Machine) → IsSound old.tables → old.clock < 2 ^ 32 → old.tables.next_number < 2 ^ 62
-    → IsFit asked → Step old asked answer new → (r : Rec) → Contains old.tables.records r → IsThere new.tables r ⊎ LosesBy old asked r
+    → IsFit asked → Step old asked answer new → (r : Rec) → Contains old.tables.records r → HasRecord new.tables r ⊎ LosesBy old asked r
 command_over old asked answer new sound low room fits step r has = by asked fits step
   where
-    there : IsThere old.tables r
+    there : HasRecord old.tables r
     there = itself old.tables r has
 
     -- a step to these tables, where the record is
-    to : (c : Command) (m : Machine) → new ≡ m → IsThere m.tables r → IsThere new.tables r ⊎ LosesBy old c r
-    to c m is t = inl (subst (λ (m : Machine). IsThere m.tables r) (sym is) t)
+    to : (c : Command) (m : Machine) → new ≡ m → HasRecord m.tables r → HasRecord new.tables r ⊎ LosesBy old c r
+    to c m is t = inl (subst (λ (m : Machine). HasRecord m.tables r) (sym is) t)
 
-    by : (c : Command) → IsFit c → Step old c answer new → IsThere new.tables r ⊎ LosesBy old c r
+    by : (c : Command) → IsFit c → Step old c answer new → HasRecord new.tables r ⊎ LosesBy old c r
     by (command.Now time) fit h = to (command.Now time) _ h.1 there
     by (command.Addr source payload words) fit h = message_over (IsAddrMessage payload) (HasAddrFault payload) old source words answer new sound low room fit h r there
     by (command.Addr2 source payload words) fit h = message_over (IsAddrv2Message payload) (HasAddrv2Fault payload) old source words answer new sound low room fit h r there
@@ -142,9 +142,9 @@ command_over old asked answer new sound low room fits step r has = by asked fits
     by (command.Sample max pct class words) fit h =
         ⊎_elim (λ short. to (command.Sample max pct class words) old short.1.1 there)
         (λ drawn. to (command.Sample max pct class words) _ drawn.1.1
-        (sample-keeps class old.clock (λ st. IsThere st r) (λ st i j t. t) old.tables max pct words there)) h
+        (sample-keeps class old.clock (λ st. HasRecord st r) (λ st i j t. t) old.tables max pct words there)) h
     by command.Resolve fit h =
         ⊎_elim (to command.Resolve _ h.1) inr (decisions_over old.clock low r old.tables old.tables.collisions sound there)
-    by (command.Clash word) fit h = to (command.Clash word) _ h.1 (clash_pick-keeps old.tables (λ st. IsThere st r) there (λ number. there) word)
+    by (command.Clash word) fit h = to (command.Clash word) _ h.1 (clash_pick-keeps old.tables (λ st. HasRecord st r) there (λ number. there) word)
     by command.Dump fit h = to command.Dump old h.1 there
     by other fit h = absurd h

@@ -13,7 +13,7 @@ use Rattle.peer_rec.specs.Snapshot.{Snapshot}
 use Rattle.peer_rec.specs.declared.file_rec.FileRec.{FileRec}
 use Rattle.peer_rec.specs.declared.place.Place.TheVariants.{New, Tried}
 use Rattle.peer_rec.specs.declared.rec.Rec.{Rec}
-use Rattle.table_machine.specs.Restoring.{appended, duplicate, place_all, record_of, restored, uses_buckets, with_all_new}
+use Rattle.table_machine.specs.Restoring.{with_records, duplicate, place_all, record_of, restored, uses_buckets, with_all_new}
 use Rattle.table_machine.specs.Sound.{IsSound}
 use Rattle.table_machine.specs.State.{State, empty_state, find_peer, is_new_at, is_tried_at}
 use Rattle.table_machine.proofs.Buckets.{placed}
@@ -40,7 +40,7 @@ module _ (snap : Snapshot) (places : Places) (indexes : All (λ pair. pair.1 < l
   first = with_all_new (empty_state places) snap.new_recs
 
   abbrev whole : State
-  whole = appended snap places
+  whole = with_records snap places
 
   abbrev filled : State
   filled = place_all used whole snap.listed

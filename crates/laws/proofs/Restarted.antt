@@ -10,7 +10,7 @@ use Rattle.peer_rec.specs.declared.place.Place.{Place}
 use Rattle.peer_rec.specs.declared.place.Place.TheVariants.{New, Tried}
 use Rattle.peer_rec.specs.declared.rec.Rec.{Rec}
 use Rattle.table_machine.specs.Picks.{is_eligible, is_wanted, occupant_at}
-use Rattle.table_machine.specs.Restart.{renumbered, restart}
+use Rattle.table_machine.specs.Restart.{with_numbers, restart}
 use Rattle.table_machine.specs.Snapshot.{new_records, tried_records}
 use Rattle.table_machine.specs.Sound.{IsSound}
 use Rattle.table_machine.specs.State.{State, is_new_at, is_tried_at}
@@ -23,34 +23,34 @@ use Rattle.laws.specs.Restarts.{IsReopened, KeepsOverRestart, reopened}
 use Rattle.laws.specs.Rounds.{gap, holds}
 use Rattle.laws.proofs.Picked.{new_words, tried_words}
 
-renumbered-has : (n : ℕ) (rs : List Rec) (r : Rec) → Contains rs r → (number : ℕ) × Contains (renumbered n rs) (reopened r number)
-renumbered-has n [] r c = absurd (none_in_nil r c)
-renumbered-has n (x ∷ rs) r c =
-    let rest = renumbered-has (n + 1) rs r in
-    ⊎_elim (λ (is : x ≡ r). (n, subst (λ (y : Rec). Contains (renumbered n (x ∷ rs)) (reopened y n)) is (Contains-head (reopened x n) (renumbered (n + 1) rs))))
-    (λ later. let h = rest later in (h.0, Contains-tail (reopened x n) (renumbered (n + 1) rs) (reopened r h.0) h.1)) (Contains-cases x rs r c)
+with_numbers-has : (n : ℕ) (rs : List Rec) (r : Rec) → Contains rs r → (number : ℕ) × Contains (with_numbers n rs) (reopened r number)
+with_numbers-has n [] r c = absurd (none_in_nil r c)
+with_numbers-has n (x ∷ rs) r c =
+    let rest = with_numbers-has (n + 1) rs r in
+    ⊎_elim (λ (is : x ≡ r). (n, subst (λ (y : Rec). Contains (with_numbers n (x ∷ rs)) (reopened y n)) is (Contains-head (reopened x n) (with_numbers (n + 1) rs))))
+    (λ later. let h = rest later in (h.0, Contains-tail (reopened x n) (with_numbers (n + 1) rs) (reopened r h.0) h.1)) (Contains-cases x rs r c)
 
-renumbered-from : (n : ℕ) (rs : List Rec) (q : Rec) → Contains (renumbered n rs) q → (r : Rec) × Contains rs r × (q ≡ reopened r q.number)
-renumbered-from n [] q c = absurd (none_in_nil q c)
-renumbered-from n (x ∷ rs) q c =
-    let rest = renumbered-from (n + 1) rs q in
+with_numbers-from : (n : ℕ) (rs : List Rec) (q : Rec) → Contains (with_numbers n rs) q → (r : Rec) × Contains rs r × (q ≡ reopened r q.number)
+with_numbers-from n [] q c = absurd (none_in_nil q c)
+with_numbers-from n (x ∷ rs) q c =
+    let rest = with_numbers-from (n + 1) rs q in
     ⊎_elim (λ (is : reopened x n ≡ q). (x, Contains-head x rs, subst (λ (y : Rec). y ≡ reopened x y.number) is refl))
-    (λ later. let h = rest later in (h.0, Contains-tail x rs h.0 h.1, h.2)) (Contains-cases (reopened x n) (renumbered (n + 1) rs) q c)
+    (λ later. let h = rest later in (h.0, Contains-tail x rs h.0 h.1, h.2)) (Contains-cases (reopened x n) (with_numbers (n + 1) rs) q c)
 
-renumbered-length : (n : ℕ) (rs : List Rec) → length (renumbered n rs) ≡ length rs
-renumbered-length n [] = refl
-renumbered-length n (r ∷ rs) = let rest = renumbered-length (n + 1) rs in omega (arith, rest)
+with_numbers-length : (n : ℕ) (rs : List Rec) → length (with_numbers n rs) ≡ length rs
+with_numbers-length n [] = refl
+with_numbers-length n (r ∷ rs) = let rest = with_numbers-length (n + 1) rs in omega (arith, rest)
 
 -- what a search finds
 module _ (p : Rec → Bool) (same : (r : Rec) (n : ℕ) → p (reopened r n) ≡ p r) where
-  find-renumbered : (n : ℕ) (rs : List Rec) → IsReopened (find p rs) (find p (renumbered n rs))
-  find-renumbered n [] = refl
-  find-renumbered n (r ∷ rs) =
-      subst (λ b. IsReopened (if p r then Some r else find p rs) (if b then Some (reopened r n) else find p (renumbered (n + 1) rs))) (sym (same r n))
-      (by (p r) (find-renumbered (n + 1) rs))
+  find-with_numbers : (n : ℕ) (rs : List Rec) → IsReopened (find p rs) (find p (with_numbers n rs))
+  find-with_numbers n [] = refl
+  find-with_numbers n (r ∷ rs) =
+      subst (λ b. IsReopened (if p r then Some r else find p rs) (if b then Some (reopened r n) else find p (with_numbers (n + 1) rs))) (sym (same r n))
+      (by (p r) (find-with_numbers (n + 1) rs))
     where
-      by : (b : Bool) → IsReopened (find p rs) (find p (renumbered (n + 1) rs))
-          → IsReopened (if b then Some r else find p rs) (if b then Some (reopened r n) else find p (renumbered (n + 1) rs))
+      by : (b : Bool) → IsReopened (find p rs) (find p (with_numbers (n + 1) rs))
+          → IsReopened (if b then Some r else find p rs) (if b then Some (reopened r n) else find p (with_numbers (n + 1) rs))
       by true rest = (n, refl)
       by false rest = rest
 
@@ -128,13 +128,13 @@ module _ (st : State) where
       both_ways (not (is_tried r)) (ap not (tried_at-is_tried st.places bucket slot r at)) (Contains-from_filter untried st.records r c).1))
       ∙ find-filter (is_tried_at st.places bucket slot) is_tried (tried_at-is_tried st.places bucket slot) st.records
 
-  found : (in_new : Bool) (bucket slot : ℕ) → IsReopened (find (at_slot in_new bucket slot) all_of) (find (at_slot in_new bucket slot) (renumbered 0 all_of))
-  found true bucket slot = find-renumbered (is_new_at st.places bucket slot) (λ r n. refl) 0 all_of
-  found false bucket slot = find-renumbered (is_tried_at st.places bucket slot) (λ r n. refl) 0 all_of
+  found : (in_new : Bool) (bucket slot : ℕ) → IsReopened (find (at_slot in_new bucket slot) all_of) (find (at_slot in_new bucket slot) (with_numbers 0 all_of))
+  found true bucket slot = find-with_numbers (is_new_at st.places bucket slot) (λ r n. refl) 0 all_of
+  found false bucket slot = find-with_numbers (is_tried_at st.places bucket slot) (λ r n. refl) 0 all_of
 
   slots : (in_new : Bool) (bucket slot : ℕ) → IsReopened (occupant_at st in_new bucket slot) (occupant_at (restart st) in_new bucket slot)
-  slots true bucket slot = subst (λ o. IsReopened o (find (is_new_at st.places bucket slot) (renumbered 0 all_of))) (same_search true bucket slot) (found true bucket slot)
-  slots false bucket slot = subst (λ o. IsReopened o (find (is_tried_at st.places bucket slot) (renumbered 0 all_of))) (same_search false bucket slot) (found false bucket slot)
+  slots true bucket slot = subst (λ o. IsReopened o (find (is_new_at st.places bucket slot) (with_numbers 0 all_of))) (same_search true bucket slot) (found true bucket slot)
+  slots false bucket slot = subst (λ o. IsReopened o (find (is_tried_at st.places bucket slot) (with_numbers 0 all_of))) (same_search false bucket slot) (found false bucket slot)
 
   same_wanted : (nets : List ℕ) (old new : Option Rec) → IsReopened old new → holds (is_wanted nets) new ≡ holds (is_wanted nets) old
   same_wanted nets None new is = ap (holds (is_wanted nets)) is
@@ -145,14 +145,14 @@ module _ (st : State) where
       gap (λ s. same_wanted nets (occupant_at st in_new bucket s) (occupant_at (restart st) in_new bucket s) (slots in_new bucket s) i) 64 slot
 
   all : (r : Rec) → Contains st.records r → (number : ℕ) × Contains (restart st).records (reopened r number)
-  all r has = renumbered-has 0 all_of r (by (is_tried r) refl)
+  all r has = with_numbers-has 0 all_of r (by (is_tried r) refl)
     where
       by : (b : Bool) → is_tried r ≡ b → Contains all_of r
       by true is = Contains-append_right (new_records st) (tried_records st) r (Contains-filter is_tried st.records r has is)
       by false is = Contains-append_left (new_records st) (tried_records st) r (Contains-filter untried st.records r has (ap not is))
 
   only : (q : Rec) → Contains (restart st).records q → (r : Rec) × Contains st.records r × (q ≡ reopened r q.number)
-  only q c = let h = renumbered-from 0 all_of q c in (h.0, all_of-from st h.0 h.1, h.2)
+  only q c = let h = with_numbers-from 0 all_of q c in (h.0, all_of-from st h.0 h.1, h.2)
 
   parts : (rs : List Rec) → length (filter untried rs) + length (filter is_tried rs) ≡ length rs
   parts [] = omega arith
@@ -164,7 +164,7 @@ module _ (st : State) where
       by false rest = omega (arith, rest)
 
   count : length (restart st).records ≡ length st.records
-  count = renumbered-length 0 all_of ∙ length-append (new_records st) (tried_records st) ∙ parts st.records
+  count = with_numbers-length 0 all_of ∙ length-append (new_records st) (tried_records st) ∙ parts st.records
 
   -- ten minutes after the last try a record is as likely to be accepted
   accepted : (now factor : ℕ) (r : Rec) (number : ℕ) → r.last_try + 600 ≤ now → accepting_words (reopened r number) now factor ≡ accepting_words r now factor

@@ -3,21 +3,21 @@ use Rattle.std.proofs.Common.{◌≡◌, ℕ, suc, ◌+◌, ◌*◌, ◌<◌, �
 use Rattle.placing.specs.Places.{Places}
 use Rattle.peer_rec.specs.Snapshot.{Snapshot}
 use Rattle.peer_rec.specs.declared.rec.Rec.{Rec}
-use Rattle.log_lines.specs.Spelling.{Spells}
+use Rattle.log_lines.specs.Spelling.{SpellsCommand}
 use Rattle.log_lines.specs.declared.command.Command.{Command}
 use Rattle.log_lines.specs.declared.reply.Reply.{Reply}
 use Rattle.manager.specs.Machine.{Machine}
 use Rattle.manager.specs.Step as manager
 use Rattle.log_run.specs.Run.{Run}
-use Rattle.session.specs.History.{History, Step, fresh}
-use Rattle.session.specs.State.{State}
+use Rattle.session.specs.History.{History, HistoryStep, fresh}
+use Rattle.session.specs.State.{SessionState}
 use Rattle.table_machine.specs.Sound.{IsSound}
 use Rattle.table_machine.proofs.Kept.{KeepsPeers}
 use Rattle.causes.specs.Kept.{IsAfter, IsOpening}
 use Rattle.causes.proofs.Fits.{spelled-fits}
 use Rattle.causes.proofs.Runs.{line_moves}
 use Rattle.causes.proofs.Sound.{step-sound}
-use Rattle.laws.specs.Losses.{IsThere}
+use Rattle.laws.specs.Losses.{HasRecord}
 use Rattle.laws.specs.LostLines.{CountsAgree, IsLost, IsMessage, KeepsLosses, KeepsRecords, LosesInLine}
 use Rattle.laws.proofs.Balance.{balance, none_made}
 use Rattle.laws.proofs.PeersOf.{command_keeps, same}
@@ -32,9 +32,9 @@ pub record IsKept (n : ℕ) (m : Machine) : Type 0 where
 
 -- a line leaves the machine as it is, or moves it by a command
 abbrev Moved : Machine → List ℕ → Machine → Type 0
-Moved old line new = (asked : Command) × (answer : Reply) × Spells line asked × manager.Step old asked answer new
+Moved old line new = (asked : Command) × (answer : Reply) × SpellsCommand line asked × manager.Step old asked answer new
 
-kept-more : (n : ℕ) (old : History) (line text : List ℕ) (new : History) → IsKept n old.now.machine → n < 2 ^ 30 → Step old line text new → IsKept (n + 1) new.now.machine
+kept-more : (n : ℕ) (old : History) (line text : List ℕ) (new : History) → IsKept n old.now.machine → n < 2 ^ 30 → HistoryStep old line text new → IsKept (n + 1) new.now.machine
 kept-more n old line text new kept few step = ⊎_elim same moved (line_moves old line text new step)
   where
     low : old.now.machine.tables.next_number < 2 ^ 61 + 1000 * n
@@ -49,7 +49,7 @@ kept-more n old line text new kept few step = ⊎_elim same moved (line_moves ol
         let most = sound.0.1 in
         record { sound = sound.0.0; clock = sound.1; numbers = omega (arith, low, most) }
 
-kept-after : (n : ℕ) (lines : List (List ℕ)) (old : History) (text : List ℕ) (new : History) → IsKept n old.now.machine → n + length lines ≤ 2 ^ 30 → Run Step old lines text new
+kept-after : (n : ℕ) (lines : List (List ℕ)) (old : History) (text : List ℕ) (new : History) → IsKept n old.now.machine → n + length lines ≤ 2 ^ 30 → Run HistoryStep old lines text new
     → IsKept (n + length lines) new.now.machine
 kept-after n [] old text new kept few run =
     let same : n ≡ n + 0 = omega arith in
@@ -59,7 +59,7 @@ kept-after n (line ∷ lines) old text new kept few run =
     subst (λ k. IsKept k new.now.machine) more
     (kept-after (n + 1) lines run.2 run.1 new (kept-more n old line run.0 run.2 kept (omega (arith, few)) run.4) (omega (arith, few)) run.5)
 
-module _ (n : ℕ) (old : History) (line text : List ℕ) (new : History) (kept : IsKept n old.now.machine) (few : n < 2 ^ 30) (step : Step old line text new) where
+module _ (n : ℕ) (old : History) (line text : List ℕ) (new : History) (kept : IsKept n old.now.machine) (few : n < 2 ^ 30) (step : HistoryStep old line text new) where
   -- over the line each record stays, or is lost
   line_over : KeepsRecords old.now.machine line new.now.machine
   line_over r has = ⊎_elim same moved (line_moves old line text new step)
@@ -67,18 +67,18 @@ module _ (n : ℕ) (old : History) (line text : List ℕ) (new : History) (kept 
       low : old.now.machine.tables.next_number < 2 ^ 61 + 1000 * n
       low = kept.numbers
 
-      same : new.now.machine ≡ old.now.machine → IsThere new.now.machine.tables r ⊎ LosesInLine old.now.machine line r
-      same is = inl (subst (λ (m : Machine). IsThere m.tables r) (sym is) (itself old.now.machine.tables r has))
+      same : new.now.machine ≡ old.now.machine → HasRecord new.now.machine.tables r ⊎ LosesInLine old.now.machine line r
+      same is = inl (subst (λ (m : Machine). HasRecord m.tables r) (sym is) (itself old.now.machine.tables r has))
 
-      moved : Moved old.now.machine line new.now.machine → IsThere new.now.machine.tables r ⊎ LosesInLine old.now.machine line r
+      moved : Moved old.now.machine line new.now.machine → HasRecord new.now.machine.tables r ⊎ LosesInLine old.now.machine line r
       moved h =
           ⊎_elim inl (λ lost. inr (h.0, h.2, lost))
           (command_over old.now.machine h.0 h.1 new.now.machine kept.sound kept.clock (omega (arith, low, few)) (spelled-fits line h.0 h.2) h.3 r has)
 
 -- over a run each record stays, or is lost in one of its lines
-run_over : (n : ℕ) (lines : List (List ℕ)) (old : History) (text : List ℕ) (new : History) → IsKept n old.now.machine → n + length lines ≤ 2 ^ 30 → Run Step old lines text new
-    → (r : Rec) → IsThere old.now.machine.tables r → IsThere new.now.machine.tables r ⊎ IsLost old lines r
-run_over n [] old text new kept few run r there = inl (subst (λ (h : History). IsThere h.now.machine.tables r) (sym run.1) there)
+run_over : (n : ℕ) (lines : List (List ℕ)) (old : History) (text : List ℕ) (new : History) → IsKept n old.now.machine → n + length lines ≤ 2 ^ 30 → Run HistoryStep old lines text new
+    → (r : Rec) → HasRecord old.now.machine.tables r → HasRecord new.now.machine.tables r ⊎ IsLost old lines r
+run_over n [] old text new kept few run r there = inl (subst (λ (h : History). HasRecord h.now.machine.tables r) (sym run.1) there)
 run_over n (line ∷ lines) old text new kept few run r there =
     let rest = run_over (n + 1) lines run.2 run.1 new (kept-more n old line run.0 run.2 kept (omega (arith, few)) run.4) (omega (arith, few)) run.5 r in
     ⊎_elim (λ t. ⊎_elim inl (λ l. inr (later l)) (rest (there-trans run.2.now.machine.tables there.0 r there.2 there.3 t))) (λ lost. inr (first lost))
@@ -104,15 +104,15 @@ run_over n (line ∷ lines) old text new kept few run r there =
 abbrev Keeps : Machine → List ℕ → Machine → Type 0
 Keeps old line new =
     KeepsPeers old.tables new.tables
-    × ((new.tables.next_number ≤ old.tables.next_number) ⊎ ((asked : Command) × Spells line asked × IsMessage asked))
+    × ((new.tables.next_number ≤ old.tables.next_number) ⊎ ((asked : Command) × SpellsCommand line asked × IsMessage asked))
 
-line_keeps : (old : History) (line text : List ℕ) (new : History) → Step old line text new → Keeps old.now.machine line new.now.machine
+line_keeps : (old : History) (line text : List ℕ) (new : History) → HistoryStep old line text new → Keeps old.now.machine line new.now.machine
 line_keeps old line text new step =
     ⊎_elim (λ is. subst (Keeps old.now.machine line) (sym is) (same old.now.machine.tables, inl (omega arith)))
     (λ h. let k = command_keeps old.now.machine h.0 h.1 new.now.machine h.3 in (k.0, ⊎_elim inl (λ m. inr (h.0, h.2, m)) k.1))
     (line_moves old line text new step)
 
-module _ (file : Option Snapshot) (places : Places) (st : State) (opening : IsOpening file places st) (lines : List (List ℕ)) where
+module _ (file : Option Snapshot) (places : Places) (st : SessionState) (opening : IsOpening file places st) (lines : List (List ℕ)) where
   kept-at : (before : List (List ℕ)) (h : History) → IsAfter st lines before h → IsKept (length before) h.now.machine
   kept-at before h at =
       let few = at.few in
@@ -123,7 +123,7 @@ module _ (file : Option Snapshot) (places : Places) (st : State) (opening : IsOp
       zero_plus : (n : ℕ) → 0 + n ≡ n
       zero_plus n = omega arith
 
-  counts_over : (before : List (List ℕ)) (old : History) → IsAfter st lines before old → (line text : List ℕ) (new : History) → length before < 2 ^ 30 → Step old line text new
+  counts_over : (before : List (List ℕ)) (old : History) → IsAfter st lines before old → (line text : List ℕ) (new : History) → length before < 2 ^ 30 → HistoryStep old line text new
       → CountsAgree old.now.machine line new.now.machine
   counts_over before old at line text new few step = record {
     balance = balance old.now.machine.tables new.now.machine.tables kept.sound later.sound moves.0;

@@ -112,7 +112,7 @@ module _ (Accepted : Peer → Address → Type 0) (Listed : ℕ → Peer → ℕ
     others = λ groups r has b listed outside. (caused r has b listed, λ by. outside (by_reach Accepted st.places groups r b by));
   }
 
-pub keeps_shares : (file : Option Snapshot) (places : Places) (st : session.State) (lines : List (List ℕ)) → IsOpening file places st → KeepsShares file places st lines
+pub keeps_shares : (file : Option Snapshot) (places : Places) (st : session.SessionState) (lines : List (List ℕ)) → IsOpening file places st → KeepsShares file places st lines
 keeps_shares file places st lines opening before h at =
     let kept = keeps_causes file places st opening lines in
     shared (IsAccepted st before) (IsListed file places) h.now.machine.tables (kept.causes before h at)

@@ -11,16 +11,16 @@ use Rattle.table_machine.specs.State.{State, find_peer}
 use Rattle.table_machine.specs.Tried.{good, mark}
 use Rattle.table_machine.proofs.Kept.{KeepsPeers, add-keeps_peers, good-keeps_peers}
 use Rattle.table_machine.proofs.Records.{same_record}
-use Rattle.laws.specs.Losses.{IsThere, KeepsByEntry, KeepsBySuccess}
+use Rattle.laws.specs.Losses.{HasRecord, KeepsByEntry, KeepsBySuccess}
 use Rattle.laws.proofs.LossesOf.{K, changed-keeps, entry_keeps, success_keeps}
 
-pub itself : (st : State) (r : Rec) → Contains st.records r → IsThere st r
+pub itself : (st : State) (r : Rec) → Contains st.records r → HasRecord st r
 itself st r has = (r, has, refl, refl)
 
-pub there-trans : (st : State) (q r : Rec) → q.number ≡ r.number → q.peer ≡ r.peer → IsThere st q → IsThere st r
+pub there-trans : (st : State) (q r : Rec) → q.number ≡ r.number → q.peer ≡ r.peer → HasRecord st q → HasRecord st r
 there-trans st q r number peer t = (t.0, t.1, t.2 ∙ number, t.3 ∙ peer)
 
-pub with_peer : (old new : State) → IsSound old → KeepsPeers old new → (r : Rec) → Contains old.records r → K r.number new.records → IsThere new r
+pub with_peer : (old new : State) → IsSound old → KeepsPeers old new → (r : Rec) → Contains old.records r → K r.number new.records → HasRecord new r
 with_peer old new sound keeps r has k =
     let low = All-contains (λ q. q.number < old.next_number) old.records r sound.below_next has in
     let same = k.2 in
@@ -40,7 +40,7 @@ success_there st sound now peer testing r has =
 
 -- a mark
 pub marked_there : (change : Rec → Rec) (st : State) (peer : Peer) → IsSound st → KeepsPeers st (mark change st (find_peer st peer)).state
-    → (r : Rec) → Contains st.records r → IsThere (mark change st (find_peer st peer)).state r
+    → (r : Rec) → Contains st.records r → HasRecord (mark change st (find_peer st peer)).state r
 marked_there change st peer sound keeps r has = with_peer st (mark change st (find_peer st peer)).state sound keeps r has (by (find_peer st peer))
   where
     by : (o : Option Rec) → K r.number (mark change st o).state.records

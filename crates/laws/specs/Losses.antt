@@ -11,8 +11,8 @@ use Rattle.table_machine.specs.State.{State, is_new_at}
 use Rattle.table_machine.specs.Tried.{good}
 
 -- the record of this number and peer is there
-abbrev pub IsThere : State → Rec → Type 0
-IsThere st r =
+abbrev pub HasRecord : State → Rec → Type 0
+HasRecord st r =
     (q : Rec) × Contains st.records q × (q.number ≡ r.number) × (q.peer ≡ r.peer)
 
 -- The record was in one bucket of the new table only, and another one is in its slot there now.
@@ -34,7 +34,7 @@ LosesByEntry old now entry new r =
 abbrev pub KeepsByEntry : State → ℕ → Entry → Address → ℕ → ℕ → Type 0
 KeepsByEntry st now entry source penalty word =
     let new = (add st now entry source penalty word).state in
-    (r : Rec) → Contains st.records r → IsThere new r ⊎ LosesByEntry st now entry new r
+    (r : Rec) → Contains st.records r → HasRecord new r ⊎ LosesByEntry st now entry new r
 
 -- A success: in the last slot of a record that is lost is one that was in the tried table.
 abbrev pub LosesBySuccess : State → State → Rec → Type 0
@@ -46,4 +46,4 @@ LosesBySuccess old new r =
 abbrev pub KeepsBySuccess : State → ℕ → Peer → Bool → Type 0
 KeepsBySuccess st now peer testing =
     let new = (good st now peer testing).state in
-    (r : Rec) → Contains st.records r → IsThere new r ⊎ LosesBySuccess st new r
+    (r : Rec) → Contains st.records r → HasRecord new r ⊎ LosesBySuccess st new r

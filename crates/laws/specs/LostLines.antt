@@ -7,22 +7,22 @@ use Rattle.peer_rec.specs.declared.rec.Rec.{Rec}
 use Rattle.table_machine.specs.Clashes.{after_fate, fate_of}
 use Rattle.table_machine.specs.State.{State, by_number}
 use Rattle.table_machine.specs.Tried.{good}
-use Rattle.log_lines.specs.Spelling.{Spells}
+use Rattle.log_lines.specs.Spelling.{SpellsCommand}
 use Rattle.log_lines.specs.declared.command.Command.{Command}
 use Rattle.log_lines.specs.declared.command.Command.TheVariants as command
 use Rattle.manager.specs.Machine.{Machine}
 use Rattle.manager.specs.Messages.{clamp_time, take_entry}
 use Rattle.log_run.specs.Run.{Run}
-use Rattle.session.specs.History.{History, Step}
+use Rattle.session.specs.History.{History, HistoryStep}
 use Rattle.session.specs.State as session
 use Rattle.causes.specs.Kept.{IsAfter, most_lines}
-use Rattle.laws.specs.Losses.{IsThere, LosesByEntry, LosesBySuccess}
+use Rattle.laws.specs.Losses.{HasRecord, LosesByEntry, LosesBySuccess}
 
 -- the record is lost at an entry of a message, as it was when the entry came
 abbrev pub LosesAt : State → ℕ → Option Entry → State → Rec → Type 0
 LosesAt old now None new r = ⊥
 LosesAt old now (Some entry) new r =
-    (was : IsThere old r) × LosesByEntry old now (clamp_time entry now) new was.0
+    (was : HasRecord old r) × LosesByEntry old now (clamp_time entry now) new was.0
 
 -- the record is lost at one of the entries; in order, each with the word at its index
 abbrev pub LosesByEntries : State → ℕ → List (Option Entry) → Address → List ℕ → Rec → Type 0
@@ -38,7 +38,7 @@ LosesByDecisions st now [] r = ⊥
 LosesByDecisions st now (number ∷ numbers) r =
     let newcomer = by_number st number in
     let new = after_fate (fate_of st newcomer now) st newcomer number now in
-    ((was : IsThere st r) × LosesBySuccess st new was.0) ⊎ LosesByDecisions new now numbers r
+    ((was : HasRecord st r) × LosesBySuccess st new was.0) ⊎ LosesByDecisions new now numbers r
 
 -- The commands by which a record may be lost: messages, a success, and the decisions on all
 -- collisions, each of which may be a success.
@@ -57,13 +57,13 @@ LosesBy old other r = ⊥
 
 -- the same of a line
 abbrev pub LosesInLine : Machine → List ℕ → Rec → Type 0
-LosesInLine old line r = (asked : Command) × Spells line asked × LosesBy old asked r
+LosesInLine old line r = (asked : Command) × SpellsCommand line asked × LosesBy old asked r
 
 -- each record stays over a line, unless it is lost in it
 abbrev pub KeepsRecords : Machine → List ℕ → Machine → Type 0
 KeepsRecords old line new =
     (r : Rec) → Contains old.tables.records r
-    → IsThere new.tables r ⊎ LosesInLine old line r
+    → HasRecord new.tables r ⊎ LosesInLine old line r
 
 -- how many records are not there any more
 abbrev pub lost_count : State → State → ℕ
@@ -85,7 +85,7 @@ pub record CountsAgree (old : Machine) (line : List ℕ) (new : Machine) : Type 
   pub balance : length new.tables.records + lost_count old.tables new.tables
       ≡ length old.tables.records + made_count old.tables new.tables
   pub made : (made_count old.tables new.tables ≡ 0)
-      ⊎ ((asked : Command) × Spells line asked × IsMessage asked)
+      ⊎ ((asked : Command) × SpellsCommand line asked × IsMessage asked)
 
 -- A record that was there when the run began is lost in one of its lines, as it was then.
 pub record IsLost (start : History) (lines : List (List ℕ)) (r : Rec) : Type 0 where
@@ -95,22 +95,22 @@ pub record IsLost (start : History) (lines : List (List ℕ)) (r : Rec) : Type 0
   pub cut : lines ≡ before ++ line ∷ after
   pub text : List ℕ
   pub at : History
-  pub run : Run Step start before text at
-  pub there : IsThere at.now.machine.tables r
+  pub run : Run HistoryStep start before text at
+  pub there : HasRecord at.now.machine.tables r
   pub lost : LosesInLine at.now.machine line there.0
 
 -- What holds after each line of a run: over the next line each record stays or is lost with a
 -- cause, and the counts agree; and over the next lines, however many, each record stays or is lost
 -- in one of them.
-pub record KeepsLosses (st : session.State) (lines : List (List ℕ)) : Type 0 where
+pub record KeepsLosses (st : session.SessionState) (lines : List (List ℕ)) : Type 0 where
   pub next : (before : List (List ℕ)) (h : History) → IsAfter st lines before h
       → (line text : List ℕ) (new : History) → length before < most_lines
-      → Step h line text new → KeepsRecords h.now.machine line new.now.machine
+      → HistoryStep h line text new → KeepsRecords h.now.machine line new.now.machine
   pub counts : (before : List (List ℕ)) (h : History) → IsAfter st lines before h
       → (line text : List ℕ) (new : History) → length before < most_lines
-      → Step h line text new → CountsAgree h.now.machine line new.now.machine
+      → HistoryStep h line text new → CountsAgree h.now.machine line new.now.machine
   pub later : (before : List (List ℕ)) (h : History) → IsAfter st lines before h
       → (more : List (List ℕ)) (text : List ℕ) (new : History)
-      → length before + length more ≤ most_lines → Run Step h more text new
+      → length before + length more ≤ most_lines → Run HistoryStep h more text new
       → (r : Rec) → Contains h.now.machine.tables.records r
-      → IsThere new.now.machine.tables r ⊎ IsLost h more r
+      → HasRecord new.now.machine.tables r ⊎ IsLost h more r

@@ -77,7 +77,7 @@ pub record IsShared (Accepted : Peer → Address → Type 0) (Listed : ℕ → P
       × (IsBy Accepted st.places groups r bucket → ⊥)
 
 -- after each line of a run
-abbrev pub KeepsShares : Option Snapshot → Places → session.State → List (List ℕ) → Type 0
+abbrev pub KeepsShares : Option Snapshot → Places → session.SessionState → List (List ℕ) → Type 0
 KeepsShares file places st lines =
     (before : List (List ℕ)) (h : History) → IsAfter st lines before h
     → IsShared (IsAccepted st before) (IsListed file places) h.now.machine.tables

@@ -23,6 +23,6 @@ pub fn losses_have_causes()
 /// Whatever lines are carried out, over each of them: each record stays, or is lost in it with a
 /// cause, and the counts agree. Over the next lines, however many, it stays or is lost in one.
 pub fn runs_lose_with_causes()
-    ensures { (file : Option Snapshot) (places : Places) (st : session.State)
+    ensures { (file : Option Snapshot) (places : Places) (st : session.SessionState)
         (lines : List (List ℕ)) → IsOpening file places st → KeepsLosses st lines }
 {}

@@ -5,7 +5,7 @@ use Rattle.grammar.specs.Fields.{Value, TheNumber, TheAddr, ThePeer, TheBytes, T
 use Rattle.grammar.specs.Table.{kinds_after}
 use Rattle.grammar.specs.declared.fault.LineFault.{LineFault}
 use Rattle.grammar.proofs.TableLemmas.{one_values_after, one_fault_after, no_fault_after, letter_of_values}
-use Rattle.log_lines.specs.Spelling.{word_of, verb_of, values_of, verbs, table, SpellsAfter, HasFaultAfter}
+use Rattle.log_lines.specs.Spelling.{word_of, verb_of, command_values, verbs, table, SpellsAfter, HasFaultAfter}
 use Rattle.log_lines.specs.declared.command.Command.{Command}
 use Rattle.log_lines.specs.declared.command.Command.TheVariants as c
 use Rattle.log_lines.specs.declared.verb.Verb.{Verb}
@@ -35,7 +35,7 @@ command_by other values = c.Size
 verb_with : List ℕ → Option Verb
 verb_with word = find (λ verb. bytes_eq (word_of verb) word) verbs
 
-command_back : (command : Command) → command_by (verb_with (word_of (verb_of command))) (values_of command) ≡ command
+command_back : (command : Command) → command_by (verb_with (word_of (verb_of command))) (command_values command) ≡ command
 unfolding command_by verb_with
 command_back (c.Now time) = refl
 command_back (c.Addr source payload words) = refl
@@ -59,7 +59,7 @@ command_back c.SaveEnd = refl
 -- a first word and the fields after it parse as one command
 pub one_after : (word : List ℕ) (texts : List (List ℕ)) (a b : Command) → SpellsAfter word texts a → SpellsAfter word texts b → a ≡ b
 one_after word texts a b h k =
-    let values = one_values_after table word texts (values_of a) (values_of b) refl h.1 k.1 in
+    let values = one_values_after table word texts (command_values a) (command_values b) refl h.1 k.1 in
     let words = sym h.0 ∙ k.0 in
     sym (command_back a) ∙ (λ i. command_by (verb_with (words i)) (values i)) ∙ command_back b
 
@@ -69,8 +69,8 @@ one_fault word texts f g h k = one_fault_after (kinds_after table word) texts f 
 
 -- and never both
 pub no_fault : (word : List ℕ) (texts : List (List ℕ)) (a : Command) (f : LineFault) → SpellsAfter word texts a → HasFaultAfter word texts f → ⊥
-no_fault word texts a f h k = no_fault_after (kinds_after table word) texts (values_of a) f h.1 k
+no_fault word texts a f h k = no_fault_after (kinds_after table word) texts (command_values a) f h.1 k
 
 -- a line that parses as a command begins with a letter
 pub letters : (word : List ℕ) (texts : List (List ℕ)) (a : Command) → SpellsAfter word texts a → 96 < get_or word 0 0
-letters word texts a h = letter_of_values table word texts (values_of a) refl h.1
+letters word texts a h = letter_of_values table word texts (command_values a) refl h.1

@@ -75,26 +75,26 @@ verb_of (c.SaveStep count) = v.SaveStep
 verb_of c.SaveEnd = v.SaveEnd
 
 -- the values of the other fields
-abbrev pub values_of : Command → List Value
-values_of (c.Now time) = TheNumber time ∷ []
-values_of (c.Addr source payload words) = TheAddr source ∷ TheBytes payload ∷ TheWords words ∷ []
-values_of (c.Addr2 source payload words) = TheAddr source ∷ TheBytes payload ∷ TheWords words ∷ []
-values_of (c.Good peer testing) = ThePeer peer ∷ TheChoice testing ∷ []
-values_of (c.Attempt peer count) = ThePeer peer ∷ TheChoice count ∷ []
-values_of (c.Connected peer) = ThePeer peer ∷ []
-values_of (c.Services peer services) = ThePeer peer ∷ TheNumber services ∷ []
-values_of (c.Find peer) = ThePeer peer ∷ []
-values_of c.Size = []
-values_of (c.Select new_only nets words) = TheChoice new_only ∷ TheNets nets ∷ TheWords words ∷ []
-values_of (c.Sample max pct classes words) =
+abbrev pub command_values : Command → List Value
+command_values (c.Now time) = TheNumber time ∷ []
+command_values (c.Addr source payload words) = TheAddr source ∷ TheBytes payload ∷ TheWords words ∷ []
+command_values (c.Addr2 source payload words) = TheAddr source ∷ TheBytes payload ∷ TheWords words ∷ []
+command_values (c.Good peer testing) = ThePeer peer ∷ TheChoice testing ∷ []
+command_values (c.Attempt peer count) = ThePeer peer ∷ TheChoice count ∷ []
+command_values (c.Connected peer) = ThePeer peer ∷ []
+command_values (c.Services peer services) = ThePeer peer ∷ TheNumber services ∷ []
+command_values (c.Find peer) = ThePeer peer ∷ []
+command_values c.Size = []
+command_values (c.Select new_only nets words) = TheChoice new_only ∷ TheNets nets ∷ TheWords words ∷ []
+command_values (c.Sample max pct classes words) =
     TheNumber max ∷ TheNumber pct ∷ TheNets classes ∷ TheWords words ∷ []
-values_of c.Resolve = []
-values_of (c.Clash word) = TheNumber word ∷ []
-values_of c.Dump = []
-values_of c.Save = []
-values_of c.SaveBegin = []
-values_of (c.SaveStep count) = TheNumber count ∷ []
-values_of c.SaveEnd = []
+command_values c.Resolve = []
+command_values (c.Clash word) = TheNumber word ∷ []
+command_values c.Dump = []
+command_values c.Save = []
+command_values c.SaveBegin = []
+command_values (c.SaveStep count) = TheNumber count ∷ []
+command_values c.SaveEnd = []
 
 -- the table of the log: each keyword, and the kinds of the fields after it
 abbrev pub verbs : List Verb
@@ -110,16 +110,16 @@ table = map (λ verb. (word_of verb, kinds_of verb)) verbs
 abbrev pub SpellsAfter : List ℕ → List (List ℕ) → Command → Type 0
 SpellsAfter word texts command =
     (word ≡ word_of (verb_of command))
-    × ValuesAfter (kinds_after table word) texts (values_of command)
+    × ValuesAfter (kinds_after table word) texts (command_values command)
 
 -- what is wrong in a first word and the fields after it
 abbrev pub HasFaultAfter : List ℕ → List (List ℕ) → LineFault → Type 0
 HasFaultAfter word texts f = FaultAfter (kinds_after table word) texts f
 
 -- the line parses as the command
-abbrev pub Spells : List ℕ → Command → Type 0
-Spells line command = Says SpellsAfter (fields_of line) command
+abbrev pub SpellsCommand : List ℕ → Command → Type 0
+SpellsCommand line command = Says SpellsAfter (fields_of line) command
 
 -- what is wrong in a line that is not passed over
-abbrev pub HasFault : List ℕ → LineFault → Type 0
-HasFault line f = ¬ IsPassedOver line × Says HasFaultAfter (fields_of line) f
+abbrev pub HasCommandFault : List ℕ → LineFault → Type 0
+HasCommandFault line f = ¬ IsPassedOver line × Says HasFaultAfter (fields_of line) f

@@ -1,15 +1,15 @@
 ghost use Rattle.std.specs.Prelude.{◌≡◌, ℕ, List};
 ghost use Rattle.host_io.specs.Lines.{IsPassedOver};
-ghost use Rattle.log_lines.specs.Spelling.{Spells, HasFault};
+ghost use Rattle.log_lines.specs.Spelling.{SpellsCommand, HasCommandFault};
 ghost use Rattle.log_lines.specs.declared.command.Command.{Command};
 ghost use Rattle.grammar.specs.declared.fault.LineFault.{LineFault};
 
 /// No line parses as two commands, has two faults, or parses as a command and has a fault; and a
 /// line that is passed over parses as no command.
 pub fn lines_have_one_meaning()
-    ensures command { (line : List ℕ) (a b : Command) → Spells line a → Spells line b → a ≡ b }
-    ensures fault { (line : List ℕ) (f g : LineFault) → HasFault line f → HasFault line g → f ≡ g }
-    ensures right { (line : List ℕ) (a : Command) (f : LineFault) → Spells line a →
-        ¬ HasFault line f }
-    ensures passed { (line : List ℕ) (a : Command) → IsPassedOver line → ¬ Spells line a }
+    ensures command { (line : List ℕ) (a b : Command) → SpellsCommand line a → SpellsCommand line b → a ≡ b }
+    ensures fault { (line : List ℕ) (f g : LineFault) → HasCommandFault line f → HasCommandFault line g → f ≡ g }
+    ensures right { (line : List ℕ) (a : Command) (f : LineFault) → SpellsCommand line a →
+        ¬ HasCommandFault line f }
+    ensures passed { (line : List ℕ) (a : Command) → IsPassedOver line → ¬ SpellsCommand line a }
 {}

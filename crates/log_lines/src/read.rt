@@ -3,7 +3,7 @@ ghost use Rattle.host_io.specs.Lines.{IsPassedOver};
 ghost use Rattle.grammar.specs.Fields.{AllMean, AreAtFault};
 ghost use Rattle.grammar.specs.declared.fault.LineFault.{LineFault};
 ghost use Rattle.log_lines.specs.Laws.{one_after, one_fault, no_fault};
-ghost use Rattle.log_lines.specs.Spelling.{kinds_of, verb_of, values_of, SpellsAfter, HasFaultAfter, Spells, HasFault};
+ghost use Rattle.log_lines.specs.Spelling.{kinds_of, verb_of, command_values, SpellsAfter, HasFaultAfter, SpellsCommand, HasCommandFault};
 ghost use Rattle.log_lines.specs.declared.command.Command.{Command};
 ghost use Rattle.log_lines.specs.declared.verb.Verb.TheVariants as verbs;
 
@@ -58,11 +58,11 @@ impl<T: Texts> Grammar<T> for LogLines {
 /// over: an empty one, or one that begins with `#`.
 pub fn read_line(alloc: Global, line: &[u8]) -> Result<Option<Command>, LineFault>
     ensures passed { result ≡ Ok None ↔ IsPassedOver line.now }
-    ensures found { IfOk result (λ read. IfSome read (λ c. Spells line.now c)) }
-    ensures only { (c : Command) → Spells line.now c →
+    ensures found { IfOk result (λ read. IfSome read (λ c. SpellsCommand line.now c)) }
+    ensures only { (c : Command) → SpellsCommand line.now c →
         (result ≡ Ok (Some c)) ⊎ (result ≡ Err LineFault.Memory) }
-    ensures fault { (f : LineFault) → result ≡ Err f → f ≢ LineFault.Memory → HasFault line.now f }
-    ensures only_fault { (f : LineFault) → HasFault line.now f →
+    ensures fault { (f : LineFault) → result ≡ Err f → f ≢ LineFault.Memory → HasCommandFault line.now f }
+    ensures only_fault { (f : LineFault) → HasCommandFault line.now f →
         (result ≡ Err f) ⊎ (result ≡ Err LineFault.Memory) }
 {
     grammar::read_line::<LogLines>(alloc, line)
@@ -71,7 +71,7 @@ pub fn read_line(alloc: Global, line: &[u8]) -> Result<Option<Command>, LineFaul
 /// Reads the fields after a verb.
 fn read_command<T: Texts>(alloc: Global, verb: Verb, rest: T) -> Result<Command, LineFault>
     ensures found { IfOk result (λ c. (verb_of c ≡ verb)
-        × AllMean (kinds_of verb) (T.texts rest) (values_of c)) }
+        × AllMean (kinds_of verb) (T.texts rest) (command_values c)) }
     ensures fault { (f : LineFault) → result ≡ Err f → f ≢ LineFault.Memory →
         AreAtFault (kinds_of verb) (T.texts rest) f }
 {
@@ -148,7 +148,7 @@ fn read_nothing<T: Texts>(alloc: Global, command: Command, rest: T) -> Result<Co
 /// Reads the fields after `select`.
 fn read_select<T: Texts>(alloc: Global, rest: T) -> Result<Command, LineFault>
     ensures found { IfOk result (λ c. (verb_of c ≡ verbs.Select)
-        × AllMean (kinds_of verbs.Select) (T.texts rest) (values_of c)) }
+        × AllMean (kinds_of verbs.Select) (T.texts rest) (command_values c)) }
     ensures fault { (f : LineFault) → result ≡ Err f → f ≢ LineFault.Memory →
         AreAtFault (kinds_of verbs.Select) (T.texts rest) f }
 {
@@ -166,7 +166,7 @@ fn read_select<T: Texts>(alloc: Global, rest: T) -> Result<Command, LineFault>
 /// Reads the fields after `sample`.
 fn read_sample<T: Texts>(alloc: Global, rest: T) -> Result<Command, LineFault>
     ensures found { IfOk result (λ c. (verb_of c ≡ verbs.Sample)
-        × AllMean (kinds_of verbs.Sample) (T.texts rest) (values_of c)) }
+        × AllMean (kinds_of verbs.Sample) (T.texts rest) (command_values c)) }
     ensures fault { (f : LineFault) → result ≡ Err f → f ≢ LineFault.Memory →
         AreAtFault (kinds_of verbs.Sample) (T.texts rest) f }
 {

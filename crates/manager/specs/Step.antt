@@ -37,8 +37,8 @@ MessageStep IsMessage HasFault old source words answer new =
     × EntriesStep old entries source words answer new)
 
 -- what a call of the tables answers, in a reply, and the tables after it
-abbrev pub Gives : {A : Type 0} → Machine → (A → Reply) → After A → Reply → Machine → Type 0
-Gives old reply_of after answer new =
+abbrev pub CallStep : {A : Type 0} → Machine → (A → Reply) → After A → Reply → Machine → Type 0
+CallStep old reply_of after answer new =
     (answer ≡ reply_of after.answer) × (new ≡ with_tables old after.state)
 
 -- the answer to a question, which changes nothing
@@ -59,7 +59,7 @@ SampleStep old max pct classes words answer new =
     ((length words < length old.tables.order)
     × Tells old (reply.Short (length old.tables.order) (length words)) answer new)
     ⊎ ((length old.tables.order ≤ length words)
-    × Gives old reply.Sample (sample old.tables max pct classes words old.clock) answer new)
+    × CallStep old reply.Sample (sample old.tables max pct classes words old.clock) answer new)
 
 -- the command is none of those that save
 abbrev pub SavesNothing : Command → Type 0
@@ -83,13 +83,13 @@ Step old (command.Addr source payload words) answer new =
 Step old (command.Addr2 source payload words) answer new =
     MessageStep (IsAddrv2Message payload) (HasAddrv2Fault payload) old source words answer new
 Step old (command.Good peer testing) answer new =
-    Gives old reply.Good (good old.tables old.clock peer testing) answer new
+    CallStep old reply.Good (good old.tables old.clock peer testing) answer new
 Step old (command.Attempt peer count) answer new =
-    Gives old reply.Known (attempt old.tables old.clock peer count) answer new
+    CallStep old reply.Known (attempt old.tables old.clock peer count) answer new
 Step old (command.Connected peer) answer new =
-    Gives old reply.Known (connected old.tables old.clock peer) answer new
+    CallStep old reply.Known (connected old.tables old.clock peer) answer new
 Step old (command.Services peer services) answer new =
-    Gives old reply.Known (set_services old.tables peer services) answer new
+    CallStep old reply.Known (set_services old.tables peer services) answer new
 Step old (command.Find peer) answer new =
     Tells old (reply.Found (find_peer old.tables peer)) answer new
 Step old command.Size answer new = Tells old (reply.Size (counts_of old.tables)) answer new
@@ -98,9 +98,9 @@ Step old (command.Select new_only nets words) answer new =
 Step old (command.Sample max pct classes words) answer new =
     SampleStep old max pct classes words answer new
 Step old command.Resolve answer new =
-    Gives old reply.Resolved (resolve old.tables old.clock) answer new
+    CallStep old reply.Resolved (resolve old.tables old.clock) answer new
 Step old (command.Clash word) answer new =
-    Gives old reply.Clash (clash_pick old.tables word) answer new
+    CallStep old reply.Clash (clash_pick old.tables word) answer new
 Step old command.Dump answer new = Tells old (reply.Dump old.tables.records) answer new
 Step old other answer new = ⊥
 

@@ -1,7 +1,7 @@
 -- Both maps are constant on each of their changes, and differ there.
 use Rattle.std.proofs.Common.{◌≡◌, ℕ, zero, suc, ◌==◌, Bool, true, false, List, [], ◌∷◌, ◌++◌, map, length, cond, refl, ap, sym, ◌∙◌, subst, arith}
 use Rattle.bit_code.specs.Prefixes.{begins_with}
-use Rattle.map_diff.specs.Diff.{Change, Part, Same, Mixed, after, under, unless_equal, changes_of, same_pair, both, joined, part, changes, IsChange, EachIsChange, AreChanges}
+use Rattle.map_diff.specs.Diff.{Change, Part, Same, Mixed, after_bit, under_bit, unless_equal, changes_of, same_pair, both, joined, part, changes, IsChange, EachIsChange, AreChanges}
 use Rattle.map_diff.proofs.DiffLaws.{changes_exact, same_first, same_second}
 use Rattle.map_diff.proofs.Parts.{IsSame, IsBoth, true_false, some_none, mixed_same, differ_is, form_of}
 
@@ -36,11 +36,11 @@ same_all zero f g a b e [] long = (ap old_of e, ap new_of e)
 same_all zero f g a b e (x ∷ bits) long = absurd (omega (arith, long))
 same_all (suc n) f g a b e [] long = absurd (omega (arith, long))
 same_all (suc n) f g a b e (false ∷ bits) long =
-    let s = same_sides (part n (after false f) (after false g)) (part n (after true f) (after true g)) a b e in
-    same_all n (after false f) (after false g) a b s.left bits (omega (arith, long))
+    let s = same_sides (part n (after_bit false f) (after_bit false g)) (part n (after_bit true f) (after_bit true g)) a b e in
+    same_all n (after_bit false f) (after_bit false g) a b s.left bits (omega (arith, long))
 same_all (suc n) f g a b e (true ∷ bits) long =
-    let s = same_sides (part n (after false f) (after false g)) (part n (after true f) (after true g)) a b e in
-    same_all n (after true f) (after true g) a b s.right bits (omega (arith, long))
+    let s = same_sides (part n (after_bit false f) (after_bit false g)) (part n (after_bit true f) (after_bit true g)) a b e in
+    same_all n (after_bit true f) (after_bit true g) a b s.right bits (omega (arith, long))
 
 each_equal : (n : ℕ) (f g : List Bool → ℕ) (a b : ℕ) (t : Bool) → (a == b) ≡ t → ((bits : List Bool) → length bits ≡ n → (f bits ≡ a) × (g bits ≡ b)) → EachIsChange n f g (cond t [] (record { path = []; old = a; new = b } ∷ []))
 each_equal n f g a b true e h = tt
@@ -51,7 +51,7 @@ each_same : (n : ℕ) (f g : List Bool → ℕ) (a b : ℕ) → part n f g ≡ S
 unfolding unless_equal
 each_same n f g a b e = each_equal n f g a b (a == b) refl (same_all n f g a b e)
 
-short_begins : (b : Bool) (bits : List Bool) (n : ℕ) (f g : List Bool → ℕ) (c : Change) → IsChange n (after b f) (after b g) c → length bits ≡ suc n → begins_with bits (b ∷ c.path) ≡ true → (f bits ≡ c.old) × (g bits ≡ c.new)
+short_begins : (b : Bool) (bits : List Bool) (n : ℕ) (f g : List Bool → ℕ) (c : Change) → IsChange n (after_bit b f) (after_bit b g) c → length bits ≡ suc n → begins_with bits (b ∷ c.path) ≡ true → (f bits ≡ c.old) × (g bits ≡ c.new)
 unfolding begins_with
 short_begins b [] n f g c h long begins = absurd (omega (arith, long))
 short_begins true (true ∷ bits) n f g c h long begins = h.constant bits (omega (arith, long)) begins
@@ -59,7 +59,7 @@ short_begins false (false ∷ bits) n f g c h long begins = h.constant bits (ome
 short_begins true (false ∷ bits) n f g c h long begins = absurd (true_false (sym begins))
 short_begins false (true ∷ bits) n f g c h long begins = absurd (true_false (sym begins))
 
-each_under : (b : Bool) (n : ℕ) (f g : List Bool → ℕ) (cs : List Change) → EachIsChange n (after b f) (after b g) cs → EachIsChange (suc n) f g (map (under b) cs)
+each_under : (b : Bool) (n : ℕ) (f g : List Bool → ℕ) (cs : List Change) → EachIsChange n (after_bit b f) (after_bit b g) cs → EachIsChange (suc n) f g (map (under_bit b) cs)
 each_under b n f g [] h = tt
 each_under b n f g (c ∷ cs) h =
     (record { differ = h.0.differ; constant = λ bits long begins. short_begins b bits n f g c h.0 long begins }, each_under b n f g cs h.1)
@@ -68,10 +68,10 @@ each_append : (n : ℕ) (f g : List Bool → ℕ) (xs ys : List Change) → Each
 each_append n f g [] ys h k = k
 each_append n f g (c ∷ cs) ys h k = (h.0, each_append n f g cs ys h.1 k)
 
-each_both : (n : ℕ) (f g : List Bool → ℕ) (l r : Part) → EachIsChange n (after false f) (after false g) (changes_of l) → EachIsChange n (after true f) (after true g) (changes_of r) → EachIsChange (suc n) f g (changes_of (both l r))
+each_both : (n : ℕ) (f g : List Bool → ℕ) (l r : Part) → EachIsChange n (after_bit false f) (after_bit false g) (changes_of l) → EachIsChange n (after_bit true f) (after_bit true g) (changes_of r) → EachIsChange (suc n) f g (changes_of (both l r))
 unfolding changes_of
 each_both n f g l r h k =
-    each_append (suc n) f g (map (under false) (changes_of l)) (map (under true) (changes_of r)) (each_under false n f g (changes_of l) h) (each_under true n f g (changes_of r) k)
+    each_append (suc n) f g (map (under_bit false) (changes_of l)) (map (under_bit true) (changes_of r)) (each_under false n f g (changes_of l) h) (each_under true n f g (changes_of r) k)
 
 same_each : (n : ℕ) (f g : List Bool → ℕ) (a b : ℕ) → part n f g ≡ Same a b → EachIsChange n f g (changes n f g)
 unfolding changes_of
@@ -81,11 +81,11 @@ each_change : (n : ℕ) (f g : List Bool → ℕ) → EachIsChange n f g (change
 unfolding part
 each_change zero f g = same_each zero f g (f []) (g []) refl
 each_change (suc n) f g =
-    let l = part n (after false f) (after false g) in
-    let r = part n (after true f) (after true g) in
+    let l = part n (after_bit false f) (after_bit false g) in
+    let r = part n (after_bit true f) (after_bit true g) in
     elim (form_of l r) [
       | IsSame a b e ↦ same_each (suc n) f g a b e
-      | IsBoth e ↦ subst (λ w. EachIsChange (suc n) f g (changes_of w)) (sym e) (each_both n f g l r (each_change n (after false f) (after false g)) (each_change n (after true f) (after true g)))
+      | IsBoth e ↦ subst (λ w. EachIsChange (suc n) f g (changes_of w)) (sym e) (each_both n f g l r (each_change n (after_bit false f) (after_bit false g)) (each_change n (after_bit true f) (after_bit true g)))
     ]
 
 -- the changes are changes of the two maps that cover all addresses with two numbers

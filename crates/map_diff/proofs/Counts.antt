@@ -5,18 +5,18 @@ use Rattle.std.proofs.Math.Nat.{pow-suc}
 use Rattle.std.proofs.lemmas.Bool.{cases_Bool}
 use Rattle.std.specs.Prelude.{not}
 use Rattle.asmap_vm.specs.Code.{Tree}
-use Rattle.map_diff.specs.Diff.{Change, Part, Same, Mixed, after, under, unless_equal, changes_of, same_pair, both, joined, part, changes, span_of, differing, map_of, changed_at, changed_prefixes}
+use Rattle.map_diff.specs.Diff.{Change, Part, Same, Mixed, after_bit, under_bit, unless_equal, changes_of, same_pair, both, joined, part, changes, span_of, differing, map_of, changed_at, changed_prefixes}
 use Rattle.map_diff.specs.Text.{is_ipv4, is_counted, span, count_of}
 use Rattle.map_diff.specs.declared.change.ChangedPrefix.{ChangedPrefix}
 use Rattle.map_diff.proofs.DiffLaws.{same_first, same_second}
 
-span_under : (n : ℕ) (b : Bool) (c : Change) → span_of (suc n) (under b c) ≡ span_of n c
+span_under : (n : ℕ) (b : Bool) (c : Change) → span_of (suc n) (under_bit b c) ≡ span_of n c
 span_under n b c = ap (λ k. 2 ^ k) (omega arith)
 
-count_under : (n : ℕ) (b : Bool) (cs : List Change) → sum_by (span_of (suc n)) (map (under b) cs) ≡ sum_by (span_of n) cs
+count_under : (n : ℕ) (b : Bool) (cs : List Change) → sum_by (span_of (suc n)) (map (under_bit b) cs) ≡ sum_by (span_of n) cs
 count_under n b [] = refl
 count_under n b (c ∷ cs) =
-    sum_by-cons (span_of (suc n)) (under b c) (map (under b) cs)
+    sum_by-cons (span_of (suc n)) (under_bit b c) (map (under_bit b) cs)
     ∙ (λ i. span_under n b c i + count_under n b cs i)
     ∙ sym (sum_by-cons (span_of n) c cs)
 
@@ -26,7 +26,7 @@ spans n p = sum_by (span_of n) (changes_of p)
 both_count : (n : ℕ) (l r : Part) → spans (suc n) (both l r) ≡ spans n l + spans n r
 unfolding changes_of
 both_count n l r =
-    omega (arith, sum_by-append (span_of (suc n)) (map (under false) (changes_of l)) (map (under true) (changes_of r)), count_under n false (changes_of l), count_under n true (changes_of r))
+    omega (arith, sum_by-append (span_of (suc n)) (map (under_bit false) (changes_of l)) (map (under_bit true) (changes_of r)), count_under n false (changes_of l), count_under n true (changes_of r))
 
 minus_zero : (n : ℕ) → n - 0 ≡ n
 minus_zero n = omega arith
@@ -58,9 +58,9 @@ pub counted : (n : ℕ) (f g : List Bool → ℕ) → sum_by (span_of n) (change
 unfolding part differing
 counted zero f g = leaf_count (f []) (g [])
 counted (suc n) f g =
-    let l = part n (after false f) (after false g) in
-    let r = part n (after true f) (after true g) in
-    joined_count n l r ∙ (λ i. counted n (after false f) (after false g) i + counted n (after true f) (after true g) i)
+    let l = part n (after_bit false f) (after_bit false g) in
+    let r = part n (after_bit true f) (after_bit true g) in
+    joined_count n l r ∙ (λ i. counted n (after_bit false f) (after_bit false g) i + counted n (after_bit true f) (after_bit true g) i)
 
 one_most : (b : Bool) → cond b 0 1 ≤ 1
 one_most true = omega arith
@@ -70,7 +70,7 @@ one_most false = omega arith
 pub differing_most : (n : ℕ) (f g : List Bool → ℕ) → differing n f g ≤ 2 ^ n
 unfolding differing
 differing_most zero f g = one_most (f [] == g [])
-differing_most (suc n) f g = omega (arith, differing_most n (after false f) (after false g), differing_most n (after true f) (after true g), pow-suc 2 n)
+differing_most (suc n) f g = omega (arith, differing_most n (after_bit false f) (after_bit false g), differing_most n (after_bit true f) (after_bit true g), pow-suc 2 n)
 
 -- ---- the counts that are printed
 

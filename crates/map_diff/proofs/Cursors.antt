@@ -11,7 +11,7 @@ use Rattle.asmap_vm.specs.declared.instruction.Instruction.TheVariants as instru
 use Rattle.asmap_vm.proofs.PartLaws.{HasHead, has_head}
 use Rattle.asmap_vm.proofs.MatchLaws.{match_size-wanted, match_bits-wanted, match_value, match_range}
 use Rattle.asmap_back.proofs.Steps.{Reads}
-use Rattle.map_diff.specs.Diff.{after}
+use Rattle.map_diff.specs.Diff.{after_bit}
 use Rattle.map_diff.specs.Inside.{IsTree, IsFork, matching, IsMatching}
 
 -- a tree of this form is at the offset
@@ -151,12 +151,12 @@ more_digits : (bits : List Bool) (n number k offset default : ℕ) (f : List Boo
 unfolding digits
 more_digits bits n number k offset default f h = h.map_is
 
-after_wanted : (bits : List Bool) (n number k offset default : ℕ) (f : List Bool → ℕ) (h : IsMatching bits n number (suc k) offset default f) → after (has_bit number k) f ≡ matching (digits k number) h.next default
+after_wanted : (bits : List Bool) (n number k offset default : ℕ) (f : List Bool → ℕ) (h : IsMatching bits n number (suc k) offset default f) → after_bit (has_bit number k) f ≡ matching (digits k number) h.next default
 after_wanted bits n number k offset default f h =
     (λ i address. more_digits bits n number k offset default f h i (has_bit number k ∷ address))
     ∙ (λ i address. matched (has_bit number k) (digits k number) h.next default address i)
 
-other_bit : (bits : List Bool) (n number k offset default : ℕ) (f : List Bool → ℕ) (c : Bool) → IsMatching bits n number (suc k) offset default f → (has_bit number k ≡ c → ⊥) → after c f ≡ (λ address. default)
+other_bit : (bits : List Bool) (n number k offset default : ℕ) (f : List Bool → ℕ) (c : Bool) → IsMatching bits n number (suc k) offset default f → (has_bit number k ≡ c → ⊥) → after_bit c f ≡ (λ address. default)
 other_bit bits n number k offset default f c h other =
     (λ i address. more_digits bits n number k offset default f h i (c ∷ address))
     ∙ (λ i address. unmatched (has_bit number k) c (digits k number) h.next default address other i)
@@ -167,7 +167,7 @@ one_less bits n number size offset default f h =
     subst (λ s. IsMatching bits n number s offset default f) e h
 
 -- an address that goes on with another bit
-pub after_other : (bits : List Bool) (n number size offset default : ℕ) (f : List Bool → ℕ) (c : Bool) → IsMatching bits n number size offset default f → (has_bit number (size - 1) ≡ c → ⊥) → after c f ≡ (λ address. default)
+pub after_other : (bits : List Bool) (n number size offset default : ℕ) (f : List Bool → ℕ) (c : Bool) → IsMatching bits n number size offset default f → (has_bit number (size - 1) ≡ c → ⊥) → after_bit c f ≡ (λ address. default)
 after_other bits n number size offset default f c h other =
     other_bit bits n number (size - 1) offset default f c (one_less bits n number size offset default f h) other
 
@@ -175,19 +175,19 @@ none_wanted : (number : ℕ) (next : List Bool → ℕ) (default : ℕ) (address
 unfolding digits begins_with
 none_wanted number next default address = refl
 
-last_bit : (bits : List Bool) (n number k offset default : ℕ) (f : List Bool → ℕ) → k ≡ 0 → IsMatching bits n number (suc k) offset default f → IsTree bits (n - 1) offset default (after (has_bit number k) f)
+last_bit : (bits : List Bool) (n number k offset default : ℕ) (f : List Bool → ℕ) → k ≡ 0 → IsMatching bits n number (suc k) offset default f → IsTree bits (n - 1) offset default (after_bit (has_bit number k) f)
 last_bit bits n number k offset default f none h =
-    let same : after (has_bit number k) f ≡ h.next =
+    let same : after_bit (has_bit number k) f ≡ h.next =
     after_wanted bits n number k offset default f h ∙ ap (λ j. matching (digits j number) h.next default) none ∙ (λ i address. none_wanted number h.next default address i) in
     let left : n - suc k ≡ n - 1 = omega (arith, none) in
     subst (λ g. IsTree bits (n - 1) offset default g) (sym same) (subst (λ m. IsTree bits m offset default h.next) left h.tree)
 
 -- the last wanted bit: the tree follows
-pub after_last : (bits : List Bool) (n number size offset default : ℕ) (f : List Bool → ℕ) → size ≡ 1 → IsMatching bits n number size offset default f → IsTree bits (n - 1) offset default (after (has_bit number (size - 1)) f)
+pub after_last : (bits : List Bool) (n number size offset default : ℕ) (f : List Bool → ℕ) → size ≡ 1 → IsMatching bits n number size offset default f → IsTree bits (n - 1) offset default (after_bit (has_bit number (size - 1)) f)
 after_last bits n number size offset default f e h =
     last_bit bits n number (size - 1) offset default f (omega (arith, e)) (one_less bits n number size offset default f h)
 
-next_bit : (bits : List Bool) (n number k offset default : ℕ) (f : List Bool → ℕ) → 0 < k → IsMatching bits n number (suc k) offset default f → IsMatching bits (n - 1) number k offset default (after (has_bit number k) f)
+next_bit : (bits : List Bool) (n number k offset default : ℕ) (f : List Bool → ℕ) → 0 < k → IsMatching bits n number (suc k) offset default f → IsMatching bits (n - 1) number k offset default (after_bit (has_bit number k) f)
 next_bit bits n number k offset default f some h =
     let left : n - suc k ≡ n - 1 - k = omega arith in
     record {
@@ -200,7 +200,7 @@ next_bit bits n number k offset default f some h =
     }
 
 -- more bits are wanted
-pub after_first : (bits : List Bool) (n number size offset default : ℕ) (f : List Bool → ℕ) → (size ≡ 1 → ⊥) → IsMatching bits n number size offset default f → IsMatching bits (n - 1) number (size - 1) offset default (after (has_bit number (size - 1)) f)
+pub after_first : (bits : List Bool) (n number size offset default : ℕ) (f : List Bool → ℕ) → (size ≡ 1 → ⊥) → IsMatching bits n number size offset default f → IsMatching bits (n - 1) number (size - 1) offset default (after_bit (has_bit number (size - 1)) f)
 after_first bits n number size offset default f more h =
     let some : 0 < size - 1 = omega (arith, more, h.some) in
     next_bit bits n number (size - 1) offset default f some (one_less bits n number size offset default f h)

@@ -4,7 +4,7 @@ use Rattle.std.proofs.Common.{◌≡◌, ℕ, zero, suc, ◌==◌, Bool, true, f
 use Rattle.std.specs.Prelude.{◌&&◌}
 use Rattle.std.proofs.lemmas.Bool.{eqb-true, cases_Bool}
 use Rattle.bit_code.specs.Prefixes.{begins_with}
-use Rattle.map_diff.specs.Diff.{Change, Part, Same, Mixed, after, under, unless_equal, changes_of, same_pair, both, joined, part, changes, first_over, if_differing}
+use Rattle.map_diff.specs.Diff.{Change, Part, Same, Mixed, after_bit, under_bit, unless_equal, changes_of, same_pair, both, joined, part, changes, first_over, if_differing}
 
 -- two lists one after the other, of which the second says nothing
 over_append_none : (xs ys : List Change) (bits : List Bool) → first_over ys bits ≡ None → first_over (xs ++ ys) bits ≡ first_over xs bits
@@ -26,19 +26,19 @@ over_none_append (c ∷ cs) ys bits h =
     some_none p e = subst (λ o. elim o as (λ _. Type 0) [ Some x ↦ Unit {0} | None ↦ ⊥ ]) e tt
 
 -- changes under the address's own bit
-over_under : (b : Bool) (cs : List Change) (bits : List Bool) → first_over (map (under b) cs) (b ∷ bits) ≡ first_over cs bits
+over_under : (b : Bool) (cs : List Change) (bits : List Bool) → first_over (map (under_bit b) cs) (b ∷ bits) ≡ first_over cs bits
 unfolding first_over begins_with
 over_under b [] bits = refl
 over_under true (c ∷ cs) bits = ap (cond (begins_with bits c.path) (Some (c.old, c.new))) (over_under true cs bits)
 over_under false (c ∷ cs) bits = ap (cond (begins_with bits c.path) (Some (c.old, c.new))) (over_under false cs bits)
 
 -- changes under the other bit
-over_low : (cs : List Change) (bits : List Bool) → first_over (map (under true) cs) (false ∷ bits) ≡ None
+over_low : (cs : List Change) (bits : List Bool) → first_over (map (under_bit true) cs) (false ∷ bits) ≡ None
 unfolding first_over begins_with
 over_low [] bits = refl
 over_low (c ∷ cs) bits = over_low cs bits
 
-over_high : (cs : List Change) (bits : List Bool) → first_over (map (under false) cs) (true ∷ bits) ≡ None
+over_high : (cs : List Change) (bits : List Bool) → first_over (map (under_bit false) cs) (true ∷ bits) ≡ None
 unfolding first_over begins_with
 over_high [] bits = refl
 over_high (c ∷ cs) bits = over_high cs bits
@@ -51,13 +51,13 @@ over_equal a b bits = elim (a == b) as (λ t. first_over (cond t [] (record { pa
 over_both_low : (l r : Part) (bits : List Bool) → first_over (changes_of (both l r)) (false ∷ bits) ≡ first_over (changes_of l) bits
 unfolding changes_of
 over_both_low l r bits =
-    over_append_none (map (under false) (changes_of l)) (map (under true) (changes_of r)) (false ∷ bits) (over_low (changes_of r) bits)
+    over_append_none (map (under_bit false) (changes_of l)) (map (under_bit true) (changes_of r)) (false ∷ bits) (over_low (changes_of r) bits)
     ∙ over_under false (changes_of l) bits
 
 over_both_high : (l r : Part) (bits : List Bool) → first_over (changes_of (both l r)) (true ∷ bits) ≡ first_over (changes_of r) bits
 unfolding changes_of
 over_both_high l r bits =
-    over_none_append (map (under false) (changes_of l)) (map (under true) (changes_of r)) (true ∷ bits) (over_high (changes_of l) bits)
+    over_none_append (map (under_bit false) (changes_of l)) (map (under_bit true) (changes_of r)) (true ∷ bits) (over_high (changes_of l) bits)
     ∙ over_under true (changes_of r) bits
 
 and_left : (a b : Bool) → (a && b) ≡ true → a ≡ true
@@ -110,11 +110,11 @@ changes_exact zero f g [] h = over_equal (f []) (g []) []
 changes_exact zero f g (b ∷ bits) h = absurd (omega (arith, h))
 changes_exact (suc n) f g [] h = absurd (omega (arith, h))
 changes_exact (suc n) f g (false ∷ bits) h =
-    over_joined_low (part n (after false f) (after false g)) (part n (after true f) (after true g)) bits
-    ∙ changes_exact n (after false f) (after false g) bits (omega (arith, h))
+    over_joined_low (part n (after_bit false f) (after_bit false g)) (part n (after_bit true f) (after_bit true g)) bits
+    ∙ changes_exact n (after_bit false f) (after_bit false g) bits (omega (arith, h))
 changes_exact (suc n) f g (true ∷ bits) h =
-    over_joined_high (part n (after false f) (after false g)) (part n (after true f) (after true g)) bits
-    ∙ changes_exact n (after true f) (after true g) bits (omega (arith, h))
+    over_joined_high (part n (after_bit false f) (after_bit false g)) (part n (after_bit true f) (after_bit true g)) bits
+    ∙ changes_exact n (after_bit true f) (after_bit true g) bits (omega (arith, h))
 
 joined_same : (l r : Part) (a b : ℕ) → l ≡ Same a b → r ≡ Same a b → joined l r ≡ Same a b
 unfolding joined
@@ -128,6 +128,6 @@ pub all_same : (n : ℕ) (f g : List Bool → ℕ) (a b : ℕ) → ((bits : List
 unfolding part
 all_same zero f g a b h = λ i. Same ((h [] refl).0 i) ((h [] refl).1 i)
 all_same (suc n) f g a b h =
-    joined_same (part n (after false f) (after false g)) (part n (after true f) (after true g)) a b
-    (all_same n (after false f) (after false g) a b (λ bits e. h (false ∷ bits) (omega (arith, e))))
-    (all_same n (after true f) (after true g) a b (λ bits e. h (true ∷ bits) (omega (arith, e))))
+    joined_same (part n (after_bit false f) (after_bit false g)) (part n (after_bit true f) (after_bit true g)) a b
+    (all_same n (after_bit false f) (after_bit false g) a b (λ bits e. h (false ∷ bits) (omega (arith, e))))
+    (all_same n (after_bit true f) (after_bit true g) a b (λ bits e. h (true ∷ bits) (omega (arith, e))))

@@ -3,7 +3,7 @@ use Rattle.std.proofs.Common.{◌≡◌, ℕ, zero, suc, ◌==◌, ◌+◌, ◌�
 use Rattle.std.specs.Prelude.{⊤}
 use Rattle.std.proofs.lemmas.Bool.{cases_Bool}
 use Rattle.bit_code.specs.Prefixes.{begins_with}
-use Rattle.map_diff.specs.Diff.{Change, Part, Same, after, unless_equal, changes_of, both, joined, part, changes, first_over, if_differing, IsChange, EachIsChange, AreChanges}
+use Rattle.map_diff.specs.Diff.{Change, Part, Same, after_bit, unless_equal, changes_of, both, joined, part, changes, first_over, if_differing, IsChange, EachIsChange, AreChanges}
 use Rattle.map_diff.proofs.DiffLaws.{all_same, changes_exact, over_equal}
 use Rattle.map_diff.proofs.Parts.{IsSame, IsBoth, some_none, mixed_same, differ_is, both_long, form_of}
 
@@ -31,14 +31,14 @@ unfolding cut
 cut_count [] = omega arith
 cut_count (c ∷ cs) = one_cut c.path c (cut false cs) (cut true cs) (length cs) (cut_count cs)
 
-short : (b : Bool) (p : List Bool) (n : ℕ) (f g : List Bool → ℕ) (c : Change) → c.path ≡ b ∷ p → ((bits : List Bool) → begins_with (b ∷ bits) (b ∷ p) ≡ begins_with bits p) → IsChange (suc n) f g c → IsChange n (after b f) (after b g) (record { path = p; old = c.old; new = c.new })
+short : (b : Bool) (p : List Bool) (n : ℕ) (f g : List Bool → ℕ) (c : Change) → c.path ≡ b ∷ p → ((bits : List Bool) → begins_with (b ∷ bits) (b ∷ p) ≡ begins_with bits p) → IsChange (suc n) f g c → IsChange n (after_bit b f) (after_bit b g) (record { path = p; old = c.old; new = c.new })
 short b p n f g c e same h =
     record {
       differ = h.differ;
       constant = λ bits long begins. h.constant (b ∷ bits) (omega (arith, long)) (ap (begins_with (b ∷ bits)) e ∙ same bits ∙ begins);
     }
 
-one_each : (b : Bool) (p : List Bool) (n : ℕ) (f g : List Bool → ℕ) (c : Change) (rest : List Change) → c.path ≡ p → IsChange (suc n) f g c → EachIsChange n (after b f) (after b g) rest → EachIsChange n (after b f) (after b g) (cut_one b p c rest)
+one_each : (b : Bool) (p : List Bool) (n : ℕ) (f g : List Bool → ℕ) (c : Change) (rest : List Change) → c.path ≡ p → IsChange (suc n) f g c → EachIsChange n (after_bit b f) (after_bit b g) rest → EachIsChange n (after_bit b f) (after_bit b g) (cut_one b p c rest)
 unfolding cut_one begins_with
 one_each b [] n f g c rest e h more = more
 one_each true (true ∷ p) n f g c rest e h more = (short true p n f g c e (λ bits. refl) h, more)
@@ -46,7 +46,7 @@ one_each false (false ∷ p) n f g c rest e h more = (short false p n f g c e (�
 one_each true (false ∷ p) n f g c rest e h more = more
 one_each false (true ∷ p) n f g c rest e h more = more
 
-cut_each : (b : Bool) (n : ℕ) (f g : List Bool → ℕ) (cs : List Change) → EachIsChange (suc n) f g cs → EachIsChange n (after b f) (after b g) (cut b cs)
+cut_each : (b : Bool) (n : ℕ) (f g : List Bool → ℕ) (cs : List Change) → EachIsChange (suc n) f g cs → EachIsChange n (after_bit b f) (after_bit b g) (cut b cs)
 unfolding cut
 cut_each b n f g [] h = tt
 cut_each b n f g (c ∷ cs) h = one_each b c.path n f g c (cut b cs) refl h.0 (cut_each b n f g cs h.1)
@@ -79,7 +79,7 @@ have_bits n f g [] mixed h = tt
 have_bits n f g (c ∷ cs) mixed h = (λ e. mixed c.old c.new (whole_pair n f g c h.0 e), have_bits n f g cs mixed h.1)
 
 -- each side of changes that cover all is covered by those of its bit
-cut_are : (b : Bool) (n : ℕ) (f g : List Bool → ℕ) (cs : List Change) → ((x y : ℕ) → part (suc n) f g ≡ Same x y → ⊥) → AreChanges (suc n) f g cs → AreChanges n (after b f) (after b g) (cut b cs)
+cut_are : (b : Bool) (n : ℕ) (f g : List Bool → ℕ) (cs : List Change) → ((x y : ℕ) → part (suc n) f g ≡ Same x y → ⊥) → AreChanges (suc n) f g cs → AreChanges n (after_bit b f) (after_bit b g) (cut b cs)
 cut_are b n f g cs mixed h =
     record {
       each = cut_each b n f g cs h.each;
@@ -133,8 +133,8 @@ pub fewest : (n : ℕ) (f g : List Bool → ℕ) (cs : List Change) → AreChang
 unfolding part
 fewest zero f g cs h = pair_fewest zero f g cs (f []) (g []) refl h
 fewest (suc n) f g cs h =
-    let l = part n (after false f) (after false g) in
-    let r = part n (after true f) (after true g) in
+    let l = part n (after_bit false f) (after_bit false g) in
+    let r = part n (after_bit true f) (after_bit true g) in
     elim (form_of l r) [
       | IsSame a b e ↦ pair_fewest (suc n) f g cs a b e h
       | IsBoth e ↦
@@ -144,7 +144,7 @@ fewest (suc n) f g cs h =
             ap (λ w. length (changes_of w)) e,
             both_long l r,
             cut_count cs,
-            fewest n (after false f) (after false g) (cut false cs) (cut_are false n f g cs mixed h),
-            fewest n (after true f) (after true g) (cut true cs) (cut_are true n f g cs mixed h),
+            fewest n (after_bit false f) (after_bit false g) (cut false cs) (cut_are false n f g cs mixed h),
+            fewest n (after_bit true f) (after_bit true g) (cut true cs) (cut_are true n f g cs mixed h),
           )
     ]

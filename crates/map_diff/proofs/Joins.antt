@@ -1,7 +1,7 @@
 -- How the changes of two sides become those of a part.
 use Rattle.std.proofs.Common.{◌≡◌, ℕ, suc, ◌==◌, ◌+◌, ◌≤◌, Bool, true, false, List, [], ◌∷◌, ◌++◌, map, length, take, cond, Option, Some, None, refl, ap, sym, ◌∙◌, subst, arith, append_assoc, length-append}
 use Rattle.asmap_back.specs.Back.{first_at}
-use Rattle.map_diff.specs.Diff.{Change, Part, Same, Mixed, under, unless_equal, changes_of, same_pair, both, joined, changed_at}
+use Rattle.map_diff.specs.Diff.{Change, Part, Same, Mixed, under_bit, unless_equal, changes_of, same_pair, both, joined, changed_at}
 use Rattle.map_diff.specs.Inside.{rows_at, IsRead, HasCause, Sides, is_one_pair, AreSides}
 use Rattle.map_diff.specs.declared.change.ChangedPrefix.{ChangedPrefix}
 use Rattle.map_diff.specs.declared.walk.Pair.{Pair}
@@ -12,7 +12,7 @@ use Rattle.map_diff.proofs.DiffLaws.{same_first, same_second}
 use Rattle.map_diff.proofs.Parts.{true_false, both_long}
 
 -- changes below a bit are those below the longer path
-pub rows_under : (p : List Bool) (b : Bool) (cs : List Change) → rows_at p (map (under b) cs) ≡ rows_at (p ++ b ∷ []) cs
+pub rows_under : (p : List Bool) (b : Bool) (cs : List Change) → rows_at p (map (under_bit b) cs) ≡ rows_at (p ++ b ∷ []) cs
 unfolding rows_at
 rows_under p b [] = refl
 rows_under p b (c ∷ cs) =
@@ -31,7 +31,7 @@ rows_append p (c ∷ cs) ys = ap (λ rest. changed_at p c ∷ rest) (rows_append
 rows_both : (p : List Bool) (l r : Part) → rows_at p (changes_of (both l r)) ≡ rows_at (p ++ false ∷ []) (changes_of l) ++ rows_at (p ++ true ∷ []) (changes_of r)
 unfolding changes_of
 rows_both p l r =
-    rows_append p (map (under false) (changes_of l)) (map (under true) (changes_of r))
+    rows_append p (map (under_bit false) (changes_of l)) (map (under_bit true) (changes_of r))
     ∙ (λ i. rows_under p false (changes_of l) i ++ rows_under p true (changes_of r) i)
 
 -- the rows of a side were appended, if its pair was

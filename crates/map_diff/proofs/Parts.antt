@@ -1,6 +1,6 @@
 -- The parts of two maps, by their two sides.
 use Rattle.std.proofs.Common.{◌≡◌, ℕ, suc, ◌==◌, ◌+◌, Bool, true, false, List, [], ◌∷◌, map, length, cond, Some, None, refl, ap, subst, arith, length-append}
-use Rattle.map_diff.specs.Diff.{Change, Part, Same, Mixed, under, changes_of, same_pair, both, joined, if_differing}
+use Rattle.map_diff.specs.Diff.{Change, Part, Same, Mixed, under_bit, changes_of, same_pair, both, joined, if_differing}
 
 pub true_false : true ≡ false → ⊥
 true_false e = subst (λ t. elim t as (λ _. Type 0) [ true ↦ Unit {0} | false ↦ ⊥ ]) e tt
@@ -16,7 +16,7 @@ pub differ_is : (a b : ℕ) → (a == b) ≡ false → if_differing a b ≡ Some
 unfolding if_differing
 differ_is a b off = ap (λ t. cond t None (Some (a, b))) off
 
-under_long : (b : Bool) (cs : List Change) → length (map (under b) cs) ≡ length cs
+under_long : (b : Bool) (cs : List Change) → length (map (under_bit b) cs) ≡ length cs
 under_long b [] = refl
 under_long b (c ∷ cs) = ap suc (under_long b cs)
 
@@ -24,7 +24,7 @@ under_long b (c ∷ cs) = ap suc (under_long b cs)
 pub both_long : (l r : Part) → length (changes_of (both l r)) ≡ length (changes_of l) + length (changes_of r)
 unfolding changes_of
 both_long l r =
-    omega (arith, length-append (map (under false) (changes_of l)) (map (under true) (changes_of r)), under_long false (changes_of l), under_long true (changes_of r))
+    omega (arith, length-append (map (under_bit false) (changes_of l)) (map (under_bit true) (changes_of r)), under_long false (changes_of l), under_long true (changes_of r))
 
 -- a part is one pair, or else its two sides
 pub data Form (l r whole : Part) : Type 0 where

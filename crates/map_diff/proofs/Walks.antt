@@ -1,7 +1,7 @@
 -- The part of two maps below a path by those below its two sides.
 use Rattle.std.proofs.Common.{◌≡◌, ℕ, suc, ◌+◌, ◌-◌, ◌<◌, ◌^◌, Bool, true, false, List, [], ◌∷◌, ◌++◌, length, Option, Some, None, refl, ap, sym, ◌∙◌, subst, arith}
 use Rattle.asmap_back.specs.Back.{first_at}
-use Rattle.map_diff.specs.Diff.{Part, Same, after, part, joined, changes_of}
+use Rattle.map_diff.specs.Diff.{Part, Same, after_bit, part, joined, changes_of}
 use Rattle.map_diff.specs.Inside.{IsMap, AreMaps, part_at, rows_at, IsRead, IsPair, HasCause, Sides, AreSides}
 use Rattle.map_diff.specs.declared.change.ChangedPrefix.{ChangedPrefix}
 use Rattle.map_diff.specs.declared.cursor.Cursor.{Cursor}
@@ -18,16 +18,16 @@ left_after : (p : List Bool) (b : Bool) → length p < 128 → 128 - length p - 
 left_after p b low = omega (arith, longer p b)
 
 abbrev pub side_part : List Bool → Bool → (List Bool → ℕ) → (List Bool → ℕ) → Part
-side_part p b f g = part_at (p ++ b ∷ []) (after b f) (after b g)
+side_part p b f g = part_at (p ++ b ∷ []) (after_bit b f) (after_bit b g)
 
-split_by : (n m : ℕ) (f g : List Bool → ℕ) → n ≡ suc m → part n f g ≡ joined (part m (after false f) (after false g)) (part m (after true f) (after true g))
+split_by : (n m : ℕ) (f g : List Bool → ℕ) → n ≡ suc m → part n f g ≡ joined (part m (after_bit false f) (after_bit false g)) (part m (after_bit true f) (after_bit true g))
 unfolding part
 split_by n m f g e = ap (λ k. part k f g) e
 
 pub split_part : (p : List Bool) (f g : List Bool → ℕ) → length p < 128 → part_at p f g ≡ joined (side_part p false f g) (side_part p true f g)
 split_part p f g low =
     split_by (128 - length p) (128 - length p - 1) f g (omega (arith, low))
-    ∙ (λ i. joined (part (left_after p false low i) (after false f) (after false g)) (part (left_after p true low i) (after true f) (after true g)))
+    ∙ (λ i. joined (part (left_after p false low i) (after_bit false f) (after_bit false g)) (part (left_after p true low i) (after_bit true f) (after_bit true g)))
 
 -- two fixed cursors are one pair
 pub fixed_pair : (old_bits new_bits : List Bool) (at : Prefix) (from to : Cursor) (p : List Bool) (f g : List Bool → ℕ) (a b : ℕ) → from ≡ cursors.Fixed a → to ≡ cursors.Fixed b → AreMaps old_bits new_bits at from to p f g → part_at p f g ≡ Same a b
@@ -38,26 +38,26 @@ fixed_pair old_bits new_bits at from to p f g a b e h maps =
 
 -- the maps below a zero-bit more
 pub below_zero : (old_bits new_bits : List Bool) (at side : Prefix) (from to from_zero to_zero : Cursor) (p : List Bool) (f g : List Bool → ℕ) → length p < 128 → side ≡ record at { len = at.len + 1 } → AreMaps old_bits new_bits at from to p f g →
-    IsMap old_bits (128 - length p - 1) from_zero (after false f) → IsMap new_bits (128 - length p - 1) to_zero (after false g) → AreMaps old_bits new_bits side from_zero to_zero (p ++ false ∷ []) (after false f) (after false g)
+    IsMap old_bits (128 - length p - 1) from_zero (after_bit false f) → IsMap new_bits (128 - length p - 1) to_zero (after_bit false g) → AreMaps old_bits new_bits side from_zero to_zero (p ++ false ∷ []) (after_bit false f) (after_bit false g)
 below_zero old_bits new_bits at side from to from_zero to_zero p f g low e h old new =
     record {
       len = longer p false ∙ ap (λ n. n + 1) h.len ∙ sym (ap (λ (x : Prefix). x.len) e);
       bits = first_zero p low ∙ h.bits ∙ sym (ap (λ (x : Prefix). x.bits) e);
       short = omega (arith, longer p false);
-      old = subst (λ n. IsMap old_bits n from_zero (after false f)) (left_after p false low) old;
-      new = subst (λ n. IsMap new_bits n to_zero (after false g)) (left_after p false low) new;
+      old = subst (λ n. IsMap old_bits n from_zero (after_bit false f)) (left_after p false low) old;
+      new = subst (λ n. IsMap new_bits n to_zero (after_bit false g)) (left_after p false low) new;
     }
 
 -- and below a one-bit more
 pub below_one : (old_bits new_bits : List Bool) (at one : Prefix) (from to from_one to_one : Cursor) (p : List Bool) (f g : List Bool → ℕ) → length p < 128 → one ≡ record { bits = at.bits + 2 ^ (127 - at.len); len = at.len + 1 } → AreMaps old_bits new_bits at from to p f g →
-    IsMap old_bits (128 - length p - 1) from_one (after true f) → IsMap new_bits (128 - length p - 1) to_one (after true g) → AreMaps old_bits new_bits one from_one to_one (p ++ true ∷ []) (after true f) (after true g)
+    IsMap old_bits (128 - length p - 1) from_one (after_bit true f) → IsMap new_bits (128 - length p - 1) to_one (after_bit true g) → AreMaps old_bits new_bits one from_one to_one (p ++ true ∷ []) (after_bit true f) (after_bit true g)
 below_one old_bits new_bits at one from to from_one to_one p f g low e h old new =
     record {
       len = longer p true ∙ ap (λ n. n + 1) h.len ∙ sym (ap (λ (x : Prefix). x.len) e);
       bits = first_one p low ∙ (λ i. h.bits i + 2 ^ (127 - h.len i)) ∙ sym (ap (λ (x : Prefix). x.bits) e);
       short = omega (arith, longer p true);
-      old = subst (λ n. IsMap old_bits n from_one (after true f)) (left_after p true low) old;
-      new = subst (λ n. IsMap new_bits n to_one (after true g)) (left_after p true low) new;
+      old = subst (λ n. IsMap old_bits n from_one (after_bit true f)) (left_after p true low) old;
+      new = subst (λ n. IsMap new_bits n to_one (after_bit true g)) (left_after p true low) new;
     }
 
 -- a prefix with a bit more has its bits below the top

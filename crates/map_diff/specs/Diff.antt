@@ -19,12 +19,12 @@ pub data Part : Type 0 where
   Mixed : (changes : List Change) → Part
 
 -- a map of the addresses that begin with this bit
-abbrev pub after : Bool → (List Bool → ℕ) → List Bool → ℕ
-after b f bits = f (b ∷ bits)
+abbrev pub after_bit : Bool → (List Bool → ℕ) → List Bool → ℕ
+after_bit b f bits = f (b ∷ bits)
 
 -- the change with one bit more before its prefix
-abbrev pub under : Bool → Change → Change
-under b c = record { path = b ∷ c.path; old = c.old; new = c.new }
+abbrev pub under_bit : Bool → Change → Change
+under_bit b c = record { path = b ∷ c.path; old = c.old; new = c.new }
 
 -- all addresses, if their two numbers differ
 unfoldable pub unless_equal : ℕ → ℕ → List Change
@@ -40,7 +40,7 @@ same_pair a b c d = (a == c) && (b == d)
 
 -- two sides that are not one pair
 abbrev pub both : Part → Part → Part
-both l r = Mixed (map (under false) (changes_of l) ++ map (under true) (changes_of r))
+both l r = Mixed (map (under_bit false) (changes_of l) ++ map (under_bit true) (changes_of r))
 
 -- a part by its two sides
 unfoldable pub joined : Part → Part → Part
@@ -53,7 +53,7 @@ joined (Mixed cs) r = both (Mixed cs) r
 unfoldable pub part : ℕ → (List Bool → ℕ) → (List Bool → ℕ) → Part
 part zero f g = Same (f []) (g [])
 part (suc n) f g =
-    joined (part n (after false f) (after false g)) (part n (after true f) (after true g))
+    joined (part n (after_bit false f) (after_bit false g)) (part n (after_bit true f) (after_bit true g))
 
 -- the changes of two maps of addresses of n bits, in the order of their prefixes
 abbrev pub changes : ℕ → (List Bool → ℕ) → (List Bool → ℕ) → List Change
@@ -94,7 +94,7 @@ span_of n c = 2 ^ (n - length c.path)
 unfoldable pub differing : ℕ → (List Bool → ℕ) → (List Bool → ℕ) → ℕ
 differing zero f g = if f [] == g [] then 0 else 1
 differing (suc n) f g =
-    differing n (after false f) (after false g) + differing n (after true f) (after true g)
+    differing n (after_bit false f) (after_bit false g) + differing n (after_bit true f) (after_bit true g)
 
 -- the map of a tree
 abbrev pub map_of : Tree → List Bool → ℕ

@@ -6,7 +6,7 @@ use Rattle.asmap_vm.specs.Code.{Tree, meaning}
 use Rattle.asmap_vm.specs.Instructions.{HasTree}
 use Rattle.asmap_back.specs.Back.{first_at}
 use Rattle.prefix_table.specs.declared.row.TheConstants.{MAX_ROWS}
-use Rattle.map_diff.specs.Diff.{Change, Part, Same, Mixed, after, changes_of, same_pair, part, changed_at}
+use Rattle.map_diff.specs.Diff.{Change, Part, Same, Mixed, after_bit, changes_of, same_pair, part, changed_at}
 use Rattle.map_diff.specs.declared.change.ChangedPrefix.{ChangedPrefix}
 use Rattle.map_diff.specs.declared.cursor.Cursor.{Cursor}
 use Rattle.map_diff.specs.declared.cursor.Cursor.TheVariants.{Fixed, Fork, Match}
@@ -27,8 +27,8 @@ pub record IsTree (bits : List Bool) (n offset default : ℕ) (f : List Bool →
 -- the next address bit decides between two trees of the file
 pub record IsFork (bits : List Bool) (n left right default : ℕ) (f : List Bool → ℕ) : Type 0 where
   pub some : 0 < n
-  pub zero : IsTree bits (n - 1) left default (after false f)
-  pub one : IsTree bits (n - 1) right default (after true f)
+  pub zero : IsTree bits (n - 1) left default (after_bit false f)
+  pub one : IsTree bits (n - 1) right default (after_bit true f)
 
 -- an address that goes on with these bits gets the number of a map after them, others the default
 abbrev pub matching : List Bool → (List Bool → ℕ) → ℕ → List Bool → ℕ

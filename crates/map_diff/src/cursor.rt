@@ -1,6 +1,6 @@
 ghost use Rattle.std.specs.Prelude.{◌≡◌, ℕ, ◌<◌, ◌^◌, ◌-◌, ◌≤◌, Bool, true, false, List, length};
 ghost use Rattle.bit_code.specs.Coder.{has_bit};
-ghost use Rattle.map_diff.specs.Diff.{after};
+ghost use Rattle.map_diff.specs.Diff.{after_bit};
 ghost use Rattle.map_diff.specs.Inside.{IsTree, IsMap, IsMatching};
 
 use asmap_vm::{Instruction, first_instruction, match_size};
@@ -66,7 +66,7 @@ fn after_match(bits: &Bits<'_>, number: u32, size: u8, offset: usize, default: u
     requires matching { (n : ℕ) × ((f : List Bool → ℕ)
         × IsMatching bits.now n number size offset default f) }
     ensures { (n : ℕ) (f : List Bool → ℕ) → IsMatching bits.now n number size offset default f
-        → IsMap bits.now (n - 1) result (after (has_bit number (size - 1)) f) }
+        → IsMap bits.now (n - 1) result (after_bit (has_bit number (size - 1)) f) }
 {
     if size == 1 {
         return cursor_at(bits, offset, default);
@@ -84,9 +84,9 @@ pub(crate) fn sides(bits: &Bits<'_>, cursor: Cursor) -> (Cursor, Cursor)
     requires size { length bits.now < 2 ^ 32 }
     requires map { (n : ℕ) × ((f : List Bool → ℕ) × IsMap bits.now n cursor f) }
     ensures zero { (n : ℕ) (f : List Bool → ℕ) → IsMap bits.now n cursor f
-        → IsMap bits.now (n - 1) result.0 (after false f) }
+        → IsMap bits.now (n - 1) result.0 (after_bit false f) }
     ensures one { (n : ℕ) (f : List Bool → ℕ) → IsMap bits.now n cursor f
-        → IsMap bits.now (n - 1) result.1 (after true f) }
+        → IsMap bits.now (n - 1) result.1 (after_bit true f) }
 {
     match cursor {
         Cursor::Fixed(_) => (cursor, cursor),

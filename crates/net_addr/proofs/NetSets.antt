@@ -7,8 +7,8 @@ use Rattle.std.proofs.lemmas.Bool.{and_parts}
 use Rattle.std.proofs.lemmas.Bool.Decides.{Decides-eqb, Decides-ltb, same_from_decides}
 use Rattle.std.proofs.lemmas.Nat.Bits.{shr_and_one}
 use Rattle.std.proofs.lemmas.Slice.Eq.{bytes_eq-Decides}
-use Rattle.net_addr.specs.Address.{number_of}
-use Rattle.net_addr.specs.NetSet.{all, has, has_number, with}
+use Rattle.net_addr.specs.Address.{net_number}
+use Rattle.net_addr.specs.NetSet.{all, has, has_number, with_net}
 use Rattle.net_addr.specs.NetBits.{bits_of, bits_of-nets_of, each_below, nets_of}
 use Rattle.net_addr.specs.declared.net.Net.{Net}
 use Rattle.net_addr.specs.declared.net.Net.TheVariants.{Unroutable, Ipv4, Ipv6, Onion, I2p, Cjdns, Internal}
@@ -38,7 +38,7 @@ has_number-filter p number (x ∷ xs) =
     ∙ filter_step (x == number) (has_number xs number) (p number) (p x) (λ same. ap p ((Decides-eqb x number).0 same))
 
 -- each network is one of all
-has_number-all : (net : Net) (p : Bool) → (has_number all (number_of net) && p) ≡ p
+has_number-all : (net : Net) (p : Bool) → (has_number all (net_number net) && p) ≡ p
 has_number-all Unroutable p = refl
 has_number-all Ipv4 p = refl
 has_number-all Ipv6 p = refl
@@ -48,22 +48,22 @@ has_number-all Cjdns p = refl
 has_number-all Internal p = refl
 
 -- a set with one more network has that network, and of the others those that it had
-pub has-with : (nets : List ℕ) (net other : Net) → has (with nets net) other ≡ (has nets other || number_of other == number_of net)
+pub has-with : (nets : List ℕ) (net other : Net) → has (with_net nets net) other ≡ (has nets other || net_number other == net_number net)
 has-with nets net other =
-    let p : ℕ → Bool = λ n. has_number nets n || n == number_of net in
-    has_number-filter p (number_of other) all ∙ has_number-all other (p (number_of other))
+    let p : ℕ → Bool = λ n. has_number nets n || n == net_number net in
+    has_number-filter p (net_number other) all ∙ has_number-all other (p (net_number other))
 
 -- a network is in the set if its bit is set
-pub has-nets_of : (bits : ℕ) (net : Net) → (bit_and (bits / 2 ^ number_of net) 1 == 1) ≡ has (nets_of bits) net
+pub has-nets_of : (bits : ℕ) (net : Net) → (bit_and (bits / 2 ^ net_number net) 1 == 1) ≡ has (nets_of bits) net
 has-nets_of bits net =
-    ap (λ b. b == 1) (shr_and_one bits (number_of net))
-    ∙ sym (has_number-filter (λ n. bit_at bits n == 1) (number_of net) all ∙ has_number-all net (bit_at bits (number_of net) == 1))
+    ap (λ b. b == 1) (shr_and_one bits (net_number net))
+    ∙ sym (has_number-filter (λ n. bit_at bits n == 1) (net_number net) all ∙ has_number-all net (bit_at bits (net_number net) == 1))
 
 abbrev bits_with : ℕ → ℕ → ℕ
 bits_with number bits = bit_or bits (1 * 2 ^ number % 256)
 
 abbrev is_with : Net → ℕ → Bool
-is_with net bits = bytes_eq (nets_of (bits_with (number_of net) bits)) (with (nets_of bits) net) && nat_lt (bits_with (number_of net) bits) 128
+is_with net bits = bytes_eq (nets_of (bits_with (net_number net) bits)) (with_net (nets_of bits) net) && nat_lt (bits_with (net_number net) bits) 128
 
 each_with : (net : Net) (bits : ℕ) → bits < 128 → is_with net bits ≡ true
 each_with Unroutable = each_below (is_with Unroutable) 128 refl
@@ -75,13 +75,13 @@ each_with Cjdns = each_below (is_with Cjdns) 128 refl
 each_with Internal = each_below (is_with Internal) 128 refl
 
 -- one more bit is one more network
-pub nets_of-with : (bits : ℕ) (net : Net) → bits < 128 → nets_of (bits_with (number_of net) bits) ≡ with (nets_of bits) net
+pub nets_of-with : (bits : ℕ) (net : Net) → bits < 128 → nets_of (bits_with (net_number net) bits) ≡ with_net (nets_of bits) net
 nets_of-with bits net below =
-    (bytes_eq-Decides (nets_of (bits_with (number_of net) bits)) (with (nets_of bits) net)).0
+    (bytes_eq-Decides (nets_of (bits_with (net_number net) bits)) (with_net (nets_of bits) net)).0
     (and_parts _ _ (each_with net bits below)).0
 
-pub bits_with-below : (bits : ℕ) (net : Net) → bits < 128 → bits_with (number_of net) bits < 128
-bits_with-below bits net below = (Decides-ltb (bits_with (number_of net) bits) 128).0 (and_parts _ _ (each_with net bits below)).1
+pub bits_with-below : (bits : ℕ) (net : Net) → bits < 128 → bits_with (net_number net) bits < 128
+bits_with-below bits net below = (Decides-ltb (bits_with (net_number net) bits) 128).0 (and_parts _ _ (each_with net bits below)).1
 
 -- two sets are equal if their bits are
 pub same_nets : (a b : ℕ) → a < 128 → b < 128 → (a == b) ≡ bytes_eq (nets_of a) (nets_of b)

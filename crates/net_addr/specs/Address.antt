@@ -21,14 +21,14 @@ length_of Cjdns = 16
 length_of Internal = 10
 
 -- the number of a network, in the order of the variants (`enum Network` in netaddress.h)
-abbrev pub number_of : Net → ℕ
-number_of Unroutable = 0
-number_of Ipv4 = 1
-number_of Ipv6 = 2
-number_of Onion = 3
-number_of I2p = 4
-number_of Cjdns = 5
-number_of Internal = 6
+abbrev pub net_number : Net → ℕ
+net_number Unroutable = 0
+net_number Ipv4 = 1
+net_number Ipv6 = 2
+net_number Onion = 3
+net_number I2p = 4
+net_number Cjdns = 5
+net_number Internal = 6
 
 -- the prefix of an IPv4 address in the old sixteen-byte form (`IPV4_IN_IPV6_PREFIX`)
 abbrev pub mapped_prefix : List ℕ

@@ -8,14 +8,14 @@ use Rattle.std.specs.Hash as fed
 use Rattle.std.proofs.Common.{sym, ap, ◌∙◌}
 use Rattle.std.proofs.lemmas.Slice.Eq.{bytes_eq-Decides}
 use Rattle.std.proofs.lemmas.Bool.Decides.{Decides-and, Decides-eqb}
-use Rattle.net_addr.specs.Address.{Address, number_of}
+use Rattle.net_addr.specs.Address.{Address, net_number}
 use Rattle.net_addr.specs.declared.net.Net.{Net}
 use Rattle.net_addr.specs.declared.peer.Peer.{Peer}
 use Rattle.net_addr.specs.declared.net.Net.TheVariants.{Unroutable, Ipv4, Ipv6, Onion, I2p, Cjdns, Internal}
 
 -- the number of the network and then the bytes, by which two addresses differ
 abbrev pub number_and_bytes : Address → List ℕ
-number_and_bytes a = number_of a.net ∷ a.bytes
+number_and_bytes a = net_number a.net ∷ a.bytes
 
 -- the two are the same address of the same network
 unfoldable pub same_address : Address → Address → Bool
@@ -31,17 +31,17 @@ network (suc (suc (suc (suc zero)))) = I2p
 network (suc (suc (suc (suc (suc zero))))) = Cjdns
 network (suc (suc (suc (suc (suc (suc n)))))) = Internal
 
-network-number_of : (n : Net) → network (number_of n) ≡ n
-network-number_of Unroutable = refl
-network-number_of Ipv4 = refl
-network-number_of Ipv6 = refl
-network-number_of Onion = refl
-network-number_of I2p = refl
-network-number_of Cjdns = refl
-network-number_of Internal = refl
+network-net_number : (n : Net) → network (net_number n) ≡ n
+network-net_number Unroutable = refl
+network-net_number Ipv4 = refl
+network-net_number Ipv6 = refl
+network-net_number Onion = refl
+network-net_number I2p = refl
+network-net_number Cjdns = refl
+network-net_number Internal = refl
 
-pub number_of_injective : (m n : Net) → number_of m ≡ number_of n → m ≡ n
-number_of_injective m n e = sym (network-number_of m) ∙ ap network e ∙ network-number_of n
+pub number_of_injective : (m n : Net) → net_number m ≡ net_number n → m ≡ n
+number_of_injective m n e = sym (network-net_number m) ∙ ap network e ∙ network-net_number n
 
 same_parts : (a b : Address) → a.net ≡ b.net → a.bytes ≡ b.bytes → a ≡ b
 same_parts a b e f = λ i. record { net = e i; bytes = f i }
@@ -67,7 +67,7 @@ same_address-per = partial_equiv_from_equiv same_address-equiv
 
 -- what `hash` feeds a hasher, in two writes: the network's number, and the bytes
 abbrev pub hashed : Address → List (List ℕ)
-hashed a = fed.u8 (number_of a.net) ++ a.bytes ∷ []
+hashed a = fed.u8 (net_number a.net) ++ a.bytes ∷ []
 
 pub same_address-hashed : (a b : Address) → IsTrue (same_address a b) → hashed a ≡ hashed b
 same_address-hashed a b h = ap hashed ((same_address-Decides a b).0 h)

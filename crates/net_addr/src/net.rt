@@ -27,13 +27,13 @@ const NETS: [Net; 7] = [
 
 impl Net {
     ghost use Rattle.std.specs.Prelude.{◌≡◌, ◌≢◌, IfSome, IfNone};
-    ghost use Rattle.net_addr.specs.Address.{number_of, length_of};
+    ghost use Rattle.net_addr.specs.Address.{net_number, length_of};
     ghost use Rattle.net_addr.specs.Text.{net_name};
 
     /// Returns the number of the network as `enum Network` in netaddress.h of Bitcoin Core has it:
     /// 0 for `Unroutable` up to 6 for `Internal`.
     pub fn number(self) -> u8
-        ensures { result ≡ number_of self }
+        ensures { result ≡ net_number self }
     {
         self as u8
     }

@@ -26,7 +26,7 @@ impl Model for NetSet {
 }
 
 impl NetSet {
-    ghost use Rattle.net_addr.specs.NetSet.{all, none, has, with};
+    ghost use Rattle.net_addr.specs.NetSet.{all, none, has, with_net};
 
     /// Returns the set of all seven networks.
     pub fn all() -> NetSet
@@ -44,7 +44,7 @@ impl NetSet {
 
     /// Returns the set with one more network, which may be in it already.
     pub fn with(self, net: Net) -> NetSet
-        ensures { result ≡ with self net }
+        ensures { result ≡ with_net self net }
     {
         NetSet {
             bits: self.bits | 1 << net.number(),

@@ -5,7 +5,7 @@ use Rattle.std.proofs.lemmas.Bool.{ne_eqb}
 use Rattle.std.proofs.lemmas.Nat.{or_block, or_lt, le_or_r, pow_pos, div-add-mod'}
 use Rattle.std.specs.Int.Bits.{or_zero_r}
 use Rattle.std.proofs.Math.Nat.{mod-lt}
-use Rattle.net_group.specs.Group.{first_bits}
+use Rattle.net_group.specs.Group.{prefix_bytes}
 
 or_ones : (k r : ℕ) → r < 2 ^ k → bit_or r (2 ^ k - 1) ≡ 2 ^ k - 1
 or_ones k r h =
@@ -34,8 +34,8 @@ shifted (suc (suc (suc (suc (suc (suc zero)))))) p h = refl
 shifted (suc (suc (suc (suc (suc (suc (suc zero))))))) p h = refl
 shifted (suc (suc (suc (suc (suc (suc (suc (suc r)))))))) p h = absurd (omega arith)
 
-pub first_bits-part : (n : ℕ) (bytes : List ℕ) → n % 8 ≢ 0 → take (n / 8) bytes ++ bit_or (get_or bytes (n / 8) 0) (255 / 2 ^ (n % 8)) ∷ [] ≡ first_bits n bytes
-first_bits-part n bytes some =
+pub prefix_bytes-part : (n : ℕ) (bytes : List ℕ) → n % 8 ≢ 0 → take (n / 8) bytes ++ bit_or (get_or bytes (n / 8) 0) (255 / 2 ^ (n % 8)) ∷ [] ≡ prefix_bytes n bytes
+prefix_bytes-part n bytes some =
     let b = get_or bytes (n / 8) 0 in
     let byte = ap (λ m. bit_or b m) (shifted (n % 8) (omega arith) (omega arith)) ∙ or_low (8 - n % 8) b in
     rw (ne_eqb (n % 8) 0 some) (ap (λ m. take (n / 8) bytes ++ m ∷ []) byte)

@@ -1,7 +1,7 @@
 ghost use Rattle.std.specs.Prelude.{◌≡◌, ◌+◌, ◌*◌, ◌≤◌, [], ◌∷◌, ◌++◌, length, take, unwrap_or, if◌then◌else◌};
 ghost use Rattle.arrayvec.specs.ArrayVec.{array_vec_len};
-ghost use Rattle.net_group.specs.Group.{group_of, part_by, first_bits, he_net};
-ghost use Rattle.net_addr.specs.Address.{number_of};
+ghost use Rattle.net_group.specs.Group.{group_of, part_by, prefix_bytes, he_net};
+ghost use Rattle.net_addr.specs.Address.{net_number};
 ghost use Rattle.net_addr.specs.Ranges.{in_range, linked_by, net_class};
 
 use arrayvec::ArrayVec;
@@ -24,7 +24,7 @@ pub fn group(addr: &NetAddr, asn: u32) -> ArrayVec<u8, 11>
 /// Returns the number of the class, and the part of the address that its class groups by.
 fn group_by_class(addr: &NetAddr, class: Net) -> ArrayVec<u8, 11>
     requires { class ≡ net_class addr.now }
-    ensures { result.items ≡ number_of class ∷ part_by class addr.now }
+    ensures { result.items ≡ net_number class ∷ part_by class addr.now }
 {
     let mut group = ArrayVec::new();
     group.push(class.number());
@@ -69,7 +69,7 @@ fn append_linked(group: &mut ArrayVec<u8, 11>, addr: &NetAddr)
 fn append_bits(group: &mut ArrayVec<u8, 11>, bytes: &[u8], bits: usize)
     requires enough { bits ≤ 8 * length bytes.now }
     requires room { 8 * array_vec_len group.old + bits ≤ 80 }
-    ensures { group.new.items ≡ group.old.items ++ first_bits bits bytes.now }
+    ensures { group.new.items ≡ group.old.items ++ prefix_bytes bits bytes.now }
 {
     let whole = bits / 8;
     let rest = bits % 8;

@@ -22,7 +22,7 @@ use Rattle.node_json.specs.declared.numbers.Row.{Row}
 use Rattle.node_json.specs.declared.part.Part.TheVariants.{Both}
 use Rattle.node_json.specs.Groups.{counted_address, first_in, group_members, groups_array, groups_json, groups_members, health_members, is_clearnet, items_by, number_members, record_keys, row_items, rows_of, totals_by}
 use Rattle.node_json.specs.Inside.{items_tokens_of, tokens_of}
-use Rattle.node_json.specs.Value.{array_of, items_of, number_of, unless_zero}
+use Rattle.node_json.specs.Value.{array_of, items_of, json_number, unless_zero}
 use Rattle.node_json.proofs.Items.{array_value, items-append}
 use Rattle.node_json.proofs.Tokens.{AreShallow, shallow-append, shallow_object, shallow_unless}
 
@@ -72,7 +72,7 @@ shallow_group places n a =
     let d : depth (string []) ≤ 0 = omega arith in
     let name = (codes "group", string (name_of places a)) ∷ [] in
     let number = unless_zero (codes "mapped_as") (asn places.map a) in
-    let rest = (codes "new_slots", number_of n.slots) ∷ (codes "new_buckets", number_of n.buckets) ∷ (codes "new_records", number_of n.records) ∷ (codes "tried_records", number_of n.tried) ∷ [] in
+    let rest = (codes "new_slots", json_number n.slots) ∷ (codes "new_buckets", json_number n.buckets) ∷ (codes "new_records", json_number n.records) ∷ (codes "tried_records", json_number n.tried) ∷ [] in
     shallow-append 0 (name ++ number) rest (shallow-append 0 name number (d, tt) (shallow_unless _ _)) (d, (d, (d, (d, tt))))
 
 items_depth-append : (k : ℕ) (xs ys : List Json) → items_depth (items_of xs) ≤ k → items_depth (items_of ys) ≤ k → items_depth (items_of (xs ++ ys)) ≤ k

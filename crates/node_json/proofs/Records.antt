@@ -11,7 +11,7 @@ use Rattle.peer_rec.specs.declared.rec.Rec.{Rec}
 use Rattle.table_machine.specs.State.{State}
 use Rattle.node_json.specs.Inside.{peer_tokens, source_tokens, tokens_of}
 use Rattle.node_json.specs.Raw.{both_members, bucket_members, buckets_of, class_name, name_of, raw_json, rec_at, record_members, slot_member, table_members}
-use Rattle.node_json.specs.Value.{Member, number_of, object_of, unless_zero}
+use Rattle.node_json.specs.Value.{Member, json_number, object_of, unless_zero}
 use Rattle.node_json.specs.declared.table.Table.{Table}
 use Rattle.node_json.specs.declared.table.Table.TheVariants.{New, Tried}
 use Rattle.node_json.proofs.Tokens.{AreShallow, shallow-append, shallow-flat_map, shallow_object, shallow_unless, tokens_of-append}
@@ -25,9 +25,9 @@ unfolding record_members peer_tokens source_tokens
 record_tokens places r =
     let a = (codes "address", string (name_text r.peer.addr)) ∷ [] in
     let b = unless_zero (codes "mapped_as") (asn places.map r.peer.addr) in
-    let port : Member = (codes "port", number_of r.peer.port) in
-    let services : Member = (codes "services", number_of r.services) in
-    let time : Member = (codes "time", number_of r.time) in
+    let port : Member = (codes "port", json_number r.peer.port) in
+    let services : Member = (codes "services", json_number r.services) in
+    let time : Member = (codes "time", json_number r.time) in
     let network : Member = (codes "network", string (class_name r.peer.addr)) in
     let c = port ∷ services ∷ time ∷ network ∷ [] in
     let d = (codes "source", string (name_text r.source)) ∷ (codes "source_network", string (class_name r.source)) ∷ [] in
@@ -42,7 +42,7 @@ shallow_record places r =
     let d : depth (string []) ≤ 0 = omega arith in
     let a = (codes "address", string (name_text r.peer.addr)) ∷ [] in
     let b = unless_zero (codes "mapped_as") (asn places.map r.peer.addr) in
-    let c = (codes "port", number_of r.peer.port) ∷ (codes "services", number_of r.services) ∷ (codes "time", number_of r.time) ∷ (codes "network", string (class_name r.peer.addr)) ∷ [] in
+    let c = (codes "port", json_number r.peer.port) ∷ (codes "services", json_number r.services) ∷ (codes "time", json_number r.time) ∷ (codes "network", string (class_name r.peer.addr)) ∷ [] in
     let s = (codes "source", string (name_text r.source)) ∷ (codes "source_network", string (class_name r.source)) ∷ [] in
     let e = unless_zero (codes "source_mapped_as") (asn places.map r.source) in
     shallow-append 0 (a ++ b ++ c ++ s) e

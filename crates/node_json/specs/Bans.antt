@@ -6,7 +6,7 @@ use Rattle.ban_list.specs.SubnetText.{length_by}
 use Rattle.ban_list.specs.declared.ban.Ban.{Ban}
 use Rattle.ban_list.specs.declared.subnet.Subnet.{Subnet}
 use Rattle.names.specs.Name.{name_text}
-use Rattle.node_json.specs.Value.{Member, array_of, number_of, object_of}
+use Rattle.node_json.specs.Value.{Member, array_of, json_number, object_of}
 
 -- the name of a subnet: an IPv4 or IPv6 address, a slash and the length, or only the name of an
 -- address (`CSubNet::ToString` in netaddress.cpp)
@@ -17,10 +17,10 @@ subnet_name s = name_text s.addr ++ length_by s.addr.net s.len
 abbrev pub ban_members : ℕ → Ban → List Member
 ban_members now ban =
     (codes "address", string (subnet_name ban.subnet))
-    ∷ (codes "ban_created", number_of ban.created)
-    ∷ (codes "banned_until", number_of ban.until)
-    ∷ (codes "ban_duration", number_of (ban.until - ban.created))
-    ∷ (codes "time_remaining", number_of (ban.until - now)) ∷ []
+    ∷ (codes "ban_created", json_number ban.created)
+    ∷ (codes "banned_until", json_number ban.until)
+    ∷ (codes "ban_duration", json_number (ban.until - ban.created))
+    ∷ (codes "time_remaining", json_number (ban.until - now)) ∷ []
 
 abbrev pub ban_json : ℕ → Ban → Json
 ban_json now ban = object_of (ban_members now ban)

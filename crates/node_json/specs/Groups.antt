@@ -17,7 +17,7 @@ use Rattle.picture_text.specs.Picture.{in_new}
 use Rattle.placing.specs.Places.{Places, asn, group}
 use Rattle.table_machine.specs.State.{State}
 use Rattle.table_picture.specs.Keys.{group_key, slot_keys}
-use Rattle.node_json.specs.Value.{Member, array_of, number_of, object_of, unless_zero}
+use Rattle.node_json.specs.Value.{Member, array_of, json_number, object_of, unless_zero}
 use Rattle.node_json.specs.declared.numbers.Numbers.{Numbers}
 use Rattle.node_json.specs.declared.numbers.Row.{Row}
 use Rattle.node_json.specs.declared.part.Part.{Part}
@@ -76,8 +76,8 @@ rows_of st = map (row_of st) (groups_in st)
 
 unfoldable pub number_members : Numbers → List Member
 number_members n =
-    (codes "new_slots", number_of n.slots) ∷ (codes "new_buckets", number_of n.buckets)
-    ∷ (codes "new_records", number_of n.records) ∷ (codes "tried_records", number_of n.tried) ∷ []
+    (codes "new_slots", json_number n.slots) ∷ (codes "new_buckets", json_number n.buckets)
+    ∷ (codes "new_records", json_number n.records) ∷ (codes "tried_records", json_number n.tried) ∷ []
 
 -- the name and the AS number are those of the first record of the group
 unfoldable pub group_members : Places → Numbers → Address → List Member
@@ -125,8 +125,8 @@ pub record ListsGroups (st : State) : Type 0 where
 -- how many groups there are, and the numbers of all of them
 unfoldable pub totals_by : ℕ → ℕ → ℕ → ℕ → List Member
 totals_by groups slots records tried =
-    (codes "groups", number_of groups) ∷ (codes "new_slots", number_of slots)
-    ∷ (codes "new_records", number_of records) ∷ (codes "tried_records", number_of tried) ∷ []
+    (codes "groups", json_number groups) ∷ (codes "new_slots", json_number slots)
+    ∷ (codes "new_records", json_number records) ∷ (codes "tried_records", json_number tried) ∷ []
 
 abbrev pub totals_members : State → List Member
 totals_members st =
@@ -150,9 +150,9 @@ clearnet_numbers st =
 -- how many records an asmap can map, how many numbers it gives them, and how many it gives none
 unfoldable pub health_members : List ℕ → List Member
 health_members numbers =
-    (codes "clearnet_peers", number_of (length numbers))
-    ∷ (codes "as_numbers", number_of (length (groups_of numbers)))
-    ∷ (codes "unmapped", number_of (occurrences numbers 0)) ∷ []
+    (codes "clearnet_peers", json_number (length numbers))
+    ∷ (codes "as_numbers", json_number (length (groups_of numbers)))
+    ∷ (codes "unmapped", json_number (occurrences numbers 0)) ∷ []
 
 unfoldable pub groups_members : State → List Member
 groups_members st =

@@ -1,26 +1,26 @@
 -- What `getaddrmaninfo` of Bitcoin Core returns (rpc/net.cpp): how many records each network has.
 use Rattle.std.specs.Prelude.{ℕ, ◌+◌, [], ◌∷◌, codes, count_by, not}
 use Rattle.json.specs.Json.{Json}
-use Rattle.net_addr.specs.NetSet.{none, with}
+use Rattle.net_addr.specs.NetSet.{none, with_net}
 use Rattle.net_addr.specs.declared.net.Net.{Net}
 use Rattle.net_addr.specs.declared.net.Net.TheVariants.{Ipv4, Ipv6, Onion, I2p, Cjdns}
 use Rattle.peer_rec.specs.Rec.{is_tried}
 use Rattle.table_machine.specs.Picks.{wanted_new, wanted_tried}
 use Rattle.table_machine.specs.State.{State}
 use Rattle.node_json.specs.Raw.{network_name}
-use Rattle.node_json.specs.Value.{Member, number_of, object_of}
+use Rattle.node_json.specs.Value.{Member, json_number, object_of}
 
 -- how many records are in the new table, in the tried table, and in both
 abbrev pub counts_json : ℕ → ℕ → Json
 counts_json new tried =
-    object_of ((codes "new", number_of new) ∷ (codes "tried", number_of tried)
-    ∷ (codes "total", number_of (new + tried)) ∷ [])
+    object_of ((codes "new", json_number new) ∷ (codes "tried", json_number tried)
+    ∷ (codes "total", json_number (new + tried)) ∷ [])
 
 -- the records whose own network this is: not the network of an embedded IPv4 address, and none that
 -- is not routable
 abbrev pub network_row : State → Net → Member
 network_row st net =
-    let only = with none net in
+    let only = with_net none net in
     (network_name net, counts_json (wanted_new st only) (wanted_tried st only))
 
 -- all records, those that are not routable too

@@ -14,7 +14,7 @@ use Rattle.picture_text.specs.Picture.{in_new}
 use Rattle.node_json.specs.Groups.{row_items}
 use Rattle.node_json.specs.Raw.{class_name}
 use Rattle.node_json.specs.declared.numbers.Row.{Row}
-use Rattle.node_json.specs.Value.{Member, number_of, unless_zero}
+use Rattle.node_json.specs.Value.{Member, json_number, unless_zero}
 
 abbrev pub tokens_of : List Member → List Token
 tokens_of [] = []
@@ -25,9 +25,9 @@ unfoldable pub peer_tokens : Places → Rec → List Token
 peer_tokens places r =
     tokens_of ((codes "address", string (name_text r.peer.addr)) ∷ [])
     ++ tokens_of (unless_zero (codes "mapped_as") (asn places.map r.peer.addr))
-    ++ tokens_of ((codes "port", number_of r.peer.port) ∷ [])
-    ++ tokens_of ((codes "services", number_of r.services) ∷ [])
-    ++ tokens_of ((codes "time", number_of r.time) ∷ [])
+    ++ tokens_of ((codes "port", json_number r.peer.port) ∷ [])
+    ++ tokens_of ((codes "services", json_number r.services) ∷ [])
+    ++ tokens_of ((codes "time", json_number r.time) ∷ [])
     ++ tokens_of ((codes "network", string (class_name r.peer.addr)) ∷ [])
 
 -- the members that say who announced it
@@ -40,10 +40,10 @@ source_tokens places r =
 -- when a ban was made, when it is over, how long it lasts, and for how long still
 unfoldable pub span_tokens : ℕ → ℕ → ℕ → ℕ → List Token
 span_tokens created until duration remaining =
-    tokens_of ((codes "ban_created", number_of created) ∷ [])
-    ++ tokens_of ((codes "banned_until", number_of until) ∷ [])
-    ++ tokens_of ((codes "ban_duration", number_of duration) ∷ [])
-    ++ tokens_of ((codes "time_remaining", number_of remaining) ∷ [])
+    tokens_of ((codes "ban_created", json_number created) ∷ [])
+    ++ tokens_of ((codes "banned_until", json_number until) ∷ [])
+    ++ tokens_of ((codes "ban_duration", json_number duration) ∷ [])
+    ++ tokens_of ((codes "time_remaining", json_number remaining) ∷ [])
 
 -- the times of a ban
 abbrev pub time_tokens : ℕ → Ban → List Token

@@ -12,7 +12,7 @@ use Rattle.placing.specs.Places.{Places, asn}
 use Rattle.peer_rec.specs.declared.rec.Rec.{Rec}
 use Rattle.slot_grid.specs.declared.sizes.TheConstants.{NEW_BUCKETS, TRIED_BUCKETS, SLOTS}
 use Rattle.table_machine.specs.State.{State, new_rec_at, tried_rec_at}
-use Rattle.node_json.specs.Value.{Member, object_of, number_of, unless_zero}
+use Rattle.node_json.specs.Value.{Member, object_of, json_number, unless_zero}
 use Rattle.node_json.specs.declared.table.Table.{Table}
 use Rattle.node_json.specs.declared.table.Table.TheVariants.{New, Tried}
 
@@ -35,8 +35,8 @@ unfoldable pub record_members : Places → Rec → List Member
 record_members places r =
     (codes "address", string (name_text r.peer.addr)) ∷ []
     ++ unless_zero (codes "mapped_as") (asn places.map r.peer.addr)
-    ++ (codes "port", number_of r.peer.port) ∷ (codes "services", number_of r.services)
-    ∷ (codes "time", number_of r.time) ∷ (codes "network", string (class_name r.peer.addr)) ∷ []
+    ++ (codes "port", json_number r.peer.port) ∷ (codes "services", json_number r.services)
+    ∷ (codes "time", json_number r.time) ∷ (codes "network", string (class_name r.peer.addr)) ∷ []
     ++ (codes "source", string (name_text r.source))
     ∷ (codes "source_network", string (class_name r.source)) ∷ []
     ++ unless_zero (codes "source_mapped_as") (asn places.map r.source)

@@ -24,12 +24,12 @@ abbrev pub array_of : List Json → Json
 array_of js = array (items_of js)
 
 -- a whole number
-abbrev pub number_of : ℕ → Json
-number_of n = number (decimal n)
+abbrev pub json_number : ℕ → Json
+json_number n = number (decimal n)
 
 -- a member with a number, left out if it is 0
 abbrev pub unless_zero : List ℕ → ℕ → List Member
-unless_zero name n = if n == 0 then [] else (name, number_of n) ∷ []
+unless_zero name n = if n == 0 then [] else (name, json_number n) ∷ []
 
 -- the text of a value: a line for each member, indented by two spaces a level, and a line feed at
 -- the end

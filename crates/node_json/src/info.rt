@@ -1,6 +1,6 @@
 ghost use Rattle.std.specs.Prelude.{◌≡◌, ◌+◌, ◌<◌, ◌^◌, [], ◌∷◌, ◌++◌, IfOk, OnOk};
 ghost use Rattle.json.specs.Tree.{json_tokens};
-ghost use Rattle.net_addr.specs.NetSet.{none, with};
+ghost use Rattle.net_addr.specs.NetSet.{none, with_net};
 ghost use Rattle.table_machine.specs.Picks.{wanted_new, wanted_tried};
 ghost use Rattle.node_json.specs.Info.{all_row, counts_json, info_json, network_row};
 ghost use Rattle.node_json.specs.Inside.{tokens_of};
@@ -31,15 +31,15 @@ fn put_row(json: &mut Pretty, name: &str, new: u32, tried: u32) -> Result<(), Al
 
 /// Returns the set of one network.
 fn only(net: Net) -> NetSet
-    ensures { result ≡ with none net }
+    ensures { result ≡ with_net none net }
 {
     NetSet::none().with(net)
 }
 
 /// Returns how many records of the new and of the tried table are of the network.
 fn counts_of<H: BuildHasher>(tables: &Tables<'_, H>, net: Net) -> (u32, u32)
-    ensures new { result.0 ≡ wanted_new tables.now (with none net) }
-    ensures tried { result.1 ≡ wanted_tried tables.now (with none net) }
+    ensures new { result.0 ≡ wanted_new tables.now (with_net none net) }
+    ensures tried { result.1 ≡ wanted_tried tables.now (with_net none net) }
 {
     tables.wanted(only(net))
 }

@@ -3,7 +3,7 @@ ghost use Rattle.json.specs.Json.{Json, string};
 ghost use Rattle.json.specs.Token.{begin_object, end_object, key};
 ghost use Rattle.json.specs.Tree.{depth, json_tokens};
 ghost use Rattle.node_json.specs.Inside.{tokens_of};
-ghost use Rattle.node_json.specs.Value.{IsJsonText, number_of, unless_zero};
+ghost use Rattle.node_json.specs.Value.{IsJsonText, json_number, unless_zero};
 
 use itoa::Buffer;
 use json::{Pretty, Token};
@@ -19,7 +19,7 @@ pub(crate) fn put_string(json: &mut Pretty, name: &str, text: &str) -> Result<()
 
 /// Appends a member with a number.
 pub(crate) fn put_number(json: &mut Pretty, name: &str, number: u64) -> Result<(), AllocError>
-    ensures { OnOk result (json.new ≡ json.old ++ tokens_of ((name.now, number_of number) ∷ [])) }
+    ensures { OnOk result (json.new ≡ json.old ++ tokens_of ((name.now, json_number number) ∷ [])) }
 {
     json.token(Token::Key(name))?;
     put_value(json, number)
@@ -27,7 +27,7 @@ pub(crate) fn put_number(json: &mut Pretty, name: &str, number: u64) -> Result<(
 
 /// Appends a number.
 fn put_value(json: &mut Pretty, number: u64) -> Result<(), AllocError>
-    ensures { OnOk result (json.new ≡ json.old ++ json_tokens (number_of number)) }
+    ensures { OnOk result (json.new ≡ json.old ++ json_tokens (json_number number)) }
 {
     json.token(Token::Number(Buffer::new().format(number)))
 }

@@ -17,10 +17,10 @@ use Rattle.manager.specs.Machine.{Machine}
 use Rattle.manager.specs.Step as manager
 use Rattle.peer_open.specs.Groups as groups
 use Rattle.peer_open.specs.Groups.{is_open, without_peer}
-use Rattle.opener_lines.specs.Grammar.{Asks, AsksBy, verb_at, verbs, word_of}
+use Rattle.opener_lines.specs.Grammar.{LineAsks, AsksBy, verb_at, verbs, opener_word}
 use Rattle.opener_lines.specs.Inside.{CanBeDone, Leaves}
 use Rattle.opener_lines.specs.Lines.{LeavesPart, LineStep}
-use Rattle.opener_lines.specs.State.{Answer, Closed, FeelerStep, Full, OutboundStep, State, Step, Told, after_clash, answer_to_feeler, answer_to_outbound, peers_after, state}
+use Rattle.opener_lines.specs.State.{Answer, Closed, FeelerStep, Full, OutboundStep, OpenerState, RequestStep, Told, after_clash, answer_to_feeler, answer_to_outbound, peers_after, state}
 use Rattle.opener_lines.specs.Texts.{answer_text}
 use Rattle.peer_open.specs.declared.opener.TheConstants.{MAX_OUTBOUND}
 use Rattle.opener_lines.specs.Tries.{HasOutcome, try_by, ToKeep, ToTest}
@@ -44,8 +44,8 @@ on_err P Q (Err e) f h = f h
 -- ---- of a request
 
 -- the answer, the step and the text of a request
-abbrev pub HasDone : State → Request → State → List ℕ → List ℕ → Type 0
-HasDone old asked new before after = (answer : Answer) × Step old asked answer new × (after ≡ before ++ answer_text answer)
+abbrev pub HasDone : OpenerState → Request → OpenerState → List ℕ → List ℕ → Type 0
+HasDone old asked new before after = (answer : Answer) × RequestStep old asked answer new × (after ≡ before ++ answer_text answer)
 
 pub closed : (machine : Machine) (old new : List groups.Outbound) (peer : Peer) (before after : List ℕ) → new ≡ without_peer peer old
     → after ≡ before ++ answer_text (Closed (is_open peer old)) → HasDone (state machine old) (request.Close peer) (state machine new) before after
@@ -102,7 +102,7 @@ found_passes {A = A} p q (y ∷ ys) x all e = by (p y) (and_parts (q y) (list_al
     by false here later found = later found
 
 -- what a line asks for can be done
-pub can_be_done : (line : List ℕ) (asked : Request) → Asks line asked → CanBeDone asked
+pub can_be_done : (line : List ℕ) (asked : Request) → LineAsks line asked → CanBeDone asked
 unfolding keeps
 can_be_done line asked (word, texts, is, asks) = by (verb_at word) refl asks
   where
@@ -112,21 +112,21 @@ can_be_done line asked (word, texts, is, asks) = by (verb_at word) refl asks
     by (Some Feeler) found (seed, number, h, said) = subst CanBeDone (sym said) tt
     by (Some Close) found (peer, h, said) = subst CanBeDone (sym said) tt
     by (Some (Log verb)) found (command, h, said) =
-        let kept = found_passes (λ w. bytes_eq (word_of w) word) (λ w. keeps (word_of w)) verbs (Log verb) refl found in
-        let meant = subst (λ w. ValuesAfter (kinds_after log.table w) texts (log.values_of command)) h.0 h.1 in
+        let kept = found_passes (λ w. bytes_eq (opener_word w) word) (λ w. keeps (opener_word w)) verbs (Log verb) refl found in
+        let meant = subst (λ w. ValuesAfter (kinds_after log.table w) texts (log.command_values command)) h.0 h.1 in
         subst CanBeDone (sym said) (can_do command texts (subst (λ w. keeps w ≡ true) h.0 kept) meant)
 
 -- a line that is passed over
-pub passed : (old : State) (line items : List ℕ) → IsPassedOver line → (text : List ℕ) × LineStep old line text old × (items ≡ items ++ text)
+pub passed : (old : OpenerState) (line items : List ℕ) → IsPassedOver line → (text : List ℕ) × LineStep old line text old × (items ≡ items ++ text)
 passed old line items is = ([], inl (is, refl, refl), sym (append-nil items))
 
 -- a request that was carried out
-pub carried : (old new : State) (line before after : List ℕ) (asked : Request) → Asks line asked → HasDone old asked new before after
+pub carried : (old new : OpenerState) (line before after : List ℕ) (asked : Request) → LineAsks line asked → HasDone old asked new before after
     → (text : List ℕ) × LineStep old line text new × (after ≡ before ++ text)
 carried old new line before after asked asks done = (answer_text done.0, inr (asked, done.0, asks, done.1, refl), done.2)
 
 -- memory ran out after it
-pub left : (old new : State) (line : List ℕ) (asked : Request) → Asks line asked → Leaves old asked new → LeavesPart old line new
+pub left : (old new : OpenerState) (line : List ℕ) (asked : Request) → LineAsks line asked → Leaves old asked new → LeavesPart old line new
 left old new line asked asks (inl same) = inl same
 left old new line asked asks (inr (inl done)) = inr (inl (answer_text done.0, inr (asked, done.0, asks, done.1, refl)))
 left old new line (request.Machine command) asks (inr (inr part)) = inr (inr (command, part.0, asks, part.1, part.2))

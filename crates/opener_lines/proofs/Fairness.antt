@@ -13,7 +13,7 @@ use Rattle.peer_open.proofs.Apart.{apart-with_peer, apart-without_peer}
 use Rattle.peer_open.proofs.Judged.{taken_apart, taken_late, feeler_late}
 use Rattle.opener_lines.specs.Fair.{IsFair}
 use Rattle.opener_lines.specs.Lines.{LineStep}
-use Rattle.opener_lines.specs.State.{Answer, State, Step, after_clash, answer_to_feeler, answer_to_outbound, peers_after}
+use Rattle.opener_lines.specs.State.{Answer, OpenerState, RequestStep, after_clash, answer_to_feeler, answer_to_outbound, peers_after}
 use Rattle.opener_lines.specs.Tries.{HasOutcome, pick_by, try_by, try_of_pick, try_of_verdict, verdict_by, Aim, ToKeep, ToTest, Try, Take, NoneLeft, Next}
 use Rattle.opener_lines.specs.declared.request.Request.{Request}
 use Rattle.opener_lines.specs.declared.request.Request.TheVariants as request
@@ -67,7 +67,7 @@ outbound_apart m open_peers seed (outcome.Taken peer i) h apart =
 outbound_apart m open_peers seed outcome.Nothing h apart = apart
 outbound_apart m open_peers seed outcome.GaveUp h apart = apart
 
-step_apart : (old new : State) (asked : Request) (answer : Answer) → Step old asked answer new → AreApart old.open_peers → AreApart new.open_peers
+step_apart : (old new : OpenerState) (asked : Request) (answer : Answer) → RequestStep old asked answer new → AreApart old.open_peers → AreApart new.open_peers
 step_apart old new (request.Outbound seed) answer (inl full) apart = subst (λ st. AreApart st.open_peers) (sym full.2) apart
 step_apart old new (request.Outbound seed) answer (inr step) apart =
     subst (λ st. AreApart st.open_peers) (sym step.1.3) (outbound_apart old.machine old.open_peers seed step.1.0 step.1.1 apart)
@@ -76,13 +76,13 @@ step_apart old new (request.Close peer) answer step apart =
     subst (λ st. AreApart st.open_peers) (sym step.1) (apart-without_peer peer old.open_peers apart)
 step_apart old new (request.Machine command) answer step apart = subst (λ st. AreApart st.open_peers) (sym step.4) apart
 
-pub line_apart : (old new : State) (line text : List ℕ) → LineStep old line text new → AreApart old.open_peers → AreApart new.open_peers
+pub line_apart : (old new : OpenerState) (line text : List ℕ) → LineStep old line text new → AreApart old.open_peers → AreApart new.open_peers
 line_apart old new line text (inl passed) apart = subst (λ st. AreApart st.open_peers) (sym passed.2) apart
 line_apart old new line text (inr step) apart = step_apart old new step.0 step.1 step.3 apart
 
 -- ---- tries
 
-fair_outbound : (old : State) (seed : ℕ) (found : Outcome) → HasOutcome (try_by old.machine old.open_peers ToKeep seed) found
+fair_outbound : (old : OpenerState) (seed : ℕ) (found : Outcome) → HasOutcome (try_by old.machine old.open_peers ToKeep seed) found
     → IsFair old (request.Outbound seed) (answer_to_outbound old.machine.tables.places found)
 fair_outbound old seed (outcome.Taken peer i) h =
     let t = taken old.machine old.open_peers ToKeep seed peer i h.comes in (
@@ -96,7 +96,7 @@ fair_outbound old seed (outcome.Taken peer i) h =
 fair_outbound old seed outcome.Nothing h = tt
 fair_outbound old seed outcome.GaveUp h = tt
 
-fair_feeler : (old : State) (seed word : ℕ) (found : Outcome)
+fair_feeler : (old : OpenerState) (seed word : ℕ) (found : Outcome)
     → HasOutcome (try_by (after_clash old.machine word) old.open_peers (ToTest (clash_pick old.machine.tables word).answer) seed) found
     → IsFair old (request.Feeler seed word) (answer_to_feeler found)
 fair_feeler old seed word (outcome.Taken peer i) h =
@@ -106,10 +106,10 @@ fair_feeler old seed word outcome.Nothing h = tt
 fair_feeler old seed word outcome.GaveUp h = tt
 
 -- other requests take no peer
-fair_close : (old : State) (peer : Peer) (answer : Answer) → IsFair old (request.Close peer) answer
+fair_close : (old : OpenerState) (peer : Peer) (answer : Answer) → IsFair old (request.Close peer) answer
 fair_close old peer answer = tt
 
-pub step_fair : (old new : State) (asked : Request) (answer : Answer) → Step old asked answer new → IsFair old asked answer
+pub step_fair : (old new : OpenerState) (asked : Request) (answer : Answer) → RequestStep old asked answer new → IsFair old asked answer
 step_fair old new (request.Outbound seed) answer (inl full) = subst (IsFair old (request.Outbound seed)) (sym full.1) tt
 step_fair old new (request.Outbound seed) answer (inr step) =
     subst (IsFair old (request.Outbound seed)) (sym step.1.2) (fair_outbound old seed step.1.0 step.1.1)

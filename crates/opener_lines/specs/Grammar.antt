@@ -16,11 +16,11 @@ use Rattle.opener_lines.specs.declared.verb.Verb.{Verb}
 use Rattle.opener_lines.specs.declared.verb.Verb.TheVariants.{Outbound, Feeler, Close, Log}
 
 -- the first word of a line
-abbrev pub word_of : Verb → List ℕ
-word_of Outbound = codes "outbound"
-word_of Feeler = codes "feeler"
-word_of Close = codes "close"
-word_of (Log verb) = log.word_of verb
+abbrev pub opener_word : Verb → List ℕ
+opener_word Outbound = codes "outbound"
+opener_word Feeler = codes "feeler"
+opener_word Close = codes "close"
+opener_word (Log verb) = log.word_of verb
 
 -- the opener's own verbs, and those of the address manager's log that do not save
 abbrev pub verbs : List Verb
@@ -31,7 +31,7 @@ verbs =
 
 -- the verb of a first word, if it is a keyword
 abbrev pub verb_at : List ℕ → Option Verb
-verb_at word = find (λ verb. bytes_eq (word_of verb) word) verbs
+verb_at word = find (λ verb. bytes_eq (opener_word verb) word) verbs
 
 -- the texts after a verb ask for the request
 abbrev pub AsksBy : Option Verb → List (List ℕ) → Request → Type 0
@@ -65,9 +65,9 @@ abbrev pub FaultAfter : List ℕ → List (List ℕ) → LineFault → Type 0
 FaultAfter word texts f = FaultBy (verb_at word) texts f
 
 -- the line asks for the request
-abbrev pub Asks : List ℕ → Request → Type 0
-Asks line asked = Says AsksAfter (fields_of line) asked
+abbrev pub LineAsks : List ℕ → Request → Type 0
+LineAsks line asked = Says AsksAfter (fields_of line) asked
 
 -- what is wrong in a line that is not passed over
-abbrev pub HasFault : List ℕ → LineFault → Type 0
-HasFault line f = ¬ IsPassedOver line × Says FaultAfter (fields_of line) f
+abbrev pub HasRequestFault : List ℕ → LineFault → Type 0
+HasRequestFault line f = ¬ IsPassedOver line × Says FaultAfter (fields_of line) f

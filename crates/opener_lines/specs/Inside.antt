@@ -4,7 +4,7 @@ use Rattle.manager.specs.Machine.{Machine}
 use Rattle.manager.specs.Step as manager
 use Rattle.peer_open.specs.Groups.{Outbound}
 use Rattle.placing.specs.Places.{Places, group}
-use Rattle.opener_lines.specs.State.{Answer, State, Step}
+use Rattle.opener_lines.specs.State.{Answer, OpenerState, RequestStep}
 use Rattle.opener_lines.specs.Tries.{HasOutcome, ToKeep, try_by}
 use Rattle.opener_lines.specs.declared.tries.Found.{Found}
 use Rattle.opener_lines.specs.declared.tries.Found.TheVariants as found
@@ -19,14 +19,14 @@ CanBeDone (request.Machine command) = manager.SavesNothing command × manager.Ha
 CanBeDone other = ⊤
 
 -- what a message leaves that ran out of memory
-abbrev pub LeavesMessage : State → Request → State → Type 0
+abbrev pub LeavesMessage : OpenerState → Request → OpenerState → Type 0
 LeavesMessage old (request.Machine command) new =
     (machine : Machine) × manager.LeavesPart old.machine command machine × (new ≡ record old { machine = machine })
 LeavesMessage old other new = ⊥
 
 -- what a request leaves that ran out of memory
-abbrev pub Leaves : State → Request → State → Type 0
-Leaves old asked new = (new ≡ old) ⊎ (((answer : Answer) × Step old asked answer new) ⊎ LeavesMessage old asked new)
+abbrev pub Leaves : OpenerState → Request → OpenerState → Type 0
+Leaves old asked new = (new ≡ old) ⊎ (((answer : Answer) × RequestStep old asked answer new) ⊎ LeavesMessage old asked new)
 
 -- what the tries of an outbound connection come to, without the group of the peer
 abbrev pub outcome_of : Found → Outcome

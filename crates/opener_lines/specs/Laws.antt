@@ -6,7 +6,7 @@ use Rattle.grammar.specs.declared.fault.LineFault.{LineFault}
 use Rattle.grammar.proofs.TableLemmas.{found_word, no_fault_after, one_fault_after, one_list}
 use Rattle.log_lines.specs.Laws as log
 use Rattle.log_lines.specs.Spelling as spelling
-use Rattle.opener_lines.specs.Grammar.{AsksAfter, AsksBy, FaultAfter, FaultBy, verb_at, verbs, word_of}
+use Rattle.opener_lines.specs.Grammar.{AsksAfter, AsksBy, FaultAfter, FaultBy, verb_at, verbs, opener_word}
 use Rattle.opener_lines.specs.declared.request.Request.{Request}
 use Rattle.opener_lines.specs.declared.request.Request.TheVariants as request
 use Rattle.opener_lines.specs.declared.verb.Verb.{Verb}
@@ -67,8 +67,8 @@ no_fault word texts a f = by (verb_at word)
     by (Some (Log verb)) (c, h, is) k = log.no_fault (spelling.word_of verb) texts c f h k
 
 -- the word of a verb that is found is that verb's
-word_is : (word : List ℕ) (verb : Verb) → verb_at word ≡ Some verb → word ≡ word_of verb
-word_is word verb is = found_word word_of verbs word verb is
+word_is : (word : List ℕ) (verb : Verb) → verb_at word ≡ Some verb → word ≡ opener_word verb
+word_is word verb is = found_word opener_word verbs word verb is
 
 -- a line that asks for something begins with a letter
 pub letters : (word : List ℕ) (texts : List (List ℕ)) (a : Request) → AsksAfter word texts a → 96 < get_or word 0 0

@@ -4,23 +4,23 @@ use Rattle.host_io.specs.Lines.{IsPassedOver}
 use Rattle.log_lines.specs.declared.command.Command.{Command}
 use Rattle.manager.specs.Machine.{Machine}
 use Rattle.manager.specs.Step as manager
-use Rattle.opener_lines.specs.Grammar.{Asks}
-use Rattle.opener_lines.specs.State.{Answer, State, Step}
+use Rattle.opener_lines.specs.Grammar.{LineAsks}
+use Rattle.opener_lines.specs.State.{Answer, OpenerState, RequestStep}
 use Rattle.opener_lines.specs.Texts.{answer_text}
 use Rattle.opener_lines.specs.declared.request.Request.{Request}
 use Rattle.opener_lines.specs.declared.request.Request.TheVariants as request
 
 -- a line that is passed over has no reply; one that asks for something has the answer to that
-abbrev pub LineStep : State → List ℕ → List ℕ → State → Type 0
+abbrev pub LineStep : OpenerState → List ℕ → List ℕ → OpenerState → Type 0
 LineStep old line text new =
     (IsPassedOver line × (text ≡ []) × (new ≡ old))
-    ⊎ ((asked : Request) × (answer : Answer) × Asks line asked × Step old asked answer new × (text ≡ answer_text answer))
+    ⊎ ((asked : Request) × (answer : Answer) × LineAsks line asked × RequestStep old asked answer new × (text ≡ answer_text answer))
 
 -- What a line leaves that ran out of memory: the state before it, that after it, or a message of
 -- which some of the first entries were taken.
-abbrev pub LeavesPart : State → List ℕ → State → Type 0
+abbrev pub LeavesPart : OpenerState → List ℕ → OpenerState → Type 0
 LeavesPart old line new =
     (new ≡ old)
     ⊎ (((text : List ℕ) × LineStep old line text new)
-    ⊎ ((asked : Command) × (machine : Machine) × Asks line (request.Machine asked)
+    ⊎ ((asked : Command) × (machine : Machine) × LineAsks line (request.Machine asked)
     × manager.LeavesPart old.machine asked machine × (new ≡ record old { machine = machine })))

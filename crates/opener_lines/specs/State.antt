@@ -14,11 +14,11 @@ use Rattle.opener_lines.specs.declared.request.Request.TheVariants as request
 use Rattle.opener_lines.specs.declared.tries.Outcome.{Outcome}
 use Rattle.opener_lines.specs.declared.tries.Outcome.TheVariants as outcome
 
-pub record State : Type 0 where
+pub record OpenerState : Type 0 where
   pub machine : Machine
   pub open_peers : List Outbound
 
-abbrev pub state : Machine → List Outbound → State
+abbrev pub state : Machine → List Outbound → OpenerState
 state machine open_peers = record { machine = machine; open_peers = open_peers }
 
 -- What a request is answered: there are ten peers already; what the tries of a connection came to,
@@ -48,7 +48,7 @@ peers_after places (outcome.Taken peer i) open_peers = with_peer peer (group pla
 peers_after places other open_peers = open_peers
 
 -- the tries of an outbound connection, unless there are ten already
-abbrev pub OutboundStep : State → ℕ → Answer → State → Type 0
+abbrev pub OutboundStep : OpenerState → ℕ → Answer → OpenerState → Type 0
 OutboundStep old seed answer new =
     ((length old.open_peers ≡ MAX_OUTBOUND) × (answer ≡ Full) × (new ≡ old))
     ⊎ ((length old.open_peers < MAX_OUTBOUND) × ((found : Outcome) × HasOutcome (try_by old.machine old.open_peers ToKeep seed) found
@@ -60,18 +60,18 @@ abbrev pub after_clash : Machine → ℕ → Machine
 after_clash m word = record m { tables = (clash_pick m.tables word).state }
 
 -- the tries of a feeler, after the pick of a collision
-abbrev pub FeelerStep : State → ℕ → ℕ → Answer → State → Type 0
+abbrev pub FeelerStep : OpenerState → ℕ → ℕ → Answer → OpenerState → Type 0
 FeelerStep old seed word answer new =
     (found : Outcome)
     × HasOutcome (try_by (after_clash old.machine word) old.open_peers (ToTest (clash_pick old.machine.tables word).answer) seed) found
     × (answer ≡ answer_to_feeler found) × (new ≡ record old { machine = after_clash old.machine word })
 
 -- what a request is answered, and the state after it
-abbrev pub Step : State → Request → Answer → State → Type 0
-Step old (request.Outbound seed) answer new = OutboundStep old seed answer new
-Step old (request.Feeler seed word) answer new = FeelerStep old seed word answer new
-Step old (request.Close peer) answer new =
+abbrev pub RequestStep : OpenerState → Request → Answer → OpenerState → Type 0
+RequestStep old (request.Outbound seed) answer new = OutboundStep old seed answer new
+RequestStep old (request.Feeler seed word) answer new = FeelerStep old seed word answer new
+RequestStep old (request.Close peer) answer new =
     (answer ≡ Closed (is_open peer old.open_peers)) × (new ≡ record old { open_peers = without_peer peer old.open_peers })
-Step old (request.Machine command) answer new =
+RequestStep old (request.Machine command) answer new =
     (reply : Reply) × (machine : Machine) × manager.Step old.machine command reply machine × (answer ≡ Told reply)
     × (new ≡ record old { machine = machine })

@@ -6,7 +6,7 @@ ghost use Rattle.manager.specs.Step.{SavesNothing, HasPercent, LeavesPart};
 ghost use Rattle.peer_open.specs.Groups.{is_open, without_peer};
 ghost use Rattle.table_machine.specs.Clashes.{clash_pick};
 ghost use Rattle.opener_lines.specs.Inside.{CanBeDone, Leaves};
-ghost use Rattle.opener_lines.specs.State.{Answer, FeelerStep, OutboundStep, Step, after_clash, state};
+ghost use Rattle.opener_lines.specs.State.{Answer, FeelerStep, OutboundStep, RequestStep, after_clash, state};
 ghost use Rattle.opener_lines.specs.Texts.{answer_text, closed_text};
 
 use crate::print::{closed_text, opened_text, tested_text};
@@ -33,7 +33,7 @@ pub(crate) fn carry_out<H: BuildHasher, L: Ledger>(
     requires done { CanBeDone request.now }
     requires room { manager.old.tables.next_number < 2 ^ 62 }
     ensures step { OnOk result ((answer : Answer)
-        × Step (state manager.old opener.old) request.now answer (state manager.new opener.new)
+        × RequestStep (state manager.old opener.old) request.now answer (state manager.new opener.new)
         × (out.new.items ≡ out.old.items ++ answer_text answer)) }
     ensures err { OnErr result
         (Leaves (state manager.old opener.old) request.now (state manager.new opener.new)) }

@@ -4,9 +4,9 @@ ghost use Rattle.grammar.specs.Fields.{AreWords};
 ghost use Rattle.grammar.specs.declared.fault.LineFault.{LineFault};
 ghost use Rattle.peer_open.specs.Groups.{AreApart};
 ghost use Rattle.opener_lines.specs.Fair.{IsFair};
-ghost use Rattle.opener_lines.specs.Grammar.{Asks, HasFault};
+ghost use Rattle.opener_lines.specs.Grammar.{LineAsks, HasRequestFault};
 ghost use Rattle.opener_lines.specs.Lines.{LineStep};
-ghost use Rattle.opener_lines.specs.State.{Answer, State, Step};
+ghost use Rattle.opener_lines.specs.State.{Answer, OpenerState, RequestStep};
 ghost use Rattle.opener_lines.specs.Tries.{HasOutcome, Try};
 ghost use Rattle.opener_lines.specs.declared.request.Request.{Request};
 ghost use Rattle.opener_lines.specs.declared.tries.Outcome.{Outcome};
@@ -17,23 +17,23 @@ use crate::TRY_WORDS;
 /// A line of an opener's log that is passed over asks for nothing and has no fault. Any other asks
 /// for at most one thing or has at most one fault, and never both.
 pub fn opener_lines_have_one_meaning()
-    ensures request { (line : List ℕ) (a b : Request) → Asks line a → Asks line b → a ≡ b }
-    ensures fault { (line : List ℕ) (f g : LineFault) → HasFault line f → HasFault line g → f ≡ g }
-    ensures right { (line : List ℕ) (a : Request) (f : LineFault) → Asks line a →
-        ¬ HasFault line f }
-    ensures passed { (line : List ℕ) (a : Request) → IsPassedOver line → ¬ Asks line a }
+    ensures request { (line : List ℕ) (a b : Request) → LineAsks line a → LineAsks line b → a ≡ b }
+    ensures fault { (line : List ℕ) (f g : LineFault) → HasRequestFault line f → HasRequestFault line g → f ≡ g }
+    ensures right { (line : List ℕ) (a : Request) (f : LineFault) → LineAsks line a →
+        ¬ HasRequestFault line f }
+    ensures passed { (line : List ℕ) (a : Request) → IsPassedOver line → ¬ LineAsks line a }
 {}
 
 /// Whatever a line does, no two open peers are in one group afterwards if none were before.
 pub fn groups_stay_apart()
-    ensures { (old new : State) (line text : List ℕ) → LineStep old line text new →
+    ensures { (old new : OpenerState) (line text : List ℕ) → LineStep old line text new →
         AreApart old.open_peers → AreApart new.open_peers }
 {}
 
 /// A peer that is taken was picked by a try from 1 to 100, and by the 31st or a later one if it was
 /// tried less than ten minutes before.
 pub fn tries_are_fair()
-    ensures { (old new : State) (asked : Request) (answer : Answer) → Step old asked answer new →
+    ensures { (old new : OpenerState) (asked : Request) (answer : Answer) → RequestStep old asked answer new →
         IsFair old asked answer }
 {}
 

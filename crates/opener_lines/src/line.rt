@@ -1,7 +1,7 @@
 ghost use Rattle.std.specs.Prelude.{◌≡◌, ◌≢◌, ◌+◌, ◌≤◌, ◌<◌, ◌^◌, ◌++◌, ◌⊎◌, ℕ, List, length, Err, OnOk, OnErr, IsErrOf};
 ghost use Rattle.grammar.specs.declared.fault.LineFault.{LineFault};
 ghost use Rattle.peer_open.specs.Groups.{AreApart};
-ghost use Rattle.opener_lines.specs.Grammar.{HasFault};
+ghost use Rattle.opener_lines.specs.Grammar.{HasRequestFault};
 ghost use Rattle.opener_lines.specs.Lines.{LeavesPart, LineStep};
 ghost use Rattle.opener_lines.specs.State.{state};
 
@@ -30,8 +30,8 @@ pub fn opener_line<H: BuildHasher, L: Ledger>(
         × LineStep (state manager.old opener.old) line.now text (state manager.new opener.new)
         × (out.new.items ≡ out.old.items ++ text)) }
     ensures fault { (f : LineFault) → result ≡ Err f → f ≢ LineFault.Memory →
-        HasFault line.now f × (manager.new ≡ manager.old) × (opener.new ≡ opener.old) }
-    ensures only_fault { (f : LineFault) → HasFault line.now f →
+        HasRequestFault line.now f × (manager.new ≡ manager.old) × (opener.new ≡ opener.old) }
+    ensures only_fault { (f : LineFault) → HasRequestFault line.now f →
         (result ≡ Err f) ⊎ (result ≡ Err LineFault.Memory) }
     ensures memory { IsErrOf result LineFault.Memory →
         LeavesPart (state manager.old opener.old) line.now (state manager.new opener.new) }

@@ -19,9 +19,9 @@ pub struct OpenerLog<'a, H: BuildHasher> {
 impl<'a, H: BuildHasher> Model for OpenerLog<'a, H> {
     ghost use Rattle.std.specs.Coded.{codes};
     ghost use Rattle.placing.specs.Places.{coded_places};
-    ghost use Rattle.opener_lines.specs.State.{State, state};
+    ghost use Rattle.opener_lines.specs.State.{OpenerState, state};
 
-    ghost Value = { State };
+    ghost Value = { OpenerState };
 
     ghost coded = { Prim.hlevel (codes, coded_places) };
 
@@ -31,7 +31,7 @@ impl<'a, H: BuildHasher> Model for OpenerLog<'a, H> {
 impl<'a, H: BuildHasher> OpenerLog<'a, H> {
     ghost use Rattle.std.specs.Prelude.{◌≡◌, ◌≢◌, ◌+◌, ◌≤◌, ◌<◌, ◌^◌, ◌++◌, [], ℕ, List, length, Err, OnOk};
     ghost use Rattle.grammar.specs.declared.fault.LineFault.{LineFault};
-    ghost use Rattle.opener_lines.specs.Grammar.{HasFault};
+    ghost use Rattle.opener_lines.specs.Grammar.{HasRequestFault};
     ghost use Rattle.opener_lines.specs.Lines.{LineStep};
     ghost use Rattle.opener_lines.specs.State.{state};
 
@@ -61,7 +61,7 @@ impl<'a, H: BuildHasher> OpenerLog<'a, H> {
             × LineStep self.old line.now text self.new
             × (out.new.items ≡ out.old.items ++ text)) }
         ensures fault { (f : LineFault) → result ≡ Err f → f ≢ LineFault.Memory →
-            HasFault line.now f }
+            HasRequestFault line.now f }
         ensures numbers { self.new.machine.tables.next_number
             ≤ self.old.machine.tables.next_number + 1000 }
     {
@@ -80,12 +80,12 @@ impl<'a, H: BuildHasher> OpenerLog<'a, H> {
 /// The lines of a log, one step a line. They change nothing besides the log's own state.
 impl<'a, H: BuildHasher> LineSteps<()> for OpenerLog<'a, H> {
     ghost use Rattle.std.specs.Prelude.{◌+◌, ◌*◌, ◌<◌, ◌^◌, ⊤};
-    ghost use Rattle.opener_lines.specs.Grammar.{HasFault};
+    ghost use Rattle.opener_lines.specs.Grammar.{HasRequestFault};
     ghost use Rattle.opener_lines.specs.Lines.{LineStep};
 
     ghost step = { λ old before line text new after. LineStep old line text new };
 
-    ghost has_fault = { HasFault };
+    ghost has_fault = { HasRequestFault };
 
     ghost ready = { λ l world. ⊤ };
 

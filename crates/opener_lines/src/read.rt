@@ -1,7 +1,7 @@
 ghost use Rattle.std.specs.Prelude.{◌≡◌, ◌≢◌, ◌↔◌, ◌⊎◌, IfOk, IfSome, Some, None, Ok, Err, ⊤};
 ghost use Rattle.host_io.specs.Lines.{IsPassedOver};
 ghost use Rattle.grammar.specs.declared.fault.LineFault.{LineFault};
-ghost use Rattle.opener_lines.specs.Grammar.{Asks, AsksAfter, AsksBy, FaultAfter, FaultBy, HasFault};
+ghost use Rattle.opener_lines.specs.Grammar.{LineAsks, AsksAfter, AsksBy, FaultAfter, FaultBy, HasRequestFault};
 ghost use Rattle.opener_lines.specs.Laws.{no_fault, one_asked, one_fault};
 ghost use Rattle.opener_lines.specs.declared.request.Request.{Request};
 
@@ -44,11 +44,11 @@ impl<T: Texts> Grammar<T> for OpenerLines {
 /// The line has no line feed.
 pub fn read_request(alloc: Global, line: &[u8]) -> Result<Option<Request>, LineFault>
     ensures passed { result ≡ Ok None ↔ IsPassedOver line.now }
-    ensures found { IfOk result (λ read. IfSome read (λ asked. Asks line.now asked)) }
-    ensures only { (asked : Request) → Asks line.now asked →
+    ensures found { IfOk result (λ read. IfSome read (λ asked. LineAsks line.now asked)) }
+    ensures only { (asked : Request) → LineAsks line.now asked →
         (result ≡ Ok (Some asked)) ⊎ (result ≡ Err LineFault.Memory) }
-    ensures fault { (f : LineFault) → result ≡ Err f → f ≢ LineFault.Memory → HasFault line.now f }
-    ensures only_fault { (f : LineFault) → HasFault line.now f →
+    ensures fault { (f : LineFault) → result ≡ Err f → f ≢ LineFault.Memory → HasRequestFault line.now f }
+    ensures only_fault { (f : LineFault) → HasRequestFault line.now f →
         (result ≡ Err f) ⊎ (result ≡ Err LineFault.Memory) }
 {
     read_line::<OpenerLines>(alloc, line)

@@ -1,4 +1,4 @@
-ghost use Rattle.opener_lines.specs.Grammar.{word_of};
+ghost use Rattle.opener_lines.specs.Grammar.{opener_word};
 
 use grammar::Keyword;
 
@@ -34,7 +34,7 @@ pub(crate) const VERBS: [Verb; 17] = [
 ];
 
 impl Keyword for Verb {
-    ghost word = { word_of };
+    ghost word = { opener_word };
 
     fn word(self) -> &'static [u8] {
         match self {

@@ -12,7 +12,7 @@ use Rattle.std.proofs.lemmas.List.{get_or-set_same, get_or-set_other, length-map
 use Rattle.std.proofs.lemmas.List.Elements.{All-tail}
 use Rattle.std.proofs.lemmas.List.Sums.{sum_by-cons, sum_by_push, sum_by-swap_remove, count_by-le-length}
 use Rattle.std.proofs.lemmas.List.Sorted.{IsPermutation-swap, sum_by-IsPermutation}
-use Rattle.net_addr.specs.Address.{number_of}
+use Rattle.net_addr.specs.Address.{net_number}
 use Rattle.net_addr.specs.NetSet.{has, has_number}
 use Rattle.net_addr.specs.declared.net.Net.{Net}
 use Rattle.net_addr.specs.declared.net.Net.TheVariants.{Unroutable, Ipv4, Ipv6, Onion, I2p, Cjdns, Internal}
@@ -21,7 +21,7 @@ use Rattle.net_addr.specs.declared.peer.Peer.{Peer}
 use Rattle.peer_rec.specs.Deletion.{without_position}
 use Rattle.peer_rec.specs.Rec.{is_tried, network}
 use Rattle.peer_rec.specs.declared.rec.Rec.{Rec}
-use Rattle.peer_index.specs.Order.{Item, Order, IsOrder, id_of, rec_of, records, with_own_rec, with_rec, with_last, without}
+use Rattle.peer_index.specs.Order.{Item, Order, IsOrder, id_of, rec_of, records, with_own_rec, with_rec, with_item, without}
 use Rattle.peer_index.specs.Inside.{AreCounts, AreCountsOf, AreOneMore, IsOneMore, is_of, one_if, sum_over, taken}
 use Rattle.peer_index.specs.declared.counts.Counts.{Counts}
 use Rattle.peer_index.proofs.Kept.{rec_of-at}
@@ -93,9 +93,9 @@ by_items test (l ∷ order) =
     sum_by-cons (λ x. one_if (test x)) l.rec (records order) ∙ ap (λ n. share test l + n) (by_items test order) ∙ sym (sum_by-cons (share test) l order)
 
 -- one more record
-count-last : (test : Rec → Bool) (order : Order) (id : ℕ) (rec : Rec) → count_by test (records (with_last order id rec)) ≡ count_by test (records order) + one_if (test rec)
+count-last : (test : Rec → Bool) (order : Order) (id : ℕ) (rec : Rec) → count_by test (records (with_item order id rec)) ≡ count_by test (records order) + one_if (test rec)
 count-last test order id rec =
-    by_items test (with_last order id rec) ∙ sum_by_push (share test) order record { id = id; rec = rec } ∙ ap (λ n. n + one_if (test rec)) (sym (by_items test order))
+    by_items test (with_item order id rec) ∙ sum_by_push (share test) order record { id = id; rec = rec } ∙ ap (λ n. n + one_if (test rec)) (sym (by_items test order))
 
 -- another record under an id that no item has
 unset : (order : Order) (id : ℕ) (rec : Rec) → All (λ l. l.id ≢ id) order → with_rec order id rec ≡ order
@@ -178,7 +178,7 @@ count-gone test (l ∷ order) peer m found = by (nat_lt first (length xs)) refl
           own,
         )
 
-pub number_below : (net : Net) → number_of net < 7
+pub number_below : (net : Net) → net_number net < 7
 number_below Unroutable = omega arith
 number_below Ipv4 = omega arith
 number_below Ipv6 = omega arith
@@ -192,47 +192,47 @@ module _ (order : Order) (counts : Counts) (are : AreCounts (records order) coun
   few_of : (test : Rec → Bool) (xs : List ℕ) (number : ℕ) → AreCountsOf test (records order) xs → number < 7 → get_or xs number 0 ≤ 2 ^ 31
   few_of test xs number each small = omega (arith, each number small, count_by-le-length (is_of test number) (records order), are.few)
 
-  pub few_new : (net : Net) → get_or counts.in_new (number_of net) 0 ≤ 2 ^ 31
-  few_new net = few_of (λ r. not (is_tried r)) counts.in_new (number_of net) are.new (number_below net)
+  pub few_new : (net : Net) → get_or counts.in_new (net_number net) 0 ≤ 2 ^ 31
+  few_new net = few_of (λ r. not (is_tried r)) counts.in_new (net_number net) are.new (number_below net)
 
-  pub few_tried : (net : Net) → get_or counts.in_tried (number_of net) 0 ≤ 2 ^ 31
-  few_tried net = few_of is_tried counts.in_tried (number_of net) are.tried (number_below net)
+  pub few_tried : (net : Net) → get_or counts.in_tried (net_number net) 0 ≤ 2 ^ 31
+  few_tried net = few_of is_tried counts.in_tried (net_number net) are.tried (number_below net)
 
   -- with which the record can be counted out
   pub some : (id : ℕ) (r : Rec) (net : Net) (in_tried : Bool) → rec_of order id ≡ Some r → net ≡ network r → in_tried ≡ is_tried r
-      → 0 < cond in_tried (get_or counts.in_tried (number_of net) 0) (get_or counts.in_new (number_of net) 0)
+      → 0 < cond in_tried (get_or counts.in_tried (net_number net) 0) (get_or counts.in_new (net_number net) 0)
   some id r net in_tried at is same =
-      let P : Net → Type 0 = λ n. 0 < cond in_tried (get_or counts.in_tried (number_of n) 0) (get_or counts.in_new (number_of n) 0) in
-      let own = number_of (network r) in
+      let P : Net → Type 0 = λ n. 0 < cond in_tried (get_or counts.in_tried (net_number n) 0) (get_or counts.in_new (net_number n) 0) in
+      let own = net_number (network r) in
       let Q : Bool → Type 0 = λ b. 0 < cond b (get_or counts.in_tried own 0) (get_or counts.in_new own 0) in
       subst P (sym is) (subst Q (sym same) (by (is_tried r) refl))
     where
-      one : (test : Rec → Bool) → test r ≡ true → one_if (is_of test (number_of (network r)) r) ≡ 1
-      one test passes = λ i. one_if ((Decides-eqb (number_of (network r)) (number_of (network r))).1 refl i && passes i)
+      one : (test : Rec → Bool) → test r ≡ true → one_if (is_of test (net_number (network r)) r) ≡ 1
+      one test passes = λ i. one_if ((Decides-eqb (net_number (network r)) (net_number (network r))).1 refl i && passes i)
 
-      by : (b : Bool) → is_tried r ≡ b → 0 < cond b (get_or counts.in_tried (number_of (network r)) 0) (get_or counts.in_new (number_of (network r)) 0)
+      by : (b : Bool) → is_tried r ≡ b → 0 < cond b (get_or counts.in_tried (net_number (network r)) 0) (get_or counts.in_new (net_number (network r)) 0)
       by true h =
-          omega (arith, are.tried (number_of (network r)) (number_below (network r)), some-of (is_of is_tried (number_of (network r))) order id r at, one is_tried h)
+          omega (arith, are.tried (net_number (network r)) (number_below (network r)), some-of (is_of is_tried (net_number (network r))) order id r at, one is_tried h)
       by false h =
-          omega (arith, are.new (number_of (network r)) (number_below (network r)), some-of (is_of (λ x. not (is_tried x)) (number_of (network r))) order id r at, one (λ x. not (is_tried x)) (ap not h))
+          omega (arith, are.new (net_number (network r)) (number_below (network r)), some-of (is_of (λ x. not (is_tried x)) (net_number (network r))) order id r at, one (λ x. not (is_tried x)) (ap not h))
 
 -- a record's share in the count of a network
 abbrev mine : (Rec → Bool) → ℕ → Rec → ℕ
 mine test number r = one_if (is_of test number r)
 
 module _ (test : Rec → Bool) (order : Order) (xs ys : List ℕ) where
-  last-of : (id : ℕ) (rec : Rec) → AreCountsOf test (records order) xs → IsOneMore xs ys (number_of (network rec)) (test rec)
-      → AreCountsOf test (records (with_last order id rec)) ys
+  last-of : (id : ℕ) (rec : Rec) → AreCountsOf test (records order) xs → IsOneMore xs ys (net_number (network rec)) (test rec)
+      → AreCountsOf test (records (with_item order id rec)) ys
   last-of id rec each more n small = more n small ∙ ap (λ m. m + mine test n rec) (each n small) ∙ sym (count-last (is_of test n) order id rec)
 
   set-of : (between : List ℕ) (id : ℕ) (old rec : Rec) → AllPairs (λ k l. k.id ≢ l.id) order → rec_of order id ≡ Some old → AreCountsOf test (records order) xs
-      → IsOneMore between xs (number_of (network old)) (test old) → IsOneMore between ys (number_of (network rec)) (test rec)
+      → IsOneMore between xs (net_number (network old)) (test old) → IsOneMore between ys (net_number (network rec)) (test rec)
       → AreCountsOf test (records (with_rec order id rec)) ys
   set-of between id old rec apart at each less more n small =
       omega (arith, each n small, less n small, more n small, count-set (is_of test n) order id old rec apart at)
 
   gone-of : (peer : Peer) (m : Item) → find (λ l. same_peer peer l.rec.peer) order ≡ Some m → AreCountsOf test (records order) xs
-      → IsOneMore ys xs (number_of (network m.rec)) (test m.rec) → AreCountsOf test (records (without order peer)) ys
+      → IsOneMore ys xs (net_number (network m.rec)) (test m.rec) → AreCountsOf test (records (without order peer)) ys
   gone-of peer m found each less n small =
       omega (arith, each n small, less n small, count-gone (is_of test n) order peer m found)
 
@@ -252,37 +252,37 @@ found-by_id order peer m still found =
 module _ (order : Order) (counts : Counts) (are : AreCounts (records order) counts) where
   -- the counts after each change
   pub counted-last : (after : Counts) (id : ℕ) (rec : Rec) (net : Net) (in_tried : Bool) → length order < 2 ^ 31 → net ≡ network rec → in_tried ≡ is_tried rec
-      → AreOneMore counts after (number_of net) in_tried → AreCounts (records (with_last order id rec)) after
+      → AreOneMore counts after (net_number net) in_tried → AreCounts (records (with_item order id rec)) after
   counted-last after id rec net in_tried room is same more = record {
-    few = omega (arith, room, length-map (with_last order id rec) (λ l. l.rec), length-append order (record { id = id; rec = rec } ∷ []));
+    few = omega (arith, room, length-map (with_item order id rec) (λ l. l.rec), length-append order (record { id = id; rec = rec } ∷ []));
     new =
         last-of (λ r. not (is_tried r)) order counts.in_new after.in_new id rec are.new
-        (subst (λ n. IsOneMore counts.in_new after.in_new (number_of n) (not (is_tried rec))) is (subst (λ b. IsOneMore counts.in_new after.in_new (number_of net) (not b)) same more.new));
+        (subst (λ n. IsOneMore counts.in_new after.in_new (net_number n) (not (is_tried rec))) is (subst (λ b. IsOneMore counts.in_new after.in_new (net_number net) (not b)) same more.new));
     tried =
         last-of is_tried order counts.in_tried after.in_tried id rec are.tried
-        (subst (λ n. IsOneMore counts.in_tried after.in_tried (number_of n) (is_tried rec)) is (subst (λ b. IsOneMore counts.in_tried after.in_tried (number_of net) b) same more.tried));
+        (subst (λ n. IsOneMore counts.in_tried after.in_tried (net_number n) (is_tried rec)) is (subst (λ b. IsOneMore counts.in_tried after.in_tried (net_number net) b) same more.tried));
   }
 
   pub counted-set : (between after : Counts) (id : ℕ) (old rec : Rec) (net : Net) (was_tried in_tried : Bool) → AllPairs (λ k l. k.id ≢ l.id) order
       → rec_of order id ≡ Some old → old.peer ≡ rec.peer → net ≡ network rec → was_tried ≡ is_tried old → in_tried ≡ is_tried rec
-      → AreOneMore between counts (number_of net) was_tried → AreOneMore between after (number_of net) in_tried → AreCounts (records (with_rec order id rec)) after
+      → AreOneMore between counts (net_number net) was_tried → AreOneMore between after (net_number net) in_tried → AreCounts (records (with_rec order id rec)) after
   counted-set between after id old rec net was_tried in_tried apart at peer is was same less more =
       let of_old : net ≡ network old = is ∙ ap (λ p. network (record rec { peer = p })) (sym peer) in
       record {
         few = omega (arith, are.few, length-map order (λ l. l.rec), length-map (with_rec order id rec) (λ l. l.rec), length-map order (with_own_rec id rec));
         new =
             set-of (λ r. not (is_tried r)) order counts.in_new after.in_new between.in_new id old rec apart at are.new
-            (subst (λ n. IsOneMore between.in_new counts.in_new (number_of n) (not (is_tried old))) of_old (subst (λ b. IsOneMore between.in_new counts.in_new (number_of net) (not b)) was less.new))
-            (subst (λ n. IsOneMore between.in_new after.in_new (number_of n) (not (is_tried rec))) is (subst (λ b. IsOneMore between.in_new after.in_new (number_of net) (not b)) same more.new));
+            (subst (λ n. IsOneMore between.in_new counts.in_new (net_number n) (not (is_tried old))) of_old (subst (λ b. IsOneMore between.in_new counts.in_new (net_number net) (not b)) was less.new))
+            (subst (λ n. IsOneMore between.in_new after.in_new (net_number n) (not (is_tried rec))) is (subst (λ b. IsOneMore between.in_new after.in_new (net_number net) (not b)) same more.new));
         tried =
             set-of is_tried order counts.in_tried after.in_tried between.in_tried id old rec apart at are.tried
-            (subst (λ n. IsOneMore between.in_tried counts.in_tried (number_of n) (is_tried old)) of_old (subst (λ b. IsOneMore between.in_tried counts.in_tried (number_of net) b) was less.tried))
-            (subst (λ n. IsOneMore between.in_tried after.in_tried (number_of n) (is_tried rec)) is (subst (λ b. IsOneMore between.in_tried after.in_tried (number_of net) b) same more.tried));
+            (subst (λ n. IsOneMore between.in_tried counts.in_tried (net_number n) (is_tried old)) of_old (subst (λ b. IsOneMore between.in_tried counts.in_tried (net_number net) b) was less.tried))
+            (subst (λ n. IsOneMore between.in_tried after.in_tried (net_number n) (is_tried rec)) is (subst (λ b. IsOneMore between.in_tried after.in_tried (net_number net) b) same more.tried));
       }
 
   pub counted-gone : (after : Counts) (peer : Peer) (id : ℕ) (old : Rec) (net : Net) (was_tried : Bool) → IsOrder order
       → id_of order peer ≡ Some id → rec_of order id ≡ Some old → net ≡ network old → was_tried ≡ is_tried old
-      → AreOneMore after counts (number_of net) was_tried → AreCounts (records (without order peer)) after
+      → AreOneMore after counts (net_number net) was_tried → AreCounts (records (without order peer)) after
   counted-gone after peer id old net was_tried still known at is was less =
       by (find (λ l. same_peer peer l.rec.peer) order) refl
     where
@@ -298,10 +298,10 @@ module _ (order : Order) (counts : Counts) (are : AreCounts (records order) coun
             few = omega (arith, are.few, count-gone (λ r. true) order peer m found, all-counted (records order), all-counted (records (without order peer)));
             new =
                 gone-of (λ r. not (is_tried r)) order counts.in_new after.in_new peer m found are.new
-                (subst (λ n. IsOneMore after.in_new counts.in_new (number_of n) (not (is_tried m.rec))) of_item (subst (λ b. IsOneMore after.in_new counts.in_new (number_of net) (not b)) table less.new));
+                (subst (λ n. IsOneMore after.in_new counts.in_new (net_number n) (not (is_tried m.rec))) of_item (subst (λ b. IsOneMore after.in_new counts.in_new (net_number net) (not b)) table less.new));
             tried =
                 gone-of is_tried order counts.in_tried after.in_tried peer m found are.tried
-                (subst (λ n. IsOneMore after.in_tried counts.in_tried (number_of n) (is_tried m.rec)) of_item (subst (λ b. IsOneMore after.in_tried counts.in_tried (number_of net) b) table less.tried));
+                (subst (λ n. IsOneMore after.in_tried counts.in_tried (net_number n) (is_tried m.rec)) of_item (subst (λ b. IsOneMore after.in_tried counts.in_tried (net_number net) b) table less.tried));
           }
 
   pub counted-swap : (i j : ℕ) → i < length order → j < length order → AreCounts (records (swap order i j)) counts
@@ -358,7 +358,7 @@ cond-both false false = refl
 abbrev only : ℕ → Bool → ℕ → ℕ
 only own passes n = one_if ((own == n) && passes)
 
-sum-only : (nets : List ℕ) (net : Net) (passes : Bool) → sum_of nets (only (number_of net) passes) ≡ one_if (passes && has nets net)
+sum-only : (nets : List ℕ) (net : Net) (passes : Bool) → sum_of nets (only (net_number net) passes) ≡ one_if (passes && has nets net)
 sum-only nets net passes = by net
   where
     none : (n : ℕ) → taken (has_number nets n) 0 ≡ 0
@@ -367,7 +367,7 @@ sum-only nets net passes = by net
     own : (n : ℕ) → taken (has_number nets n) (one_if passes) ≡ one_if (passes && has_number nets n)
     own n = cond-both (has_number nets n) passes
 
-    by : (net : Net) → sum_of nets (only (number_of net) passes) ≡ one_if (passes && has nets net)
+    by : (net : Net) → sum_of nets (only (net_number net) passes) ≡ one_if (passes && has nets net)
     by Unroutable = omega (arith, own 0, none 1, none 2, none 3, none 4, none 5, none 6)
     by Ipv4 = omega (arith, own 1, none 0, none 2, none 3, none 4, none 5, none 6)
     by Ipv6 = omega (arith, own 2, none 0, none 1, none 3, none 4, none 5, none 6)
@@ -380,7 +380,7 @@ sum-counts : (test : Rec → Bool) (nets : List ℕ) (rs : List Rec) → sum_of 
 sum-counts test nets [] = omega (arith, cond-zero (has_number nets 0), cond-zero (has_number nets 1), cond-zero (has_number nets 2), cond-zero (has_number nets 3), cond-zero (has_number nets 4), cond-zero (has_number nets 5), cond-zero (has_number nets 6))
 sum-counts test nets (r ∷ rs) =
     (λ i. sum_of nets (λ n. sum_by-cons (mine test n) r rs i))
-    ∙ sum-plus nets (only (number_of (network r)) (test r)) (λ n. count_by (is_of test n) rs)
+    ∙ sum-plus nets (only (net_number (network r)) (test r)) (λ n. count_by (is_of test n) rs)
     ∙ (λ i. sum-only nets (network r) (test r) i + sum-counts test nets rs i)
     ∙ sym (sum_by-cons (λ x. one_if (test x && has nets (network x))) r rs)
 

@@ -1,5 +1,5 @@
 ghost use Rattle.std.specs.Prelude.{◌≡◌, ◌<◌, ◌≤◌, ◌^◌, ℕ, true, get_or, cond};
-ghost use Rattle.net_addr.specs.Address.{number_of};
+ghost use Rattle.net_addr.specs.Address.{net_number};
 ghost use Rattle.net_addr.specs.NetSet.{has};
 ghost use Rattle.peer_index.specs.Inside.{AreOneMore, IsOneMore, sum_over, taken};
 ghost use Rattle.peer_rec.specs.Rec.{network};
@@ -28,9 +28,9 @@ impl Counts {
 
     /// Counts one more record.
     pub(crate) fn raise(&mut self, net: Net, tried: bool)
-        requires new { get_or self.old.in_new (number_of net) 0 ≤ 2 ^ 31 }
-        requires tried { get_or self.old.in_tried (number_of net) 0 ≤ 2 ^ 31 }
-        ensures { AreOneMore self.old self.new (number_of net) tried }
+        requires new { get_or self.old.in_new (net_number net) 0 ≤ 2 ^ 31 }
+        requires tried { get_or self.old.in_tried (net_number net) 0 ≤ 2 ^ 31 }
+        ensures { AreOneMore self.old self.new (net_number net) tried }
     {
         if tried {
             raise(&mut self.in_tried, net);
@@ -41,9 +41,9 @@ impl Counts {
 
     /// Counts one record less.
     pub(crate) fn lower(&mut self, net: Net, tried: bool)
-        requires some { 0 < cond tried (get_or self.old.in_tried (number_of net) 0)
-            (get_or self.old.in_new (number_of net) 0) }
-        ensures { AreOneMore self.new self.old (number_of net) tried }
+        requires some { 0 < cond tried (get_or self.old.in_tried (net_number net) 0)
+            (get_or self.old.in_new (net_number net) 0) }
+        ensures { AreOneMore self.new self.old (net_number net) tried }
     {
         if tried {
             lower(&mut self.in_tried, net);
@@ -55,16 +55,16 @@ impl Counts {
 
 /// Adds one to the count of a network.
 fn raise(counts: &mut [u32; 7], net: Net)
-    requires { get_or counts.old (number_of net) 0 ≤ 2 ^ 31 }
-    ensures { IsOneMore counts.old counts.new (number_of net) true }
+    requires { get_or counts.old (net_number net) 0 ≤ 2 ^ 31 }
+    ensures { IsOneMore counts.old counts.new (net_number net) true }
 {
     counts[usize::from(net.number())] += 1;
 }
 
 /// Takes one from the count of a network.
 fn lower(counts: &mut [u32; 7], net: Net)
-    requires { 0 < get_or counts.old (number_of net) 0 }
-    ensures { IsOneMore counts.new counts.old (number_of net) true }
+    requires { 0 < get_or counts.old (net_number net) 0 }
+    ensures { IsOneMore counts.new counts.old (net_number net) true }
 {
     counts[usize::from(net.number())] -= 1;
 }
@@ -84,7 +84,7 @@ pub(crate) fn sum(counts: &[u32; 7], nets: NetSet) -> usize
 
 /// Returns the count of a network if it is in the set, else 0.
 fn count_in(counts: &[u32; 7], nets: NetSet, net: Net) -> usize
-    ensures value { result ≡ taken (has nets net) (get_or counts.now (number_of net) 0) }
+    ensures value { result ≡ taken (has nets net) (get_or counts.now (net_number net) 0) }
     ensures small { result < 2 ^ 32 }
 {
     if nets.has(net) {

@@ -48,7 +48,7 @@ impl<H: BuildHasher> PeerIndex<H> {
     ghost use Rattle.std.specs.Prelude.{◌≡◌, ◌+◌, ◌<◌, ◌^◌, length, [], None, Some, IsSome, IfSome, IsSomeAnd, IfOk, OnOk, OnErr, swap, slice_get};
     ghost use Rattle.std.specs.Option.{ForSome};
     ghost use Rattle.peer_index.specs.Counts.{count_new, count_tried};
-    ghost use Rattle.peer_index.specs.Order.{IsOrder, SameRecs, SameOthers, SameIds, SameOtherIds, id_of, rec_of, ids, records, with_last, with_rec, without};
+    ghost use Rattle.peer_index.specs.Order.{IsOrder, SameRecs, SameOthers, SameIds, SameOtherIds, id_of, rec_of, ids, records, with_item, with_rec, without};
 
     /// Makes an index with no records.
     pub fn make(alloc: Global, hasher: H) -> PeerIndex<H>
@@ -145,7 +145,7 @@ impl<H: BuildHasher> PeerIndex<H> {
     pub fn add<L: Ledger>(&mut self, rec: Rec, steps: &mut Steps<L>) -> Result<usize, Memory>
         requires few { length self.old < 2 ^ 31 }
         requires absent { id_of self.old rec.peer ≡ None }
-        ensures added { IfOk result (λ id. self.new ≡ with_last self.old id rec) }
+        ensures added { IfOk result (λ id. self.new ≡ with_item self.old id rec) }
         ensures fresh { IfOk result (λ id. rec_of self.old id ≡ None) }
         ensures stored { IfOk result (λ id. rec_of self.new id ≡ Some rec) }
         ensures others { IfOk result (SameOthers self.old self.new) }

@@ -5,10 +5,10 @@ use Rattle.std.proofs.lemmas.List.{take-append-drop, length-take, get_or-take, g
 use Rattle.std.specs.Prelude.{IfOk, IfErr}
 use Rattle.std.specs.Int.{w16, w32, w64, to_le_bytes, to_be_bytes, from_le_bytes, from_be_bytes}
 use Rattle.wire_num.specs.Format as wire
-use Rattle.wire_num.specs.Format.{value, under}
+use Rattle.wire_num.specs.Format.{value, map_fault}
 use Rattle.wire_num.specs.Fields.{some_bytes, byte, le, be, compact}
-use Rattle.wire_num.specs.Readings.{all_of, value_at, under_at, bytes_at, byte_at, le_at, be_at, compact_at}
-use Rattle.wire_num.proofs.ReadingLaws.{AreBytes, AreBytes-rest, Reads, reads_next, Reads-value, Reads-check, Reads-times, Reads-under, reads_all, one_meaning}
+use Rattle.wire_num.specs.Readings.{all_of, value_at, map_fault_at, bytes_at, byte_at, le_at, be_at, compact_at}
+use Rattle.wire_num.proofs.ReadingLaws.{AreBytes, AreBytes-rest, Reads, reads_next, Reads-value, Reads-check, Reads-times, Reads-map_fault, reads_all, one_meaning}
 use Rattle.wire_num.proofs.FieldLaws.{Reads-some_bytes, Reads-byte, Reads-number, le32, le64, be16}
 use Rattle.wire_num.proofs.CompactLaws.{Reads-compact}
 use Rattle.addr_codecs.specs.Layout.{addrv2_address}
@@ -21,29 +21,29 @@ use Rattle.peers_file.specs.declared.chain.Chain.{Chain}
 use Rattle.peers_file.specs.declared.fault.Which.{Which}
 use Rattle.peers_file.specs.declared.fault.FileFault.{FileFault}
 use Rattle.peers_file.specs.declared.fault.FileFault.TheVariants.{Trailing, Memory}
-use Rattle.peers_file.specs.Layout.{field, layout_field, success_field, attempts_field, record_of, old_record_of, record_in, count_field, buckets_field, bucket_of, either, sum_in, head, buckets_of, body, between, whole_fault, IsFile, HasFileFault, HasOneMeaning}
+use Rattle.peers_file.specs.Layout.{field, layout_field, success_field, attempts_field, record_format, old_record_format, record_in, count_field, buckets_field, bucket_of, either, sum_in, head, buckets_of, body, between, whole_fault, IsFile, HasFileFault, HasOneMeaning}
 use Rattle.peers_file.specs.Readings.{GivesUnlessMemory, field_at, layout_at, success_at, attempts_at, record_at, old_record_at, record_in_at, count_at, buckets_at, bucket_at, sum_in_at, head_at, all_buckets_at, body_at}
 
 field32 : Reads (field (le w32)) (field_at (le_at w32))
-field32 = Reads-under of_field (le w32) (le_at w32) (Reads-number w32 (to_le_bytes w32) (from_le_bytes w32) le32)
+field32 = Reads-map_fault of_field (le w32) (le_at w32) (Reads-number w32 (to_le_bytes w32) (from_le_bytes w32) le32)
 
 field64 : Reads (field (le w64)) (field_at (le_at w64))
-field64 = Reads-under of_field (le w64) (le_at w64) (Reads-number w64 (to_le_bytes w64) (from_le_bytes w64) le64)
+field64 = Reads-map_fault of_field (le w64) (le_at w64) (Reads-number w64 (to_le_bytes w64) (from_le_bytes w64) le64)
 
 field16 : Reads (field (be w16)) (field_at (be_at w16))
-field16 = Reads-under of_field (be w16) (be_at w16) (Reads-number w16 (to_be_bytes w16) (from_be_bytes w16) be16)
+field16 = Reads-map_fault of_field (be w16) (be_at w16) (Reads-number w16 (to_be_bytes w16) (from_be_bytes w16) be16)
 
 field_byte : Reads (field byte) (field_at byte_at)
-field_byte = Reads-under of_field byte byte_at Reads-byte
+field_byte = Reads-map_fault of_field byte byte_at Reads-byte
 
 field_bytes : (n : ℕ) → Reads (field (some_bytes n)) (field_at (bytes_at n))
-field_bytes n = Reads-under of_field (some_bytes n) (bytes_at n) (Reads-some_bytes n)
+field_bytes n = Reads-map_fault of_field (some_bytes n) (bytes_at n) (Reads-some_bytes n)
 
-services_field : (i : ℕ) → Reads (under (of_number i) compact) (under_at (of_number i) compact_at)
-services_field i = Reads-under (of_number i) compact compact_at Reads-compact
+services_field : (i : ℕ) → Reads (map_fault (of_number i) compact) (map_fault_at (of_number i) compact_at)
+services_field i = Reads-map_fault (of_number i) compact compact_at Reads-compact
 
-address_field : (i : ℕ) → Reads (under (of_address i) addrv2_address) (under_at (of_address i) address_at)
-address_field i = Reads-under (of_address i) addrv2_address address_at Reads-address
+address_field : (i : ℕ) → Reads (map_fault (of_address i) addrv2_address) (map_fault_at (of_address i) address_at)
+address_field i = Reads-map_fault (of_address i) addrv2_address address_at Reads-address
 
 Reads-layout : (i high : ℕ) → Reads (layout_field i high) (layout_at i high)
 unfolding layout_field layout_at
@@ -57,19 +57,19 @@ Reads-attempts : (i : ℕ) → Reads (attempts_field i) (attempts_at i)
 unfolding attempts_field attempts_at
 Reads-attempts i = reads_next field32 (λ n. Reads-check _ _ n)
 
-Reads-record : (i : ℕ) → Reads (record_of i) (record_at i)
-unfolding record_of record_at
+Reads-record : (i : ℕ) → Reads (record_format i) (record_at i)
+unfolding record_format record_at
 Reads-record i =
     reads_next (Reads-layout i _) (λ _. reads_next field32 (λ time. reads_next (services_field i) (λ services. reads_next (address_field i) (λ peer.
     reads_next field16 (λ port. reads_next (address_field i) (λ source. reads_next (Reads-success i) (λ success. reads_next (Reads-attempts i) (λ attempts. Reads-value _))))))))
 
-Reads-old_record : (i : ℕ) → Reads (old_record_of i) (old_record_at i)
-unfolding old_record_of old_record_at
+Reads-old_record : (i : ℕ) → Reads (old_record_format i) (old_record_at i)
+unfolding old_record_format old_record_at
 Reads-old_record i =
     reads_next (Reads-layout i _) (λ _. reads_next field32 (λ time. reads_next field64 (λ services. reads_next (field_bytes 16) (λ peer.
     reads_next field16 (λ port. reads_next (field_bytes 16) (λ source. reads_next (Reads-success i) (λ success. reads_next (Reads-attempts i) (λ attempts. Reads-value _))))))))
 
-by_format : (old : Bool) (i : ℕ) → Reads (either old (old_record_of i) (record_of i)) (λ bytes. cond old (old_record_at i bytes) (record_at i bytes))
+by_format : (old : Bool) (i : ℕ) → Reads (either old (old_record_format i) (record_format i)) (λ bytes. cond old (old_record_at i bytes) (record_at i bytes))
 by_format true i = Reads-old_record i
 by_format false i = Reads-record i
 

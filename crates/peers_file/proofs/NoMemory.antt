@@ -7,7 +7,7 @@ use Rattle.std.specs.Int.Bits.{bit_xor}
 use Rattle.net_addr.specs.OldForm.{from_v1}
 use Rattle.wire_num.specs.declared.fault.WireFault.{WireFault}
 use Rattle.wire_num.specs.declared.fault.WireFault.TheVariants as wire
-use Rattle.wire_num.specs.Readings.{◌>>=◌, all_of, last, fault_as, then_at, value_at, check_at, times_at, under_at, bytes_at, byte_at, le_at, be_at, compact_at}
+use Rattle.wire_num.specs.Readings.{◌>>=◌, all_of, last, fault_as, then_at, value_at, check_at, times_at, map_fault_at, bytes_at, byte_at, le_at, be_at, compact_at}
 use Rattle.addr_codecs.specs.Readings.{address_at}
 use Rattle.addr_codecs.specs.declared.address_fault.AddressFault.{AddressFault}
 use Rattle.addr_codecs.specs.declared.address_fault.AddressFault.TheVariants as address
@@ -62,7 +62,7 @@ named : {E A : Type 0} (name : E → FileFault) (o : Result A E) → ((e : E) �
 named name (Ok x) other is = no_value x is
 named name (Err e) other is = other e (same_fault (name e) is)
 
-never_under : {E A : Type 0} (name : E → FileFault) (r : List ℕ → Result (A × List ℕ) E) → ((e : E) → name e ≢ Memory) → Never (under_at name r)
+never_under : {E A : Type 0} (name : E → FileFault) (r : List ℕ → Result (A × List ℕ) E) → ((e : E) → name e ≢ Memory) → Never (map_fault_at name r)
 never_under name r other = record { at = λ bytes is. named name (r bytes) other is }
 
 never_times : {A : Type 0} (n i : ℕ) (r : ℕ → Read A) → ((k : ℕ) → Never (r k)) → Never (times_at i n r)

@@ -11,9 +11,9 @@ use Rattle.std.proofs.lemmas.List.FromFn.{get_or-range_with_len, length-range_wi
 use Rattle.std.proofs.lemmas.List.Kept.{AllPairs-filter}
 use Rattle.net_addr.specs.Address.{Address, IsAddress}
 use Rattle.wire_num.specs.CompactSize.{compact_size}
-use Rattle.wire_num.specs.Format.{Format, sequence, value, check, times, under}
+use Rattle.wire_num.specs.Format.{Format, sequence, value, check, times, map_fault}
 use Rattle.wire_num.specs.Fields.{some_bytes, byte, le, be, compact}
-use Rattle.wire_num.proofs.WritingLaws.{spells-then, spells-value, spells-check, spells-under, spells-number, spells-compact, spells-some_bytes, spells-byte}
+use Rattle.wire_num.proofs.WritingLaws.{spells-then, spells-value, spells-check, spells-map_fault, spells-number, spells-compact, spells-some_bytes, spells-byte}
 use Rattle.addr_codecs.specs.Texts.{address_text}
 use Rattle.addr_codecs.specs.Layout.{addrv2_address}
 use Rattle.addr_codecs.proofs.AddressLaws.{spells-address}
@@ -22,7 +22,7 @@ use Rattle.peer_rec.specs.Snapshot.{Snapshot, IsFileRec}
 use Rattle.peers_file.specs.Faults.{of_field, of_number, of_address}
 use Rattle.peers_file.specs.declared.fault.FileFault.{FileFault}
 use Rattle.peers_file.specs.declared.fault.Which.{Which}
-use Rattle.peers_file.specs.Layout.{field, layout_field, success_field, attempts_field, record_of, record_in, count_field, buckets_field, entries_of, pairs_with, bucket_of, sum_in, head, head_with, buckets_of, body}
+use Rattle.peers_file.specs.Layout.{field, layout_field, success_field, attempts_field, record_format, record_in, count_field, buckets_field, entries_of, pairs_with, bucket_of, sum_in, head, head_with, buckets_of, body}
 use Rattle.peers_file.specs.Inside.{IsWritten}
 use Rattle.peers_file.specs.Texts.{record_text, indexes_of, bucket_text, head_text, body_text}
 
@@ -54,11 +54,11 @@ of_byte b = record { is = spells-byte of_field b }
 of_bytes : (n : ℕ) (bytes : List ℕ) → length bytes ≡ n → Spells (field (some_bytes n)) bytes bytes
 of_bytes n bytes h = record { is = spells-some_bytes of_field n bytes h }
 
-of_services : (i n : ℕ) → n < 2 ^ 64 → Spells (under (of_number i) compact) (compact_size n) n
+of_services : (i n : ℕ) → n < 2 ^ 64 → Spells (map_fault (of_number i) compact) (compact_size n) n
 of_services i n h = record { is = spells-compact (of_number i) n h }
 
-of_addr : (i : ℕ) (a : Address) → IsAddress a → Spells (under (of_address i) addrv2_address) (address_text a) (Some a)
-of_addr i a is = record { is = spells-under (of_address i) addrv2_address (address_text a) (Some a) (spells-address a is) }
+of_addr : (i : ℕ) (a : Address) → IsAddress a → Spells (map_fault (of_address i) addrv2_address) (address_text a) (Some a)
+of_addr i a is = record { is = spells-map_fault (of_address i) addrv2_address (address_text a) (Some a) (spells-address a is) }
 
 of_layout : (i : ℕ) → Spells (layout_field i (2 ^ 10)) (to_le_bytes w32 0x20035b60) 0x20035b60
 unfolding layout_field
@@ -72,8 +72,8 @@ of_attempts : (i n : ℕ) → n < 2 ^ 31 → Spells (attempts_field i) (to_le_by
 unfolding attempts_field
 of_attempts i n low = both _ (of_le32 n (omega arith)) (of_test _ _ _ (lt-ltb n (2 ^ 31) low))
 
-pub of_record : (i : ℕ) (r : FileRec) → IsFileRec r → Spells (record_of i) (record_text r) r
-unfolding record_of record_text
+pub of_record : (i : ℕ) (r : FileRec) → IsFileRec r → Spells (record_format i) (record_text r) r
+unfolding record_format record_text
 of_record i r is =
     let few = is.attempts in
     both _ (of_layout i) (both _ (of_le32 r.time is.time) (both _ (of_services i r.services is.services) (both _ (of_addr i r.peer.addr is.addr)

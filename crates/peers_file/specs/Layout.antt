@@ -9,7 +9,7 @@ use Rattle.net_addr.specs.Address.{Address}
 use Rattle.net_addr.specs.OldForm.{address, from_v1}
 use Rattle.net_addr.specs.declared.net.Net.TheVariants.{Ipv6}
 use Rattle.wire_num.specs.declared.fault.WireFault.{WireFault}
-use Rattle.wire_num.specs.Format.{Format, ◌>>=◌, value, check, times, under, HasFault}
+use Rattle.wire_num.specs.Format.{Format, ◌>>=◌, value, check, times, map_fault, HasFault}
 use Rattle.wire_num.specs.Fields.{some_bytes, byte, le, be, compact}
 use Rattle.addr_codecs.specs.Layout.{addrv2_address}
 use Rattle.placing.specs.Places.{double_sha256}
@@ -34,7 +34,7 @@ magic_of Signet = 0x0a ∷ 0x03 ∷ 0xcf ∷ 0x40 ∷ []
 magic_of Regtest = 0xfa ∷ 0xbf ∷ 0xb5 ∷ 0xda ∷ []
 
 abbrev pub field : {A : Type 0} → Format WireFault A → Format FileFault A
-field p = under of_field p
+field p = map_fault of_field p
 
 -- an address that a node does not have is read as IPv6 all zero
 abbrev pub or_zero : Option Address → Address
@@ -69,21 +69,21 @@ attempts_field i = do
   check (nat_lt n (2 ^ 31)) (Attempts i) n
 
 -- a record of formats 3 and 4, with addresses as `addrv2` has them (BIP 155)
-unfoldable pub record_of : ℕ → Format FileFault FileRec
-record_of i = do
+unfoldable pub record_format : ℕ → Format FileFault FileRec
+record_format i = do
   _ ← layout_field i (2 ^ 10)
   time ← field (le w32)
-  services ← under (of_number i) compact
-  peer ← under (of_address i) addrv2_address
+  services ← map_fault (of_number i) compact
+  peer ← map_fault (of_address i) addrv2_address
   port ← field (be w16)
-  source ← under (of_address i) addrv2_address
+  source ← map_fault (of_address i) addrv2_address
   success ← success_field i
   attempts ← attempts_field i
   value (file_rec (or_zero peer) port (or_zero source) time services success attempts)
 
 -- a record of formats 1 and 2, with addresses of sixteen bytes
-unfoldable pub old_record_of : ℕ → Format FileFault FileRec
-old_record_of i = do
+unfoldable pub old_record_format : ℕ → Format FileFault FileRec
+old_record_format i = do
   _ ← layout_field i 0
   time ← field (le w32)
   services ← field (le w64)
@@ -101,7 +101,7 @@ either false p q = q
 
 -- a record of a file's format, by its index
 abbrev pub record_in : ℕ → ℕ → Format FileFault FileRec
-record_in format i = either (nat_lt format 3) (old_record_of i) (record_of i)
+record_in format i = either (nat_lt format 3) (old_record_format i) (record_format i)
 
 -- a number of records, at most so many; a negative one counts as above the limit
 unfoldable pub count_field : Which → ℕ → Format FileFault ℕ

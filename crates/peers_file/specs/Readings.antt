@@ -5,7 +5,7 @@ use Rattle.std.specs.Int.{w16, w32, w64, cast_signed}
 use Rattle.std.specs.Int.Bits.{bit_xor}
 use Rattle.net_addr.specs.OldForm.{from_v1}
 use Rattle.wire_num.specs.declared.fault.WireFault.{WireFault}
-use Rattle.wire_num.specs.Readings.{then_at, value_at, check_at, times_at, under_at, bytes_at, byte_at, le_at, be_at, compact_at}
+use Rattle.wire_num.specs.Readings.{then_at, value_at, check_at, times_at, map_fault_at, bytes_at, byte_at, le_at, be_at, compact_at}
 use Rattle.addr_codecs.specs.Readings.{address_at}
 use Rattle.peer_rec.specs.declared.file_rec.FileRec.{FileRec}
 use Rattle.peer_rec.specs.declared.snapshot.TheConstants.{MAX_NEW, MAX_TRIED, MAX_BUCKETS}
@@ -24,7 +24,7 @@ abbrev pub Read : Type 0 → Type 0
 Read A = List ℕ → Result (A × List ℕ) FileFault
 
 abbrev pub field_at : {A : Type 0} → (List ℕ → Result (A × List ℕ) WireFault) → Read A
-field_at r = under_at of_field r
+field_at r = map_fault_at of_field r
 
 unfoldable pub layout_at : ℕ → ℕ → Read ℕ
 layout_at i high =
@@ -40,10 +40,10 @@ unfoldable pub record_at : ℕ → Read FileRec
 record_at i =
     then_at (layout_at i (2 ^ 10)) (λ _.
     then_at (field_at (le_at w32)) (λ time.
-    then_at (under_at (of_number i) compact_at) (λ services.
-    then_at (under_at (of_address i) address_at) (λ peer.
+    then_at (map_fault_at (of_number i) compact_at) (λ services.
+    then_at (map_fault_at (of_address i) address_at) (λ peer.
     then_at (field_at (be_at w16)) (λ port.
-    then_at (under_at (of_address i) address_at) (λ source.
+    then_at (map_fault_at (of_address i) address_at) (λ source.
     then_at (success_at i) (λ success.
     then_at (attempts_at i) (λ attempts.
     value_at (file_rec (or_zero peer) port (or_zero source) time services success attempts)))))))))

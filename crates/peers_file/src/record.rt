@@ -1,7 +1,7 @@
 ghost use Rattle.std.specs.Prelude.{◌≡◌, ◌≤◌, ◌/◌, IfOk};
 ghost use Rattle.std.specs.Int.{w16};
 ghost use Rattle.net_addr.specs.OldForm.{from_v1};
-ghost use Rattle.wire_num.specs.Readings.{Gives, then_at, value_at, under_at, bytes_at, be_at, compact_at};
+ghost use Rattle.wire_num.specs.Readings.{Gives, then_at, value_at, map_fault_at, bytes_at, be_at, compact_at};
 ghost use Rattle.addr_codecs.specs.Readings.{address_at};
 ghost use Rattle.peer_rec.specs.declared.file_rec.TheConstants.{MAX_ATTEMPTS};
 ghost use Rattle.peers_file.specs.Layout.{or_zero, file_rec};
@@ -68,7 +68,7 @@ fn or_zero(addr: Option<NetAddr>) -> NetAddr
 /// Takes the services of a node as a CompactSize.
 fn take_services(index: u32, bytes: &[u8]) -> Result<(u64, &[u8]), FileFault>
     ensures { Gives (λ x. (x.0, x.1.now)) result
-        (under_at (of_number index) compact_at bytes.now) }
+        (map_fault_at (of_number index) compact_at bytes.now) }
 {
     match take_compact(bytes) {
         Ok(found) => Ok(found),
@@ -79,7 +79,7 @@ fn take_services(index: u32, bytes: &[u8]) -> Result<(u64, &[u8]), FileFault>
 /// Takes an address of `addrv2`, or `None` if a node has no such address.
 fn take_addr(index: u32, bytes: &[u8]) -> Result<(Option<NetAddr>, &[u8]), FileFault>
     ensures { Gives (λ x. (x.0, x.1.now)) result
-        (under_at (of_address index) address_at bytes.now) }
+        (map_fault_at (of_address index) address_at bytes.now) }
 {
     match take_address(bytes) {
         Ok(found) => Ok(found),
@@ -135,9 +135,9 @@ fn take_new_peer(
     bytes: &[u8],
 ) -> Result<(FileRec, &[u8]), FileFault>
     ensures found { Gives (λ x. (x.0, x.1.now)) result
-        (then_at (under_at (of_address index) address_at) (λ peer.
+        (then_at (map_fault_at (of_address index) address_at) (λ peer.
         then_at (field_at (be_at w16)) (λ port.
-        then_at (under_at (of_address index) address_at) (λ source.
+        then_at (map_fault_at (of_address index) address_at) (λ source.
         then_at (success_at index) (λ success.
         then_at (attempts_at index) (λ attempts.
         value_at (file_rec (or_zero peer) port (or_zero source) time services success

@@ -7,12 +7,12 @@ use Rattle.std.proofs.lemmas.List.{length-take, length-replicate, get_or-append-
 use Rattle.std.proofs.lemmas.List.Elements.{All-append, All-drop, All-from_recursion, All-map, All-nil, All-take, All-weaker}
 use Rattle.net_addr.proofs.Bytes.{AllBytes-All}
 use Rattle.net_addr.proofs.Words.{to_be_bytes-from_be_bytes_16}
-use Rattle.net_addr.specs.Address.{Address, IsAddress, number_of}
+use Rattle.net_addr.specs.Address.{Address, IsAddress, net_number}
 use Rattle.net_addr.specs.Ranges.{carried, in_range, is_routable, linked_by, linked_ipv4, nat64, net_class, siit, six_to_four, teredo}
 use Rattle.net_addr.specs.declared.net.Net.{Net}
 use Rattle.net_addr.specs.declared.net.Net.TheVariants.{Unroutable, Ipv4, Ipv6, Onion, I2p, Cjdns, Internal}
 use Rattle.net_group.proofs.Classes.{internal-length}
-use Rattle.net_group.specs.Group.{first_bits, he_net, ones_after, part_by}
+use Rattle.net_group.specs.Group.{prefix_bytes, he_net, ones_after, part_by}
 use Rattle.placing.specs.Places.{Places, asn, group}
 use Rattle.table_picture.specs.Keys.{group_key, key_bytes}
 
@@ -131,7 +131,7 @@ part-of Ipv4 a is e = record {
 }
 part-of Ipv6 a is e = by (in_range he_net a.bytes)
   where
-    by : (b : Bool) → IsPart (first_bits (cond b 36 32) a.bytes)
+    by : (b : Bool) → IsPart (prefix_bytes (cond b 36 32) a.bytes)
     by true = record { few = omega (arith, front-length a.bytes is.bytes 4 (ones_after 4 (slice_index a.bytes 4))); bytes = front a.bytes is.bytes 4 (ones_after 4 (slice_index a.bytes 4)) (half a.bytes is.bytes 4) }
     by false = record { few = omega (arith, length-append (take 4 a.bytes) [], length-take 4 a.bytes); bytes = All-append IsByte (take 4 a.bytes) [] (All-take IsByte 4 a.bytes is.bytes) (All-nil IsByte) }
 part-of Onion a is e = record { few = omega (arith, front-length a.bytes is.bytes 0 (ones_after 4 (slice_index a.bytes 0))); bytes = front a.bytes is.bytes 0 (ones_after 4 (slice_index a.bytes 0)) (half a.bytes is.bytes 0) }
@@ -139,7 +139,7 @@ part-of I2p a is e = record { few = omega (arith, front-length a.bytes is.bytes 
 part-of Cjdns a is e = record { few = omega (arith, front-length a.bytes is.bytes 1 (ones_after 4 (slice_index a.bytes 1))); bytes = front a.bytes is.bytes 1 (ones_after 4 (slice_index a.bytes 1)) (half a.bytes is.bytes 1) }
 part-of Internal a is e = record { few = omega (arith, internal-length a is (sym e)); bytes = is.bytes }
 
-number-small : (class : Net) → IsByte (number_of class)
+number-small : (class : Net) → IsByte (net_number class)
 number-small Unroutable = omega arith
 number-small Ipv4 = omega arith
 number-small Ipv6 = omega arith
@@ -155,11 +155,11 @@ group-is places a is = by (asn places.map a == 0)
     part : IsPart (part_by (net_class a) a)
     part = part-of (net_class a) a is refl
 
-    by : (b : Bool) → IsGroup (cond b (number_of (net_class a) ∷ part_by (net_class a) a) (2 ∷ to_le_bytes w32 (asn places.map a)))
+    by : (b : Bool) → IsGroup (cond b (net_number (net_class a) ∷ part_by (net_class a) a) (2 ∷ to_le_bytes w32 (asn places.map a)))
     by true = record {
       some = omega arith;
       few = omega (arith, part.few);
-      bytes = All-append IsByte (number_of (net_class a) ∷ []) (part_by (net_class a) a) (one-byte (number_of (net_class a)) (number-small (net_class a))) part.bytes;
+      bytes = All-append IsByte (net_number (net_class a) ∷ []) (part_by (net_class a) a) (one-byte (net_number (net_class a)) (number-small (net_class a))) part.bytes;
     }
     by false = record {
       some = omega arith;

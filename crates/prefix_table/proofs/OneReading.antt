@@ -9,7 +9,7 @@ use Rattle.std.proofs.lemmas.List.Sorted.{IsPermutation-sym, length_permutation,
 use Rattle.std.proofs.lemmas.Map.Keys.{apart_from_distinct, IsDistinct-from_apart, IsDistinct-IsPermutation}
 use Rattle.prefix_table.specs.Rows.{IsTable, Precedes, SamePrefix}
 use Rattle.host_io.specs.Lines.{IsPassedOver, lines_of}
-use Rattle.prefix_table.specs.Text.{IsRowLine, IsInRange, IsClear, AreLines, IsTableText, IsFault, HasFault, row_of}
+use Rattle.prefix_table.specs.Text.{IsRowLine, IsInRange, IsClear, AreLines, IsTableText, IsFault, HasRowFault, row_of}
 use Rattle.prefix_table.specs.Numbered.{IsSettled}
 use Rattle.prefix_table.specs.declared.row.Row.{Row}
 use Rattle.prefix_table.specs.declared.row.TheConstants.{MAX_ROWS}
@@ -81,7 +81,7 @@ apart_last xs tail row earlier apart (k, within, is) same =
     sub_same n = omega arith
 
 -- a line at fault is not passed over, and is not that of one more row
-clash : (xs rest : List Row) (line : List ℕ) (n : ℕ) (fault : TableFault) → IsSettled line → HasFault xs line n fault → GoesOn line rest → AreApart (xs ++ rest) → length (xs ++ rest) ≤ MAX_ROWS → ⊥
+clash : (xs rest : List Row) (line : List ℕ) (n : ℕ) (fault : TableFault) → IsSettled line → HasRowFault xs line n fault → GoesOn line rest → AreApart (xs ++ rest) → length (xs ++ rest) ≤ MAX_ROWS → ⊥
 clash xs rest line n (Form at) settled h (inl passed) apart few = h.1.not_passed_over passed
 clash xs rest line n (Form at) settled h (inr (row, tail, is, e)) apart few = h.1.no_entry is.entry is.is_entry
 clash xs rest line n (Number at) settled h (inl passed) apart few = h.1.is_entry.not_passed_over passed
@@ -101,7 +101,7 @@ clash xs rest line n (TooLarge size) settled h goes apart few = h
 clash xs rest line n Memory settled h goes apart few = h
 
 -- a fault is not in lines of rows that a table may have
-pub fault_clash : (before : List (List ℕ)) (line : List ℕ) (more : List (List ℕ)) (xs said : List Row) (n : ℕ) (fault : TableFault) → All IsSettled (before ++ line ∷ []) → AreLines before xs → HasFault xs line n fault → AreLines (before ++ line ∷ more) said → AreApart said → length said ≤ MAX_ROWS → ⊥
+pub fault_clash : (before : List (List ℕ)) (line : List ℕ) (more : List (List ℕ)) (xs said : List Row) (n : ℕ) (fault : TableFault) → All IsSettled (before ++ line ∷ []) → AreLines before xs → HasRowFault xs line n fault → AreLines (before ++ line ∷ more) said → AreApart said → length said ≤ MAX_ROWS → ⊥
 fault_clash before line more xs said n fault settled are h also apart few =
     let on = goes_on before line more xs said settled are also in
     let own = All-contains-last before line settled in
@@ -217,7 +217,7 @@ cuts (z ∷ a) (w ∷ b) c d x y e =
     ]
 
 -- a line has one fault at most
-kinds_one : (xs : List Row) (line : List ℕ) (n : ℕ) (f g : TableFault) → IsSettled line → HasFault xs line n f → HasFault xs line n g → f ≡ g
+kinds_one : (xs : List Row) (line : List ℕ) (n : ℕ) (f g : TableFault) → IsSettled line → HasRowFault xs line n f → HasRowFault xs line n g → f ≡ g
 kinds_one xs line n (Form a) (Form b) settled h k = ap Form (h.0 ∙ sym k.0)
 kinds_one xs line n (Form a) (Number b) settled h k = absurd (h.1.no_entry k.1.entry k.1.is_entry)
 kinds_one xs line n (Form a) (HostBits b) settled h k = absurd (h.1.no_entry k.1.entry k.1.is_entry)
@@ -267,8 +267,8 @@ first_settled (l ∷ ls) more all = All-cons IsSettled l ls (All-head IsSettled 
 same_place : (text : List ℕ) (x y : TableFault) (f : IsFault text x) (g : IsFault text y) → All IsSettled (f.before ++ f.line ∷ []) → f.before ≡ g.before → f.line ≡ g.line → x ≡ y
 same_place text x y f g settled before line =
     let rows = lines_one f.before f.rows g.rows (first_settled f.before (f.line ∷ []) settled) f.are_rows.said (subst (λ (ls : List (List ℕ)). AreLines ls g.rows) (sym before) g.are_rows.said) in
-    let there : HasFault f.rows f.line (length f.before + 1) y =
-    subst (λ (ls : List (List ℕ)). HasFault f.rows f.line (length ls + 1) y) (sym before) (subst (λ (l : List ℕ). HasFault f.rows l (length g.before + 1) y) (sym line) (subst (λ (rs : List Row). HasFault rs g.line (length g.before + 1) y) (sym rows) g.has_fault)) in
+    let there : HasRowFault f.rows f.line (length f.before + 1) y =
+    subst (λ (ls : List (List ℕ)). HasRowFault f.rows f.line (length ls + 1) y) (sym before) (subst (λ (l : List ℕ). HasRowFault f.rows l (length g.before + 1) y) (sym line) (subst (λ (rs : List Row). HasRowFault rs g.line (length g.before + 1) y) (sym rows) g.has_fault)) in
     kinds_one f.rows f.line (length f.before + 1) x y (last_settled f.before f.line settled) f.has_fault there
 
 -- a text has one fault at most

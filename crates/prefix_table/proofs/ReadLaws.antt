@@ -8,7 +8,7 @@ use Rattle.std.proofs.lemmas.List.Elements.{All-map, Contains-get_or, Contains-a
 use Rattle.std.proofs.lemmas.List.Sorted.{IsPermutation-map, length_permutation, Contains-permutation, All-permutation}
 use Rattle.prefix_table.specs.Rows.{IsRow, SamePrefix, Precedes}
 use Rattle.host_io.specs.Lines.{lines_of}
-use Rattle.prefix_table.specs.Text.{IsTableText, IsFault, HasFault}
+use Rattle.prefix_table.specs.Text.{IsTableText, IsFault, HasRowFault}
 use Rattle.prefix_table.specs.Numbered.{IsSettled, row_in, AreNumbered, NotAfter, IsRepeatAt, IsWhole, StopsAt, Overflows, IsReadingOf}
 use Rattle.prefix_table.specs.declared.row.Row.{Row}
 use Rattle.prefix_table.specs.declared.row.TheConstants.{MAX_ROWS}
@@ -151,7 +151,7 @@ repeated_is text rows n read is least =
       settled = first_settled (split.before ++ split.line ∷ []) split.after (subst (All IsSettled) (split.lines_are ∙ sym (append_assoc split.before (split.line ∷ []) split.after)) read.settled);
     }
 
-has_fault : (before : List Row) (line : List ℕ) (n : ℕ) (fault : TableFault) → HasFault [] line n fault → HasFault before line n fault
+has_fault : (before : List Row) (line : List ℕ) (n : ℕ) (fault : TableFault) → HasRowFault [] line n fault → HasRowFault before line n fault
 has_fault before line n (Form at) h = h
 has_fault before line n (Number at) h = h
 has_fault before line n (HostBits at) h = h

@@ -2,7 +2,7 @@
 use Rattle.std.proofs.Common.{◌≡◌, ℕ, ◌+◌, ◌<◌, ◌≤◌, List, [], ◌∷◌, ◌++◌, length, ◌∙◌, ap, sym, subst, arith, inl, inr, refl, append_assoc, append-nil, length-append, All}
 use Rattle.std.proofs.lemmas.List.Elements.{All-nil, All-push}
 use Rattle.host_io.specs.Lines.{IsPassedOver, lines_of}
-use Rattle.prefix_table.specs.Text.{IsRowLine, HasFault}
+use Rattle.prefix_table.specs.Text.{IsRowLine, HasRowFault}
 use Rattle.prefix_table.specs.Numbered.{IsSettled, row_in, with_line, AreNumbered, IsWhole, StopsAt, Overflows}
 use Rattle.prefix_table.specs.declared.row.Row.{Row}
 use Rattle.prefix_table.specs.declared.row.TheConstants.{MAX_ROWS}
@@ -80,7 +80,7 @@ overflows text rest after first rows line row so cut settled is full = record {
   is_row = is;
 }
 
-pub stops_at : (text rest after first : List ℕ) (rows : List NumberedRow) (line : ℕ) (fault : TableFault) → SoFar text rest rows line → lines_of rest ≡ first ∷ lines_of after → IsSettled first → HasFault [] first (line + 1) fault → StopsAt text rows fault
+pub stops_at : (text rest after first : List ℕ) (rows : List NumberedRow) (line : ℕ) (fault : TableFault) → SoFar text rest rows line → lines_of rest ≡ first ∷ lines_of after → IsSettled first → HasRowFault [] first (line + 1) fault → StopsAt text rows fault
 stops_at text rest after first rows line fault so cut settled has = record {
   before = so.done;
   line = first;
@@ -89,7 +89,7 @@ stops_at text rest after first rows line fault so cut settled has = record {
   are_rows = so.are_rows;
   settled = All-push IsSettled so.done first so.settled settled;
   few = so.few;
-  has = subst (λ n. HasFault [] first (n + 1) fault) so.count has;
+  has = subst (λ n. HasRowFault [] first (n + 1) fault) so.count has;
 }
 
 pub whole : (text : List ℕ) (rows : List NumberedRow) (line : ℕ) (rest : List ℕ) → SoFar text rest rows line → rest ≡ [] → IsWhole text rows

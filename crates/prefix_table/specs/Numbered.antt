@@ -2,7 +2,7 @@
 use Rattle.std.specs.Prelude.{◌≡◌, ◌⊎◌, ℕ, ◌+◌, ◌<◌, ◌≤◌, List, [], ◌∷◌, ◌++◌, All, Option, Some, None, length, slice_index_or}
 use Rattle.prefix_table.specs.Rows.{SamePrefix, Precedes}
 use Rattle.host_io.specs.Lines.{IsPassedOver, lines_of}
-use Rattle.prefix_table.specs.Text.{IsRowEntry, IsRowLine, HasFault}
+use Rattle.prefix_table.specs.Text.{IsRowEntry, IsRowLine, HasRowFault}
 use Rattle.prefix_table.specs.declared.row.Row.{Row}
 use Rattle.prefix_table.specs.declared.entry.Entry.{Entry}
 use Rattle.prefix_table.specs.declared.row.TheConstants.{MAX_ROWS}
@@ -44,7 +44,7 @@ pub record StopsAt (text : List ℕ) (rows : List NumberedRow) (fault : TableFau
   pub are_rows : AreNumbered 1 before rows
   pub few : length rows ≤ MAX_ROWS
   pub settled : All IsSettled (before ++ line ∷ [])
-  pub has : HasFault [] line (length before + 1) fault
+  pub has : HasRowFault [] line (length before + 1) fault
 
 -- the lines before one are those of as many rows as a table has, and this one is that of the last
 -- row

@@ -124,14 +124,14 @@ pub record IsOneTooMany (before : List Row) (line : List ℕ) : Type 0 where
   pub full : length before ≡ MAX_ROWS
 
 -- the line, of this number, has the fault, if the lines before it are those of these rows
-abbrev pub HasFault : List Row → List ℕ → ℕ → TableFault → Type 0
-HasFault before line n (Form at) = (at ≡ n) × HasNoForm line
-HasFault before line n (Number at) = (at ≡ n) × IsOutOfRange line
-HasFault before line n (HostBits at) = (at ≡ n) × HasHostBits line
-HasFault before line n (Repeated at) = (at ≡ n) × IsRepeated before line
-HasFault before line n TooMany = IsOneTooMany before line
-HasFault before line n (TooLarge size) = ⊥
-HasFault before line n Memory = ⊥
+abbrev pub HasRowFault : List Row → List ℕ → ℕ → TableFault → Type 0
+HasRowFault before line n (Form at) = (at ≡ n) × HasNoForm line
+HasRowFault before line n (Number at) = (at ≡ n) × IsOutOfRange line
+HasRowFault before line n (HostBits at) = (at ≡ n) × HasHostBits line
+HasRowFault before line n (Repeated at) = (at ≡ n) × IsRepeated before line
+HasRowFault before line n TooMany = IsOneTooMany before line
+HasRowFault before line n (TooLarge size) = ⊥
+HasRowFault before line n Memory = ⊥
 
 -- the first line of the text that is neither passed over nor that of another row has the fault
 pub record IsFault (text : List ℕ) (fault : TableFault) : Type 0 where
@@ -141,4 +141,4 @@ pub record IsFault (text : List ℕ) (fault : TableFault) : Type 0 where
   pub lines : lines_of text ≡ before ++ line ∷ after
   pub rows : List Row
   pub are_rows : AreRowLines before rows
-  pub has_fault : HasFault rows line (length before + 1) fault
+  pub has_fault : HasRowFault rows line (length before + 1) fault

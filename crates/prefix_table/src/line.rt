@@ -1,6 +1,6 @@
 ghost use Rattle.std.specs.Prelude.{◌≡◌, ◌≢◌, ℕ, ◌⊎◌, ◌+◌, ◌<◌, ◌≤◌, ◌^◌, ◌↔◌, [], ◌∷◌, ◌++◌, All, IsTrue, IfSome, IfNone, IfOk, IfErr, MatchOption, Some};
 ghost use Rattle.host_io.specs.Lines.{IsPassedOver};
-ghost use Rattle.prefix_table.specs.Text.{HasFault, IsRowAddress, IsRowEntry, IsInRange, IsClear, IsRowLine, row_of, width};
+ghost use Rattle.prefix_table.specs.Text.{HasRowFault, IsRowAddress, IsRowEntry, IsInRange, IsClear, IsRowLine, row_of, width};
 ghost use Rattle.prefix_table.specs.Numbered.{IsSettled};
 ghost use Rattle.prefix_table.specs.declared.entry.Entry.{Entry};
 ghost use Rattle.prefix_table.specs.declared.entry.Family.{Family};
@@ -18,7 +18,7 @@ const MAX_NUMBER: u64 = 9_999_999_999;
 pub(crate) fn read_line(text: &[u8], line: u32) -> Result<Option<Row>, TableFault>
     ensures found { IfOk result (λ row.
         MatchOption row (IsPassedOver text.now) (IsRowLine text.now)) }
-    ensures cause { IfErr result (HasFault [] text.now line) }
+    ensures cause { IfErr result (HasRowFault [] text.now line) }
     ensures settled { IsSettled text.now }
 {
     if is_passed_over(text) {

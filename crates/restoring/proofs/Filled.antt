@@ -7,7 +7,7 @@ use Rattle.std.proofs.lemmas.List.Elements.{All-tail}
 use Rattle.net_addr.specs.Same.{same_peer}
 use Rattle.net_addr.specs.declared.peer.Peer.{Peer}
 use Rattle.peer_rec.specs.declared.rec.Rec.{Rec}
-use Rattle.peer_index.specs.Order.{Item, id_of, with_last}
+use Rattle.peer_index.specs.Order.{Item, id_of, with_item}
 use Rattle.peer_index.proofs.Kept.{same_peer-differs}
 use Rattle.restoring.specs.Filled.{HasApart, filled, item_of, rec_at}
 
@@ -44,7 +44,7 @@ module _ (ids : List ℕ) (recs : List Rec) (order : List ℕ) (apart : HasApart
   pub absent : id_of (filled ids recs (take k order)) (rec_at recs n).peer ≡ None
   absent = not-in ids recs (rec_at recs n).peer (take k order) before
 
-  pub filled-more : (id : ℕ) → n < length ids → filled (set ids n id) recs (take (k + 1) order) ≡ with_last (filled ids recs (take k order)) id (rec_at recs n)
+  pub filled-more : (id : ℕ) → n < length ids → filled (set ids n id) recs (take (k + 1) order) ≡ with_item (filled ids recs (take k order)) id (rec_at recs n)
   filled-more id low =
       ap (filled (set ids n id) recs) (take_more order k n within ∙ ap (λ m. take k order ++ m ∷ []) (sym is))
       ∙ map-append (item_of (set ids n id) recs) (take k order) (n ∷ [])

@@ -8,7 +8,7 @@ use Rattle.peer_rec.specs.Snapshot.{Snapshot}
 use Rattle.peer_rec.specs.declared.rec.Rec.{Rec}
 use Rattle.slot_grid.specs.Slots.{Slots, new_id, tried_id}
 use Rattle.table_machine.specs.State.{State, is_new_at, is_tried_at}
-use Rattle.table_machine.specs.Restoring.{appended, drop_all, give_if_empty, place_all, uses_buckets}
+use Rattle.table_machine.specs.Restoring.{with_records, drop_all, give_if_empty, place_all, uses_buckets}
 use Rattle.restoring.specs.declared.plan.Plan.{Plan}
 use Rattle.slot_grid.specs.declared.sizes.TheConstants.{NEW_BUCKETS, TRIED_BUCKETS, SLOTS}
 
@@ -56,7 +56,7 @@ dropping places recs turn order =
 
 -- the records of a file, after those that its buckets list are placed
 abbrev pub placed : Snapshot → Places → State
-placed snap places = place_all (uses_buckets snap places) (appended snap places) snap.listed
+placed snap places = place_all (uses_buckets snap places) (with_records snap places) snap.listed
 
 -- what holds of a plan
 abbrev pub IsPlanned : Plan → Type 0

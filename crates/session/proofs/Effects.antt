@@ -16,8 +16,8 @@ use Rattle.session.specs.Events.{Ended, SaveStep as SaveCommand, after_step, beg
 use Rattle.session.specs.Events.Ended.{Saved as was_saved, NotSaved as was_not}
 use Rattle.session.specs.Folders.{AtMost, MayPublish, published}
 use Rattle.session.specs.Inside.{Carried, Effect}
-use Rattle.session.specs.State.{CommandStep, State, file_now, file_of, state}
-use Rattle.log_lines.specs.Spelling.{Spells}
+use Rattle.session.specs.State.{CommandStep, SessionState, file_now, file_of, state}
+use Rattle.log_lines.specs.Spelling.{SpellsCommand}
 use Rattle.log_lines.specs.declared.command.Command.{Command}
 use Rattle.manager.specs.Machine.{Machine}
 use Rattle.manager.specs.Step.{Step, SavesNothing}
@@ -167,7 +167,7 @@ carried chain machine job taken new asked save answer before after f g is same s
     })
 
 -- a line that spells a command may publish what the command may
-pub may_publish : (old : State) (line : List ℕ) (asked : Command) (file : Option (List ℕ)) → Spells line asked
+pub may_publish : (old : SessionState) (line : List ℕ) (asked : Command) (file : Option (List ℕ)) → SpellsCommand line asked
     → published (file_now old) old.job asked ≡ file → MayPublish old line file
 may_publish old line asked None spelled is = tt
 may_publish old line asked (Some file) spelled is = (asked, spelled, is)

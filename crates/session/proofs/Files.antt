@@ -15,9 +15,9 @@ use Rattle.save_store.specs.Job.{Job, whole}
 use Rattle.save_store.specs.Saves.{IsStored}
 use Rattle.session.specs.Events.{Ended, SaveStep as SaveCommand, after_step, save, save_begin, save_end, save_step}
 use Rattle.session.specs.Events.Ended.{NotSaved, Saved}
-use Rattle.session.specs.Folders.{HasEnded, IsFile, published, published_in}
+use Rattle.session.specs.Folders.{HasEnded, LeavesFile, published, published_in}
 use Rattle.session.specs.History.{IsAny, IsLast, OrOpen, RoseBy, failed, onto}
-use Rattle.session.specs.State.{CommandStep, LineStep, State, file_now}
+use Rattle.session.specs.State.{CommandStep, LineStep, SessionState, file_now}
 
 -- what every crash leaves after a save that is acknowledged
 abbrev pub EndedAt : Option Ended → Disk → Type 0
@@ -37,7 +37,7 @@ step_whole j n = ap (λ t. j.written ++ t) (sym (take-append-drop n j.left)) ∙
 
 last_save : (start disk : Disk) (file : List ℕ) (job : Option Job) (done : Bool) (ended : List Ended) (found : Option (List ℕ))
     → EndedAt (save file job done).ended disk → MayHave (under disk Peers) found
-    → OrOpen job found (IsLast start ended found) ⊎ IsFile (published file job command.Save) found
+    → OrOpen job found (IsLast start ended found) ⊎ LeavesFile (published file job command.Save) found
     → OrOpen (save file job done).job found (IsLast start (onto (save file job done).ended ended) found)
 last_save start disk file None true ended found h may x = inr (h found may)
 last_save start disk file None false ended found h may (inl (inl o)) = absurd o
@@ -47,7 +47,7 @@ last_save start disk file (Some j) done ended found h may (inl x) = x
 last_save start disk file (Some j) done ended found h may (inr y) = absurd y
 
 last_begin : (start disk : Disk) (file : List ℕ) (job : Option Job) (done : Bool) (ended : List Ended) (found : Option (List ℕ))
-    → OrOpen job found (IsLast start ended found) ⊎ IsFile (published file job command.SaveBegin) found
+    → OrOpen job found (IsLast start ended found) ⊎ LeavesFile (published file job command.SaveBegin) found
     → OrOpen (save_begin file job done).job found (IsLast start (onto (save_begin file job done).ended ended) found)
 last_begin start disk file None true ended found (inl (inl o)) = absurd o
 last_begin start disk file None true ended found (inl (inr l)) = inr l
@@ -59,7 +59,7 @@ last_begin start disk file (Some j) done ended found (inl x) = x
 last_begin start disk file (Some j) done ended found (inr y) = absurd y
 
 last_step : (start disk : Disk) (file : List ℕ) (n : ℕ) (job : Option Job) (done : Bool) (ended : List Ended) (found : Option (List ℕ))
-    → OrOpen job found (IsLast start ended found) ⊎ IsFile (published file job (command.SaveStep n)) found
+    → OrOpen job found (IsLast start ended found) ⊎ LeavesFile (published file job (command.SaveStep n)) found
     → OrOpen (save_step n job done).job found (IsLast start (onto (save_step n job done).ended ended) found)
 last_step start disk file n None done ended found (inl x) = x
 last_step start disk file n None done ended found (inr y) = absurd y
@@ -72,7 +72,7 @@ last_step start disk file n (Some j) false ended found (inr y) = absurd y
 
 last_end : (start disk : Disk) (file : List ℕ) (job : Option Job) (done : Bool) (ended : List Ended) (found : Option (List ℕ))
     → EndedAt (save_end job done).ended disk → MayHave (under disk Peers) found
-    → OrOpen job found (IsLast start ended found) ⊎ IsFile (published file job command.SaveEnd) found
+    → OrOpen job found (IsLast start ended found) ⊎ LeavesFile (published file job command.SaveEnd) found
     → OrOpen (save_end job done).job found (IsLast start (onto (save_end job done).ended ended) found)
 last_end start disk file None done ended found h may (inl x) = x
 last_end start disk file None done ended found h may (inr y) = absurd y
@@ -82,7 +82,7 @@ last_end start disk file (Some j) false ended found h may (inl (inr l)) = inr (i
 last_end start disk file (Some j) false ended found h may (inr is) = inr (inl is)
 
 any_save : (start : Disk) (file : List ℕ) (job : Option Job) (done : Bool) (ended : List Ended) (found : Option (List ℕ))
-    → OrOpen job found (IsAny start ended found) ⊎ IsFile (published file job command.Save) found
+    → OrOpen job found (IsAny start ended found) ⊎ LeavesFile (published file job command.Save) found
     → OrOpen (save file job done).job found (IsAny start (onto (save file job done).ended ended) found)
 any_save start file None true ended found (inl (inl o)) = absurd o
 any_save start file None true ended found (inl (inr l)) = inr (inr l)
@@ -94,7 +94,7 @@ any_save start file (Some j) done ended found (inl x) = x
 any_save start file (Some j) done ended found (inr y) = absurd y
 
 any_begin : (start : Disk) (file : List ℕ) (job : Option Job) (done : Bool) (ended : List Ended) (found : Option (List ℕ))
-    → OrOpen job found (IsAny start ended found) ⊎ IsFile (published file job command.SaveBegin) found
+    → OrOpen job found (IsAny start ended found) ⊎ LeavesFile (published file job command.SaveBegin) found
     → OrOpen (save_begin file job done).job found (IsAny start (onto (save_begin file job done).ended ended) found)
 any_begin start file None true ended found (inl (inl o)) = absurd o
 any_begin start file None true ended found (inl (inr l)) = inr l
@@ -106,7 +106,7 @@ any_begin start file (Some j) done ended found (inl x) = x
 any_begin start file (Some j) done ended found (inr y) = absurd y
 
 any_step : (start : Disk) (file : List ℕ) (n : ℕ) (job : Option Job) (done : Bool) (ended : List Ended) (found : Option (List ℕ))
-    → OrOpen job found (IsAny start ended found) ⊎ IsFile (published file job (command.SaveStep n)) found
+    → OrOpen job found (IsAny start ended found) ⊎ LeavesFile (published file job (command.SaveStep n)) found
     → OrOpen (save_step n job done).job found (IsAny start (onto (save_step n job done).ended ended) found)
 any_step start file n None done ended found (inl x) = x
 any_step start file n None done ended found (inr y) = absurd y
@@ -118,7 +118,7 @@ any_step start file n (Some j) false ended found (inl (inr l)) = inr (inr l)
 any_step start file n (Some j) false ended found (inr y) = absurd y
 
 any_end : (start : Disk) (file : List ℕ) (job : Option Job) (done : Bool) (ended : List Ended) (found : Option (List ℕ))
-    → OrOpen job found (IsAny start ended found) ⊎ IsFile (published file job command.SaveEnd) found
+    → OrOpen job found (IsAny start ended found) ⊎ LeavesFile (published file job command.SaveEnd) found
     → OrOpen (save_end job done).job found (IsAny start (onto (save_end job done).ended ended) found)
 any_end start file None done ended found (inl x) = x
 any_end start file None done ended found (inr y) = absurd y
@@ -132,7 +132,7 @@ any_end start file (Some j) false ended found (inr is) = inr (inl is)
 -- a save command
 last_job : (start disk : Disk) (file : List ℕ) (job next : Option Job) (asked : Command) (answer : Reply) (e : Option Ended) (ended : List Ended)
     (found : Option (List ℕ)) → SaveCommand file job asked answer next e → EndedAt e disk → MayHave (under disk Peers) found
-    → OrOpen job found (IsLast start ended found) ⊎ IsFile (published file job asked) found
+    → OrOpen job found (IsLast start ended found) ⊎ LeavesFile (published file job asked) found
     → OrOpen next found (IsLast start (onto e ended) found)
 last_job start disk file job next command.Save answer e ended found step h may x =
     subst (λ u. OrOpen u found (IsLast start (onto e ended) found)) (sym step.1.1)
@@ -154,7 +154,7 @@ last_job start disk file job next other answer e ended found step h may x = absu
 
 any_job : (start : Disk) (file : List ℕ) (job next : Option Job) (asked : Command) (answer : Reply) (e : Option Ended) (ended : List Ended)
     (found : Option (List ℕ)) → SaveCommand file job asked answer next e
-    → OrOpen job found (IsAny start ended found) ⊎ IsFile (published file job asked) found
+    → OrOpen job found (IsAny start ended found) ⊎ LeavesFile (published file job asked) found
     → OrOpen next found (IsAny start (onto e ended) found)
 any_job start file job next command.Save answer e ended found step x =
     subst (λ u. OrOpen u found (IsAny start (onto e ended) found)) (sym step.1.1)
@@ -174,9 +174,9 @@ any_job start file job next command.SaveEnd answer e ended found step x =
     (any_end start file job step.0 ended found x))
 any_job start file job next other answer e ended found step x = absurd step
 
-last_command : (start disk : Disk) (s t : State) (asked : Command) (answer : Reply) (e : Option Ended) (ended : List Ended) (found : Option (List ℕ))
+last_command : (start disk : Disk) (s t : SessionState) (asked : Command) (answer : Reply) (e : Option Ended) (ended : List Ended) (found : Option (List ℕ))
     → CommandStep s asked answer t e → EndedAt e disk → MayHave (under disk Peers) found
-    → OrOpen s.job found (IsLast start ended found) ⊎ IsFile (published (file_now s) s.job asked) found
+    → OrOpen s.job found (IsLast start ended found) ⊎ LeavesFile (published (file_now s) s.job asked) found
     → OrOpen t.job found (IsLast start (onto e ended) found)
 last_command start disk s t command.Save answer e ended found step h may x =
     subst (λ u. OrOpen u.job found (IsLast start (onto e ended) found)) (sym step.2) (last_job start disk (file_now s) s.job step.0 command.Save answer e ended found step.1 h may x)
@@ -190,9 +190,9 @@ last_command start disk s t other answer e ended found step h may (inl x) =
     subst (λ u. OrOpen u.job found (IsLast start (onto e ended) found)) (sym step.2) (subst (λ v. OrOpen s.job found (IsLast start (onto v ended) found)) (sym step.3) x)
 last_command start disk s t other answer e ended found step h may (inr y) = absurd y
 
-any_command : (start : Disk) (s t : State) (asked : Command) (answer : Reply) (e : Option Ended) (ended : List Ended) (found : Option (List ℕ))
+any_command : (start : Disk) (s t : SessionState) (asked : Command) (answer : Reply) (e : Option Ended) (ended : List Ended) (found : Option (List ℕ))
     → CommandStep s asked answer t e
-    → OrOpen s.job found (IsAny start ended found) ⊎ IsFile (published (file_now s) s.job asked) found
+    → OrOpen s.job found (IsAny start ended found) ⊎ LeavesFile (published (file_now s) s.job asked) found
     → OrOpen t.job found (IsAny start (onto e ended) found)
 any_command start s t command.Save answer e ended found step x =
     subst (λ u. OrOpen u.job found (IsAny start (onto e ended) found)) (sym step.2) (any_job start (file_now s) s.job step.0 command.Save answer e ended found step.1 x)
@@ -207,9 +207,9 @@ any_command start s t other answer e ended found step (inl x) =
 any_command start s t other answer e ended found step (inr y) = absurd y
 
 -- after a line: the last acknowledged file, or one begun after it
-pub next_last : (start disk : Disk) (s t : State) (line text : List ℕ) (e : Option Ended) (ended : List Ended) (found : Option (List ℕ))
+pub next_last : (start disk : Disk) (s t : SessionState) (line text : List ℕ) (e : Option Ended) (ended : List Ended) (found : Option (List ℕ))
     → (step : LineStep s line text t e) → EndedAt e disk → MayHave (under disk Peers) found
-    → OrOpen s.job found (IsLast start ended found) ⊎ IsFile (published_in s line text t e step) found
+    → OrOpen s.job found (IsLast start ended found) ⊎ LeavesFile (published_in s line text t e step) found
     → OrOpen t.job found (IsLast start (onto e ended) found)
 next_last start disk s t line text e ended found (inl passed) h may (inl x) =
     subst (λ u. OrOpen u.job found (IsLast start (onto e ended) found)) (sym passed.2) (subst (λ v. OrOpen s.job found (IsLast start (onto v ended) found)) (sym passed.3) x)
@@ -217,9 +217,9 @@ next_last start disk s t line text e ended found (inl passed) h may (inr y) = ab
 next_last start disk s t line text e ended found (inr step) h may x = last_command start disk s t step.0 step.1 e ended found step.3 h may x
 
 -- and any file of this run
-pub next_any : (start : Disk) (s t : State) (line text : List ℕ) (e : Option Ended) (ended : List Ended) (found : Option (List ℕ))
+pub next_any : (start : Disk) (s t : SessionState) (line text : List ℕ) (e : Option Ended) (ended : List Ended) (found : Option (List ℕ))
     → (step : LineStep s line text t e)
-    → OrOpen s.job found (IsAny start ended found) ⊎ IsFile (published_in s line text t e step) found
+    → OrOpen s.job found (IsAny start ended found) ⊎ LeavesFile (published_in s line text t e step) found
     → OrOpen t.job found (IsAny start (onto e ended) found)
 next_any start s t line text e ended found (inl passed) (inl x) =
     subst (λ u. OrOpen u.job found (IsAny start (onto e ended) found)) (sym passed.2) (subst (λ v. OrOpen s.job found (IsAny start (onto v ended) found)) (sym passed.3) x)

@@ -4,7 +4,7 @@ use Rattle.std.specs.Prelude.{Option, None, Result, Ok, Err, OnOk}
 use Rattle.host_io.specs.Lines.{IsPassedOver}
 use Rattle.host_io.specs.Past.{Always, Past}
 use Rattle.log_lines.specs.Replies.{reply_text}
-use Rattle.log_lines.specs.Spelling.{Spells}
+use Rattle.log_lines.specs.Spelling.{SpellsCommand}
 use Rattle.log_lines.specs.declared.command.Command.{Command}
 use Rattle.log_lines.specs.declared.command.Command.TheVariants as c
 use Rattle.log_lines.proofs.OneMeaning.{fields_of_line}
@@ -14,18 +14,18 @@ use Rattle.grammar.specs.declared.fault.LineFault.{LineFault}
 use Rattle.log_lines.specs.declared.reply.Reply.{Reply}
 use Rattle.session.specs.Folders.{AtMost, IsEvent, IsEventLine, MayPublish, Turn, published}
 use Rattle.session.specs.Inside.{Carried}
-use Rattle.session.specs.State.{State, file_now}
+use Rattle.session.specs.State.{SessionState, file_now}
 use Rattle.session.proofs.Effects.{may_publish, still_moments}
 
 -- a line that is passed over
-pub passed : (old : State) (line items : List ℕ) (past : Option Past) (f : ℕ) → IsPassedOver line
+pub passed : (old : SessionState) (line items : List ℕ) (past : Option Past) (f : ℕ) → IsPassedOver line
     → (text : List ℕ) × Turn old line text old past past f f × (items ≡ items ++ text)
 passed old line items past f is =
     ([], record { ended = None; step = inl (is, refl, refl, refl); has = tt; moments = still_moments past }, sym (append-nil items))
 
 -- a command that was carried out, where the states are known by their parts
-pub turned : (parts old new : State) (line : List ℕ) (asked : Command) (answer : Reply) (before after : Option Past) (f g : ℕ)
-    → parts ≡ old → Spells line asked → Carried parts asked answer new after f g
+pub turned : (parts old new : SessionState) (line : List ℕ) (asked : Command) (answer : Reply) (before after : Option Past) (f g : ℕ)
+    → parts ≡ old → SpellsCommand line asked → Carried parts asked answer new after f g
     → Always before after (AtMost (published (file_now parts) parts.job asked))
     → Turn old line (reply_text answer) new before after f g
 turned parts old new line asked answer before after f g same spelled done always =
@@ -33,7 +33,7 @@ turned parts old new line asked answer before after f g same spelled done always
     (record { ended = done.ended; step = inr (asked, answer, spelled, done.step, refl); has = done.has; moments = always })
 
 -- what a crash may leave after it, where the state before it is known by its parts
-pub moments : (parts old : State) (line : List ℕ) (asked : Command) (before after : Option Past) → parts ≡ old → Spells line asked
+pub moments : (parts old : SessionState) (line : List ℕ) (asked : Command) (before after : Option Past) → parts ≡ old → SpellsCommand line asked
     → Always before after (AtMost (published (file_now parts) parts.job asked))
     → (file : Option (List ℕ)) × MayPublish old line file × Always before after (AtMost file)
 moments parts old line asked before after same spelled always =
@@ -41,7 +41,7 @@ moments parts old line asked before after same spelled always =
     (published (file_now parts) parts.job asked, may_publish parts line asked _ spelled refl, always)
 
 -- a line that is no event leaves the folder as it was
-pub still : {X : Type 0} (parts old : State) (line : List ℕ) (asked : Command) (before after : X) → parts ≡ old → Spells line asked
+pub still : {X : Type 0} (parts old : SessionState) (line : List ℕ) (asked : Command) (before after : X) → parts ≡ old → SpellsCommand line asked
     → (¬ IsEvent parts.job asked → after ≡ before) → ¬ IsEventLine old line → after ≡ before
 still parts old line asked before after same spelled by =
     subst (λ s. ¬ IsEventLine s line → after ≡ before) same (λ no. by (λ event. no (asked, spelled, event)))
@@ -68,6 +68,6 @@ for_line (Ok x) of told = of told
 for_line (Err e) of told = tt
 
 -- a line that parses as a command has a percentage of at most 100
-pub has_percent : (line : List ℕ) (command : Command) → Spells line command → HasPercent command
+pub has_percent : (line : List ℕ) (command : Command) → SpellsCommand line command → HasPercent command
 has_percent line (c.Sample max pct classes words) h = percent h.1 max pct classes words (fields_of_line line (c.Sample max pct classes words) h)
 has_percent line other h = tt

@@ -15,7 +15,7 @@ use Rattle.addr_codecs.specs.declared.fault.MsgFault.TheVariants.{Trailing}
 use Rattle.addr_codecs.proofs.MessageLaws.{Reads-addr_entry, Reads-addrv2_entry, Reads-message}
 use Rattle.grammar.specs.Fields.{AllMean, Hex, IsHex, OfAddr, Random, TheAddr, TheBytes, TheWords, Value}
 use Rattle.log_lines.specs.Replies.{reply_text}
-use Rattle.log_lines.specs.Spelling.{Spells}
+use Rattle.log_lines.specs.Spelling.{SpellsCommand}
 use Rattle.log_lines.specs.declared.command.Command.{Command}
 use Rattle.log_lines.specs.declared.command.Command.TheVariants as command
 use Rattle.log_lines.specs.declared.reply.Reply.{Reply}
@@ -25,9 +25,9 @@ use Rattle.log_run.specs.Run.{Run}
 use Rattle.manager.specs.Machine.{Machine}
 use Rattle.manager.specs.Step as manager
 use Rattle.save_store.specs.Job.{Job}
-use Rattle.session.specs.Events.{Ended, Event, Gives, SaveStep as SaveCommand, save, save_begin, save_end, save_step}
-use Rattle.session.specs.History.{History, Step, onto}
-use Rattle.session.specs.State.{CommandStep, JobStep, LineStep, MachineStep, State, file_now}
+use Rattle.session.specs.Events.{Ended, Event, IsOfEvent, SaveStep as SaveCommand, save, save_begin, save_end, save_step}
+use Rattle.session.specs.History.{History, HistoryStep, onto}
+use Rattle.session.specs.State.{CommandStep, JobStep, LineStep, MachineStep, SessionState, file_now}
 
 -- ---- the payload of a message
 
@@ -58,7 +58,7 @@ means_bytes (command.Addr source payload words) texts h = message_bytes source p
 means_bytes (command.Addr2 source payload words) texts h = message_bytes source payload words texts h
 means_bytes other texts h = tt
 
-spelled_bytes : (line : List ℕ) (asked : Command) → Spells line asked → HasBytes asked
+spelled_bytes : (line : List ℕ) (asked : Command) → SpellsCommand line asked → HasBytes asked
 spelled_bytes line asked h = means_bytes asked h.1 (fields_of_line line asked h)
 
 -- ---- a command of the machine
@@ -153,7 +153,7 @@ module _ (go : Bool → Event) (shows : ShowsDone go) where
   one_way false false x y e = refl
 
   one_event : (a b : Reply) (j k : Option Job) (e f : Option Ended) (x y : List ℕ)
-      → ((done : Bool) × Gives (go done) a j e) → ((done : Bool) × Gives (go done) b k f) → Alike a b x y → SameEvent a j e b k f
+      → ((done : Bool) × IsOfEvent (go done) a j e) → ((done : Bool) × IsOfEvent (go done) b k f) → Alike a b x y → SameEvent a j e b k f
   one_event a b j k e f x y h i alike =
       let same = one_way h.0 i.0 x y (ap (λ r. reply_text r ++ x) (sym h.1.0) ∙ alike ∙ ap (λ r. reply_text r ++ y) i.1.0) in (
         h.1.0 ∙ ap (λ (v : Event). v.reply) same ∙ sym i.1.0,
@@ -172,22 +172,22 @@ one_save file old other a b j k e f x y = λ h i. absurd h
 -- ---- a line
 
 -- one reply, one next state, and one save that ended
-abbrev SameOutcome : Reply → State → Option Ended → Reply → State → Option Ended → Type 0
+abbrev SameOutcome : Reply → SessionState → Option Ended → Reply → SessionState → Option Ended → Type 0
 SameOutcome a s e b t f = (a ≡ b) × (s ≡ t) × (e ≡ f)
 
-by_job : (old : State) (asked : Command) (a b : Reply) (s t : State) (e f : Option Ended) (x y : List ℕ)
+by_job : (old : SessionState) (asked : Command) (a b : Reply) (s t : SessionState) (e f : Option Ended) (x y : List ℕ)
     → JobStep old asked a s e → JobStep old asked b t f → Alike a b x y → SameOutcome a s e b t f
 by_job old asked a b s t e f x y h k alike =
     let same = one_save (file_now old) old.job asked a b h.0 k.0 e f x y h.1 k.1 alike in
     (same.0, h.2 ∙ ap (λ j. record old { job = j }) same.1 ∙ sym k.2, same.2)
 
-by_machine : (old : State) (asked : Command) (a b : Reply) (s t : State) (e f : Option Ended) → HasBytes asked
+by_machine : (old : SessionState) (asked : Command) (a b : Reply) (s t : SessionState) (e f : Option Ended) → HasBytes asked
     → MachineStep old asked a s e → MachineStep old asked b t f → SameOutcome a s e b t f
 by_machine old asked a b s t e f bytes h k =
     let same = one_machine old.machine asked a b h.0 k.0 bytes h.1 k.1 in
     (same.0, h.2 ∙ ap (λ m. record old { machine = m }) same.1 ∙ sym k.2, h.3 ∙ sym k.3)
 
-one_outcome : (old : State) (asked : Command) (a b : Reply) (s t : State) (e f : Option Ended) (x y : List ℕ) → HasBytes asked
+one_outcome : (old : SessionState) (asked : Command) (a b : Reply) (s t : SessionState) (e f : Option Ended) (x y : List ℕ) → HasBytes asked
     → CommandStep old asked a s e → CommandStep old asked b t f → Alike a b x y → SameOutcome a s e b t f
 one_outcome old command.Save a b s t e f x y bytes = by_job old command.Save a b s t e f x y
 one_outcome old command.SaveBegin a b s t e f x y bytes = by_job old command.SaveBegin a b s t e f x y
@@ -195,7 +195,7 @@ one_outcome old (command.SaveStep n) a b s t e f x y bytes = by_job old (command
 one_outcome old command.SaveEnd a b s t e f x y bytes = by_job old command.SaveEnd a b s t e f x y
 one_outcome old other a b s t e f x y bytes = λ h k alike. by_machine old other a b s t e f bytes h k
 
-one_line : (old : State) (line t u x y : List ℕ) (a b : State) (e f : Option Ended) → LineStep old line t a e → LineStep old line u b f
+one_line : (old : SessionState) (line t u x y : List ℕ) (a b : SessionState) (e f : Option Ended) → LineStep old line t a e → LineStep old line u b f
     → t ++ x ≡ u ++ y → (t ≡ u) × (a ≡ b) × (e ≡ f)
 one_line old line t u x y a b e f (inl h) (inl k) alike = (h.1 ∙ sym k.1, h.2 ∙ sym k.2, h.3 ∙ sym k.3)
 one_line old line t u x y a b e f (inl h) (inr k) alike = absurd (passed_spells_none line k.0 h.0 k.2)
@@ -209,7 +209,7 @@ one_line old line t u x y a b e f (inr h) (inr k) alike =
 -- ---- a run
 
 -- a line whose texts begin alike has one text and leads to one history
-pub one_step : (old a b : History) (line t u x y : List ℕ) → Step old line t a → Step old line u b → t ++ x ≡ u ++ y
+pub one_step : (old a b : History) (line t u x y : List ℕ) → HistoryStep old line t a → HistoryStep old line u b → t ++ x ≡ u ++ y
     → (t ≡ u) × (a ≡ b)
 one_step old a b line t u x y h k alike =
     let same = one_line old.now line t u x y a.now b.now h.0 k.0 h.1 k.1 alike in
@@ -224,15 +224,15 @@ after_first f g t u x y same alike =
 
 -- a run over more lines is that over the first of them, continued
 pub longer_run : (old a b : History) (lines more : List (List ℕ)) (t u x y : List ℕ)
-    → Run Step old lines t a → Run Step old (lines ++ more) u b → t ++ x ≡ u ++ y
-    → (rest : List ℕ) × (u ≡ t ++ rest) × Run Step a more rest b
+    → Run HistoryStep old lines t a → Run HistoryStep old (lines ++ more) u b → t ++ x ≡ u ++ y
+    → (rest : List ℕ) × (u ≡ t ++ rest) × Run HistoryStep a more rest b
 longer_run old a b [] more t u x y h k alike =
-    (u, ap (λ v. v ++ u) (sym h.0), subst (λ s. Run Step s more u b) (sym h.1) k)
+    (u, ap (λ v. v ++ u) (sym h.0), subst (λ s. Run HistoryStep s more u b) (sym h.1) k)
 longer_run old a b (line ∷ lines) more t u x y h k alike =
     let whole : (h.0 ++ h.1) ++ x ≡ (k.0 ++ k.1) ++ y = ap (λ v. v ++ x) (sym h.3) ∙ alike ∙ ap (λ v. v ++ y) k.3 in
     let one = one_step old h.2 k.2 line h.0 k.0 (h.1 ++ x) (k.1 ++ y) h.4 k.4
     (sym (append_assoc h.0 h.1 x) ∙ whole ∙ append_assoc k.0 k.1 y) in
-    let next = longer_run h.2 a b lines more h.1 k.1 x y h.5 (subst (λ s. Run Step s (lines ++ more) k.1 b) (sym one.1) k.5)
+    let next = longer_run h.2 a b lines more h.1 k.1 x y h.5 (subst (λ s. Run HistoryStep s (lines ++ more) k.1 b) (sym one.1) k.5)
     (after_first h.0 k.0 h.1 k.1 x y one.0 whole) in (
       next.0,
       k.3 ∙ ap (λ v. v ++ k.1) (sym one.0) ∙ ap (λ v. h.0 ++ v) next.1 ∙ sym (append_assoc h.0 h.1 next.0) ∙ ap (λ v. v ++ next.0) (sym h.3),
@@ -241,7 +241,7 @@ longer_run old a b (line ∷ lines) more t u x y h k alike =
 
 -- two runs over the same lines whose texts begin alike have one text and one history
 pub one_run : (old a b : History) (lines : List (List ℕ)) (t u x y : List ℕ)
-    → Run Step old lines t a → Run Step old lines u b → t ++ x ≡ u ++ y → (t ≡ u) × (a ≡ b)
+    → Run HistoryStep old lines t a → Run HistoryStep old lines u b → t ++ x ≡ u ++ y → (t ≡ u) × (a ≡ b)
 one_run old a b lines t u x y h k alike =
-    let next = longer_run old a b lines [] t u x y h (subst (λ ls. Run Step old ls u b) (sym (append-nil lines)) k) alike in
+    let next = longer_run old a b lines [] t u x y h (subst (λ ls. Run HistoryStep old ls u b) (sym (append-nil lines)) k) alike in
     (sym (next.1 ∙ ap (λ v. t ++ v) next.2.0 ∙ append-nil t), sym next.2.1)

@@ -7,14 +7,14 @@ use Rattle.host_io.proofs.Moments.{begun as nothing_since, joined, now_has}
 use Rattle.session.specs.Events.{Ended}
 use Rattle.session.specs.Folders.{AtMost, IsOpen, Turn, published_in}
 use Rattle.session.specs.History.{AtExit, History, Now, RoseBy, SinceEntry, failed, fresh, onto}
-use Rattle.session.specs.State.{State}
+use Rattle.session.specs.State.{SessionState}
 use Rattle.session.proofs.Files.{EndedAt, ended_at, next_any, next_failed, next_last}
 
-abbrev pub history : State → List Ended → History
+abbrev pub history : SessionState → List Ended → History
 history st ended = record { now = st; ended = ended }
 
 -- what holds between two lines
-pub record IsKept (st : State) (ended : List Ended) (old now : Option Past) (faults_before faults_now : ℕ) : Type 0 where
+pub record IsKept (st : SessionState) (ended : List Ended) (old now : Option Past) (faults_before faults_now : ℕ) : Type 0 where
   pub exit : Now (AtExit (history st ended)) old now
   pub since : Always old now (SinceEntry (history st ended))
   pub rises : faults_before ≤ faults_now
@@ -26,7 +26,7 @@ now_here P None here = tt
 now_here P (Some p) here = here p.now
 
 -- at the start, where no save is open
-pub kept_start : (st : State) (past : Option Past) (f : ℕ) → st.job ≡ None → IsKept st [] past past f f
+pub kept_start : (st : SessionState) (past : Option Past) (f : ℕ) → st.job ≡ None → IsKept st [] past past f f
 kept_start st past f none = record {
   exit = now_here (AtExit (fresh st)) past (λ d found may. inr may);
   since = nothing_since (SinceEntry (fresh st)) past (λ d. record { at = λ found may. inr may; others = λ n t m found may. may });
@@ -45,7 +45,7 @@ later P Q R H (Some o) (Some m) after now always has on =
     (on o.now m.now always.0.now now (now_has (Q m.now) m always.0 always.2) (subst (λ a. IfSome a (λ q. H q.now)) always.1 has))
 
 -- a line that was carried out
-pub kept_line : (s t : State) (ended : List Ended) (line text : List ℕ) (old mid new : Option Past) (f g h : ℕ) → IsKept s ended old mid f g
+pub kept_line : (s t : SessionState) (ended : List Ended) (line text : List ℕ) (old mid new : Option Past) (f g h : ℕ) → IsKept s ended old mid f g
     → (turn : Turn s line text t mid new g h) → IsOpen t.job new → g ≤ h → IsKept t (onto turn.ended ended) old new f h
 kept_line s t ended line text old mid new f g h k turn opened le =
     let published = published_in s line text t turn.ended turn.step in

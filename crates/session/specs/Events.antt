@@ -55,13 +55,13 @@ save_end (Some job) true = event reply.Saved None (Some (Saved (whole job)))
 save_end (Some job) false = event reply.NotSaved None (Some (NotSaved (whole job)))
 
 -- the reply, the open save and the save that ended are those of the event
-abbrev pub Gives : Event → Reply → Option Job → Option Ended → Type 0
-Gives e answer job ended = (answer ≡ e.reply) × (job ≡ e.job) × (ended ≡ e.ended)
+abbrev pub IsOfEvent : Event → Reply → Option Job → Option Ended → Type 0
+IsOfEvent e answer job ended = (answer ≡ e.reply) × (job ≡ e.job) × (ended ≡ e.ended)
 
 -- what a save command does to the open save, with the file of the tables
 abbrev pub SaveStep : List ℕ → Option Job → Command → Reply → Option Job → Option Ended → Type 0
-SaveStep file old command.Save answer new ended = (done : Bool) × Gives (save file old done) answer new ended
-SaveStep file old command.SaveBegin answer new ended = (done : Bool) × Gives (save_begin file old done) answer new ended
-SaveStep file old (command.SaveStep n) answer new ended = (done : Bool) × Gives (save_step n old done) answer new ended
-SaveStep file old command.SaveEnd answer new ended = (done : Bool) × Gives (save_end old done) answer new ended
+SaveStep file old command.Save answer new ended = (done : Bool) × IsOfEvent (save file old done) answer new ended
+SaveStep file old command.SaveBegin answer new ended = (done : Bool) × IsOfEvent (save_begin file old done) answer new ended
+SaveStep file old (command.SaveStep n) answer new ended = (done : Bool) × IsOfEvent (save_step n old done) answer new ended
+SaveStep file old command.SaveEnd answer new ended = (done : Bool) × IsOfEvent (save_end old done) answer new ended
 SaveStep file old other answer new ended = ⊥

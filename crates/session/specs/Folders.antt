@@ -8,7 +8,7 @@ use Rattle.host_io.specs.Past.{Always, Past}
 use Rattle.host_io.specs.PerName.{under}
 use Rattle.host_io.specs.declared.name.Name.{Name}
 use Rattle.host_io.specs.declared.name.Name.TheVariants.{Peers, PeersTemp}
-use Rattle.log_lines.specs.Spelling.{Spells}
+use Rattle.log_lines.specs.Spelling.{SpellsCommand}
 use Rattle.log_lines.specs.declared.command.Command.{Command}
 use Rattle.log_lines.specs.declared.command.Command.TheVariants as command
 use Rattle.log_run.specs.Worlds.{StepsIn}
@@ -18,7 +18,7 @@ use Rattle.save_store.specs.Job.{Job, Reads, whole}
 use Rattle.save_store.specs.Saves.{IsStored, NoMore}
 use Rattle.session.specs.Events.{Ended}
 use Rattle.session.specs.Events.Ended.{NotSaved, Saved}
-use Rattle.session.specs.State.{LineStep, State, file_now}
+use Rattle.session.specs.State.{LineStep, SessionState, file_now}
 
 -- the file, unless a save is open
 abbrev pub unless : Option Job → List ℕ → Option (List ℕ)
@@ -32,21 +32,21 @@ published file job command.SaveEnd = option_map whole job
 published file job other = None
 
 -- the same of a line, which may publish no file in any case
-abbrev pub MayPublish : State → List ℕ → Option (List ℕ) → Type 0
+abbrev pub MayPublish : SessionState → List ℕ → Option (List ℕ) → Type 0
 MayPublish old line None = ⊤
 MayPublish old line (Some file) =
-    (asked : Command) × Spells line asked × (published (file_now old) old.job asked ≡ Some file)
+    (asked : Command) × SpellsCommand line asked × (published (file_now old) old.job asked ≡ Some file)
 
 -- what a crash leaves there is the file, if there is one
-abbrev pub IsFile : Option (List ℕ) → Option (List ℕ) → Type 0
-IsFile None found = ⊥
-IsFile (Some file) found = found ≡ Some file
+abbrev pub LeavesFile : Option (List ℕ) → Option (List ℕ) → Type 0
+LeavesFile None found = ⊥
+LeavesFile (Some file) found = found ≡ Some file
 
 -- A crash leaves at peers.dat what it could leave there at the start, or the file, and at each other
 -- name but peers.tmp nothing more than at the start.
 pub record AtMost (file : Option (List ℕ)) (start disk : Disk) : Type 0 where
   pub at : (found : Option (List ℕ)) → MayHave (under disk Peers) found →
-      MayHave (under start Peers) found ⊎ IsFile file found
+      MayHave (under start Peers) found ⊎ LeavesFile file found
   pub others : (other : Name) → other ≢ PeersTemp → other ≢ Peers → NoMore start disk other
 
 -- peers.tmp reads as the bytes written of the open save, if one is open
@@ -68,17 +68,17 @@ IsEvent job command.SaveEnd = job ≢ None
 IsEvent job other = ⊥
 
 -- the same of a line
-abbrev pub IsEventLine : State → List ℕ → Type 0
-IsEventLine old line = (asked : Command) × Spells line asked × IsEvent old.job asked
+abbrev pub IsEventLine : SessionState → List ℕ → Type 0
+IsEventLine old line = (asked : Command) × SpellsCommand line asked × IsEvent old.job asked
 
 -- the file that a line may put in the place of peers.dat, by its step
-abbrev pub published_in : (old : State) (line text : List ℕ) (new : State) (ended : Option Ended) → LineStep old line text new ended → Option (List ℕ)
+abbrev pub published_in : (old : SessionState) (line text : List ℕ) (new : SessionState) (ended : Option Ended) → LineStep old line text new ended → Option (List ℕ)
 published_in old line text new ended (inl passed) = None
 published_in old line text new ended (inr step) = published (file_now old) old.job step.0
 
 -- A line was carried out, with this reply: what it did to the session, why a save ended in it, and
 -- what a crash could leave at each moment since.
-pub record Turn (old : State) (line text : List ℕ) (new : State) (before after : Option Past)
+pub record Turn (old : SessionState) (line text : List ℕ) (new : SessionState) (before after : Option Past)
     (faults_before faults_after : ℕ) : Type 0 where
   pub ended : Option Ended
   pub step : LineStep old line text new ended
@@ -87,14 +87,14 @@ pub record Turn (old : State) (line text : List ℕ) (new : State) (before after
 
 -- What a line leaves that ran out of memory before it was carried out: the state before it, or a
 -- message of which some of the first entries were taken.
-abbrev pub LeavesPart : State → List ℕ → State → Type 0
+abbrev pub LeavesPart : SessionState → List ℕ → SessionState → Type 0
 LeavesPart old line new =
     (new ≡ old)
-    ⊎ ((asked : Command) × (machine : Machine) × Spells line asked
+    ⊎ ((asked : Command) × (machine : Machine) × SpellsCommand line asked
     × manager.LeavesPart old.machine asked machine × (new ≡ record old { machine = machine }))
 
 -- What a line does to a session and a folder, by the folder's past and its count of faults.
-abbrev pub SessionStep : {F : Type 0} → (F → Option Past) → (F → ℕ) → StepsIn State F
+abbrev pub SessionStep : {F : Type 0} → (F → Option Past) → (F → ℕ) → StepsIn SessionState F
 SessionStep past faults old before line text new after =
     Turn old line text new (past before) (past after) (faults before) (faults after)
     × IsOpen new.job (past after) × (faults before ≤ faults after)

@@ -11,16 +11,16 @@ use Rattle.save_store.specs.Job.{Job, whole}
 use Rattle.save_store.specs.Saves.{NoMore}
 use Rattle.session.specs.Events.{Ended}
 use Rattle.session.specs.Events.Ended.{NotSaved, Saved}
-use Rattle.session.specs.Folders.{IsFile}
-use Rattle.session.specs.State.{LineStep, State}
+use Rattle.session.specs.Folders.{LeavesFile}
+use Rattle.session.specs.State.{LineStep, SessionState}
 
 -- the state now, and the saves that have ended, the last one first
 pub record History : Type 0 where
-  pub now : State
+  pub now : SessionState
   pub ended : List Ended
 
 -- a session in which no save has ended
-abbrev pub fresh : State → History
+abbrev pub fresh : SessionState → History
 fresh st = record { now = st; ended = [] }
 
 abbrev pub onto : Option Ended → List Ended → List Ended
@@ -28,8 +28,8 @@ onto None ended = ended
 onto (Some one) ended = one ∷ ended
 
 -- a line, and the save that ended in it, if one did
-abbrev pub Step : History → List ℕ → List ℕ → History → Type 0
-Step old line text new =
+abbrev pub HistoryStep : History → List ℕ → List ℕ → History → Type 0
+HistoryStep old line text new =
     (ended : Option Ended) × LineStep old.now line text new.now ended × (new.ended ≡ onto ended old.ended)
 
 -- how many saves failed
@@ -57,7 +57,7 @@ IsAny start (NotSaved file ∷ ended) found = (found ≡ Some file) ⊎ IsAny st
 
 -- or the file of the open save
 abbrev pub OrOpen : Option Job → Option (List ℕ) → Type 0 → Type 0
-OrOpen job found more = IsFile (option_map whole job) found ⊎ more
+OrOpen job found more = LeavesFile (option_map whole job) found ⊎ more
 
 -- what a crash may leave at peers.dat now, after a run that began at the disk `start`
 abbrev pub AtExit : History → Disk → Disk → Type 0

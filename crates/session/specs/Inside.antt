@@ -6,7 +6,7 @@ use Rattle.log_lines.specs.declared.reply.Reply.{Reply}
 use Rattle.save_store.specs.Job.{Job}
 use Rattle.session.specs.Events.{Ended, SaveStep}
 use Rattle.session.specs.Folders.{AtMost, HasEnded, IsOpen, published}
-use Rattle.session.specs.State.{CommandStep, State}
+use Rattle.session.specs.State.{CommandStep, SessionState}
 
 -- what a save command has done, to the open save and to the folder
 pub record Effect (file : List ℕ) (old : Option Job) (asked : Command) (answer : Reply) (new : Option Job)
@@ -18,7 +18,7 @@ pub record Effect (file : List ℕ) (old : Option Job) (asked : Command) (answer
   pub is_open : IsOpen new after
 
 -- what a command has done, to the session and to the folder
-pub record Carried (old : State) (asked : Command) (answer : Reply) (new : State) (after : Option Past)
+pub record Carried (old : SessionState) (asked : Command) (answer : Reply) (new : SessionState) (after : Option Past)
     (faults_before faults_after : ℕ) : Type 0 where
   pub ended : Option Ended
   pub step : CommandStep old asked answer new ended

@@ -2,7 +2,7 @@
 use Rattle.std.specs.Prelude.{◌≡◌, ◌⊎◌, ℕ, List, [], Option, None}
 use Rattle.host_io.specs.Lines.{IsPassedOver}
 use Rattle.log_lines.specs.Replies.{reply_text}
-use Rattle.log_lines.specs.Spelling.{Spells}
+use Rattle.log_lines.specs.Spelling.{SpellsCommand}
 use Rattle.log_lines.specs.declared.command.Command.{Command}
 use Rattle.log_lines.specs.declared.command.Command.TheVariants as command
 use Rattle.log_lines.specs.declared.reply.Reply.{Reply}
@@ -16,12 +16,12 @@ use Rattle.table_machine.specs.Snapshot.{snapshot_of}
 use Rattle.table_machine.specs.State as tables
 
 -- the chain of its files, the machine, and the open save
-pub record State : Type 0 where
+pub record SessionState : Type 0 where
   pub chain : Chain
   pub machine : Machine
   pub job : Option Job
 
-abbrev pub state : Chain → Machine → Option Job → State
+abbrev pub state : Chain → Machine → Option Job → SessionState
 state chain machine job = record { chain = chain; machine = machine; job = job }
 
 -- the file of peers that a save of the tables writes (`AddrManImpl::Serialize` in addrman.cpp of
@@ -30,22 +30,22 @@ abbrev pub file_of : Chain → tables.State → List ℕ
 file_of chain tables = file_text chain (snapshot_of tables)
 
 -- the file of the tables as they are
-abbrev pub file_now : State → List ℕ
+abbrev pub file_now : SessionState → List ℕ
 file_now st = file_of st.chain st.machine.tables
 
 -- a save command, which leaves the machine as it is
-abbrev pub JobStep : State → Command → Reply → State → Option Ended → Type 0
+abbrev pub JobStep : SessionState → Command → Reply → SessionState → Option Ended → Type 0
 JobStep old asked answer new ended =
     (job : Option Job) × SaveStep (file_now old) old.job asked answer job ended × (new ≡ record old { job = job })
 
 -- a command of the machine, which leaves the open save as it is
-abbrev pub MachineStep : State → Command → Reply → State → Option Ended → Type 0
+abbrev pub MachineStep : SessionState → Command → Reply → SessionState → Option Ended → Type 0
 MachineStep old asked answer new ended =
     (machine : Machine) × manager.Step old.machine asked answer machine × (new ≡ record old { machine = machine })
     × (ended ≡ None)
 
 -- what a command is answered, the state after it, and the save that ended in it
-abbrev pub CommandStep : State → Command → Reply → State → Option Ended → Type 0
+abbrev pub CommandStep : SessionState → Command → Reply → SessionState → Option Ended → Type 0
 CommandStep old command.Save answer new ended = JobStep old command.Save answer new ended
 CommandStep old command.SaveBegin answer new ended = JobStep old command.SaveBegin answer new ended
 CommandStep old (command.SaveStep n) answer new ended = JobStep old (command.SaveStep n) answer new ended
@@ -53,8 +53,8 @@ CommandStep old command.SaveEnd answer new ended = JobStep old command.SaveEnd a
 CommandStep old other answer new ended = MachineStep old other answer new ended
 
 -- a line that is passed over has no reply; one that parses as a command has that of its step
-abbrev pub LineStep : State → List ℕ → List ℕ → State → Option Ended → Type 0
+abbrev pub LineStep : SessionState → List ℕ → List ℕ → SessionState → Option Ended → Type 0
 LineStep old line text new ended =
     (IsPassedOver line × (text ≡ []) × (new ≡ old) × (ended ≡ None))
-    ⊎ ((asked : Command) × (answer : Reply) × Spells line asked × CommandStep old asked answer new ended
+    ⊎ ((asked : Command) × (answer : Reply) × SpellsCommand line asked × CommandStep old asked answer new ended
     × (text ≡ reply_text answer))

@@ -22,9 +22,9 @@ pub struct Session<'a, H: BuildHasher> {
 impl<'a, H: BuildHasher> Model for Session<'a, H> {
     ghost use Rattle.std.specs.Coded.{codes};
     ghost use Rattle.placing.specs.Places.{coded_places};
-    ghost use Rattle.session.specs.State.{State};
+    ghost use Rattle.session.specs.State.{SessionState};
 
-    ghost Value = { State };
+    ghost Value = { SessionState };
 
     ghost coded = { Prim.hlevel (codes, coded_places) };
 
@@ -34,7 +34,7 @@ impl<'a, H: BuildHasher> Model for Session<'a, H> {
 impl<'a, H: BuildHasher> Session<'a, H> {
     ghost use Rattle.std.specs.Prelude.{◌≡◌, ◌≢◌, ◌+◌, ◌≤◌, ◌<◌, ◌^◌, ◌++◌, ◌⊎◌, ℕ, List, length, Option, None, Err, OnOk, OnErr, IsErrOf};
     ghost use Rattle.host_io.specs.Past.{Always};
-    ghost use Rattle.log_lines.specs.Spelling.{HasFault, Spells};
+    ghost use Rattle.log_lines.specs.Spelling.{HasCommandFault, SpellsCommand};
     ghost use Rattle.manager.specs.Step.{HasPercent};
     ghost use Rattle.session.specs.Folders.{AtMost, IsEventLine, IsOpen, LeavesPart, MayPublish, Turn};
 
@@ -77,8 +77,8 @@ impl<'a, H: BuildHasher> Session<'a, H> {
         ensures is_open { IsOpen self.new.job (F.past folder.new) }
         ensures still { ¬ IsEventLine self.old line.now → folder.new ≡ folder.old }
         ensures fault { (f : LineFault) → result ≡ Err f → f ≢ LineFault.Memory →
-            HasFault line.now f × (self.new ≡ self.old) × (folder.new ≡ folder.old) }
-        ensures only_fault { (f : LineFault) → HasFault line.now f →
+            HasCommandFault line.now f × (self.new ≡ self.old) × (folder.new ≡ folder.old) }
+        ensures only_fault { (f : LineFault) → HasCommandFault line.now f →
             (result ≡ Err f) ⊎ (result ≡ Err LineFault.Memory) }
         ensures memory { IsErrOf result LineFault.Memory →
             ((text : List ℕ) × Turn self.old line.now text self.new (F.past folder.old)
@@ -107,19 +107,19 @@ impl<'a, H: BuildHasher> Session<'a, H> {
         requires room { self.old.machine.tables.next_number < 2 ^ 62 }
         requires is_open { IsOpen self.old.job (F.past folder.old) }
         ensures step { OnOk result ((text : List ℕ)
-            × ((line : List ℕ) → Spells line command.now →
+            × ((line : List ℕ) → SpellsCommand line command.now →
             Turn self.old line text self.new (F.past folder.old) (F.past folder.new)
             (F.faults folder.old) (F.faults folder.new))
             × (out.new.items ≡ out.old.items ++ text)) }
-        ensures any_moment { (line : List ℕ) → Spells line command.now →
+        ensures any_moment { (line : List ℕ) → SpellsCommand line command.now →
             (file : Option (List ℕ)) × MayPublish self.old line file
             × Always (F.past folder.old) (F.past folder.new) (AtMost file) }
         ensures is_open { IsOpen self.new.job (F.past folder.new) }
-        ensures still { (line : List ℕ) → Spells line command.now →
+        ensures still { (line : List ℕ) → SpellsCommand line command.now →
             ¬ IsEventLine self.old line → folder.new ≡ folder.old }
         ensures cause { (f : LineFault) → result ≡ Err f → f ≡ LineFault.Memory }
         ensures memory { IsErrOf result LineFault.Memory →
-            (line : List ℕ) → Spells line command.now →
+            (line : List ℕ) → SpellsCommand line command.now →
             ((text : List ℕ) × Turn self.old line text self.new (F.past folder.old)
             (F.past folder.new) (F.faults folder.old) (F.faults folder.new))
             ⊎ (LeavesPart self.old line self.new × (folder.new ≡ folder.old)) }
@@ -141,12 +141,12 @@ impl<'a, H: BuildHasher> Session<'a, H> {
 
 impl<'a, F: Folder, H: BuildHasher> LineSteps<F> for Session<'a, H> {
     ghost use Rattle.std.specs.Prelude.{◌+◌, ◌*◌, ◌<◌, ◌^◌};
-    ghost use Rattle.log_lines.specs.Spelling.{HasFault};
+    ghost use Rattle.log_lines.specs.Spelling.{HasCommandFault};
     ghost use Rattle.session.specs.Folders.{IsOpen, SessionStep};
 
     ghost step = { SessionStep F.past F.faults };
 
-    ghost has_fault = { HasFault };
+    ghost has_fault = { HasCommandFault };
 
     ghost ready = { λ s folder. IsOpen s.job (F.past folder) };
 

@@ -19,7 +19,7 @@ use Rattle.table_machine.proofs.Lists.{All-from_Contains, Contains-from_filter, 
 use Rattle.table_machine.proofs.Records.{own_slot, same_record, tried_at-same, tried_at_from}
 use Rattle.table_machine.proofs.SoundBut.{is_at_own}
 use Rattle.table_machine.specs.Snapshot.{file_rec, new_records, snapshot_of, tried_records}
-use Rattle.table_machine.specs.Restoring.{appended, record_of, with_all_new, with_all_tried, with_tried}
+use Rattle.table_machine.specs.Restoring.{with_records, record_of, with_all_new, with_all_tried, with_tried}
 use Rattle.table_machine.proofs.Part.{AreApart, at-Contains, entry, entry-tried, kept_place, part, part-append, part-cases}
 use Rattle.table_machine.proofs.Rising.{filter_nothing, pairs_head, pairs_tail}
 
@@ -145,7 +145,7 @@ all_of-apart st sound =
     both_ways (is_tried r) (untried_there st r new) (ap is_tried is ∙ tried_there st q tried))))
 
 -- what is appended from the file of a sound state: all its records, in no bucket
-pub appended-all : (st : State) → IsSound st → appended (snapshot_of st) st.places ≡ grown st.places none (all_of st)
-appended-all st sound =
+pub with_records-all : (st : State) → IsSound st → with_records (snapshot_of st) st.places ≡ grown st.places none (all_of st)
+with_records-all st sound =
     ap (λ s. with_all_tried s (map file_rec (tried_records st))) (grown-new st.places [] (new_records st) (untried_there st))
     ∙ grown-tried st sound (new_records st) (tried_records st) (all_of-from st) (all_of-apart st sound) (tried_there st)

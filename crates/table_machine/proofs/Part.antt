@@ -10,7 +10,7 @@ use Rattle.peer_rec.specs.declared.place.Place.{Place}
 use Rattle.peer_rec.specs.declared.place.Place.TheVariants.{New, Tried}
 use Rattle.table_machine.proofs.Lists.{Contains-cases, Contains-head, Contains-tail, none_in_nil}
 use Rattle.table_machine.proofs.Records.{numbers}
-use Rattle.table_machine.specs.Restart.{renumbered}
+use Rattle.table_machine.specs.Restart.{with_numbers}
 use Rattle.table_machine.proofs.Rising.{filter_whole, pairs_head, pairs_tail}
 
 -- the place with those buckets that pass
@@ -138,7 +138,7 @@ kept_place-whole p Tried all = refl
 
 -- once all buckets are placed, the part is the records renumbered
 pub part-whole : (has : ℕ → ℕ → Bool) (n : ℕ) (rs : List Rec) → ((m : ℕ) (r : Rec) → At n rs m r → (b : ℕ) → Contains (buckets_of r) b → has b m ≡ true)
-    → part has n rs ≡ renumbered n rs
+    → part has n rs ≡ with_numbers n rs
 part-whole has n [] all = refl
 part-whole has n (x ∷ xs) all =
     let first = kept_place-whole (λ b. has b n) x.place (all n x (inl (refl, refl))) in

@@ -3,7 +3,7 @@
 use Rattle.std.proofs.Common.{◌≡◌, ℕ, ◌+◌, ◌-◌, ◌^◌, ◌==◌, Bool, true, false, List, [], ◌∷◌, filter_map, map, find, replicate, Option, None, Some, refl, if◌then◌else◌}
 use Rattle.std.specs.List.{range_with_len}
 use Rattle.net_addr.specs.Address.{Address}
-use Rattle.net_addr.specs.NetSet.{all, none, with}
+use Rattle.net_addr.specs.NetSet.{all, none, with_net}
 use Rattle.net_addr.specs.OldForm.{address}
 use Rattle.net_addr.specs.Ranges.{in_range}
 use Rattle.net_addr.specs.declared.net.Net.{Net}
@@ -18,7 +18,7 @@ use Rattle.table_machine.proofs.ExampleStates.{failed, now, peer, state}
 
 -- the set of one network
 abbrev only : Net → List ℕ
-only net = with none net
+only net = with_net none net
 
 abbrev onion : Address
 onion = address Onion (replicate 32 0xab)
@@ -71,7 +71,7 @@ none_of_the_network : first_of_bucket (only Cjdns) 0 ≡ None
 unfolding in_range
 none_of_the_network = refl
 
-of_either_network : first_of_bucket (with (only Onion) Cjdns) 6 ≡ Some (record (failed 1 2 0 Tried) { peer = record { addr = onion; port = 2 } })
+of_either_network : first_of_bucket (with_net (only Onion) Cjdns) 6 ≡ Some (record (failed 1 2 0 Tried) { peer = record { addr = onion; port = 2 } })
 unfolding in_range
 of_either_network = refl
 
@@ -80,7 +80,7 @@ unfolding in_range
 of_no_network = refl
 
 -- a set is a rising list, in whatever order its networks are added
-sets : with (only Onion) Ipv4 ∷ with (only Ipv4) Onion ∷ with (only Onion) Onion ∷ [] ≡ (1 ∷ 3 ∷ []) ∷ (1 ∷ 3 ∷ []) ∷ (3 ∷ []) ∷ []
+sets : with_net (only Onion) Ipv4 ∷ with_net (only Ipv4) Onion ∷ with_net (only Onion) Onion ∷ [] ≡ (1 ∷ 3 ∷ []) ∷ (1 ∷ 3 ∷ []) ∷ (3 ∷ []) ∷ []
 sets = refl
 
 -- a record whose address is not routable is of no named network, and of all

@@ -27,7 +27,7 @@ use Rattle.table_machine.specs.Snapshot.{file_rec, listed_of, new_records, snaps
 use Rattle.table_machine.specs.Restoring.{drop_all, drop_record, duplicate, duplicate_from, is_repeated, place_all, restored, uses_buckets}
 use Rattle.table_machine.specs.Restart.{restart}
 use Rattle.table_machine.proofs.Part.{At, at-Contains, at_from, entry-buckets, part-cases, part-whole}
-use Rattle.table_machine.proofs.Grown.{all_of, all_of-from, appended-all, grown, none, tried_there, untried_there}
+use Rattle.table_machine.proofs.Grown.{all_of, all_of-from, with_records-all, grown, none, tried_there, untried_there}
 use Rattle.table_machine.proofs.Placed.{is_pair, place-all}
 use Rattle.table_machine.proofs.Listed.{listed-all, listed-apart, listed-from}
 use Rattle.table_machine.proofs.Rising.{filter_whole, pairs_head, pairs_tail}
@@ -87,7 +87,7 @@ kept st sound =
 pub restart_law : (st : State) → IsSound st → restored (snapshot_of st) st.places ≡ restart st
 restart_law st sound =
     let numbers = range_with_len 0 (length (map file_rec (new_records st))) in
-    (λ i. drop_all (place_all (uses st i) (appended-all st sound i) (listed_of st)) numbers)
+    (λ i. drop_all (place_all (uses st i) (with_records-all st sound i) (listed_of st)) numbers)
     ∙ ap (λ s. drop_all s numbers) (place-all st sound none (listed_of st) (listed-from st sound) (listed-apart st sound) (λ p c. refl))
     ∙ kept st sound
     ∙ (λ i. record (restart st) { records = part-whole (placed st) 0 (all_of st) (placed-all st sound) i })

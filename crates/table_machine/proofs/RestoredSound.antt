@@ -25,7 +25,7 @@ use Rattle.table_machine.proofs.Records.{new_at_parts, number_found, own_slot, s
 use Rattle.table_machine.proofs.SoundBut.{is_at_own}
 use Rattle.peer_rec.specs.declared.file_rec.FileRec.{FileRec}
 use Rattle.peer_rec.specs.Snapshot.{IsFileRec, Snapshot}
-use Rattle.table_machine.specs.Restoring.{appended, drop_all, drop_record, duplicate, duplicate_from, give_if_empty, give_or, is_repeated, place_all, place_pair, place_record, record_of, restored, uses_buckets, with_all_new, with_all_tried, with_new, with_tried}
+use Rattle.table_machine.specs.Restoring.{with_records, drop_all, drop_record, duplicate, duplicate_from, give_if_empty, give_or, is_repeated, place_all, place_pair, place_record, record_of, restored, uses_buckets, with_all_new, with_all_tried, with_new, with_tried}
 use Rattle.table_machine.proofs.Filling.{IsFilling, IsPlaced, fill-delete, fill-give, fill-last, sound_from_filling}
 use Rattle.table_machine.proofs.RestartLaw.{pairs_before}
 use Rattle.table_machine.proofs.Listed.{in_range}
@@ -273,11 +273,11 @@ restored_sound snap places is places_are none =
     let new = all-new n [] (empty_state places) snap.new_recs snap.tried_recs start apart is.new_recs (omega arith) (omega arith) in
     let tried = all-tried n snap.new_recs (with_all_new (empty_state places) snap.new_recs) snap.tried_recs new apart is.tried_recs (omega arith) in
     let same = uses_buckets snap places in
-    let filled = place-fill n same (appended snap places) snap.listed tried.fill (λ uses p c.
+    let filled = place-fill n same (with_records snap places) snap.listed tried.fill (λ uses p c.
     let count : snap.bucket_count ≡ 1024 = (Decides-eqb snap.bucket_count 1024).0 (and_parts (snap.bucket_count == 1024) (bytes_eq snap.sum (sum_of places.map)) uses).0 in
     let low = All-contains (λ (pair : ℕ × ℕ). pair.0 < snap.bucket_count) snap.listed p is.buckets c in
     omega (arith, count)) in
-    drop-sound n (place_all same (appended snap places) snap.listed) (range_with_len 0 n) filled (λ r c.
+    drop-sound n (place_all same (with_records snap places) snap.listed) (range_with_len 0 n) filled (λ r c.
     ⊎_elim (λ below. inl (in_range n r.number below)) (λ above. inr (filled.late r c above)) (split r.number n))
   where
     split : (a b : ℕ) → (a < b) ⊎ (b ≤ a)

@@ -7,10 +7,10 @@ use Rattle.table_machine.specs.State.{State}
 use Rattle.table_machine.specs.Snapshot.{new_records, tried_records}
 
 -- the records with the numbers from n on, not tried since the restart
-abbrev pub renumbered : ℕ → List Rec → List Rec
-renumbered n [] = []
-renumbered n (r ∷ rs) =
-    record r { number = n; last_try = 0; last_count = 0 } ∷ renumbered (n + 1) rs
+abbrev pub with_numbers : ℕ → List Rec → List Rec
+with_numbers n [] = []
+with_numbers n (r ∷ rs) =
+    record r { number = n; last_try = 0; last_count = 0 } ∷ with_numbers (n + 1) rs
 
 -- The state after a restart: the records of the new table first, and each kind by rising number.
 abbrev pub restart : State → State
@@ -18,7 +18,7 @@ restart st =
     let records = new_records st ++ tried_records st in
     record {
       places = st.places;
-      records = renumbered 0 records;
+      records = with_numbers 0 records;
       order = range_with_len 0 (length records);
       collisions = [];
       last_good = 1;

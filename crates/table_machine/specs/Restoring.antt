@@ -96,15 +96,15 @@ abbrev pub uses_buckets : Snapshot → Places → Bool
 uses_buckets snap places = snap.bucket_count == NEW_BUCKETS && bytes_eq snap.sum (sum_of places.map)
 
 -- the records of a file, the new ones first
-abbrev pub appended : Snapshot → Places → State
-appended snap places =
+abbrev pub with_records : Snapshot → Places → State
+with_records snap places =
     with_all_tried (with_all_new (empty_state places) snap.new_recs) snap.tried_recs
 
 -- What is restored of a file: its records are appended, those that its buckets list are placed in
 -- the order of the list, and new records that are in no bucket then are deleted by rising number.
 abbrev pub restored : Snapshot → Places → State
 restored snap places =
-    drop_all (place_all (uses_buckets snap places) (appended snap places) snap.listed)
+    drop_all (place_all (uses_buckets snap places) (with_records snap places) snap.listed)
     (range_with_len 0 (length snap.new_recs))
 
 -- the record is valid, and so is an earlier one of the same peer

@@ -3,8 +3,8 @@
 use Rattle.std.proofs.Common.{◌≡◌, ◌≢◌, ◌⊎◌, ℕ, zero, suc, ◌+◌, ◌<◌, Bool, true, false, cond, List, [], ◌∷◌, ◌++◌, length, get_or, All, Result, Ok, Err, refl, sym, ap, subst, ◌∙◌, append_assoc, inl, inr, lit<}
 use Rattle.std.proofs.lemmas.Bool.{cases_lt}
 use Rattle.std.proofs.lemmas.List.{get_or-append-add, get_or_past, append-nil}
-use Rattle.wire_num.specs.Format.{Format, Begins, value, check, times, under, HasFault, HasOneMeaning, sequence}
-use Rattle.wire_num.specs.Readings.{◌>>=◌, value_at, check_at, then_at, times_at, under_at, fault_as, last, all_of}
+use Rattle.wire_num.specs.Format.{Format, Begins, value, check, times, map_fault, HasFault, HasOneMeaning, sequence}
+use Rattle.wire_num.specs.Readings.{◌>>=◌, value_at, check_at, then_at, times_at, map_fault_at, fault_as, last, all_of}
 
 -- each element is a byte
 abbrev pub AreBytes : List ℕ → Type 0
@@ -151,9 +151,9 @@ fault_as-err : {E F A : Type 0} (name : E → F) (r : Result A E) (f : F) → fa
 fault_as-err name (Ok y) f e = absurd cc
 fault_as-err {E = E} {F = F} {A = A} name (Err d) f e = (d, refl, sym (err_is {A = A} (name d) f e))
 
-pub Reads-under : {E F A : Type 0} (name : E → F) (p : Format E A) (r : List ℕ → Result (A × List ℕ) E) → Reads p r → Reads (under name p) (under_at name r)
-unfolding under
-Reads-under {E = E} {F = F} {A = A} name p r h = record {
+pub Reads-map_fault : {E F A : Type 0} (name : E → F) (p : Format E A) (r : List ℕ → Result (A × List ℕ) E) → Reads p r → Reads (map_fault name p) (map_fault_at name r)
+unfolding map_fault
+Reads-map_fault {E = E} {F = F} {A = A} name p r h = record {
   found = λ bytes a rest fits e.
       let one = h.found bytes a rest fits (fault_as-ok name (r bytes) (a, rest) e) in
       record { front = one.front; joined = one.joined; spelled = one.spelled };

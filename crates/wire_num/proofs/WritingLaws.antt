@@ -4,7 +4,7 @@ use Rattle.std.specs.List.{flat_map, AllByRecursion}
 use Rattle.std.specs.Int.{Width, byte_len}
 use Rattle.std.proofs.lemmas.List.{append-nil}
 use Rattle.wire_num.specs.CompactSize.{compact_size}
-use Rattle.wire_num.specs.Format.{Format, sequence, value, check, times, under}
+use Rattle.wire_num.specs.Format.{Format, sequence, value, check, times, map_fault}
 use Rattle.wire_num.specs.Fields.{some_bytes, byte, number, compact}
 use Rattle.wire_num.specs.declared.fault.WireFault.{WireFault}
 
@@ -20,25 +20,25 @@ pub spells-check : {F A : Type 0} (passes : Bool) (fault : F) (a : A) → passes
 unfolding check
 spells-check passes fault a h = (h, refl, refl)
 
-pub spells-under : {E F A : Type 0} (name : E → F) (p : Format E A) (bytes : List ℕ) (a : A) → p.spells bytes a → (under name p).spells bytes a
-unfolding under
-spells-under name p bytes a h = h
+pub spells-map_fault : {E F A : Type 0} (name : E → F) (p : Format E A) (bytes : List ℕ) (a : A) → p.spells bytes a → (map_fault name p).spells bytes a
+unfolding map_fault
+spells-map_fault name p bytes a h = h
 
 -- a field, with its faults under the name that a format gives them
-pub spells-number : {F : Type 0} (name : WireFault → F) (w : Width) (bytes_of : ℕ → List ℕ) (n : ℕ) → n < 2 ^ (8 * byte_len w) → (under name (number w bytes_of)).spells (bytes_of n) n
-unfolding under number
+pub spells-number : {F : Type 0} (name : WireFault → F) (w : Width) (bytes_of : ℕ → List ℕ) (n : ℕ) → n < 2 ^ (8 * byte_len w) → (map_fault name (number w bytes_of)).spells (bytes_of n) n
+unfolding map_fault number
 spells-number name w bytes_of n h = (h, refl)
 
-pub spells-compact : {F : Type 0} (name : WireFault → F) (n : ℕ) → n < 2 ^ 64 → (under name compact).spells (compact_size n) n
-unfolding under compact
+pub spells-compact : {F : Type 0} (name : WireFault → F) (n : ℕ) → n < 2 ^ 64 → (map_fault name compact).spells (compact_size n) n
+unfolding map_fault compact
 spells-compact name n h = (h, refl)
 
-pub spells-some_bytes : {F : Type 0} (name : WireFault → F) (n : ℕ) (bytes : List ℕ) → length bytes ≡ n → (under name (some_bytes n)).spells bytes bytes
-unfolding under some_bytes
+pub spells-some_bytes : {F : Type 0} (name : WireFault → F) (n : ℕ) (bytes : List ℕ) → length bytes ≡ n → (map_fault name (some_bytes n)).spells bytes bytes
+unfolding map_fault some_bytes
 spells-some_bytes name n bytes h = (h, refl)
 
-pub spells-byte : {F : Type 0} (name : WireFault → F) (b : ℕ) → (under name byte).spells (b ∷ []) b
-unfolding under byte
+pub spells-byte : {F : Type 0} (name : WireFault → F) (b : ℕ) → (map_fault name byte).spells (b ∷ []) b
+unfolding map_fault byte
 spells-byte name b = refl
 
 -- values of a list, each written by its own text, whatever its index

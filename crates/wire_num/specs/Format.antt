@@ -47,8 +47,8 @@ times i (suc n) p = do
   value (first ∷ others)
 
 -- the same bytes, with a fault under another name
-unfoldable pub under : {E F A : Type 0} → (E → F) → Format E A → Format F A
-under name p =
+unfoldable pub map_fault : {E F A : Type 0} → (E → F) → Format E A → Format F A
+map_fault name p =
     record { spells = p.spells; shows = λ bytes f. (e : _) × p.shows bytes e × (f ≡ name e) }
 
 -- the first fault of bytes that are to spell one value and end there

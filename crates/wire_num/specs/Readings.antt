@@ -44,9 +44,9 @@ fault_as name (Ok x) = Ok x
 fault_as name (Err e) = Err (name e)
 
 -- a reading with its faults under other names
-abbrev pub under_at : {E F A : Type 0} → (E → F) → (List ℕ → Result (A × List ℕ) E) → List ℕ
+abbrev pub map_fault_at : {E F A : Type 0} → (E → F) → (List ℕ → Result (A × List ℕ) E) → List ℕ
     → Result (A × List ℕ) F
-under_at name r bytes = fault_as name (r bytes)
+map_fault_at name r bytes = fault_as name (r bytes)
 
 abbrev pub bytes_at : ℕ → List ℕ → Result (List ℕ × List ℕ) WireFault
 bytes_at n bytes =

@@ -8,10 +8,10 @@ pub replies_to-requires-clause-few : goal.replies_to-requires-clause-few
 replies_to-requires-clause-few g c = few_lines c.args.start c.args.lines c.make.result c.make.ensures c.requires.few
 
 pub replies_to-requires-clause-empty : goal.replies_to-requires-clause-empty
-replies_to-requires-clause-empty g c = ap (λ (s : session.State). s.machine.tables.next_number) c.requires.begins
+replies_to-requires-clause-empty g c = ap (λ (s : session.SessionState). s.machine.tables.next_number) c.requires.begins
 
 pub replies_to-requires-clause-is_open : goal.replies_to-requires-clause-is_open
-replies_to-requires-clause-is_open g c = ap (λ (s : session.State). s.job) c.requires.begins
+replies_to-requires-clause-is_open g c = ap (λ (s : session.SessionState). s.job) c.requires.begins
 
 pub returns : goal.returns
 returns g c =

@@ -1,7 +1,7 @@
 use Rattle.std.proofs.Common.{◌≡◌, rules, ◌∷◌, ◌++◌, ◌∙◌, [], ap, codes, length}
 use Rattle.node_json.specs.Groups.{health_members}
 use Rattle.node_json.specs.Inside.{tokens_of}
-use Rattle.node_json.specs.Value.{number_of}
+use Rattle.node_json.specs.Value.{json_number}
 use Rattle.node_json.proofs.Tokens.{three_parts}
 use Rattle.node_json.proofs.groups.put_health.Goals as goal
 
@@ -10,5 +10,5 @@ unfolding health_members
 returns g c =
     let groups : c.len.result ≡ length c.in_ok-groups.groups.items = search rules in
     three_parts c.args.json.now _ _ _ _ _ _ c.in_ok-put_number.ensures c.in_ok-put_number-2.ensures c.in_ok-put_number-3.ensures
-    ∙ (λ i. c.args.json.now ++ tokens_of ((codes "clearnet_peers", number_of (length c.args.numbers.now)) ∷ (codes "as_numbers", number_of ((groups ∙ ap length c.in_ok-groups.ensures.groups) i))
-    ∷ (codes "unmapped", number_of ((c.from.ensures ∙ c.occurrences.ensures.value) i)) ∷ []))
+    ∙ (λ i. c.args.json.now ++ tokens_of ((codes "clearnet_peers", json_number (length c.args.numbers.now)) ∷ (codes "as_numbers", json_number ((groups ∙ ap length c.in_ok-groups.ensures.groups) i))
+    ∷ (codes "unmapped", json_number ((c.from.ensures ∙ c.occurrences.ensures.value) i)) ∷ []))

@@ -1,6 +1,6 @@
 use Rattle.std.proofs.Common.{rules, ◌≡◌, ◌∙◌, ◌<◌, sym, subst, get_or, length, arith}
 use Rattle.std.proofs.lemmas.List.{get_or_default, get_or_read, length-set}
-use Rattle.peer_index.specs.Order.{id_of, with_last}
+use Rattle.peer_index.specs.Order.{id_of, with_item}
 use Rattle.restoring.specs.Filled.{blank, rec_at}
 use Rattle.restoring.proofs.Filled.{absent, filled-more}
 use Rattle.restoring.proofs.parts.fill.Goals as goal
@@ -31,7 +31,7 @@ loop-number-preserved g c =
     let rec : c.copy.result ≡ rec_at recs n = c.copy.ensures ∙ get_or_read recs n c.index-recs-number.result low c.index-recs-number.is blank in
     record {
       filled = c.in_ok-id.ensures.added
-          ∙ (λ i. with_last (l.invariant.filled i) c.in_ok-id.id (rec i))
+          ∙ (λ i. with_item (l.invariant.filled i) c.in_ok-id.id (rec i))
           ∙ sym (filled-more l.ids.items recs order c.requires.apart k n within is c.in_ok-id.id (subst (λ m. n < m) (sym l.invariant.long) low));
       long = length-set l.ids.items n c.in_ok-id.id ∙ l.invariant.long;
       order = c.add.ensures.order;

@@ -1,6 +1,6 @@
 use Rattle.std.proofs.Common.{◌≡◌, Result, Ok, Err, ap, inl, inr, refl, sym, subst}
 use Rattle.grammar.specs.declared.fault.LineFault.{LineFault}
-use Rattle.log_lines.specs.Spelling.{HasFault}
+use Rattle.log_lines.specs.Spelling.{HasCommandFault}
 use Rattle.log_run.specs.declared.line_steps.Stop.{Stop}
 use Rattle.log_run.specs.declared.line_steps.Stop.TheVariants as stop
 use Rattle.session.proofs.session.SessionLineSteps.carry_out.Goals as goal
@@ -24,7 +24,7 @@ pub returns-in-Err-clause-fault : goal.returns-in-Err-clause-fault
 returns-in-Err-clause-fault g c = λ fault is.
     let told = c.of.ensures.fault fault (same_stop _ _ is) in
     let why = c.in-Err.ensures.fault c.in-Err.fault refl told.1 in
-    (subst (HasFault c.args.line.now) (sym told.0) why.0, why.2)
+    (subst (HasCommandFault c.args.line.now) (sym told.0) why.0, why.2)
 
 pub returns-in-Err-clause-memory : goal.returns-in-Err-clause-memory
 returns-in-Err-clause-memory g c = λ is.
