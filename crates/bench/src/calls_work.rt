@@ -112,14 +112,24 @@ fn take_one(
     }
 }
 
-/// Selects a peer by some of the words. Returns the sum of its first bytes.
-fn select_one(tables: &Tables<'_, Keyed>, index: u64, words: &[u64]) -> u64 {
+/// Returns the set of all networks. It depends on a word, so that the compiler does not know it, as
+/// it does not know a set that comes from C.
+fn nets_by(words: &[u64]) -> NetSet {
+    if !words.is_empty() && words[0] == 0 {
+        NetSet::none()
+    } else {
+        NetSet::all()
+    }
+}
+
+/// Selects a peer of these networks by some of the words. Returns the sum of its first bytes.
+fn select_one(tables: &Tables<'_, Keyed>, nets: NetSet, index: u64, words: &[u64]) -> u64 {
     let from = (index % 512) as usize;
     if words.len() < from + 300 {
         return 0;
     }
     let some = &words[from..from + 300];
-    match uncounted::select(tables, false, NetSet::all(), some, NOW) {
+    match uncounted::select(tables, false, nets, some, NOW) {
         Picked::One(peer, _) => {
             let mut sum: u64 = 0;
             for byte in peer.addr.bytes() {
@@ -157,6 +167,7 @@ impl CallsWork {
     /// Does the calls.
     fn run_on(self, alloc: Global, tables: &mut Tables<'_, Keyed>) -> Result<u64, Refusal> {
         let words = words_of(alloc)?;
+        let nets = nets_by(words.as_slice());
         let mut sum: u64 = 0;
         if let Kind::Selects = self.kind {
             for index in 0..PEERS {
@@ -169,7 +180,7 @@ impl CallsWork {
                 Kind::Messages => {
                     take_one(alloc, tables, index.wrapping_mul(1000), words.as_slice())?
                 }
-                Kind::Selects => select_one(tables, index, words.as_slice()),
+                Kind::Selects => select_one(tables, nets, index, words.as_slice()),
             };
             sum = sum.wrapping_add(more);
         }
