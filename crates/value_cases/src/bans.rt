@@ -1,4 +1,4 @@
-use crate::fields::Fields;
+use crate::fields::RowFields;
 use crate::many_bans::{many, others};
 use crate::text::{copied, owned, text_of};
 use crate::unread::Unread;
@@ -10,8 +10,8 @@ pub(crate) fn answer(alloc: Global, name: &str, arguments: &str) -> Result<Strin
     match name {
         "subnet" => subnet(alloc, arguments),
         "file" => file(alloc, arguments),
-        "many" => many(alloc, Fields::of(arguments).number()?),
-        "others" => others(alloc, Fields::of(arguments).number()?),
+        "many" => many(alloc, RowFields::of(arguments).number()?),
+        "others" => others(alloc, RowFields::of(arguments).number()?),
         "other-faults" => other_faults(alloc),
         _ => Err(Unread::Form),
     }

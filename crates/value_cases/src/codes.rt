@@ -1,6 +1,6 @@
 ghost use Rattle.bit_code.specs.Coder.{HasValue};
 
-use crate::fields::Fields;
+use crate::fields::RowFields;
 use crate::text::{bytes_of, hex_text, owned};
 use crate::unread::Unread;
 use bit_code::{BitFront, Bits, Coder, MAX_ASMAP, read_number};
@@ -84,7 +84,7 @@ fn number_at(alloc: Global, bits: &Bits<'_>, at: usize, coder: Coder) -> Result<
 }
 
 /// `coded-at CODER OFFSET HEX`: a number in the bits of these bytes, and the offset after it.
-fn read_at(alloc: Global, fields: &mut Fields<'_>) -> Result<String, Unread> {
+fn read_at(alloc: Global, fields: &mut RowFields<'_>) -> Result<String, Unread> {
     let (coder, at) = (coder_of(fields.word())?, fields.number()?);
     let bytes = bytes_of(alloc, fields.word())?;
     if bytes.len() > MAX_ASMAP {
@@ -105,7 +105,7 @@ fn bits(alloc: Global, digits: &str) -> Result<String, Unread> {
 
 /// Answers the calls above.
 pub(crate) fn answer(alloc: Global, name: &str, arguments: &str) -> Result<String, Unread> {
-    let mut fields = Fields::of(arguments);
+    let mut fields = RowFields::of(arguments);
     match name {
         "coded" => coded(alloc),
         "coded-many" => many(alloc, fields.small()?),

@@ -1,4 +1,4 @@
-use crate::fields::Fields;
+use crate::fields::RowFields;
 use crate::peers_files::{chain_of, fault_of};
 use crate::text::bytes_of;
 use crate::unread::Unread;
@@ -67,7 +67,7 @@ fn other_fault(
 
 /// Returns the fault of the file of the last two fields, its chain and its bytes, for damage at each
 /// position from one number up to another, or the first fault that differs and its position.
-fn each_fault(alloc: Global, damage: Damage, fields: &mut Fields<'_>) -> Result<String, Unread> {
+fn each_fault(alloc: Global, damage: Damage, fields: &mut RowFields<'_>) -> Result<String, Unread> {
     let (from, to) = (fields.number()?, fields.number()?);
     let chain = chain_of(fields.word())?;
     let mut bytes = bytes_of(alloc, fields.word())?;
@@ -83,7 +83,7 @@ fn each_fault(alloc: Global, damage: Damage, fields: &mut Fields<'_>) -> Result<
 
 /// `flips BITS FROM TO CHAIN FILE`: the fault of each file in which these bits of one byte, from
 /// FROM up to TO, are flipped.
-pub(crate) fn flips(alloc: Global, fields: &mut Fields<'_>) -> Result<String, Unread> {
+pub(crate) fn flips(alloc: Global, fields: &mut RowFields<'_>) -> Result<String, Unread> {
     match u8::try_from(fields.number()?) {
         Ok(bits) => each_fault(alloc, Damage::Flip(bits), fields),
         Err(_) => Err(Unread::Form),
@@ -92,6 +92,6 @@ pub(crate) fn flips(alloc: Global, fields: &mut Fields<'_>) -> Result<String, Un
 
 /// `cuts FROM TO CHAIN FILE`: the fault of each file that ends after FROM or more bytes, fewer than
 /// TO.
-pub(crate) fn cuts(alloc: Global, fields: &mut Fields<'_>) -> Result<String, Unread> {
+pub(crate) fn cuts(alloc: Global, fields: &mut RowFields<'_>) -> Result<String, Unread> {
     each_fault(alloc, Damage::Cut, fields)
 }

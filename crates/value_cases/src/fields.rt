@@ -3,7 +3,7 @@ use net_addr::{NetAddr, Peer, parse_addr, parse_peer};
 
 /// The arguments that are left, one space between two of them.
 #[derive(Clone, Copy)]
-pub(crate) struct Fields<'a> {
+pub(crate) struct RowFields<'a> {
     text: &'a str,
 }
 
@@ -15,10 +15,10 @@ pub(crate) fn first_word(text: &str) -> (&str, &str) {
     }
 }
 
-impl<'a> Fields<'a> {
+impl<'a> RowFields<'a> {
     /// Returns the arguments of the text.
-    pub fn of(text: &'a str) -> Fields<'a> {
-        Fields { text }
+    pub fn of(text: &'a str) -> RowFields<'a> {
+        RowFields { text }
     }
 
     /// Takes the next argument.

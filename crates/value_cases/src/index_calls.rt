@@ -1,6 +1,6 @@
 ghost use Rattle.std.specs.Prelude.{◌≡◌};
 
-use crate::fields::Fields;
+use crate::fields::RowFields;
 use crate::tables_state::Hasher;
 use crate::text::owned;
 use crate::unread::Unread;
@@ -63,7 +63,7 @@ fn remove<L: Ledger>(
 fn swap<L: Ledger>(
     alloc: Global,
     index: &mut PeerIndex<Hasher>,
-    fields: &mut Fields<'_>,
+    fields: &mut RowFields<'_>,
     steps: &mut Steps<L>,
 ) -> Result<String, Unread> {
     let (i, j) = (fields.number()? as usize, fields.number()? as usize);
@@ -98,7 +98,7 @@ pub(crate) fn answer<L: Ledger>(
     alloc: Global,
     index: &mut PeerIndex<Hasher>,
     name: &str,
-    fields: &mut Fields<'_>,
+    fields: &mut RowFields<'_>,
     steps: &mut Steps<L>,
 ) -> Result<String, Unread> {
     match name {

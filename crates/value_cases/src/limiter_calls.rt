@@ -1,6 +1,6 @@
 ghost use Rattle.std.specs.Prelude.{◌≤◌};
 
-use crate::fields::Fields;
+use crate::fields::RowFields;
 use crate::tables_state::Hasher;
 use crate::text::owned;
 use crate::unread::Unread;
@@ -16,7 +16,7 @@ pub(crate) fn limiter_call(
     name: &str,
     arguments: &str,
 ) -> Result<String, Unread> {
-    let mut fields = Fields::of(arguments);
+    let mut fields = RowFields::of(arguments);
     match name {
         "open" => add(alloc, limiter, &mut fields),
         "close" => close(alloc, limiter, fields.small()?),
@@ -47,7 +47,7 @@ fn getaddr(alloc: Global, limiter: &mut Limiter<Hasher>, number: u32) -> Result<
 fn add(
     alloc: Global,
     limiter: &mut Limiter<Hasher>,
-    fields: &mut Fields<'_>,
+    fields: &mut RowFields<'_>,
 ) -> Result<String, Unread> {
     let number = fields.small()?;
     let addr = fields.addr()?;
@@ -63,7 +63,7 @@ fn admit(
     alloc: Global,
     limiter: &mut Limiter<Hasher>,
     times: u32,
-    fields: &mut Fields<'_>,
+    fields: &mut RowFields<'_>,
 ) -> Result<String, Unread> {
     let number = fields.small()?;
     let count = fields.small()?;

@@ -1,4 +1,4 @@
-use crate::fields::Fields;
+use crate::fields::RowFields;
 use crate::text::{bytes_of, hex_text, owned, peer_text};
 use crate::unread::Unread;
 use grammar::read_words;
@@ -126,7 +126,7 @@ pub(crate) fn answer(alloc: Global, name: &str, arguments: &str) -> Result<Strin
         "line" => line_text(alloc, arguments.as_bytes()),
         "line-hex" => line_text(alloc, bytes_of(alloc, arguments)?.as_slice()),
         "long-number" => long_number(alloc),
-        "long-payload" => long_payload(alloc, Fields::of(arguments).number()?),
+        "long-payload" => long_payload(alloc, RowFields::of(arguments).number()?),
         "split" => split(alloc, arguments),
         _ => words(alloc, name, arguments),
     }

@@ -1,4 +1,4 @@
-use crate::fields::{Fields, first_word};
+use crate::fields::{RowFields, first_word};
 use crate::text::{bytes_of, owned, peer_text};
 use crate::unread::Unread;
 use addr_codecs::{Entries, MsgFault, read_addr, read_addrv2};
@@ -108,8 +108,8 @@ fn unknown_network(alloc: Global, length: u64) -> Result<String, Unread> {
 pub(crate) fn answer(alloc: Global, name: &str, arguments: &str) -> Result<String, Unread> {
     match name {
         "prefixes" => prefixes(alloc, arguments),
-        "equal-entries" => equal_entries(alloc, Fields::of(arguments).number()?),
-        "unknown-network" => unknown_network(alloc, Fields::of(arguments).number()?),
+        "equal-entries" => equal_entries(alloc, RowFields::of(arguments).number()?),
+        "unknown-network" => unknown_network(alloc, RowFields::of(arguments).number()?),
         _ => {
             let bytes = bytes_of(alloc, arguments)?;
             answer_text(alloc, &read(alloc, name, bytes.as_slice()))

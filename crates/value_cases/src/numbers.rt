@@ -1,4 +1,4 @@
-use crate::fields::{Fields, first_word};
+use crate::fields::{RowFields, first_word};
 use crate::text::{bytes_of, number_text};
 use crate::unread::Unread;
 use net_addr::parse_number;
@@ -19,11 +19,11 @@ fn read(kind: &str, bytes: &[u8], at: usize) -> Option<u64> {
 pub(crate) fn answer(alloc: Global, name: &str, arguments: &str) -> Result<String, Unread> {
     if name == "number" {
         let (most, text) = first_word(arguments);
-        let most = Fields::of(most).number()?;
+        let most = RowFields::of(most).number()?;
         return number_text(alloc, parse_number(text.as_bytes(), most));
     }
     let (hex, at) = first_word(arguments);
     let bytes = bytes_of(alloc, hex)?;
-    let at = Fields::of(at).number()? as usize;
+    let at = RowFields::of(at).number()? as usize;
     number_text(alloc, read(name, bytes.as_slice(), at))
 }

@@ -1,5 +1,5 @@
 use crate::damage::{cuts, flips};
-use crate::fields::Fields;
+use crate::fields::RowFields;
 use crate::text::{bytes_of, owned};
 use crate::unread::Unread;
 use peer_rec::Snapshot;
@@ -11,7 +11,7 @@ use std::alloc::Global;
 /// FILE` with a line of the file's list, and `memory-fault` with the word of the fault that no
 /// file has; and the calls of damaged files.
 pub(crate) fn answer(alloc: Global, name: &str, arguments: &str) -> Result<String, Unread> {
-    let mut fields = Fields::of(arguments);
+    let mut fields = RowFields::of(arguments);
     match name {
         "fault" => fault(alloc, &mut fields),
         "rewrite" => rewritten(alloc, &mut fields),
@@ -37,7 +37,7 @@ pub(crate) fn chain_of(name: &str) -> Result<Chain, Unread> {
 /// Reads the file of the next two fields, its chain and its bytes.
 fn read_next(
     alloc: Global,
-    fields: &mut Fields<'_>,
+    fields: &mut RowFields<'_>,
 ) -> Result<Result<Snapshot, FileFault>, Unread> {
     let chain = chain_of(fields.word())?;
     let bytes = bytes_of(alloc, fields.word())?;
@@ -45,13 +45,13 @@ fn read_next(
 }
 
 /// Returns the word of the fault of the file of the next two fields, and the fault.
-fn fault(alloc: Global, fields: &mut Fields<'_>) -> Result<String, Unread> {
+fn fault(alloc: Global, fields: &mut RowFields<'_>) -> Result<String, Unread> {
     let read = read_next(alloc, fields)?;
     fault_of(alloc, &read)
 }
 
 /// Returns the line of the number of the next field, of the list of the file of the two after it.
-fn listed(alloc: Global, fields: &mut Fields<'_>) -> Result<String, Unread> {
+fn listed(alloc: Global, fields: &mut RowFields<'_>) -> Result<String, Unread> {
     let number = fields.number()?;
     let read = read_next(alloc, fields)?;
     line_of(alloc, number, &read)
@@ -100,7 +100,7 @@ pub(crate) fn is_rewritten(
 
 /// Returns whether what the file of the next field but one has, of the chain of the next one, is
 /// written as the file of the field after it.
-fn rewritten(alloc: Global, fields: &mut Fields<'_>) -> Result<String, Unread> {
+fn rewritten(alloc: Global, fields: &mut RowFields<'_>) -> Result<String, Unread> {
     let chain = chain_of(fields.word())?;
     let bytes = bytes_of(alloc, fields.word())?;
     let wanted = bytes_of(alloc, fields.word())?;

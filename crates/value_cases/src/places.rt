@@ -1,4 +1,4 @@
-use crate::fields::{Fields, first_word};
+use crate::fields::{RowFields, first_word};
 use crate::text::{bytes_of, hex_text, owned};
 use crate::unread::Unread;
 use asmap_vm::check;
@@ -37,7 +37,7 @@ pub(crate) fn places(
 
 /// `places PEER SOURCE`: the places under the key of zeros, and those under Bitcoin Core's.
 fn both_places(alloc: Global, arguments: &str) -> Result<String, Unread> {
-    let mut fields = Fields::of(arguments);
+    let mut fields = RowFields::of(arguments);
     let peer = fields.peer()?;
     let source = fields.addr()?;
     let by_zero = places(alloc, &Placer::make([0; 32], None), &peer, &source)?;
@@ -47,7 +47,7 @@ fn both_places(alloc: Global, arguments: &str) -> Result<String, Unread> {
 
 /// Returns the number and the group of the address.
 fn group(alloc: Global, placer: &Placer<'_>, text: &str) -> Result<String, Unread> {
-    let addr = Fields::of(text).addr()?;
+    let addr = RowFields::of(text).addr()?;
     let group = hex_text(alloc, placer.group(&addr).as_slice())?;
     Ok(format!(in alloc; "{} {group}", placer.asn(&addr))?)
 }
@@ -108,7 +108,7 @@ fn choice(alloc: Global, arguments: &str) -> Result<String, Unread> {
 
 /// `new-slot PEER BUCKET`: the slot of the peer in the bucket of the new table.
 fn new_slot(alloc: Global, arguments: &str) -> Result<String, Unread> {
-    let mut fields = Fields::of(arguments);
+    let mut fields = RowFields::of(arguments);
     let peer = fields.peer()?;
     let bucket = fields.number()?;
     if bucket >= 1024 {
@@ -120,7 +120,7 @@ fn new_slot(alloc: Global, arguments: &str) -> Result<String, Unread> {
 
 /// `next-port SLOT BUCKET`: the least port from 1 on with which 8.8.8.8 has the slot of the bucket.
 fn next_port(alloc: Global, arguments: &str) -> Result<String, Unread> {
-    let mut fields = Fields::of(arguments);
+    let mut fields = RowFields::of(arguments);
     let slot = fields.number()?;
     let bucket = fields.number()?;
     let zero = Placer::make([0; 32], None);

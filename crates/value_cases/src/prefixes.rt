@@ -1,4 +1,4 @@
-use crate::fields::Fields;
+use crate::fields::RowFields;
 use crate::text::{bytes_of, in_one_line, owned};
 use crate::unread::Unread;
 use prefix_table::{MAX_TEXT, Row, Table, TableFault, put_table, read_table};
@@ -76,7 +76,7 @@ fn table_text(alloc: Global, table: &Table) -> Result<Vec<u8>, Unread> {
 }
 
 /// Takes a row: its bits, its length and its number.
-fn row_of(alloc: Global, fields: &mut Fields<'_>) -> Result<Row, Unread> {
+fn row_of(alloc: Global, fields: &mut RowFields<'_>) -> Result<Row, Unread> {
     let bits = bits_of(alloc, fields.word())?;
     let Ok(len) = u8::try_from(fields.number()?) else {
         return Err(Unread::Form);
@@ -87,7 +87,7 @@ fn row_of(alloc: Global, fields: &mut Fields<'_>) -> Result<Row, Unread> {
 
 /// `rows ROW ROW`: the text of the table that has these rows, each `BITS LENGTH NUMBER`, or `none`.
 fn rows(alloc: Global, arguments: &str) -> Result<String, Unread> {
-    let mut fields = Fields::of(arguments);
+    let mut fields = RowFields::of(arguments);
     let rows = [row_of(alloc, &mut fields)?, row_of(alloc, &mut fields)?];
     match Table::from_rows(alloc, &rows) {
         Ok(Some(table)) => in_one_line(table_text(alloc, &table)?),

@@ -1,4 +1,4 @@
-use crate::fields::Fields;
+use crate::fields::RowFields;
 use crate::text::yes_or_no;
 use crate::unread::Unread;
 use net_addr::{NetAddr, Peer};
@@ -25,7 +25,7 @@ pub(crate) fn record(place: Place) -> Rec {
 }
 
 /// Takes the numbers of a record.
-fn record_of(fields: &mut Fields<'_>) -> Result<Rec, Unread> {
+fn record_of(fields: &mut RowFields<'_>) -> Result<Rec, Unread> {
     let time = fields.small()?;
     let last_success = fields.small()?;
     let last_try = fields.small()?;
@@ -42,7 +42,7 @@ fn record_of(fields: &mut Fields<'_>) -> Result<Rec, Unread> {
 /// `chance TIME SUCCESS TRY TRIES CLOCK`: the chance of the record, in parts of 2^30.
 /// `terrible TIME SUCCESS TRY TRIES CLOCK`: whether it is terrible.
 pub(crate) fn answer(alloc: Global, name: &str, arguments: &str) -> Result<String, Unread> {
-    let mut fields = Fields::of(arguments);
+    let mut fields = RowFields::of(arguments);
     let rec = record_of(&mut fields)?;
     let clock = fields.small()?;
     if name == "chance" {

@@ -1,4 +1,4 @@
-use crate::fields::Fields;
+use crate::fields::RowFields;
 use crate::filled_file::put_filled;
 use crate::made_files::{Sizes, again, listing, put_file};
 use crate::tables_state::Hasher;
@@ -61,7 +61,7 @@ fn restore<L: Ledger>(
 }
 
 /// Makes the file that the arguments say.
-fn make(bytes: &mut Vec<u8>, fields: &mut Fields<'_>) -> Result<(), Unread> {
+fn make(bytes: &mut Vec<u8>, fields: &mut RowFields<'_>) -> Result<(), Unread> {
     let (new, tried) = (fields.small()?, fields.small()?);
     let each = fields.small()?;
     put_file(bytes, Sizes { new, tried, each })
@@ -73,7 +73,7 @@ pub(crate) fn answer<L: Ledger>(
     bytes: &mut Vec<u8>,
     tables: &mut Tables<'static, Hasher>,
     name: &str,
-    fields: &mut Fields<'_>,
+    fields: &mut RowFields<'_>,
     steps: &mut Steps<L>,
 ) -> Result<String, Unread> {
     match name {

@@ -1,4 +1,4 @@
-use crate::fields::Fields;
+use crate::fields::RowFields;
 use crate::tables_state::Hasher;
 use crate::text::{owned, peer_text};
 use crate::unread::Unread;
@@ -59,7 +59,7 @@ fn find<L: Ledger>(
 fn add<L: Ledger>(
     alloc: Global,
     tables: &mut Tabled,
-    fields: &mut Fields<'_>,
+    fields: &mut RowFields<'_>,
     steps: &mut Steps<L>,
 ) -> Result<String, Unread> {
     let peer = fields.peer()?;
@@ -84,7 +84,7 @@ fn add<L: Ledger>(
 fn good<L: Ledger>(
     alloc: Global,
     tables: &mut Tabled,
-    fields: &mut Fields<'_>,
+    fields: &mut RowFields<'_>,
     steps: &mut Steps<L>,
 ) -> Result<String, Unread> {
     let peer = fields.peer()?;
@@ -190,7 +190,7 @@ pub(crate) fn answer<L: Ledger>(
     alloc: Global,
     tables: &mut Tabled,
     name: &str,
-    fields: &mut Fields<'_>,
+    fields: &mut RowFields<'_>,
     steps: &mut Steps<L>,
 ) -> Result<String, Unread> {
     match name {

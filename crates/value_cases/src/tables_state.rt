@@ -1,6 +1,6 @@
 ghost use Rattle.std.specs.Prelude.{◌≡◌};
 
-use crate::fields::Fields;
+use crate::fields::RowFields;
 use crate::made_files::saved;
 use crate::unread::Unread;
 use crate::{index_calls, restores, table_calls};
@@ -64,7 +64,7 @@ fn answer_counted<L: Ledger>(
     requires one { blank.parts ≡ 1 }
 {
     let mut steps = Steps::<L>::none(blank);
-    let mut fields = Fields::of(call.arguments);
+    let mut fields = RowFields::of(call.arguments);
     if let Some(name) = call.name.strip_prefix("index-") {
         return index_calls::answer(alloc, &mut state.index, name, &mut fields, &mut steps);
     }

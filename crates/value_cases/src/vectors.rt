@@ -1,4 +1,4 @@
-use crate::fields::Fields;
+use crate::fields::RowFields;
 use crate::places::places;
 use crate::text::{bytes_of, hex_text};
 use crate::unread::Unread;
@@ -14,7 +14,7 @@ fn word_of(yes: bool) -> &'static str {
 /// `facts ADDRESS`: the network and the class of the address, its group without an asmap, and
 /// whether it is valid and routable.
 fn facts(alloc: Global, text: &str) -> Result<String, Unread> {
-    let addr = Fields::of(text).addr()?;
+    let addr = RowFields::of(text).addr()?;
     let group = Placer::make([0; 32], None).group(&addr);
     let group = hex_text(alloc, group.as_slice())?;
     let (valid, routable) = (word_of(addr.is_valid()), word_of(addr.is_routable()));
@@ -28,7 +28,7 @@ fn facts(alloc: Global, text: &str) -> Result<String, Unread> {
 /// `places-by KEY ASMAP PEER SOURCE`: the new bucket and slot and the tried bucket and slot under a
 /// key and an asmap, which is `-` if there is none.
 fn places_by(alloc: Global, arguments: &str) -> Result<String, Unread> {
-    let mut fields = Fields::of(arguments);
+    let mut fields = RowFields::of(arguments);
     let key = bytes_of(alloc, fields.word())?;
     let Ok(key) = <[u8; 32]>::try_from(key.as_slice()) else {
         return Err(Unread::Form);
