@@ -60,7 +60,7 @@ impl From<AllocError> for ReadFault {
 
 /// The calls of a source or a sink in memory, some of which its maker chose to fail.
 #[derive(Drop)]
-pub struct Chosen {
+pub struct FailingCalls {
     /// The numbers, from 0, of the calls that fail.
     pub fails: Vec<u64>,
     /// How many calls there were; the count stops at 2^64 - 1.
@@ -69,14 +69,14 @@ pub struct Chosen {
     pub faults: u64,
 }
 
-impl Chosen {
+impl FailingCalls {
     /// Makes the record of no calls. The calls whose numbers are in `fails` will fail.
-    pub fn make(alloc: Global, fails: &[u64]) -> Result<Chosen, Memory>
+    pub fn make(alloc: Global, fails: &[u64]) -> Result<FailingCalls, Memory>
         ensures fails { IfOk result (λ chosen. chosen.fails.items ≡ fails.now) }
         ensures calls { IfOk result (λ chosen. chosen.calls ≡ 0) }
         ensures faults { IfOk result (λ chosen. chosen.faults ≡ 0) }
     {
-        Ok(Chosen {
+        Ok(FailingCalls {
             fails: fails.to_vec(alloc)?,
             calls: 0,
             faults: 0,

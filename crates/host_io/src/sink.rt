@@ -3,7 +3,7 @@ ghost use Rattle.host_io.specs.Faults.{Rose, raised};
 ghost use Rattle.host_io.specs.Writing.{Appended, AppendedPart};
 ghost use Rattle.host_io.specs.MemSink.{sink_after_write, sink_after_fault, sink_after_no_memory};
 
-use crate::failed::{Chosen, Failed, Memory, fault};
+use crate::failed::{FailingCalls, Failed, Memory, fault};
 use std::alloc::Global;
 use std::io::Write;
 use std::marker::Model;
@@ -118,7 +118,7 @@ impl Sink for SureSink {
 #[derive(Drop)]
 pub struct MemSink {
     bytes: Vec<u8>,
-    chosen: Chosen,
+    failing: FailingCalls,
     starved: u64,
 }
 
@@ -129,9 +129,9 @@ impl Model for MemSink {
 
     ghost view = { λ s. record {
       bytes = s.bytes.items;
-      fails = s.chosen.fails.items;
-      calls = s.chosen.calls;
-      faults = s.chosen.faults;
+      fails = s.failing.fails.items;
+      calls = s.failing.calls;
+      faults = s.failing.faults;
       starved = s.starved;
     } };
 }
@@ -149,7 +149,7 @@ impl MemSink {
     {
         Ok(MemSink {
             bytes: Vec::new(alloc),
-            chosen: Chosen::make(alloc, fails)?,
+            failing: FailingCalls::make(alloc, fails)?,
             starved: 0,
         })
     }
@@ -189,10 +189,10 @@ impl Sink for MemSink {
         ensures cause { OnErr result (Rose self.old.faults self.new.faults) }
         ensures never_falls { self.old.faults ≤ self.new.faults }
     {
-        self.chosen.begin()?;
+        self.failing.begin()?;
         if self.bytes.extend_from_slice(piece).is_err() {
             self.starved = self.starved.saturating_add(1);
-            return Err(fault(&mut self.chosen.faults));
+            return Err(fault(&mut self.failing.faults));
         }
         Ok(piece.len())
     }

@@ -2,7 +2,7 @@ ghost use Rattle.std.specs.Prelude.{◌≡◌, ℕ, ◌<◌, ◌≤◌, ◌↔�
 ghost use Rattle.host_io.specs.Faults.{Rose, raised};
 ghost use Rattle.host_io.specs.MemSource.{source_after_read, source_after_fault};
 
-use crate::failed::{Chosen, Failed, Memory, fault};
+use crate::failed::{FailingCalls, Failed, Memory, fault};
 use std::alloc::Global;
 use std::io::Read;
 use std::marker::Model;
@@ -122,7 +122,7 @@ pub struct MemSource {
     bytes: Vec<u8>,
     at: usize,
     piece: usize,
-    chosen: Chosen,
+    failing: FailingCalls,
 }
 
 impl Model for MemSource {
@@ -134,9 +134,9 @@ impl Model for MemSource {
     ghost view = { λ s. record {
       left = drop s.at s.bytes.items;
       piece = s.piece;
-      fails = s.chosen.fails.items;
-      calls = s.chosen.calls;
-      faults = s.chosen.faults;
+      fails = s.failing.fails.items;
+      calls = s.failing.calls;
+      faults = s.failing.faults;
     } };
 
     ghost invariant = { λ s. (s.at ≤ vec_len s.bytes) × (1 ≤ s.piece) };
@@ -164,7 +164,7 @@ impl MemSource {
             bytes: bytes.to_vec(alloc)?,
             at: 0,
             piece,
-            chosen: Chosen::make(alloc, fails)?,
+            failing: FailingCalls::make(alloc, fails)?,
         })
     }
 }
@@ -188,7 +188,7 @@ impl Source for MemSource {
         ensures cause { OnErr result (Rose self.old.faults self.new.faults) }
         ensures never_falls { self.old.faults ≤ self.new.faults }
     {
-        self.chosen.begin()?;
+        self.failing.begin()?;
         let left = &self.bytes[self.at..];
         let count = self.piece.min(buf.len()).min(left.len());
         buf[..count].copy_from_slice(&left[..count]);
