@@ -5,7 +5,7 @@ ghost use Rattle.ban_list.specs.Subnet.{IsProper};
 ghost use Rattle.ban_list.specs.SubnetText.{IsSubnetText, ip_by, length_by, subnet_text};
 
 use crate::{Memory, Subnet};
-use net_addr::{Net, NetAddr, put_addr, put_ipv6, put_number, put_text};
+use net_addr::{Net, NetAddr, array_of, put_addr, put_ipv6, put_number, put_text};
 use std::alloc::Global;
 
 /// Appends the text of a subnet: an IPv4 or IPv6 address, a slash and the length, or only the
@@ -61,14 +61,4 @@ fn bits_of(bytes: &[u8; 16]) -> u128
     ensures { to_be_bytes w128 result ≡ bytes.now }
 {
     u128::from_be_bytes(*bytes)
-}
-
-/// Returns the bytes as an array of their number.
-fn array_of<const N: usize>(bytes: &[u8]) -> [u8; N]
-    requires { length bytes.now ≡ N }
-    ensures { result ≡ bytes.now }
-{
-    let mut all = [0; N];
-    all.copy_from_slice(bytes);
-    all
 }

@@ -39,7 +39,7 @@ pub(crate) fn internal(bytes: &[u8; 10]) -> [u8; 16]
 }
 
 /// Returns the bytes as an array of their number.
-pub(crate) fn array_of<const N: usize>(bytes: &[u8]) -> [u8; N]
+pub fn array_of<const N: usize>(bytes: &[u8]) -> [u8; N]
     requires { length bytes.now ≡ N }
     ensures { result ≡ bytes.now }
 {

@@ -3,7 +3,7 @@ ghost use Rattle.std.specs.Int.{w128, from_be_bytes};
 ghost use Rattle.net_addr.specs.Address.{mapped_prefix};
 ghost use Rattle.net_group.specs.Group.{asmap_bits, looked_up};
 
-use net_addr::{Net, NetAddr};
+use net_addr::{Net, NetAddr, array_of};
 
 /// Returns the 128 bits of an address that are looked up in an asmap, the highest bit first. `None`
 /// unless the address is reached over IPv4 or IPv6 (`NetGroupManager::GetMappedAS` in netgroup.cpp
@@ -25,7 +25,7 @@ fn looked_up(addr: &NetAddr) -> u128
 {
     match addr.linked_bytes() {
         Some(ipv4) => mapped(ipv4),
-        None => whole(addr.bytes()),
+        None => u128::from_be_bytes(array_of(addr.bytes())),
     }
 }
 
@@ -35,14 +35,4 @@ fn mapped(ipv4: [u8; 4]) -> u128
 {
     let [a, b, c, d] = ipv4;
     u128::from_be_bytes([0, 0, 0, 0, 0, 0, 0, 0, 0, 0, 0xff, 0xff, a, b, c, d])
-}
-
-/// Returns the bits of sixteen bytes, the first the highest.
-fn whole(bytes: &[u8]) -> u128
-    requires { length bytes.now ≡ 16 }
-    ensures { result ≡ from_be_bytes w128 bytes.now }
-{
-    let mut all = [0; 16];
-    all.copy_from_slice(bytes);
-    u128::from_be_bytes(all)
 }

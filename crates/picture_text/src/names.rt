@@ -7,7 +7,7 @@ ghost use Rattle.picture_text.specs.Names.{ipv4_name, ipv6_name, letter, letters
 
 use crate::Memory;
 use crate::pieces::{put_around, put_number, put_numbered, put_text};
-use net_addr::{Net, NetAddr, put_ipv6};
+use net_addr::{Net, NetAddr, array_of, put_ipv6};
 use placing::Placer;
 use std::alloc::Global;
 
@@ -91,21 +91,11 @@ fn put_prefix(bytes: &[u8], size: u128, width: u32, out: &mut Vec<u8>) -> Result
     requires some { 0 < size }
     ensures { OnOk result (out.new.items ≡ out.old.items ++ prefix_text bytes.now size width) }
 {
-    let bits = whole(bytes);
+    let bits = u128::from_be_bytes(array_of(bytes));
     put_ipv6(bits / size * size, out)?;
     put_text(b"/", out)?;
     put_number(width, out)?;
     Ok(())
-}
-
-/// Returns the bits of sixteen bytes, the first the highest.
-fn whole(bytes: &[u8]) -> u128
-    requires { length bytes.now ≡ 16 }
-    ensures { result ≡ from_be_bytes w128 bytes.now }
-{
-    let mut all = [0; 16];
-    all.copy_from_slice(bytes);
-    u128::from_be_bytes(all)
 }
 
 /// Appends a label and the letters that the texts of addresses with these bytes begin with.
