@@ -1,9 +1,10 @@
-ghost use Rattle.std.specs.Prelude.{◌≡◌, ◌+◌, ◌<◌, ◌≤◌, ◌^◌, ◌∷◌, ◌++◌, length, take, vec_len, codes, decimal, IfOk, OnOk, OnErr};
+ghost use Rattle.std.specs.Prelude.{◌≡◌, ◌+◌, ◌*◌, ◌<◌, ◌≤◌, ◌^◌, ◌∷◌, ◌++◌, length, take, vec_len, codes, decimal, OnOk, OnErr};
 ghost use Rattle.std.specs.Int.{w32, w128, to_be_bytes};
+ghost use Rattle.std.specs.Char.{digit_char};
+ghost use Rattle.std.specs.Net.Text.{hex, groups_text, hex_groups_text, leading_zero_digits, longest_zero_run};
 ghost use Rattle.hex.specs.Hex.{encode_lower};
 ghost use Rattle.net_addr.specs.Address.{IsAddress};
 ghost use Rattle.net_addr.specs.Text.{ipv4_text, ipv6_text, label_of, addr_text, peer_text, IsIpv4Text, IsIpv6Text, IsAddrText, IsPeerText};
-ghost use Rattle.std.specs.String.{string_bytes};
 ghost use Rattle.arrayvec.specs.ArrayVec.{array_vec_len};
 
 use crate::old_form::array_of;
@@ -11,8 +12,30 @@ use crate::text::put_text;
 use crate::{Memory, Net, NetAddr, Peer};
 use arrayvec::ArrayVec;
 use itoa::Buffer;
-use std::alloc::{AllocError, Global};
 use std::net::Ipv6Addr;
+
+/// The most bytes of an IPv4 address in text.
+pub const IPV4_TEXT: usize = 15;
+
+/// The most bytes of an IPv6 address in text: eight groups of four digits, and seven colons.
+pub const IPV6_TEXT: usize = 39;
+
+/// Returns the text of an IPv4 address, the first of its four bytes the highest.
+pub fn ipv4_text(bits: u32) -> ArrayVec<u8, IPV4_TEXT>
+    ensures text { result.items ≡ ipv4_text (to_be_bytes w32 bits) }
+    ensures reads_back { IsIpv4Text (ipv4_text (to_be_bytes w32 bits)) bits }
+{
+    dotted(bits.to_be_bytes())
+}
+
+/// Returns the text of an IPv6 address in the form of RFC 5952, without brackets and always in
+/// hexadecimal; the first of its sixteen bytes is the highest.
+pub fn ipv6_text(bits: u128) -> ArrayVec<u8, IPV6_TEXT>
+    ensures text { result.items ≡ ipv6_text (to_be_bytes w128 bits) }
+    ensures reads_back { IsIpv6Text (ipv6_text (to_be_bytes w128 bits)) bits }
+{
+    groups(bits.to_be_bytes())
+}
 
 /// Appends the text of an IPv4 address, the first of its four bytes the highest.
 pub fn put_ipv4(bits: u32, out: &mut Vec<u8>) -> Result<(), Memory>
@@ -20,8 +43,7 @@ pub fn put_ipv4(bits: u32, out: &mut Vec<u8>) -> Result<(), Memory>
     ensures err { OnErr result (out.new.items ≡ out.old.items) }
     ensures reads_back { IsIpv4Text (ipv4_text (to_be_bytes w32 bits)) bits }
 {
-    out.extend_from_slice(dotted(bits.to_be_bytes()).as_slice())?;
-    Ok(())
+    put_text(ipv4_text(bits).as_slice(), out)
 }
 
 /// Appends the text of an IPv6 address in the form of RFC 5952, without brackets and always in
@@ -31,8 +53,7 @@ pub fn put_ipv6(bits: u128, out: &mut Vec<u8>) -> Result<(), Memory>
     ensures err { OnErr result (out.new.items ≡ out.old.items) }
     ensures reads_back { IsIpv6Text (ipv6_text (to_be_bytes w128 bits)) bits }
 {
-    let text = groups(bits.to_be_bytes(), *out.allocator())?;
-    put_text(text.as_bytes(), out)
+    put_text(ipv6_text(bits).as_slice(), out)
 }
 
 /// Appends the text of an address.
@@ -99,10 +120,106 @@ fn append_addr(addr: &NetAddr, out: &mut Vec<u8>) -> Result<(), Memory>
 }
 
 /// Returns sixteen bytes as groups of hexadecimal digits with colons between them.
-fn groups(bytes: [u8; 16], alloc: Global) -> Result<String, AllocError>
-    ensures { IfOk result (λ text. string_bytes text ≡ ipv6_text bytes) }
+fn groups(bytes: [u8; 16]) -> ArrayVec<u8, IPV6_TEXT>
+    ensures { result.items ≡ ipv6_text bytes }
 {
-    format!(in alloc; "{}", Ipv6Addr::from_octets(bytes).hex_groups())
+    let segments = Ipv6Addr::from_octets(bytes).segments();
+    compressed(&segments)
+}
+
+/// Returns eight groups of hexadecimal digits with colons between them, and `::` in place of the
+/// longest run of zeros.
+fn compressed(segments: &[u16]) -> ArrayVec<u8, IPV6_TEXT>
+    requires { length segments.now ≡ 8 }
+    ensures { result.items ≡ hex_groups_text segments.now }
+{
+    let mut text = ArrayVec::new();
+    let (start, len) = longest_zero_run(segments);
+    if len > 1 {
+        append_groups(&mut text, &segments[..start]);
+        text.push(b':');
+        text.push(b':');
+        append_groups(&mut text, &segments[start + len..]);
+    } else {
+        append_groups(&mut text, segments);
+    }
+    text
+}
+
+/// Returns the start and the length of the longest run of zeros, the first one of that length.
+fn longest_zero_run(segments: &[u16]) -> (usize, usize)
+    ensures value { result ≡ longest_zero_run segments.now }
+    ensures within { result.0 + result.1 ≤ length segments.now }
+{
+    let mut start = segments.len();
+    let mut len = 0;
+    let mut run = 0;
+    for i in (0..segments.len()).rev() {
+        run = if segments[i] == 0 { run + 1 } else { 0 };
+        if run >= len {
+            start = i;
+            len = run;
+        }
+    }
+    (start, len)
+}
+
+/// Appends groups of hexadecimal digits with colons between them, for which there is room.
+fn append_groups<const N: usize>(out: &mut ArrayVec<u8, N>, segments: &[u16])
+    requires { array_vec_len out.old + 5 * length segments.now ≤ N + 1 }
+    ensures items { out.new.items ≡ out.old.items ++ groups_text segments.now }
+    ensures short { array_vec_len out.new ≤ array_vec_len out.old + 5 * length segments.now }
+{
+    if let [first, rest @ ..] = segments {
+        append_hex(out, *first);
+        for segment in rest {
+            out.push(b':');
+            append_hex(out, *segment);
+        }
+    }
+}
+
+/// Appends a segment in hexadecimal with no leading zeros, for which there is room.
+fn append_hex<const N: usize>(out: &mut ArrayVec<u8, N>, segment: u16)
+    requires { array_vec_len out.old + 4 ≤ N }
+    ensures items { out.new.items ≡ out.old.items ++ hex segment }
+    ensures short { array_vec_len out.new ≤ array_vec_len out.old + 4 }
+{
+    let digits = [
+        hex_digit(segment / 0x1000),
+        hex_digit(segment / 0x100 % 16),
+        hex_digit(segment / 0x10 % 16),
+        hex_digit(segment % 16),
+    ];
+    let zeros = leading_zero_digits(segment);
+    let Ok(()) = out.try_extend_from_slice(&digits[zeros..]) else {
+        unreachable!()
+    };
+}
+
+/// Returns how many of a segment's four digits are leading zeros, without the last digit.
+fn leading_zero_digits(segment: u16) -> usize
+    ensures value { result ≡ leading_zero_digits segment }
+    ensures within { result < 4 }
+{
+    match segment {
+        0x1000.. => 0,
+        0x100.. => 1,
+        0x10.. => 2,
+        _ => 3,
+    }
+}
+
+/// Returns a hexadecimal digit, in lower case.
+fn hex_digit(digit: u16) -> u8
+    requires { digit < 16 }
+    ensures { result ≡ digit_char digit }
+{
+    if digit < 10 {
+        b'0' + digit as u8
+    } else {
+        b'a' + (digit - 10) as u8
+    }
 }
 
 /// Appends the text of an IPv6 address in square brackets. After `Memory` a part of it may be in the
@@ -113,9 +230,8 @@ fn append_bracketed(bytes: &[u8], out: &mut Vec<u8>) -> Result<(), Memory>
         ≡ out.old.items ++ codes "[" ++ ipv6_text bytes.now ++ codes "]") }
     ensures kept { take (vec_len out.old) out.new.items ≡ out.old.items }
 {
-    let groups = groups(array_of(bytes), *out.allocator())?;
     put_text(b"[", out)?;
-    put_text(groups.as_bytes(), out)?;
+    put_text(groups(array_of(bytes)).as_slice(), out)?;
     put_text(b"]", out)
 }
 
@@ -138,7 +254,7 @@ fn append_labelled(net: Net, bytes: &[u8], out: &mut Vec<u8>) -> Result<(), Memo
 }
 
 /// Returns four decimal numbers with dots between them.
-fn dotted(bytes: [u8; 4]) -> ArrayVec<u8, 15>
+fn dotted(bytes: [u8; 4]) -> ArrayVec<u8, IPV4_TEXT>
     ensures { result.items ≡ ipv4_text bytes }
 {
     let [a, b, c, d] = bytes;
