@@ -8,6 +8,7 @@ pub mod RepeatLaws
 pub mod NumberedLaws
 pub mod OrderedLaws
 pub mod ReadLaws
+pub mod PlainLaws
 pub mod PrintLaws
 pub mod OneReading
 pub mod Items

@@ -25,7 +25,7 @@ not_passed : (line : List ℕ) (row : Row) → IsRowLine line row → IsPassedOv
 not_passed line row is passed = is.is_entry.not_passed_over passed
 
 -- lines are those of one list of rows at most
-lines_one : (lines : List (List ℕ)) (xs ys : List Row) → All IsSettled lines → AreLines lines xs → AreLines lines ys → xs ≡ ys
+pub lines_one : (lines : List (List ℕ)) (xs ys : List Row) → All IsSettled lines → AreLines lines xs → AreLines lines ys → xs ≡ ys
 unfolding AreLines
 lines_one [] xs ys settled are also = are ∙ sym also
 lines_one (line ∷ lines) [] [] settled are also = refl
@@ -64,7 +64,7 @@ goes_on (l ∷ before) line more (x ∷ xs) (s ∷ said) settled (inr are) (inr 
     let later = goes_on before line more xs said (All-tail IsSettled l (before ++ line ∷ []) settled) are.1 also.1 in
     (later.0, (λ i. sym heads i ∷ later.1 i), later.2)
 
-abbrev AreApart : List Row → Type 0
+abbrev pub AreApart : List Row → Type 0
 AreApart rows = AllPairs (λ (a : Row) (b : Row). SamePrefix a b → ⊥) rows
 
 -- a row after others has none of their prefixes
@@ -111,6 +111,16 @@ fault_clash before line more xs said n fault settled are h also apart few =
     All-contains-last [] l all = All-head IsSettled l [] all
     All-contains-last (k ∷ ls) l all = All-contains-last ls l (All-tail IsSettled k (ls ++ l ∷ []) all)
 
+-- as many rows as a table has are followed by no other
+pub full_clash : (before : List (List ℕ)) (line : List ℕ) (more : List (List ℕ)) (xs said : List Row) (row : Row) → All IsSettled (before ++ line ∷ []) → AreLines before xs → IsRowLine line row → length xs ≡ MAX_ROWS → AreLines (before ++ line ∷ more) said → length said ≤ MAX_ROWS → ⊥
+full_clash before line more xs said row settled are is full also few =
+    let on = goes_on before line more xs said settled are also in
+    elim on.2 [
+      | inl passed ↦ not_passed line row is passed
+      | inr (other, tail, is_other, e) ↦
+          omega (arith, few, full, length-append xs on.0, ap (λ (rs : List Row). length rs) e, ap (λ (rs : List Row). length rs) on.1)
+    ]
+
 -- the test of two prefixes
 abbrev prefix_eq : Row → Row → Bool
 prefix_eq a b = eqb a.bits b.bits && eqb a.len b.len
@@ -130,7 +140,7 @@ rising_differ a b (inl l) = ap (λ t. t && eqb a.len b.len) (ne_eqb a.bits b.bit
 rising_differ a b (inr (e, l)) = ap (λ t. t && eqb a.len b.len) (eq-eqb a.bits b.bits e) ∙ ne_eqb a.len b.len (λ f. omega (arith, f))
 
 -- the rows of a table have distinct prefixes in any order
-table_apart : (rows said : List Row) → IsTable rows → IsPermutation said rows → AreApart said
+pub table_apart : (rows said : List Row) → IsTable rows → IsPermutation said rows → AreApart said
 table_apart rows said table order i j d l w same =
     let sorted = IsDistinct-from_apart prefix_eq rows (λ k m e n h. rising_differ (get_or rows k e) (get_or rows m e) (table.rising k m e n h)) in
     let mixed = IsDistinct-IsPermutation prefix_eq flips rows said (IsPermutation-sym said rows order) sorted in

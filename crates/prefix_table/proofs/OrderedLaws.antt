@@ -34,7 +34,7 @@ cmp_same x y e =
     ∙ ap (λ b. cond b Equal Greater) (eq-eqb x y e)
 
 -- what comes first decides unless it is the same
-then_not_lt : (x y : ℕ) (o : Ordering) → is_lt (ordering_then (nat_cmp x y) o) ≡ false → (y < x) ⊎ ((y ≡ x) × (is_lt o ≡ false))
+pub then_not_lt : (x y : ℕ) (o : Ordering) → is_lt (ordering_then (nat_cmp x y) o) ≡ false → (y < x) ⊎ ((y ≡ x) × (is_lt o ≡ false))
 then_not_lt x y o h = elim (cases_order x y) [
   | inl e ↦ inr (sym e, subst (λ c. is_lt (ordering_then c o) ≡ false) (cmp_same x y e) h)
   | inr (inl l) ↦ absurd (false≢true (sym (subst (λ c. is_lt (ordering_then c o) ≡ false) (cmp_below x y l) h)))

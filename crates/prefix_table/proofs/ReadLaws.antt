@@ -16,7 +16,7 @@ use Rattle.prefix_table.specs.declared.numbered.NumberedRow.{NumberedRow}
 use Rattle.prefix_table.specs.declared.fault.TableFault.{TableFault}
 use Rattle.prefix_table.specs.declared.fault.TableFault.TheVariants.{Form, Number, HostBits, Repeated, TooMany, TooLarge, Memory}
 use Rattle.prefix_table.proofs.RowsLaws.{numbered_row}
-use Rattle.prefix_table.proofs.OneReading.{first_settled, table_or_fault, table_one, fault_one}
+use Rattle.prefix_table.proofs.OneReading.{first_settled}
 use Rattle.prefix_table.proofs.NumberedLaws.{numbered_rise, numbered_lines, numbered_rows, split_at, among_first, before_split, AllPairs-first}
 use Rattle.prefix_table.proofs.OrderedLaws.{row_cmp, ordered, IsRepeat, repeat_in, repeat_of, repeat_by}
 
@@ -151,7 +151,7 @@ repeated_is text rows n read is least =
       settled = first_settled (split.before ++ split.line ∷ []) split.after (subst (All IsSettled) (split.lines_are ∙ sym (append_assoc split.before (split.line ∷ []) split.after)) read.settled);
     }
 
-has_fault : (before : List Row) (line : List ℕ) (n : ℕ) (fault : TableFault) → HasRowFault [] line n fault → HasRowFault before line n fault
+pub has_fault : (before : List Row) (line : List ℕ) (n : ℕ) (fault : TableFault) → HasRowFault [] line n fault → HasRowFault before line n fault
 has_fault before line n (Form at) h = h
 has_fault before line n (Number at) h = h
 has_fault before line n (HostBits at) h = h
@@ -260,16 +260,3 @@ reading_stops text rows (Repeated n) s = s
 reading_stops text rows TooMany s = absurd (omega (arith, s.has.full))
 reading_stops text rows (TooLarge n) s = s
 reading_stops text rows Memory s = s
-
--- no other answer is right
-pub only_fault : {A : Type 0} (text : List ℕ) (fault : TableFault) (rows : List Row) → IsOwnFault text fault → IsTableText text rows → A
-only_fault text fault rows f t = absurd (table_or_fault text rows fault t f.own f.settled)
-
-pub exact_fault : (text : List ℕ) (fault first : TableFault) → IsOwnFault text fault → IsFault text first → fault ≡ first
-exact_fault text fault first f g = fault_one text fault first f.own g f.settled
-
-pub only_table : (text : List ℕ) (rows others : List Row) → IsOwnTable text rows → IsTableText text others → rows ≡ others
-only_table text rows others t u = table_one text rows others t.settled t.own u
-
-pub exact_table : {A : Type 0} (text : List ℕ) (rows : List Row) (fault : TableFault) → IsOwnTable text rows → IsFault text fault → A
-exact_table text rows fault t f = absurd (table_or_fault text rows fault t.own f (first_settled (f.before ++ f.line ∷ []) f.after (subst (All IsSettled) (f.lines ∙ sym (append_assoc f.before (f.line ∷ []) f.after)) t.settled)))

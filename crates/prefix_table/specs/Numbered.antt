@@ -1,5 +1,5 @@
 -- Rows with the numbers of their lines, which only private contracts cite.
-use Rattle.std.specs.Prelude.{◌≡◌, ◌⊎◌, ℕ, ◌+◌, ◌<◌, ◌≤◌, List, [], ◌∷◌, ◌++◌, All, Option, Some, None, length, slice_index_or}
+use Rattle.std.specs.Prelude.{◌≡◌, ◌⊎◌, ℕ, ◌+◌, ◌<◌, ◌≤◌, List, [], ◌∷◌, ◌++◌, All, Option, Some, None, length, map, slice_index_or}
 use Rattle.prefix_table.specs.Rows.{SamePrefix, Precedes}
 use Rattle.host_io.specs.Lines.{IsPassedOver, lines_of}
 use Rattle.prefix_table.specs.Text.{IsRowEntry, IsRowLine, HasRowFault}
@@ -34,6 +34,10 @@ pub record IsWhole (text : List ℕ) (rows : List NumberedRow) : Type 0 where
   pub lines : AreNumbered 1 (lines_of text) rows
   pub settled : All IsSettled (lines_of text)
   pub few : length rows ≤ MAX_ROWS
+
+-- these are the rows of all lines of the text, without the numbers of the lines
+abbrev pub AreAllRows : List ℕ → List Row → Type 0
+AreAllRows text rows = (numbered : List NumberedRow) × (rows ≡ map row_in numbered) × IsWhole text numbered
 
 -- the lines before one are those of the rows, and this one has the fault by itself
 pub record StopsAt (text : List ℕ) (rows : List NumberedRow) (fault : TableFault) : Type 0 where

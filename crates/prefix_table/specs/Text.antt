@@ -90,6 +90,10 @@ pub record IsTableText (text : List ℕ) (rows : List Row) : Type 0 where
   pub lines : AreLines (lines_of text) said
   pub order : IsPermutation said rows
 
+-- the text is that of no table
+abbrev pub HasNoTable : List ℕ → Type 0
+HasNoTable text = (rows : List Row) → IsTableText text rows → ⊥
+
 -- the line is neither passed over nor of the form of a row
 pub record HasNoForm (line : List ℕ) : Type 0 where
   pub not_passed_over : IsPassedOver line → ⊥

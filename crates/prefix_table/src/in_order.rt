@@ -30,7 +30,7 @@ fn is_row(row: Row) -> bool
 }
 
 /// Returns whether the rows rise strictly by bits and then by length.
-fn rises(rows: &[Row]) -> bool
+pub(crate) fn rises(rows: &[Row]) -> bool
     ensures { IsTrue result ↔ AllPairs Precedes rows.now }
 {
     for i in 1..rows.len() {

@@ -1,8 +1,4 @@
-ghost use Rattle.std.specs.Prelude.{◌≡◌, IfOk, map};
-ghost use Rattle.prefix_table.specs.Numbered.{row_in};
-
 use crate::Row;
-use std::alloc::{AllocError, Global};
 
 /// A row with the number of its line, counted from 1. The order is that of the rows of a table;
 /// rows with the same prefix are in the order of their lines.
@@ -35,28 +31,10 @@ impl NumberedRow {
         }
     }
 
-    /// Returns the row without the number of its line.
-    pub(crate) fn row(&self) -> Row
-        ensures { result ≡ row_in self.now }
-    {
-        Row {
-            bits: self.bits,
-            len: self.len,
-            asn: self.asn,
-        }
-    }
-
     /// Returns whether the two rows have the same prefix.
     pub(crate) fn is_same_prefix(&self, other: &NumberedRow) -> bool
         ensures { IsTrue result ↔ SamePrefix (row_in self.now) (row_in other.now) }
     {
         self.bits == other.bits && self.len == other.len
     }
-}
-
-/// Returns the rows without the numbers of their lines.
-pub(crate) fn rows_in(alloc: Global, rows: &[NumberedRow]) -> Result<Vec<Row>, AllocError>
-    ensures { IfOk result (λ v. v.items ≡ map row_in rows.now) }
-{
-    rows.iter().map(|row| row.row()).collect(alloc)
 }

@@ -1,14 +1,15 @@
-ghost use Rattle.std.specs.Prelude.{◌≡◌, ◌≤◌, ◌⊎◌, List, length, IfOk, IfErr, IsErrAnd, MatchResult};
-ghost use Rattle.prefix_table.specs.Text.{IsTableText, IsFault};
+ghost use Rattle.std.specs.Prelude.{◌≡◌, ◌≤◌, ◌⊎◌, List, length, IfOk, IfErr, IfSome, IfNone, IsErrAnd, MatchResult};
+ghost use Rattle.prefix_table.specs.Text.{IsTableText, IsFault, HasNoTable};
 ghost use Rattle.prefix_table.specs.declared.row.Row.{Row};
 ghost use Rattle.prefix_table.specs.declared.row.TheConstants.{MAX_ASN, MAX_ROWS};
 ghost use Rattle.prefix_table.specs.declared.fault.TableFault.{TableFault};
 ghost use Rattle.prefix_table.specs.declared.fault.TableFault.TheVariants as faults;
 
+use crate::in_order::rises;
 use crate::repeats::first_repeat;
-use crate::rows::read_rows;
+use crate::rows::{plain_rows, read_rows};
 use crate::{Table, TableFault};
-use std::alloc::Global;
+use std::alloc::{AllocError, Global};
 
 /// The most bytes of the text of a table. This limit is our own.
 pub const MAX_TEXT: usize = 134_217_728;
@@ -29,13 +30,42 @@ pub fn read_table(alloc: Global, text: &[u8]) -> Result<Table, TableFault>
     ensures max_rows { MAX_ROWS ≡ 2000000 }
     ensures max_asn { MAX_ASN ≡ 33521664 }
 {
+    match table_in(alloc, text)? {
+        Some(table) => Ok(table),
+        None => Err(first_fault(alloc, text)?),
+    }
+}
+
+/// Returns the table of a text, or `None` if the text is not that of a table.
+fn table_in(alloc: Global, text: &[u8]) -> Result<Option<Table>, AllocError>
+    requires { length text.now ≤ MAX_TEXT }
+    ensures found { IfOk result (λ read. IfSome read (IsTableText text.now)) }
+    ensures none { IfOk result (λ read. IfNone read (HasNoTable text.now)) }
+{
+    let Some(mut rows) = plain_rows(alloc, text)? else {
+        return Ok(None);
+    };
+    rows.sort_unstable();
+    if !rises(rows.as_slice()) {
+        return Ok(None);
+    }
+    Ok(Some(Table::of(rows)))
+}
+
+/// Returns the fault of the first line of the text that has one. It reads the text anew: the rows
+/// of a table need no numbers of their lines, and a text with a fault does.
+fn first_fault(alloc: Global, text: &[u8]) -> Result<TableFault, AllocError>
+    requires size { length text.now ≤ MAX_TEXT }
+    requires fault { HasNoTable text.now }
+    ensures { IfOk result (IsFault text.now) }
+{
     let mut reading = read_rows(alloc, text)?;
     reading.rows.sort_unstable();
     if let Some(line) = first_repeat(reading.rows.as_slice()) {
-        return Err(TableFault::Repeated { line });
+        return Ok(TableFault::Repeated { line });
     }
-    if let Some(fault) = reading.fault {
-        return Err(fault);
+    match reading.fault {
+        Some(fault) => Ok(fault),
+        None => unreachable!(),
     }
-    Ok(Table::of(alloc, reading.rows.as_slice())?)
 }

@@ -6,8 +6,8 @@ pub const MAX_ASN: u32 = 33_521_664;
 pub const MAX_ROWS: usize = 2_000_000;
 
 /// The addresses that begin with a prefix belong to an AS. An IPv4 prefix is one of mapped
-/// addresses, `::ffff:0:0/96`.
-#[derive(Clone, Copy, Debug, PartialEq, Eq)]
+/// addresses, `::ffff:0:0/96`. The order is that of the rows of a table.
+#[derive(Clone, Copy, Debug, PartialEq, Eq, PartialOrd, Ord)]
 pub struct Row {
     /// The bits of the prefix as the high bits of an address; the others are zero.
     pub bits: u128,

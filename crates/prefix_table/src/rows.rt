@@ -1,11 +1,12 @@
-ghost use Rattle.std.specs.Prelude.{◌≡◌, ◌<◌, ◌≤◌, true, false, length, IfOk};
-ghost use Rattle.prefix_table.specs.Numbered.{IsReading};
+ghost use Rattle.std.specs.Prelude.{◌≡◌, ◌<◌, ◌≤◌, true, false, length, IfOk, IfSome, IfNone};
+ghost use Rattle.prefix_table.specs.Numbered.{IsReading, AreAllRows};
+ghost use Rattle.prefix_table.specs.Text.{HasNoTable};
 ghost use Rattle.prefix_table.specs.declared.read.TheConstants.{MAX_TEXT};
 ghost use Rattle.prefix_table.specs.declared.row.TheConstants.{MAX_ROWS};
 
 use crate::line::read_line;
 use crate::numbered::NumberedRow;
-use crate::{MAX_ROWS, TableFault};
+use crate::{MAX_ROWS, Row, TableFault};
 use host_io::split_line;
 use std::alloc::{AllocError, Global};
 
@@ -19,7 +20,35 @@ pub(crate) struct Reading {
     pub fault: Option<TableFault>,
 }
 
-/// Reads the lines one after another.
+/// Returns the rows of a text in the order of its lines, or `None` if a line has a fault of its own
+/// or there are more rows than a table has. Prefixes may repeat.
+pub(crate) fn plain_rows(alloc: Global, text: &[u8]) -> Result<Option<Vec<Row>>, AllocError>
+    requires { length text.now ≤ MAX_TEXT }
+    ensures found { IfOk result (λ read. IfSome read (λ rows. AreAllRows text.now rows.items)) }
+    ensures none { IfOk result (λ read. IfNone read (HasNoTable text.now)) }
+{
+    let mut rows = Vec::new(alloc);
+    let mut rest = text;
+    let mut line = 0;
+    while !rest.is_empty() {
+        let (first, after) = split_line(rest);
+        rest = after;
+        line += 1;
+        match read_line(first, line) {
+            Ok(None) => {}
+            Ok(Some(row)) => {
+                rows.push(row)?;
+                if is_too_many(rows.len()) {
+                    return Ok(None);
+                }
+            }
+            Err(_) => return Ok(None),
+        }
+    }
+    Ok(Some(rows))
+}
+
+/// Reads the lines one after another, and numbers the rows.
 pub(crate) fn read_rows(alloc: Global, text: &[u8]) -> Result<Reading, AllocError>
     requires { length text.now ≤ MAX_TEXT }
     ensures { IfOk result (IsReading text.now) }

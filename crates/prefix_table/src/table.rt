@@ -1,13 +1,11 @@
-ghost use Rattle.std.specs.Prelude.{◌≡◌, map, IfOk, IfSome, IfNone, OnSome, Contains, true};
-ghost use Rattle.prefix_table.specs.Numbered.{row_in};
+ghost use Rattle.std.specs.Prelude.{◌≡◌, IfOk, IfSome, IfNone, OnSome, Contains, true};
 ghost use Rattle.prefix_table.specs.Rows.{IsTable, IsLongest, best, row_covers};
 ghost use Rattle.prefix_table.specs.declared.row.Row.{Row};
 
 use crate::in_order::is_table;
-use crate::numbered::{NumberedRow, rows_in};
 use crate::search::longest_match;
 use crate::{Memory, Row};
-use std::alloc::{AllocError, Global};
+use std::alloc::Global;
 use std::marker::Model;
 
 /// Rows with distinct prefixes, rising by bits and then by length.
@@ -30,13 +28,11 @@ impl Model for Table {
 
 impl Table {
     /// Makes a table of these rows, which rise and have distinct prefixes.
-    pub(crate) fn of(alloc: Global, rows: &[NumberedRow]) -> Result<Table, AllocError>
-        requires { IsTable (map row_in rows.now) }
-        ensures { IfOk result (λ table. table ≡ map row_in rows.now) }
+    pub(crate) fn of(rows: Vec<Row>) -> Table
+        requires { IsTable rows.items }
+        ensures { result ≡ rows.items }
     {
-        Ok(Table {
-            rows: rows_in(alloc, rows)?,
-        })
+        Table { rows }
     }
 
     /// Makes a table of these rows, or returns `None` if they are not those of a table: they must
@@ -61,6 +57,14 @@ impl Table {
         ensures table { IsTable self.now }
     {
         self.rows.as_slice()
+    }
+
+    /// Returns the rows as a list of their own, in the same order. Takes no memory.
+    pub fn into_rows(self) -> Vec<Row>
+        ensures value { result.items ≡ self }
+        ensures table { IsTable self }
+    {
+        self.rows
     }
 
     /// Returns the AS number of the most specific row that covers `address`, or 0 if none does
