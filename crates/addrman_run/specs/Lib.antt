@@ -28,5 +28,6 @@ pub mod Opening
 pub mod Trial
 pub mod Outcome
 pub mod Complete
+pub mod FaultTexts
 pub mod Report
 pub mod Inside

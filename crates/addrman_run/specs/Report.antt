@@ -1,18 +1,10 @@
 -- The exit code of a run, and its line on standard error.
 use Rattle.std.specs.Prelude.{ℕ, List, [], ◌++◌, codes, decimal}
 use Rattle.host_io.specs.Name.{file_name_of}
-use Rattle.asmap_vm.specs.declared.fault.CodeFault.{CodeFault}
-use Rattle.asmap_vm.specs.declared.fault.CodeFault.TheVariants as code
-use Rattle.peers_file.specs.declared.fault.FileFault.{FileFault}
-use Rattle.peers_file.specs.declared.fault.FileFault.TheVariants as file
-use Rattle.asmap_compile.specs.FaultTexts.{compile_fault_text}
 use Rattle.ban_list.specs.FaultTexts.{ban_fault_text}
 use Rattle.grammar.specs.FaultTexts.{line_fault_text}
-use Rattle.prefix_table.specs.FaultTexts.{table_fault_text}
-use Rattle.addrman_run.specs.declared.peers_fault.PeersFault.{PeersFault}
-use Rattle.addrman_run.specs.declared.peers_fault.PeersFault.TheVariants.{File, Duplicate}
-use Rattle.addrman_run.specs.declared.tables_fault.TablesFault.{TablesFault}
-use Rattle.addrman_run.specs.declared.tables_fault.TablesFault.TheVariants.{Rows, Compile}
+use Rattle.asmap_vm.specs.FaultTexts.{code_fault_text}
+use Rattle.addrman_run.specs.FaultTexts.{peers_fault_text, tables_fault_text}
 use Rattle.addrman_run.specs.declared.status.Status.{Status}
 use Rattle.addrman_run.specs.declared.status.Status.TheVariants.{PeersRefused}
 use Rattle.addrman_run.specs.declared.status.Status.TheVariants.{Done, Usage, LogLine, AsmapRefused, TableRefused, ReadFault, WriteFault, DiskFault, LogTooLong, NoKey, Memory, LineTooLong, NoFile}
@@ -39,33 +31,6 @@ code_of (BansRefused fault) = 16
 code_of TooManyRows = 17
 code_of (OldAsmapRefused fault) = 18
 code_of TooManyChanges = 19
-
-abbrev pub file_fault_text : FileFault → List ℕ
-file_fault_text file.Truncated = codes "truncated"
-file_fault_text file.BadMagic = codes "bad-magic"
-file_fault_text file.BadSum = codes "bad-sum"
-file_fault_text (file.Compat byte) = codes "compat"
-file_fault_text (file.Version byte) = codes "version"
-file_fault_text (file.Count which value) = codes "count"
-file_fault_text (file.Record index cause) = codes "record"
-file_fault_text (file.Buckets value) = codes "buckets"
-file_fault_text (file.Time index) = codes "time"
-file_fault_text (file.Attempts index) = codes "attempts"
-file_fault_text file.Trailing = codes "trailing"
-file_fault_text (file.TooLarge size) = codes "too-large"
-file_fault_text file.Memory = codes "out of memory"
-
-abbrev pub peers_fault_text : PeersFault → List ℕ
-peers_fault_text (File fault) = file_fault_text fault
-peers_fault_text (Duplicate index) = codes "duplicate"
-
-abbrev pub code_fault_text : CodeFault → List ℕ
-code_fault_text (code.TooLarge size) = codes "too-large"
-code_fault_text code.Insane = codes "insane"
-
-abbrev pub tables_fault_text : TablesFault → List ℕ
-tables_fault_text (Rows fault) = table_fault_text fault
-tables_fault_text (Compile fault) = compile_fault_text fault
 
 -- the reason, between the program's name and the line feed
 abbrev pub reason_of : Status → List ℕ

@@ -1,3 +1,6 @@
+ghost use Rattle.std.specs.Prelude.{◌≡◌};
+ghost use Rattle.addrman_run.specs.FaultTexts.{peers_fault_text};
+
 use peers_file::FileFault;
 
 /// Why peers.dat is refused.
@@ -12,4 +15,16 @@ pub enum PeersFault {
         /// the new ones first.
         index: u32,
     },
+}
+
+impl PeersFault {
+    /// Returns the word for the fault, as it is printed.
+    pub fn word(&self) -> &'static [u8]
+        ensures { result.now ≡ peers_fault_text self.now }
+    {
+        match self {
+            PeersFault::File(fault) => fault.word(),
+            PeersFault::Duplicate { .. } => b"duplicate",
+        }
+    }
 }

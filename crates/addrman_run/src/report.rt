@@ -1,12 +1,11 @@
 ghost use Rattle.std.specs.Prelude.{◌≡◌, ◌++◌, codes, decimal, IfOk, OnOk, OnErr};
 ghost use Rattle.grammar.specs.FaultTexts.{line_fault_text};
-ghost use Rattle.addrman_run.specs.Report.{code_of, file_fault_text, peers_fault_text, code_fault_text, tables_fault_text, reason_of, line_of, status_text};
+ghost use Rattle.addrman_run.specs.FaultTexts.{tables_fault_text};
+ghost use Rattle.addrman_run.specs.Report.{code_of, reason_of, line_of, status_text};
 
-use crate::{Memory, PeersFault, Status, TablesFault};
-use asmap_vm::CodeFault;
+use crate::{Memory, Status, TablesFault};
 use log_lines::LineFault;
 use net_addr::{put_number, put_text};
-use peers_file::FileFault;
 use std::alloc::Global;
 
 /// Returns the exit code of the program for `status`.
@@ -32,57 +31,6 @@ pub fn code(status: &Status) -> u8
         Status::TooManyRows => 17,
         Status::OldAsmapRefused(_) => 18,
         Status::TooManyChanges => 19,
-    }
-}
-
-/// Returns the word for a fault of peers.dat.
-fn file_fault_word(fault: &FileFault) -> &'static [u8]
-    ensures { result.now ≡ file_fault_text fault.now }
-{
-    match fault {
-        FileFault::Truncated => b"truncated",
-        FileFault::BadMagic => b"bad-magic",
-        FileFault::BadSum => b"bad-sum",
-        FileFault::Compat { .. } => b"compat",
-        FileFault::Version { .. } => b"version",
-        FileFault::Count { .. } => b"count",
-        FileFault::Record { .. } => b"record",
-        FileFault::Buckets { .. } => b"buckets",
-        FileFault::Time { .. } => b"time",
-        FileFault::Attempts { .. } => b"attempts",
-        FileFault::Trailing => b"trailing",
-        FileFault::TooLarge { .. } => b"too-large",
-        FileFault::Memory => b"out of memory",
-    }
-}
-
-/// Returns the word for why peers.dat is refused.
-fn peers_fault_word(fault: &PeersFault) -> &'static [u8]
-    ensures { result.now ≡ peers_fault_text fault.now }
-{
-    match fault {
-        PeersFault::File(fault) => file_fault_word(fault),
-        PeersFault::Duplicate { .. } => b"duplicate",
-    }
-}
-
-/// Returns the word for a fault of an asmap.
-fn code_fault_word(fault: &CodeFault) -> &'static [u8]
-    ensures { result.now ≡ code_fault_text fault.now }
-{
-    match fault {
-        CodeFault::TooLarge { .. } => b"too-large",
-        CodeFault::Insane => b"insane",
-    }
-}
-
-/// Returns the text for why prefixes.txt is refused.
-fn tables_fault(alloc: Global, fault: &TablesFault) -> Result<Vec<u8>, Memory>
-    ensures { IfOk result (λ text. text.items ≡ tables_fault_text fault.now) }
-{
-    match fault {
-        TablesFault::Rows(fault) => fault.text(alloc),
-        TablesFault::Compile(fault) => owned(alloc, fault.word()),
     }
 }
 
@@ -130,7 +78,7 @@ fn table_refused(alloc: Global, fault: &TablesFault) -> Result<Vec<u8>, Memory>
     ensures { IfOk result (λ text. text.items
         ≡ codes "prefixes.txt refused: " ++ tables_fault_text fault.now) }
 {
-    let fault = tables_fault(alloc, fault)?;
+    let fault = fault.text(alloc)?;
     joined(alloc, b"prefixes.txt refused: ", fault.as_slice())
 }
 
@@ -142,14 +90,8 @@ fn reason(alloc: Global, status: &Status) -> Result<Vec<u8>, Memory>
         Status::Done => Ok(Vec::new(alloc)),
         Status::Usage => owned(alloc, b"bad usage"),
         Status::LogLine { line, fault } => log_line(alloc, *line, fault),
-        Status::PeersRefused(fault) => {
-            joined(alloc, b"peers.dat refused: ", peers_fault_word(fault))
-        }
-        Status::AsmapRefused(fault) => joined(
-            alloc,
-            b"asmap.dat refused: ",
-            code_fault_word(fault),
-        ),
+        Status::PeersRefused(fault) => { joined(alloc, b"peers.dat refused: ", fault.word()) }
+        Status::AsmapRefused(fault) => joined(alloc, b"asmap.dat refused: ", fault.word()),
         Status::TableRefused(fault) => table_refused(alloc, fault),
         Status::ReadFault => owned(alloc, b"log cannot be read"),
         Status::WriteFault => owned(alloc, b"output cannot be written"),
@@ -161,11 +103,7 @@ fn reason(alloc: Global, status: &Status) -> Result<Vec<u8>, Memory>
         Status::NoFile { name } => joined(alloc, name.file_name().as_bytes(), b" is missing"),
         Status::BansRefused(fault) => joined(alloc, b"banlist.json refused: ", fault.word()),
         Status::TooManyRows => owned(alloc, b"asmap.dat has more than 2000000 rows"),
-        Status::OldAsmapRefused(fault) => joined(
-            alloc,
-            b"asmap.old refused: ",
-            code_fault_word(fault),
-        ),
+        Status::OldAsmapRefused(fault) => joined(alloc, b"asmap.old refused: ", fault.word()),
         Status::TooManyChanges => owned(
             alloc,
             b"asmap.old and asmap.dat differ in more than 2000000 prefixes",

@@ -1,4 +1,5 @@
 pub mod Code
+pub mod FaultTexts
 pub mod Instructions
 pub mod Matches
 pub mod Scanning

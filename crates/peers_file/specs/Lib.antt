@@ -1,4 +1,5 @@
 pub mod Faults
+pub mod FaultTexts
 pub mod Layout
 pub mod Readings
 pub mod Texts

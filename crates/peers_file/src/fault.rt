@@ -1,4 +1,5 @@
 ghost use Rattle.std.specs.Prelude.{◌≡◌};
+ghost use Rattle.peers_file.specs.FaultTexts.{file_fault_text};
 ghost use Rattle.peers_file.specs.Faults.{of_field, of_number, of_address};
 ghost use Rattle.peers_file.specs.declared.fault.FileFault.TheVariants.{Memory};
 
@@ -89,6 +90,27 @@ pub enum FileFault {
 }
 
 impl FileFault {
+    /// Returns the word for the fault, as it is printed.
+    pub fn word(&self) -> &'static [u8]
+        ensures { result.now ≡ file_fault_text self.now }
+    {
+        match self {
+            FileFault::Truncated => b"truncated",
+            FileFault::BadMagic => b"bad-magic",
+            FileFault::BadSum => b"bad-sum",
+            FileFault::Compat { .. } => b"compat",
+            FileFault::Version { .. } => b"version",
+            FileFault::Count { .. } => b"count",
+            FileFault::Record { .. } => b"record",
+            FileFault::Buckets { .. } => b"buckets",
+            FileFault::Time { .. } => b"time",
+            FileFault::Attempts { .. } => b"attempts",
+            FileFault::Trailing => b"trailing",
+            FileFault::TooLarge { .. } => b"too-large",
+            FileFault::Memory => b"out of memory",
+        }
+    }
+
     /// Returns the fault of a file whose CompactSize has this fault, in the record of an index.
     pub(crate) fn of_number(index: u32, fault: WireFault) -> FileFault
         ensures { result ≡ of_number index fault }
