@@ -13,5 +13,6 @@ pub mod StopLaws
 pub mod ChildLaws
 pub mod TreeSteps
 pub mod AroundLaws
+pub mod KeptLaws
 pub mod CodeLaws
 pub mod BetweenLaws

@@ -50,21 +50,25 @@ fn last_asn(rows: &[Row]) -> u32
     }
 }
 
-/// Returns the rows that stay in the asmap, in one pass. Of the rows before the next one, `around`
-/// has those that may be a prefix of it or of a later one, the longest last.
-pub(crate) fn kept_of(alloc: Global, rows: &[Row]) -> Result<Vec<Row>, AllocError>
-    requires { IsTable rows.now }
-    ensures { IfOk result (λ kept. kept.items ≡ rows_kept rows.now) }
+/// Returns the rows that stay in the asmap, in one pass and in the same memory. Of the rows before
+/// the next one, `around` has those that may be a prefix of it or of a later one, the longest last.
+pub(crate) fn kept_of(alloc: Global, rows: Vec<Row>) -> Result<Vec<Row>, AllocError>
+    requires { IsTable rows.items }
+    ensures { IfOk result (λ kept. kept.items ≡ rows_kept rows.items) }
 {
-    let mut kept = Vec::new(alloc);
+    let mut kept = rows;
+    let mut count = 0;
     let mut around: Vec<Row> = Vec::new(alloc);
-    for row in rows {
-        let count = count_around(around.as_slice(), row.bits);
-        around.truncate(count);
+    for i in 0..kept.len() {
+        let row = kept[i];
+        let left = count_around(around.as_slice(), row.bits);
+        around.truncate(left);
         if last_asn(around.as_slice()) != row.asn {
-            kept.push(*row)?;
+            kept[count] = row;
+            count += 1;
         }
-        around.push(*row)?;
+        around.push(row)?;
     }
+    kept.truncate(count);
     Ok(kept)
 }

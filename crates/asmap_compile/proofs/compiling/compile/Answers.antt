@@ -9,8 +9,8 @@ use Rattle.asmap_compile.proofs.Whole.{whole_part, compiled_is, compiled_sane, c
 use Rattle.asmap_compile.proofs.compiling.compile.Goals as goal
 use Rattle.asmap_compile.proofs.compiling.compile.Goals.{In_ok-put_tree}
 
-some_rows : (table rows : List Row) → rows ≡ table → false ≡ (length rows == 0) → 0 < length table
-some_rows table rows same test = omega (arith, ap length same, eqb-false (length rows) 0 (sym test))
+some_rows : (table rows : List Row) (len : ℕ) → len ≡ length rows → rows ≡ table → false ≡ (len == 0) → 0 < length table
+some_rows table rows len long same test = omega (arith, long, ap length same, eqb-false len 0 (sym test))
 
 -- what is written for all rows that stay is the code of the compiled tree
 written : (table kept : List Row) (out before : List Bool) → IsTable table → 0 < length table → kept ≡ rows_kept table →
@@ -21,25 +21,25 @@ written table kept out before is some same put none =
 
 pub put_tree-requires : goal.put_tree-requires
 put_tree-requires c =
-    let table = c.args.table.now in
-    let rows = c.rows-rows.ensures.value in
-    let some = some_rows table c.rows-rows.result.now rows c.if-is_empty.ensures in
-    (table, ([], (128, whole_part table c.as_slice.result.now c.rows-rows.ensures.table some (c.as_slice.ensures.value ∙ c.in_ok-kept.ensures ∙ ap rows_kept rows))))
+    let table = c.args.table in
+    let rows = c.into_rows-rows.ensures.value in
+    let some = some_rows table c.into_rows-rows.result.items c.into_rows-rows.result.len c.into_rows-rows.result.ok.0 rows c.if-is_empty.ensures in
+    (table, ([], (128, whole_part table c.as_slice.result.now c.into_rows-rows.ensures.table some (c.as_slice.ensures.value ∙ c.in_ok-kept.ensures ∙ ap rows_kept rows))))
 
 -- the bits that are written are the code of the compiled tree
-bits : (c : In_ok-put_tree) → c.put_tree.new.out ≡ code (compiled c.args.table.now)
+bits : (c : In_ok-put_tree) → c.put_tree.new.out ≡ code (compiled c.args.table)
 bits c =
-    let table = c.args.table.now in
-    let rows = c.rows-rows.ensures.value in
-    let some = some_rows table c.rows-rows.result.now rows c.if-is_empty.ensures in
+    let table = c.args.table in
+    let rows = c.into_rows-rows.ensures.value in
+    let some = some_rows table c.into_rows-rows.result.items c.into_rows-rows.result.len c.into_rows-rows.result.ok.0 rows c.if-is_empty.ensures in
     let kept = c.as_slice.ensures.value ∙ c.in_ok-kept.ensures ∙ ap rows_kept rows in
-    written table c.as_slice.result.now c.put_tree.new.out c.make-out.result c.rows-rows.ensures.table some kept c.in_ok-put_tree.ensures c.make-out.ensures
+    written table c.as_slice.result.now c.put_tree.new.out c.make-out.result c.into_rows-rows.ensures.table some kept c.in_ok-put_tree.ensures c.make-out.ensures
 
 pub returns-clause-sane : goal.returns-clause-sane
 returns-clause-sane c =
-    let table = c.args.table.now in
+    let table = c.args.table in
     record {
-      sane = compiled_sane table c.rows-rows.ensures.table (some_rows table c.rows-rows.result.now c.rows-rows.ensures.value c.if-is_empty.ensures);
+      sane = compiled_sane table c.into_rows-rows.ensures.table (some_rows table c.into_rows-rows.result.items c.into_rows-rows.result.len c.into_rows-rows.result.ok.0 c.into_rows-rows.ensures.value c.if-is_empty.ensures);
       file = file_from (compiled table) c.put_tree.new.out c.into_bytes.result.items (bits (goal.at.returns-clause-sane c).In_ok-put_tree) c.into_bytes.ensures;
     }
 
@@ -47,17 +47,17 @@ pub returns-clause-bits : goal.returns-clause-bits
 returns-clause-bits c = c.len-bits.ensures ∙ ap length (bits (goal.at.returns-clause-bits c).In_ok-put_tree)
 
 pub returns-clause-meaning : goal.returns-clause-meaning
-returns-clause-meaning c = λ address long. compiled_best c.args.table.now address c.rows-rows.ensures.table long
+returns-clause-meaning c = λ address long. compiled_best c.args.table address c.into_rows-rows.ensures.table long
 
 pub returns-clause-asn : goal.returns-clause-asn
-returns-clause-asn c = λ address small. compiled_asn c.args.table.now address c.rows-rows.ensures.table small
+returns-clause-asn c = λ address small. compiled_asn c.args.table address c.into_rows-rows.ensures.table small
 
 pub returns-then-bits-gt-MAX_BITS-clause-too_large : goal.returns-then-bits-gt-MAX_BITS-clause-too_large
 returns-then-bits-gt-MAX_BITS-clause-too_large c = λ most e.
-    let table = c.args.table.now in
-    let rows = c.rows-rows.ensures.value in
-    let some = some_rows table c.rows-rows.result.now rows c.if-is_empty.ensures in
+    let table = c.args.table in
+    let rows = c.into_rows-rows.ensures.value in
+    let some = some_rows table c.into_rows-rows.result.items c.into_rows-rows.result.len c.into_rows-rows.result.ok.0 rows c.if-is_empty.ensures in
     let kept = c.as_slice.ensures.value ∙ c.in_ok-kept.ensures ∙ ap rows_kept rows in
-    let bits = written table c.as_slice.result.now c.put_tree.new.out c.make-out.result c.rows-rows.ensures.table some kept c.in_ok-put_tree.ensures c.make-out.ensures in
+    let bits = written table c.as_slice.result.now c.put_tree.new.out c.make-out.result c.into_rows-rows.ensures.table some kept c.in_ok-put_tree.ensures c.make-out.ensures in
     let same : c.len-bits.result ≡ most = cc in
     (subst (λ (n : ℕ). 67108864 < n) same c.if-bits-gt-MAX_BITS.true, sym same ∙ c.len-bits.ensures ∙ ap length bits)
