@@ -38,7 +38,7 @@ fn compiled(alloc: Global, text: &[u8]) -> Result<Compiled, NoAsmap>
         Err(TableFault::Memory) => return Err(NoAsmap::Memory),
         Err(fault) => return Err(NoAsmap::Table(fault)),
     };
-    match compile(alloc, &table) {
+    match compile(alloc, table) {
         Ok(file) => Ok(file),
         Err(CompileFault::Empty) => Err(NoAsmap::Empty),
         Err(CompileFault::TooLarge { bits }) => Err(NoAsmap::LongCode { bits }),
