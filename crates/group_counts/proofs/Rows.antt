@@ -1,22 +1,16 @@
 -- Texts of rising numbers, one after another.
-use Rattle.std.proofs.Common.{◌≡◌, ℕ, zero, suc, ◌+◌, List, [], ◌∷◌, ◌++◌, sym, ap, ◌∙◌, arith, append_assoc}
+use Rattle.std.proofs.Common.{◌≡◌, ℕ, ◌+◌, List, [], ◌∷◌, ◌++◌, sym, ap, ◌∙◌, arith, append_assoc}
 use Rattle.std.specs.List.{flat_map, range_with_len}
-use Rattle.std.proofs.lemmas.List.{append-nil}
+use Rattle.std.proofs.lemmas.List.{append-nil, map-id}
 use Rattle.std.proofs.lemmas.List.Concat.{flat_map-append}
-
-range-more : (a n : ℕ) → range_with_len a (suc n) ≡ range_with_len a n ++ (a + n) ∷ []
-range-more a zero = ap (λ (k : ℕ). k ∷ []) (omega arith)
-range-more a (suc n) =
-    ap (λ (l : List ℕ). a ∷ l) (range-more (a + 1) n) ∙ ap (λ (k : ℕ). a ∷ (range_with_len (a + 1) n ++ k ∷ [])) (omega arith)
+use Rattle.std.proofs.lemmas.List.FromFn.{map-range_with_len_more}
 
 -- one more
 pub one_more : (text : ℕ → List ℕ) (head : List ℕ) (i : ℕ) (old new : List ℕ) → old ≡ head ++ flat_map text (range_with_len 0 i) → new ≡ old ++ text i
     → new ≡ head ++ flat_map text (range_with_len 0 (i + 1))
 one_more text head i old new so_far more =
-    let next : i + 1 ≡ suc i = omega arith in
-    let own : 0 + i ≡ i = omega arith in
     let listed : range_with_len 0 (i + 1) ≡ range_with_len 0 i ++ i ∷ [] =
-    ap (range_with_len 0) next ∙ range-more 0 i ∙ ap (λ (k : ℕ). range_with_len 0 i ++ k ∷ []) own in
+    sym (map-id (range_with_len 0 (i + 1))) ∙ map-range_with_len_more (λ (k : ℕ). k) 0 i i (omega arith) ∙ ap (λ (l : List ℕ). l ++ i ∷ []) (map-id (range_with_len 0 i)) in
     let texts : flat_map text (range_with_len 0 (i + 1)) ≡ flat_map text (range_with_len 0 i) ++ text i =
     ap (flat_map text) listed ∙ flat_map-append text (range_with_len 0 i) (i ∷ []) ∙ ap (λ (t : List ℕ). flat_map text (range_with_len 0 i) ++ t) (append-nil (text i)) in
     more ∙ ap (λ (t : List ℕ). t ++ text i) so_far ∙ append_assoc head (flat_map text (range_with_len 0 i)) (text i) ∙ ap (λ (t : List ℕ). head ++ t) (sym texts)

@@ -1,31 +1,8 @@
--- Texts of rising numbers, one after another.
-use Rattle.std.proofs.Common.{◌≡◌, ℕ, zero, suc, ◌+◌, List, [], ◌∷◌, ◌++◌, sym, ap, ◌∙◌, arith, append_assoc}
-use Rattle.std.specs.List.{flat_map, range_with_len}
-use Rattle.std.proofs.lemmas.List.{append-nil}
-use Rattle.std.proofs.lemmas.List.Concat.{flat_map-append}
+-- Texts one after another.
+use Rattle.std.proofs.Common.{◌≡◌, ℕ, List, ◌++◌, ap, ◌∙◌, append_assoc}
+pub use Rattle.group_counts.proofs.Rows.{one_more, all_of}
 
-range-more : (a n : ℕ) → range_with_len a (suc n) ≡ range_with_len a n ++ (a + n) ∷ []
-range-more a zero = ap (λ (k : ℕ). k ∷ []) (omega arith)
-range-more a (suc n) =
-    ap (λ (l : List ℕ). a ∷ l) (range-more (a + 1) n) ∙ ap (λ (k : ℕ). a ∷ (range_with_len (a + 1) n ++ k ∷ [])) (omega arith)
-
--- one more
-pub one_more : (text : ℕ → List ℕ) (head : List ℕ) (i : ℕ) (old new : List ℕ) → old ≡ head ++ flat_map text (range_with_len 0 i) → new ≡ old ++ text i
-    → new ≡ head ++ flat_map text (range_with_len 0 (i + 1))
-one_more text head i old new so_far more =
-    let next : i + 1 ≡ suc i = omega arith in
-    let own : 0 + i ≡ i = omega arith in
-    let listed : range_with_len 0 (i + 1) ≡ range_with_len 0 i ++ i ∷ [] =
-    ap (range_with_len 0) next ∙ range-more 0 i ∙ ap (λ (k : ℕ). range_with_len 0 i ++ k ∷ []) own in
-    let texts : flat_map text (range_with_len 0 (i + 1)) ≡ flat_map text (range_with_len 0 i) ++ text i =
-    ap (flat_map text) listed ∙ flat_map-append text (range_with_len 0 i) (i ∷ []) ∙ ap (λ (t : List ℕ). flat_map text (range_with_len 0 i) ++ t) (append-nil (text i)) in
-    more ∙ ap (λ (t : List ℕ). t ++ text i) so_far ∙ append_assoc head (flat_map text (range_with_len 0 i)) (text i) ∙ ap (λ (t : List ℕ). head ++ t) (sym texts)
-
--- all
-pub all_of : (text : ℕ → List ℕ) (head : List ℕ) (i n : ℕ) (new : List ℕ) → i ≡ n → new ≡ head ++ flat_map text (range_with_len 0 i) → new ≡ head ++ flat_map text (range_with_len 0 n)
-all_of text head i n new e is = is ∙ ap (λ (k : ℕ). head ++ flat_map text (range_with_len 0 k)) e
-
--- three texts, one after another
+-- three texts
 pub three_parts : (old a b c first second third : List ℕ) → first ≡ old ++ a → second ≡ first ++ b → third ≡ second ++ c → third ≡ old ++ (a ++ (b ++ c))
 three_parts old a b c first second third p q r =
     r ∙ ap (λ (t : List ℕ). t ++ c) (q ∙ ap (λ (t : List ℕ). t ++ b) p) ∙ append_assoc (old ++ a) b c ∙ append_assoc old a (b ++ c)

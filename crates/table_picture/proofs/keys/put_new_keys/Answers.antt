@@ -1,6 +1,6 @@
 use Rattle.std.proofs.Common.{arith}
+use Rattle.picture_text.proofs.Rows.{one_more, all_of}
 use Rattle.table_picture.specs.Keys.{bucket_keys, new_keys}
-use Rattle.table_picture.proofs.Rows.{one_more, all_of}
 use Rattle.table_picture.proofs.keys.put_new_keys.Goals as goal
 
 pub loop-bucket-preserved : goal.loop-bucket-preserved
