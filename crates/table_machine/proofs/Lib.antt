@@ -16,6 +16,7 @@ pub mod Waiting
 pub mod Reached
 pub mod Marks
 pub mod Exchanged
+pub mod EachRec
 pub mod Kept
 pub mod Unchanged
 pub mod Folds
