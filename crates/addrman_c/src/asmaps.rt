@@ -5,7 +5,7 @@ use crate::code::{MEMORY, OK, REFUSED, SHORT_BUFFER};
 use crate::output::put_all;
 use crate::structs::AddrmanFault;
 use asmap_back::{BackFault, decompile};
-use asmap_compile::{CompileFault, Compiled, compile};
+use asmap_compile::{CompileFault, Compiled, compile_in_place};
 use prefix_table::{MAX_TEXT, TableFault, put_table, read_table};
 use std::alloc::Global;
 
@@ -38,7 +38,7 @@ fn compiled(alloc: Global, text: &[u8]) -> Result<Compiled, NoAsmap>
         Err(TableFault::Memory) => return Err(NoAsmap::Memory),
         Err(fault) => return Err(NoAsmap::Table(fault)),
     };
-    match compile(alloc, table) {
+    match compile_in_place(alloc, table) {
         Ok(file) => Ok(file),
         Err(CompileFault::Empty) => Err(NoAsmap::Empty),
         Err(CompileFault::TooLarge { bits }) => Err(NoAsmap::LongCode { bits }),

@@ -17,8 +17,31 @@ use std::alloc::Global;
 pub const MAX_BITS: u64 = 8 * MAX_ASMAP as u64;
 
 /// Compiles a table into an asmap file, which gives each address the AS number of its longest
-/// match. Returns the file and the number of bits of its code. No copy of the rows is made.
-pub fn compile(alloc: Global, table: Table) -> Result<Compiled, CompileFault>
+/// match. Returns the file and the number of bits of its code.
+pub fn compile(alloc: Global, table: &Table) -> Result<Compiled, CompileFault>
+    // The file is that of the compiled tree, which is sane.
+    ensures sane { IfOk result (λ file. IsSaneFile (compiled table.now) file.bytes) }
+    ensures bits { IfOk result (λ file. file.bits ≡ length (code (compiled table.now))) }
+    ensures small { IfOk result (λ file. file.bits ≤ MAX_BITS) }
+
+    // The tree gives every address the number of its longest row.
+    ensures meaning { IfOk result (λ _. (address : List Bool) → length address ≡ 128
+        → meaning (compiled table.now) address 0 ≡ best table.now (number_of address)) }
+    ensures asn { IfOk result (λ _. (address : ℕ) → address < 2 ^ 128
+        → asn_of (compiled table.now) address ≡ best table.now address) }
+    ensures empty { (result ≡ Err CompileFault.Empty) ↔ (length table.now ≡ 0) }
+    ensures too_large { (bits : ℕ) → result ≡ Err (CompileFault.TooLarge bits)
+        → (MAX_BITS < bits) × (bits ≡ length (code (compiled table.now))) }
+    ensures limit { MAX_BITS ≡ 8 * MAX_ASMAP }
+{
+    if table.rows().is_empty() {
+        return Err(CompileFault::Empty);
+    }
+    compile_in_place(alloc, table.copy(alloc)?)
+}
+
+/// Does what `compile` does with a table that it is given, of whose rows it makes no copy.
+pub fn compile_in_place(alloc: Global, table: Table) -> Result<Compiled, CompileFault>
     // The file is that of the compiled tree, which is sane.
     ensures sane { IfOk result (λ file. IsSaneFile (compiled table) file.bytes) }
     ensures bits { IfOk result (λ file. file.bits ≡ length (code (compiled table))) }

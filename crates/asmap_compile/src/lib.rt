@@ -19,5 +19,5 @@ mod part;
 mod tree;
 
 pub use compiled_code::Compiled;
-pub use compiling::{MAX_BITS, compile};
+pub use compiling::{MAX_BITS, compile, compile_in_place};
 pub use fault::CompileFault;

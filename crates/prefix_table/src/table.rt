@@ -5,7 +5,7 @@ ghost use Rattle.prefix_table.specs.declared.row.Row.{Row};
 use crate::in_order::is_table;
 use crate::search::longest_match;
 use crate::{Memory, Row};
-use std::alloc::Global;
+use std::alloc::{AllocError, Global};
 use std::marker::Model;
 
 /// Rows with distinct prefixes, rising by bits and then by length.
@@ -57,6 +57,14 @@ impl Table {
         ensures table { IsTable self.now }
     {
         self.rows.as_slice()
+    }
+
+    /// Returns a copy of the table.
+    pub fn copy(&self, alloc: Global) -> Result<Table, AllocError>
+        ensures { IfOk result (λ table. table ≡ self.now) }
+    {
+        let rows = Vec::from_slice(alloc, self.rows.as_slice())?;
+        Ok(Table { rows })
     }
 
     /// Returns the rows as a list of their own, in the same order. Takes no memory.

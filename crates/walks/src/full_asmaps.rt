@@ -1,5 +1,5 @@
 // The largest tables and asmaps, and those that are too large by one.
-use crate::table_texts::{file_of, put_row, read};
+use crate::table_texts::{put_row, read};
 use asmap_back::{BackFault, decompile};
 use asmap_compile::{CompileFault, compile};
 use asmap_vm::{Sane, check};
@@ -62,15 +62,15 @@ fn is_back(alloc: Global, map: &Sane<'_>, table: &Table, text: &[u8]) -> bool {
 
 /// Whether the table of the text fills the largest file, and comes back.
 fn is_full(alloc: Global, table: &Table, text: &[u8]) -> bool {
-    match file_of(alloc, table) {
-        Some(file) => {
+    match compile(alloc, table) {
+        Ok(file) => {
             (file.bits(), file.code().len()) == (67_108_864, 8_388_608)
                 && match check(file.code()) {
                     Ok(map) => is_back(alloc, &map, table, text),
                     Err(_) => false,
                 }
         }
-        None => false,
+        Err(_) => false,
     }
 }
 
@@ -94,7 +94,7 @@ pub(crate) fn two_million_rows_come_back(alloc: Global) -> bool {
 fn is_too_large(alloc: Global, text: &[u8]) -> bool {
     match read(alloc, text) {
         Some(table) => matches!(
-            compile(alloc, table),
+            compile(alloc, &table),
             Err(CompileFault::TooLarge { bits: 67_108_872 })
         ),
         None => false,
@@ -133,7 +133,7 @@ fn half_text(alloc: Global) -> Result<Vec<u8>, AllocError> {
 }
 
 /// Whether the file of the table has more rows than a table.
-fn does_not_come_back(alloc: Global, table: Table) -> bool {
+fn does_not_come_back(alloc: Global, table: &Table) -> bool {
     match compile(alloc, table) {
         Ok(file) => match check(file.code()) {
             Ok(map) => matches!(
@@ -149,7 +149,7 @@ fn does_not_come_back(alloc: Global, table: Table) -> bool {
 /// Whether the file of the table of the text has more rows than a table.
 fn has_too_many_back(alloc: Global, text: &[u8]) -> bool {
     match read(alloc, text) {
-        Some(table) => table.rows().len() == 1_048_577 && does_not_come_back(alloc, table),
+        Some(table) => table.rows().len() == 1_048_577 && does_not_come_back(alloc, &table),
         None => false,
     }
 }

@@ -1,6 +1,6 @@
 // The longest match in tables, beside lookups in the compiled tables and a walk over all rows.
 use crate::random_tables::{cut, near_table, random_table};
-use crate::table_texts::file_of;
+use asmap_compile::compile;
 use asmap_vm::{Sane, check};
 use prefix_table::{Row, Table};
 use std::alloc::Global;
@@ -53,12 +53,12 @@ fn is_each_same(table: &Table, map: &Sane<'_>) -> bool {
 
 /// Whether a table of more rows than these and the compiled one agree with the walk.
 fn agrees(alloc: Global, table: &Table, rows: usize) -> bool {
-    match file_of(alloc, table) {
-        Some(file) => match check(file.code()) {
+    match compile(alloc, table) {
+        Ok(file) => match check(file.code()) {
             Ok(map) => table.rows().len() > rows && is_each_same(table, &map),
             Err(_) => false,
         },
-        None => false,
+        Err(_) => false,
     }
 }
 

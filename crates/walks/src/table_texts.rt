@@ -1,5 +1,4 @@
-// Texts of tables of prefixes, and their files.
-use asmap_compile::{Compiled, compile};
+// Texts of tables of prefixes.
 use net_addr::put_ipv6;
 use prefix_table::{MAX_TEXT, Row, Table, read_table};
 use std::alloc::{AllocError, Global};
@@ -19,12 +18,4 @@ pub(crate) fn read(alloc: Global, text: &[u8]) -> Option<Table> {
         return None;
     }
     read_table(alloc, text).ok()
-}
-
-/// Returns the file of the table, or `None` if the table has none or memory runs out.
-pub(crate) fn file_of(alloc: Global, table: &Table) -> Option<Compiled> {
-    match Table::from_rows(alloc, table.rows()) {
-        Ok(Some(copy)) => compile(alloc, copy).ok(),
-        _ => None,
-    }
 }

@@ -6,8 +6,8 @@ use Rattle.prefix_table.specs.Rows.{IsTable}
 use Rattle.asmap_compile.specs.Compiled.{compiled, rows_kept, tree_at}
 use Rattle.asmap_compile.specs.Inside.{IsPart}
 use Rattle.asmap_compile.proofs.Whole.{whole_part, compiled_is, compiled_sane, compiled_best, compiled_asn, file_from}
-use Rattle.asmap_compile.proofs.compiling.compile.Goals as goal
-use Rattle.asmap_compile.proofs.compiling.compile.Goals.{In_ok-put_tree}
+use Rattle.asmap_compile.proofs.compiling.compile_in_place.Goals as goal
+use Rattle.asmap_compile.proofs.compiling.compile_in_place.Goals.{In_ok-put_tree}
 
 some_rows : (table rows : List Row) (len : ℕ) → len ≡ length rows → rows ≡ table → false ≡ (len == 0) → 0 < length table
 some_rows table rows len long same test = omega (arith, long, ap length same, eqb-false len 0 (sym test))
