@@ -1,9 +1,10 @@
-ghost use Rattle.std.specs.Prelude.{◌≡◌, ◌≤◌, ◌++◌, Option, codes, decimal, length, IfOk, IfErr};
+ghost use Rattle.std.specs.Prelude.{◌≡◌, ◌≤◌, ◌++◌, List, Option, codes, decimal, length, IfOk, IfErr};
 ghost use Rattle.asmap_vm.specs.Code.{code};
 ghost use Rattle.asmap_compile.specs.Compiled.{compiled};
 ghost use Rattle.host_io.specs.Past.{Past, Always};
 ghost use Rattle.host_io.specs.declared.name.Name.TheVariants as name;
 ghost use Rattle.prefix_table.specs.declared.read.TheConstants.{MAX_TEXT};
+ghost use Rattle.prefix_table.specs.declared.row.Row.{Row};
 ghost use Rattle.addrman_run.specs.Compile.{CompileText, IsOldOrNew, compile_text};
 ghost use Rattle.addrman_run.specs.InFolder.{ReportsAbsence};
 ghost use Rattle.addrman_run.specs.Inside.{IsLoaded, IsNewAsmap, IsNotCompiled};
@@ -14,9 +15,9 @@ use crate::input::{Input, load_present};
 use crate::output::save_then_write;
 use crate::{Status, TablesFault};
 use asmap_compile::{CompileFault, Compiled, compile};
-use host_io::{Folder, Name, Sink};
+use host_io::{Bytes, Folder, Name, Sink};
 use net_addr::{Memory, put_number, put_text};
-use prefix_table::{Table, TableFault, read_table};
+use prefix_table::{TableFault, read_table};
 use std::alloc::Global;
 
 /// The asmap of a table, and the line about both.
@@ -40,33 +41,36 @@ fn line_of(alloc: Global, rows: usize, bits: u64, bytes: usize) -> Result<Vec<u8
     Ok(text)
 }
 
-/// Returns the line about a table and its compiled file.
-fn compile_line(alloc: Global, table: &Table, file: &Compiled) -> Result<Vec<u8>, Memory>
-    requires { file.now.bits ≡ length (code (compiled table.now)) }
-    ensures { IfOk result (λ text. text.items ≡ compile_text table.now file.now.bytes) }
+/// Returns the line about a table of this many rows and its compiled file.
+fn compile_line(alloc: Global, rows: usize, file: &Compiled) -> Result<Vec<u8>, Memory>
+    ensures { (table : List Row) → rows ≡ length table
+        → file.now.bits ≡ length (code (compiled table))
+        → IfOk result (λ text. text.items ≡ compile_text table file.now.bytes) }
 {
-    line_of(alloc, table.rows().len(), file.bits(), file.code().len())
+    line_of(alloc, rows, file.bits(), file.code().len())
 }
 
-/// Compiles the table in the text of prefixes.txt.
-fn new_asmap(alloc: Global, text: &[u8]) -> Result<NewAsmap, Status>
-    requires { length text.now ≤ MAX_TEXT }
+/// Compiles the table in the text of prefixes.txt. The text is dropped before its rows are compiled.
+fn new_asmap(alloc: Global, text: Bytes) -> Result<NewAsmap, Status>
+    requires { length text ≤ MAX_TEXT }
     ensures found { IfOk result (λ made. (past : Option Past) →
-        IsLoaded input.Prefixes past text.now →
+        IsLoaded input.Prefixes past text →
         IsNewAsmap past made.file.bytes made.line.items) }
-    ensures cause { IfErr result (IsNotCompiled text.now) }
+    ensures cause { IfErr result (IsNotCompiled text) }
 {
-    let table = match read_table(alloc, text) {
+    let table = match read_table(alloc, text.items()) {
         Ok(table) => table,
         Err(TableFault::Memory) => return Err(Status::Memory),
         Err(fault) => return Err(Status::TableRefused(TablesFault::Rows(fault))),
     };
-    let file = match compile(alloc, &table) {
+    drop(text);
+    let rows = table.rows().len();
+    let file = match compile(alloc, table) {
         Ok(file) => file,
         Err(CompileFault::Memory) => return Err(Status::Memory),
         Err(fault) => return Err(Status::TableRefused(TablesFault::Compile(fault))),
     };
-    match compile_line(alloc, &table, &file) {
+    match compile_line(alloc, rows, &file) {
         Ok(line) => Ok(NewAsmap { file, line }),
         Err(_) => Err(Status::Memory),
     }
@@ -90,7 +94,7 @@ pub(crate) fn compile_table<F: Folder, K: Sink>(
         Ok(text) => text,
         Err(status) => return status,
     };
-    match new_asmap(alloc, text.items()) {
+    match new_asmap(alloc, text) {
         Ok(made) => {
             let (file, line) = (made.file.code(), made.line.as_slice());
             save_then_write(Name::AsmapTemp, Name::Asmap, file, line, folder, out)

@@ -1,6 +1,3 @@
-use Rattle.std.proofs.Common.{subst, sym}
-use Rattle.addrman_run.specs.Inside.{IsLoaded}
-use Rattle.addrman_run.specs.declared.input.Input.TheVariants as input
 use Rattle.addrman_run.proofs.Compiling.{kept, old_or_new}
 use Rattle.addrman_run.proofs.compile.compile_table.Goals as goal
 
@@ -14,7 +11,7 @@ returns-in-Ok-new_asmap-clause-any_moment g c =
     let old = P c.args.folder.now in
     old_or_new old (P c.load_present.new.folder) (P c.save_then_write.new.folder) c.code-file.result.now c.in-Ok-new_asmap.made.file.bytes
     c.in-Ok-new_asmap.made.line.items c.load_present.ensures.same c.code-file.ensures
-    (c.in-Ok-new_asmap.ensures.found old (subst (IsLoaded input.Prefixes old) (sym c.items.ensures) c.in-Ok.ensures.found)) c.save_then_write.ensures.any_moment
+    (c.in-Ok-new_asmap.ensures.found old c.in-Ok.ensures.found) c.save_then_write.ensures.any_moment
 
 pub returns-clause-any_moment : goal.returns-clause-any_moment
 returns-clause-any_moment g c =
