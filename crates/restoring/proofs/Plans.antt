@@ -247,10 +247,6 @@ same_bool false false to back = refl
 abbrev pub with_one : Rec → ℕ → Rec
 with_one r bucket = record r { place = New (with_bucket bucket (buckets_of r)) }
 
--- the same of a record in which the place is replaced
-pub placed-one : (q : Rec) (place : Place) (r : Rec) (bucket : ℕ) → q ≡ r → place ≡ New (with_bucket bucket (buckets_of r)) → record q { place = place } ≡ with_one r bucket
-placed-one q place r bucket is new = λ i. record (is i) { place = new i }
-
 -- the record at a position gets a bucket whose slot is empty
 module _ (places : Places) (recs : List Rec) (news : ℕ) (slots : Slots) (plan : IsPlan places recs news slots) (index bucket slot : ℕ) (r : Rec)
     (at : slice_get recs index ≡ Some r) (untried : is_tried r ≡ false) (slot_is : slot ≡ new_slot places r.peer bucket) (bucket_fits : bucket < 1024) (slot_fits : slot < 64) where

@@ -5,12 +5,14 @@
 //! state (`parts`), which is sound. A duplicate among valid records is named, the first one.
 #![tactic(auto)]
 
+mod draft;
 mod duplicates;
 mod number_order;
 mod parts;
 mod plan;
 mod restore_fault;
 
+pub(crate) use draft::Draft;
 pub(crate) use number_order::NumberOrder;
 pub use parts::{Parts, restore};
 pub(crate) use plan::Plan;

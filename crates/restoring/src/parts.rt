@@ -10,9 +10,9 @@ ghost use Rattle.peer_index.specs.Order.{IsOrder};
 ghost use Rattle.restoring.specs.Filled.{HasApart, filled};
 
 use crate::duplicates::duplicate;
-use crate::{Memory, Plan, RestoreFault};
+use crate::{Draft, Memory, Plan, RestoreFault};
 use peer_index::{PeerIndex, PeerSet};
-use peer_rec::{Rec, Snapshot};
+use peer_rec::Snapshot;
 use placing::Placer;
 use slot_grid::Grid;
 use std::alloc::Global;
@@ -86,13 +86,13 @@ fn empty_index<H: BuildHasher + Drop, L: Ledger>(
 
 /// Makes the plan of a file in which no peer is repeated, and settles it. The index, which is
 /// empty, gets the plan's records.
-fn final_plan<'a, H: BuildHasher, L: Ledger>(
+fn final_plan<'a, 's, H: BuildHasher, L: Ledger>(
     alloc: Global,
-    snap: &Snapshot,
+    snap: &'s Snapshot,
     placer: Placer<'a>,
     index: &mut PeerIndex<H>,
     steps: &mut Steps<L>,
-) -> Result<Plan<'a>, Memory>
+) -> Result<Plan<'a, 's>, Memory>
     requires empty { index.old ≡ [] }
     requires places { IsPlaces placer }
     requires no_duplicate { duplicate snap.now ≡ None }
@@ -129,11 +129,11 @@ fn settle<H: BuildHasher, L: Ledger>(
     Ok(())
 }
 
-/// Adds the records of an order of numbers to an empty index, where a record's number is its
-/// position in the list. Returns their ids by number.
+/// Makes the records of an order of numbers, where a record's number is its position in the list,
+/// and adds them to an empty index. Returns their ids by number.
 fn fill<H: BuildHasher, L: Ledger>(
     alloc: Global,
-    recs: &[Rec],
+    recs: &[Draft],
     order: &[usize],
     index: &mut PeerIndex<H>,
     steps: &mut Steps<L>,
@@ -149,7 +149,7 @@ fn fill<H: BuildHasher, L: Ledger>(
     let mut ids = zeros(alloc, recs.len())?;
     index.reserve(order.len())?;
     for number in order {
-        let id = index.add(recs[*number].copy(), steps)?;
+        let id = index.add(recs[*number].to_rec(), steps)?;
         ids[*number] = id;
     }
     Ok(ids)

@@ -1,11 +1,11 @@
 ghost use Rattle.std.specs.Prelude.{◌≡◌, ◌<◌, ◌==◌, ◌||◌, length, not, true};
 ghost use Rattle.net_addr.specs.Ranges.{is_valid};
 ghost use Rattle.peer_rec.specs.Rec.{buckets_of};
-ghost use Rattle.table_machine.specs.Restoring.{record_of, uses_buckets};
+ghost use Rattle.table_machine.specs.Restoring.{uses_buckets};
 ghost use Rattle.slot_grid.specs.declared.sizes.TheConstants.{NEW_BUCKETS};
 
-use crate::{Memory, NumberOrder};
-use peer_rec::{Buckets, FileRec, Place, Rec, Snapshot};
+use crate::{Draft, Memory, NumberOrder};
+use peer_rec::{Buckets, FileRec, Place, Snapshot};
 use placing::Placer;
 use slot_grid::{Grid, NEW_BUCKETS};
 use std::alloc::Global;
@@ -17,17 +17,18 @@ use steps::Steps;
 const MAX_LISTS: usize = 8;
 
 /// Tables that are being restored, from which no record is deleted yet. The number of a record is
-/// its position, and each slot has the number of the record in it.
+/// its position, and each slot has the number of the record in it. What the file has of a record is
+/// read in the snapshot, and not copied.
 #[derive(Drop)]
-pub(crate) struct Plan<'a> {
+pub(crate) struct Plan<'a, 's> {
     pub(crate) placer: Placer<'a>,
-    pub(crate) recs: Vec<Rec>,
+    pub(crate) recs: Vec<Draft<'s>>,
     /// How many of the records, the first ones, are of the new table.
     pub(crate) news: usize,
     pub(crate) grid: Grid,
 }
 
-impl<'a> Plan<'a> {
+impl<'a, 's> Plan<'a, 's> {
     ghost use Rattle.std.specs.Prelude.{All, ◌≡◌, ◌≢◌, ℕ, ◌+◌, ◌*◌, ◌<◌, ◌≤◌, ◌^◌, Bool, true, false, [], length, slice_get, Some, IfOk, OnOk, IsSomeAnd, Contains, vec_len};
     ghost use Rattle.peer_rec.specs.Rec.{buckets_of};
     ghost use Rattle.peer_rec.specs.declared.rec.Rec.{Rec};
@@ -36,7 +37,11 @@ impl<'a> Plan<'a> {
     ghost use Rattle.restoring.specs.Planned.{HasSpace, IsPlanned, dropping_by, give_listed, placed, settled, state_by};
 
     /// Makes a plan with no records, and room for some.
-    pub(crate) fn empty(alloc: Global, placer: Placer<'a>, room: usize) -> Result<Plan<'a>, Memory>
+    pub(crate) fn empty(
+        alloc: Global,
+        placer: Placer<'a>,
+        room: usize,
+    ) -> Result<Plan<'a, 's>, Memory>
         ensures plan { IfOk result IsPlanned }
         ensures state { IfOk result (λ p. state_by p ≡ empty_state placer.entry) }
         ensures placer { IfOk result (λ p. p.placer ≡ placer.entry) }
@@ -56,10 +61,10 @@ impl<'a> Plan<'a> {
     /// Makes the plan of what is restored of a file, before records are deleted.
     pub(crate) fn of<L: Ledger>(
         alloc: Global,
-        snap: &Snapshot,
+        snap: &'s Snapshot,
         placer: Placer<'a>,
         steps: &mut Steps<L>,
-    ) -> Result<Plan<'a>, Memory>
+    ) -> Result<Plan<'a, 's>, Memory>
         ensures plan { IfOk result IsPlanned }
         ensures state { IfOk result (λ p. state_by p ≡ placed snap.now placer.entry) }
         ensures placer { IfOk result (λ p. p.placer ≡ placer.entry) }
@@ -79,7 +84,7 @@ impl<'a> Plan<'a> {
     }
 
     /// Appends a record of the new table, in no bucket yet.
-    pub(crate) fn add_new(&mut self, rec: &FileRec) -> Result<(), Memory>
+    pub(crate) fn add_new(&mut self, rec: &'s FileRec) -> Result<(), Memory>
         requires only { self.old.news ≡ length self.old.recs.items }
         requires plan { IsPlanned self.old }
         ensures plan { OnOk result (IsPlanned self.new) }
@@ -90,7 +95,7 @@ impl<'a> Plan<'a> {
     {
         let number = self.recs.len() as u64;
         self.recs
-            .push(record_of(rec, number, Place::New(Buckets::none())))?;
+            .push(Draft::of(rec, number, Place::New(Buckets::none())))?;
         self.news += 1;
         Ok(())
     }
@@ -99,7 +104,7 @@ impl<'a> Plan<'a> {
     /// occupied.
     pub(crate) fn add_tried<L: Ledger>(
         &mut self,
-        rec: &FileRec,
+        rec: &'s FileRec,
         steps: &mut Steps<L>,
     ) -> Result<(), Memory>
         requires plan { IsPlanned self.old }
@@ -119,13 +124,13 @@ impl<'a> Plan<'a> {
             return Ok(());
         }
         let number = self.recs.len();
-        self.recs.push(record_of(rec, number as u64, Place::Tried))?;
+        self.recs.push(Draft::of(rec, number as u64, Place::Tried))?;
         self.grid.set_tried(bucket, slot, Some(number), steps);
         Ok(())
     }
 
     /// Appends records of the new table, one after another.
-    pub(crate) fn add_all_new(&mut self, recs: &[FileRec]) -> Result<(), Memory>
+    pub(crate) fn add_all_new(&mut self, recs: &'s [FileRec]) -> Result<(), Memory>
         requires only { self.old.news ≡ length self.old.recs.items }
         requires plan { IsPlanned self.old }
         ensures plan { OnOk result (IsPlanned self.new) }
@@ -145,7 +150,7 @@ impl<'a> Plan<'a> {
     /// Appends records of the tried table, one after another.
     pub(crate) fn add_all_tried<L: Ledger>(
         &mut self,
-        recs: &[FileRec],
+        recs: &'s [FileRec],
         steps: &mut Steps<L>,
     ) -> Result<(), Memory>
         requires plan { IsPlanned self.old }
@@ -212,7 +217,7 @@ impl<'a> Plan<'a> {
         ensures others { (other : ℕ) → other ≢ number → Contains order.old other
             → Contains order.new other }
     {
-        if self.recs[number].place.bucket_count() == 0 {
+        if self.recs[number].bucket_count() == 0 {
             order.delete(number);
         }
     }
@@ -238,11 +243,11 @@ impl<'a> Plan<'a> {
         ensures steps { steps.new ≤ steps.old + 2 }
     {
         let rec = &self.recs[index];
-        let slot = self.placer.new_slot(&rec.peer, bucket);
+        let slot = self.placer.new_slot(rec.peer(), bucket);
         if self.grid.new_at(bucket, slot, steps).is_some() {
             return false;
         }
-        self.recs[index].place = rec.place.with_bucket(bucket);
+        self.recs[index].give_bucket(bucket);
         self.grid.set_new(bucket, slot, Some(index), steps);
         true
     }
@@ -304,7 +309,7 @@ impl<'a> Plan<'a> {
         if !is_placeable(rec) {
             return;
         }
-        let (peer, source) = (rec.peer, rec.source);
+        let (peer, source) = (*rec.peer(), *rec.source());
         if self.give_listed(are_used, index, bucket, steps) {
             return;
         }
@@ -323,28 +328,10 @@ fn uses_buckets(snap: &Snapshot, placer: &Placer) -> bool
 }
 
 /// Returns `true` if a record's address is valid and fewer than eight buckets list it.
-fn is_placeable(rec: &Rec) -> bool
+fn is_placeable(rec: &Draft) -> bool
     ensures value { result
         ≡ not (not (is_valid rec.now.peer.addr) || length (buckets_of rec.now) == 8) }
     ensures room { result ≡ true → length (buckets_of rec.now) < 8 }
 {
-    rec.peer.addr.is_valid() && rec.place.bucket_count() < MAX_LISTS
-}
-
-/// Returns the record that is made of a file's record.
-pub(crate) fn record_of(rec: &FileRec, number: u64, place: Place) -> Rec
-    ensures { result ≡ record_of rec.now number place }
-{
-    Rec {
-        number,
-        peer: rec.peer,
-        source: rec.source,
-        time: rec.time,
-        services: rec.services,
-        last_success: rec.last_success,
-        last_try: 0,
-        last_count: 0,
-        attempts: rec.attempts,
-        place,
-    }
+    rec.peer().addr.is_valid() && rec.bucket_count() < MAX_LISTS
 }

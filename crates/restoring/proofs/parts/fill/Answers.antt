@@ -14,7 +14,7 @@ add-requires-clause-absent g c =
     let n = get_or order k 0 in
     let within : k < length order = search rules in
     let is : n ≡ get_or order k n = get_or_default order k 0 n within in
-    let rec : c.copy.result ≡ rec_at recs n = c.copy.ensures ∙ get_or_read recs n c.index-recs-number.result (c.requires.within k 0 within) c.index-recs-number.is blank in
+    let rec : c.to_rec.result ≡ rec_at recs n = c.to_rec.ensures ∙ get_or_read recs n c.index-recs-number.result (c.requires.within k 0 within) c.index-recs-number.is blank in
     (λ i. id_of (l.invariant.filled i) (rec i).peer)
     ∙ absent l.ids.items recs order c.requires.apart k n within is
 
@@ -28,7 +28,7 @@ loop-number-preserved g c =
     let within : k < length order = search rules in
     let is : n ≡ get_or order k n = get_or_default order k 0 n within in
     let low : n < length recs = c.requires.within k 0 within in
-    let rec : c.copy.result ≡ rec_at recs n = c.copy.ensures ∙ get_or_read recs n c.index-recs-number.result low c.index-recs-number.is blank in
+    let rec : c.to_rec.result ≡ rec_at recs n = c.to_rec.ensures ∙ get_or_read recs n c.index-recs-number.result low c.index-recs-number.is blank in
     record {
       filled = c.in_ok-id.ensures.added
           ∙ (λ i. with_item (l.invariant.filled i) c.in_ok-id.id (rec i))

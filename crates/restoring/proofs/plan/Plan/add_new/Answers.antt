@@ -11,7 +11,7 @@ returns-clause-plan c =
     let s = c.args.self.now in
     let long : c.len-number.result ≡ length s.recs.items = search rules in
     let whole : c.push.new.self.items ≡ s.recs.items ++ record_of c.args.rec.now (length s.recs.items) (New []) ∷ [] =
-    c.in_ok-push.ensures.items ∙ ap (λ q. s.recs.items ++ q ∷ []) (c.record_of.ensures ∙ (λ i. record_of c.args.rec.now (long i) (New (c.none.ensures i)))) in
+    c.in_ok-push.ensures.items ∙ ap (λ q. s.recs.items ++ q ∷ []) (c.of.ensures ∙ (λ i. record_of c.args.rec.now (long i) (New (c.none.ensures i)))) in
     subst (λ (rs : List Rec). IsPlan s.placer rs (s.news + 1) s.grid) (sym whole) (put-new s.placer s.recs.items s.news s.grid c.requires.plan c.requires.only c.args.rec.now)
 
 pub returns-clause-state : goal.returns-clause-state
@@ -19,5 +19,5 @@ returns-clause-state c =
     let s = c.args.self.now in
     let long : c.len-number.result ≡ length s.recs.items = search rules in
     let whole : c.push.new.self.items ≡ s.recs.items ++ record_of c.args.rec.now (length s.recs.items) (New []) ∷ [] =
-    c.in_ok-push.ensures.items ∙ ap (λ q. s.recs.items ++ q ∷ []) (c.record_of.ensures ∙ (λ i. record_of c.args.rec.now (long i) (New (c.none.ensures i)))) in
+    c.in_ok-push.ensures.items ∙ ap (λ q. s.recs.items ++ q ∷ []) (c.of.ensures ∙ (λ i. record_of c.args.rec.now (long i) (New (c.none.ensures i)))) in
     ap (state_of s.placer) whole ∙ put-new_state s.placer s.recs.items s.news s.grid c.requires.plan c.args.rec.now

@@ -15,7 +15,7 @@ returns-clause-plan g c =
     let long : c.len-number.result ≡ length s.recs.items = search rules in
     let whole : c.push.new.self.items ≡ s.recs.items ++ record_of c.args.rec.now (length s.recs.items) Tried ∷ [] =
     c.in_ok-push.ensures.items
-    ∙ ap (λ q. s.recs.items ++ q ∷ []) (c.record_of.ensures ∙ (λ i. record_of c.args.rec.now (long i) Tried)) in
+    ∙ ap (λ q. s.recs.items ++ q ∷ []) (c.of.ensures ∙ (λ i. record_of c.args.rec.now (long i) Tried)) in
     subst (λ (rs : List Rec). IsPlan s.placer rs s.news c.set_tried.new.self) (sym whole)
     (put-tried s.placer s.recs.items s.news s.grid c.requires.plan c.args.rec.now c.tried_bucket-bucket.result c.tried_slot-slot.result bucket.value slot.value bucket.below slot.below
     (ap is_some (sym c.tried_at.ensures.id) ∙ sym c.is_some.ensures ∙ c.if-is_some.false)
@@ -29,6 +29,6 @@ returns-clause-state g c =
     let long : c.len-number.result ≡ length s.recs.items = search rules in
     let valid : is_valid c.args.rec.now.peer.addr ≡ true = search rules in
     ap (state_of s.placer) (c.in_ok-push.ensures.items
-    ∙ ap (λ q. s.recs.items ++ q ∷ []) (c.record_of.ensures ∙ (λ i. record_of c.args.rec.now (long i) Tried)))
+    ∙ ap (λ q. s.recs.items ++ q ∷ []) (c.of.ensures ∙ (λ i. record_of c.args.rec.now (long i) Tried)))
     ∙ put-tried_state s.placer s.recs.items s.news s.grid c.requires.plan c.args.rec.now c.tried_bucket-bucket.result c.tried_slot-slot.result bucket.value slot.value bucket.below slot.below
     (ap is_some (sym c.tried_at.ensures.id) ∙ sym c.is_some.ensures ∙ c.if-is_some.false) valid

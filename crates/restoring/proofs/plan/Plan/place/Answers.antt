@@ -52,7 +52,7 @@ returns-clause-state g c =
     let own = new_bucket s.placer r.peer r.source in
     c.give_if_empty.ensures.state r (ap (λ p. slice_get p.recs.items c.args.index) same ∙ at)
     ∙ (λ i. give_if_empty (state_of (same i).placer (same i).recs.items) r c.new_bucket-own.result (state_of (same i).placer (same i).recs.items))
-    ∙ ap (λ b. give_if_empty st r b st) (c.new_bucket-own.ensures.value ∙ ap (λ p. new_bucket p.placer r.peer r.source) same)
+    ∙ ap (λ b. give_if_empty st r b st) (c.new_bucket-own.ensures.value ∙ (λ i. new_bucket (same i).placer (c.peer.ensures i) (c.source.ensures i)))
     ∙ sym (c.give_listed.ensures.taken r (give_if_empty st r own st) at none)
     ∙ sym (place-turn s.placer s.recs.items s.news s.grid c.requires.plan c.args.are_used c.args.bucket c.args.index r c.requires.index c.index-rec.ensures
     (sym c.is_placeable.ensures.value ∙ turn))
