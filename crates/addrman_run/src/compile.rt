@@ -14,7 +14,7 @@ ghost use Rattle.addrman_run.specs.declared.input.Input.TheVariants as input;
 use crate::input::{Input, load_present};
 use crate::output::save_then_write;
 use crate::{Status, TablesFault};
-use asmap_compile::{CompileFault, Compiled, compile};
+use asmap_compile::{CompileFault, Compiled, compile_in_place};
 use host_io::{Bytes, Folder, Name, Sink};
 use net_addr::{Memory, put_number, put_text};
 use prefix_table::{TableFault, read_table};
@@ -65,7 +65,7 @@ fn new_asmap(alloc: Global, text: Bytes) -> Result<NewAsmap, Status>
     };
     drop(text);
     let rows = table.rows().len();
-    let file = match compile(alloc, table) {
+    let file = match compile_in_place(alloc, table) {
         Ok(file) => file,
         Err(CompileFault::Memory) => return Err(Status::Memory),
         Err(fault) => return Err(Status::TableRefused(TablesFault::Compile(fault))),
