@@ -3,4 +3,5 @@ pub mod Ranges
 pub mod LastRow
 pub mod BackLaws
 pub mod Steps
+mod Pieces
 mod Examples

@@ -8,10 +8,15 @@
 //! Tested besides: against an independent program, on 40 random codes.
 #![tactic(auto)]
 
+mod back_rows;
 mod decompiling;
 mod fault;
 mod part;
+mod parts;
 mod reading;
+mod writing;
 
-pub use decompiling::decompile;
+pub use back_rows::BackRows;
+pub use decompiling::{decompile, fits_table};
 pub use fault::BackFault;
+pub use writing::write_rows;

@@ -34,6 +34,8 @@ pub use net::Net;
 pub use net_set::NetSet;
 pub use old_form::{INTERNAL_PREFIX, MAPPED_PREFIX, TORV2_PREFIX, array_of};
 pub use peer::Peer;
-pub use print::{IPV4_TEXT, IPV6_TEXT, ipv4_text, ipv6_text, put_addr, put_ipv4, put_ipv6, put_peer};
+pub use print::{
+    IPV4_TEXT, IPV6_TEXT, ipv4_text, ipv6_text, put_addr, put_ipv4, put_ipv6, put_peer,
+};
 pub use read::{around_last, parse_addr, parse_ipv4, parse_ipv6, parse_number, parse_peer};
 pub use text::{put_number, put_text};

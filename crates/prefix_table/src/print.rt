@@ -1,4 +1,5 @@
-ghost use Rattle.std.specs.Prelude.{◌≡◌, ◌≤◌, ◌++◌, ◌<◌, ◌^◌, List, length, take, flat_map, OnOk, OnErr, All, decimal, codes};
+ghost use Rattle.std.specs.Prelude.{◌≡◌, ◌≤◌, ◌++◌, ◌+◌, ◌<◌, ◌^◌, List, length, take, flat_map, OnOk, OnErr, All, decimal, codes};
+ghost use Rattle.arrayvec.specs.ArrayVec.{array_vec_len};
 ghost use Rattle.prefix_table.specs.Rows.{IsRow, IsTable};
 ghost use Rattle.prefix_table.specs.Text.{IsTableText, IsRowLine, IsRowAddress, width};
 ghost use Rattle.prefix_table.specs.declared.read.TheConstants.{MAX_TEXT};
@@ -6,8 +7,12 @@ ghost use Rattle.prefix_table.specs.Print.{entry_of, address_text, prefix_text, 
 
 use crate::entry::{Entry, Family};
 use crate::{Memory, Row, Table};
+use arrayvec::ArrayVec;
 use itoa::Buffer;
-use net_addr::{put_ipv4, put_ipv6};
+use net_addr::{ipv4_text, ipv6_text};
+
+/// Room for the line of a row: an address of at most 39 bytes, and two numbers.
+pub const MAX_LINE: usize = 80;
 
 /// Appends the rows of the table in their order, one a line. A row of mapped addresses is written
 /// in the IPv4 form. If memory runs out, `out` is unchanged.
@@ -40,7 +45,7 @@ fn put_rows(rows: &[Row], out: &mut Vec<u8>) -> Result<(), Memory>
     Ok(())
 }
 
-/// Appends the line of a row. If memory runs out, a part of it may have been appended.
+/// Appends the line of a row. If memory runs out, `out` is unchanged.
 fn put_row(row: &Row, out: &mut Vec<u8>) -> Result<(), Memory>
     requires { IsRow row.now }
     ensures ok { OnOk result (out.new.items ≡ out.old.items ++ row_text row.now) }
@@ -48,15 +53,12 @@ fn put_row(row: &Row, out: &mut Vec<u8>) -> Result<(), Memory>
     ensures reads_back { OnOk result (IsRowAddress (entry_of row.now).family
         (address_text (entry_of row.now)) (entry_of row.now).address) }
 {
-    put_prefix(row, out)?;
-    out.extend_from_slice(b" AS")?;
-    out.extend_from_slice(Buffer::new().format(row.asn).as_bytes())?;
-    out.extend_from_slice(b"\n")?;
+    out.extend_from_slice(row_text(*row).as_slice())?;
     Ok(())
 }
 
-/// Appends the prefix of a row: the address, a slash and the length. If memory runs out, a part of
-/// it may have been appended.
+/// Appends the prefix of a row: the address, a slash and the length. If memory runs out, `out` is
+/// unchanged.
 pub fn put_prefix(row: &Row, out: &mut Vec<u8>) -> Result<(), Memory>
     requires { row.now.bits < 2 ^ 128 }
     ensures ok { OnOk result (out.new.items ≡ out.old.items ++ prefix_text row.now) }
@@ -64,24 +66,63 @@ pub fn put_prefix(row: &Row, out: &mut Vec<u8>) -> Result<(), Memory>
     ensures reads_back { OnOk result (IsRowAddress (entry_of row.now).family
         (address_text (entry_of row.now)) (entry_of row.now).address) }
 {
-    let entry = entry_of(row);
-    put_address(&entry, out)?;
-    out.extend_from_slice(b"/")?;
-    out.extend_from_slice(Buffer::new().format(entry.len).as_bytes())?;
+    out.extend_from_slice(prefix_text(row).as_slice())?;
     Ok(())
 }
 
-/// Appends the address of an entry.
-fn put_address(entry: &Entry, out: &mut Vec<u8>) -> Result<(), Memory>
+/// Returns the line of a row: its prefix, a space, `AS`, the number and a line feed. A row of
+/// mapped addresses is written in the IPv4 form.
+pub fn row_text(row: Row) -> ArrayVec<u8, MAX_LINE>
+    ensures text { result.items ≡ row_text row }
+    ensures reads_back { IsRowAddress (entry_of row).family (address_text (entry_of row))
+        (entry_of row).address }
+{
+    let mut text = prefix_text(&row);
+    append(&mut text, b" AS");
+    append(&mut text, Buffer::new().format(row.asn).as_bytes());
+    text.push(b'\n');
+    text
+}
+
+/// Returns the prefix of a row: the address, a slash and the length.
+fn prefix_text(row: &Row) -> ArrayVec<u8, MAX_LINE>
+    requires { row.now.bits < 2 ^ 128 }
+    ensures text { result.items ≡ prefix_text row.now }
+    ensures short { array_vec_len result ≤ 60 }
+    ensures reads_back { IsRowAddress (entry_of row.now).family
+        (address_text (entry_of row.now)) (entry_of row.now).address }
+{
+    let entry = entry_of(row);
+    let mut text = address_text(&entry);
+    text.push(b'/');
+    append(&mut text, Buffer::new().format(entry.len).as_bytes());
+    text
+}
+
+/// Returns the address of an entry.
+fn address_text(entry: &Entry) -> ArrayVec<u8, MAX_LINE>
     requires { entry.now.address < 2 ^ width entry.now.family }
-    ensures ok { OnOk result (out.new.items ≡ out.old.items ++ address_text entry.now) }
-    ensures err { OnErr result (out.new.items ≡ out.old.items) }
+    ensures text { result.items ≡ address_text entry.now }
+    ensures short { array_vec_len result ≤ 39 }
     ensures reads_back { IsRowAddress entry.now.family (address_text entry.now) entry.now.address }
 {
+    let mut text = ArrayVec::new();
     match entry.family {
-        Family::Ipv4 => Ok(put_ipv4(entry.address as u32, out)?),
-        Family::Ipv6 => Ok(put_ipv6(entry.address, out)?),
+        Family::Ipv4 => append(&mut text, ipv4_text(entry.address as u32).as_slice()),
+        Family::Ipv6 => append(&mut text, ipv6_text(entry.address).as_slice()),
     }
+    text
+}
+
+/// Appends bytes for which there is room.
+fn append<const N: usize>(out: &mut ArrayVec<u8, N>, text: &[u8])
+    requires { array_vec_len out.old + length text.now ≤ N }
+    ensures items { out.new.items ≡ out.old.items ++ text.now }
+    ensures len { array_vec_len out.new ≡ array_vec_len out.old + length text.now }
+{
+    let Ok(()) = out.try_extend_from_slice(text) else {
+        unreachable!()
+    };
 }
 
 /// Returns how the row is printed.

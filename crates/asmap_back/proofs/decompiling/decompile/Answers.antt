@@ -2,23 +2,17 @@ use Rattle.std.proofs.Common.{◌≡◌, ℕ, ◌+◌, ◌<◌, ◌≤◌, List,
 use Rattle.std.specs.Prelude.{◌⊎◌, IsErrAnd}
 use Rattle.std.proofs.lemmas.Result.{err_from_is_err_and}
 use Rattle.bit_code.specs.Coder.{number_of}
-use Rattle.asmap_vm.specs.Held.{tree_held}
 use Rattle.prefix_table.specs.Rows.{best, IsTable}
 use Rattle.prefix_table.specs.declared.row.Row.{Row}
 use Rattle.prefix_table.specs.declared.row.TheConstants.{MAX_ROWS}
 use Rattle.prefix_table.specs.declared.table.Table.{Table}
-use Rattle.asmap_back.specs.Back.{rows_back}
 use Rattle.asmap_back.specs.Inside.{HasCause}
 use Rattle.asmap_back.specs.declared.fault.BackFault.{BackFault}
 use Rattle.asmap_back.specs.declared.fault.BackFault.TheVariants.{TooMany, Memory}
-use Rattle.asmap_back.proofs.Steps.{held_ahead}
 use Rattle.asmap_back.proofs.Ranges.{back_table}
 use Rattle.asmap_back.proofs.BackLaws.{back_best, back_asn}
-use Rattle.asmap_back.proofs.decompiling.decompile.Goals.{In_ok-rows}
+use Rattle.asmap_vm.specs.Held.{tree_held}
 use Rattle.asmap_back.proofs.decompiling.decompile.Goals as goal
-
-pub rows_of-requires : goal.rows_of-requires
-rows_of-requires c = (rows_back (tree_held c.args.code.now), held_ahead c.args.code.now c.of.result c.code.result.now c.code.ensures c.of.ensures.bits c.args.code.now.sane)
 
 -- a fault that was handed on
 abbrev HandedOn : Result Table BackFault → BackFault → Type 0
@@ -41,45 +35,33 @@ cause_of r whole fault rows left cause e =
 
 pub returns-in_err-rows-clause-too_many : goal.returns-in_err-rows-clause-too_many
 returns-in_err-rows-clause-too_many c = λ many.
-    let ahead = held_ahead c.args.code.now c.of.result c.code.result.now c.code.ensures c.of.ensures.bits c.args.code.now.sane in
-    one_of_two c.from_residual.result _ c.in_err-rows.field-0.0 (err_from_is_err_and c.from_residual.result c.from_residual.ensures.1) (c.in_err-rows.ensures.cause (rows_back (tree_held c.args.code.now)) ahead)
+    one_of_two c.from_residual.result _ c.in_err-rows.field-0.0 (err_from_is_err_and c.from_residual.result c.from_residual.ensures.1) c.in_err-rows.ensures.cause
 
 pub returns-in_err-rows-clause-cause : goal.returns-in_err-rows-clause-cause
 returns-in_err-rows-clause-cause c = λ rows e.
-    let ahead = held_ahead c.args.code.now c.of.result c.code.result.now c.code.ensures c.of.ensures.bits c.args.code.now.sane in
-    cause_of c.from_residual.result _ c.in_err-rows.field-0.0 rows (err_from_is_err_and c.from_residual.result c.from_residual.ensures.1) (c.in_err-rows.ensures.cause (rows_back (tree_held c.args.code.now)) ahead) e
-
--- the rows that were read
-rows_are : (c : In_ok-rows) → c.in_ok-rows.rows.items ≡ rows_back (tree_held c.args.code.now)
-rows_are c = c.in_ok-rows.ensures.found (rows_back (tree_held c.args.code.now)) (held_ahead c.args.code.now c.of.result c.code.result.now c.code.ensures c.of.ensures.bits c.args.code.now.sane)
-
-few : (c : In_ok-rows) → length (rows_back (tree_held c.args.code.now)) ≤ MAX_ROWS
-few c = omega (arith, ap (λ (xs : List Row). length xs) (rows_are c), c.in_ok-rows.ensures.few)
+    cause_of c.from_residual.result _ c.in_err-rows.field-0.0 rows (err_from_is_err_and c.from_residual.result c.from_residual.ensures.1) c.in_err-rows.ensures.cause e
 
 pub unreachable-requires : goal.unreachable-requires
 unreachable-requires c =
-    let place = (goal.at.unreachable-requires c).In_ok-rows in
     let none : IsTable c.as_slice.result.now → ⊥ = rw c.in-None.is at c.in_ok-table.ensures.none in
-    none (subst IsTable (sym (c.as_slice.ensures.value ∙ rows_are place)) (back_table (tree_held c.args.code.now) c.args.code.now.sane.sane (few place)))
+    none (subst IsTable (sym (c.as_slice.ensures.value ∙ c.in_ok-rows.ensures.found)) (back_table (tree_held c.args.code.now) c.args.code.now.sane.sane c.in_ok-rows.ensures.few))
 
 pub returns-clause-rows : goal.returns-clause-rows
 returns-clause-rows c =
     let found : c.in-Some.table ≡ c.as_slice.result.now = rw c.in-Some.is at c.in_ok-table.ensures.found in
-    found ∙ c.as_slice.ensures.value ∙ rows_are (goal.at.returns-clause-rows c).In_ok-rows
+    found ∙ c.as_slice.ensures.value ∙ c.in_ok-rows.ensures.found
 
 pub returns-clause-best : goal.returns-clause-best
 returns-clause-best c = λ bits long.
-    let place = (goal.at.returns-clause-best c).In_ok-rows in
     let found : c.in-Some.table ≡ c.as_slice.result.now = rw c.in-Some.is at c.in_ok-table.ensures.found in
-    ap (λ (rows : List Row). best rows (number_of bits)) (found ∙ c.as_slice.ensures.value ∙ rows_are place)
-    ∙ back_best (tree_held c.args.code.now) bits c.args.code.now.sane.sane (few place) long
+    ap (λ (rows : List Row). best rows (number_of bits)) (found ∙ c.as_slice.ensures.value ∙ c.in_ok-rows.ensures.found)
+    ∙ back_best (tree_held c.args.code.now) bits c.args.code.now.sane.sane c.in_ok-rows.ensures.few long
 
 pub returns-clause-asn : goal.returns-clause-asn
 returns-clause-asn c = λ address small.
-    let place = (goal.at.returns-clause-asn c).In_ok-rows in
     let found : c.in-Some.table ≡ c.as_slice.result.now = rw c.in-Some.is at c.in_ok-table.ensures.found in
-    ap (λ (rows : List Row). best rows address) (found ∙ c.as_slice.ensures.value ∙ rows_are place)
-    ∙ back_asn (tree_held c.args.code.now) address c.args.code.now.sane.sane (few place) small
+    ap (λ (rows : List Row). best rows address) (found ∙ c.as_slice.ensures.value ∙ c.in_ok-rows.ensures.found)
+    ∙ back_asn (tree_held c.args.code.now) address c.args.code.now.sane.sane c.in_ok-rows.ensures.few small
 
 pub returns-clause-too_many : goal.returns-clause-too_many
-returns-clause-too_many c = λ many. omega (arith, many, few (goal.at.returns-clause-too_many c).In_ok-rows)
+returns-clause-too_many c = λ many. omega (arith, many, c.in_ok-rows.ensures.few)
