@@ -8,15 +8,19 @@ use std::marker::Model;
 /// The buckets of the new table that list a record: at most eight numbers.
 #[derive(Drop)]
 pub struct Buckets {
-    items: ArrayVec<u16, 8>,
+    /// The first `count` are the buckets.
+    numbers: [u16; 8],
+    count: u8,
 }
 
 impl Model for Buckets {
-    ghost use Rattle.std.specs.Prelude.{ℕ, List};
+    ghost use Rattle.std.specs.Prelude.{ℕ, List, ◌≤◌, take};
 
     ghost Value = { List ℕ };
 
-    ghost view = { λ b. b.items.items };
+    ghost view = { λ b. take b.count b.numbers };
+
+    ghost invariant = { λ b. b.count ≤ 8 };
 }
 
 impl Buckets {
@@ -24,14 +28,22 @@ impl Buckets {
     pub fn of(items: ArrayVec<u16, 8>) -> Buckets
         ensures { result ≡ items.items }
     {
-        Buckets { items }
+        let mut numbers = [0; 8];
+        numbers[..items.len()].copy_from_slice(items.as_slice());
+        Buckets {
+            numbers,
+            count: items.len() as u8,
+        }
     }
 
     /// Returns the empty list.
     pub fn none() -> Buckets
         ensures { result ≡ [] }
     {
-        Buckets::of(ArrayVec::new())
+        Buckets {
+            numbers: [0; 8],
+            count: 0,
+        }
     }
 
     /// Returns the list of one bucket.
@@ -48,21 +60,24 @@ impl Buckets {
         ensures items { result.now ≡ self.now }
         ensures few { length self.now ≤ 8 }
     {
-        self.items.as_slice()
+        &self.numbers[..usize::from(self.count)]
     }
 
     /// Returns a copy of the list. Takes no memory.
     pub fn copy(&self) -> Buckets
         ensures { result ≡ self.now }
     {
-        Buckets::of(list_of(self.items.as_slice()))
+        Buckets {
+            numbers: self.numbers,
+            count: self.count,
+        }
     }
 
     /// Returns whether there is no bucket.
     pub fn is_empty(&self) -> bool
         ensures { result ≡ (length self.now == 0) }
     {
-        self.items.is_empty()
+        self.count == 0
     }
 
     /// Adds a bucket to fewer than eight.
@@ -70,18 +85,20 @@ impl Buckets {
         requires room { length self.old < 8 }
         ensures { self.new ≡ with_bucket bucket self.old }
     {
-        let mut items = below(self.items.as_slice(), bucket);
-        let above = above(self.items.as_slice(), bucket);
+        let mut items = below(self.items(), bucket);
+        let above = above(self.items(), bucket);
         items.push(bucket);
         append(&mut items, above.as_slice());
-        self.items = items;
+        *self = Buckets::of(items);
     }
 
     /// Takes a bucket out, if it is there.
     pub fn remove(&mut self, bucket: u16)
         ensures { self.new ≡ without_bucket bucket self.old }
     {
-        self.items.retain(|item| *item != bucket);
+        let mut items = list_of(self.items());
+        items.retain(|item| *item != bucket);
+        *self = Buckets::of(items);
     }
 }
 

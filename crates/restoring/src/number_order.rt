@@ -38,12 +38,12 @@ impl NumberOrder {
         Ok(NumberOrder { numbers, positions })
     }
 
-    /// Returns the numbers in their order.
-    pub(crate) fn numbers(&self) -> &[usize]
-        ensures numbers { result.now ≡ self.now }
-        ensures distinct { AllPairs (λ m n. m ≢ n) result.now }
+    /// Returns the numbers in their order, and drops their positions.
+    pub(crate) fn into_numbers(self) -> Vec<usize>
+        ensures numbers { result.items ≡ self }
+        ensures distinct { AllPairs (λ m n. m ≢ n) result.items }
     {
-        self.numbers.as_slice()
+        self.numbers
     }
 
     /// Deletes a number. The last one of the order moves to its position.

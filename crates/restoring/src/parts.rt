@@ -124,7 +124,14 @@ fn settle<H: BuildHasher, L: Ledger>(
     ensures steps { steps.new ≤ steps.old + 2 * ALL_SLOTS }
 {
     let order = plan.order(alloc)?;
-    let ids = fill(alloc, plan.recs.as_slice(), order.numbers(), index, steps)?;
+    let numbers = order.into_numbers();
+    let ids = fill(
+        alloc,
+        plan.recs.as_slice(),
+        numbers.as_slice(),
+        index,
+        steps,
+    )?;
     plan.grid.renumber(ids.as_slice(), steps);
     Ok(())
 }

@@ -5,5 +5,6 @@ use Rattle.peer_rec.proofs.buckets.Buckets.remove.Goals as goal
 
 pub returns : goal.returns
 returns c =
-    filter-from_retain _ _ _ (λ x b f' y called. search rules) _ _ c.retain.ensures.filtered
-    ∙ ap (without_bucket c.args.bucket) c.self.view_is
+    c.of.ensures
+    ∙ filter-from_retain _ _ _ (λ x b f' y called. search rules) _ _ c.retain.ensures.filtered
+    ∙ ap (without_bucket c.args.bucket) (c.list_of-items.ensures ∙ c.items.ensures.items)
