@@ -18,7 +18,6 @@ mod changed;
 mod cursor;
 mod fault;
 mod law;
-mod memory;
 mod text;
 mod walk;
 
@@ -26,5 +25,5 @@ pub use change::ChangedPrefix;
 pub use changed::difference;
 pub use fault::DiffFault;
 pub use law::changes_are_the_differences;
-pub use memory::Memory;
+pub use prefix_table::Memory;
 pub use text::put_difference;

@@ -1,8 +1,8 @@
 ghost use Rattle.std.specs.Prelude.{◌≡◌, ◌<◌, ◌≤◌, ◌+◌, ◌-◌, ◌^◌, ◌++◌, ◌==◌, Bool, true, false, List, length, take, flat_map, OnOk, OnErr, decimal};
 ghost use Rattle.map_diff.specs.Text.{new_row, is_counted, number_text, change_text, given_text, taken_text, count_of, counts_text, difference_text};
 
+use crate::Memory;
 use crate::change::ChangedPrefix;
-use crate::memory::Memory;
 use itoa::Buffer;
 use prefix_table::{Row, put_prefix};
 

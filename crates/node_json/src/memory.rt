@@ -28,12 +28,6 @@ impl From<picture_text::Memory> for Memory {
     }
 }
 
-impl From<table_picture::Memory> for Memory {
-    fn from(_error: table_picture::Memory) -> Memory {
-        Memory
-    }
-}
-
 impl From<tables::Memory> for Memory {
     fn from(_error: tables::Memory) -> Memory {
         Memory

@@ -2,9 +2,8 @@
 #![tactic(auto)]
 
 mod keys;
-mod memory;
 mod picture;
 
 pub use keys::{group_key, slot_keys};
-pub use memory::Memory;
 pub use picture::{first_slot, put_picture};
+pub use picture_text::Memory;
