@@ -2,13 +2,13 @@
 use Rattle.std.proofs.Common.{◌≡◌, ℕ, List, Option, sym, ap, subst, inl, inr, ⊎_elim, ◌⊎◌}
 use Rattle.log_lines.specs.Spelling.{SpellsCommand}
 use Rattle.log_lines.specs.declared.command.Command.{Command}
-use Rattle.log_lines.specs.declared.command.Command.TheVariants as command
 use Rattle.log_lines.specs.declared.reply.Reply.{Reply}
 use Rattle.log_lines.specs.Replies.{reply_text}
 use Rattle.manager.specs.Machine.{Machine}
 use Rattle.manager.specs.Step as manager
 use Rattle.session.specs.Events.{Ended}
 use Rattle.session.specs.History.{History, HistoryStep}
+use Rattle.session.proofs.Effects.{step_kinds}
 use Rattle.session.specs.State.{CommandStep, JobStep, MachineStep, SessionState}
 
 -- the machine stays, or makes a step of the command
@@ -22,11 +22,8 @@ by_machine : (old : SessionState) (asked : Command) (answer : Reply) (new : Sess
 by_machine old asked answer new ended h = inr (subst (λ (s : SessionState). manager.Step old.machine asked answer s.machine) (sym h.2) h.1)
 
 command_moves : (old : SessionState) (asked : Command) (answer : Reply) (new : SessionState) (ended : Option Ended) → CommandStep old asked answer new ended → Moves old.machine asked answer new.machine
-command_moves old command.Save answer new ended h = by_job old command.Save answer new ended h
-command_moves old command.SaveBegin answer new ended h = by_job old command.SaveBegin answer new ended h
-command_moves old (command.SaveStep n) answer new ended h = by_job old (command.SaveStep n) answer new ended h
-command_moves old command.SaveEnd answer new ended h = by_job old command.SaveEnd answer new ended h
-command_moves old other answer new ended h = by_machine old other answer new ended h
+command_moves old asked answer new ended h =
+    ⊎_elim (by_job old asked answer new ended) (by_machine old asked answer new ended) (step_kinds old asked answer new ended h)
 
 -- a line leaves the machine as it is, or spells a command by which it moves
 pub line_moves : (old : History) (line text : List ℕ) (new : History) → HistoryStep old line text new

@@ -38,23 +38,7 @@ verb_with word = find (λ verb. bytes_eq (word_of verb) word) verbs
 command_back : (command : Command) → command_by (verb_with (word_of (verb_of command))) (command_values command) ≡ command
 unfolding command_by verb_with
 command_back (c.Now time) = refl
-command_back (c.Addr source payload words) = refl
-command_back (c.Addr2 source payload words) = refl
-command_back (c.Good peer testing) = refl
-command_back (c.Attempt peer count) = refl
-command_back (c.Connected peer) = refl
-command_back (c.Services peer services) = refl
-command_back (c.Find peer) = refl
-command_back c.Size = refl
-command_back (c.Select new_only nets words) = refl
-command_back (c.Sample max pct classes words) = refl
-command_back c.Resolve = refl
-command_back (c.Clash word) = refl
-command_back c.Dump = refl
-command_back c.Save = refl
-command_back c.SaveBegin = refl
-command_back (c.SaveStep count) = refl
-command_back c.SaveEnd = refl
+command_back other = refl
 
 -- a first word and the fields after it parse as one command
 pub one_after : (word : List ℕ) (texts : List (List ℕ)) (a b : Command) → SpellsAfter word texts a → SpellsAfter word texts b → a ≡ b

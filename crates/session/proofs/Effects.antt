@@ -1,6 +1,6 @@
 -- What each save event has done.
-use Rattle.std.proofs.Common.{◌≡◌, ℕ, List, [], ◌++◌, length, take, inl, refl, sym, ◌∙◌, subst}
-use Rattle.std.specs.Prelude.{Option, Some, None, IfSome, ◌≢◌, true, false}
+use Rattle.std.proofs.Common.{◌≡◌, ℕ, List, [], ◌++◌, length, take, inl, inr, refl, sym, ◌∙◌, subst}
+use Rattle.std.specs.Prelude.{Option, Some, None, IfSome, ◌≢◌, ◌⊎◌, true, false}
 use Rattle.host_io.specs.Disk.{Disk, MayHave}
 use Rattle.host_io.specs.Faults.{Rose}
 use Rattle.host_io.specs.Past.{Past, Always}
@@ -12,11 +12,11 @@ use Rattle.log_lines.specs.declared.reply.Reply.{Reply}
 use Rattle.log_lines.specs.declared.reply.Reply.TheVariants.{Begun, NotSaved, Saved, Stepped}
 use Rattle.save_store.specs.Job.{Job, Reads, whole}
 use Rattle.save_store.specs.Saves.{IsStored, KeepsOthers, PublishesOrNot}
-use Rattle.session.specs.Events.{Ended, SaveStep as SaveCommand, after_step, begun}
+use Rattle.session.specs.Events.{Ended, SaveCommand, after_step, begun}
 use Rattle.session.specs.Events.Ended.{Saved as was_saved, NotSaved as was_not}
 use Rattle.session.specs.Folders.{AtMost, MayPublish, published}
 use Rattle.session.specs.Inside.{Carried, Effect}
-use Rattle.session.specs.State.{CommandStep, SessionState, file_now, file_of, state}
+use Rattle.session.specs.State.{CommandStep, JobStep, MachineStep, SessionState, file_now, file_of, state}
 use Rattle.log_lines.specs.Spelling.{SpellsCommand}
 use Rattle.log_lines.specs.declared.command.Command.{Command}
 use Rattle.manager.specs.Machine.{Machine}
@@ -180,6 +180,15 @@ machine_step chain old new job SaveBegin answer step = absurd step
 machine_step chain old new job (SaveStep n) answer step = absurd step
 machine_step chain old new job SaveEnd answer step = absurd step
 machine_step chain old new job other answer step = (new, step, refl, refl)
+
+-- a step is that of a save command or of the machine
+pub step_kinds : (old : SessionState) (asked : Command) (answer : Reply) (new : SessionState) (ended : Option Ended) → CommandStep old asked answer new ended
+    → JobStep old asked answer new ended ⊎ MachineStep old asked answer new ended
+step_kinds old Save answer new ended h = inl h
+step_kinds old SaveBegin answer new ended h = inl h
+step_kinds old (SaveStep n) answer new ended h = inl h
+step_kinds old SaveEnd answer new ended h = inl h
+step_kinds old other answer new ended h = inr h
 
 -- a command of the machine publishes no file
 pub publishes_none : (file : List ℕ) (job : Option Job) (asked : Command) → SavesNothing asked → published file job asked ≡ None

@@ -13,7 +13,7 @@ use Rattle.log_lines.specs.declared.command.Command.TheVariants as command
 use Rattle.log_lines.specs.declared.reply.Reply.{Reply}
 use Rattle.save_store.specs.Job.{Job, whole}
 use Rattle.save_store.specs.Saves.{IsStored}
-use Rattle.session.specs.Events.{Ended, SaveStep as SaveCommand, after_step, save, save_begin, save_end, save_step}
+use Rattle.session.specs.Events.{Ended, SaveCommand, after_step, save, save_begin, save_end, save_step}
 use Rattle.session.specs.Events.Ended.{NotSaved, Saved}
 use Rattle.session.specs.Folders.{HasEnded, LeavesFile, published, published_in}
 use Rattle.session.specs.History.{IsAny, IsLast, OrOpen, RoseBy, failed, onto}

@@ -28,7 +28,11 @@ begun file = record { temp = PeersTemp; written = []; left = file }
 
 -- the save after n more bytes
 abbrev pub after_step : Job → ℕ → Job
-after_step job n = record { temp = job.temp; written = job.written ++ take n job.left; left = drop n job.left }
+after_step job n = record {
+  temp = job.temp;
+  written = job.written ++ take n job.left;
+  left = drop n job.left;
+}
 
 -- `save`: a whole save of the file
 abbrev pub save : List ℕ → Option Job → Bool → Event
@@ -45,7 +49,8 @@ save_begin file (Some job) done = event reply.Busy (Some job) None
 -- `save-step N`: the next n bytes of the open save
 abbrev pub save_step : ℕ → Option Job → Bool → Event
 save_step n None done = event reply.NoSave None None
-save_step n (Some job) true = event (reply.Stepped (length (drop n job.left))) (Some (after_step job n)) None
+save_step n (Some job) true =
+    event (reply.Stepped (length (drop n job.left))) (Some (after_step job n)) None
 save_step n (Some job) false = event reply.NotSaved None (Some (NotSaved (whole job)))
 
 -- `save-end`: the rest of the open save
@@ -59,9 +64,13 @@ abbrev pub IsOfEvent : Event → Reply → Option Job → Option Ended → Type 
 IsOfEvent e answer job ended = (answer ≡ e.reply) × (job ≡ e.job) × (ended ≡ e.ended)
 
 -- what a save command does to the open save, with the file of the tables
-abbrev pub SaveStep : List ℕ → Option Job → Command → Reply → Option Job → Option Ended → Type 0
-SaveStep file old command.Save answer new ended = (done : Bool) × IsOfEvent (save file old done) answer new ended
-SaveStep file old command.SaveBegin answer new ended = (done : Bool) × IsOfEvent (save_begin file old done) answer new ended
-SaveStep file old (command.SaveStep n) answer new ended = (done : Bool) × IsOfEvent (save_step n old done) answer new ended
-SaveStep file old command.SaveEnd answer new ended = (done : Bool) × IsOfEvent (save_end old done) answer new ended
-SaveStep file old other answer new ended = ⊥
+abbrev pub SaveCommand : List ℕ → Option Job → Command → Reply → Option Job → Option Ended → Type 0
+SaveCommand file old command.Save answer new ended =
+    (done : Bool) × IsOfEvent (save file old done) answer new ended
+SaveCommand file old command.SaveBegin answer new ended =
+    (done : Bool) × IsOfEvent (save_begin file old done) answer new ended
+SaveCommand file old (command.SaveStep n) answer new ended =
+    (done : Bool) × IsOfEvent (save_step n old done) answer new ended
+SaveCommand file old command.SaveEnd answer new ended =
+    (done : Bool) × IsOfEvent (save_end old done) answer new ended
+SaveCommand file old other answer new ended = ⊥

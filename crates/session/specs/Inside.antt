@@ -4,22 +4,22 @@ use Rattle.host_io.specs.Past.{Past, Always}
 use Rattle.log_lines.specs.declared.command.Command.{Command}
 use Rattle.log_lines.specs.declared.reply.Reply.{Reply}
 use Rattle.save_store.specs.Job.{Job}
-use Rattle.session.specs.Events.{Ended, SaveStep}
+use Rattle.session.specs.Events.{Ended, SaveCommand}
 use Rattle.session.specs.Folders.{AtMost, HasEnded, IsOpen, published}
 use Rattle.session.specs.State.{CommandStep, SessionState}
 
 -- what a save command has done, to the open save and to the folder
-pub record Effect (file : List ℕ) (old : Option Job) (asked : Command) (answer : Reply) (new : Option Job)
-    (before after : Option Past) (faults_before faults_after : ℕ) : Type 0 where
+pub record Effect (file : List ℕ) (old : Option Job) (asked : Command) (answer : Reply)
+    (new : Option Job) (before after : Option Past) (faults_before faults_after : ℕ) : Type 0 where
   pub ended : Option Ended
-  pub step : SaveStep file old asked answer new ended
+  pub step : SaveCommand file old asked answer new ended
   pub has : HasEnded ended after faults_before faults_after
   pub moments : Always before after (AtMost (published file old asked))
   pub is_open : IsOpen new after
 
 -- what a command has done, to the session and to the folder
-pub record Carried (old : SessionState) (asked : Command) (answer : Reply) (new : SessionState) (after : Option Past)
-    (faults_before faults_after : ℕ) : Type 0 where
+pub record Carried (old : SessionState) (asked : Command) (answer : Reply) (new : SessionState)
+    (after : Option Past) (faults_before faults_after : ℕ) : Type 0 where
   pub ended : Option Ended
   pub step : CommandStep old asked answer new ended
   pub has : HasEnded ended after faults_before faults_after

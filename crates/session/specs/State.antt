@@ -11,7 +11,7 @@ use Rattle.manager.specs.Step as manager
 use Rattle.peers_file.specs.Texts.{file_text}
 use Rattle.peers_file.specs.declared.chain.Chain.{Chain}
 use Rattle.save_store.specs.Job.{Job}
-use Rattle.session.specs.Events.{Ended, SaveStep}
+use Rattle.session.specs.Events.{Ended, SaveCommand}
 use Rattle.table_machine.specs.Snapshot.{snapshot_of}
 use Rattle.table_machine.specs.State as tables
 
@@ -36,19 +36,21 @@ file_now st = file_of st.chain st.machine.tables
 -- a save command, which leaves the machine as it is
 abbrev pub JobStep : SessionState → Command → Reply → SessionState → Option Ended → Type 0
 JobStep old asked answer new ended =
-    (job : Option Job) × SaveStep (file_now old) old.job asked answer job ended × (new ≡ record old { job = job })
+    (job : Option Job) × SaveCommand (file_now old) old.job asked answer job ended
+    × (new ≡ record old { job = job })
 
 -- a command of the machine, which leaves the open save as it is
 abbrev pub MachineStep : SessionState → Command → Reply → SessionState → Option Ended → Type 0
 MachineStep old asked answer new ended =
-    (machine : Machine) × manager.Step old.machine asked answer machine × (new ≡ record old { machine = machine })
-    × (ended ≡ None)
+    (machine : Machine) × manager.Step old.machine asked answer machine
+    × (new ≡ record old { machine = machine }) × (ended ≡ None)
 
 -- what a command is answered, the state after it, and the save that ended in it
 abbrev pub CommandStep : SessionState → Command → Reply → SessionState → Option Ended → Type 0
 CommandStep old command.Save answer new ended = JobStep old command.Save answer new ended
 CommandStep old command.SaveBegin answer new ended = JobStep old command.SaveBegin answer new ended
-CommandStep old (command.SaveStep n) answer new ended = JobStep old (command.SaveStep n) answer new ended
+CommandStep old (command.SaveStep n) answer new ended =
+    JobStep old (command.SaveStep n) answer new ended
 CommandStep old command.SaveEnd answer new ended = JobStep old command.SaveEnd answer new ended
 CommandStep old other answer new ended = MachineStep old other answer new ended
 
@@ -56,5 +58,5 @@ CommandStep old other answer new ended = MachineStep old other answer new ended
 abbrev pub LineStep : SessionState → List ℕ → List ℕ → SessionState → Option Ended → Type 0
 LineStep old line text new ended =
     (IsPassedOver line × (text ≡ []) × (new ≡ old) × (ended ≡ None))
-    ⊎ ((asked : Command) × (answer : Reply) × SpellsCommand line asked × CommandStep old asked answer new ended
-    × (text ≡ reply_text answer))
+    ⊎ ((asked : Command) × (answer : Reply) × SpellsCommand line asked
+    × CommandStep old asked answer new ended × (text ≡ reply_text answer))
