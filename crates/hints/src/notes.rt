@@ -1,6 +1,6 @@
 ghost use Rattle.std.specs.Prelude.{◌≡◌};
 
-use host_io::Name;
+use host_io::NAMES;
 use std::alloc::{AllocError, Global};
 use std::cell::Cell;
 use std::io;
@@ -114,25 +114,13 @@ impl Notes {
 
 /// Returns the name of the file at a path, or that of the folder.
 pub(crate) fn name_at(path: &str) -> &'static str {
-    for name in &FILES {
+    for name in NAMES {
         if name.file_name() == path {
             return name.file_name();
         }
     }
     FOLDER
 }
-
-/// All files of a folder.
-static FILES: [Name; 8] = [
-    Name::Peers,
-    Name::PeersTemp,
-    Name::Asmap,
-    Name::AsmapTemp,
-    Name::AsmapOld,
-    Name::Prefixes,
-    Name::Bans,
-    Name::BansTemp,
-];
 
 /// Returns whether calls on this file are part of a save.
 fn is_of_save(name: &str) -> bool {

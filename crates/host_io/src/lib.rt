@@ -39,7 +39,7 @@ pub use folder::{Folder, SureFolder};
 pub use lines::{LINE_FEED, is_passed_over, split_line};
 pub use list::{Bytes, ListOf};
 pub use mem_folder::MemFolder;
-pub use name::{Name, PerName};
+pub use name::{NAMES, Name, PerName};
 pub use reading::read_past;
 pub use sink::{MemSink, Sink, StdSink, SureSink, write_all};
 pub use source::{MemSource, Source, StdSource, SureSource};

@@ -12,6 +12,18 @@ pub enum Name {
     BansTemp,
 }
 
+/// All names, each once.
+pub const NAMES: [Name; 8] = [
+    Name::Peers,
+    Name::PeersTemp,
+    Name::Asmap,
+    Name::AsmapTemp,
+    Name::AsmapOld,
+    Name::Prefixes,
+    Name::Bans,
+    Name::BansTemp,
+];
+
 impl Name {
     ghost use Rattle.std.specs.Prelude.{◌≡◌};
     ghost use Rattle.host_io.specs.Name.{file_name_of};

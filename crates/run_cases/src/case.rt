@@ -1,7 +1,7 @@
 use crate::images::{Images, Mark};
 use crate::unread::Unread;
 use gen_load::{Gen, MAX_LINES};
-use host_io::Name;
+use host_io::{NAMES, Name};
 use std::alloc::{AllocError, Global};
 
 /// A file of the folder.
@@ -57,18 +57,6 @@ pub(crate) struct Case {
     /// it is to be compared.
     pub dump_sum: Option<String>,
 }
-
-/// The files that a folder may have.
-pub(crate) const NAMES: [Name; 8] = [
-    Name::Peers,
-    Name::PeersTemp,
-    Name::Asmap,
-    Name::AsmapTemp,
-    Name::AsmapOld,
-    Name::Prefixes,
-    Name::Bans,
-    Name::BansTemp,
-];
 
 /// Appends the line with its line feed.
 fn add_line(text: &mut Vec<u8>, line: &str) -> Result<(), AllocError> {

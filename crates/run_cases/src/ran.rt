@@ -1,11 +1,11 @@
 ghost use Rattle.std.specs.Prelude.{◌≡◌, true, string_bytes};
 
 use crate::calls::calls_of;
-use crate::case::{Case, Left, NAMES};
+use crate::case::{Case, Left};
 use crate::images::{has_images, list_tables};
 use crate::unread::Unread;
 use addrman_run::{Status, code, run, status_line};
-use host_io::{Folder, MemFolder, MemSink, MemSource, Name, Sink, Source};
+use host_io::{Folder, MemFolder, MemSink, MemSource, NAMES, Name, Sink, Source};
 use sha2::{Digest, Sha256};
 use std::alloc::{AllocError, Global};
 use std::hash::{BuildHasherDefault, FoldHasher};
