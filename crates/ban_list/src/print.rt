@@ -41,13 +41,13 @@ fn put_ip(addr: &NetAddr, out: &mut Vec<u8>) -> Result<(), Memory>
 {
     let bytes = addr.bytes();
     match addr.net() {
-        Net::Ipv6 => Ok(put_ipv6(bits_of(&array_of(bytes)), out)?),
-        _ => Ok(put_addr(addr, out)?),
+        Net::Ipv6 => put_ipv6(bits_of(&array_of(bytes)), out),
+        _ => put_addr(addr, out),
     }
 }
 
 /// Appends the length of a subnet, after a slash, in a network where it has one.
-fn put_length(net: Net, len: u16, out: &mut Vec<u8>) -> Result<(), net_addr::Memory>
+fn put_length(net: Net, len: u16, out: &mut Vec<u8>) -> Result<(), Memory>
     ensures { OnOk result (out.new.items ≡ out.old.items ++ length_by net len) }
 {
     match net {
