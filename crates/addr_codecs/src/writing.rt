@@ -14,8 +14,8 @@ use net_addr::{Entry, INTERNAL_PREFIX, MAPPED_PREFIX, Net, NetAddr};
 use std::alloc::Global;
 use wire_num::put_compact;
 
-/// Room for an entry of a message, in bytes: most have at most 30, and the number of entries has one
-/// to three.
+/// Room for an entry of a message, in bytes: most have at most 30, and the number of entries has
+/// one to three.
 const ENTRY_ROOM: usize = 32;
 
 /// Appends an IPv4 or IPv6 address in the old form.

@@ -20,8 +20,8 @@ use Rattle.addrman_run.specs.declared.status.Status.TheVariants.{TooManyRows}
 abbrev pub MeanTheSame : List Row → Tree → Type 0
 MeanTheSame rows tree = (bits : List Bool) → length bits ≡ 128 → best rows (number_of bits) ≡ meaning tree bits 0
 
--- The text of the rows that the folder's asmap is turned back into. They are no more than a table may
--- have, and mean the same.
+-- The text of the rows that the folder's asmap is turned back into. They are no more than a table
+-- may have, and mean the same.
 abbrev pub IsDecompiled : Option Past → List ℕ → Type 0
 IsDecompiled past text =
     (m : Asmap) × IsMapIn past (Some m) × (length (rows_back m.tree) ≤ MAX_ROWS)

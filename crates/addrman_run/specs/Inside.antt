@@ -157,7 +157,8 @@ IsMapOf (Some bytes) (Some m) = (m.file ≡ bytes) × IsAsmap m
 IsMapOf None (Some m) = ⊥
 IsMapOf (Some bytes) None = ⊥
 
--- why there is no asmap, though it may be absent: the folder failed, memory ran out, or it is refused
+-- why there is no asmap, though it may be absent: the folder failed, memory ran out, or it is
+-- refused
 abbrev pub IsNoMap : Option Past → Status → Type 0
 IsNoMap past DiskFault = ⊤
 IsNoMap past Memory = ⊤

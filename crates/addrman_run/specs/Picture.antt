@@ -10,7 +10,8 @@ use Rattle.addrman_run.specs.Opening.{Opened, ReportsOpening}
 use Rattle.addrman_run.specs.TextOut.{TextEnds}
 use Rattle.addrman_run.specs.declared.status.Status.{Status}
 
--- the picture of the tables that a replay without a key begins with, the text of one tree of elements
+-- the picture of the tables that a replay without a key begins with, the text of one tree of
+-- elements
 pub record IsPicture (chain : Chain) (past : Option Past) (text : List ℕ) : Type 0 where
   pub tables : State
   pub opened : Opened None chain past tables

@@ -20,7 +20,8 @@ use Rattle.addrman_run.specs.declared.status.Status.TheVariants.{TableRefused}
 abbrev pub IsTableIn : Option Past → List Row → Type 0
 IsTableIn past rows = (bytes : List ℕ) × IsFileIn name.Prefixes MAX_TEXT past bytes × IsTableText bytes rows
 
--- why prefixes.txt is refused: its size, its text, a table with no rows, or one whose code is too long
+-- why prefixes.txt is refused: its size, its text, a table with no rows, or one whose code is too
+-- long
 abbrev pub RefusesTable : Option Past → TablesFault → Type 0
 RefusesTable past (Rows (table.TooLarge size)) = IsTooLarge name.Prefixes MAX_TEXT past size
 RefusesTable past (Rows table.Memory) = ⊥

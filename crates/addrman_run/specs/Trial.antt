@@ -33,8 +33,8 @@ with_counts text counts =
 abbrev pub with_sum : List ℕ → List ℕ → List ℕ
 with_sum text sum = text ++ codes " sum " ++ encode_lower sum ++ codes "\n"
 
--- the line: how many lines the log has and how many bytes its replies, the counts of the tables after
--- it, and the SHA-256 of the replies
+-- the line: how many lines the log has and how many bytes its replies, the counts of the tables
+-- after it, and the SHA-256 of the replies
 abbrev pub trial_text : ℕ → List ℕ → Counts → List ℕ
 trial_text lines replies counts = with_sum (with_counts (sizes_text lines (length replies)) counts) (sha256 replies)
 

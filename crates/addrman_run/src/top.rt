@@ -33,20 +33,20 @@ use std::hash::BuildHasher;
 /// Runs the program with these arguments, without the program's name, and returns how it ended.
 ///
 /// `replay --key HEX64 --net CHAIN` carries out the lines of the log and writes the reply to each,
-/// from the tables of the folder's peers.dat, or if it is absent, from empty ones with that key, and
-/// with the folder's asmap.dat, if there is one. `opener --key HEX64 --net CHAIN` does the same for
-/// a log whose lines open, test and close outbound connections in place of saving, and changes no
-/// file. `compile` compiles the folder's prefixes.txt into asmap.dat, `check` checks asmap.dat,
+/// from the tables of the folder's peers.dat, or if it is absent, from empty ones with that key,
+/// and with the folder's asmap.dat, if there is one. `opener --key HEX64 --net CHAIN` does the same
+/// for a log whose lines open, test and close outbound connections in place of saving, and changes
+/// no file. `compile` compiles the folder's prefixes.txt into asmap.dat, `check` checks asmap.dat,
 /// `decompile` writes the table of prefixes that it encodes, and `lookup PEER` writes the AS number
 /// and the group that it gives the peer's address, `lookup -` those of each peer of the log.
-/// `address TEXT` writes what is known of an address. `diff` writes the prefixes whose number differs
-/// between asmap.old and asmap.dat, and `diff --peers --net CHAIN` also which records of peers.dat
-/// change their group. `limit` carries out the lines of the log under
-/// the limit on received addresses, and writes the log that is left. `show --net CHAIN` lists what
-/// peers.dat has, `raw --net CHAIN` prints its records by their slots, and `info --net CHAIN` how
-/// many each network has, and `groups --net CHAIN` how many each group, all as JSON. `ban SUBNET NOW UNTIL` and `unban SUBNET` change the list of bans in
-/// banlist.json, `banned PEER NOW` writes which ban covers the peer's address, and `bans NOW` the
-/// bans that are not over, as JSON. `gen START LINES`
+/// `address TEXT` writes what is known of an address. `diff` writes the prefixes whose number
+/// differs between asmap.old and asmap.dat, and `diff --peers --net CHAIN` also which records of
+/// peers.dat change their group. `limit` carries out the lines of the log under the limit on
+/// received addresses, and writes the log that is left. `show --net CHAIN` lists what peers.dat
+/// has, `raw --net CHAIN` prints its records by their slots, and `info --net CHAIN` how many each
+/// network has, and `groups --net CHAIN` how many each group, all as JSON. `ban SUBNET NOW UNTIL`
+/// and `unban SUBNET` change the list of bans in banlist.json, `banned PEER NOW` writes which ban
+/// covers the peer's address, and `bans NOW` the bans that are not over, as JSON. `gen START LINES`
 /// writes a generated log, and `trial START LINES` carries it out from empty tables and writes one
 /// line about the replies. `help COMMAND` writes the page of a command, and `help` the list of all;
 /// `version` writes the version and the toolchain.

@@ -100,7 +100,8 @@ fn replies_to<H: BuildHasher + Drop>(
     }
 }
 
-/// Carries out a generated log from empty tables under a key of zeros, and returns the line about it.
+/// Carries out a generated log from empty tables under a key of zeros, and returns the line about
+/// it.
 fn trial_line<H: BuildHasher + Drop>(
     alloc: Global,
     hasher: H,
@@ -117,7 +118,8 @@ fn trial_line<H: BuildHasher + Drop>(
     line_over(alloc, &mut session, start, lines)
 }
 
-/// Carries out a generated log over a session that owns empty tables, and returns the line about it.
+/// Carries out a generated log over a session that owns empty tables, and returns the line about
+/// it.
 fn line_over<H: BuildHasher + Drop>(
     alloc: Global,
     session: &mut Session<'_, H>,

@@ -6,9 +6,9 @@ use peers_file::Chain;
 /// What the arguments ask for.
 #[derive(Clone, Copy, Debug)]
 pub enum Request {
-    /// `replay --key HEX64 --net CHAIN`: carry out the lines of the log, from the tables of peers.dat,
-    /// a file of this chain (of main without `--net`), or if it is absent, from empty tables with
-    /// this key.
+    /// `replay --key HEX64 --net CHAIN`: carry out the lines of the log, from the tables of
+    /// peers.dat, a file of this chain (of main without `--net`), or if it is absent, from empty
+    /// tables with this key.
     Replay {
         key: Option<[u8; 32]>,
         chain: Chain,
@@ -46,13 +46,13 @@ pub enum Request {
     Show {
         chain: Chain,
     },
-    /// `picture --net CHAIN`: write a picture of the tables that peers.dat, a file of this chain, opens
-    /// with asmap.dat.
+    /// `picture --net CHAIN`: write a picture of the tables that peers.dat, a file of this chain,
+    /// opens with asmap.dat.
     Picture {
         chain: Chain,
     },
-    /// `raw --net CHAIN`: print the records of peers.dat, a file of this chain, by the slots that they
-    /// are in, as JSON.
+    /// `raw --net CHAIN`: print the records of peers.dat, a file of this chain, by the slots that
+    /// they are in, as JSON.
     Raw {
         chain: Chain,
     },
@@ -66,8 +66,8 @@ pub enum Request {
     Groups {
         chain: Chain,
     },
-    /// `ban SUBNET NOW UNTIL`: drop the bans of banlist.json that are over, and ban the subnet until
-    /// a later time, unless it is banned until then or later already, or the list is full.
+    /// `ban SUBNET NOW UNTIL`: drop the bans of banlist.json that are over, and ban the subnet
+    /// until a later time, unless it is banned until then or later already, or the list is full.
     Ban {
         subnet: Subnet,
         now: u32,
@@ -91,8 +91,8 @@ pub enum Request {
         start: u64,
         lines: u32,
     },
-    /// `trial START LINES`: carry out the generated log of a number from empty tables, and write one
-    /// line about the replies.
+    /// `trial START LINES`: carry out the generated log of a number from empty tables, and write
+    /// one line about the replies.
     Trial {
         start: u64,
         lines: u32,

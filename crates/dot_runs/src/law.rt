@@ -1,8 +1,8 @@
 ghost use Rattle.std.specs.Prelude.{◌≡◌, ℕ, ◌+◌, ◌*◌, ◌<◌, ◌≤◌, List, [], ◌∷◌, length, get_or};
 ghost use Rattle.dot_runs.specs.Rects.{dots_over, dot_x, dot_y, table_rects};
 
-/// The dot of each slot is covered by one rectangle, which has the slot's mark, and no place between
-/// two tiles is covered.
+/// The dot of each slot is covered by one rectangle, which has the slot's mark, and no place
+/// between two tiles is covered.
 pub fn one_dot()
     ensures dots { (side : ℕ) (marks : List ℕ) (bucket slot : ℕ) → slot < 64 → 64 * bucket + 64 ≤ length marks
         → dots_over (dot_x side bucket slot) (dot_y side bucket slot) (table_rects side marks)

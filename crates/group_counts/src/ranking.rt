@@ -55,8 +55,8 @@ fn comes_before(group: Counted, other: Counted) -> bool
     group.slots > other.slots || group.slots == other.slots && group.key < other.key
 }
 
-/// Returns the groups in order: of two, the one with more slots comes first, and of two with as many
-/// the one with the lower key. Its time grows with the square of their number.
+/// Returns the groups in order: of two, the one with more slots comes first, and of two with as
+/// many the one with the lower key. Its time grows with the square of their number.
 pub fn in_order(alloc: Global, groups: &[Counted]) -> Result<Vec<Counted>, Memory>
     ensures { IfOk result (λ list. list.items ≡ in_order groups.now) }
 {

@@ -114,8 +114,8 @@ impl<'a, R: Files + Eprint> Files for NotedFiles<'a, R> {
         self.rt.remove_dir_all(alloc, path)
     }
 
-    // The bodies are those that std's trait has. Left out, such a method costs five times as much to
-    // prove.
+    // The bodies are those that std's trait has. Left out, such a method costs five times as much
+    // to prove.
     fn canonicalize<B: Allocator>(&self, _alloc: B, _path: &str) -> io::Result<PathBuf<B>> {
         unsupported()
     }

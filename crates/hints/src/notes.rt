@@ -38,7 +38,8 @@ pub struct Notes {
 }
 
 impl Notes {
-    /// Makes the notes of no call. If the run goes on after a save that failed, `tells_saves` says so.
+    /// Makes the notes of no call. If the run goes on after a save that failed, `tells_saves` says
+    /// so.
     pub fn make(alloc: Global, tells_saves: bool) -> Notes {
         Notes {
             alloc,

@@ -1,8 +1,8 @@
 use peers_file::{FileFault, RecordCause, Which};
 use std::alloc::{AllocError, Global};
 
-/// The first bytes of the files of the chains (`pchMessageStart` in kernel/chainparams.cpp of Bitcoin
-/// Core).
+/// The first bytes of the files of the chains (`pchMessageStart` in kernel/chainparams.cpp of
+/// Bitcoin Core).
 static CHAINS: [([u8; 4], &str); 4] = [
     ([0xf9, 0xbe, 0xb4, 0xd9], "main"),
     ([0x0b, 0x11, 0x09, 0x07], "test"),
@@ -10,8 +10,8 @@ static CHAINS: [([u8; 4], &str); 4] = [
     ([0xfa, 0xbf, 0xb5, 0xda], "regtest"),
 ];
 
-/// Says what is wrong with peers.dat, which begins with these bytes: which chain and which format it
-/// has, and the fault.
+/// Says what is wrong with peers.dat, which begins with these bytes: which chain and which format
+/// it has, and the fault.
 pub fn peers_hint(alloc: Global, fault: &FileFault, head: &[u8]) -> Result<String, AllocError> {
     let mut text = head_text(alloc, head)?;
     text.push_str(fault_text(alloc, fault, head)?.as_str())?;

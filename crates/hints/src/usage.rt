@@ -11,7 +11,8 @@ fn after_flag<'a>(form: &str, words: &'a [String]) -> &'a [String] {
     }
 }
 
-/// Says which argument is wrong, and what is wanted there. The arguments are not those of a command.
+/// Says which argument is wrong, and what is wanted there. The arguments are not those of a
+/// command.
 pub fn usage_hint(alloc: Global, words: &[String]) -> Result<String, AllocError> {
     let Some((command, rest)) = words.split_first() else {
         return String::from_str(

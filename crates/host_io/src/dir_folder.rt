@@ -14,8 +14,8 @@ use std::{fs, io};
 
 /// An open file, or folder, that a program can have for itself.
 pub trait Lock {
-    /// Takes the lock, which lasts until the file is closed. If the file was opened a second time and
-    /// that one has the lock, the call fails at once, with `WouldBlock`.
+    /// Takes the lock, which lasts until the file is closed. If the file was opened a second time
+    /// and that one has the lock, the call fails at once, with `WouldBlock`.
     fn lock(&self) -> io::Result<()>;
 }
 
@@ -278,8 +278,8 @@ where
         self.counted(outcome)
     }
 
-    /// Closes the file that was created last, and renames it. It is a fault if that file has another
-    /// name than `from` or was renamed.
+    /// Closes the file that was created last, and renames it. It is a fault if that file has
+    /// another name than `from` or was renamed.
     fn rename(&mut self, from: Name, to: Name) -> Result<(), Failed>
         requires { from ≢ to }
         ensures steady { OnOk result (self.new ≡ self.old) }

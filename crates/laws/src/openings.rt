@@ -6,8 +6,8 @@ ghost use Rattle.table_machine.specs.Sound.{IsSound};
 ghost use Rattle.table_machine.specs.State.{State};
 
 /// Whatever file is opened, under whatever key and asmap: it loses a record only if its address is
-/// not valid, no bucket of the file lists it, or others are in its slots, and it makes none. Of saved
-/// tables it loses one only if others are in its slots.
+/// not valid, no bucket of the file lists it, or others are in its slots, and it makes none. Of
+/// saved tables it loses one only if others are in its slots.
 pub fn openings_lose_with_causes()
     ensures file { (snap : Snapshot) (places : Places) →
         All (λ pair. pair.1 < length snap.new_recs) snap.listed → KeepsAtOpening snap places }

@@ -33,8 +33,8 @@ IsLine now n = (n ≤ MAX_LINE) × HasNoFeed (take n now.waiting) × IsNext now 
 abbrev pub HasNoLine : Reading → Type 0
 HasNoLine now = HasNoFeed now.waiting × (length now.waiting ≤ MAX_LINE)
 
--- More bytes wait than a line may have, before the end of the next line, and no more than a line and
--- one read.
+-- More bytes wait than a line may have, before the end of the next line, and no more than a line
+-- and one read.
 abbrev pub IsLong : Reading → Type 0
 IsLong now =
     HasNoFeed (take (MAX_LINE + 1) now.waiting) × (MAX_LINE < length now.waiting)

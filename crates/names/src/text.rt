@@ -5,8 +5,8 @@ ghost use Rattle.names.specs.Text.{IsHost, IsHostOfPort, IsTextOf, IsWithPort};
 use crate::read::parse_name;
 use net_addr::{NetAddr, around_last, parse_addr, parse_number};
 
-/// Parses what people write for an address: an address as the lines of a log have it or a name, with
-/// or without a port.
+/// Parses what people write for an address: an address as the lines of a log have it or a name,
+/// with or without a port.
 pub fn parse_text(text: &[u8]) -> Option<NetAddr>
     ensures found { IfSome result (IsTextOf text.now) }
     ensures address { IfSome result IsAddress }

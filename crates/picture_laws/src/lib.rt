@@ -1,6 +1,6 @@
 //! What the definition of the picture gives, in the words of the tables: which slots its numbers
-//! count, which groups it lists, what its dots show, and that its text is that of one tree. There is
-//! no program here, only definitions and laws.
+//! count, which groups it lists, what its dots show, and that its text is that of one tree. There
+//! is no program here, only definitions and laws.
 #![tactic(auto)]
 
 mod law;

@@ -10,7 +10,8 @@ use Rattle.net_addr.specs.declared.net.Net.TheVariants.{Unroutable, Ipv4, Ipv6, 
 use Rattle.net_group.specs.Group.{he_net}
 use Rattle.placing.specs.Places.{Places, asn}
 
--- the prefix of this length that an address of sixteen bytes is in; there are `size` addresses in it
+-- the prefix of this length that an address of sixteen bytes is in; there are `size` addresses in
+-- it
 abbrev pub prefix_text : List ℕ → ℕ → ℕ → List ℕ
 prefix_text bytes size length =
     ipv6_text (to_be_bytes w128 (from_be_bytes w128 bytes / size * size)) ++ (codes "/" ++ decimal length)

@@ -129,8 +129,8 @@ fn put_free_row(keys: &[u128], index: u8, out: &mut Vec<u8>) -> Result<(), Memor
     Ok(())
 }
 
-/// Appends the list. The first names are those of the listed groups; `buckets` has each key once for
-/// each bucket of the new table that it is in.
+/// Appends the list. The first names are those of the listed groups; `buckets` has each key once
+/// for each bucket of the new table that it is in.
 #[tactic(auto, unfolding(crate::specs::Picture::rows_text))]
 pub(crate) fn put_rows(
     keys: &[u128],

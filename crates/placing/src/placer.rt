@@ -172,9 +172,9 @@ impl<'a> Placer<'a> {
         finish(hasher)
     }
 
-    /// Returns the bucket of the new table for a peer that a source announces: one of the 64 buckets
-    /// of the source's group, so that one source reaches few buckets (`AddrInfo::GetNewBucket` in
-    /// addrman.cpp of Bitcoin Core).
+    /// Returns the bucket of the new table for a peer that a source announces: one of the 64
+    /// buckets of the source's group, so that one source reaches few buckets
+    /// (`AddrInfo::GetNewBucket` in addrman.cpp of Bitcoin Core).
     #[tactic(auto, unfolding(crate::specs::Places::new_bucket))]
     pub fn new_bucket(&self, peer: &Peer, source: &NetAddr) -> u16
         ensures value { result ≡ new_bucket self.now peer.now source.now }

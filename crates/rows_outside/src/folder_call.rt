@@ -16,8 +16,8 @@ pub(crate) enum FolderCall<'a> {
     SyncDir,
 }
 
-/// Calls of a folder that has `bitcoin` in asmap.dat, a folder as banlist.json, as banlist.tmp a link
-/// to asmap.dat, as asmap.tmp another name of that file, and as prefixes.txt a link to itself.
+/// Calls of a folder that has `bitcoin` in asmap.dat, a folder as banlist.json, as banlist.tmp a
+/// link to asmap.dat, as asmap.tmp another name of that file, and as prefixes.txt a link to itself.
 static CALLS: [FolderCall<'static>; 47] = [
     // No call but `create` makes a file.
     FolderCall::Size(Name::Peers),

@@ -32,8 +32,8 @@ pub(crate) struct Plan {
     pub len: Option<u64>,
 }
 
-/// The folder of a runtime, whose calls follow a plan. A read gives at most three bytes, and a write
-/// takes at most three.
+/// The folder of a runtime, whose calls follow a plan. A read gives at most three bytes, and a
+/// write takes at most three.
 #[derive(Drop)]
 pub(crate) struct Watch<'a, R> {
     pub rt: &'a R,
@@ -139,8 +139,8 @@ impl<'a, R: Files + Print> Files for Watch<'a, R> {
         self.rt.remove_dir_all(alloc, path)
     }
 
-    // The bodies are those that std's trait has. Left out, such a method costs five times as much to
-    // prove.
+    // The bodies are those that std's trait has. Left out, such a method costs five times as much
+    // to prove.
     fn canonicalize<B: Allocator>(&self, _alloc: B, _path: &str) -> io::Result<PathBuf<B>> {
         unsupported()
     }

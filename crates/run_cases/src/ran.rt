@@ -16,8 +16,8 @@ pub(crate) struct Ran {
     /// The exit code, and after a space the text of the status.
     pub end: String,
     pub written: Vec<u8>,
-    /// The folder has the files, the calls and the images and the log the bytes that the case wants,
-    /// and no call ran out of memory.
+    /// The folder has the files, the calls and the images and the log the bytes that the case
+    /// wants, and no call ran out of memory.
     pub is_steady: bool,
 }
 
@@ -232,8 +232,8 @@ fn run_from(alloc: Global, case: &Case, log: &mut MemSource) -> Result<Ran, Unre
     run_in(alloc, case, log, &mut folder)
 }
 
-/// Runs the program on what the case gives. Each of these functions makes one object, since one that
-/// has more of them takes long to prove.
+/// Runs the program on what the case gives. Each of these functions makes one object, since one
+/// that has more of them takes long to prove.
 pub(crate) fn run_case(alloc: Global, case: &Case) -> Result<Ran, Unread> {
     let log = case.log.as_slice();
     let mut log = MemSource::make(alloc, log, case.piece.max(1), case.failing_reads.as_slice())?;

@@ -18,8 +18,8 @@ ask what = record { what = what; bytes = [] }
 abbrev pub ask_append : List ℕ → Request
 ask_append bytes = record { what = Append; bytes = bytes }
 
--- The bytes in pieces of this many, of which the last may be shorter. There are not more pieces than
--- the first number.
+-- The bytes in pieces of this many, of which the last may be shorter. There are not more pieces
+-- than the first number.
 abbrev pub pieces_up_to : ℕ → ℕ → List ℕ → List (List ℕ)
 pieces_up_to zero most bytes = []
 pieces_up_to (suc n) most [] = []

@@ -20,9 +20,9 @@ pub fn write_temp<F: Folder>(folder: &mut F, temp: Name, bytes: &[u8]) -> Result
     folder.sync(temp)
 }
 
-/// Puts a temporary file that is synced in the place of the file that it is for, and makes the names
-/// safe. Until `Ok`, a crash leaves the file as it was or the new one; afterwards always the new
-/// one.
+/// Puts a temporary file that is synced in the place of the file that it is for, and makes the
+/// names safe. Until `Ok`, a crash leaves the file as it was or the new one; afterwards always the
+/// new one.
 #[tactic(auto, using(crate::proofs::Published::moved_and_synced, crate::proofs::Published::moved_only, crate::proofs::Published::not_renamed, crate::proofs::Published::stored, crate::proofs::Temp::synced_there))]
 pub fn publish<F: Folder>(folder: &mut F, temp: Name, name: Name) -> Result<(), Failed>
     requires apart { temp ≢ name }

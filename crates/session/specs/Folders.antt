@@ -42,8 +42,8 @@ abbrev pub LeavesFile : Option (List ℕ) → Option (List ℕ) → Type 0
 LeavesFile None found = ⊥
 LeavesFile (Some file) found = found ≡ Some file
 
--- A crash leaves at peers.dat what it could leave there at the start, or the file, and at each other
--- name but peers.tmp nothing more than at the start.
+-- A crash leaves at peers.dat what it could leave there at the start, or the file, and at each
+-- other name but peers.tmp nothing more than at the start.
 pub record AtMost (file : Option (List ℕ)) (start disk : Disk) : Type 0 where
   pub at : (found : Option (List ℕ)) → MayHave (under disk Peers) found →
       MayHave (under start Peers) found ⊎ LeavesFile file found

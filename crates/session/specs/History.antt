@@ -42,8 +42,9 @@ failed (NotSaved file ∷ ended) = failed ended + 1
 abbrev pub RoseBy : ℕ → ℕ → ℕ → Type 0
 RoseBy n before after = (before + n ≤ after) ⊎ ((2 ^ 64 - 1 ≤ after) × Rose before after)
 
--- Found at peers.dat: the file of the last save that is acknowledged, or of one that failed after it;
--- if none is acknowledged, that of any save that failed, or what a crash could leave at the start.
+-- Found at peers.dat: the file of the last save that is acknowledged, or of one that failed after
+-- it; if none is acknowledged, that of any save that failed, or what a crash could leave at the
+-- start.
 abbrev pub IsLast : Disk → List Ended → Option (List ℕ) → Type 0
 IsLast start [] found = MayHave (under start Peers) found
 IsLast start (Saved file ∷ ended) found = found ≡ Some file
@@ -64,8 +65,8 @@ abbrev pub AtExit : History → Disk → Disk → Type 0
 AtExit run start disk =
     (found : Option (List ℕ)) → MayHave (under disk Peers) found → OrOpen run.now.job found (IsLast start run.ended found)
 
--- What a crash could leave at any moment since the start: at peers.dat the file of a save of this run
--- or what it could leave at the start, and at each other name but peers.tmp nothing more.
+-- What a crash could leave at any moment since the start: at peers.dat the file of a save of this
+-- run or what it could leave at the start, and at each other name but peers.tmp nothing more.
 pub record SinceEntry (run : History) (start disk : Disk) : Type 0 where
   pub at : (found : Option (List ℕ)) → MayHave (under disk Peers) found →
       OrOpen run.now.job found (IsAny start run.ended found)

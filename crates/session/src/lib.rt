@@ -11,8 +11,8 @@
 //! - Each refusal is the line's (`fault`, `only_fault`), and what `Memory` leaves is said
 //!   (`memory`, `list`).
 //!
-//! Over several lines, lemmas carry what a crash may leave: the file of the last save that was done,
-//! or of one that began later.
+//! Over several lines, lemmas carry what a crash may leave: the file of the last save that was
+//! done, or of one that began later.
 #![tactic(auto)]
 
 mod carry_out;

@@ -91,7 +91,8 @@ fn equal_entries(alloc: Global, count: u64) -> Result<String, Unread> {
     }
 }
 
-/// `unknown-network LENGTH`: an `addrv2` entry of an unknown network with an address of this length.
+/// `unknown-network LENGTH`: an `addrv2` entry of an unknown network with an address of this
+/// length.
 fn unknown_network(alloc: Global, length: u64) -> Result<String, Unread> {
     let mut bytes = bytes_of(alloc, "0100f153650109")?;
     if put_compact(length, &mut bytes).is_err() {
