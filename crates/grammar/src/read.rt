@@ -29,7 +29,9 @@ pub fn read_texts<T: Texts, G: Grammar<T>>(
     }
 }
 
-/// Reads what a line says, which has no line feed.
+/// Reads what a line says, which has no line feed. It is never inlined, so that a line that is
+/// passed over does not pay for its room on the stack.
+#[inline(never)]
 pub fn read_said<'a, G: Grammar<Option<&'a [u8]>>>(
     alloc: Global,
     line: &'a [u8],
