@@ -49,7 +49,7 @@ impl<T: Texts> Grammar<T> for LimitLines {
 
     ghost at_fault = { FaultAfter };
 
-    ghost may_stop = { ⊤ };
+    ghost can_run_out = { ⊤ };
 
     ghost one_said = { one_event };
 

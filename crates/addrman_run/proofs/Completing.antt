@@ -6,7 +6,7 @@ use Rattle.std.proofs.lemmas.List.Elements.{All-head, All-tail}
 use Rattle.addr_limit.specs.Laws.{no_fault as no_limit_fault}
 use Rattle.addr_limit.specs.Lines.{FaultAfter, HasEventFault, SaysAfter}
 use Rattle.ban_list.specs.declared.ban.Ban.{Ban}
-use Rattle.host_io.specs.Faults.{Rose}
+use Rattle.host_io.specs.Faults.{Rose, RoseBy}
 use Rattle.host_io.specs.Lines.{lines_of, onto_first}
 use Rattle.host_io.specs.Outside.{Outside}
 use Rattle.host_io.specs.Past.{Past}
@@ -26,7 +26,6 @@ use Rattle.log_run.specs.declared.limits.TheConstants.{MAX_LINE, MAX_LOG}
 use Rattle.opener_lines.proofs.OneMeaning.{asked_no_fault}
 use Rattle.opener_lines.specs.Grammar.{HasRequestFault}
 use Rattle.peers_file.specs.declared.chain.Chain.{Chain}
-use Rattle.session.specs.History.{RoseBy}
 use Rattle.addrman_run.specs.Bans.{BansEnds, Change, ReportsBans}
 use Rattle.addrman_run.specs.Compile.{CompileEnds}
 use Rattle.addrman_run.specs.Complete.{IsComplete, IsGoodLog, IsLimitLine, IsLookupLine, IsOpenerLine, IsReplayLine, IsUsable, NoRefusal, NoSaveFails, NothingFails, NothingIsWrong}

@@ -1,6 +1,7 @@
 -- What a replay has done, from what its run over the log says.
 use Rattle.std.proofs.Common.{◌≡◌, ◌≤◌, ℕ, List, [], ◌∷◌, refl, sym, ap, ◌∙◌, subst, inl, inr, arith}
 use Rattle.std.specs.Prelude.{Option, Some, None}
+use Rattle.host_io.specs.Faults.{RoseBy}
 use Rattle.host_io.specs.Lines.{lines_of}
 use Rattle.host_io.specs.Outside.{Outside}
 use Rattle.host_io.specs.Past.{Always, Past}
@@ -13,7 +14,7 @@ use Rattle.log_run.specs.declared.end.LogEnd.{LogEnd}
 use Rattle.peers_file.specs.declared.chain.Chain.{Chain}
 use Rattle.session.specs.Events.{Ended}
 use Rattle.session.specs.Folders.{IsOpen, SessionStep}
-use Rattle.session.specs.History.{AtExit, Now, RoseBy, SinceEntry, HistoryStep, failed, fresh, onto}
+use Rattle.session.specs.History.{AtExit, Now, SinceEntry, HistoryStep, failed, fresh, onto}
 use Rattle.session.specs.State as session
 use Rattle.session.proofs.OneHistory.{one_run}
 use Rattle.session.proofs.Promise.{IsKept, history, kept_line, kept_start}

@@ -1,5 +1,6 @@
 -- What a replay writes and saves, and how it ends.
 use Rattle.std.specs.Prelude.{◌≡◌, ℕ, ◌+◌, List, Option, Some, None}
+use Rattle.host_io.specs.Faults.{RoseBy}
 use Rattle.host_io.specs.Disk.{files_on}
 use Rattle.host_io.specs.Lines.{lines_of}
 use Rattle.host_io.specs.Outside.{Outside}
@@ -18,7 +19,7 @@ use Rattle.log_run.specs.declared.end.LogEnd.{LogEnd}
 use Rattle.log_run.specs.declared.limits.TheConstants.{MAX_LOG}
 use Rattle.peers_file.specs.declared.chain.Chain.{Chain}
 use Rattle.session.specs.Folders.{IsOpen}
-use Rattle.session.specs.History.{AtExit, History, Now, RoseBy, SinceEntry, HistoryStep, failed, fresh}
+use Rattle.session.specs.History.{AtExit, History, Now, SinceEntry, HistoryStep, failed, fresh}
 use Rattle.session.specs.State as session
 use Rattle.table_machine.specs.Restart.{restart}
 use Rattle.table_machine.specs.State.{State}

@@ -147,7 +147,7 @@ fn is_dash(rest: &[String]) -> bool
 /// Reads arguments that are fields, or returns `None` if they are too few or too many or one is not
 /// in form.
 fn read_values<'a, R: Fields<&'a [String]>>(alloc: Global, rest: &'a [String]) -> Option<R::Out>
-    requires { ¬ R.may_stop }
+    requires { ¬ R.can_run_out }
     ensures found { IfSome result (λ x.
         Reads (Fields R.kinds) (map string_bytes rest.now) (TheFields (R.values x))) }
     ensures none { IfNone result (HasNoValues (Fields R.kinds) (map string_bytes rest.now)) }

@@ -35,7 +35,7 @@ impl<C: Choice> Field for OneOf<C> {
 
     ghost value = { λ b. TheChoice b };
 
-    ghost may_stop = { ⊥ };
+    ghost can_run_out = { ⊥ };
 
     fn read(alloc: Global, text: &[u8]) -> Result<bool, LineFault> {
         read_either(text, C::first(), C::second())

@@ -15,14 +15,14 @@ pub trait Field {
     ghost value: { Self.Out → Value };
 
     /// Reading can run out of memory.
-    ghost may_stop: { Type 0 };
+    ghost can_run_out: { Type 0 };
 
     /// Reads a field of the kind.
     fn read(alloc: Global, text: &[u8]) -> Result<Self::Out, LineFault>
         ensures found { IfOk result (λ x. Means kind text.now (value x)) }
         ensures fault { (f : LineFault) → result ≡ Err f → f ≢ LineFault.Memory →
             IsFieldFault kind text.now f }
-        ensures memory { result ≡ Err LineFault.Memory → may_stop };
+        ensures memory { result ≡ Err LineFault.Memory → can_run_out };
 }
 
 /// The fields after a keyword: nested pairs, as `(A, (B, ()))` for two fields.
@@ -35,7 +35,7 @@ pub trait Fields<T: Texts> {
     ghost values: { Self.Out → List Value };
 
     /// Reading can run out of memory.
-    ghost may_stop: { Type 0 };
+    ghost can_run_out: { Type 0 };
 
     /// Returns `true` if there are as many texts as fields.
     fn fit(rest: T) -> bool
@@ -47,7 +47,7 @@ pub trait Fields<T: Texts> {
         ensures found { IfOk result (λ x. AllMean kinds (T.texts rest) (values x)) }
         ensures fault { (f : LineFault) → result ≡ Err f → f ≢ LineFault.Memory →
             IsFirstFault kinds (T.texts rest) f }
-        ensures memory { result ≡ Err LineFault.Memory → may_stop };
+        ensures memory { result ≡ Err LineFault.Memory → can_run_out };
 }
 
 impl<T: Texts> Fields<T> for () {
@@ -57,7 +57,7 @@ impl<T: Texts> Fields<T> for () {
 
     ghost values = { λ x. [] };
 
-    ghost may_stop = { ⊥ };
+    ghost can_run_out = { ⊥ };
 
     fn fit(rest: T) -> bool {
         rest.cut().is_none()
@@ -75,7 +75,7 @@ impl<T: Texts, A: Field, R: Fields<T>> Fields<T> for (A, R) {
 
     ghost values = { λ x. A.value x.0 ∷ R.values x.1 };
 
-    ghost may_stop = { A.may_stop ⊎ R.may_stop };
+    ghost can_run_out = { A.can_run_out ⊎ R.can_run_out };
 
     fn fit(rest: T) -> bool {
         match rest.cut() {
@@ -99,7 +99,7 @@ pub fn read_fields<T: Texts, R: Fields<T>>(alloc: Global, rest: T) -> Result<R::
     ensures found { IfOk result (λ x. AllMean R.kinds (T.texts rest) (R.values x)) }
     ensures fault { (f : LineFault) → result ≡ Err f → f ≢ LineFault.Memory →
         AreAtFault R.kinds (T.texts rest) f }
-    ensures memory { result ≡ Err LineFault.Memory → R.may_stop }
+    ensures memory { result ≡ Err LineFault.Memory → R.can_run_out }
 {
     if R::fit(rest) {
         R::read(alloc, rest)

@@ -16,14 +16,14 @@ pub trait Grammar<T: Texts> {
     ghost at_fault: { List ℕ → List (List ℕ) → LineFault → Type 0 };
 
     /// Reading can run out of memory.
-    ghost may_stop: { Type 0 };
+    ghost can_run_out: { Type 0 };
 
     /// Reads what is said by this word and those after it.
     fn read_after(alloc: Global, word: &[u8], rest: T) -> Result<Self::Said, LineFault>
         ensures found { IfOk result (λ said. says word.now (T.texts rest) said) }
         ensures fault { (f : LineFault) → result ≡ Err f → f ≢ LineFault.Memory →
             at_fault word.now (T.texts rest) f }
-        ensures memory { result ≡ Err LineFault.Memory → may_stop };
+        ensures memory { result ≡ Err LineFault.Memory → can_run_out };
 
     ghost one_said: { (word : List ℕ) (texts : List (List ℕ)) (a b : Self.Said) → says word texts a →
         says word texts b → a ≡ b };

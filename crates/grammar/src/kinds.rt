@@ -19,7 +19,7 @@ impl<const LEAST: u32, const MOST: u32> Field for Between<LEAST, MOST> {
 
     ghost value = { λ n. TheNumber n };
 
-    ghost may_stop = { ⊥ };
+    ghost can_run_out = { ⊥ };
 
     fn read(alloc: Global, text: &[u8]) -> Result<u32, LineFault> {
         let number = read_number(text, u64::from(LEAST), u64::from(MOST))?;
@@ -37,7 +37,7 @@ impl<const LEAST: u64, const MOST: u64> Field for LongBetween<LEAST, MOST> {
 
     ghost value = { λ n. TheNumber n };
 
-    ghost may_stop = { ⊥ };
+    ghost can_run_out = { ⊥ };
 
     fn read(alloc: Global, text: &[u8]) -> Result<u64, LineFault> {
         read_number(text, LEAST, MOST)
@@ -54,7 +54,7 @@ impl Field for Source {
 
     ghost value = { λ a. TheAddr a };
 
-    ghost may_stop = { ⊥ };
+    ghost can_run_out = { ⊥ };
 
     fn read(alloc: Global, text: &[u8]) -> Result<NetAddr, LineFault> {
         match parse_addr(text) {
@@ -74,7 +74,7 @@ impl Field for OnePeer {
 
     ghost value = { λ p. ThePeer p };
 
-    ghost may_stop = { ⊥ };
+    ghost can_run_out = { ⊥ };
 
     fn read(alloc: Global, text: &[u8]) -> Result<Peer, LineFault> {
         match parse_peer(text) {
@@ -94,7 +94,7 @@ impl Field for Payload {
 
     ghost value = { λ bytes. TheBytes bytes };
 
-    ghost may_stop = { ⊤ };
+    ghost can_run_out = { ⊤ };
 
     fn read(alloc: Global, text: &[u8]) -> Result<Bytes, LineFault> {
         read_hex(alloc, text)
@@ -111,7 +111,7 @@ impl Field for Random {
 
     ghost value = { λ words. TheWords words };
 
-    ghost may_stop = { ⊤ };
+    ghost can_run_out = { ⊤ };
 
     fn read(alloc: Global, text: &[u8]) -> Result<Words, LineFault> {
         if text.len() > MAX_WORDS_TEXT {
@@ -131,7 +131,7 @@ impl Field for RandomSource {
 
     ghost value = { λ words. TheWords words };
 
-    ghost may_stop = { ⊤ };
+    ghost can_run_out = { ⊤ };
 
     fn read(alloc: Global, text: &[u8]) -> Result<WordSource, LineFault> {
         if text.len() > MAX_WORDS_TEXT {
@@ -151,7 +151,7 @@ impl Field for Networks {
 
     ghost value = { λ nets. TheNets nets };
 
-    ghost may_stop = { ⊥ };
+    ghost can_run_out = { ⊥ };
 
     fn read(alloc: Global, text: &[u8]) -> Result<NetSet, LineFault> {
         read_nets(text)
@@ -168,7 +168,7 @@ impl Field for AddrClasses {
 
     ghost value = { λ nets. TheNets nets };
 
-    ghost may_stop = { ⊥ };
+    ghost can_run_out = { ⊥ };
 
     fn read(alloc: Global, text: &[u8]) -> Result<NetSet, LineFault> {
         read_classes(text)

@@ -21,7 +21,7 @@ pub fn read_texts<T: Texts, G: Grammar<T>>(
         G.at_fault word.now (T.texts rest) f }
     ensures only_fault { (f : LineFault) → G.at_fault word.now (T.texts rest) f →
         (result ≡ Err f) ⊎ (result ≡ Err LineFault.Memory) }
-    ensures memory { result ≡ Err LineFault.Memory → G.may_stop }
+    ensures memory { result ≡ Err LineFault.Memory → G.can_run_out }
 {
     match G::read_after(alloc, word, rest) {
         Ok(said) => Ok(said),
@@ -43,7 +43,7 @@ pub fn read_said<'a, G: Grammar<Option<&'a [u8]>>>(
         Says G.at_fault (fields_of line.now) f }
     ensures only_fault { (f : LineFault) → Says G.at_fault (fields_of line.now) f →
         (result ≡ Err f) ⊎ (result ≡ Err LineFault.Memory) }
-    ensures memory { result ≡ Err LineFault.Memory → G.may_stop }
+    ensures memory { result ≡ Err LineFault.Memory → G.can_run_out }
 {
     let (word, rest) = cut_field(line);
     read_texts::<Option<&'a [u8]>, G>(alloc, word, rest)
@@ -66,7 +66,7 @@ pub fn read_line<'a, G: Grammar<Option<&'a [u8]>>>(
     ensures only_fault { (f : LineFault) → ¬ IsPassedOver line.now →
         Says G.at_fault (fields_of line.now) f →
         (result ≡ Err f) ⊎ (result ≡ Err LineFault.Memory) }
-    ensures memory { result ≡ Err LineFault.Memory → G.may_stop }
+    ensures memory { result ≡ Err LineFault.Memory → G.can_run_out }
 {
     if is_passed_over(line) {
         return Ok(None);

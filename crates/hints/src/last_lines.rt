@@ -47,7 +47,7 @@ impl LastLines {
             let whole = &self.bytes[..end];
             let count = memchr_iter(b'\n', whole).count() as u64;
             self.before = self.before.saturating_add(count).saturating_add(1);
-            self.drop_first(end);
+            self.drop_whole_lines(end);
         }
         if self.bytes.extend_from_slice(piece).is_err() {
             self.is_lost = true;
@@ -55,7 +55,7 @@ impl LastLines {
     }
 
     /// Drops the bytes up to that of an index.
-    fn drop_first(&mut self, last: usize) {
+    fn drop_whole_lines(&mut self, last: usize) {
         let rest = self.bytes.len().saturating_sub(last).saturating_sub(1);
         let from = self.bytes.len().saturating_sub(rest);
         self.bytes.copy_within(from.., 0);

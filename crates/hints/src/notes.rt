@@ -17,7 +17,7 @@ const IN_USE: &str = "the folder is in use: another program is saving there";
 
 /// A call of the system that failed.
 #[derive(Clone, Copy)]
-pub(crate) struct Failure {
+pub(crate) struct NotedFailure {
     /// The file, or the folder itself.
     name: &'static str,
     /// What was tried, as a participle.
@@ -32,7 +32,7 @@ pub struct Notes {
     alloc: Global,
     /// Whether a save that fails is told at once.
     tells_saves: bool,
-    last: Cell<Option<Failure>>,
+    last: Cell<Option<NotedFailure>>,
     /// Whether the last save failed.
     is_unsaved: Cell<bool>,
 }
@@ -75,7 +75,7 @@ impl Notes {
         match outcome {
             Ok(value) => Ok(value),
             Err(error) => {
-                let failure = Failure {
+                let failure = NotedFailure {
                     name,
                     tried,
                     error: Some(error),
@@ -88,7 +88,7 @@ impl Notes {
 
     /// Notes that what has this name is no regular file, so it is not read.
     pub(crate) fn note_irregular(&self, name: &'static str) {
-        self.last.set(Some(Failure {
+        self.last.set(Some(NotedFailure {
             name,
             tried: "read",
             error: None,
@@ -101,7 +101,7 @@ impl Notes {
     }
 
     /// Notes a failure.
-    fn add(&self, errors: &impl Eprint, failure: Failure) {
+    fn add(&self, errors: &impl Eprint, failure: NotedFailure) {
         self.last.set(Some(failure));
         if !self.tells_saves || !is_of_save(failure.name) {
             return;
@@ -129,8 +129,8 @@ fn is_of_save(name: &str) -> bool {
 }
 
 /// Says what failed, and why.
-fn text_of(alloc: Global, failure: &Failure) -> Result<String, AllocError> {
-    let Failure { name, tried, error } = *failure;
+fn text_of(alloc: Global, failure: &NotedFailure) -> Result<String, AllocError> {
+    let NotedFailure { name, tried, error } = *failure;
     match error {
         None => format!(in alloc; "{name} is no regular file"),
         Some(error) if tried == LOCKED && error.kind() == ErrorKind::WouldBlock => String::from_str(

@@ -38,7 +38,7 @@ impl<T: Texts> Grammar<T> for LogLines {
 
     ghost at_fault = { HasFaultAfter };
 
-    ghost may_stop = { ⊤ };
+    ghost can_run_out = { ⊤ };
 
     ghost one_said = { one_after };
 

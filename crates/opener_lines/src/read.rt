@@ -24,7 +24,7 @@ impl<T: Texts> Grammar<T> for OpenerLines {
 
     ghost at_fault = { FaultAfter };
 
-    ghost may_stop = { ⊤ };
+    ghost can_run_out = { ⊤ };
 
     ghost one_said = { one_asked };
 

@@ -201,13 +201,13 @@ impl<'a, 's> Plan<'a, 's> {
     {
         let mut order = NumberOrder::up_to(alloc, self.recs.len())?;
         for number in 0..self.news {
-            self.drop_one(number, &mut order);
+            self.drop_if_unlisted(number, &mut order);
         }
         Ok(order)
     }
 
     /// Deletes a number from the order if no bucket lists its record.
-    fn drop_one(&self, number: usize, order: &mut NumberOrder)
+    fn drop_if_unlisted(&self, number: usize, order: &mut NumberOrder)
         requires plan { IsPlanned self.now }
         requires number { number < length self.now.recs.items }
         requires there { Contains order.old number }

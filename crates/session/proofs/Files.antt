@@ -4,7 +4,7 @@ use Rattle.std.specs.Prelude.{Option, Some, None, IfSome, ◌⊎◌, Bool, true,
 use Rattle.std.proofs.Math.Nat.{eq-or-lt_of_le}
 use Rattle.std.proofs.lemmas.List.{take-append-drop}
 use Rattle.host_io.specs.Disk.{Disk, MayHave}
-use Rattle.host_io.specs.Faults.{Rose}
+use Rattle.host_io.specs.Faults.{Rose, RoseBy}
 use Rattle.host_io.specs.Past.{Past}
 use Rattle.host_io.specs.PerName.{under}
 use Rattle.host_io.specs.declared.name.Name.TheVariants.{Peers}
@@ -16,7 +16,7 @@ use Rattle.save_store.specs.Saves.{IsStored}
 use Rattle.session.specs.Events.{Ended, SaveCommand, after_step, save, save_begin, save_end, save_step}
 use Rattle.session.specs.Events.Ended.{NotSaved, Saved}
 use Rattle.session.specs.Folders.{HasEnded, LeavesFile, published, published_in}
-use Rattle.session.specs.History.{IsAny, IsLast, OrOpen, RoseBy, failed, onto}
+use Rattle.session.specs.History.{IsAny, IsLast, OrOpen, failed, onto}
 use Rattle.session.specs.State.{CommandStep, LineStep, SessionState, file_now}
 
 -- what every crash leaves after a save that is acknowledged

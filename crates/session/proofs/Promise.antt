@@ -1,12 +1,13 @@
 -- The promises on peers.dat that each line of a run keeps.
 use Rattle.std.proofs.Common.{◌≡◌, ℕ, ◌≤◌, List, [], inl, inr, sym, subst, arith}
 use Rattle.std.specs.Prelude.{Option, Some, None, IfSome}
+use Rattle.host_io.specs.Faults.{RoseBy}
 use Rattle.host_io.specs.Disk.{Disk}
 use Rattle.host_io.specs.Past.{Always, Past}
 use Rattle.host_io.proofs.Moments.{begun as nothing_since, joined, now_has}
 use Rattle.session.specs.Events.{Ended}
 use Rattle.session.specs.Folders.{AtMost, IsOpen, Turn, published_in}
-use Rattle.session.specs.History.{AtExit, History, Now, RoseBy, SinceEntry, failed, fresh, onto}
+use Rattle.session.specs.History.{AtExit, History, Now, SinceEntry, failed, fresh, onto}
 use Rattle.session.specs.State.{SessionState}
 use Rattle.session.proofs.Files.{EndedAt, ended_at, next_any, next_failed, next_last}
 

@@ -1,8 +1,7 @@
 -- A session over several lines, and what a crash may leave of peers.dat.
-use Rattle.std.specs.Prelude.{◌≡◌, ◌≢◌, ◌⊎◌, ℕ, ◌+◌, ◌-◌, ◌^◌, ◌≤◌, List, [], ◌∷◌, Option, Some, None, IfSome}
+use Rattle.std.specs.Prelude.{◌≡◌, ◌≢◌, ◌⊎◌, ℕ, ◌+◌, ◌-◌, ◌≤◌, List, [], ◌∷◌, Option, Some, None, IfSome}
 use Rattle.std.specs.Option.{option_map}
 use Rattle.host_io.specs.Disk.{Disk, MayHave}
-use Rattle.host_io.specs.Faults.{Rose}
 use Rattle.host_io.specs.Past.{Past}
 use Rattle.host_io.specs.PerName.{under}
 use Rattle.host_io.specs.declared.name.Name.{Name}
@@ -37,10 +36,6 @@ abbrev pub failed : List Ended → ℕ
 failed [] = 0
 failed (Saved file ∷ ended) = failed ended
 failed (NotSaved file ∷ ended) = failed ended + 1
-
--- the count of faults rose by so many at least, or it rose and is at its end
-abbrev pub RoseBy : ℕ → ℕ → ℕ → Type 0
-RoseBy n before after = (before + n ≤ after) ⊎ ((2 ^ 64 - 1 ≤ after) × Rose before after)
 
 -- Found at peers.dat: the file of the last save that is acknowledged, or of one that failed after
 -- it; if none is acknowledged, that of any save that failed, or what a crash could leave at the

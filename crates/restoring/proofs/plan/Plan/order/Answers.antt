@@ -25,9 +25,9 @@ loop-number-preserved c =
     let plain : n ≡ 0 + n = omega arith in
     let next : suc n ≡ n + 1 = omega arith in
     record {
-      state = c.drop_one.ensures.state
+      state = c.drop_if_unlisted.ensures.state
           ∙ ap (λ (t : State). drop_record t (by_number t n)) c.loop-number.invariant.state
           ∙ sym (drop-more st (range_with_len 0 n) n)
           ∙ ap (drop_all st) (range-push 0 n n plain ∙ ap (range_with_len 0) next);
-      there = λ other above below. c.drop_one.ensures.others other (λ same. omega (arith, above, same)) (c.loop-number.invariant.there other (omega (arith, above)) below);
+      there = λ other above below. c.drop_if_unlisted.ensures.others other (λ same. omega (arith, above, same)) (c.loop-number.invariant.there other (omega (arith, above)) below);
     }

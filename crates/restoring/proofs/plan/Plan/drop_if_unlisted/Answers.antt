@@ -3,7 +3,7 @@ use Rattle.peer_rec.specs.Rec.{buckets_of}
 use Rattle.restoring.specs.Planned.{dropping}
 use Rattle.restoring.proofs.Dropping.{drop-bare, drop-listed}
 use Rattle.restoring.proofs.Plans.{at-get}
-use Rattle.restoring.proofs.plan.Plan.drop_one.Goals as goal
+use Rattle.restoring.proofs.plan.Plan.drop_if_unlisted.Goals as goal
 
 pub returns-then-bucket_count-eq0-clause-state : goal.returns-then-bucket_count-eq0-clause-state
 returns-then-bucket_count-eq0-clause-state c =
