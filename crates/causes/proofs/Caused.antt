@@ -42,7 +42,7 @@ module _ (C : ℕ → Peer → Address → ℕ → Type 0) where
   added st now entry source penalty word all cause =
       add-each (EachBucket C) one-less st now entry source penalty word all (λ b c. absurd (none_in_nil b c)) (λ r each. each)
       (λ yes r same each. one-more r (new_bucket st.places r.peer source) each (
-        subst (λ (p : Peer). C r.number p r.source (new_bucket st.places p source)) same (cause yes r.number r.source)))
+      subst (λ (p : Peer). C r.number p r.source (new_bucket st.places p source)) same (cause yes r.number r.source)))
 
   -- a mark
   pub marked : (change : Rec → Rec) (st : State) (peer : Peer) → ((r : Rec) → EachBucket C r → EachBucket C (change r)) → EachRecord C st.records
@@ -56,4 +56,4 @@ module _ (C : ℕ → Peer → Address → ℕ → Type 0) (places : Places) (ow
   reached st now peer testing at all =
       good-each (EachBucket C) (one-less C) st now peer testing all (λ r each. each) (λ r each b c. absurd (none_in_nil b c)) (λ r each b c. absurd (none_in_nil b c))
       (λ r each. only-one C r (new_bucket st.places r.peer r.source) (
-        subst (λ (p : Places). C r.number r.peer r.source (new_bucket p r.peer r.source)) (sym at) (own r.number r.peer r.source)))
+      subst (λ (p : Places). C r.number r.peer r.source (new_bucket p r.peer r.source)) (sym at) (own r.number r.peer r.source)))

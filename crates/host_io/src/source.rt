@@ -2,7 +2,7 @@ ghost use Rattle.std.specs.Prelude.{◌≡◌, ℕ, ◌<◌, ◌≤◌, ◌↔�
 ghost use Rattle.host_io.specs.Faults.{Rose, raised};
 ghost use Rattle.host_io.specs.MemSource.{source_after_read, source_after_fault};
 
-use crate::failed::{FailingCalls, Failed, Memory, fault};
+use crate::failed::{Failed, FailingCalls, Memory, fault};
 use std::alloc::Global;
 use std::io::Read;
 use std::marker::Model;
