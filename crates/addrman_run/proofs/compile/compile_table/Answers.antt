@@ -13,6 +13,6 @@ returns-in-Ok-new_asmap-clause-any_moment g c =
     c.in-Ok-new_asmap.made.line.items c.load_present.ensures.same c.code-file.ensures
     (c.in-Ok-new_asmap.ensures.found old c.in-Ok.ensures.found) c.save_then_write.ensures.any_moment
 
-pub returns-clause-any_moment : goal.returns-clause-any_moment
-returns-clause-any_moment g c =
+pub returns-in-Err-new_asmap-clause-any_moment : goal.returns-in-Err-new_asmap-clause-any_moment
+returns-in-Err-new_asmap-clause-any_moment g c =
     kept (g.F.Folder.past c.args.folder.now) (g.F.Folder.past c.load_present.new.folder) c.load_present.ensures.same
