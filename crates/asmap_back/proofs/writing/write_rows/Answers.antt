@@ -1,4 +1,4 @@
-use Rattle.std.proofs.Common.{rules, List, ℕ, Result, Ok, Err, subst, arith}
+use Rattle.std.proofs.Common.{Result, Ok, Err, subst, arith}
 use Rattle.std.specs.Prelude.{OnOk, OnErr}
 use Rattle.host_io.specs.Writing.{Appended, AppendedPart}
 use Rattle.asmap_vm.specs.Held.{tree_held}

@@ -1,4 +1,4 @@
-use Rattle.std.proofs.Common.{◌≡◌, ◌<◌, [], ◌∷◌, List, length, refl, ap, sym, ◌∙◌, arith}
+use Rattle.std.proofs.Common.{◌<◌, ◌∷◌, List, length, refl, ap, sym, ◌∙◌, arith}
 use Rattle.asmap_vm.specs.declared.instruction.Instruction.TheVariants as instructions
 use Rattle.prefix_table.specs.declared.row.Row.{Row}
 use Rattle.asmap_back.specs.Ahead.{AreAhead}
