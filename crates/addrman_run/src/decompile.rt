@@ -1,57 +1,56 @@
-ghost use Rattle.std.specs.Prelude.{◌≡◌, ◌<◌, ◌≤◌, ℕ, length, IfOk, Err};
-ghost use Rattle.asmap_back.specs.Back.{rows_back};
-ghost use Rattle.asmap_vm.specs.Held.{tree_held};
-ghost use Rattle.prefix_table.specs.Print.{table_text};
-ghost use Rattle.prefix_table.specs.declared.row.TheConstants.{MAX_ROWS};
-ghost use Rattle.addrman_run.specs.Decompile.{IsDecompiled, MeanTheSame, ReportsDecompile};
+ghost use Rattle.std.specs.Prelude.{◌≡◌, ◌≢◌, ◌≤◌, ℕ, Option, length};
+ghost use Rattle.bit_code.specs.declared.bits.TheConstants.{MAX_ASMAP};
+ghost use Rattle.host_io.specs.Past.{Past};
+ghost use Rattle.host_io.specs.declared.name.Name.TheVariants as name;
+ghost use Rattle.log_run.specs.Counts.{IsCounted};
+ghost use Rattle.addrman_run.specs.Decompile.{IsDecompiled, ReportsDecompile};
+ghost use Rattle.addrman_run.specs.FileLine.{FileLineText};
+ghost use Rattle.addrman_run.specs.InFolder.{ReportsAbsence};
+ghost use Rattle.addrman_run.specs.Inside.{IsLoaded};
 ghost use Rattle.addrman_run.specs.declared.input.Input.TheVariants as input;
 
-use crate::file_line::{FileLine, Refusal};
-use crate::input::Input;
-use asmap_back::{BackFault, decompile};
-use asmap_vm::{Sane, check};
-use prefix_table::put_table;
+use crate::Status;
+use crate::input::{Input, load_present};
+use asmap_back::{fits_table, write_rows};
+use asmap_vm::check;
+use host_io::{Folder, Sink};
 use std::alloc::Global;
 
-/// The command that turns asmap.dat back into a table of prefixes.
-#[derive(Drop)]
-pub(crate) struct Decompile;
-
-impl FileLine for Decompile {
-    ghost file = { λ _. input.Asmap };
-
-    ghost is_line = { λ _. IsDecompiled };
-
-    ghost refuses = { λ _. ReportsDecompile };
-
-    fn input(&self) -> Input {
-        Input::Asmap
-    }
-
-    fn line_of(&self, alloc: Global, bytes: &[u8]) -> Result<Vec<u8>, Refusal> {
-        let asmap = match check(bytes) {
-            Ok(asmap) => asmap,
-            Err(fault) => return Err(Refusal::Asmap(fault)),
-        };
-        match rows_text(alloc, &asmap) {
-            Ok(text) => Ok(text),
-            Err(BackFault::TooMany { .. }) => Err(Refusal::TooManyRows),
-            Err(BackFault::Memory) => Err(Refusal::Memory),
-        }
+/// Turns asmap.dat back into a table of prefixes, and writes its rows, one a line. Only the file is
+/// in memory: the rows are written as they are read.
+pub(crate) fn decompile<F: Folder, K: Sink>(alloc: Global, folder: &mut F, out: &mut K) -> Status
+    ensures text { FileLineText name.Asmap IsDecompiled ReportsDecompile (F.past folder.old)
+        (K.written out.old) (K.written out.new) result }
+    ensures absent { ReportsAbsence name.Asmap (F.past folder.old) result }
+    ensures disk { IsCounted Status.DiskFault (F.faults folder.old) (F.faults folder.new) result }
+    ensures write { IsCounted Status.WriteFault (K.faults out.old) (K.faults out.new) result }
+    ensures same { F.past folder.new ≡ F.past folder.old }
+{
+    match load_present(alloc, Input::Asmap, folder) {
+        Ok(bytes) => write_table(bytes.items(), out),
+        Err(status) => status,
     }
 }
 
-/// Returns the rows that an asmap is turned back into, one a line.
-fn rows_text(alloc: Global, asmap: &Sane<'_>) -> Result<Vec<u8>, BackFault>
-    ensures text { IfOk result (λ text. text.items ≡ table_text (rows_back (tree_held asmap.now))) }
-    ensures few { IfOk result (λ _. length (rows_back (tree_held asmap.now)) ≤ MAX_ROWS) }
-    ensures same { IfOk result (λ _.
-        MeanTheSame (rows_back (tree_held asmap.now)) (tree_held asmap.now)) }
-    ensures cause { (rows : ℕ) → result ≡ Err (BackFault.TooMany rows) →
-        MAX_ROWS < length (rows_back (tree_held asmap.now)) }
+/// Writes the rows that the asmap of these bytes is turned back into. Nothing is written of one that
+/// is refused.
+fn write_table<K: Sink>(bytes: &[u8], out: &mut K) -> Status
+    requires { length bytes.now ≤ MAX_ASMAP }
+    ensures text { (past : Option Past) → IsLoaded input.Asmap past bytes.now →
+        FileLineText name.Asmap IsDecompiled ReportsDecompile past
+        (K.written out.old) (K.written out.new) result }
+    ensures write { IsCounted Status.WriteFault (K.faults out.old) (K.faults out.new) result }
+    ensures no_disk { result ≢ Status.DiskFault }
 {
-    let table = decompile(alloc, asmap)?;
-    let mut text = Vec::new(alloc);
-    put_table(&table, &mut text)?;
-    Ok(text)
+    let asmap = match check(bytes) {
+        Ok(asmap) => asmap,
+        Err(fault) => return Status::AsmapRefused(fault),
+    };
+    if !fits_table(&asmap) {
+        return Status::TooManyRows;
+    }
+    match write_rows(&asmap, out) {
+        Ok(()) => Status::Done,
+        Err(_) => Status::WriteFault,
+    }
 }

@@ -21,8 +21,6 @@ use std::alloc::Global;
 pub(crate) enum Refusal {
     /// It is no asmap.
     Asmap(CodeFault),
-    /// It is an asmap of more rows than a table may have.
-    TooManyRows,
     /// It is no file of peers.
     Peers(PeersFault),
     /// Out of memory.
@@ -55,9 +53,6 @@ pub(crate) trait FileLine {
         ensures asmap { (fault : CodeFault) → result ≡ Err (Refusal.Asmap fault) →
             (past : Option Past) → IsLoaded (file self.now) past bytes.now →
             refuses self.now past (Status.AsmapRefused fault) }
-        ensures rows { result ≡ Err Refusal.TooManyRows →
-            (past : Option Past) → IsLoaded (file self.now) past bytes.now →
-            refuses self.now past Status.TooManyRows }
         ensures peers { (fault : PeersFault) → result ≡ Err (Refusal.Peers fault) →
             (past : Option Past) → IsLoaded (file self.now) past bytes.now →
             refuses self.now past (Status.PeersRefused fault) };
@@ -85,7 +80,6 @@ pub(crate) fn write_file_line<F: Folder, K: Sink, C: FileLine>(
     match command.line_of(alloc, bytes.items()) {
         Ok(line) => write_line(line.as_slice(), out),
         Err(Refusal::Asmap(fault)) => Status::AsmapRefused(fault),
-        Err(Refusal::TooManyRows) => Status::TooManyRows,
         Err(Refusal::Peers(fault)) => Status::PeersRefused(fault),
         Err(Refusal::Memory) => Status::Memory,
     }

@@ -11,7 +11,7 @@ use crate::address::write_address;
 use crate::bans::{BanSubnet, FindBan, UnbanSubnet, change_bans, list_bans};
 use crate::check::Check;
 use crate::compile::compile_table;
-use crate::decompile::Decompile;
+use crate::decompile::decompile;
 use crate::diff::diff;
 use crate::file_line::write_file_line;
 use crate::generate::generate;
@@ -94,7 +94,7 @@ fn carry_out<L: Source, F: Folder, K: Sink, H: BuildHasher + Drop>(
         Request::Opener { key, chain } => opener(alloc, hasher, key, chain, log, folder, out),
         Request::Compile => compile_table(alloc, folder, out),
         Request::Check => write_file_line(alloc, &Check, folder, out),
-        Request::Decompile => write_file_line(alloc, &Decompile, folder, out),
+        Request::Decompile => decompile(alloc, folder, out),
         Request::Diff { peers } => diff(alloc, peers, folder, out),
         Request::Limit => limit(alloc, hasher, log, out),
         Request::Lookup { peer } => write_file_line(alloc, &Lookup { peer }, folder, out),
