@@ -19,7 +19,6 @@ use Rattle.placing.specs.Places.{new_bucket, new_slot, tried_bucket, tried_slot}
 use Rattle.peer_rec.specs.Rec.{buckets_of, is_tried}
 use Rattle.peer_rec.specs.Buckets.{with_bucket}
 use Rattle.peer_rec.specs.declared.file_rec.FileRec.{FileRec}
-use Rattle.peer_rec.specs.declared.place.Place.{Place}
 use Rattle.peer_rec.specs.declared.place.Place.TheVariants.{New, Tried}
 use Rattle.slot_grid.specs.Slots.{Slots, SameNew, SameTried, SameOtherNew, SameOtherTried, new_id, tried_id}
 use Rattle.table_machine.specs.State.{State, is_new_at, is_tried_at, new_rec_at, tried_occupant}
