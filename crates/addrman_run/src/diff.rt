@@ -146,7 +146,7 @@ fn records_text<F: Folder>(
         Ok(bytes) => bytes,
         Err(status) => return Err(status),
     };
-    let snap = match read_peers(alloc, bytes.items(), chain) {
+    let snap = match read_peers(alloc, bytes, chain) {
         Ok(snap) => snap,
         Err(status) => return Err(status),
     };

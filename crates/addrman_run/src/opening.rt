@@ -28,12 +28,12 @@ use tables::{RestoreFault, Tables};
 /// The maximum number of records of a file of peers.
 const MAX_RECORDS: u64 = 81_920;
 
-/// Reads the bytes of peers.dat.
-pub(crate) fn read_peers(alloc: Global, bytes: &[u8], chain: Chain) -> Result<Snapshot, Status>
-    ensures found { IfOk result (IsFile chain bytes.now) }
-    ensures cause { IfErr result (IsNoSnapshot chain bytes.now) }
+/// Reads the bytes of peers.dat, and drops them.
+pub(crate) fn read_peers(alloc: Global, bytes: Bytes, chain: Chain) -> Result<Snapshot, Status>
+    ensures found { IfOk result (IsFile chain bytes) }
+    ensures cause { IfErr result (IsNoSnapshot chain bytes) }
 {
-    match read_file(alloc, bytes, chain) {
+    match read_file(alloc, bytes.items(), chain) {
         Ok(snap) => Ok(snap),
         Err(FileFault::Memory) => Err(Status::Memory),
         Err(fault) => Err(Status::PeersRefused(PeersFault::File(fault))),
@@ -96,18 +96,18 @@ fn open_tables<'a, H: BuildHasher + Drop>(
     key: Option<[u8; 32]>,
     chain: Chain,
     map: Option<Sane<'a>>,
-    file: &Option<Bytes>,
+    file: Option<Bytes>,
 ) -> Result<Tables<'a, H>, Status>
-    ensures found { IfOk result (OpensWith key chain file.now (map_of map.entry)) }
+    ensures found { IfOk result (OpensWith key chain file (map_of map.entry)) }
     ensures small { IfOk result (λ tables. tables.next_number ≤ MAX_RECORDS) }
     ensures sound { IfOk result (λ tables. IsSound tables) }
-    ensures cause { IfErr result (IsNotOpened key chain file.now) }
+    ensures cause { IfErr result (IsNotOpened key chain file) }
 {
     let bytes = match file {
         Some(bytes) => bytes,
         None => return empty_tables(alloc, hasher, key, map),
     };
-    let snap = match read_peers(alloc, bytes.items(), chain) {
+    let snap = match read_peers(alloc, bytes, chain) {
         Ok(snap) => snap,
         Err(status) => return Err(status),
     };
@@ -179,5 +179,5 @@ pub(crate) fn open_folder<'a, F: Folder, H: BuildHasher + Drop>(
         Ok(file) => file,
         Err(status) => return Err(status),
     };
-    open_tables(alloc, hasher, key, chain, map, &file)
+    open_tables(alloc, hasher, key, chain, map, file)
 }
