@@ -3,9 +3,6 @@ use std::alloc::{AllocError, Global};
 use std::io;
 use std::io::Read;
 
-/// How many bytes are counted at a time: their number has to fit into one byte.
-const MAX_COUNTED: usize = 240;
-
 /// The last lines of a log that is read in pieces, of which no next one is asked for while a whole
 /// line waits: so the lines that are whole in what was read before the last piece are done with.
 #[derive(Drop)]
@@ -48,10 +45,8 @@ impl LastLines {
     fn keep(&mut self, piece: &[u8]) {
         if let Some(end) = memrchr(b'\n', self.bytes.as_slice()) {
             let whole = &self.bytes[..end];
-            self.before = self
-                .before
-                .saturating_add(count_feeds(whole))
-                .saturating_add(1);
+            let count = whole.iter().filter(|byte| **byte == b'\n').count() as u64;
+            self.before = self.before.saturating_add(count).saturating_add(1);
             self.drop_first(end);
         }
         if self.bytes.extend_from_slice(piece).is_err() {
@@ -66,27 +61,6 @@ impl LastLines {
         self.bytes.copy_within(from.., 0);
         self.bytes.truncate(rest);
     }
-}
-
-/// Counts the line feeds.
-fn count_feeds(bytes: &[u8]) -> u64 {
-    let mut count: u64 = 0;
-    for few in bytes.chunks(MAX_COUNTED) {
-        count = count.saturating_add(u64::from(count_in_few(few)));
-    }
-    count
-}
-
-/// Counts the line feeds of at most `MAX_COUNTED` bytes. A number of one byte lets the processor
-/// compare sixteen bytes at once; most lines are too short for a search each.
-fn count_in_few(bytes: &[u8]) -> u8 {
-    let mut count: u8 = 0;
-    for byte in bytes {
-        if *byte == b'\n' {
-            count = count.wrapping_add(1);
-        }
-    }
-    count
 }
 
 /// A reader whose last lines are kept.
