@@ -50,7 +50,7 @@ fn compile_line(alloc: Global, rows: usize, file: &Compiled) -> Result<Vec<u8>, 
     line_of(alloc, rows, file.bits(), file.code().len())
 }
 
-/// Compiles the table in the text of prefixes.txt. The text is dropped before its rows are compiled.
+/// Compiles the table in the text of prefixes.txt. The text is dropped before the compilation.
 fn new_asmap(alloc: Global, text: Bytes) -> Result<NewAsmap, Status>
     requires { length text ≤ MAX_TEXT }
     ensures found { IfOk result (λ made. (past : Option Past) →

@@ -37,7 +37,8 @@ pub record IsWhole (text : List ℕ) (rows : List NumberedRow) : Type 0 where
 
 -- these are the rows of all lines of the text, without the numbers of the lines
 abbrev pub AreAllRows : List ℕ → List Row → Type 0
-AreAllRows text rows = (numbered : List NumberedRow) × (rows ≡ map row_in numbered) × IsWhole text numbered
+AreAllRows text rows =
+    (numbered : List NumberedRow) × (rows ≡ map row_in numbered) × IsWhole text numbered
 
 -- the lines before one are those of the rows, and this one has the fault by itself
 pub record StopsAt (text : List ℕ) (rows : List NumberedRow) (fault : TableFault) : Type 0 where

@@ -3,7 +3,7 @@ use Rattle.std.proofs.lemmas.List.{get_or_read, get_or-take, length-take-le}
 use Rattle.prefix_table.specs.declared.row.Row.{Row}
 use Rattle.asmap_compile.specs.Compiled.{stays}
 use Rattle.asmap_compile.proofs.AroundLaws.{IsAround, IsLeft, around_len, around_next, number_last, kept_yes, kept_no}
-use Rattle.asmap_compile.proofs.KeptLaws.{KeepsUpTo, keeps_row, leaves_row}
+use Rattle.asmap_compile.proofs.KeptLaws.{keeps_row, leaves_row}
 use Rattle.asmap_compile.proofs.kept.kept_of.Goals as goal
 use Rattle.asmap_compile.proofs.kept.kept_of.Goals.{then-last_asn-row, else-last_asn-row}
 

@@ -1,9 +1,8 @@
-use Rattle.std.proofs.Common.{List, refl, sym, subst}
+use Rattle.std.proofs.Common.{refl, sym, subst}
 use Rattle.std.specs.Prelude.{AllPairs}
 use Rattle.std.proofs.lemmas.Bool.{false≢true}
 use Rattle.prefix_table.specs.Rows.{Precedes}
 use Rattle.prefix_table.specs.Text.{IsTableText}
-use Rattle.prefix_table.specs.declared.row.Row.{Row}
 use Rattle.prefix_table.proofs.PlainLaws.{if_some, plain_table, plain_none}
 use Rattle.prefix_table.proofs.read.table_in.Goals as goal
 

@@ -1,4 +1,4 @@
-use Rattle.std.proofs.Common.{◌+◌, ◌++◌, List, [], ◌∷◌, length, ◌<◌, ◌≤◌, arith, ◌∙◌, subst, sym, Option}
+use Rattle.std.proofs.Common.{◌+◌, List, length, ◌<◌, ◌≤◌, arith, ◌∙◌, subst, sym, Option}
 use Rattle.std.specs.Prelude.{MatchOption}
 use Rattle.std.proofs.lemmas.List.{nil_from_length}
 use Rattle.std.proofs.lemmas.Bool.{eqb-true}
