@@ -9,5 +9,5 @@ pub returns : goal.returns
 returns c =
     three_parts c.args.out.now.items (ipv6_text (to_be_bytes w128 (from_be_bytes w128 c.args.bytes.now / c.args.size * c.args.size))) (codes "/") (decimal c.args.width)
     c.put_ipv6.new.out.items c.put_text.new.out.items c.put_number.new.out.items
-    (c.in_ok-put_ipv6.ensures.ok ∙ ap (λ (n : ℕ). c.args.out.now.items ++ ipv6_text (to_be_bytes w128 (n / c.args.size * c.args.size))) c.whole-bits.ensures)
+    (c.in_ok-put_ipv6.ensures.ok ∙ ap (λ (n : ℕ). c.args.out.now.items ++ ipv6_text (to_be_bytes w128 (n / c.args.size * c.args.size))) (c.from_be_bytes-bits.ensures ∙ ap (from_be_bytes w128) c.array_of.ensures))
     c.in_ok-put_text.ensures c.in_ok-put_number.ensures
