@@ -47,7 +47,7 @@ impl LastLines {
             let whole = &self.bytes[..end];
             let count = whole.iter().filter(|byte| **byte == b'\n').count() as u64;
             self.before = self.before.saturating_add(count).saturating_add(1);
-            self.drop_first(end);
+            self.drop_whole_lines(end);
         }
         if self.bytes.extend_from_slice(piece).is_err() {
             self.is_lost = true;

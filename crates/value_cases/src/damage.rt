@@ -67,7 +67,7 @@ fn other_fault(
 
 /// Returns the fault of the file of the last two fields, its chain and its bytes, for damage at
 /// each position from one number up to another, or the first fault that differs and its position.
-fn each_fault(alloc: Global, damage: Damage, fields: &mut Fields<'_>) -> Result<String, Unread> {
+fn each_fault(alloc: Global, damage: Damage, fields: &mut RowFields<'_>) -> Result<String, Unread> {
     let (from, to) = (fields.number()?, fields.number()?);
     let chain = chain_of(fields.word())?;
     let mut bytes = bytes_of(alloc, fields.word())?;

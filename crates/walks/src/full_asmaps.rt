@@ -149,10 +149,7 @@ fn does_not_come_back(alloc: Global, table: &Table) -> bool {
 /// Whether the file of the table of the text has more rows than a table.
 fn has_too_many_back(alloc: Global, text: &[u8]) -> bool {
     match read(alloc, text) {
-        Some(table) => {
-            let rows = table.rows().len();
-            does_not_come_back(alloc, table) && rows == 1_048_577
-        }
+        Some(table) => table.rows().len() == 1_048_577 && does_not_come_back(alloc, &table),
         None => false,
     }
 }

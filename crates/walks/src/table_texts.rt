@@ -19,12 +19,3 @@ pub(crate) fn read(alloc: Global, text: &[u8]) -> Option<Table> {
     }
     read_table(alloc, text).ok()
 }
-
-/// Returns the file of the table, or `None` if the table has none or memory runs out.
-pub(crate) fn file_of(alloc: Global, table: &Table) -> Option<Compiled> {
-    match Table::from_rows(alloc, table.rows()) {
-        Ok(Some(copy)) => compile(alloc, copy).ok(),
-        Ok(None) => None,
-        Err(_) => None,
-    }
-}
