@@ -27,7 +27,8 @@ id_of I2p = 5
 id_of Cjdns = 6
 id_of Internal = 2
 
--- what is written before the bytes of an address: an internal name is written in the old form
+-- what is written before the bytes of an address: an internal name is written as IPv6, with a
+-- prefix of its own, as before BIP 155
 abbrev pub prefix_of : Net → List ℕ
 prefix_of Internal = internal_prefix
 prefix_of Unroutable = []

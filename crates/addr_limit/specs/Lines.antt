@@ -90,7 +90,7 @@ SaysBy (Some verb) texts event =
 abbrev pub SaysAfter : List ℕ → List (List ℕ) → Event → Type 0
 SaysAfter word texts event = SaysBy (verb_at word) texts event
 
--- what is wrong in the texts after a verb: they are counted and tested before anything is done
+-- what is wrong in the texts after a verb: their number, or the first that is not of its kind
 abbrev pub FaultBy : Option Verb → List (List ℕ) → LineFault → Type 0
 FaultBy None texts f = ⊥
 FaultBy (Some verb) texts f = AreAtFault (limit_kinds verb) texts f

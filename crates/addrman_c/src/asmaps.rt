@@ -62,7 +62,7 @@ fn table_fault(fault: TableFault) -> AddrmanFault
     AddrmanFault { kind, at }
 }
 
-/// Writes why a text is not compiled, and returns the code.
+/// Writes to `fault` why a text is not compiled, and returns the result of the call.
 fn tell_no_asmap(why: NoAsmap, fault: &mut AddrmanFault) -> u32
     ensures call { TellsNoAsmap why result fault.new }
     ensures fault { result ≢ REFUSED → fault.new ≡ fault.old }

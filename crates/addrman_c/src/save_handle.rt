@@ -95,7 +95,7 @@ impl SaveHandle {
         }
     }
 
-    /// Puts something to keep into the handle.
+    /// Opens the handle with a save.
     pub(crate) fn put(&mut self, kept: Box<KeptSave>)
         ensures { self.new.loose.kept ≡ Some kept.value }
     {

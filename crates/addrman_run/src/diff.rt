@@ -108,7 +108,7 @@ fn text_from<F: Folder>(
     }
 }
 
-/// Returns the lines of the changes, and of how many addresses they are.
+/// Returns a line for each change, and the lines that count the addresses that change.
 fn changes_text(alloc: Global, old: &Sane<'_>, new: &Sane<'_>) -> Result<Vec<u8>, DiffFault>
     ensures text { IfOk result (λ text.
         AreChangeLines (tree_held old.now) (tree_held new.now) text.items) }

@@ -1,8 +1,8 @@
 //! The runs of the program: arguments, log, folder and output in, a status out.
 //!
 //! Contracts see the log as the bytes that are left, the output as those written, and the folder as
-//! its files and what a crash may leave of them; where a type does not let them, a clause on bytes
-//! makes no claim.
+//! its files and what a crash may leave of them. Of an object that contracts cannot look into,
+//! clauses on bytes say nothing.
 //!
 //! Proved, of `run`: which arguments ask for what, what each request leaves untouched, that a
 //! failure has a cause, the outcome of each request, and that a request is done if nothing is wrong

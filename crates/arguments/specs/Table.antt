@@ -43,7 +43,8 @@ command_word name.Trial = codes "trial"
 command_word name.Help = codes "help"
 command_word name.Version = codes "version"
 
--- the name of the command that an option in its place asks for; any other word is itself
+-- the command that `--help`, `-h` and `--version` ask for as first argument; any other argument is
+-- itself
 unfoldable pub plain_word : List ℕ → List ℕ
 plain_word word =
     if bytes_eq word (codes "--help") then codes "help"

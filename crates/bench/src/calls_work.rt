@@ -122,7 +122,8 @@ fn nets_by(words: &[u64]) -> NetSet {
     }
 }
 
-/// Selects a peer of these networks by some of the words. Returns the sum of its first bytes.
+/// Selects a peer of these networks by 300 of the words. Returns a number that depends on each byte
+/// of its address, so that no compiler leaves the call out.
 fn select_one(tables: &Tables<'_, Keyed>, nets: NetSet, index: u64, words: &[u64]) -> u64 {
     let from = (index % 512) as usize;
     if words.len() < from + 300 {

@@ -27,7 +27,8 @@ IsDrawn (command.Clash word) = ⊤
 IsDrawn command.Resolve = ⊤
 IsDrawn other = ⊥
 
--- a line, which ends with its only line feed, is short, and parses as exactly one command
+-- a line of a generated log: it ends with its only line feed, is short, and parses as exactly one
+-- command, one of those that are generated
 pub record IsLine (line : List ℕ) : Type 0 where
   pub text : List ℕ
   pub whole : line ≡ text ++ 10 ∷ []

@@ -336,7 +336,7 @@ impl Folder for MemFolder {
         self.carry_out(Action::Create { name }, Change::Created { name })
     }
 
-    /// Adds all of `bytes`. Fails if the call was chosen to, or if there is no memory.
+    /// Appends `bytes` to the file. Fails if this call was chosen to fail, or out of memory.
     fn append(&mut self, name: Name, bytes: &[u8]) -> Result<(), Failed>
         requires { IsSome (under (files_in self.old) name) }
         ensures chosen { IsSome (next_fault self.old) → IsErr result }

@@ -55,7 +55,7 @@ sum_rounds in_new f =
     sum_by (λ bucket. sum_by (λ start. sum_by (λ word. f (round bucket start word))
     (range_with_len 0 (2 ^ 30))) (range_with_len 0 SLOTS)) (range_with_len 0 (bucket_count in_new))
 
--- the sum over all lists of n rounds
+-- the sum of f over all lists of n rounds
 abbrev pub sum_lists : Bool → ℕ → (List Round → ℕ) → ℕ
 sum_lists in_new zero f = f []
 sum_lists in_new (suc n) f =

@@ -13,8 +13,9 @@
 //! 3. After each line of a log, all but 64 buckets a group of the new table lead to no record that
 //!    sources of the groups put there, and all but 8 of the tried one to none with their addresses.
 //!    At most one bucket's triples a pair of groups select theirs, if they announce peers of some
-//!    groups only (`groups_reach_few`). And of n records, however many groups: at most as many as
-//!    the starts that lead to their slots give, and 8 n buckets' (`odds_are_bounded`). What bounds
+//!    groups only (`groups_reach_few`). And n records, of however many groups, are selected by at
+//!    most the triples whose starts lead to their slots, and by at most those of 8 n buckets
+//!    (`odds_are_bounded`). What bounds
 //!    the triples bounds the share of the searches, however many rounds they take
 //!    (`searches_share_alike`).
 //! 4. A record is lost only if it is terrible and its last slot goes to another, or if a tried

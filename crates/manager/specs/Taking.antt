@@ -25,7 +25,7 @@ IsAdded form payload old now source words added new =
     (entries : List (Option Entry)) × IsMessage form payload entries
     × AreAdded entries old now source words added new
 
--- the entries before some entry are added
+-- the first entries of a message are added, and not all: memory ran out at the next one
 abbrev pub HasFirst : List (Option Entry) → State → ℕ → Address → List ℕ → State → Type 0
 HasFirst entries old now source words new =
     (k : ℕ) × (k < length entries) × (length entries ≤ length words)

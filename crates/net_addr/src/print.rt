@@ -128,7 +128,7 @@ fn groups(bytes: [u8; 16]) -> ArrayVec<u8, IPV6_TEXT>
 }
 
 /// Returns eight groups of hexadecimal digits with colons between them, and `::` in place of the
-/// longest run of zeros.
+/// longest run of groups that are zero, if that has at least two (RFC 5952).
 fn compressed(segments: &[u16]) -> ArrayVec<u8, IPV6_TEXT>
     requires { length segments.now ≡ 8 }
     ensures { result.items ≡ hex_groups_text segments.now }

@@ -1,4 +1,4 @@
--- The word for each fault of a peers.dat.
+-- The word for each fault of a peers.dat. What a fault carries is no part of its word.
 use Rattle.std.specs.Prelude.{ℕ, List, codes}
 use Rattle.peers_file.specs.declared.fault.FileFault.{FileFault}
 use Rattle.peers_file.specs.declared.fault.FileFault.TheVariants.{Truncated, BadMagic, BadSum, Compat, Version, Count, Record}

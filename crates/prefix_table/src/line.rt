@@ -80,7 +80,7 @@ fn is_in_range(entry: &Entry) -> bool
     entry.len <= width && 1 <= entry.asn && entry.asn <= u64::from(MAX_ASN)
 }
 
-/// Returns the row that the entry says.
+/// Returns the row of an entry. IPv4 is mapped to IPv6, so its length grows by 96.
 fn row_of(entry: &Entry) -> Row
     requires address { entry.now.address < 2 ^ width entry.now.family }
     requires in_range { IsInRange entry.now }

@@ -58,7 +58,7 @@ impl<'a, 's> Plan<'a, 's> {
         })
     }
 
-    /// Makes the plan of what is restored of a file, before records are deleted.
+    /// Makes the plan of all records of a file. Those in no bucket are still among them.
     pub(crate) fn of<L: Ledger>(
         alloc: Global,
         snap: &'s Snapshot,
@@ -252,8 +252,8 @@ impl<'a, 's> Plan<'a, 's> {
         true
     }
 
-    /// Gives the record at an index the bucket that lists it in the file if the file's buckets are
-    /// used and the slot there is empty, and returns whether that is so.
+    /// Gives the record at an index the bucket that lists it in the file, if the buckets of the
+    /// file count (`are_used`) and the slot there is empty. Returns whether that is so.
     fn give_listed<L: Ledger>(
         &mut self,
         are_used: bool,

@@ -34,7 +34,7 @@ record_of r number place = record {
 abbrev pub with_new : State → FileRec → State
 with_new st r = with_last st (record_of r st.next_number (New []))
 
--- all of a list, one after another
+-- the state with the new records of a list, one after another
 abbrev pub with_all_new : State → List FileRec → State
 with_all_new st [] = st
 with_all_new st (r ∷ rs) = with_all_new (with_new st r) rs

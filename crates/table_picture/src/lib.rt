@@ -1,4 +1,4 @@
-//! The picture of the tables: the keys of their slots, and the names of the groups.
+//! What a picture shows of the tables: the key of each slot's group, and the names of the groups.
 #![tactic(auto)]
 
 mod keys;

@@ -94,7 +94,7 @@ fn put_tried(
     Err(Unread::Unmet)
 }
 
-/// `filled`: a file with a record for each slot of both tables, which are 65,536 and 16,384.
+/// `filled`: a file with a record for each slot, 65,536 new ones and 16,384 tried ones.
 pub(crate) fn put_filled(alloc: Global, bytes: &mut Vec<u8>) -> Result<(), Unread> {
     let placer = Placer::make([0; 32], None);
     let tried = u32::from(TRIED_BUCKETS) * u32::from(SLOTS);

@@ -114,7 +114,7 @@ fn has_too_many(alloc: Global, text: &[u8]) -> bool {
     text.len() <= MAX_TEXT && matches!(read_table(alloc, text), Err(TableFault::TooMany))
 }
 
-/// Whether one row more is too many.
+/// Whether an asmap with one row more than a table may have is refused.
 pub(crate) fn one_row_more_is_too_many(alloc: Global) -> bool {
     match text_of(alloc, MOST + 1, 0) {
         Ok(text) => has_too_many(alloc, text.as_slice()),
