@@ -1,10 +1,10 @@
 -- What is written of a generated log, piece by piece.
-use Rattle.std.proofs.Common.{◌≡◌, ◌≢◌, ◌<◌, ◌+◌, ℕ, List, [], ◌∷◌, ◌++◌, length, take, refl, sym, ap, ◌∙◌, subst, arith, append_assoc}
-use Rattle.std.specs.Prelude.{◌↔◌, Bool, true, false, IsTrue, Option, Some, None}
+use Rattle.std.proofs.Common.{◌≡◌, ◌≢◌, ◌<◌, ℕ, List, [], ◌∷◌, ◌++◌, length, refl, sym, ap, ◌∙◌, subst, arith, append_assoc}
+use Rattle.std.specs.Prelude.{◌↔◌, Bool, true, false, IsTrue, Option}
 use Rattle.std.specs.List.{concat}
-use Rattle.std.proofs.Math.Seq.{take-append_seam, take-append-add}
-use Rattle.std.proofs.lemmas.List.{append-nil, length-append, take-append-le}
+use Rattle.std.proofs.lemmas.List.{append-nil}
 use Rattle.host_io.specs.Writing.{Appended, AppendedPart, AppendedPrefix}
+use Rattle.host_io.proofs.Appending.{append_both, append_none, append_part, append_prefix}
 use Rattle.gen_load.specs.Log.{next_line, lines_after}
 
 -- the text so far, the text that waits to be written, and the lines that are still to come
@@ -13,16 +13,8 @@ pub record Writing (log now : List (List ℕ)) (piece : List ℕ) (old new : Opt
   pub written : Appended old new text
   pub whole : text ++ (piece ++ concat now) ≡ concat log
 
-pub nothing_more : (old : Option (List ℕ)) → Appended old old []
-nothing_more None = tt
-nothing_more (Some before) = ap Some (sym (append-nil before))
-
 pub writes_none : (log now : List (List ℕ)) (piece : List ℕ) (old : Option (List ℕ)) → now ≡ log → piece ≡ [] → Writing log now piece old old
-writes_none log now piece old is none = record { text = []; written = nothing_more old; whole = λ i. none i ++ concat (is i) }
-
-both : (old mid new : Option (List ℕ)) (a b : List ℕ) → Appended old mid a → Appended mid new b → Appended old new (a ++ b)
-both None mid new a b first second = tt
-both (Some before) mid new a b first second = (rw first at second) ∙ ap Some (append_assoc before a b)
+writes_none log now piece old is none = record { text = []; written = append_none old; whole = λ i. none i ++ concat (is i) }
 
 -- the first line and those after it
 cut_first : (now : List (List ℕ)) → now ≢ [] → next_line now ++ concat (lines_after now) ≡ concat now
@@ -53,7 +45,7 @@ pub writes_first : (log now : List (List ℕ)) (piece left first : List ℕ) (ol
     → Writing log now left old new
 writes_first log now piece left first old mid new w more cut = record {
   text = w.text ++ first;
-  written = both old mid new w.text first w.written more;
+  written = append_both old mid new w.text first w.written more;
   whole = append_assoc w.text first (left ++ concat now) ∙ ap (λ xs. w.text ++ xs) (sym (append_assoc first left (concat now)) ∙ ap (λ xs. xs ++ concat now) cut) ∙ w.whole;
 }
 
@@ -73,25 +65,10 @@ some_more more now is iff = iff.0 is
 -- all that waits is written, and no line is to come
 pub writes_all : (log now : List (List ℕ)) (piece : List ℕ) (old mid new : Option (List ℕ)) → Writing log now piece old mid → (now ≢ [] → ⊥) → Appended mid new piece → Appended old new (concat log)
 writes_all log now piece old mid new w none more =
-    subst (Appended old new) (ap (λ xs. w.text ++ xs) (sym (append-nil piece) ∙ ap (λ xs. piece ++ concat xs) (sym (at_end now none))) ∙ w.whole) (both old mid new w.text piece w.written more)
-
-prefix_of : (old new : Option (List ℕ)) (a rest all : List ℕ) → Appended old new a → a ++ rest ≡ all → AppendedPrefix old new all
-prefix_of None new a rest all is whole = tt
-prefix_of (Some before) new a rest all is whole =
-    (length a, omega (arith, ap length whole, length-append a rest), is ∙ ap (λ xs. Some (before ++ xs)) (sym (take-append_seam a rest) ∙ ap (take (length a)) whole))
+    subst (Appended old new) (ap (λ xs. w.text ++ xs) (sym (append-nil piece) ∙ ap (λ xs. piece ++ concat xs) (sym (at_end now none))) ∙ w.whole) (append_both old mid new w.text piece w.written more)
 
 pub writes_prefix : (log now : List (List ℕ)) (piece : List ℕ) (old new : Option (List ℕ)) → Writing log now piece old new → AppendedPrefix old new (concat log)
-writes_prefix log now piece old new w = prefix_of old new w.text (piece ++ concat now) (concat log) w.written w.whole
-
-part_of : (old mid new : Option (List ℕ)) (a line rest all : List ℕ) → Appended old mid a → AppendedPart mid new line → a ++ (line ++ rest) ≡ all → AppendedPart old new all
-part_of None mid new a line rest all is part whole = tt
-part_of (Some before) mid new a line rest all is part whole =
-    let (n, less, written) = subst (λ m. AppendedPart m new line) is part in (
-      length a + n,
-      omega (arith, less, ap length whole, length-append a (line ++ rest), length-append line rest),
-      written ∙ ap Some (append_assoc before a (take n line))
-          ∙ ap (λ xs. Some (before ++ xs)) (ap (λ xs. a ++ xs) (sym (take-append-le n line rest (omega (arith, less)))) ∙ sym (take-append-add a (line ++ rest) n) ∙ ap (take (length a + n)) whole),
-    )
+writes_prefix log now piece old new w = append_prefix old new w.text (piece ++ concat now) (concat log) w.written w.whole
 
 pub writes_part : (log now : List (List ℕ)) (piece : List ℕ) (old mid new : Option (List ℕ)) → Writing log now piece old mid → AppendedPart mid new piece → AppendedPart old new (concat log)
-writes_part log now piece old mid new w part = part_of old mid new w.text piece (concat now) (concat log) w.written part w.whole
+writes_part log now piece old mid new w part = append_part old mid new w.text piece (concat now) (concat log) w.written part w.whole

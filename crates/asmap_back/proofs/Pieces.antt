@@ -1,9 +1,8 @@
 -- A text that is written piece by piece.
-use Rattle.std.proofs.Common.{◌≡◌, ◌+◌, ℕ, List, [], ◌∷◌, ◌++◌, length, take, sym, ap, ◌∙◌, subst, arith, append_assoc, append-nil, length-append}
-use Rattle.std.specs.Prelude.{Option, Some, None, flat_map}
-use Rattle.std.proofs.Math.Seq.{take-append-add}
-use Rattle.std.proofs.lemmas.List.{take-append-le}
+use Rattle.std.proofs.Common.{◌≡◌, ℕ, List, [], ◌∷◌, ◌++◌, sym, ap, ◌∙◌, subst, append_assoc, append-nil}
+use Rattle.std.specs.Prelude.{Option, flat_map}
 use Rattle.host_io.specs.Writing.{Appended, AppendedPart}
+use Rattle.host_io.proofs.Appending.{append_both, append_none, append_part}
 use Rattle.prefix_table.specs.Print.{row_text, table_text}
 use Rattle.prefix_table.specs.declared.row.Row.{Row}
 
@@ -13,18 +12,10 @@ pub record Waits (all : List ℕ) (left : List Row) (piece : List ℕ) (old new 
   pub written : Appended old new text
   pub whole : text ++ (piece ++ flat_map row_text left) ≡ all
 
-nothing_more : (old : Option (List ℕ)) → Appended old old []
-nothing_more None = tt
-nothing_more (Some before) = ap Some (sym (append-nil before))
-
 -- nothing is written yet
 pub waits_first : (rows : List Row) (piece : List ℕ) (old : Option (List ℕ)) → piece ≡ [] → Waits (table_text rows) rows piece old old
 unfolding table_text
-waits_first rows piece old none = record { text = []; written = nothing_more old; whole = ap (λ xs. xs ++ flat_map row_text rows) none }
-
-both : (old mid new : Option (List ℕ)) (a b : List ℕ) → Appended old mid a → Appended mid new b → Appended old new (a ++ b)
-both None mid new a b first second = tt
-both (Some before) mid new a b first second = (rw first at second) ∙ ap Some (append_assoc before a b)
+waits_first rows piece old none = record { text = []; written = append_none old; whole = ap (λ xs. xs ++ flat_map row_text rows) none }
 
 -- a line more waits, and the first bytes that waited may be written
 pub waits_next : (all : List ℕ) (left after : List Row) (row : Row) (piece more first : List ℕ) (old mid new : Option (List ℕ)) → Waits all left piece old mid → left ≡ row ∷ after →
@@ -33,7 +24,7 @@ waits_next all left after row piece more first old mid new w is put cut =
     let later = flat_map row_text after in
     record {
       text = w.text ++ first;
-      written = both old mid new w.text first w.written put;
+      written = append_both old mid new w.text first w.written put;
       whole =
           append_assoc w.text first (more ++ later)
           ∙ ap (λ xs. w.text ++ xs) (sym (append_assoc first more later) ∙ ap (λ xs. xs ++ later) cut ∙ append_assoc piece (row_text row) later)
@@ -41,21 +32,11 @@ waits_next all left after row piece more first old mid new w is put cut =
           ∙ w.whole;
     }
 
-part_of : (old mid new : Option (List ℕ)) (a piece rest all : List ℕ) → Appended old mid a → AppendedPart mid new piece → a ++ (piece ++ rest) ≡ all → AppendedPart old new all
-part_of None mid new a piece rest all is part whole = tt
-part_of (Some before) mid new a piece rest all is part whole =
-    let (n, less, written) = subst (λ m. AppendedPart m new piece) is part in (
-      length a + n,
-      omega (arith, less, ap length whole, length-append a (piece ++ rest), length-append piece rest),
-      written ∙ ap Some (append_assoc before a (take n piece))
-          ∙ ap (λ xs. Some (before ++ xs)) (ap (λ xs. a ++ xs) (sym (take-append-le n piece rest (omega (arith, less)))) ∙ sym (take-append-add a (piece ++ rest) n) ∙ ap (take (length a + n)) whole),
-    )
-
 -- a part of the piece is written
 pub waits_part : (all : List ℕ) (left : List Row) (piece : List ℕ) (old mid new : Option (List ℕ)) → Waits all left piece old mid → AppendedPart mid new piece → AppendedPart old new all
-waits_part all left piece old mid new w part = part_of old mid new w.text piece (flat_map row_text left) all w.written part w.whole
+waits_part all left piece old mid new w part = append_part old mid new w.text piece (flat_map row_text left) all w.written part w.whole
 
 -- all of the piece is written, and no row is left
 pub waits_all : (all : List ℕ) (left : List Row) (piece : List ℕ) (old mid new : Option (List ℕ)) → Waits all left piece old mid → left ≡ [] → Appended mid new piece → Appended old new all
 waits_all all left piece old mid new w none put =
-    subst (Appended old new) (ap (λ xs. w.text ++ xs) (sym (append-nil piece) ∙ ap (λ (rs : List Row). piece ++ flat_map row_text rs) (sym none)) ∙ w.whole) (both old mid new w.text piece w.written put)
+    subst (Appended old new) (ap (λ xs. w.text ++ xs) (sym (append-nil piece) ∙ ap (λ (rs : List Row). piece ++ flat_map row_text rs) (sym none)) ∙ w.whole) (append_both old mid new w.text piece w.written put)

@@ -1,3 +1,4 @@
+pub mod Appending
 pub mod Changes
 mod DiskExamples
 mod Examples

@@ -5,6 +5,7 @@ use Rattle.std.proofs.lemmas.List.{append-nil, length-append, length-drop, take-
 use Rattle.std.proofs.Math.Seq.{drop-append-add}
 use Rattle.host_io.specs.Reading.{MovesBytes, TakesAtMost}
 use Rattle.host_io.specs.Writing.{Appended, AppendedPart}
+use Rattle.host_io.proofs.Appending.{append_both, append_none}
 use Rattle.grammar.specs.declared.fault.LineFault.{LineFault}
 use Rattle.log_run.specs.Log.{IsAtEnd}
 use Rattle.log_run.specs.Reading.{HasMore, HasNoLine, HasRead, IsLine, IsLong, Reading}
@@ -23,19 +24,8 @@ use Rattle.log_run.proofs.Runs.{Kept, Read, begins, is_near, kept_line, kept_sta
 abbrev pub left_of : Reading → ℕ
 left_of reader = MAX_LOG - reader.taken + length reader.waiting
 
--- a text was appended, and another after it
-append_after : (old mid new : Option (List ℕ)) (text reply : List ℕ) → Appended old mid text → Appended mid new reply → Appended old new (text ++ reply)
-append_after None mid new text reply whole more = tt
-append_after (Some before) mid new text reply whole more =
-    let p = subst (λ o. IfSome o (λ b. new ≡ Some (b ++ reply))) whole more in
-    p ∙ ap Some (append_assoc before text reply)
-
-append_none : (old mid : Option (List ℕ)) (text : List ℕ) → Appended old mid text → Appended old mid (text ++ [])
-append_none old mid text whole = subst (Appended old mid) (sym (append-nil text)) whole
-
-append_start : (old : Option (List ℕ)) → Appended old old []
-append_start None = tt
-append_start (Some b) = ap Some (sym (append-nil b))
+append_empty : (old mid : Option (List ℕ)) (text : List ℕ) → Appended old mid text → Appended old mid (text ++ [])
+append_empty old mid text whole = subst (Appended old mid) (sym (append-nil text)) whole
 
 -- a part of the next text was appended; not all of it, if contracts know the output
 part_after : (old mid new : Option (List ℕ)) (text reply : List ℕ) → Appended old mid text → AppendedPart mid new reply
@@ -73,7 +63,7 @@ looped_start step state world left out reader is = record {
   replies = [];
   kept = subst (λ r. Kept left left r [] []) (sym is) (kept_start left);
   runs = (refl, refl);
-  appended = append_start out;
+  appended = append_none out;
   counted = refl;
   bounded = omega (arith, ap (λ r. r.taken) is, ap (λ r. length r.waiting) is);
 }
@@ -339,7 +329,7 @@ at_line_memory step has_fault start left mid after out written reader next state
     (as_read step start left mid after out written reader next state world line l n moved) (inl refl) same
 at_line_memory step has_fault start left mid after out written reader next state world later line count l n moved is (inr (text, new_state, one)) =
     ends_in step has_fault start left mid after out written written reader next state new_state world later line count [] text Memory l n moved is one
-    (append_none out written l.replies l.appended) (inr refl)
+    (append_empty out written l.replies l.appended) (inr refl)
 
 -- the line is not carried out
 pub at_stop : {S W : Type 0} (step : StepsIn S W) (has_fault : List ℕ → LineFault → Type 0) (start : S × W)
@@ -419,7 +409,7 @@ looped_more step start left mid after out written new reader next behind state n
       kept = subst (λ x. Kept left after x (l.answered ++ take count next.waiting ∷ []) (l.given ++ take (count + 1) next.waiting)) (sym advanced)
           (kept_line left mid after reader next l.answered l.given count l.kept r is moved (n.end l.kept.end));
       runs = Run-more (both step) l.answered start (state, world) (new_state, later) (take count next.waiting) l.replies text l.runs one;
-      appended = append_after out written new l.replies text l.appended more;
+      appended = append_both out written new l.replies text l.appended more;
       counted = omega (arith, l.counted, length-append l.answered (take count next.waiting ∷ []));
       bounded = omega (arith, l.bounded, fewer_left step start left mid after out written reader next behind state world line count l n moved is advanced);
     }
