@@ -63,15 +63,15 @@ file_and_key : (bytes : List ℕ) (snap : Snapshot) → IsFile Main bytes snap �
 file_and_key bytes snap is none = from_file snap (bytes, refl, is) none refl
 
 -- a fault of bytes is not a lack of memory
-cut_is_no_want : Truncated ≡ Memory → ⊥
-cut_is_no_want is = cc
+truncated_is_not_memory : Truncated ≡ Memory → ⊥
+truncated_is_not_memory is = cc
 
 other_is_no_want : BadMagic ≡ Memory → ⊥
 other_is_no_want is = cc
 
 file_of_35_bytes : RefusesTables Main (folder (Some (replicate 35 0))) (File Truncated)
 unfolding whole_fault
-file_of_35_bytes = (cut_is_no_want, (replicate 35 0, refl, inl refl))
+file_of_35_bytes = (truncated_is_not_memory, (replicate 35 0, refl, inl refl))
 
 file_of_another_chain : RefusesTables Test (folder (Some (0xf9 ∷ 0xbe ∷ 0xb4 ∷ 0xd9 ∷ replicate 32 0))) (File BadMagic)
 unfolding whole_fault

@@ -43,8 +43,9 @@ use std::hash::BuildHasher;
 /// differs between asmap.old and asmap.dat, and `diff --peers --net CHAIN` also which records of
 /// peers.dat change their group. `limit` carries out the lines of the log under the limit on
 /// received addresses, and writes the log that is left. `show --net CHAIN` lists what peers.dat
-/// has, `raw --net CHAIN` prints its records by their slots, and `info --net CHAIN` how many each
-/// network has, and `groups --net CHAIN` how many each group, all as JSON. `ban SUBNET NOW UNTIL`
+/// has, and `picture --net CHAIN` draws its tables. As JSON, `raw --net CHAIN` prints its records
+/// by their slots, `info --net CHAIN` how many each network has, and `groups --net CHAIN` how many
+/// each group. `ban SUBNET NOW UNTIL`
 /// and `unban SUBNET` change the list of bans in banlist.json, `banned PEER NOW` writes which ban
 /// covers the peer's address, and `bans NOW` the bans that are not over, as JSON. `gen START LINES`
 /// writes a generated log, and `trial START LINES` carries it out from empty tables and writes one

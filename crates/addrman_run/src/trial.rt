@@ -55,7 +55,7 @@ fn reply_to<H: BuildHasher + Drop>(
     }
 }
 
-/// Takes a reply into the hash, and returns how many bytes the replies have with it.
+/// Adds a reply to the hash, and returns how many bytes all replies have, this one included.
 fn add_reply(hasher: &mut Sha256, bytes: u64, reply: &[u8]) -> Result<u64, Memory>
     ensures hash { (m : List ℕ) → ⟦<Sha256 as Digest>⟧.holds hasher.old m →
         ⟦<Sha256 as Digest>⟧.holds hasher.new (m ++ reply.now) }

@@ -3,8 +3,9 @@
 //! Proved: `decompile` gives the rows of an asmap: a prefix to which the tree gives a number has a
 //! row, unless the longest row that is a shorter prefix of it has this number (`rows`). Their
 //! longest match gives each of the 2^128 addresses the number of the asmap (`best`, `asn`). It
-//! refuses exactly what has more than 2,000,000 rows (`too_many`, `cause`). `BackRows` gives the
-//! same rows one after another, and `write_rows` writes their lines; neither takes memory.
+//! refuses exactly what has more than 2,000,000 rows (`too_many`, `cause`), unless memory runs out;
+//! `fits_table` says which has. `BackRows` gives the same rows one after another, and `write_rows`
+//! writes their lines; none of these three takes memory.
 //!
 //! Tested besides: against an independent program, on 40 random codes.
 #![tactic(auto)]

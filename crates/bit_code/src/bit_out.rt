@@ -14,7 +14,7 @@ use std::marker::Model;
 pub struct BitOut {
     /// The whole bytes.
     bytes: Vec<u8>,
-    /// The bits after them, the first as the lowest.
+    /// The bits after them; the first one is the lowest.
     rest: u8,
     /// The number of bits in `rest`, 0 to 7.
     rest_len: u32,

@@ -56,7 +56,7 @@ impl<'a> Bits<'a> {
         (self.bytes[at / 8] >> (at % 8)) & 1 == 1
     }
 
-    /// Returns at least 57 bits from an offset on, the first as the lowest. Any bits follow the
+    /// Returns at least 57 bits from an offset on; the first one is the lowest. Any bits follow the
     /// last one.
     #[inline(always)]
     pub(crate) fn window(&self, at: usize) -> u64
@@ -67,7 +67,7 @@ impl<'a> Bits<'a> {
     }
 }
 
-/// Returns the bytes from byte `q` on, the first as the lowest.
+/// Returns the bytes from byte `q` on; the first one is the lowest.
 #[inline(always)]
 fn word_from(bytes: &[u8], q: usize) -> u64
     requires { q ≤ length bytes.now }
@@ -80,7 +80,7 @@ fn word_from(bytes: &[u8], q: usize) -> u64
     }
 }
 
-/// Returns eight bytes from byte `q` on, the first as the lowest.
+/// Returns eight bytes from byte `q` on; the first one is the lowest.
 #[inline(always)]
 fn word_at(bytes: &[u8], q: usize) -> u64
     requires { q + 8 ≤ length bytes.now }
@@ -99,7 +99,7 @@ fn word_at(bytes: &[u8], q: usize) -> u64
     ])
 }
 
-/// Returns the last bytes, fewer than eight, and zeros after them, the first as the lowest.
+/// Returns the last bytes, fewer than eight, and zeros after them; the first one is the lowest.
 #[inline(never)]
 fn last_word(bytes: &[u8], q: usize) -> u64
     requires q { q ≤ length bytes.now }

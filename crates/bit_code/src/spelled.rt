@@ -11,7 +11,7 @@ use crate::reversal::front_digits;
 /// The bits that spell a number.
 #[derive(Clone, Copy)]
 pub(crate) struct Spelled {
-    /// The bits, the first as the lowest.
+    /// The bits of a number; the first one is the lowest.
     pub bits: u64,
     /// The number of bits.
     pub len: u32,

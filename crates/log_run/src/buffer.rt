@@ -7,7 +7,7 @@ use std::marker::Model;
 /// Bytes that were read and are not used yet. Contracts see them as a list.
 #[derive(Drop)]
 pub struct Buffer {
-    /// All of it is in use for bytes or free for them.
+    /// The bytes from `start` to `end` are in use, the others are free.
     bytes: Vec<u8>,
     start: usize,
     end: usize,

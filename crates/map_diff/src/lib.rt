@@ -7,7 +7,8 @@
 //! - `difference` gives the largest prefixes on which both asmaps are constant and differ, in their
 //!   order (`rows`), and refuses exactly what has more than 2,000,000 (`too_many`, `cause`). Their
 //!   addresses are as many as those with two numbers (`counted`).
-//! - `put_difference` writes them as contrib/asmap/asmap-tool.py of Bitcoin Core does (`ok`).
+//! - `put_difference` writes exactly the lines of `difference_text` (`ok`), a form after
+//!   contrib/asmap/asmap-tool.py of Bitcoin Core.
 //! - An address is covered by a change exactly if the asmaps give it two numbers, and the first
 //!   change that covers it has both (`exact`). No list of prefixes on which both are constant and
 //!   differ covers these addresses with fewer (`fewest`).

@@ -12,7 +12,7 @@
 //! - `snapshot_text` is exactly the text that lists a snapshot: a line for the file and one for
 //!   each record.
 //!
-//! Tested only: the texts of the faults.
+//! Tested only: what `Display` writes of the faults.
 #![tactic(auto)]
 
 mod chain;

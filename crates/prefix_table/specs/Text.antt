@@ -137,7 +137,8 @@ HasRowFault before line n TooMany = IsOneTooMany before line
 HasRowFault before line n (TooLarge size) = ⊥
 HasRowFault before line n Memory = ⊥
 
--- the first line of the text that is neither passed over nor that of another row has the fault
+-- The text has a first line with a fault: those before it are passed over or are those of rows
+-- with distinct prefixes, and it has the fault.
 pub record IsFault (text : List ℕ) (fault : TableFault) : Type 0 where
   pub before : List (List ℕ)
   pub line : List ℕ

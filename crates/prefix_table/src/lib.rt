@@ -13,7 +13,8 @@
 //! - `put_table` writes a text of the same table, short enough to be read again (`reads_back`,
 //!   `short`). `Table::from_rows` makes a table of rows exactly if they are those of one.
 //!
-//! Tested only: the texts of the faults; a table of the largest size and one too large by one row.
+//! Tested only: what `Display` writes of the faults; a table of the largest size and one too large
+//! by one row.
 #![tactic(auto)]
 
 mod entry;

@@ -31,13 +31,13 @@ published file job command.Save = unless job file
 published file job command.SaveEnd = option_map whole job
 published file job other = None
 
--- the same of a line, which may publish no file in any case
+-- the same of a line. That it publishes none is always allowed
 abbrev pub MayPublish : SessionState → List ℕ → Option (List ℕ) → Type 0
 MayPublish old line None = ⊤
 MayPublish old line (Some file) =
     (asked : Command) × SpellsCommand line asked × (published (file_now old) old.job asked ≡ Some file)
 
--- what a crash leaves there is the file, if there is one
+-- there is such a file, and a crash leaves it
 abbrev pub LeavesFile : Option (List ℕ) → Option (List ℕ) → Type 0
 LeavesFile None found = ⊥
 LeavesFile (Some file) found = found ≡ Some file
