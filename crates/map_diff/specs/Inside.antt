@@ -69,7 +69,8 @@ unfoldable pub rows_at : List Bool → List Change → List ChangedPrefix
 rows_at p cs = map (changed_at p) cs
 
 -- what was read of a part: the pair that it is, or its changes, which were appended
-abbrev pub IsRead : List Bool → Part → List ChangedPrefix → List ChangedPrefix → Option Pair → Type 0
+abbrev pub IsRead : List Bool → Part → List ChangedPrefix → List ChangedPrefix →
+    Option Pair → Type 0
 IsRead p whole rows rows_after (Some pair) =
     (whole ≡ Same pair.old pair.new) × (rows_after ≡ rows)
 IsRead p whole rows rows_after None =

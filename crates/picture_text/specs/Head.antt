@@ -11,7 +11,8 @@ svg_attributes =
     ∷ (codes "role", codes "img") ∷ []
 
 unfoldable pub opening_text : List ℕ
-opening_text = codes "<svg xmlns=\"http://www.w3.org/2000/svg\" viewBox=\"0 0 1080 712\" role=\"img\">\n"
+opening_text =
+    codes "<svg xmlns=\"http://www.w3.org/2000/svg\" viewBox=\"0 0 1080 712\" role=\"img\">\n"
 
 -- what is said of it to who cannot see it, and shown below its title
 abbrev pub meaning : List ℕ
@@ -26,7 +27,9 @@ styles =
 
 -- the ground of a free tile: eight dots of nine
 abbrev pub tile : List ℕ
-tile = single (codes "path") ((codes "fill", codes "#eceff2") ∷ (codes "d", codes "M0 0h8v8h-8z") ∷ []) []
+tile =
+    single (codes "path")
+    ((codes "fill", codes "#eceff2") ∷ (codes "d", codes "M0 0h8v8h-8z") ∷ []) []
 
 abbrev pub tile_attributes : List (List ℕ × List ℕ)
 tile_attributes =
@@ -40,7 +43,9 @@ head_text =
     ++ (element (codes "desc") [] meaning (codes "\n")
     ++ (element (codes "style") [] styles (codes "\n")
     ++ (element (codes "pattern") tile_attributes tile (codes "\n")
-    ++ single (codes "rect") ((codes "width", codes "1080") ∷ (codes "height", codes "712") ∷ (codes "fill", codes "#fff") ∷ []) (codes "\n"))))
+    ++ single (codes "rect")
+    ((codes "width", codes "1080") ∷ (codes "height", codes "712")
+    ∷ (codes "fill", codes "#fff") ∷ []) (codes "\n"))))
 
 pub record Label : Type 0 where
   pub x : List ℕ
@@ -74,9 +79,12 @@ labels =
     ∷ at (codes "896") (codes "444") (codes "n k") (codes "slots")
     ∷ at (codes "970") (codes "444") (codes "n k") (codes "tried")
     ∷ at (codes "1056") (codes "444") (codes "n k") (codes "new buckets")
-    ∷ at (codes "694") (codes "664") (codes "k") (codes "Peers announced by one group get 64 of the 1024 new")
-    ∷ at (codes "694") (codes "680") (codes "k") (codes "buckets. A peer that other groups announced too may be")
-    ∷ at (codes "694") (codes "696") (codes "k") (codes "in theirs, and keeps the colour of its first source.")
+    ∷ at (codes "694") (codes "664") (codes "k")
+    (codes "Peers announced by one group get 64 of the 1024 new")
+    ∷ at (codes "694") (codes "680") (codes "k")
+    (codes "buckets. A peer that other groups announced too may be")
+    ∷ at (codes "694") (codes "696") (codes "k")
+    (codes "in theirs, and keeps the colour of its first source.")
     ∷ []
 
 unfoldable pub labels_text : List ℕ
