@@ -27,7 +27,8 @@ fn put_first(row: &[u8], mark: u8, x: u32, y: u32, out: &mut Vec<u8>) -> Result<
     requires room { x + length row.now < 2 ^ 32 }
     ensures some { IfOk result (λ wide. 0 < wide) }
     ensures within { IfOk result (λ wide. wide ≤ length row.now) }
-    ensures drawn { IfOk result (λ wide. out.new.items ++ row_text mark (x + wide) y (drop wide row.now)
+    ensures drawn { IfOk result (λ wide.
+        out.new.items ++ row_text mark (x + wide) y (drop wide row.now)
         ≡ out.old.items ++ row_text mark x y row.now) }
 {
     let wide = first_run(row);

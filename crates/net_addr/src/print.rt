@@ -222,8 +222,8 @@ fn hex_digit(digit: u16) -> u8
     }
 }
 
-/// Appends the text of an IPv6 address in square brackets. After `Memory` a part of it may be in the
-/// list.
+/// Appends the text of an IPv6 address in square brackets. After `Memory` a part of it may be in
+/// the list.
 fn append_bracketed(bytes: &[u8], out: &mut Vec<u8>) -> Result<(), Memory>
     requires { length bytes.now ≡ 16 }
     ensures text { OnOk result (out.new.items
