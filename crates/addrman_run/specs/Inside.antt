@@ -221,7 +221,7 @@ Replied old line before after new =
     (text : List ℕ) × (ended : Option Ended) × LineStep old line text new ended
     × (after ≡ before ++ text)
 
--- the replies to some lines have so many bytes and this SHA-256
+-- the replies to some lines have this many bytes and this SHA-256
 abbrev pub HasReplies : session.SessionState → List (List ℕ) → session.SessionState →
     ℕ → List ℕ → Type 0
 HasReplies old lines new bytes sum =

@@ -31,7 +31,7 @@ use Rattle.addrman_run.specs.declared.status.Status.{Status}
 abbrev pub at_start : Chain → State → session.SessionState
 at_start chain tables = session.state chain (record { tables = tables; clock = 0 }) None
 
--- Where peers.dat has the file of these tables, it opens, and only as they are after a restart.
+-- If peers.dat has the file of these tables, it opens, and only as they are after a restart.
 abbrev pub ReopensAs : Chain → Option Asmap → State → Type 0
 ReopensAs chain map st =
     (past : Past) (key : Option (List ℕ))

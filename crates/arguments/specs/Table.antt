@@ -60,9 +60,8 @@ NameCommand texts None = texts ≡ []
 NameCommand texts (Some name) = texts ≡ command_word name ∷ []
 
 -- What comes after the name of a command: fields of these kinds; the options `--key` and `--net`;
--- `--net` alone; `--peers` and `--net`, or nothing; a subnet; a subnet and two times, of which the
--- first is the earlier one; the name of a command or nothing; a peer or `-`; or what people write
--- for an address.
+-- only `--net`; `--peers` and `--net`, or nothing; a subnet; a subnet and two times, the earlier
+-- one first; the name of a command or nothing; a peer or `-`; or what people write for an address.
 pub data Form : Type 0 where
   Fields : List Kind → Form
   Opening : Form

@@ -4,7 +4,7 @@ ghost use Rattle.dot_runs.specs.Runs.{leading, row_text, run_text, rect_text, ru
 use crate::Memory;
 use itoa::Buffer;
 
-/// Appends the rectangles of one mark in a row of marks, whose first stands at `x` and `y`: one for
+/// Appends the rectangles of one mark in a row of marks, whose first is at `x` and `y`: one for
 /// each longest run of this mark.
 pub fn put_row(marks: &[u8], mark: u8, x: u32, y: u32, out: &mut Vec<u8>) -> Result<(), Memory>
     requires { x + length marks.now < 2 ^ 32 }
@@ -36,7 +36,7 @@ fn put_first(row: &[u8], mark: u8, x: u32, y: u32, out: &mut Vec<u8>) -> Result<
     Ok(wide)
 }
 
-/// Returns how many marks at the front are equal.
+/// Returns how many of the first marks are equal.
 #[tactic(auto, using(crate::proofs::Runs::run_some))]
 fn first_run(row: &[u8]) -> usize
     requires { 0 < length row.now }

@@ -30,7 +30,7 @@ pub(crate) struct NotedFailure {
 #[derive(Drop)]
 pub struct Notes {
     alloc: Global,
-    /// Whether a save that fails is told at once.
+    /// Whether a save that fails is reported at once.
     tells_saves: bool,
     last: Cell<Option<NotedFailure>>,
     /// Whether the last save failed.

@@ -45,13 +45,13 @@ pub record IsMatching (bits : List Bool) (n number size offset default : ℕ)
   pub tree : IsTree bits (n - size) offset default next
   pub map_is : f ≡ matching (digits size number) next default
 
--- the cursor stands for this map of addresses of n bits
+-- the cursor represents this map of addresses of n bits
 abbrev pub IsMap : List Bool → ℕ → Cursor → (List Bool → ℕ) → Type 0
 IsMap bits n (Fixed asn) f = f ≡ (λ address. asn)
 IsMap bits n (Fork left right default) f = IsFork bits n left right default f
 IsMap bits n (Match number size offset default) f = IsMatching bits n number size offset default f
 
--- two cursors stand for the maps below a path
+-- two cursors represent the maps below a path
 pub record AreMaps (old_bits new_bits : List Bool) (at : Prefix) (from to : Cursor)
     (p : List Bool) (f g : List Bool → ℕ) : Type 0 where
   pub len : length p ≡ at.len

@@ -4,7 +4,7 @@ use Rattle.std.specs.List.{flat_map}
 use Rattle.picture_text.specs.Elements.{label}
 use Rattle.picture_text.specs.Markup.{element, single}
 
--- the picture's element: an SVG of its own (SVG 2), which a reader of the page is told as one image
+-- the picture's element: an SVG of its own (SVG 2), which a screen reader announces as one image
 abbrev pub svg_attributes : List (List ℕ × List ℕ)
 svg_attributes =
     (codes "xmlns", codes "http://www.w3.org/2000/svg") ∷ (codes "viewBox", codes "0 0 1080 712")

@@ -88,7 +88,7 @@ fn subject_of(name: &str) -> Result<Subject, Unread> {
     Err(Unread::Form)
 }
 
-/// What calls leave behind: those about the limit, about tables and about prefixes.
+/// What the calls of a block leave: those about the limit, about tables and about prefixes.
 #[derive(Drop)]
 pub(crate) struct Values {
     limits: Limits,
