@@ -1,7 +1,7 @@
 ghost use Rattle.std.specs.Prelude.{◌≡◌, ℕ, ◌+◌, ◌*◌, ◌<◌, ◌≤◌, List, [], ◌∷◌, length, get_or};
 ghost use Rattle.dot_runs.specs.Rects.{dots_over, dot_x, dot_y, table_rects};
 
-/// The dot of each slot is covered by one rectangle, which has the slot's mark, and no place
+/// The dot of each slot is covered by one rectangle, which has the slot's mark, and no point
 /// between two tiles is covered.
 pub fn one_dot()
     ensures dots { (side : ℕ) (marks : List ℕ) (bucket slot : ℕ)

@@ -17,7 +17,7 @@ colour index =
 abbrev pub ground : List ℕ
 ground = codes "#eceff2"
 
--- a text of a class at a place
+-- a text of a class at a position
 abbrev pub label : List ℕ → List ℕ → List ℕ → List ℕ → List ℕ
 label x y class text =
     codes "<text x=\"" ++ (x ++ (codes "\" y=\"" ++ (y
