@@ -22,7 +22,7 @@ pub(crate) struct NotedFailure {
     name: &'static str,
     /// What was tried, as a participle.
     tried: &'static str,
-    /// What the system said; nothing of what is no regular file.
+    /// The system's error, or `None` if the file is no regular one.
     error: Option<io::Error>,
 }
 

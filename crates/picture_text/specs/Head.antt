@@ -14,7 +14,7 @@ unfoldable pub opening_text : List ℕ
 opening_text =
     codes "<svg xmlns=\"http://www.w3.org/2000/svg\" viewBox=\"0 0 1080 712\" role=\"img\">\n"
 
--- what is said of it to who cannot see it, and shown below its title
+-- the description of the picture: for readers who cannot see it, and below its title
 abbrev pub meaning : List ℕ
 meaning =
     codes "A square is a bucket, and a dot in it is an occupied slot."

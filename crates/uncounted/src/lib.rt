@@ -1,7 +1,7 @@
 //! The calls of the tables for callers that read no count of steps: each counts its steps on a
 //! counter of its own, so that the caller names no ledger and has no condition on it.
 //!
-//! Proved: each call returns and leaves what the call of the tables with its name does.
+//! Proved: each call returns and leaves what the call with a count of steps does.
 #![tactic(auto)]
 
 mod entries;
