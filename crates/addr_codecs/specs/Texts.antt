@@ -1,5 +1,5 @@
 -- How the messages `addr` and `addrv2` are written: each number and each length in its shortest
--- spelling.
+-- encoding.
 use Rattle.std.specs.Prelude.{ℕ, List, [], ◌∷◌, ◌++◌, length, unwrap_or}
 use Rattle.std.specs.List.{flat_map}
 use Rattle.std.specs.Int.{w16, w32, w64, to_le_bytes, to_be_bytes}

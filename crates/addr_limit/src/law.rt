@@ -28,8 +28,8 @@ pub fn calls_are_events()
     ensures getaddr { (st : LimitState) (number : ℕ) → AreRising st.conns →
         after_asking (find_conn number st.conns) st.conns
         ≡ (after_event st (Of number GetAddr)).conns }
-    ensures message { (st : LimitState) (number : ℕ) (entries : List (Option Entry)) (words : List ℕ) →
-        AreRising st.conns → length entries ≤ length words →
+    ensures message { (st : LimitState) (number : ℕ) (entries : List (Option Entry))
+        (words : List ℕ) → AreRising st.conns → length entries ≤ length words →
         after_message st.clock entries (find_conn number st.conns) st.conns
         ≡ (after_event st (Of number (Message (Ok entries) words))).conns }
 {}
@@ -44,7 +44,8 @@ pub fn tokens_are_bounded()
 /// No line says two events, has two faults, or says an event and has a fault.
 pub fn lines_have_one_meaning()
     ensures event { (line : List ℕ) (a b : Event) → SaysEvent line a → SaysEvent line b → a ≡ b }
-    ensures fault { (line : List ℕ) (f g : LineFault) → HasEventFault line f → HasEventFault line g → f ≡ g }
+    ensures fault { (line : List ℕ) (f g : LineFault) → HasEventFault line f →
+        HasEventFault line g → f ≡ g }
     ensures right { (line : List ℕ) (a : Event) (f : LineFault) → SaysEvent line a →
         ¬ HasEventFault line f }
 {}

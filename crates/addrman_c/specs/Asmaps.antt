@@ -51,7 +51,7 @@ table_fault table.TooMany = fault_at 3 0
 table_fault (table.TooLarge size) = fault_at 19 size
 table_fault table.Memory = fault_at 0 0
 
--- how the code and the output tell it
+-- the code and the output that say why there is no asmap
 abbrev pub TellsNoAsmap : NoAsmap → ℕ → AddrmanFault → Type 0
 TellsNoAsmap asmap.Memory code fault = code ≡ MEMORY
 TellsNoAsmap (asmap.LongText size) code fault = (code ≡ REFUSED) × (fault ≡ fault_at 19 size)

@@ -42,7 +42,7 @@ ban_fault_number TooMany = 3
 ban_fault_number (TooLarge size) = 19
 ban_fault_number Memory = 0
 
--- how the code and the output tell why bytes are not read
+-- the code and the output that say why bytes are not read
 abbrev pub TellsList : BanFault → ℕ → AddrmanFault → Type 0
 TellsList Memory code out = code ≡ MEMORY
 TellsList why code out = (code ≡ REFUSED) × (out ≡ fault_at (ban_fault_number why) 0)
@@ -62,7 +62,7 @@ abbrev pub IsParsed : List ℕ → Option Subnet → Type 0
 IsParsed text None = (s : Subnet) → IsSubnetText text s → ⊥
 IsParsed text (Some s) = IsSubnetText text s
 
--- a subnet, as the code and the outputs tell it; None is no subnet
+-- the code and the outputs for a subnet, or None if there is none
 abbrev pub SubnetCall : Option Subnet → ℕ → AddrmanAddr → ℕ → Type 0
 SubnetCall None code base prefix = code ≡ ARGUMENT
 SubnetCall (Some s) code base prefix =
@@ -88,7 +88,7 @@ UnbanCall None old code known new = (code ≡ ARGUMENT) × (new ≡ old)
 UnbanCall (Some s) old code known new =
     (code ≡ OK) × (known ≡ bit (is_some (listed s old))) × (new ≡ without_ban s old)
 
--- the struct tells the ban
+-- the struct has the fields of the ban
 pub record IsBan (out : AddrmanBan) (ban : Ban) : Type 0 where
   pub base : address_in out.base ≡ Some ban.subnet.addr
   pub prefix : out.prefix ≡ ban.subnet.len

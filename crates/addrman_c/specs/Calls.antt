@@ -86,7 +86,7 @@ abbrev pub form_of : Bool → Form
 form_of false = Addr
 form_of true = Addrv2
 
--- how the code and the outputs tell what became of a message
+-- the code and the outputs for the result of a message
 abbrev pub Tells : Result Added MessageFault → ℕ → AddrmanAdded → AddrmanFault → Type 0
 Tells (Ok taken) code added fault =
     (code ≡ OK) × (added.accepted ≡ taken.accepted) × (added.total ≡ taken.total)
@@ -108,20 +108,20 @@ MessageCall form payload (Some source) words now old code added fault new =
     (λ why. IsMessageFault form payload old now source words why new)
     × Tells answer code added fault)
 
--- a pick, as the code and the output tell it
+-- the code and the output for a pick
 abbrev pub PickCall : Picked → ℕ → AddrmanPicked → Type 0
 PickCall (One peer last_try) code picked =
     (code ≡ OK) × (peer_in picked.peer ≡ Some peer) × (picked.last_try ≡ last_try)
 PickCall Nothing code picked = code ≡ NONE
 PickCall Exhausted code picked = code ≡ EXHAUSTED
 
--- the occupant of a collision's slot, as the code and the output tell it
+-- the code and the output for the occupant of a collision's slot
 abbrev pub OccupantCall : Option (Peer × ℕ) → ℕ → AddrmanPicked → Type 0
 OccupantCall None code picked = code ≡ NONE
 OccupantCall (Some found) code picked =
     (code ≡ OK) × (peer_in picked.peer ≡ Some found.0) × (picked.last_try ≡ found.1)
 
--- the struct tells the record
+-- the struct has the fields of the record
 pub record IsRecord (out : AddrmanRecord) (r : Rec) : Type 0 where
   pub number : out.number ≡ r.number
   pub services : out.services ≡ r.services
@@ -134,13 +134,13 @@ pub record IsRecord (out : AddrmanRecord) (r : Rec) : Type 0 where
   pub attempts : out.attempts ≡ r.attempts
   pub buckets : take out.bucket_count out.buckets ≡ buckets_of r
 
--- the record of a peer, as the code and the output tell it; None is no peer
+-- the code and the output for the record of a peer; None is no peer
 abbrev pub FindCall : Option Peer → State → ℕ → AddrmanRecord → Type 0
 FindCall None st code out = code ≡ ARGUMENT
 FindCall (Some peer) st code out = MatchOption (find_peer st peer) (code ≡ NONE)
     (λ r. (code ≡ OK) × IsRecord out r)
 
--- each record is told by the struct of its index
+-- the structs have the fields of the records, in the same order
 abbrev pub AreRecords : List AddrmanRecord → List Rec → Type 0
 AreRecords out recs = (length recs ≤ length out)
     × ((i : ℕ) (told : AddrmanRecord) (r : Rec) → slice_get out i ≡ Some told

@@ -49,7 +49,7 @@ AdmitCall count now found old code admitted new =
     × MatchOption found (code ≡ NONE)
     (λ c. (code ≡ OK) × (admitted ≡ intake_count (refill now c) count)))
 
--- the struct tells the connection
+-- the struct has the fields of the connection
 pub record IsLimits (out : AddrmanLimits) (c : Conn) : Type 0 where
   pub tenths : out.tenths ≡ c.tenths
   pub moment : out.moment ≡ c.moment

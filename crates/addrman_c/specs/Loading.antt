@@ -46,7 +46,7 @@ IsLoadFault chain bytes (Refused why) = HasFileFault chain bytes why × (why ≢
 IsLoadFault chain bytes (Duplicate index) =
     (snap : Snapshot) × IsFile chain bytes snap × (duplicate snap ≡ Some index)
 
--- how the code and the output tell why bytes are not loaded
+-- the code and the output that say why bytes are not loaded
 abbrev pub TellsLoad : LoadFault → ℕ → AddrmanFault → Type 0
 TellsLoad Memory code out = code ≡ MEMORY
 TellsLoad (Refused why) code out = (code ≡ REFUSED) × (out ≡ fault_of why)

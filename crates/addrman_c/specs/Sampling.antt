@@ -8,7 +8,7 @@ use Rattle.addrman_c.specs.declared.values.AddrmanPeer.{AddrmanPeer}
 use Rattle.addrman_c.specs.Values.{peer_in}
 use Rattle.addrman_c.specs.Calls.{Refuses}
 
--- each peer is told by the struct of its index
+-- the structs have the fields of the peers, in the same order
 abbrev pub ArePeers : List AddrmanPeer → List Peer → Type 0
 ArePeers out peers = (length peers ≤ length out)
     × ((i : ℕ) (told : AddrmanPeer) (peer : Peer) → slice_get out i ≡ Some told

@@ -41,7 +41,7 @@ request_number Sync = 2
 request_number Rename = 3
 request_number SyncDir = 4
 
--- the first of the requests, as the code and the outputs tell it, or that there is none
+-- the code and the outputs for the first of the requests, or for none
 abbrev pub NextCall : List Request → ℕ → ℕ → List ℕ → List ℕ → ℕ → Type 0
 NextCall [] code request old new count = (code ≡ NONE) × (new ≡ old)
 NextCall (first ∷ rest) code request old new count =

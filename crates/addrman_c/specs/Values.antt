@@ -45,7 +45,7 @@ abbrev pub peer_in : AddrmanPeer → Option Peer
 peer_in peer = option_map (λ addr. record { addr = addr; port = peer.port }) (address_in peer.addr)
 
 -- An output is written whole, or is as it was if it has less room than there are bytes. Its length
--- is told either way.
+-- is written either way.
 abbrev pub IsPut : List ℕ → List ℕ → ℕ → ℕ → List ℕ → Type 0
 IsPut bytes old code count new =
     (count ≡ length bytes)

@@ -1,7 +1,7 @@
 //! The address manager for programs in C and in what links C: a static library. Its header is
 //! `bindings/addrman.h`.
 //!
-//! Raw pointers stand in `handle` alone. A handle is open or closed, and a call on a closed one
+//! Only `handle` has raw pointers. A handle is open or closed, and a call on a closed one
 //! returns a code.
 //!
 //! Proved: each export states what it returns, writes and leaves by the tables before it, in the

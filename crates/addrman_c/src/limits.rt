@@ -166,7 +166,7 @@ fn admit_on(
     }
 }
 
-/// Takes a message of this many entries from the connection of a number, and tells how many of
+/// Takes a message of this many entries from the connection of a number, and writes how many of
 /// them are admitted: the first ones.
 #[unsafe(no_mangle)]
 pub extern "C" fn addrman_limiter_admit(

@@ -16,7 +16,7 @@ use picking::Picked;
 use std::alloc::Global;
 use tables::Tables;
 
-/// Writes a pick, and returns the code that tells whether there is one.
+/// Writes a pick, and returns the code that says whether there is one.
 fn put_pick(pick: &Picked, picked: &mut AddrmanPicked) -> u32
     ensures call { PickCall pick.now result picked.new }
     ensures same { result ≢ OK → picked.new ≡ picked.old }
@@ -74,7 +74,7 @@ pub extern "C" fn addrman_select(
     code
 }
 
-/// Writes the occupant of a collision's slot, and returns the code that tells whether there is one.
+/// Writes the occupant of a collision's slot, and returns the code that says whether there is one.
 fn put_occupant(occupant: Option<(Peer, u32)>, picked: &mut AddrmanPicked) -> u32
     ensures call { OccupantCall occupant result picked.new }
     ensures same { result ≢ OK → picked.new ≡ picked.old }

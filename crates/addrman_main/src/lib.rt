@@ -67,7 +67,7 @@ fn lines_of(alloc: Global, status: &Status, facts: &Facts<'_>) -> String {
     } else {
         second_lines(alloc, status, facts)
     };
-    // Without memory for them the line is printed alone.
+    // If memory runs out, only the line is printed.
     let _ = text.push_str(after.as_str());
     text
 }

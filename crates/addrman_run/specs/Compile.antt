@@ -21,8 +21,9 @@ use Rattle.addrman_run.specs.declared.status.Status.TheVariants.{Done, WriteFaul
 -- how many rows a table has, and how many bits and bytes the file of its compiled tree
 unfoldable pub compile_text : List Row → List ℕ → List ℕ
 compile_text rows file =
-    codes "compiled " ++ decimal (length rows) ++ codes " rows " ++ decimal (length (code (compiled rows))) ++ codes " bits "
-    ++ decimal (length file) ++ codes " bytes\n"
+    codes "compiled " ++ decimal (length rows)
+    ++ codes " rows " ++ decimal (length (code (compiled rows)))
+    ++ codes " bits " ++ decimal (length file) ++ codes " bytes\n"
 
 -- the rows of the folder's prefixes.txt, whose code is within the limit, and the file of the code
 pub record IsCompiled (past : Option Past) (rows : List Row) (file : List ℕ) : Type 0 where
@@ -54,7 +55,8 @@ SavesTable Writes old new before after =
 
 -- the folder was not changed, or there is a table to be compiled
 abbrev pub SavesOnlyTable : Option Past → Option Past → Type 0
-SavesOnlyTable old new = (new ≡ old) ⊎ ((rows : List Row) × (file : List ℕ) × IsCompiled old rows file)
+SavesOnlyTable old new =
+    (new ≡ old) ⊎ ((rows : List Row) × (file : List ℕ) × IsCompiled old rows file)
 
 -- What is saved and written for each status, from the past of the folder at the start and at the
 -- end, and what the output had before and after.

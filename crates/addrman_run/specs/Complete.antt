@@ -76,15 +76,18 @@ IsUsable name Reports past = ¬ IsAbsent name past × NoRefusal (Reports past)
 
 -- Nothing is wrong with what the request reads: the log, if it reads one, and its files.
 abbrev pub NothingIsWrong : Request → Outside → Type 0
-NothingIsWrong (Replay key chain) at = IsGoodLog IsReplayLine at.left × NoRefusal (ReportsOpening key chain at.past)
-NothingIsWrong (Opener key chain) at = IsGoodLog IsOpenerLine at.left × NoRefusal (ReportsOpening key chain at.past)
+NothingIsWrong (Replay key chain) at =
+    IsGoodLog IsReplayLine at.left × NoRefusal (ReportsOpening key chain at.past)
+NothingIsWrong (Opener key chain) at =
+    IsGoodLog IsOpenerLine at.left × NoRefusal (ReportsOpening key chain at.past)
 NothingIsWrong Compile at = IsUsable name.Prefixes ReportsTable at.past
 NothingIsWrong Check at = IsUsable name.Asmap ReportsAsmap at.past
 NothingIsWrong Decompile at = IsUsable name.Asmap ReportsDecompile at.past
 NothingIsWrong (Diff peers) at = NoRefusal (ReportsDiff peers at.past)
 NothingIsWrong Limit at = IsGoodLog IsLimitLine at.left
 NothingIsWrong (Lookup peer) at = IsUsable name.Asmap ReportsAsmap at.past
-NothingIsWrong LookupLines at = IsGoodLog IsLookupLine at.left × IsUsable name.Asmap ReportsAsmap at.past
+NothingIsWrong LookupLines at =
+    IsGoodLog IsLookupLine at.left × IsUsable name.Asmap ReportsAsmap at.past
 NothingIsWrong (Address addr) at = NoRefusal (ReportsAsmap at.past)
 NothingIsWrong (Show chain) at = IsUsable name.Peers (ReportsPeers chain) at.past
 NothingIsWrong (Picture chain) at = NoRefusal (ReportsOpening None chain at.past)

@@ -18,7 +18,8 @@ use Rattle.addrman_run.specs.declared.status.Status.TheVariants.{TooManyRows}
 
 -- the longest row that covers an address gives it the number that the tree gives it
 abbrev pub MeanTheSame : List Row → Tree → Type 0
-MeanTheSame rows tree = (bits : List Bool) → length bits ≡ 128 → best rows (number_of bits) ≡ meaning tree bits 0
+MeanTheSame rows tree =
+    (bits : List Bool) → length bits ≡ 128 → best rows (number_of bits) ≡ meaning tree bits 0
 
 -- The text of the rows that the folder's asmap is turned back into. They are no more than a table
 -- may have, and mean the same.

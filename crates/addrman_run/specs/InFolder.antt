@@ -8,7 +8,8 @@ use Rattle.addrman_run.specs.declared.status.Status.TheVariants.{DiskFault, NoFi
 
 -- the file has these bytes, at most `max`
 abbrev pub IsFileIn : Name → ℕ → Option Past → List ℕ → Type 0
-IsFileIn name max past bytes = (length bytes ≤ max) × IfSome (files_of past) (λ fs. under fs name ≡ Some bytes)
+IsFileIn name max past bytes =
+    (length bytes ≤ max) × IfSome (files_of past) (λ fs. under fs name ≡ Some bytes)
 
 -- the file has these bytes, however many
 abbrev pub HasBytes : Name → Option Past → List ℕ → Type 0
@@ -20,8 +21,11 @@ IsAbsent name past = IfSome (files_of past) (λ fs. under fs name ≡ None)
 
 -- the file has this many bytes, more than `max`
 abbrev pub IsTooLarge : Name → ℕ → Option Past → ℕ → Type 0
-IsTooLarge name max past size = (max < size) × IfSome (files_of past) (λ fs. option_map length (under fs name) ≡ Some size)
+IsTooLarge name max past size =
+    (max < size) × IfSome (files_of past) (λ fs. option_map length (under fs name) ≡ Some size)
 
 -- an absent file is reported, unless the folder fails
 abbrev pub ReportsAbsence : Name → Option Past → Status → Type 0
-ReportsAbsence name past status = IfSome (files_of past) (λ fs. under fs name ≡ None → (status ≡ NoFile name) ⊎ (status ≡ DiskFault))
+ReportsAbsence name past status =
+    IfSome (files_of past) (λ fs.
+    under fs name ≡ None → (status ≡ NoFile name) ⊎ (status ≡ DiskFault))

@@ -81,20 +81,27 @@ IsLarge input past size = IsTooLarge (name_of input) (max_of input) past size
 -- why a file is not loaded: the folder failed, memory ran out, or it is too large
 abbrev pub IsLoadFault : Input → Option Past → Status → Type 0
 IsLoadFault input past status =
-    (status ≡ DiskFault) ⊎ ((status ≡ Memory) ⊎ ((size : ℕ) × (status ≡ too_large_of input size) × IsLarge input past size))
+    (status ≡ DiskFault) ⊎ ((status ≡ Memory)
+    ⊎ ((size : ℕ) × (status ≡ too_large_of input size) × IsLarge input past size))
 
 -- why a file that has to be there is not loaded
 abbrev pub IsNotLoaded : Input → Option Past → Status → Type 0
-IsNotLoaded input past status = ((status ≡ NoFile (name_of input)) × IsAbsent (name_of input) past) ⊎ IsLoadFault input past status
+IsNotLoaded input past status =
+    ((status ≡ NoFile (name_of input)) × IsAbsent (name_of input) past)
+    ⊎ IsLoadFault input past status
 
 -- the tables that the bytes of a file open, or the key if there is no file
 abbrev pub OpensWith : Option (List ℕ) → Chain → Option (List ℕ) → Option Asmap → State → Type 0
-OpensWith key chain None map st = (given : List ℕ) × (key ≡ Some given) × (st ≡ empty_state (places_of given map))
-OpensWith key chain (Some bytes) map st = (snap : Snapshot) × IsFile chain bytes snap × (duplicate snap ≡ None) × (st ≡ tables_of snap map)
+OpensWith key chain None map st =
+    (given : List ℕ) × (key ≡ Some given) × (st ≡ empty_state (places_of given map))
+OpensWith key chain (Some bytes) map st =
+    (snap : Snapshot) × IsFile chain bytes snap
+    × (duplicate snap ≡ None) × (st ≡ tables_of snap map)
 
 -- why the bytes of a file are no snapshot
 abbrev pub IsNoSnapshot : Chain → List ℕ → Status → Type 0
-IsNoSnapshot chain bytes (PeersRefused (File fault)) = (fault ≢ peers.Memory) × HasFileFault chain bytes fault
+IsNoSnapshot chain bytes (PeersRefused (File fault)) =
+    (fault ≢ peers.Memory) × HasFileFault chain bytes fault
 IsNoSnapshot chain bytes Memory = ⊤
 IsNoSnapshot chain bytes other = ⊥
 
@@ -114,11 +121,13 @@ IsKeyless key other = ⊥
 abbrev pub IsNotOpened : Option (List ℕ) → Chain → Option (List ℕ) → Status → Type 0
 IsNotOpened key chain None status = IsKeyless key status
 IsNotOpened key chain (Some bytes) status =
-    IsNoSnapshot chain bytes status ⊎ ((snap : Snapshot) × IsFile chain bytes snap × IsNotRestored snap status)
+    IsNoSnapshot chain bytes status
+    ⊎ ((snap : Snapshot) × IsFile chain bytes snap × IsNotRestored snap status)
 
 -- how the writing of a line ends: all of it, or a part of it
 abbrev pub LineEnds : List ℕ → Option (List ℕ) → Option (List ℕ) → Status → Type 0
-LineEnds line old new status = ((status ≡ Done) × Appended old new line) ⊎ ((status ≡ WriteFault) × AppendedPart old new line)
+LineEnds line old new status =
+    ((status ≡ Done) × Appended old new line) ⊎ ((status ≡ WriteFault) × AppendedPart old new line)
 
 -- how the writing of a text that is made first ends: memory ran out, or as that of a line
 abbrev pub TextEnds : List ℕ → Option (List ℕ) → Option (List ℕ) → Status → Type 0
@@ -126,7 +135,8 @@ TextEnds text old new status = ((status ≡ Memory) × (new ≡ old)) ⊎ LineEn
 
 -- the file of the folder's table, and the line about both
 abbrev pub IsNewAsmap : Option Past → List ℕ → List ℕ → Type 0
-IsNewAsmap past file line = (rows : List Row) × IsCompiled past rows file × (line ≡ compile_text rows file)
+IsNewAsmap past file line =
+    (rows : List Row) × IsCompiled past rows file × (line ≡ compile_text rows file)
 
 -- why the text of prefixes.txt is not compiled: memory ran out, or its table is refused
 abbrev pub IsNotCompiled : List ℕ → Status → Type 0
@@ -136,7 +146,8 @@ IsNotCompiled text status =
 
 -- how saving a file and then writing the line about it ends: the folder failed, or the file is in
 -- its place, and the line was written, or a part of it
-abbrev pub SaveEnds : Name → List ℕ → List ℕ → Option Past → Option (List ℕ) → Option (List ℕ) → Status → Type 0
+abbrev pub SaveEnds : Name → List ℕ → List ℕ → Option Past →
+    Option (List ℕ) → Option (List ℕ) → Status → Type 0
 SaveEnds name file line past old new status =
     ((status ≡ DiskFault) × (new ≡ old)) ⊎ (IsInPlace name file past × LineEnds line old new status)
 
@@ -182,7 +193,8 @@ IsNoRecords peers past other = ⊥
 -- why the bytes of banlist.json are not read: memory ran out, or their fault
 abbrev pub IsNoList : List ℕ → Status → Type 0
 IsNoList bytes status =
-    (status ≡ Memory) ⊎ ((fault : BanFault) × (status ≡ BansRefused fault) × HasBanFault bytes fault)
+    (status ≡ Memory)
+    ⊎ ((fault : BanFault) × (status ≡ BansRefused fault) × HasBanFault bytes fault)
 
 -- why there is no list of bans: the folder failed, memory ran out, or banlist.json is refused
 abbrev pub IsNoBans : Option Past → Status → Type 0
@@ -200,15 +212,19 @@ IsAnswer change past line file =
 abbrev pub AnswerEnds : List ℕ → Option (List ℕ) → Option Past → Option Past →
     Option (List ℕ) → Option (List ℕ) → Status → Type 0
 AnswerEnds line None before after old new status = (after ≡ before) × LineEnds line old new status
-AnswerEnds line (Some file) before after old new status = SaveEnds name.Bans file line after old new status
+AnswerEnds line (Some file) before after old new status =
+    SaveEnds name.Bans file line after old new status
 
 -- a line of a generated log was carried out, and its reply appended
 abbrev pub Replied : session.SessionState → List ℕ → List ℕ → List ℕ → session.SessionState → Type 0
 Replied old line before after new =
-    (text : List ℕ) × (ended : Option Ended) × LineStep old line text new ended × (after ≡ before ++ text)
+    (text : List ℕ) × (ended : Option Ended) × LineStep old line text new ended
+    × (after ≡ before ++ text)
 
--- the replies to some lines have so many bytes and this SHA-256
-abbrev pub HasReplies : session.SessionState → List (List ℕ) → session.SessionState → ℕ → List ℕ → Type 0
+-- the replies to some lines have this many bytes and this SHA-256
+abbrev pub HasReplies : session.SessionState → List (List ℕ) → session.SessionState →
+    ℕ → List ℕ → Type 0
 HasReplies old lines new bytes sum =
-    (text : List ℕ) × (ended : List Ended) × Run HistoryStep (fresh old) lines text (record { now = new; ended = ended })
+    (text : List ℕ) × (ended : List Ended)
+    × Run HistoryStep (fresh old) lines text (record { now = new; ended = ended })
     × (bytes ≡ length text) × (sum ≡ sha256 text)

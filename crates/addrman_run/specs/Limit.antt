@@ -16,9 +16,12 @@ use Rattle.addrman_run.specs.declared.status.Status.{Status}
 -- of a run over the chosen lines up to it.
 abbrev pub AreIndependent : (List ℕ → Bool) → List (List ℕ) → List (List ℕ) → Type 0
 AreIndependent about lines outs =
-    (before : List (List ℕ)) (line : List ℕ) (after : List (List ℕ)) → lines ≡ before ++ line ∷ after → about line ≡ true →
-    (own : List (List ℕ)) × (own_end : LimitState) × (front : List (List ℕ)) × (out : List ℕ) × (back : List (List ℕ)) ×
-    Outputs LimitStep start (filter about (before ++ line ∷ [])) own own_end × (outs ≡ front ++ out ∷ back) × (length front ≡ length before) × (last_or None own ≡ Some out)
+    (before : List (List ℕ)) (line : List ℕ) (after : List (List ℕ)) →
+    lines ≡ before ++ line ∷ after → about line ≡ true →
+    (own : List (List ℕ)) × (own_end : LimitState)
+    × (front : List (List ℕ)) × (out : List ℕ) × (back : List (List ℕ))
+    × Outputs LimitStep start (filter about (before ++ line ∷ [])) own own_end
+    × (outs ≡ front ++ out ∷ back) × (length front ≡ length before) × (last_or None own ≡ Some out)
 
 -- A run over the log under the limit, by its end. Each line that is carried out has one output, and
 -- that of a line that names a number depends on the lines of that number and the `now` lines only.

@@ -14,7 +14,9 @@ use Rattle.addrman_run.specs.declared.status.Status.{Status}
 
 -- an AS number and the group of an address under it
 abbrev pub number_text : ℕ → Address → List ℕ
-number_text number a = codes "asn " ++ decimal number ++ codes " group " ++ encode_lower (group_of a number) ++ codes "\n"
+number_text number a =
+    codes "asn " ++ decimal number
+    ++ codes " group " ++ encode_lower (group_of a number) ++ codes "\n"
 
 -- the number that an asmap gives an address, and its group
 unfoldable pub lookup_text : Asmap → Address → List ℕ

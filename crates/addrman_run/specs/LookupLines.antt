@@ -42,7 +42,8 @@ abbrev pub ArePeers : List (List ℕ) → List Peer → Type 0
 ArePeers [] peers = peers ≡ []
 ArePeers (line ∷ lines) peers =
     (IsPassedOver line × ArePeers lines peers)
-    ⊎ ((peer : Peer) × (rest : List Peer) × (peers ≡ peer ∷ rest) × IsPeerLine line peer × ArePeers lines rest)
+    ⊎ ((peer : Peer) × (rest : List Peer) × (peers ≡ peer ∷ rest)
+    × IsPeerLine line peer × ArePeers lines rest)
 
 -- A run over the log under the folder's asmap, by its end. Line n of the output is the lookup of
 -- the n-th peer.

@@ -14,7 +14,8 @@ OneText IsText old new Memory = new ≡ old
 OneText IsText old new other = ⊥
 
 -- nothing is read, and no file is changed
-pub record OneTextEnds (IsText : List ℕ → Type 0) (old new : Outside) (status : Status) : Type 0 where
+pub record OneTextEnds (IsText : List ℕ → Type 0)
+    (old new : Outside) (status : Status) : Type 0 where
   pub text : OneText IsText old.written new.written status
   pub left : SameLog old new
   pub same : new.past ≡ old.past

@@ -27,15 +27,18 @@ opener_start st = opener.state (record { tables = st; clock = 0 }) []
 -- Whatever lines were carried out: at most ten peers are open, no two of them in one group, and a
 -- peer that answers the next request was taken by the rules.
 pub record KeepsRules (start : opener.OpenerState) : Type 0 where
-  pub apart : (lines : List (List ℕ)) (text : List ℕ) (now : opener.OpenerState) → Run LineStep start lines text now
-      → AreApart now.open_peers
-  pub few : (lines : List (List ℕ)) (text : List ℕ) (now : opener.OpenerState) → Run LineStep start lines text now
-      → length now.open_peers ≤ MAX_OUTBOUND
-  pub fair : (lines : List (List ℕ)) (text : List ℕ) (now : opener.OpenerState) → Run LineStep start lines text now
-      → (asked : Request) (answer : Answer) (next : opener.OpenerState) → RequestStep now asked answer next → IsFair now asked answer
+  pub apart : (lines : List (List ℕ)) (text : List ℕ) (now : opener.OpenerState)
+      → Run LineStep start lines text now → AreApart now.open_peers
+  pub few : (lines : List (List ℕ)) (text : List ℕ) (now : opener.OpenerState)
+      → Run LineStep start lines text now → length now.open_peers ≤ MAX_OUTBOUND
+  pub fair : (lines : List (List ℕ)) (text : List ℕ) (now : opener.OpenerState)
+      → Run LineStep start lines text now
+      → (asked : Request) (answer : Answer) (next : opener.OpenerState)
+      → RequestStep now asked answer next → IsFair now asked answer
 
 -- An opener that got past its opening, by the end of its run over the log.
-pub record OpenerRan (key : Option (List ℕ)) (chain : Chain) (old new : Outside) (how : LogEnd) : Type 0 where
+pub record OpenerRan (key : Option (List ℕ)) (chain : Chain)
+    (old new : Outside) (how : LogEnd) : Type 0 where
   pub tables : tables.State
   pub opened : Opened key chain old.past tables
   pub ran : Ran LineStep HasRequestFault (opener_start tables) (streams_of old) (streams_of new) how
@@ -43,10 +46,12 @@ pub record OpenerRan (key : Option (List ℕ)) (chain : Chain) (old new : Outsid
 
 -- how an opener ends, by its status
 abbrev pub OpenerOutcome : Option (List ℕ) → Chain → Outside → Outside → Status → Type 0
-OpenerOutcome key chain old new = LogOutcome (OpenerRan key chain old new) (NotOpened key chain old new)
+OpenerOutcome key chain old new =
+    LogOutcome (OpenerRan key chain old new) (NotOpened key chain old new)
 
 -- No file is changed, and at most one byte more than a log may have was read.
-pub record OpenerEnds (key : Option (List ℕ)) (chain : Chain) (old new : Outside) (answer : Status) : Type 0 where
+pub record OpenerEnds (key : Option (List ℕ)) (chain : Chain)
+    (old new : Outside) (answer : Status) : Type 0 where
   pub outcome : OpenerOutcome key chain old new answer
   pub taken : TakesAtMost old.left new.left (MAX_LOG + 1)
   pub past : new.past ≡ old.past

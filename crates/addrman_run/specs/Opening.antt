@@ -27,18 +27,22 @@ tables_of snap map = restored snap (places_of snap.key map)
 
 -- The tables that a replay begins with: those of the folder's peers.dat, no two valid records of
 -- which have one peer, or if there is no such file, empty ones under the key of the arguments.
-pub data Opens (key : Option (List ℕ)) (chain : Chain) (past : Option Past) (map : Option Asmap) (st : State) : Type 0 where
-  from_file : (snap : Snapshot) → IsSnapshotIn chain past snap → duplicate snap ≡ None → st ≡ tables_of snap map → Opens key chain past map st
-  from_key : (given : List ℕ) → IsAbsent name.Peers past → key ≡ Some given → st ≡ empty_state (places_of given map) → Opens key chain past map st
+pub data Opens (key : Option (List ℕ)) (chain : Chain) (past : Option Past)
+    (map : Option Asmap) (st : State) : Type 0 where
+  from_file : (snap : Snapshot) → IsSnapshotIn chain past snap → duplicate snap ≡ None →
+      st ≡ tables_of snap map → Opens key chain past map st
+  from_key : (given : List ℕ) → IsAbsent name.Peers past → key ≡ Some given →
+      st ≡ empty_state (places_of given map) → Opens key chain past map st
 
 -- the snapshot of the file that the tables were opened from, none for empty ones
-abbrev pub file_in : {key : Option (List ℕ)} {chain : Chain} {past : Option Past} {map : Option Asmap}
-    {st : State} → Opens key chain past map st → Option Snapshot
+abbrev pub file_in : {key : Option (List ℕ)} {chain : Chain} {past : Option Past}
+    {map : Option Asmap} {st : State} → Opens key chain past map st → Option Snapshot
 file_in (from_file snap is_in no_duplicate is) = Some snap
 file_in (from_key given absent is_key is) = None
 
 -- The folder opened with these tables: its asmap is accepted, and they have it.
-pub record Opened (key : Option (List ℕ)) (chain : Chain) (past : Option Past) (tables : State) : Type 0 where
+pub record Opened (key : Option (List ℕ)) (chain : Chain) (past : Option Past)
+    (tables : State) : Type 0 where
   pub map : Option Asmap
   pub has_map : IsMapIn past map
   pub opens : Opens key chain past map tables
@@ -47,7 +51,8 @@ pub record Opened (key : Option (List ℕ)) (chain : Chain) (past : Option Past)
 -- its valid records that has the peer of an earlier one
 abbrev pub RefusesTables : Chain → Option Past → PeersFault → Type 0
 RefusesTables chain past (File fault) = RefusesPeers chain past fault
-RefusesTables chain past (Duplicate index) = (snap : Snapshot) × IsSnapshotIn chain past snap × (duplicate snap ≡ Some index)
+RefusesTables chain past (Duplicate index) =
+    (snap : Snapshot) × IsSnapshotIn chain past snap × (duplicate snap ≡ Some index)
 
 -- there is neither a file nor a key
 abbrev pub LacksKey : Option (List ℕ) → Option Past → Type 0
@@ -61,7 +66,8 @@ HasMap past = (map : Option Asmap) × IsMapIn past map
 -- peers.dat.
 abbrev pub ReportsOpening : Option (List ℕ) → Chain → Option Past → Status → Type 0
 ReportsOpening key chain past (status.AsmapRefused fault) = RefusesAsmap past fault
-ReportsOpening key chain past (status.PeersRefused fault) = HasMap past × RefusesTables chain past fault
+ReportsOpening key chain past (status.PeersRefused fault) =
+    HasMap past × RefusesTables chain past fault
 ReportsOpening key chain past status.NoKey = HasMap past × LacksKey key past
 ReportsOpening key chain past other = ⊥
 
@@ -73,10 +79,14 @@ IsUnopened key chain past other = ReportsOpening key chain past other
 
 -- A folder opens in one way: with some tables, or not, since its peers.dat is refused or a key is
 -- missing.
-pub record OpensOnce (key : Option (List ℕ)) (chain : Chain) (past : Option Past) (map : Option Asmap) : Type 0 where
-  pub some : ((st : State) × Opens key chain past map st) ⊎ (((fault : PeersFault) × RefusesTables chain past fault) ⊎ LacksKey key past)
+pub record OpensOnce (key : Option (List ℕ)) (chain : Chain) (past : Option Past)
+    (map : Option Asmap) : Type 0 where
+  pub some : ((st : State) × Opens key chain past map st)
+      ⊎ (((fault : PeersFault) × RefusesTables chain past fault) ⊎ LacksKey key past)
   pub one_state : (a b : State) → Opens key chain past map a → Opens key chain past map b → a ≡ b
-  pub one_fault : (f g : PeersFault) → RefusesTables chain past f → RefusesTables chain past g → f ≡ g
-  pub not_refused : (a : State) (f : PeersFault) → Opens key chain past map a → RefusesTables chain past f → ⊥
+  pub one_fault : (f g : PeersFault) →
+      RefusesTables chain past f → RefusesTables chain past g → f ≡ g
+  pub not_refused : (a : State) (f : PeersFault) →
+      Opens key chain past map a → RefusesTables chain past f → ⊥
   pub no_lack : (a : State) → Opens key chain past map a → LacksKey key past → ⊥
   pub no_file_lacks : (f : PeersFault) → RefusesTables chain past f → LacksKey key past → ⊥

@@ -46,7 +46,8 @@ Ends (Picture chain) old new answer = PictureEnds chain old new answer
 Ends (Raw chain) old new answer = TablesJsonEnds json.Raw chain old new answer
 Ends (Info chain) old new answer = TablesJsonEnds json.Info chain old new answer
 Ends (Groups chain) old new answer = TablesJsonEnds json.Groups chain old new answer
-Ends (Ban subnet now until) old new answer = BansEnds (ban_change (ban_of subnet now until)) old new answer
+Ends (Ban subnet now until) old new answer =
+    BansEnds (ban_change (ban_of subnet now until)) old new answer
 Ends (Unban subnet) old new answer = BansEnds (unban_change subnet) old new answer
 Ends (Banned peer now) old new answer = BansEnds (banned_change peer.addr now) old new answer
 Ends (Bans now) old new answer = ListEnds now old new answer

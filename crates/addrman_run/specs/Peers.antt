@@ -11,8 +11,11 @@ use Rattle.addrman_run.specs.InFolder.{HasBytes}
 
 -- the snapshot in the folder's peers.dat, a file of the chain
 abbrev pub IsSnapshotIn : Chain → Option Past → Snapshot → Type 0
-IsSnapshotIn chain past snap = (bytes : List ℕ) × HasBytes name.Peers past bytes × IsFile chain bytes snap
+IsSnapshotIn chain past snap =
+    (bytes : List ℕ) × HasBytes name.Peers past bytes × IsFile chain bytes snap
 
 -- why peers.dat is refused: its first fault as a file of the chain; too many bytes are one, too
 abbrev pub RefusesPeers : Chain → Option Past → FileFault → Type 0
-RefusesPeers chain past fault = (fault ≢ Memory) × ((bytes : List ℕ) × HasBytes name.Peers past bytes × HasFileFault chain bytes fault)
+RefusesPeers chain past fault =
+    (fault ≢ Memory)
+    × ((bytes : List ℕ) × HasBytes name.Peers past bytes × HasFileFault chain bytes fault)

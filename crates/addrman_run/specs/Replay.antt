@@ -31,17 +31,19 @@ use Rattle.addrman_run.specs.declared.status.Status.{Status}
 abbrev pub at_start : Chain → State → session.SessionState
 at_start chain tables = session.state chain (record { tables = tables; clock = 0 }) None
 
--- Where peers.dat has the file of these tables, it opens, and only as they are after a restart.
+-- If peers.dat has the file of these tables, it opens, and only as they are after a restart.
 abbrev pub ReopensAs : Chain → Option Asmap → State → Type 0
 ReopensAs chain map st =
-    (past : Past) (key : Option (List ℕ)) → under (files_on past.now) name.Peers ≡ Some (session.file_of chain st)
+    (past : Past) (key : Option (List ℕ))
+    → under (files_on past.now) name.Peers ≡ Some (session.file_of chain st)
     → Opens key chain (Some past) map (restart st)
     × ((found : State) → Opens key chain (Some past) map found → found ≡ restart st)
 
 -- lines and their replies fix the history
 abbrev pub HasOneHistory : History → Type 0
 HasOneHistory start =
-    (lines : List (List ℕ)) (text : List ℕ) (a b : History) → Run HistoryStep start lines text a → Run HistoryStep start lines text b → a ≡ b
+    (lines : List (List ℕ)) (text : List ℕ) (a b : History)
+    → Run HistoryStep start lines text a → Run HistoryStep start lines text b → a ≡ b
 
 -- A replay that got past its opening, by the end of its run over the log. The folder's asmap is
 -- accepted, and the tables are open. The replies to the lines that are carried out were written,
@@ -54,20 +56,25 @@ HasOneHistory start =
 -- that sources of some groups put there. Over the next lines each record stays, or is lost in one
 -- of them with a cause; so it is with the records of the file that was opened. The file of the
 -- tables after any line opens again, with the same asmap, as these tables after a restart.
-pub record Replayed (key : Option (List ℕ)) (chain : Chain) (old new : Outside) (how : LogEnd) : Type 0 where
+pub record Replayed (key : Option (List ℕ)) (chain : Chain)
+    (old new : Outside) (how : LogEnd) : Type 0 where
   pub tables : State
   pub opened : Opened key chain old.past tables
-  pub ran : Ran HistoryStep HasCommandFault (fresh (at_start chain tables)) (streams_of old) (streams_of new) how
+  pub ran : Ran HistoryStep HasCommandFault (fresh (at_start chain tables))
+      (streams_of old) (streams_of new) how
   pub fixed : HasOneHistory (fresh (at_start chain tables))
   pub at_exit : Now (AtExit ran.now) old.past new.past
   pub since_entry : Always old.past new.past (SinceEntry ran.now)
   pub failed_saves : RoseBy (failed ran.now.ended) old.folder_faults new.folder_faults
   pub pieces : IsOpen ran.now.now.job new.past
-  pub causes : KeepsCauses (file_in opened.opens) tables.places (at_start chain tables) (lines_of ran.log)
-  pub shares : KeepsShares (file_in opened.opens) tables.places (at_start chain tables) (lines_of ran.log)
+  pub causes : KeepsCauses (file_in opened.opens) tables.places
+      (at_start chain tables) (lines_of ran.log)
+  pub shares : KeepsShares (file_in opened.opens) tables.places
+      (at_start chain tables) (lines_of ran.log)
   pub losses : KeepsLosses (at_start chain tables) (lines_of ran.log)
   pub opening : KeepsOpened (file_in opened.opens) tables.places
-  pub reopens : (before : List (List ℕ)) (h : History) → IsAfter (at_start chain tables) (lines_of ran.log) before h
+  pub reopens : (before : List (List ℕ)) (h : History)
+      → IsAfter (at_start chain tables) (lines_of ran.log) before h
       → ReopensAs chain opened.map h.now.machine.tables
 
 -- nothing was written, and log and folder are as they were
@@ -82,8 +89,10 @@ NotOpened key chain old new answer = IsUnopened key chain old.past answer × IsU
 
 -- how a replay ends, by its status
 abbrev pub ReplayOutcome : Option (List ℕ) → Chain → Outside → Outside → Status → Type 0
-ReplayOutcome key chain old new = LogOutcome (Replayed key chain old new) (NotOpened key chain old new)
+ReplayOutcome key chain old new =
+    LogOutcome (Replayed key chain old new) (NotOpened key chain old new)
 
-pub record ReplayEnds (key : Option (List ℕ)) (chain : Chain) (old new : Outside) (answer : Status) : Type 0 where
+pub record ReplayEnds (key : Option (List ℕ)) (chain : Chain)
+    (old new : Outside) (answer : Status) : Type 0 where
   pub outcome : ReplayOutcome key chain old new answer
   pub taken : TakesAtMost old.left new.left (MAX_LOG + 1)

@@ -14,7 +14,8 @@ use Rattle.addrman_run.specs.declared.status.Status.TheVariants.{PeersRefused}
 
 -- the lines about the folder's peers.dat
 abbrev pub IsShowText : Chain → Option Past → List ℕ → Type 0
-IsShowText chain past text = (snap : Snapshot) × IsSnapshotIn chain past snap × (text ≡ snapshot_text snap)
+IsShowText chain past text =
+    (snap : Snapshot) × IsSnapshotIn chain past snap × (text ≡ snapshot_text snap)
 
 -- a status that says that peers.dat is refused, with the reason; never that two records have the
 -- same peer

@@ -18,16 +18,20 @@ use Rattle.addrman_run.specs.declared.status.Status.TheVariants.{TableRefused}
 
 -- the rows of the folder's prefixes.txt
 abbrev pub IsTableIn : Option Past → List Row → Type 0
-IsTableIn past rows = (bytes : List ℕ) × IsFileIn name.Prefixes MAX_TEXT past bytes × IsTableText bytes rows
+IsTableIn past rows =
+    (bytes : List ℕ) × IsFileIn name.Prefixes MAX_TEXT past bytes × IsTableText bytes rows
 
 -- why prefixes.txt is refused: its size, its text, a table with no rows, or one whose code is too
 -- long
 abbrev pub RefusesTable : Option Past → TablesFault → Type 0
 RefusesTable past (Rows (table.TooLarge size)) = IsTooLarge name.Prefixes MAX_TEXT past size
 RefusesTable past (Rows table.Memory) = ⊥
-RefusesTable past (Rows fault) = (bytes : List ℕ) × IsFileIn name.Prefixes MAX_TEXT past bytes × IsFault bytes fault
+RefusesTable past (Rows fault) =
+    (bytes : List ℕ) × IsFileIn name.Prefixes MAX_TEXT past bytes × IsFault bytes fault
 RefusesTable past (Compile compile.Empty) = IsTableIn past []
-RefusesTable past (Compile (compile.TooLarge bits)) = (rows : List Row) × IsTableIn past rows × (MAX_BITS < bits) × (bits ≡ length (code (compiled rows)))
+RefusesTable past (Compile (compile.TooLarge bits)) =
+    (rows : List Row) × IsTableIn past rows × (MAX_BITS < bits)
+    × (bits ≡ length (code (compiled rows)))
 RefusesTable past (Compile compile.Memory) = ⊥
 
 -- a status that says that prefixes.txt is refused, with the reason

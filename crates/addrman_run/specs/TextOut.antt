@@ -9,14 +9,18 @@ use Rattle.addrman_run.specs.declared.status.Status.TheVariants.{Done, WriteFaul
 
 -- What is written for each status. IsText says which text is one about the folder, and Refuses why
 -- its files are refused.
-abbrev pub TextOut : (Option Past → List ℕ → Type 0) → (Option Past → Status → Type 0) → Option Past → Option (List ℕ) → Option (List ℕ) → Status → Type 0
-TextOut IsText Refuses past old new Done = (text : List ℕ) × IsText past text × Appended old new text
-TextOut IsText Refuses past old new WriteFault = (text : List ℕ) × IsText past text × AppendedPart old new text
+abbrev pub TextOut : (Option Past → List ℕ → Type 0) → (Option Past → Status → Type 0) →
+    Option Past → Option (List ℕ) → Option (List ℕ) → Status → Type 0
+TextOut IsText Refuses past old new Done =
+    (text : List ℕ) × IsText past text × Appended old new text
+TextOut IsText Refuses past old new WriteFault =
+    (text : List ℕ) × IsText past text × AppendedPart old new text
 TextOut IsText Refuses past old new DiskFault = new ≡ old
 TextOut IsText Refuses past old new Memory = new ≡ old
 TextOut IsText Refuses past old new other = Refuses past other × (new ≡ old)
 
-pub record TextEnds (IsText : Option Past → List ℕ → Type 0) (Refuses : Option Past → Status → Type 0) (old new : Outside) (status : Status) : Type 0 where
+pub record TextEnds (IsText : Option Past → List ℕ → Type 0)
+    (Refuses : Option Past → Status → Type 0) (old new : Outside) (status : Status) : Type 0 where
   pub text : TextOut IsText Refuses old.past old.written new.written status
   pub left : SameLog old new
   pub same : new.past ≡ old.past

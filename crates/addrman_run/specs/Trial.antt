@@ -28,7 +28,9 @@ sizes_text lines bytes = codes "trial lines " ++ decimal lines ++ codes " replie
 
 abbrev pub with_counts : List ℕ → Counts → List ℕ
 with_counts text counts =
-    text ++ codes " new " ++ decimal counts.new_count ++ codes " tried " ++ decimal counts.tried_count ++ codes " clashes " ++ decimal counts.clashes
+    text ++ codes " new " ++ decimal counts.new_count
+    ++ codes " tried " ++ decimal counts.tried_count
+    ++ codes " clashes " ++ decimal counts.clashes
 
 abbrev pub with_sum : List ℕ → List ℕ → List ℕ
 with_sum text sum = text ++ codes " sum " ++ encode_lower sum ++ codes "\n"
@@ -36,7 +38,8 @@ with_sum text sum = text ++ codes " sum " ++ encode_lower sum ++ codes "\n"
 -- the line: how many lines the log has and how many bytes its replies, the counts of the tables
 -- after it, and the SHA-256 of the replies
 abbrev pub trial_text : ℕ → List ℕ → Counts → List ℕ
-trial_text lines replies counts = with_sum (with_counts (sizes_text lines (length replies)) counts) (sha256 replies)
+trial_text lines replies counts =
+    with_sum (with_counts (sizes_text lines (length replies)) counts) (sha256 replies)
 
 -- a line about the run over the generated log of a number
 pub record IsTrial (start lines : ℕ) (line : List ℕ) : Type 0 where

@@ -29,7 +29,8 @@ pub record LeavesRest {L F K : Type 0} (words : List (List ℕ)) (answer : Statu
     (old_log new_log : L) (old_folder new_folder : F) (old_out new_out : K) : Type 0 where
   pub usage : answer ≡ Usage → (new_log ≡ old_log) × (new_folder ≡ old_folder) × (new_out ≡ old_out)
   pub log : (request : Request) → Asks words request → ReadsNoLog request → new_log ≡ old_log
-  pub folder : (request : Request) → Asks words request → AsksNoFolder request → new_folder ≡ old_folder
+  pub folder : (request : Request) → Asks words request → AsksNoFolder request →
+      new_folder ≡ old_folder
 
 -- the status is `Usage` exactly when the arguments ask for nothing
 abbrev pub TellsUsage : List (List ℕ) → Status → Type 0

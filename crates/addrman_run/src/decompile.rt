@@ -32,8 +32,8 @@ pub(crate) fn decompile<F: Folder, K: Sink>(alloc: Global, folder: &mut F, out: 
     }
 }
 
-/// Writes the rows that the asmap of these bytes is turned back into. Nothing is written of one that
-/// is refused.
+/// Writes the rows that the asmap of these bytes is turned back into. Nothing is written of one
+/// that is refused.
 fn write_table<K: Sink>(bytes: &[u8], out: &mut K) -> Status
     requires { length bytes.now ≤ MAX_ASMAP }
     ensures text { (past : Option Past) → IsLoaded input.Asmap past bytes.now →

@@ -44,9 +44,11 @@ pub(crate) fn generate<K: Sink>(alloc: Global, start: u64, lines: u32, out: &mut
 /// Writes the bytes and empties the list, once there are `PIECE` bytes or more. After an error a
 /// part of them is written.
 fn write_piece<K: Sink>(piece: &mut Vec<u8>, out: &mut K) -> Result<(), Failed>
-    ensures written { OnOk result ((text : List ℕ) × Appended (K.written out.old) (K.written out.new) text
+    ensures written { OnOk result ((text : List ℕ)
+        × Appended (K.written out.old) (K.written out.new) text
         × (text ++ piece.new.items ≡ piece.old.items)) }
-    ensures err { OnErr result (AppendedPart (K.written out.old) (K.written out.new) piece.old.items) }
+    ensures err { OnErr result
+        (AppendedPart (K.written out.old) (K.written out.new) piece.old.items) }
     ensures cause { OnErr result (Rose (K.faults out.old) (K.faults out.new)) }
     ensures never_falls { K.faults out.old ≤ K.faults out.new }
 {

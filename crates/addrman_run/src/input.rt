@@ -78,7 +78,8 @@ pub(crate) fn load_input<F: Folder>(
     ensures found { IfOk result (λ loaded.
         MatchOption loaded (IsAbsent (name_of input) (F.past folder.old))
         (IsLoaded input (F.past folder.old))) }
-    ensures absent { IfSome (files_of (F.past folder.old)) (λ files. under files (name_of input) ≡ None →
+    ensures absent { IfSome (files_of (F.past folder.old)) (λ files.
+        under files (name_of input) ≡ None →
         (result ≡ Ok None) ⊎ (result ≡ Err Status.DiskFault)) }
     ensures cause { IfErr result (λ status. IsLoadFault input (F.past folder.old) status) }
     ensures disk { IsCounted (Err Status.DiskFault)
@@ -100,7 +101,8 @@ pub(crate) fn load_present<F: Folder>(
     folder: &mut F,
 ) -> Result<Bytes, Status>
     ensures found { IfOk result (IsLoaded input (F.past folder.old)) }
-    ensures absent { IfSome (files_of (F.past folder.old)) (λ files. under files (name_of input) ≡ None →
+    ensures absent { IfSome (files_of (F.past folder.old)) (λ files.
+        under files (name_of input) ≡ None →
         (result ≡ Err (Status.NoFile (name_of input))) ⊎ (result ≡ Err Status.DiskFault)) }
     ensures cause { IfErr result (λ status. IsNotLoaded input (F.past folder.old) status) }
     ensures disk { IsCounted (Err Status.DiskFault)

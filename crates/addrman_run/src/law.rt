@@ -14,7 +14,8 @@ use peers_file::files_have_one_meaning;
 /// refused, for one reason; or there is neither a file nor a key.
 pub fn folders_open_once()
     ensures { (key : Option (List ℕ)) (chain : Chain) (past : Past) (map : Option Asmap) →
-        IfSome (under (files_on past.now) name.Peers) (All (λ b. b < 256)) → OpensOnce key chain (Some past) map }
+        IfSome (under (files_on past.now) name.Peers) (All (λ b. b < 256)) →
+        OpensOnce key chain (Some past) map }
 {
     files_have_one_meaning()
 }

@@ -60,10 +60,13 @@ pub fn run<L: Source, F: Folder, K: Sink, H: BuildHasher + Drop>(
     out: &mut K,
 ) -> Status
     ensures arguments { TellsUsage (map string_bytes words.now) result }
-    ensures untouched { LeavesRest (map string_bytes words.now) result log.old log.new folder.old folder.new out.old out.new }
-    ensures cause { HasCause (outside L.Source F.Folder K.Sink log.old folder.old out.old) (outside L.Source F.Folder K.Sink log.new folder.new out.new) result }
+    ensures untouched { LeavesRest (map string_bytes words.now) result
+        log.old log.new folder.old folder.new out.old out.new }
+    ensures cause { HasCause (outside L.Source F.Folder K.Sink log.old folder.old out.old)
+        (outside L.Source F.Folder K.Sink log.new folder.new out.new) result }
     ensures outcome { (request : Request) → Asks (map string_bytes words.now) request →
-        Ends request (outside L.Source F.Folder K.Sink log.old folder.old out.old) (outside L.Source F.Folder K.Sink log.new folder.new out.new) result }
+        Ends request (outside L.Source F.Folder K.Sink log.old folder.old out.old)
+        (outside L.Source F.Folder K.Sink log.new folder.new out.new) result }
     ensures complete { (request : Request) → Asks (map string_bytes words.now) request →
         IsComplete request (outside L.Source F.Folder K.Sink log.old folder.old out.old)
         (outside L.Source F.Folder K.Sink log.new folder.new out.new) result }
@@ -87,8 +90,10 @@ fn carry_out<L: Source, F: Folder, K: Sink, H: BuildHasher + Drop>(
     ensures asked { result ≢ Status.Usage }
     ensures no_log { ReadsNoLog request → log.new ≡ log.old }
     ensures no_folder { AsksNoFolder request → folder.new ≡ folder.old }
-    ensures cause { HasCause (outside L.Source F.Folder K.Sink log.old folder.old out.old) (outside L.Source F.Folder K.Sink log.new folder.new out.new) result }
-    ensures outcome { Ends request (outside L.Source F.Folder K.Sink log.old folder.old out.old) (outside L.Source F.Folder K.Sink log.new folder.new out.new) result }
+    ensures cause { HasCause (outside L.Source F.Folder K.Sink log.old folder.old out.old)
+        (outside L.Source F.Folder K.Sink log.new folder.new out.new) result }
+    ensures outcome { Ends request (outside L.Source F.Folder K.Sink log.old folder.old out.old)
+        (outside L.Source F.Folder K.Sink log.new folder.new out.new) result }
 {
     match request {
         Request::Replay { key, chain } => replay(alloc, hasher, key, chain, log, folder, out),

@@ -10,7 +10,8 @@ IsKey digits key = (decode_of digits ≡ Ok key) × (length key ≡ 32)
 
 -- an option with its value, as two arguments or as one with = between them
 abbrev pub IsOption : List ℕ → List ℕ → List (List ℕ) → Type 0
-IsOption name value words = (words ≡ name ∷ value ∷ []) ⊎ (words ≡ (name ++ codes "=" ++ value) ∷ [])
+IsOption name value words =
+    (words ≡ name ∷ value ∷ []) ⊎ (words ≡ (name ++ codes "=" ++ value) ∷ [])
 
 -- the name of a chain
 abbrev pub chain_name : Chain → List ℕ
@@ -21,7 +22,8 @@ chain_name Regtest = codes "regtest"
 
 -- the arguments choose a chain: main if there are none
 abbrev pub IsNet : List (List ℕ) → Chain → Type 0
-IsNet options chain = ((options ≡ []) × (chain ≡ Main)) ⊎ IsOption (codes "--net") (chain_name chain) options
+IsNet options chain =
+    ((options ≡ []) × (chain ≡ Main)) ⊎ IsOption (codes "--net") (chain_name chain) options
 
 -- the arguments ask for the records of a file of this chain, or for none
 abbrev pub IsPeersOption : List (List ℕ) → Option Chain → Type 0
@@ -32,7 +34,8 @@ IsPeersOption options (Some chain) =
 -- the arguments choose a key, or none
 abbrev pub IsKeyOption : List (List ℕ) → Option (List ℕ) → Type 0
 IsKeyOption options None = options ≡ []
-IsKeyOption options (Some key) = (digits : List ℕ) × IsKey digits key × IsOption (codes "--key") digits options
+IsKeyOption options (Some key) =
+    (digits : List ℕ) × IsKey digits key × IsOption (codes "--key") digits options
 
 -- the arguments choose a key, or none, and a chain, in either order
 abbrev pub IsOpeningOptions : List (List ℕ) → Option (List ℕ) → Chain → Type 0

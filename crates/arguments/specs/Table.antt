@@ -60,9 +60,8 @@ NameCommand texts None = texts ≡ []
 NameCommand texts (Some name) = texts ≡ command_word name ∷ []
 
 -- What comes after the name of a command: fields of these kinds; the options `--key` and `--net`;
--- `--net` alone; `--peers` and `--net`, or nothing; a subnet; a subnet and two times, of which the
--- first is the earlier one; the name of a command or nothing; a peer or `-`; or what people write
--- for an address.
+-- only `--net`; `--peers` and `--net`, or nothing; a subnet; a subnet and two times, the earlier
+-- one first; the name of a command or nothing; a peer or `-`; or what people write for an address.
 pub data Form : Type 0 where
   Fields : List Kind → Form
   Opening : Form
@@ -87,22 +86,29 @@ pub data Values : Type 0 where
 
 -- the arguments after a name are of the form and have these values
 abbrev pub Reads : Form → List (List ℕ) → Values → Type 0
-Reads (Fields kinds) texts v = (values : List Value) × (v ≡ TheFields values) × AllMean kinds texts values
+Reads (Fields kinds) texts v =
+    (values : List Value) × (v ≡ TheFields values) × AllMean kinds texts values
 Reads Opening texts v =
-    (key : Option (List ℕ)) × (chain : Chain) × (v ≡ TheOpening key chain) × IsOpeningOptions texts key chain
+    (key : Option (List ℕ)) × (chain : Chain) × (v ≡ TheOpening key chain)
+    × IsOpeningOptions texts key chain
 Reads Network texts v = (chain : Chain) × (v ≡ TheChain chain) × IsNet texts chain
 Reads Records texts v = (peers : Option Chain) × (v ≡ TheRecords peers) × IsPeersOption texts peers
 Reads OfSubnet texts v =
-    (text : List ℕ) × (subnet : Subnet) × (v ≡ TheSubnet subnet) × (texts ≡ text ∷ []) × IsSubnetText text subnet
+    (text : List ℕ) × (subnet : Subnet) × (v ≡ TheSubnet subnet)
+    × (texts ≡ text ∷ []) × IsSubnetText text subnet
 Reads Period texts v =
     (text : List ℕ) × (subnet : Subnet) × (now : ℕ) × (until : ℕ) × (v ≡ ThePeriod subnet now until)
-    × (texts ≡ text ∷ decimal now ∷ decimal until ∷ []) × IsSubnetText text subnet × (now < until) × (until ≤ max_time)
+    × (texts ≡ text ∷ decimal now ∷ decimal until ∷ []) × IsSubnetText text subnet
+    × (now < until) × (until ≤ max_time)
 Reads PeerOrLines texts v =
     ((v ≡ TheFields []) × (texts ≡ codes "-" ∷ []))
-    ⊎ ((peer : Peer) × (v ≡ TheFields (ThePeer peer ∷ [])) × AllMean (OfPeer ∷ []) texts (ThePeer peer ∷ []))
+    ⊎ ((peer : Peer) × (v ≡ TheFields (ThePeer peer ∷ []))
+    × AllMean (OfPeer ∷ []) texts (ThePeer peer ∷ []))
 Reads OfAddress texts v =
-    (text : List ℕ) × (addr : NetAddress) × (v ≡ TheAddress addr) × (texts ≡ text ∷ []) × IsTextOf text addr
-Reads OfCommand texts v = (command : Option CommandName) × (v ≡ TheCommand command) × NameCommand texts command
+    (text : List ℕ) × (addr : NetAddress) × (v ≡ TheAddress addr)
+    × (texts ≡ text ∷ []) × IsTextOf text addr
+Reads OfCommand texts v =
+    (command : Option CommandName) × (v ≡ TheCommand command) × NameCommand texts command
 
 -- the arguments after a name are not of the form
 unfoldable pub HasNoValues : Form → List (List ℕ) → Type 0

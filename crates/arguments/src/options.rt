@@ -52,7 +52,8 @@ fn read_net_then_key(name: &[u8], words: &[String]) -> Option<(Option<[u8; 32]>,
 /// Reads the arguments that are `--key` with a key, or none for no key.
 fn read_key_option(words: &[String]) -> Option<Option<[u8; 32]>>
     ensures found { IfSome result (λ key. IsKeyOption (map string_bytes words.now) key) }
-    ensures only { (key : Option (List ℕ)) → IsKeyOption (map string_bytes words.now) key → result ≡ Some key }
+    ensures only { (key : Option (List ℕ)) → IsKeyOption (map string_bytes words.now) key →
+        result ≡ Some key }
 {
     if words.is_empty() {
         return Some(None);
@@ -65,7 +66,8 @@ fn read_key_option(words: &[String]) -> Option<Option<[u8; 32]>>
 #[tactic(auto, unfolding(crate::specs::Table::HasNoValues))]
 pub(crate) fn read_net(words: &[String]) -> Option<Chain>
     ensures found { IfSome result (λ chain. IsNet (map string_bytes words.now) chain) }
-    ensures only { (chain : Chain) → IsNet (map string_bytes words.now) chain → result ≡ Some chain }
+    ensures only { (chain : Chain) → IsNet (map string_bytes words.now) chain →
+        result ≡ Some chain }
     ensures none { IfNone result (HasNoValues Network (map string_bytes words.now)) }
 {
     if words.is_empty() {
@@ -88,7 +90,8 @@ pub(crate) fn read_peers(words: &[String]) -> Option<Option<Chain>>
 
 /// Reads `--peers` and after it the arguments that choose a chain.
 fn read_after_peers(words: &[String]) -> Option<Chain>
-    ensures found { IfSome result (λ chain. IsPeersOption (map string_bytes words.now) (Some chain)) }
+    ensures found { IfSome result (λ chain.
+        IsPeersOption (map string_bytes words.now) (Some chain)) }
     ensures only { (chain : Chain) → IsPeersOption (map string_bytes words.now) (Some chain) →
         result ≡ Some chain }
 {
@@ -119,10 +122,13 @@ fn read_chain(name: &[u8]) -> Option<Chain>
 
 /// Cuts the option `name` off the arguments that begin with it, and returns its value and the rest.
 fn cut_option<'a>(words: &'a [String], name: &[u8]) -> Option<(&'a [u8], &'a [String])>
-    ensures found { IfSome result (λ parts. (map string_bytes words.now ≡ name.now ∷ parts.0.now ∷ map string_bytes parts.1.now)
-        ⊎ (map string_bytes words.now ≡ (name.now ++ codes "=" ++ parts.0.now) ∷ map string_bytes parts.1.now)) }
+    ensures found { IfSome result (λ parts.
+        (map string_bytes words.now ≡ name.now ∷ parts.0.now ∷ map string_bytes parts.1.now)
+        ⊎ (map string_bytes words.now
+        ≡ (name.now ++ codes "=" ++ parts.0.now) ∷ map string_bytes parts.1.now)) }
     ensures none { IfNone result ((value : List ℕ) (rest : List (List ℕ)) →
-        (map string_bytes words.now ≡ name.now ∷ value ∷ rest) ⊎ (map string_bytes words.now ≡ (name.now ++ codes "=" ++ value) ∷ rest) → ⊥) }
+        (map string_bytes words.now ≡ name.now ∷ value ∷ rest)
+        ⊎ (map string_bytes words.now ≡ (name.now ++ codes "=" ++ value) ∷ rest) → ⊥) }
 {
     let (first, rest) = first_word(words)?;
     if first == name {
@@ -134,8 +140,10 @@ fn cut_option<'a>(words: &'a [String], name: &[u8]) -> Option<(&'a [u8], &'a [St
 
 /// Returns the value of the option `name`, in two arguments or in one with `=` between them.
 fn option_value<'a>(words: &'a [String], name: &[u8]) -> Option<&'a [u8]>
-    ensures found { IfSome result (λ value. IsOption name.now value.now (map string_bytes words.now)) }
-    ensures only { (value : List ℕ) → IsOption name.now value (map string_bytes words.now) → option_map (λ found. found.now) result ≡ Some value }
+    ensures found { IfSome result (λ value.
+        IsOption name.now value.now (map string_bytes words.now)) }
+    ensures only { (value : List ℕ) → IsOption name.now value (map string_bytes words.now) →
+        option_map (λ found. found.now) result ≡ Some value }
 {
     let (first, rest) = first_word(words)?;
     if rest.is_empty() {
@@ -148,7 +156,8 @@ fn option_value<'a>(words: &'a [String], name: &[u8]) -> Option<&'a [u8]>
 /// Returns the value in an argument that is the name, `=` and the value.
 fn value_after_equals<'a>(word: &'a [u8], name: &[u8]) -> Option<&'a [u8]>
     ensures found { IfSome result (λ value. word.now ≡ name.now ++ codes "=" ++ value.now) }
-    ensures only { (value : List ℕ) → word.now ≡ name.now ++ codes "=" ++ value → option_map (λ found. found.now) result ≡ Some value }
+    ensures only { (value : List ℕ) → word.now ≡ name.now ++ codes "=" ++ value →
+        option_map (λ found. found.now) result ≡ Some value }
 {
     after_prefix(after_prefix(word, name)?, b"=")
 }
@@ -182,7 +191,8 @@ pub(crate) fn only_word(words: &[String]) -> Option<&[u8]>
 
 /// Returns the first argument and those after it.
 pub(crate) fn first_word(words: &[String]) -> Option<(&[u8], &[String])>
-    ensures some { IfSome result (λ parts. map string_bytes words.now ≡ parts.0.now ∷ map string_bytes parts.1.now) }
+    ensures some { IfSome result (λ parts.
+        map string_bytes words.now ≡ parts.0.now ∷ map string_bytes parts.1.now) }
     ensures none { IfNone result (map string_bytes words.now ≡ []) }
 {
     let (first, rest) = words.split_first()?;

@@ -17,7 +17,7 @@ unfoldable pub unless_same : Row → ℕ → List Row
 unless_same row last = if row.asn == last then [] else row ∷ []
 
 -- The rows of a tree at a path, if this default holds there. `last` is the number of the longest
--- row above the path, or 0. Where a match fails the answer is the default, so a match gives the
+-- row above the path, or 0. If a match fails, the answer is the default, so a match gives the
 -- default a row at its path.
 unfoldable pub rows_of : Tree → List Bool → ℕ → ℕ → List Row
 rows_of (Return asn) p default last = unless_same (row_at p asn) last

@@ -9,7 +9,8 @@ use Rattle.asmap_back.specs.declared.fault.BackFault.{BackFault}
 use Rattle.asmap_back.specs.declared.fault.BackFault.TheVariants.{TooMany, Memory}
 
 -- of the rows that were left these come now, and the others are left
-pub record Gives (bits : List Bool) (at : ℕ) (parts : List Part) (now left : List Row) : Type 0 where
+pub record Gives (bits : List Bool) (at : ℕ) (parts : List Part)
+    (now left : List Row) : Type 0 where
   pub after : List Row
   pub rows_are : left ≡ now ++ after
   pub ahead : AreAhead bits at parts after

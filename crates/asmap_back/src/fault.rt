@@ -9,7 +9,7 @@ use std::alloc::AllocError;
 pub enum BackFault {
     /// The asmap gives more rows than a table may have.
     TooMany {
-        /// One more than the most rows of a table: the rows after that are not counted.
+        /// One more than a table's maximum number of rows: the rows after that are not counted.
         rows: u32,
     },
     /// Out of memory.

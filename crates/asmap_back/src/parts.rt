@@ -5,7 +5,8 @@ ghost use Rattle.asmap_back.specs.declared.parts.TheConstants.{DEPTH};
 use crate::part::{Part, whole};
 use std::marker::Model;
 
-/// The most parts that can be left: after each there are no more than its path has bits.
+/// The maximum number of parts that can be left: after each part, at most as many are left as its
+/// path has bits.
 pub(crate) const DEPTH: usize = 129;
 
 /// The parts that are still to be read, the next one first.

@@ -12,7 +12,7 @@ use asmap_vm::Sane;
 use host_io::{Failed, Sink, write_all};
 use prefix_table::{Row, row_text};
 
-/// The most bytes that are written at once.
+/// The maximum number of bytes that are written at once.
 const PIECE: usize = 65_536;
 
 /// Writes the rows that an asmap is turned back into, one a line, in pieces. It takes no memory, so

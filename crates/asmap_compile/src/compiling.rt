@@ -13,7 +13,8 @@ use bit_code::{BitFront, MAX_ASMAP};
 use prefix_table::Table;
 use std::alloc::Global;
 
-/// The most bits that a code may have: those of the largest file that `check` of asmap_vm accepts.
+/// The maximum number of bits of a code: those of the largest file that `check` of asmap_vm
+/// accepts.
 pub const MAX_BITS: u64 = 8 * MAX_ASMAP as u64;
 
 /// Compiles a table into an asmap file, which gives each address the AS number of its longest

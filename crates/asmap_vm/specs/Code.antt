@@ -1,4 +1,4 @@
--- The tree of instructions of an asmap file: its spelling in bits, which trees are sane, and the
+-- The tree of instructions of an asmap file: its encoding in bits, which trees are sane, and the
 -- number that a tree gives for an address. The rules are those of `Interpret` and
 -- `SanityCheckASMap` in util/asmap.cpp of Bitcoin Core, for 128 address bits.
 use Rattle.std.specs.Prelude.{ℕ, ◌-◌, ◌<◌, ◌≤◌, Bool, true, List, [], ◌∷◌, ◌++◌, if◌then◌else◌, length, drop, ⊤}
@@ -29,7 +29,7 @@ match_kind = 2
 abbrev pub default_kind : ℕ
 default_kind = 3
 
--- the bits that a tree is spelled by; a jump says how long the left part is
+-- the bits that encode a tree; a jump says how long the left part is
 unfoldable pub code : Tree → List Bool
 code (Return n) = spelling coders.Kind return_kind ++ spelling coders.Asn n
 code (Jump l r) =

@@ -14,7 +14,7 @@ kind_of (instructions.Jump n) = jump_kind
 kind_of (instructions.Match n) = match_kind
 kind_of (instructions.Default n) = default_kind
 
--- how the number of an instruction is spelled
+-- the coder of the number of an instruction
 abbrev pub coder_of : Instruction → Coder
 coder_of (instructions.Return n) = coders.Asn
 coder_of (instructions.Jump n) = coders.Jump

@@ -1,8 +1,8 @@
 //! The asmap file of Bitcoin Core: its sanity check and the lookup of an address
 //! (`util/asmap.cpp`).
 //!
-//! Contracts see a checked file (`Sane`) as its bytes and the tree that they encode. An `OwnedSane` is
-//! a copy of one.
+//! Contracts see a checked file (`Sane`) as its bytes and the tree that they encode. An `OwnedSane`
+//! is a copy of one.
 //!
 //! Proved: hand `check` any bytes. It accepts them exactly if they are the file of a sane tree, of
 //! at most 8,388,608 bytes; no other sane tree has this file. From then on `asn` gives every

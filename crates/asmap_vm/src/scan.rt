@@ -86,7 +86,7 @@ fn is_padding(bits: &Bits<'_>, at: usize) -> bool
     true
 }
 
-/// Returns that the file goes on, or that it is that of no sane tree.
+/// Returns that the file goes on, or that it is not sane.
 fn more_if(may_go_on: bool) -> Step
     ensures { result ≡ (if may_go_on then Step.More else Step.Insane) }
 {

@@ -3,7 +3,7 @@ ghost use Rattle.asmap_vm.specs.declared.stack.TheConstants.{DEPTH};
 
 use std::marker::Model;
 
-/// The most jumps that can be open at once: each takes one of 128 address bits.
+/// The maximum number of jumps that can be open at once: each takes one of 128 address bits.
 pub(crate) const DEPTH: usize = 128;
 
 /// The right part of a jump, which is still to be read.

@@ -5,7 +5,7 @@ use host_io::{Folder, Name};
 use save_store::load;
 use std::alloc::Global;
 
-/// The most bytes that asmap.dat may have.
+/// The maximum number of bytes that asmap.dat may have.
 const MOST_ASMAP_BYTES: u64 = 8_388_608;
 
 /// What is done over asmap.dat, and how often.

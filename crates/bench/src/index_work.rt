@@ -14,7 +14,7 @@ use steps::Steps;
 /// An index under std's own hasher.
 pub(crate) type Index = PeerIndex<BuildHasherDefault<FoldHasher>>;
 
-/// The most records that an index is filled with.
+/// The maximum number of records that an index is filled with.
 const MOST_RECORDS: usize = 10_000_000;
 /// The records from one that is found or removed to the next one: a prime, so that each record
 /// comes once unless their number is a multiple of it.

@@ -31,7 +31,10 @@ impl Refusal {
         match self {
             Refusal::NoWords => "the words cannot be read",
             Refusal::Usage =>
-                "usage: bench asmap N, check TIMES, calls KIND TIMES, codecs KIND TIMES, table TIMES, matches N, compile TIMES, tables N, lines LENGTH TIMES, index-adds N TIMES, index-removes N TIMES, index-finds N SOME TIMES, or index-turns N SOME TIMES",
+                "usage: bench asmap N, check TIMES, calls KIND TIMES, codecs KIND TIMES, \
+                 table TIMES, matches N, compile TIMES, tables N, lines LENGTH TIMES, \
+                 index-adds N TIMES, index-removes N TIMES, \
+                 index-finds N SOME TIMES, or index-turns N SOME TIMES",
             Refusal::NoAsmap => "asmap.dat is missing",
             Refusal::NoPrefixes => "prefixes.txt is missing",
             Refusal::NotLoaded => "the file cannot be loaded",

@@ -25,12 +25,12 @@ pub(crate) enum Task {
     Tables(u32),
 }
 
-/// Returns the number that an argument spells.
+/// Parses an argument as a number.
 fn number(word: &String) -> Result<u64, Refusal> {
     word.as_str().parse::<u64>().map_err(|_| Refusal::Usage)
 }
 
-/// Returns the number of records that an argument spells, below 2^32.
+/// Parses an argument as a number of records, below 2^32.
 fn records_of(word: &String) -> Result<u32, Refusal> {
     word.as_str().parse::<u32>().map_err(|_| Refusal::Usage)
 }

@@ -1,4 +1,4 @@
--- How an asmap file of Bitcoin Core spells numbers as bits: `DecodeBits` in util/asmap.cpp and the
+-- How an asmap file of Bitcoin Core encodes numbers as bits: `DecodeBits` in util/asmap.cpp and the
 -- four tables of class sizes beside it.
 use Rattle.std.specs.Prelude.{◌≡◌, ◌==◌, ℕ, ◌+◌, ◌-◌, ◌^◌, ◌<◌, ◌≤◌, Bool, true, false, List, [], ◌∷◌, ◌++◌, if◌then◌else◌, nat_lt, sum_by, length}
 use Prim.Native.Nat.{zero, suc}
@@ -49,7 +49,7 @@ sizes Jump = range_with_len 5 26
 unfoldable pub values_of : List ℕ → ℕ
 values_of classes = sum_by (λ size. 2 ^ size) classes
 
--- The spelling of number n, counted from 0, over classes of these sizes. A zero-bit says that n is
+-- The encoding of number n, counted from 0, over classes of these sizes. A zero-bit says that n is
 -- of the first class, and its digits follow; a one-bit, that it is of a later class. The last class
 -- has no zero-bit.
 unfoldable pub spelling_by : List ℕ → ℕ → List Bool
@@ -60,16 +60,16 @@ spelling_by (size ∷ next ∷ more) n =
     then false ∷ digits size n
     else true ∷ spelling_by (next ∷ more) (n - 2 ^ size)
 
--- the bits that spell a value of the coder
+-- the bits that encode a value of the coder
 unfoldable pub spelling : Coder → ℕ → List Bool
 spelling coder n = spelling_by (sizes coder) (n - least coder)
 
--- the coder spells this number
+-- the coder can encode this number
 pub record HasValue (coder : Coder) (n : ℕ) : Type 0 where
   pub low : least coder ≤ n
   pub high : n < least coder + values_of (sizes coder)
 
--- the bits begin with the spelling of a value of the coder, and then go on with the rest
+-- the bits begin with the encoding of a value of the coder, and then go on with the rest
 pub record Spells (coder : Coder) (n : ℕ) (bits rest : List Bool) : Type 0 where
   pub value : HasValue coder n
   pub spelled : bits ≡ spelling coder n ++ rest

@@ -21,7 +21,7 @@ pub record IsWord (bytes : List ℕ) (q word : ℕ) : Type 0 where
   pub after : List Bool
   pub shown : file_bits (drop q bytes) ++ after ≡ low_digits 64 word ++ more
 
--- how many bits the longest spelling of a coder has
+-- how many bits the longest encoding of a coder has
 abbrev pub longest : Coder → ℕ
 longest Kind = 3
 longest Asn = 33

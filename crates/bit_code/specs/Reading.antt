@@ -1,4 +1,4 @@
--- Reading a number from the start of a list of bits: the inverse of the spelling.
+-- Reading a number from the start of a list of bits: the inverse of the encoding.
 use Rattle.std.specs.Prelude.{ℕ, ◌+◌, ◌^◌, Bool, true, false, List, [], ◌∷◌, Option, Some, None, if◌then◌else◌, nat_lt, length, take, drop}
 use Rattle.bit_code.specs.Coder.{number_of, sizes, least}
 use Rattle.bit_code.specs.declared.coder.Coder.{Coder}

@@ -12,7 +12,7 @@ use crate::reversal::front_digits;
 pub(crate) struct Number {
     /// The value.
     pub value: u32,
-    /// The number of bits that spell it.
+    /// The number of bits that encode it.
     pub len: u32,
 }
 

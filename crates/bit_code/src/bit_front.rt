@@ -52,7 +52,7 @@ impl BitFront {
         self.bytes.len() * 8 + self.rest_len as usize
     }
 
-    /// Puts the spelling of a value of `coder` before the bits that are there. If memory runs out,
+    /// Puts the encoding of a value of `coder` before the bits that are there. If memory runs out,
     /// the bits are unchanged.
     pub fn put_number_front(&mut self, coder: Coder, value: u32) -> Result<(), Memory>
         requires { HasValue coder value }

@@ -51,7 +51,7 @@ impl BitOut {
         self.bytes.len() * 8 + self.rest_len as usize
     }
 
-    /// Appends the spelling of a value of `coder`. If memory runs out, the bits are unchanged.
+    /// Appends the encoding of a value of `coder`. If memory runs out, the bits are unchanged.
     pub fn put_number(&mut self, coder: Coder, value: u32) -> Result<(), Memory>
         requires { HasValue coder value }
         ensures bits { OnOk result (self.new ≡ self.old ++ spelling coder value) }

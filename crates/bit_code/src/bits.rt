@@ -5,7 +5,7 @@ ghost use Rattle.bit_code.specs.Inside.{IsWindow, IsWord, AreBytes, eight};
 
 use std::marker::Model;
 
-/// The most bytes that an asmap file may have. This limit is our own.
+/// The maximum number of bytes that an asmap file may have. This limit is our own.
 pub const MAX_ASMAP: usize = 8_388_608;
 
 /// The bits of a file: the first byte's first, and of each byte the low bit first.

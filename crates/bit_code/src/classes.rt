@@ -8,7 +8,7 @@ use crate::coder::Coder;
 /// Bitcoin Core's `util/asmap.cpp`.
 #[derive(Clone, Copy)]
 pub(crate) struct Classes {
-    /// The value that is spelled first.
+    /// The least value that can be encoded.
     pub least: u32,
     /// The number of digits of the values of class 0.
     pub first: u32,

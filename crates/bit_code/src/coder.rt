@@ -1,4 +1,4 @@
-/// How a number in an asmap file is spelled, by its role: `DecodeType`, `DecodeASN`,
+/// How a number in an asmap file is encoded, by its role: `DecodeType`, `DecodeASN`,
 /// `DecodeMatch` and `DecodeJump` of `util/asmap.cpp` in Bitcoin Core.
 #[derive(Clone, Copy, Debug, PartialEq, Eq)]
 pub enum Coder {

@@ -5,8 +5,8 @@ use crate::ahead::{kind_ahead, number_after, number_ahead};
 use crate::bits::Bits;
 use crate::coder::Coder;
 
-/// Reads the value of `coder` that is spelled at offset `at`. Returns it and the offset after it,
-/// or `None` if the spelling runs past the end. Offsets are in bits. This is `DecodeBits` of
+/// Reads the value of `coder` that is encoded at offset `at`. Returns it and the offset after it,
+/// or `None` if the encoding runs past the end. Offsets are in bits. This is `DecodeBits` of
 /// `util/asmap.cpp` in Bitcoin Core.
 #[inline]
 pub fn read_number(bits: &Bits<'_>, at: usize, coder: Coder) -> Option<(u32, usize)>
@@ -38,8 +38,8 @@ pub struct KindAndNumber {
     pub end: usize,
 }
 
-/// Reads the kind that is spelled at offset `at` in bits, and the number after it. Returns `None`
-/// if their spelling runs past the end.
+/// Reads the kind that is encoded at offset `at` in bits, and the number after it. Returns `None`
+/// if their encoding runs past the end.
 #[inline(always)]
 pub fn read_kind_and_number(bits: &Bits<'_>, at: usize) -> Option<KindAndNumber>
     requires { at ≤ length bits.now }

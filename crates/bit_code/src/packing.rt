@@ -4,7 +4,8 @@ ghost use Rattle.bit_code.specs.Files.{IsFileOf};
 
 use crate::memory::Memory;
 
-/// The most bytes of a list of bits. With more, the number of bits would not fit a `usize`.
+/// The maximum number of bytes of a list of bits. With more, the number of bits would not fit a
+/// `usize`.
 const MAX_BYTES: usize = 1 << 60;
 
 /// Makes room for `more` bytes.

@@ -8,7 +8,7 @@ use crate::coder::Coder;
 use crate::packing::cat_bits;
 use crate::reversal::front_digits;
 
-/// The bits that spell a number.
+/// The bits that encode a number.
 #[derive(Clone, Copy)]
 pub(crate) struct Spelled {
     /// The bits of a number; the first one is the lowest.
@@ -17,7 +17,7 @@ pub(crate) struct Spelled {
     pub len: u32,
 }
 
-/// Spells a value of `coder`.
+/// Encodes a value of `coder`.
 #[inline]
 pub(crate) fn spell(coder: Coder, value: u32) -> Spelled
     requires { HasValue coder value }
@@ -31,7 +31,7 @@ pub(crate) fn spell(coder: Coder, value: u32) -> Spelled
     }
 }
 
-/// Spells a kind: as many one-bits, and a zero-bit after fewer than three.
+/// Encodes a kind: as many one-bits, and a zero-bit after fewer than three.
 #[inline(always)]
 fn spell_kind(value: u32) -> Spelled
     requires { value < 4 }
@@ -45,7 +45,7 @@ fn spell_kind(value: u32) -> Spelled
     }
 }
 
-/// Spells a number, counted from 0, over classes of rising sizes.
+/// Encodes a number, counted from 0, over classes of rising sizes.
 #[inline(always)]
 fn spell_rising(number: u32, classes: Classes) -> Spelled
     requires some { 0 < classes.first }

@@ -9,6 +9,6 @@ ghost use Rattle.causes.specs.Kept.{IsOpening, KeepsCauses};
 /// most. A record leaves the tried table only for another one of its slot, by `good` with `force`
 /// or by `resolve`.
 pub fn runs_keep_causes()
-    ensures { (file : Option Snapshot) (places : Places) (st : SessionState) (lines : List (List ℕ)) →
-        IsOpening file places st → KeepsCauses file places st lines }
+    ensures { (file : Option Snapshot) (places : Places) (st : SessionState)
+        (lines : List (List ℕ)) → IsOpening file places st → KeepsCauses file places st lines }
 {}

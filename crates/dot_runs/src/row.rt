@@ -4,7 +4,7 @@ ghost use Rattle.dot_runs.specs.Runs.{leading, row_text, run_text, rect_text, ru
 use crate::Memory;
 use itoa::Buffer;
 
-/// Appends the rectangles of one mark in a row of marks, whose first stands at `x` and `y`: one for
+/// Appends the rectangles of one mark in a row of marks, whose first is at `x` and `y`: one for
 /// each longest run of this mark.
 pub fn put_row(marks: &[u8], mark: u8, x: u32, y: u32, out: &mut Vec<u8>) -> Result<(), Memory>
     requires { x + length marks.now < 2 ^ 32 }
@@ -27,7 +27,8 @@ fn put_first(row: &[u8], mark: u8, x: u32, y: u32, out: &mut Vec<u8>) -> Result<
     requires room { x + length row.now < 2 ^ 32 }
     ensures some { IfOk result (λ wide. 0 < wide) }
     ensures within { IfOk result (λ wide. wide ≤ length row.now) }
-    ensures drawn { IfOk result (λ wide. out.new.items ++ row_text mark (x + wide) y (drop wide row.now)
+    ensures drawn { IfOk result (λ wide.
+        out.new.items ++ row_text mark (x + wide) y (drop wide row.now)
         ≡ out.old.items ++ row_text mark x y row.now) }
 {
     let wide = first_run(row);
@@ -35,7 +36,7 @@ fn put_first(row: &[u8], mark: u8, x: u32, y: u32, out: &mut Vec<u8>) -> Result<
     Ok(wide)
 }
 
-/// Returns how many marks at the front are equal.
+/// Returns how many of the first marks are equal.
 #[tactic(auto, using(crate::proofs::Runs::run_some))]
 fn first_run(row: &[u8]) -> usize
     requires { 0 < length row.now }

@@ -11,7 +11,8 @@ use Rattle.peer_open.specs.Verdicts.{judge}
 use Rattle.peer_open.specs.declared.verdict.Verdict.TheVariants.{Take}
 
 -- the random words pick the peer, and the rules take it in the try of this number
-pub record IsTaken (st : State) (places : Places) (open_peers : List Outbound) (words : List ℕ) (now tries : ℕ) (peer : Peer) : Type 0 where
+pub record IsTaken (st : State) (places : Places) (open_peers : List Outbound) (words : List ℕ)
+    (now tries : ℕ) (peer : Peer) : Type 0 where
   pub last_try : ℕ
   pub picked : select st false all words now ≡ One peer last_try
   pub judged : judge open_peers (group places peer.addr) last_try now tries ≡ Take

@@ -25,8 +25,8 @@ pub trait Grammar<T: Texts> {
             at_fault word.now (T.texts rest) f }
         ensures memory { result ≡ Err LineFault.Memory → can_run_out };
 
-    ghost one_said: { (word : List ℕ) (texts : List (List ℕ)) (a b : Self.Said) → says word texts a →
-        says word texts b → a ≡ b };
+    ghost one_said: { (word : List ℕ) (texts : List (List ℕ)) (a b : Self.Said) →
+        says word texts a → says word texts b → a ≡ b };
 
     ghost one_fault: { (word : List ℕ) (texts : List (List ℕ)) (f g : LineFault) →
         at_fault word texts f → at_fault word texts g → f ≡ g };

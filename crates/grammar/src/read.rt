@@ -58,7 +58,8 @@ pub fn read_line<'a, G: Grammar<Option<&'a [u8]>>>(
     requires letters { (word : List ℕ) (texts : List (List ℕ)) (a : G.Said) → G.says word texts a →
         96 < get_or word 0 0 }
     ensures passed { result ≡ Ok None ↔ IsPassedOver line.now }
-    ensures found { IfOk result (λ read. IfSome read (λ said. Says G.says (fields_of line.now) said)) }
+    ensures found { IfOk result (λ read.
+        IfSome read (λ said. Says G.says (fields_of line.now) said)) }
     ensures only { (said : G.Said) → Says G.says (fields_of line.now) said →
         (result ≡ Ok (Some said)) ⊎ (result ≡ Err LineFault.Memory) }
     ensures fault { (f : LineFault) → result ≡ Err f → f ≢ LineFault.Memory →

@@ -3,8 +3,8 @@ use std::alloc::{AllocError, Global};
 use std::io;
 use std::io::Read;
 
-/// The last lines of a log that is read in pieces, of which no next one is asked for while a whole
-/// line waits: so the lines that are whole in what was read before the last piece are done with.
+/// The last lines of a log that is read in pieces. The next piece is read only when no whole line
+/// waits, so the whole lines from before it are dropped.
 #[derive(Drop)]
 pub struct LastLines {
     bytes: Vec<u8>,

@@ -2,10 +2,10 @@ use crate::forms::keyword_of;
 use std::alloc::{AllocError, Global};
 use strsim::levenshtein;
 
-/// The most bytes of a text that is compared.
+/// The maximum number of bytes of a text that is compared.
 const MAX_COMPARED: usize = 40;
 
-/// The most edits to a keyword that is named.
+/// The maximum number of edits between a text and the keyword that is named for it.
 const MAX_EDITS: usize = 3;
 
 /// Returns the keyword of the forms to which the fewest edits lead from a text, if they are at most

@@ -22,7 +22,7 @@ pub(crate) struct NotedFailure {
     name: &'static str,
     /// What was tried, as a participle.
     tried: &'static str,
-    /// What the system said; nothing of what is no regular file.
+    /// The system's error, or `None` if the file is no regular one.
     error: Option<io::Error>,
 }
 
@@ -30,7 +30,7 @@ pub(crate) struct NotedFailure {
 #[derive(Drop)]
 pub struct Notes {
     alloc: Global,
-    /// Whether a save that fails is told at once.
+    /// Whether a save that fails is reported at once.
     tells_saves: bool,
     last: Cell<Option<NotedFailure>>,
     /// Whether the last save failed.

@@ -4,7 +4,7 @@ use host_io::split_line;
 use prefix_table::{MAX_TEXT, TableFault, read_table};
 use std::alloc::{AllocError, Global};
 
-/// The most bytes of a row that is explained.
+/// The maximum number of bytes of a row that is explained.
 const MAX_ROW: usize = 1000;
 
 /// Says what is wrong with prefixes.txt, which has this text and this fault.

@@ -1,6 +1,6 @@
 use std::alloc::{AllocError, Global};
 
-/// The most bytes of a text that are shown.
+/// The maximum number of bytes of a text that are shown.
 const MAX_SHOWN: usize = 40;
 
 /// Returns the text in quotation marks, with three dots after it if it has more than 40 bytes, of

@@ -6,7 +6,7 @@ use Rattle.std.specs.Prelude.{◌≡◌, ℕ, ◌+◌, ◌-◌, ◌^◌, ◌<◌
 abbrev pub Rose : ℕ → ℕ → Type 0
 Rose before after = (before < after) ⊎ (after ≡ 2 ^ 64 - 1)
 
--- The count of faults rose by so many at least, or it rose and is at the end of its type.
+-- The count of faults rose by at least this many, or it rose and is at the end of its type.
 abbrev pub RoseBy : ℕ → ℕ → ℕ → Type 0
 RoseBy n before after = (before + n ≤ after) ⊎ ((2 ^ 64 - 1 ≤ after) × Rose before after)
 

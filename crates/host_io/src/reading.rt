@@ -8,7 +8,7 @@ use crate::folder::Folder;
 use crate::name::Name;
 use std::alloc::{AllocError, Global};
 
-/// The most bytes that one read takes.
+/// The maximum number of bytes that one read takes.
 const PIECE: usize = 65_536;
 
 /// Makes room for one read.

@@ -1,7 +1,7 @@
 use std::hash::{BuildHasher, DefaultHasher, Hasher};
 
 /// A hasher with two keys: SipHash-1-3, which is given the keys before the input. Random keys keep
-/// others from finding peers that meet in one place of an index.
+/// others from finding peers that collide in an index.
 #[derive(Clone, Copy)]
 pub struct Keyed {
     start: DefaultHasher,

@@ -8,6 +8,6 @@ ghost use Rattle.session.specs.State.{SessionState};
 /// Whatever lines are carried out, after each of them: of the words that select a bucket, few lead
 /// to records that sources of some groups put there, or to records of these groups.
 pub fn groups_reach_few()
-    ensures { (file : Option Snapshot) (places : Places) (st : SessionState) (lines : List (List ℕ)) →
-        IsOpening file places st → KeepsShares file places st lines }
+    ensures { (file : Option Snapshot) (places : Places) (st : SessionState)
+        (lines : List (List ℕ)) → IsOpening file places st → KeepsShares file places st lines }
 {}

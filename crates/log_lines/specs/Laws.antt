@@ -14,15 +14,19 @@ use Rattle.log_lines.specs.declared.verb.Verb.TheVariants as v
 -- the command of a keyword and its values
 command_by : Option Verb → List Value → Command
 command_by (Some v.Now) (TheNumber time ∷ []) = c.Now time
-command_by (Some v.Addr) (TheAddr source ∷ TheBytes payload ∷ TheWords words ∷ []) = c.Addr source payload words
-command_by (Some v.Addr2) (TheAddr source ∷ TheBytes payload ∷ TheWords words ∷ []) = c.Addr2 source payload words
+command_by (Some v.Addr) (TheAddr source ∷ TheBytes payload ∷ TheWords words ∷ []) =
+    c.Addr source payload words
+command_by (Some v.Addr2) (TheAddr source ∷ TheBytes payload ∷ TheWords words ∷ []) =
+    c.Addr2 source payload words
 command_by (Some v.Good) (ThePeer peer ∷ TheChoice testing ∷ []) = c.Good peer testing
 command_by (Some v.Attempt) (ThePeer peer ∷ TheChoice count ∷ []) = c.Attempt peer count
 command_by (Some v.Connected) (ThePeer peer ∷ []) = c.Connected peer
 command_by (Some v.Services) (ThePeer peer ∷ TheNumber services ∷ []) = c.Services peer services
 command_by (Some v.Find) (ThePeer peer ∷ []) = c.Find peer
-command_by (Some v.Select) (TheChoice new_only ∷ TheNets nets ∷ TheWords words ∷ []) = c.Select new_only nets words
-command_by (Some v.Sample) (TheNumber max ∷ TheNumber pct ∷ TheNets classes ∷ TheWords words ∷ []) = c.Sample max pct classes words
+command_by (Some v.Select) (TheChoice new_only ∷ TheNets nets ∷ TheWords words ∷ []) =
+    c.Select new_only nets words
+command_by (Some v.Sample) (TheNumber max ∷ TheNumber pct ∷ TheNets classes ∷ TheWords words ∷ []) =
+    c.Sample max pct classes words
 command_by (Some v.Resolve) values = c.Resolve
 command_by (Some v.Clash) (TheNumber word ∷ []) = c.Clash word
 command_by (Some v.Dump) values = c.Dump
@@ -35,26 +39,33 @@ command_by other values = c.Size
 verb_with : List ℕ → Option Verb
 verb_with word = find (λ verb. bytes_eq (word_of verb) word) verbs
 
-command_back : (command : Command) → command_by (verb_with (word_of (verb_of command))) (command_values command) ≡ command
+command_back : (command : Command) →
+    command_by (verb_with (word_of (verb_of command))) (command_values command) ≡ command
 unfolding command_by verb_with
 command_back (c.Now time) = refl
 command_back other = refl
 
 -- a first word and the fields after it parse as one command
-pub one_after : (word : List ℕ) (texts : List (List ℕ)) (a b : Command) → SpellsAfter word texts a → SpellsAfter word texts b → a ≡ b
+pub one_after : (word : List ℕ) (texts : List (List ℕ)) (a b : Command) →
+    SpellsAfter word texts a → SpellsAfter word texts b → a ≡ b
 one_after word texts a b h k =
-    let values = one_values_after table word texts (command_values a) (command_values b) refl h.1 k.1 in
+    let values = one_values_after table word texts
+    (command_values a) (command_values b) refl h.1 k.1 in
     let words = sym h.0 ∙ k.0 in
     sym (command_back a) ∙ (λ i. command_by (verb_with (words i)) (values i)) ∙ command_back b
 
 -- or have one fault
-pub one_fault : (word : List ℕ) (texts : List (List ℕ)) (f g : LineFault) → HasFaultAfter word texts f → HasFaultAfter word texts g → f ≡ g
+pub one_fault : (word : List ℕ) (texts : List (List ℕ)) (f g : LineFault) →
+    HasFaultAfter word texts f → HasFaultAfter word texts g → f ≡ g
 one_fault word texts f g h k = one_fault_after (kinds_after table word) texts f g h k
 
 -- and never both
-pub no_fault : (word : List ℕ) (texts : List (List ℕ)) (a : Command) (f : LineFault) → SpellsAfter word texts a → HasFaultAfter word texts f → ⊥
-no_fault word texts a f h k = no_fault_after (kinds_after table word) texts (command_values a) f h.1 k
+pub no_fault : (word : List ℕ) (texts : List (List ℕ)) (a : Command) (f : LineFault) →
+    SpellsAfter word texts a → HasFaultAfter word texts f → ⊥
+no_fault word texts a f h k =
+    no_fault_after (kinds_after table word) texts (command_values a) f h.1 k
 
 -- a line that parses as a command begins with a letter
-pub letters : (word : List ℕ) (texts : List (List ℕ)) (a : Command) → SpellsAfter word texts a → 96 < get_or word 0 0
+pub letters : (word : List ℕ) (texts : List (List ℕ)) (a : Command) →
+    SpellsAfter word texts a → 96 < get_or word 0 0
 letters word texts a h = letter_of_values table word texts (command_values a) refl h.1

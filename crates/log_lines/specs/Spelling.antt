@@ -77,15 +77,18 @@ verb_of c.SaveEnd = v.SaveEnd
 -- the values of the other fields
 abbrev pub command_values : Command → List Value
 command_values (c.Now time) = TheNumber time ∷ []
-command_values (c.Addr source payload words) = TheAddr source ∷ TheBytes payload ∷ TheWords words ∷ []
-command_values (c.Addr2 source payload words) = TheAddr source ∷ TheBytes payload ∷ TheWords words ∷ []
+command_values (c.Addr source payload words) =
+    TheAddr source ∷ TheBytes payload ∷ TheWords words ∷ []
+command_values (c.Addr2 source payload words) =
+    TheAddr source ∷ TheBytes payload ∷ TheWords words ∷ []
 command_values (c.Good peer testing) = ThePeer peer ∷ TheChoice testing ∷ []
 command_values (c.Attempt peer count) = ThePeer peer ∷ TheChoice count ∷ []
 command_values (c.Connected peer) = ThePeer peer ∷ []
 command_values (c.Services peer services) = ThePeer peer ∷ TheNumber services ∷ []
 command_values (c.Find peer) = ThePeer peer ∷ []
 command_values c.Size = []
-command_values (c.Select new_only nets words) = TheChoice new_only ∷ TheNets nets ∷ TheWords words ∷ []
+command_values (c.Select new_only nets words) =
+    TheChoice new_only ∷ TheNets nets ∷ TheWords words ∷ []
 command_values (c.Sample max pct classes words) =
     TheNumber max ∷ TheNumber pct ∷ TheNets classes ∷ TheWords words ∷ []
 command_values c.Resolve = []

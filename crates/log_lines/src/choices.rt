@@ -41,7 +41,7 @@ impl Choice for Counting {
     }
 }
 
-/// Whether a peer is selected from the new table alone.
+/// Whether a peer is selected only from the new table.
 pub struct NewOnly;
 
 impl Choice for NewOnly {

@@ -61,7 +61,8 @@ pub fn read_line(alloc: Global, line: &[u8]) -> Result<Option<Command>, LineFaul
     ensures found { IfOk result (λ read. IfSome read (λ c. SpellsCommand line.now c)) }
     ensures only { (c : Command) → SpellsCommand line.now c →
         (result ≡ Ok (Some c)) ⊎ (result ≡ Err LineFault.Memory) }
-    ensures fault { (f : LineFault) → result ≡ Err f → f ≢ LineFault.Memory → HasCommandFault line.now f }
+    ensures fault { (f : LineFault) → result ≡ Err f → f ≢ LineFault.Memory →
+        HasCommandFault line.now f }
     ensures only_fault { (f : LineFault) → HasCommandFault line.now f →
         (result ≡ Err f) ⊎ (result ≡ Err LineFault.Memory) }
 {

@@ -4,5 +4,5 @@ pub const MAX_LOG: usize = 1_073_741_824;
 /// The maximum size of a line of a log in bytes, without its line feed.
 pub const MAX_LINE: usize = 2_000_000;
 
-/// The most bytes that one read takes.
+/// The maximum number of bytes that one read takes.
 pub const MAX_READ: usize = 65_536;

@@ -6,7 +6,7 @@ use crate::limits::MAX_READ;
 use host_io::{Failed, Source};
 use std::alloc::AllocError;
 
-/// Moves the bytes from `start` to `end` to the front.
+/// Moves the bytes from `start` to `end` to the start of the buffer.
 fn move_to_front(bytes: &mut [u8], start: usize, end: usize)
     requires order { start ≤ end }
     requires within { end ≤ length bytes.old }

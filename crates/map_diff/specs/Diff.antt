@@ -53,7 +53,8 @@ joined (Mixed cs) r = both (Mixed cs) r
 unfoldable pub part : ℕ → (List Bool → ℕ) → (List Bool → ℕ) → Part
 part zero f g = Same (f []) (g [])
 part (suc n) f g =
-    joined (part n (after_bit false f) (after_bit false g)) (part n (after_bit true f) (after_bit true g))
+    joined (part n (after_bit false f) (after_bit false g))
+    (part n (after_bit true f) (after_bit true g))
 
 -- the changes of two maps of addresses of n bits, in the order of their prefixes
 abbrev pub changes : ℕ → (List Bool → ℕ) → (List Bool → ℕ) → List Change
@@ -94,7 +95,8 @@ span_of n c = 2 ^ (n - length c.path)
 unfoldable pub differing : ℕ → (List Bool → ℕ) → (List Bool → ℕ) → ℕ
 differing zero f g = if f [] == g [] then 0 else 1
 differing (suc n) f g =
-    differing n (after_bit false f) (after_bit false g) + differing n (after_bit true f) (after_bit true g)
+    differing n (after_bit false f) (after_bit false g)
+    + differing n (after_bit true f) (after_bit true g)
 
 -- the map of a tree
 abbrev pub map_of : Tree → List Bool → ℕ

@@ -45,13 +45,13 @@ pub record IsMatching (bits : List Bool) (n number size offset default : ℕ)
   pub tree : IsTree bits (n - size) offset default next
   pub map_is : f ≡ matching (digits size number) next default
 
--- the cursor stands for this map of addresses of n bits
+-- the cursor represents this map of addresses of n bits
 abbrev pub IsMap : List Bool → ℕ → Cursor → (List Bool → ℕ) → Type 0
 IsMap bits n (Fixed asn) f = f ≡ (λ address. asn)
 IsMap bits n (Fork left right default) f = IsFork bits n left right default f
 IsMap bits n (Match number size offset default) f = IsMatching bits n number size offset default f
 
--- two cursors stand for the maps below a path
+-- two cursors represent the maps below a path
 pub record AreMaps (old_bits new_bits : List Bool) (at : Prefix) (from to : Cursor)
     (p : List Bool) (f g : List Bool → ℕ) : Type 0 where
   pub len : length p ≡ at.len
@@ -69,7 +69,8 @@ unfoldable pub rows_at : List Bool → List Change → List ChangedPrefix
 rows_at p cs = map (changed_at p) cs
 
 -- what was read of a part: the pair that it is, or its changes, which were appended
-abbrev pub IsRead : List Bool → Part → List ChangedPrefix → List ChangedPrefix → Option Pair → Type 0
+abbrev pub IsRead : List Bool → Part → List ChangedPrefix → List ChangedPrefix →
+    Option Pair → Type 0
 IsRead p whole rows rows_after (Some pair) =
     (whole ≡ Same pair.old pair.new) × (rows_after ≡ rows)
 IsRead p whole rows rows_after None =

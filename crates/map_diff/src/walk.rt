@@ -135,7 +135,8 @@ fn join(
     right: Option<Pair>,
     one: Prefix,
 ) -> Result<Option<Pair>, DiffFault>
-    ensures found { IfOk result (λ pair. (s : Sides) → AreSides s rows.old.items before left right one
+    ensures found { IfOk result (λ pair. (s : Sides)
+        → AreSides s rows.old.items before left right one
         → IsRead s.path (joined s.left s.right) s.rows rows.new.items pair) }
     ensures cause { IfErr result (λ fault. (s : Sides)
         → AreSides s rows.old.items before left right one

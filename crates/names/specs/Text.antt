@@ -25,6 +25,6 @@ pub record IsWithPort (text : List ℕ) (a : Address) : Type 0 where
   pub small : port < 2 ^ 16
   pub spelled : text ≡ host ++ codes ":" ++ decimal port
 
--- a text that stands for the address: without a port, or else with one
+-- what people may write for the address: without a port, or else with one
 abbrev pub IsTextOf : List ℕ → Address → Type 0
 IsTextOf text = OrElse (IsHost text) (IsWithPort text)

@@ -11,7 +11,7 @@ pub fn checksums_are_determined()
         HasLetters Onion other b → take 52 letters ≡ take 52 other → letters ≡ other }
 {}
 
-/// A text stands for one address at most.
+/// A text parses as at most one address.
 pub fn texts_have_one_meaning()
     ensures { (text : List ℕ) (a b : Address) → IsTextOf text a → IsTextOf text b → a ≡ b }
 {}

@@ -5,8 +5,8 @@
 //! - `name_of` returns the name of an address, which parses as that address unless it is an IPv6
 //!   address of fc00::/8 or an address of CJDNS outside of it.
 //! - `parse_name` accepts exactly the grammar, so a text is the name of one address at most.
-//! - `parse_text` accepts a name, or an address as in a log, with or without a port; a text stands
-//!   for one address at most (`texts_have_one_meaning`).
+//! - `parse_text` accepts a name, or an address as in a log, with or without a port; a text parses
+//!   as at most one address (`texts_have_one_meaning`).
 //! - The checksum in a name of Tor v3 is determined by the letters before it
 //!   (`checksums_are_determined`).
 #![tactic(auto)]

@@ -14,10 +14,11 @@ use arrayvec::ArrayVec;
 use itoa::Buffer;
 use std::net::Ipv6Addr;
 
-/// The most bytes of an IPv4 address in text.
+/// The maximum number of bytes of an IPv4 address in text.
 pub const IPV4_TEXT: usize = 15;
 
-/// The most bytes of an IPv6 address in text: eight groups of four digits, and seven colons.
+/// The maximum number of bytes of an IPv6 address in text: eight groups of four digits, and seven
+/// colons.
 pub const IPV6_TEXT: usize = 39;
 
 /// Returns the text of an IPv4 address, the first of its four bytes the highest.
@@ -222,8 +223,8 @@ fn hex_digit(digit: u16) -> u8
     }
 }
 
-/// Appends the text of an IPv6 address in square brackets. After `Memory` a part of it may be in the
-/// list.
+/// Appends the text of an IPv6 address in square brackets. After `Memory` a part of it may be in
+/// the list.
 fn append_bracketed(bytes: &[u8], out: &mut Vec<u8>) -> Result<(), Memory>
     requires { length bytes.now ≡ 16 }
     ensures text { OnOk result (out.new.items

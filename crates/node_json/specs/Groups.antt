@@ -77,7 +77,8 @@ rows_of st = map (row_of st) (groups_in st)
 unfoldable pub number_members : Numbers → List Member
 number_members n =
     (codes "new_slots", json_number n.slots) ∷ (codes "new_buckets", json_number n.buckets)
-    ∷ (codes "new_records", json_number n.records) ∷ (codes "tried_records", json_number n.tried) ∷ []
+    ∷ (codes "new_records", json_number n.records)
+    ∷ (codes "tried_records", json_number n.tried) ∷ []
 
 -- the name and the AS number are those of the first record of the group
 unfoldable pub group_members : Places → Numbers → Address → List Member

@@ -16,8 +16,8 @@ counts_json new tried =
     object_of ((codes "new", json_number new) ∷ (codes "tried", json_number tried)
     ∷ (codes "total", json_number (new + tried)) ∷ [])
 
--- the records whose own network this is: not the network of an embedded IPv4 address, and none that
--- is not routable
+-- how many routable records are of this network; an address that embeds an IPv4 address counts for
+-- its own network
 abbrev pub network_row : State → Net → Member
 network_row st net =
     let only = with_net none net in

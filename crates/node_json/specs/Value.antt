@@ -1,4 +1,4 @@
--- Values of JSON whose members stand in a stated order, and their text.
+-- Values of JSON whose members have a stated order, and their text.
 use Rattle.std.specs.Prelude.{◌≡◌, ℕ, List, [], ◌∷◌, ◌++◌, Some, decimal, codes, ◌==◌, if◌then◌else◌}
 use Rattle.json.specs.Json.{Json, Items, Members, number, object, array, no_members, member, no_items, item, document}
 use Rattle.json.specs.Layout.{pretty}

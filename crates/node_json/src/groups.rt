@@ -232,7 +232,8 @@ fn put_numbers_of_all(
     records: u32,
     tried: u32,
 ) -> Result<(), AllocError>
-    ensures { OnOk result (json.new ≡ json.old ++ tokens_of (totals_by groups slots records tried)) }
+    ensures { OnOk result (json.new
+        ≡ json.old ++ tokens_of (totals_by groups slots records tried)) }
 {
     put_number(json, "groups", groups)?;
     put_number(json, "new_slots", u64::from(slots))?;

@@ -23,7 +23,10 @@ IsTry i = (1 ≤ i) × (i ≤ MAX_TRIES)
 
 -- the peer that an answer names was taken by the rules
 abbrev pub IsFair : OpenerState → Request → Answer → Type 0
-IsFair old (request.Outbound seed) (Opened peer group i) = IsTry i × IsLateIfRecent old.machine ToKeep seed peer i
+IsFair old (request.Outbound seed) (Opened peer group i) =
+    IsTry i × IsLateIfRecent old.machine ToKeep seed peer i
 IsFair old (request.Feeler seed word) (Tested peer i) =
-    IsTry i × IsLateIfRecent (after_clash old.machine word) (ToTest (clash_pick old.machine.tables word).answer) seed peer i
+    IsTry i
+    × IsLateIfRecent (after_clash old.machine word)
+    (ToTest (clash_pick old.machine.tables word).answer) seed peer i
 IsFair old asked answer = Unit {0}

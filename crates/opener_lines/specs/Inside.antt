@@ -21,12 +21,15 @@ CanBeDone other = ⊤
 -- what a message leaves that ran out of memory
 abbrev pub LeavesMessage : OpenerState → Request → OpenerState → Type 0
 LeavesMessage old (request.Machine command) new =
-    (machine : Machine) × manager.LeavesPart old.machine command machine × (new ≡ record old { machine = machine })
+    (machine : Machine) × manager.LeavesPart old.machine command machine
+    × (new ≡ record old { machine = machine })
 LeavesMessage old other new = ⊥
 
 -- what a request leaves that ran out of memory
 abbrev pub Leaves : OpenerState → Request → OpenerState → Type 0
-Leaves old asked new = (new ≡ old) ⊎ (((answer : Answer) × RequestStep old asked answer new) ⊎ LeavesMessage old asked new)
+Leaves old asked new =
+    (new ≡ old)
+    ⊎ (((answer : Answer) × RequestStep old asked answer new) ⊎ LeavesMessage old asked new)
 
 -- what the tries of an outbound connection come to, without the group of the peer
 abbrev pub outcome_of : Found → Outcome
@@ -40,6 +43,7 @@ HasGroup places (found.Taken peer its_group tries) = its_group.items ≡ group p
 HasGroup places other = ⊤
 
 -- what the tries of an outbound connection come to
-pub record Finds (m : Machine) (open_peers : List Outbound) (seed : ℕ) (found : Found) : Type 0 where
+pub record Finds (m : Machine) (open_peers : List Outbound)
+    (seed : ℕ) (found : Found) : Type 0 where
   pub outcome : HasOutcome (try_by m open_peers ToKeep seed) (outcome_of found)
   pub group : HasGroup m.tables.places found

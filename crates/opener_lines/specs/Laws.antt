@@ -32,21 +32,33 @@ pairs = u32_field ∷ u64_field ∷ []
 abbrev one_peer : List Kind
 one_peer = OfPeer ∷ []
 
-pub one_asked : (word : List ℕ) (texts : List (List ℕ)) (a b : Request) → AsksAfter word texts a → AsksAfter word texts b → a ≡ b
+pub one_asked : (word : List ℕ) (texts : List (List ℕ)) (a b : Request) →
+    AsksAfter word texts a → AsksAfter word texts b → a ≡ b
 one_asked word texts a b = by (verb_at word)
   where
     by : (o : Option Verb) → AsksBy o texts a → AsksBy o texts b → a ≡ b
     by None h k = absurd h
     by (Some Outbound) (s, h, is) (t, k, is') =
-        is ∙ ap (λ vs. request.Outbound (number_in (at vs 0))) (one_list seeds texts (TheNumber s ∷ []) (TheNumber t ∷ []) refl h k) ∙ sym is'
+        is
+        ∙ ap (λ vs. request.Outbound (number_in (at vs 0)))
+        (one_list seeds texts (TheNumber s ∷ []) (TheNumber t ∷ []) refl h k)
+        ∙ sym is'
     by (Some Feeler) (s, m, h, is) (t, n, k, is') =
-        is ∙ ap (λ vs. request.Feeler (number_in (at vs 0)) (number_in (at vs 1)))
-        (one_list pairs texts (TheNumber s ∷ TheNumber m ∷ []) (TheNumber t ∷ TheNumber n ∷ []) refl h k) ∙ sym is'
+        is
+        ∙ ap (λ vs. request.Feeler (number_in (at vs 0)) (number_in (at vs 1)))
+        (one_list pairs texts (TheNumber s ∷ TheNumber m ∷ []) (TheNumber t ∷ TheNumber n ∷ [])
+        refl h k)
+        ∙ sym is'
     by (Some Close) (p, h, is) (q, k, is') =
-        is ∙ ap (λ vs. request.Close (peer_in p (at vs 0))) (one_list one_peer texts (ThePeer p ∷ []) (ThePeer q ∷ []) refl h k) ∙ sym is'
-    by (Some (Log verb)) (c, h, is) (d, k, is') = is ∙ ap request.Machine (log.one_after (spelling.word_of verb) texts c d h k) ∙ sym is'
+        is
+        ∙ ap (λ vs. request.Close (peer_in p (at vs 0)))
+        (one_list one_peer texts (ThePeer p ∷ []) (ThePeer q ∷ []) refl h k)
+        ∙ sym is'
+    by (Some (Log verb)) (c, h, is) (d, k, is') =
+        is ∙ ap request.Machine (log.one_after (spelling.word_of verb) texts c d h k) ∙ sym is'
 
-pub one_fault : (word : List ℕ) (texts : List (List ℕ)) (f g : LineFault) → FaultAfter word texts f → FaultAfter word texts g → f ≡ g
+pub one_fault : (word : List ℕ) (texts : List (List ℕ)) (f g : LineFault) →
+    FaultAfter word texts f → FaultAfter word texts g → f ≡ g
 one_fault word texts f g = by (verb_at word)
   where
     by : (o : Option Verb) → FaultBy o texts f → FaultBy o texts g → f ≡ g
@@ -56,13 +68,15 @@ one_fault word texts f g = by (verb_at word)
     by (Some Close) h k = one_fault_after (Some one_peer) texts f g h k
     by (Some (Log verb)) h k = log.one_fault (spelling.word_of verb) texts f g h k
 
-pub no_fault : (word : List ℕ) (texts : List (List ℕ)) (a : Request) (f : LineFault) → AsksAfter word texts a → FaultAfter word texts f → ⊥
+pub no_fault : (word : List ℕ) (texts : List (List ℕ)) (a : Request) (f : LineFault) →
+    AsksAfter word texts a → FaultAfter word texts f → ⊥
 no_fault word texts a f = by (verb_at word)
   where
     by : (o : Option Verb) → AsksBy o texts a → FaultBy o texts f → ⊥
     by None h k = h
     by (Some Outbound) (s, h, is) k = no_fault_after (Some seeds) texts (TheNumber s ∷ []) f h k
-    by (Some Feeler) (s, m, h, is) k = no_fault_after (Some pairs) texts (TheNumber s ∷ TheNumber m ∷ []) f h k
+    by (Some Feeler) (s, m, h, is) k =
+        no_fault_after (Some pairs) texts (TheNumber s ∷ TheNumber m ∷ []) f h k
     by (Some Close) (p, h, is) k = no_fault_after (Some one_peer) texts (ThePeer p ∷ []) f h k
     by (Some (Log verb)) (c, h, is) k = log.no_fault (spelling.word_of verb) texts c f h k
 
@@ -71,12 +85,16 @@ word_is : (word : List ℕ) (verb : Verb) → verb_at word ≡ Some verb → wor
 word_is word verb is = found_word opener_word verbs word verb is
 
 -- a line that asks for something begins with a letter
-pub letters : (word : List ℕ) (texts : List (List ℕ)) (a : Request) → AsksAfter word texts a → 96 < get_or word 0 0
+pub letters : (word : List ℕ) (texts : List (List ℕ)) (a : Request) →
+    AsksAfter word texts a → 96 < get_or word 0 0
 letters word texts a = by (verb_at word) refl
   where
     by : (o : Option Verb) → verb_at word ≡ o → AsksBy o texts a → 96 < get_or word 0 0
     by None is h = absurd h
-    by (Some Outbound) is h = subst (λ w. 96 < get_or w 0 0) (sym (word_is word Outbound is)) (lit< tt)
+    by (Some Outbound) is h =
+        subst (λ w. 96 < get_or w 0 0) (sym (word_is word Outbound is)) (lit< tt)
     by (Some Feeler) is h = subst (λ w. 96 < get_or w 0 0) (sym (word_is word Feeler is)) (lit< tt)
     by (Some Close) is h = subst (λ w. 96 < get_or w 0 0) (sym (word_is word Close is)) (lit< tt)
-    by (Some (Log verb)) is (c, h, asks) = subst (λ w. 96 < get_or w 0 0) (sym (word_is word (Log verb) is)) (log.letters (spelling.word_of verb) texts c h)
+    by (Some (Log verb)) is (c, h, asks) =
+        subst (λ w. 96 < get_or w 0 0) (sym (word_is word (Log verb) is))
+        (log.letters (spelling.word_of verb) texts c h)

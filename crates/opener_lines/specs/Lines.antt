@@ -14,7 +14,8 @@ use Rattle.opener_lines.specs.declared.request.Request.TheVariants as request
 abbrev pub LineStep : OpenerState → List ℕ → List ℕ → OpenerState → Type 0
 LineStep old line text new =
     (IsPassedOver line × (text ≡ []) × (new ≡ old))
-    ⊎ ((asked : Request) × (answer : Answer) × LineAsks line asked × RequestStep old asked answer new × (text ≡ answer_text answer))
+    ⊎ ((asked : Request) × (answer : Answer) × LineAsks line asked
+    × RequestStep old asked answer new × (text ≡ answer_text answer))
 
 -- What a line leaves that ran out of memory: the state before it, that after it, or a message of
 -- which some of the first entries were taken.

@@ -44,16 +44,19 @@ answer_to_feeler outcome.GaveUp = GaveUp
 
 -- the open peers after the tries, with the peer that was taken, the last
 abbrev pub peers_after : Places → Outcome → List Outbound → List Outbound
-peers_after places (outcome.Taken peer i) open_peers = with_peer peer (group places peer.addr) open_peers
+peers_after places (outcome.Taken peer i) open_peers =
+    with_peer peer (group places peer.addr) open_peers
 peers_after places other open_peers = open_peers
 
 -- the tries of an outbound connection, unless there are ten already
 abbrev pub OutboundStep : OpenerState → ℕ → Answer → OpenerState → Type 0
 OutboundStep old seed answer new =
     ((length old.open_peers ≡ MAX_OUTBOUND) × (answer ≡ Full) × (new ≡ old))
-    ⊎ ((length old.open_peers < MAX_OUTBOUND) × ((found : Outcome) × HasOutcome (try_by old.machine old.open_peers ToKeep seed) found
+    ⊎ ((length old.open_peers < MAX_OUTBOUND)
+    × ((found : Outcome) × HasOutcome (try_by old.machine old.open_peers ToKeep seed) found
     × (answer ≡ answer_to_outbound old.machine.tables.places found)
-    × (new ≡ record old { open_peers = peers_after old.machine.tables.places found old.open_peers })))
+    × (new
+    ≡ record old { open_peers = peers_after old.machine.tables.places found old.open_peers })))
 
 -- the address manager after the pick of a collision by a word
 abbrev pub after_clash : Machine → ℕ → Machine
@@ -63,15 +66,18 @@ after_clash m word = record m { tables = (clash_pick m.tables word).state }
 abbrev pub FeelerStep : OpenerState → ℕ → ℕ → Answer → OpenerState → Type 0
 FeelerStep old seed word answer new =
     (found : Outcome)
-    × HasOutcome (try_by (after_clash old.machine word) old.open_peers (ToTest (clash_pick old.machine.tables word).answer) seed) found
-    × (answer ≡ answer_to_feeler found) × (new ≡ record old { machine = after_clash old.machine word })
+    × HasOutcome (try_by (after_clash old.machine word) old.open_peers
+    (ToTest (clash_pick old.machine.tables word).answer) seed) found
+    × (answer ≡ answer_to_feeler found)
+    × (new ≡ record old { machine = after_clash old.machine word })
 
 -- what a request is answered, and the state after it
 abbrev pub RequestStep : OpenerState → Request → Answer → OpenerState → Type 0
 RequestStep old (request.Outbound seed) answer new = OutboundStep old seed answer new
 RequestStep old (request.Feeler seed word) answer new = FeelerStep old seed word answer new
 RequestStep old (request.Close peer) answer new =
-    (answer ≡ Closed (is_open peer old.open_peers)) × (new ≡ record old { open_peers = without_peer peer old.open_peers })
+    (answer ≡ Closed (is_open peer old.open_peers))
+    × (new ≡ record old { open_peers = without_peer peer old.open_peers })
 RequestStep old (request.Machine command) answer new =
-    (reply : Reply) × (machine : Machine) × manager.Step old.machine command reply machine × (answer ≡ Told reply)
-    × (new ≡ record old { machine = machine })
+    (reply : Reply) × (machine : Machine) × manager.Step old.machine command reply machine
+    × (answer ≡ Told reply) × (new ≡ record old { machine = machine })

@@ -11,7 +11,8 @@ abbrev pub tries_text : ℕ → List ℕ
 tries_text tries = codes " tries " ++ decimal tries ++ codes "\n"
 
 abbrev pub opened_text : Peer → List ℕ → ℕ → List ℕ
-opened_text peer group tries = codes "outbound " ++ peer_text peer ++ codes " group " ++ encode_lower group ++ tries_text tries
+opened_text peer group tries =
+    codes "outbound " ++ peer_text peer ++ codes " group " ++ encode_lower group ++ tries_text tries
 
 abbrev pub tested_text : Peer → ℕ → List ℕ
 tested_text peer tries = codes "feeler " ++ peer_text peer ++ tries_text tries

@@ -53,7 +53,8 @@ pick_by m (ToTest occupant) seed i = pick_of_feeler m occupant seed i
 
 -- whether the peer is taken in try i
 abbrev pub verdict_by : Aim → Places → List Outbound → Peer → ℕ → ℕ → ℕ → Verdict
-verdict_by ToKeep places open_peers peer last_try now i = judge open_peers (group places peer.addr) last_try now i
+verdict_by ToKeep places open_peers peer last_try now i =
+    judge open_peers (group places peer.addr) last_try now i
 verdict_by (ToTest occupant) places open_peers peer last_try now i = judge_feeler last_try now i
 
 abbrev pub try_of_verdict : Verdict → Peer → Try
@@ -70,7 +71,9 @@ try_of_pick verdict_on picked.Exhausted = Next
 -- what try i comes to
 abbrev pub try_by : Machine → List Outbound → Aim → ℕ → ℕ → Try
 try_by m open_peers goal seed i =
-    try_of_pick (λ peer last_try. verdict_by goal m.tables.places open_peers peer last_try m.clock i) (pick_by m goal seed i)
+    try_of_pick
+    (λ peer last_try. verdict_by goal m.tables.places open_peers peer last_try m.clock i)
+    (pick_by m goal seed i)
 
 -- the tries before this one do not decide
 abbrev pub NoneBefore : (ℕ → Try) → ℕ → Type 0

@@ -33,7 +33,8 @@ pub(crate) fn carry_out<H: BuildHasher, L: Ledger>(
     requires done { CanBeDone request.now }
     requires room { manager.old.tables.next_number < 2 ^ 62 }
     ensures step { OnOk result ((answer : Answer)
-        × RequestStep (state manager.old opener.old) request.now answer (state manager.new opener.new)
+        × RequestStep (state manager.old opener.old) request.now
+        answer (state manager.new opener.new)
         × (out.new.items ≡ out.old.items ++ answer_text answer)) }
     ensures err { OnErr result
         (Leaves (state manager.old opener.old) request.now (state manager.new opener.new)) }

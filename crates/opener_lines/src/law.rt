@@ -18,7 +18,8 @@ use crate::TRY_WORDS;
 /// for at most one thing or has at most one fault, and never both.
 pub fn opener_lines_have_one_meaning()
     ensures request { (line : List ℕ) (a b : Request) → LineAsks line a → LineAsks line b → a ≡ b }
-    ensures fault { (line : List ℕ) (f g : LineFault) → HasRequestFault line f → HasRequestFault line g → f ≡ g }
+    ensures fault { (line : List ℕ) (f g : LineFault) → HasRequestFault line f →
+        HasRequestFault line g → f ≡ g }
     ensures right { (line : List ℕ) (a : Request) (f : LineFault) → LineAsks line a →
         ¬ HasRequestFault line f }
     ensures passed { (line : List ℕ) (a : Request) → IsPassedOver line → ¬ LineAsks line a }
@@ -33,8 +34,8 @@ pub fn groups_stay_apart()
 /// A peer that is taken was picked by a try from 1 to 100, and by the 31st or a later one if it was
 /// tried less than ten minutes before.
 pub fn tries_are_fair()
-    ensures { (old new : OpenerState) (asked : Request) (answer : Answer) → RequestStep old asked answer new →
-        IsFair old asked answer }
+    ensures { (old new : OpenerState) (asked : Request) (answer : Answer) →
+        RequestStep old asked answer new → IsFair old asked answer }
 {}
 
 /// Tries have exactly one outcome.

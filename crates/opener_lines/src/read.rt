@@ -47,7 +47,8 @@ pub fn read_request(alloc: Global, line: &[u8]) -> Result<Option<Request>, LineF
     ensures found { IfOk result (λ read. IfSome read (λ asked. LineAsks line.now asked)) }
     ensures only { (asked : Request) → LineAsks line.now asked →
         (result ≡ Ok (Some asked)) ⊎ (result ≡ Err LineFault.Memory) }
-    ensures fault { (f : LineFault) → result ≡ Err f → f ≢ LineFault.Memory → HasRequestFault line.now f }
+    ensures fault { (f : LineFault) → result ≡ Err f → f ≢ LineFault.Memory →
+        HasRequestFault line.now f }
     ensures only_fault { (f : LineFault) → HasRequestFault line.now f →
         (result ≡ Err f) ⊎ (result ≡ Err LineFault.Memory) }
 {

@@ -11,7 +11,7 @@ use Rattle.table_machine.specs.State.{State, new_rec_at, tried_rec_at}
 use Rattle.picture_text.specs.Picture.{in_new, in_tried}
 use Rattle.picture_laws.specs.Slots.{all_marks, listed_groups}
 
--- the place of a group among others, counted on from n, and 7 if it is not there
+-- the position of a group among others, counted on from n, and 7 if it is not there
 abbrev pub group_mark : ℕ → List ℕ → List (List ℕ) → ℕ
 group_mark n g [] = 7
 group_mark n g (h ∷ hs) = if bytes_eq g h then n else group_mark (n + 1) g hs

@@ -4,16 +4,17 @@ use Rattle.std.specs.List.{flat_map}
 use Rattle.picture_text.specs.Elements.{label}
 use Rattle.picture_text.specs.Markup.{element, single}
 
--- the picture's element: an SVG of its own (SVG 2), which a reader of the page is told as one image
+-- the picture's element: an SVG of its own (SVG 2), which a screen reader announces as one image
 abbrev pub svg_attributes : List (List ℕ × List ℕ)
 svg_attributes =
     (codes "xmlns", codes "http://www.w3.org/2000/svg") ∷ (codes "viewBox", codes "0 0 1080 712")
     ∷ (codes "role", codes "img") ∷ []
 
 unfoldable pub opening_text : List ℕ
-opening_text = codes "<svg xmlns=\"http://www.w3.org/2000/svg\" viewBox=\"0 0 1080 712\" role=\"img\">\n"
+opening_text =
+    codes "<svg xmlns=\"http://www.w3.org/2000/svg\" viewBox=\"0 0 1080 712\" role=\"img\">\n"
 
--- what is said of it to who cannot see it, and shown below its title
+-- the description of the picture: for readers who cannot see it, and below its title
 abbrev pub meaning : List ℕ
 meaning =
     codes "A square is a bucket, and a dot in it is an occupied slot."
@@ -26,7 +27,9 @@ styles =
 
 -- the ground of a free tile: eight dots of nine
 abbrev pub tile : List ℕ
-tile = single (codes "path") ((codes "fill", codes "#eceff2") ∷ (codes "d", codes "M0 0h8v8h-8z") ∷ []) []
+tile =
+    single (codes "path")
+    ((codes "fill", codes "#eceff2") ∷ (codes "d", codes "M0 0h8v8h-8z") ∷ []) []
 
 abbrev pub tile_attributes : List (List ℕ × List ℕ)
 tile_attributes =
@@ -40,7 +43,9 @@ head_text =
     ++ (element (codes "desc") [] meaning (codes "\n")
     ++ (element (codes "style") [] styles (codes "\n")
     ++ (element (codes "pattern") tile_attributes tile (codes "\n")
-    ++ single (codes "rect") ((codes "width", codes "1080") ∷ (codes "height", codes "712") ∷ (codes "fill", codes "#fff") ∷ []) (codes "\n"))))
+    ++ single (codes "rect")
+    ((codes "width", codes "1080") ∷ (codes "height", codes "712")
+    ∷ (codes "fill", codes "#fff") ∷ []) (codes "\n"))))
 
 pub record Label : Type 0 where
   pub x : List ℕ
@@ -74,9 +79,12 @@ labels =
     ∷ at (codes "896") (codes "444") (codes "n k") (codes "slots")
     ∷ at (codes "970") (codes "444") (codes "n k") (codes "tried")
     ∷ at (codes "1056") (codes "444") (codes "n k") (codes "new buckets")
-    ∷ at (codes "694") (codes "664") (codes "k") (codes "Peers announced by one group get 64 of the 1024 new")
-    ∷ at (codes "694") (codes "680") (codes "k") (codes "buckets. A peer that other groups announced too may be")
-    ∷ at (codes "694") (codes "696") (codes "k") (codes "in theirs, and keeps the colour of its first source.")
+    ∷ at (codes "694") (codes "664") (codes "k")
+    (codes "Peers announced by one group get 64 of the 1024 new")
+    ∷ at (codes "694") (codes "680") (codes "k")
+    (codes "buckets. A peer that other groups announced too may be")
+    ∷ at (codes "694") (codes "696") (codes "k")
+    (codes "in theirs, and keeps the colour of its first source.")
     ∷ []
 
 unfoldable pub labels_text : List ℕ

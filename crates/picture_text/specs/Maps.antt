@@ -16,15 +16,20 @@ path_element marks side name index =
 -- a path for each name, from the mark 1 on
 unfoldable pub paths_text : List ℕ → ℕ → List (List ℕ) → List ℕ
 paths_text marks side names =
-    flat_map (λ index. path_element marks side (name_at names index) index) (range_with_len 0 (length names))
+    flat_map (λ index. path_element marks side (name_at names index) index)
+    (range_with_len 0 (length names))
 
 -- where the map is, in twice the size of its dots
 unfoldable pub map_opening : ℕ → List ℕ
-map_opening x = codes "<g transform=\"translate(" ++ (decimal x ++ codes " 98) scale(2)\" shape-rendering=\"crispEdges\">\n")
+map_opening x =
+    codes "<g transform=\"translate("
+    ++ (decimal x ++ codes " 98) scale(2)\" shape-rendering=\"crispEdges\">\n")
 
 -- the ground of all tiles
 unfoldable pub ground_text : ℕ → List ℕ
-ground_text size = codes "<rect width=\"" ++ (decimal size ++ (codes "\" height=\"" ++ (decimal size ++ codes "\" fill=\"url(#free)\"/>\n")))
+ground_text size =
+    codes "<rect width=\"" ++ (decimal size
+    ++ (codes "\" height=\"" ++ (decimal size ++ codes "\" fill=\"url(#free)\"/>\n")))
 
 -- the map of a table, `side` tiles wide
 unfoldable pub map_text : ℕ → ℕ → List ℕ → List (List ℕ) → List ℕ

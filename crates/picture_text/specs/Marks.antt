@@ -1,7 +1,7 @@
 -- The mark of a slot: which colour its dot has.
 use Rattle.std.specs.Prelude.{ℕ, ◌+◌, ◌==◌, List, [], ◌∷◌, map, if◌then◌else◌}
 
--- the place of a key in the list, counted on from n, and 7 if it is not there
+-- the position of a key in the list, counted on from n, and 7 if it is not there
 abbrev pub place_in : ℕ → ℕ → List ℕ → ℕ
 place_in n key [] = 7
 place_in n key (l ∷ ls) = if l == key then n else place_in (n + 1) key ls

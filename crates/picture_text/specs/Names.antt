@@ -14,7 +14,8 @@ use Rattle.placing.specs.Places.{Places, asn}
 -- it
 abbrev pub prefix_text : List ℕ → ℕ → ℕ → List ℕ
 prefix_text bytes size length =
-    ipv6_text (to_be_bytes w128 (from_be_bytes w128 bytes / size * size)) ++ (codes "/" ++ decimal length)
+    ipv6_text (to_be_bytes w128 (from_be_bytes w128 bytes / size * size))
+    ++ (codes "/" ++ decimal length)
 
 -- a digit in base 32 (RFC 4648, in lower case)
 abbrev pub letter : ℕ → ℕ
@@ -25,10 +26,14 @@ abbrev pub letters_text : ℕ → List ℕ
 letters_text byte = letter (byte / 16 * 2) ∷ (codes " or " ++ (letter (byte / 16 * 2 + 1) ∷ []))
 
 abbrev pub ipv4_name : List ℕ → List ℕ
-ipv4_name bytes = decimal (slice_index bytes 0) ++ (codes "." ++ (decimal (slice_index bytes 1) ++ codes ".0.0/16"))
+ipv4_name bytes =
+    decimal (slice_index bytes 0)
+    ++ (codes "." ++ (decimal (slice_index bytes 1) ++ codes ".0.0/16"))
 
 abbrev pub ipv6_name : Address → List ℕ
-ipv6_name a = if in_range he_net a.bytes then prefix_text a.bytes (2 ^ 92) 36 else prefix_text a.bytes (2 ^ 96) 32
+ipv6_name a =
+    if in_range he_net a.bytes then prefix_text a.bytes (2 ^ 92) 36
+    else prefix_text a.bytes (2 ^ 96) 32
 
 -- the name of the group by the class of the address
 abbrev pub name_by : Net → Address → List ℕ

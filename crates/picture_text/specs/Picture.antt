@@ -44,16 +44,20 @@ top_of index = 456 + 22 * index
 unfoldable pub group_row : List ℕ → List ℕ → List (List ℕ) → ℕ → List ℕ
 group_row keys listed names index =
     row_text (top_of index) (colour index) (name_at names index)
-    (occurrences keys (slice_index listed index)) (occurrences (in_tried keys) (slice_index listed index))
-    ++ count_text 1056 (top_of index + 10) (occurrences (bucket_keys keys) (slice_index listed index))
+    (occurrences keys (slice_index listed index))
+    (occurrences (in_tried keys) (slice_index listed index))
+    ++ count_text 1056 (top_of index + 10)
+    (occurrences (bucket_keys keys) (slice_index listed index))
 
 unfoldable pub group_rows : List ℕ → List ℕ → List (List ℕ) → List ℕ
-group_rows keys listed names = flat_map (group_row keys listed names) (range_with_len 0 (length listed))
+group_rows keys listed names =
+    flat_map (group_row keys listed names) (range_with_len 0 (length listed))
 
 -- that of all other groups
 unfoldable pub others_text : List ℕ → ℕ → List ℕ
 others_text marks others =
-    row_text (top_of 6) (colour 6) (others_name others) (occurrences marks 7) (occurrences (in_tried marks) 7)
+    row_text (top_of 6) (colour 6) (others_name others)
+    (occurrences marks 7) (occurrences (in_tried marks) 7)
 
 -- the same, if there are some
 abbrev pub others_row : List ℕ → ℕ → List ℕ
@@ -61,11 +65,14 @@ others_row marks others = if others == 0 then [] else others_text marks others
 
 -- that of the free slots
 unfoldable pub free_row : List ℕ → ℕ → List ℕ
-free_row keys index = row_text (top_of index) ground (codes "free") (occurrences keys 0) (occurrences (in_tried keys) 0)
+free_row keys index =
+    row_text (top_of index) ground (codes "free")
+    (occurrences keys 0) (occurrences (in_tried keys) 0)
 
 -- both maps
 unfoldable pub maps_text : List ℕ → List (List ℕ) → List ℕ
-maps_text marks names = map_text 56 32 (in_new marks) names ++ map_text 694 16 (in_tried marks) names
+maps_text marks names =
+    map_text 56 32 (in_new marks) names ++ map_text 694 16 (in_tried marks) names
 
 -- the list
 unfoldable pub rows_text : List ℕ → List ℕ → List ℕ → List (List ℕ) → ℕ → List ℕ
@@ -91,4 +98,5 @@ body_text keys listed names others =
 unfoldable pub picture_text : List ℕ → List (List ℕ) → List ℕ
 picture_text keys names =
     opening_text ++ (head_text ++ (labels_text
-    ++ (body_text keys (listed_keys keys) (names_of (others_of keys) names) (others_of keys) ++ codes "</svg>\n")))
+    ++ (body_text keys (listed_keys keys) (names_of (others_of keys) names) (others_of keys)
+    ++ codes "</svg>\n")))

@@ -15,10 +15,10 @@ pub(crate) fn head_text() -> &'static [u8]
     ensures { result.now ≡ head_text }
 {
     b"<title>The tables of peers.dat</title>\n\
-        <desc>A square is a bucket, and a dot in it is an occupied slot. Its colour is the group of \
-        the source that first announced the peer.</desc>\n\
-        <style>text{font:13px sans-serif;fill:#1b1f24}.h{font-size:20px}.b{font-weight:bold}.k{font-s\
-        ize:12px;fill:#57606a}.n{text-anchor:end}</style>\n\
+        <desc>A square is a bucket, and a dot in it is an occupied slot. Its colour is the group \
+        of the source that first announced the peer.</desc>\n\
+        <style>text{font:13px sans-serif;fill:#1b1f24}.h{font-size:20px}.b{font-weight:bold}\
+        .k{font-size:12px;fill:#57606a}.n{text-anchor:end}</style>\n\
         <pattern id=\"free\" width=\"9\" height=\"9\" patternUnits=\"userSpaceOnUse\"><path \
         fill=\"#eceff2\" d=\"M0 0h8v8h-8z\"/></pattern>\n\
         <rect width=\"1080\" height=\"712\" fill=\"#fff\"/>\n"

@@ -5,8 +5,8 @@ ghost use Rattle.picture_text.specs.Marks.{mark_of, marks_of, place_in};
 use crate::Memory;
 use std::alloc::Global;
 
-/// Returns the marks of the slots with these keys: 0 is a free slot, 1 to 6 the group at this place
-/// in the list, counted from 1, and 7 any other group.
+/// Returns the marks of the slots with these keys: 0 is a free slot, 1 to 6 the group at this
+/// position in the list, counted from 1, and 7 any other group.
 #[tactic(auto, unfolding(crate::specs::Marks::marks_of))]
 pub(crate) fn marks_of(alloc: Global, listed: &[u128], keys: &[u128]) -> Result<Vec<u8>, Memory>
     requires { length listed.now ≤ 6 }
@@ -28,7 +28,7 @@ fn mark_of(listed: &[u128], key: u128) -> u8
     if key == 0 { 0 } else { place_in(listed, key) }
 }
 
-/// Returns the place of a key in the list, counted from 1, and 7 if it is not there.
+/// Returns the position of a key in the list, counted from 1, and 7 if it is not there.
 fn place_in(listed: &[u128], key: u128) -> u8
     requires { length listed.now ≤ 6 }
     ensures { result ≡ place_in 1 key listed.now }

@@ -52,7 +52,8 @@ fn put_by_class(addr: &NetAddr, class: Net, out: &mut Vec<u8>) -> Result<(), Mem
 /// Appends the prefix of the IPv4 address that the address is or carries.
 fn put_linked(addr: &NetAddr, out: &mut Vec<u8>) -> Result<(), Memory>
     requires { net_class addr.now ≡ Ipv4 }
-    ensures { OnOk result (out.new.items ≡ out.old.items ++ ipv4_name (unwrap_or (linked_ipv4 addr.now) [])) }
+    ensures { OnOk result (out.new.items
+        ≡ out.old.items ++ ipv4_name (unwrap_or (linked_ipv4 addr.now) [])) }
 {
     if let Some(ipv4) = addr.linked_bytes() {
         let [first, second, _, _] = ipv4;

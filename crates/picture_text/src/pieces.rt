@@ -78,7 +78,8 @@ pub(crate) fn put_row(
     out: &mut Vec<u8>,
 ) -> Result<(), Memory>
     requires { y < 2 ^ 16 }
-    ensures { OnOk result (out.new.items ≡ out.old.items ++ row_text y fill.now name.now slots tried) }
+    ensures { OnOk result (out.new.items
+        ≡ out.old.items ++ row_text y fill.now name.now slots tried) }
 {
     put_swatch(y, fill, out)?;
     put_name(y + 10, name, out)?;

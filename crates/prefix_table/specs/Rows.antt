@@ -18,7 +18,7 @@ row_covers row address = first_bits row.len address == first_bits row.len row.bi
 unfoldable pub path : Row → List Bool
 path row = digits row.len (first_bits row.len row.bits)
 
--- at most 128 bits, none set after the prefix, and an AS number that an asmap can spell
+-- at most 128 bits, none set after the prefix, and an AS number that an asmap can encode
 pub record IsRow (row : Row) : Type 0 where
   pub len : row.len ≤ 128
   pub bits : row.bits < 2 ^ 128

@@ -69,7 +69,7 @@ fn read_address(text: &[u8]) -> Option<(Family, u128)>
     Some((Family::Ipv6, parse_ipv6(text)?))
 }
 
-/// Returns whether the length fits the family and an asmap can spell the AS number.
+/// Returns whether the length fits the family and an asmap can encode the AS number.
 fn is_in_range(entry: &Entry) -> bool
     ensures { IsTrue result ↔ IsInRange entry.now }
 {

@@ -11,7 +11,7 @@ use crate::rows::{plain_rows, read_rows};
 use crate::{Table, TableFault};
 use std::alloc::{AllocError, Global};
 
-/// The most bytes of the text of a table. This limit is our own.
+/// The maximum number of bytes of the text of a table. This limit is our own.
 pub const MAX_TEXT: usize = 134_217_728;
 
 /// Reads the text of a table. Its rows may be in any order, among empty lines and comments. The

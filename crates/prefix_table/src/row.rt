@@ -1,8 +1,8 @@
-/// The largest AS number that an asmap can spell (`ASN_BIT_SIZES` in util/asmap.cpp of Bitcoin
+/// The largest AS number that an asmap can encode (`ASN_BIT_SIZES` in util/asmap.cpp of Bitcoin
 /// Core).
 pub const MAX_ASN: u32 = 33_521_664;
 
-/// The most rows of a table. This limit is our own.
+/// The maximum number of rows of a table. This limit is our own.
 pub const MAX_ROWS: usize = 2_000_000;
 
 /// The addresses that begin with a prefix belong to an AS. An IPv4 prefix is one of mapped

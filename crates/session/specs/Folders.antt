@@ -35,7 +35,8 @@ published file job other = None
 abbrev pub MayPublish : SessionState → List ℕ → Option (List ℕ) → Type 0
 MayPublish old line None = ⊤
 MayPublish old line (Some file) =
-    (asked : Command) × SpellsCommand line asked × (published (file_now old) old.job asked ≡ Some file)
+    (asked : Command) × SpellsCommand line asked
+    × (published (file_now old) old.job asked ≡ Some file)
 
 -- there is such a file, and a crash leaves it
 abbrev pub LeavesFile : Option (List ℕ) → Option (List ℕ) → Type 0
@@ -72,14 +73,15 @@ abbrev pub IsEventLine : SessionState → List ℕ → Type 0
 IsEventLine old line = (asked : Command) × SpellsCommand line asked × IsEvent old.job asked
 
 -- the file that a line may put in the place of peers.dat, by its step
-abbrev pub published_in : (old : SessionState) (line text : List ℕ) (new : SessionState) (ended : Option Ended) → LineStep old line text new ended → Option (List ℕ)
+abbrev pub published_in : (old : SessionState) (line text : List ℕ) (new : SessionState)
+    (ended : Option Ended) → LineStep old line text new ended → Option (List ℕ)
 published_in old line text new ended (inl passed) = None
 published_in old line text new ended (inr step) = published (file_now old) old.job step.0
 
 -- A line was carried out, with this reply: what it did to the session, why a save ended in it, and
 -- what a crash could leave at each moment since.
-pub record Turn (old : SessionState) (line text : List ℕ) (new : SessionState) (before after : Option Past)
-    (faults_before faults_after : ℕ) : Type 0 where
+pub record Turn (old : SessionState) (line text : List ℕ) (new : SessionState)
+    (before after : Option Past) (faults_before faults_after : ℕ) : Type 0 where
   pub ended : Option Ended
   pub step : LineStep old line text new ended
   pub has : HasEnded ended after faults_before faults_after

@@ -29,7 +29,8 @@ onto (Some one) ended = one ∷ ended
 -- a line, and the save that ended in it, if one did
 abbrev pub HistoryStep : History → List ℕ → List ℕ → History → Type 0
 HistoryStep old line text new =
-    (ended : Option Ended) × LineStep old.now line text new.now ended × (new.ended ≡ onto ended old.ended)
+    (ended : Option Ended) × LineStep old.now line text new.now ended
+    × (new.ended ≡ onto ended old.ended)
 
 -- how many saves failed
 abbrev pub failed : List Ended → ℕ
@@ -58,7 +59,8 @@ OrOpen job found more = LeavesFile (option_map whole job) found ⊎ more
 -- what a crash may leave at peers.dat now, after a run that began at the disk `start`
 abbrev pub AtExit : History → Disk → Disk → Type 0
 AtExit run start disk =
-    (found : Option (List ℕ)) → MayHave (under disk Peers) found → OrOpen run.now.job found (IsLast start run.ended found)
+    (found : Option (List ℕ)) → MayHave (under disk Peers) found →
+    OrOpen run.now.job found (IsLast start run.ended found)
 
 -- What a crash could leave at any moment since the start: at peers.dat the file of a save of this
 -- run or what it could leave at the start, and at each other name but peers.tmp nothing more.

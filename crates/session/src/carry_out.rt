@@ -35,7 +35,8 @@ fn apply<L: Ledger, H: BuildHasher>(
     requires percent { HasPercent command.now }
     requires room { manager.old.tables.next_number < 2 ^ 62 }
     ensures step { IfOk result (λ answer. (chain : chains.Chain) (job : Option Job) →
-        CommandStep (state chain manager.old job) command.now answer (state chain manager.new job) None) }
+        CommandStep (state chain manager.old job) command.now
+        answer (state chain manager.new job) None) }
     ensures numbers { manager.new.tables.next_number ≤ manager.old.tables.next_number + 1000 }
     ensures err { OnErr result (LeavesPart manager.old command.now manager.new) }
     ensures no_file { (file : List ℕ) (job : Option Job) → published file job command.now ≡ None }
@@ -57,7 +58,8 @@ pub(crate) fn carry_out<F: Folder, H: BuildHasher>(
     requires room { manager.old.tables.next_number < 2 ^ 62 }
     requires is_open { IsOpen job.old (F.past folder.old) }
     ensures step { IfOk result (λ answer.
-        Carried (state chain manager.old job.old) command.now answer (state chain manager.new job.new)
+        Carried (state chain manager.old job.old) command.now
+        answer (state chain manager.new job.new)
         (F.past folder.new) (F.faults folder.old) (F.faults folder.new)) }
     ensures any_moment { Always (F.past folder.old) (F.past folder.new)
         (AtMost (published (file_of chain manager.old.tables) job.old command.now)) }

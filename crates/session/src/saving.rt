@@ -25,7 +25,8 @@ pub(crate) fn save<F: Folder, H: BuildHasher>(
     job: &Option<SaveJob>,
 ) -> Result<Reply, Memory>
     requires is_open { IsOpen job.now (F.past folder.old) }
-    ensures effect { IfOk result (λ answer. Effect (file_of chain manager.now.tables) job.now Command.Save answer job.now
+    ensures effect { IfOk result (λ answer.
+        Effect (file_of chain manager.now.tables) job.now Command.Save answer job.now
         (F.past folder.old) (F.past folder.new) (F.faults folder.old) (F.faults folder.new)) }
     ensures err { OnErr result (folder.new ≡ folder.old) }
     ensures still { ¬ IsEvent job.now Command.Save → folder.new ≡ folder.old }
@@ -47,7 +48,8 @@ pub(crate) fn begin<F: Folder, H: BuildHasher>(
     job: &mut Option<SaveJob>,
 ) -> Result<Reply, Memory>
     requires is_open { IsOpen job.old (F.past folder.old) }
-    ensures effect { IfOk result (λ answer. Effect (file_of chain manager.now.tables) job.old Command.SaveBegin answer job.new
+    ensures effect { IfOk result (λ answer.
+        Effect (file_of chain manager.now.tables) job.old Command.SaveBegin answer job.new
         (F.past folder.old) (F.past folder.new) (F.faults folder.old) (F.faults folder.new)) }
     ensures err { OnErr result ((folder.new ≡ folder.old) × (job.new ≡ job.old)) }
     ensures still { ¬ IsEvent job.old Command.SaveBegin → folder.new ≡ folder.old }

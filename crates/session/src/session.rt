@@ -85,7 +85,8 @@ impl<'a, H: BuildHasher> Session<'a, H> {
             (F.past folder.new) (F.faults folder.old) (F.faults folder.new))
             ⊎ (LeavesPart self.old line.now self.new × (folder.new ≡ folder.old)) }
         ensures list { OnErr result (out.new.items ≡ out.old.items) }
-        ensures numbers { self.new.machine.tables.next_number ≤ self.old.machine.tables.next_number + 1000 }
+        ensures numbers { self.new.machine.tables.next_number
+            ≤ self.old.machine.tables.next_number + 1000 }
         ensures never_falls { F.faults folder.old ≤ F.faults folder.new }
     {
         match read_line(alloc, line) {

@@ -1,11 +1,11 @@
 -- Keccak-f[1600] and SHA3-256 (FIPS 202) on messages of at most 135 bytes, which have one block. A
--- state is a list of 25 lanes, the lane of x and y at the place x + 5 y; a lane is a number below
+-- state is a list of 25 lanes, the lane of x and y at the index x + 5 y; a lane is a number below
 -- 2 ^ 64, whose bit z has the weight 2 ^ z (3.1.2). Section numbers are the standard's.
 use Rattle.std.specs.Prelude.{ℕ, zero, suc, ◌==◌, ◌+◌, ◌*◌, ◌/◌, ◌%◌, List, [], ◌∷◌, ◌++◌, length, map, bit_and, bit_xor, slice_index, slice_set, if◌then◌else◌, nat_le, nat_lt}
 use Rattle.std.specs.List.{range_with_len}
 use Rattle.std.specs.Int.{w64, bit_not, rotate_left, from_le_bytes, to_le_bytes}
 
--- the rotation of each lane, by its place (3.2.2)
+-- the rotation of each lane, by its index (3.2.2)
 abbrev pub offsets : List ℕ
 offsets =
     0 ∷ 1 ∷ 62 ∷ 28 ∷ 27 ∷ 36 ∷ 44 ∷ 6 ∷ 55 ∷ 20 ∷ 3 ∷ 10 ∷ 43 ∷ 25 ∷ 39 ∷ 41 ∷ 45 ∷ 15 ∷ 21 ∷ 8
@@ -27,7 +27,7 @@ parity a x =
     bit_xor (bit_xor (bit_xor (bit_xor (slice_index a x) (slice_index a (x + 5)))
     (slice_index a (x + 10))) (slice_index a (x + 15))) (slice_index a (x + 20))
 
--- θ of the lane at a place (3.2.1, steps 2 and 3)
+-- θ of the lane at an index (3.2.1, steps 2 and 3)
 abbrev pub theta_lane : List ℕ → ℕ → ℕ
 theta_lane a i =
     bit_xor (slice_index a i)
@@ -36,18 +36,18 @@ theta_lane a i =
 unfoldable pub theta : List ℕ → List ℕ
 theta a = map (theta_lane a) (range_with_len 0 25)
 
--- where the lane that π puts at a place comes from: (x, y) from ((x + 3 y) mod 5, x) (3.2.3)
+-- where the lane that π puts at an index comes from: (x, y) from ((x + 3 y) mod 5, x) (3.2.3)
 abbrev pub origin : ℕ → ℕ
 origin i = (i % 5 + 3 * (i / 5)) % 5 + 5 * (i % 5)
 
--- π of ρ of the lane at a place (3.2.2, 3.2.3)
+-- π of ρ of the lane at an index (3.2.2, 3.2.3)
 abbrev pub moved_lane : List ℕ → ℕ → ℕ
 moved_lane a i = rotate_left w64 (slice_index a (origin i)) (slice_index offsets (origin i))
 
 unfoldable pub moved : List ℕ → List ℕ
 moved a = map (moved_lane a) (range_with_len 0 25)
 
--- χ of the lane at a place (3.2.4)
+-- χ of the lane at an index (3.2.4)
 abbrev pub chi_lane : List ℕ → ℕ → ℕ
 chi_lane a i =
     bit_xor (slice_index a i)
@@ -82,7 +82,7 @@ padded_byte m i =
 unfoldable pub padded_block : List ℕ → List ℕ
 padded_block m = map (padded_byte m) (range_with_len 0 136)
 
--- the lane at a place of a block; the capacity is zero (4, 3.1.2)
+-- the lane at an index of a block; the capacity is zero (4, 3.1.2)
 unfoldable pub block_lane : List ℕ → ℕ → ℕ
 block_lane b i = if nat_le 17 i then 0 else
     from_le_bytes w64 (slice_index b (8 * i) ∷ slice_index b (8 * i + 1) ∷ slice_index b (8 * i + 2)

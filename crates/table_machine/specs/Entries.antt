@@ -73,7 +73,7 @@ abbrev pub enter_slot : State → ℕ → Rec → Bool → ℕ → Option Rec �
 enter_slot st now r is_new bucket None = yes (give_bucket st r bucket)
 enter_slot st now r is_new bucket (Some occupant) = enter_occupied st now r is_new bucket occupant
 
--- The bucket of the record's peer and the source; is_new tells whether the record was made for this
+-- The bucket of the record's peer and the source; is_new says whether the record was made for this
 -- entry.
 abbrev pub enter_bucket : State → ℕ → Rec → Bool → Address → After Bool
 enter_bucket st now r is_new source =

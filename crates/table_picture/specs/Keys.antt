@@ -21,7 +21,8 @@ slot_key places (Some r) = group_key (group places r.source)
 
 -- of the slots of a bucket
 abbrev pub bucket_keys : State → Places → ℕ → List ℕ
-bucket_keys st places bucket = map (λ slot. slot_key places (new_rec_at st bucket slot)) (range_with_len 0 64)
+bucket_keys st places bucket =
+    map (λ slot. slot_key places (new_rec_at st bucket slot)) (range_with_len 0 64)
 
 -- of the slots of the new table, by rising bucket
 unfoldable pub new_keys : State → Places → List ℕ
@@ -29,7 +30,8 @@ new_keys st places = flat_map (bucket_keys st places) (range_with_len 0 1024)
 
 -- of the slots of a bucket
 abbrev pub tried_bucket_keys : State → Places → ℕ → List ℕ
-tried_bucket_keys st places bucket = map (λ slot. slot_key places (tried_rec_at st bucket slot)) (range_with_len 0 64)
+tried_bucket_keys st places bucket =
+    map (λ slot. slot_key places (tried_rec_at st bucket slot)) (range_with_len 0 64)
 
 -- of the slots of the tried table, by rising bucket
 unfoldable pub tried_keys : State → Places → List ℕ

@@ -26,7 +26,8 @@ key_name st places keys key = rec_name places (rec_in st (position_or_len (λ j.
 -- the picture under the key and the asmap of `places`
 unfoldable pub picture_under : State → Places → List ℕ
 picture_under st places =
-    picture_text (slot_keys st places) (map (key_name st places (slot_keys st places)) (listed_keys (slot_keys st places)))
+    picture_text (slot_keys st places)
+    (map (key_name st places (slot_keys st places)) (listed_keys (slot_keys st places)))
 
 -- the picture of a state
 abbrev pub picture_of : State → List ℕ

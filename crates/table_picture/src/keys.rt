@@ -53,7 +53,8 @@ fn put_bucket<H: BuildHasher, L: Ledger>(
     steps: &mut Steps<L>,
 ) -> Result<(), Memory>
     requires { bucket < 1024 }
-    ensures { OnOk result (out.new.items ≡ out.old.items ++ bucket_keys tables.now placer.now bucket) }
+    ensures { OnOk result (out.new.items
+        ≡ out.old.items ++ bucket_keys tables.now placer.now bucket) }
 {
     for slot in 0..64u8 {
         let key = slot_key(placer, tables.new_rec_at(bucket, slot, steps));

@@ -51,7 +51,8 @@ fn rec_in<'a, H: BuildHasher, L: Ledger>(
 
 /// Returns the name of the group of the source in a record.
 fn rec_name(alloc: Global, placer: &Placer<'_>, rec: Option<&Rec>) -> Result<Vec<u8>, Memory>
-    ensures { IfOk result (λ name. name.items ≡ rec_name placer.now (option_map (λ r. r.now) rec.entry)) }
+    ensures { IfOk result (λ name. name.items
+        ≡ rec_name placer.now (option_map (λ r. r.now) rec.entry)) }
 {
     match rec {
         Some(rec) => Ok(name_of(alloc, placer, &rec.source)?),

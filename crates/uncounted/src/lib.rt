@@ -1,7 +1,7 @@
-//! The calls of the tables for who reads no count of steps: each counts its steps on a counter of
-//! its own, so that the caller names no ledger and has no condition on it.
+//! The calls of the tables for callers that read no count of steps: each counts its steps on a
+//! counter of its own, so that the caller names no ledger and has no condition on it.
 //!
-//! Proved: each call answers and leaves what the call does that it stands for.
+//! Proved: each call returns and leaves what the call with a count of steps does.
 #![tactic(auto)]
 
 mod entries;

@@ -6,7 +6,7 @@ use crate::unread::Unread;
 use bit_code::{BitFront, Bits, Coder, MAX_ASMAP, read_number};
 use std::alloc::Global;
 
-/// Puts the spelling of a value of the coder before the bits that are there.
+/// Puts the encoding of a value of the coder before the bits that are there.
 fn put(out: &mut BitFront, coder: Coder, value: u32) -> Result<(), Unread>
     requires { HasValue coder value }
 {

@@ -6,8 +6,8 @@ use placing::Placer;
 use slot_grid::{NEW_BUCKETS, SLOTS, TRIED_BUCKETS};
 use std::alloc::Global;
 
-/// The most addresses that are tried for a bucket of the new table, and for the tried table. Some
-/// 300 and 170,000 are needed.
+/// The maximum number of addresses that are tried for a bucket of the new table, and for the tried
+/// table. Some 300 and 170,000 are needed.
 const MAX_TRIES: u32 = 1_000_000;
 
 /// Returns the peer of an IPv4 address that a record of a made file has.

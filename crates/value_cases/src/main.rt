@@ -2,7 +2,7 @@
 //! lines, replies, subnets, lists of bans, files of peers, the limit on received addresses, the
 //! tables and the order of records. Each row of the files that the arguments name is a call and its
 //! answer, and each block of rows starts from empty tables and without connections. The answers are
-//! those of an independent program where one can give them; see `tools/make_peers` for the rows of
+//! those of an independent program if one can give them; see `tools/make_peers` for the rows of
 //! files of peers, `tools/make_events` for those of the limit and `tools/fill_calls` for those of
 //! the tables.
 #![tactic(auto)]

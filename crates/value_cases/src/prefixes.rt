@@ -4,7 +4,7 @@ use crate::unread::Unread;
 use prefix_table::{MAX_TEXT, Row, Table, TableFault, put_table, read_table};
 use std::alloc::Global;
 
-/// The text of a table of prefixes so far.
+/// The text of a table of prefixes that calls add lines to.
 #[derive(Drop)]
 pub(crate) struct Prefixes {
     text: Vec<u8>,

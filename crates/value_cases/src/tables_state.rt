@@ -28,7 +28,7 @@ struct Call<'c> {
 pub(crate) struct TablesState {
     tables: Tables<'static, Hasher>,
     index: PeerIndex<Hasher>,
-    /// The bytes of a file of peers so far.
+    /// The bytes of the file of peers that calls make.
     bytes: Vec<u8>,
 }
 

@@ -60,7 +60,8 @@ next-port hash cheap",
     (
         Subject::Tables,
         "add good find record order next new-at tried-at new-mask tried-mask wanted counts \
-piece zeros made filled restore again listing saved index-add index-remove index-swap index-order index-find",
+piece zeros made filled restore again listing saved index-add index-remove index-swap \
+index-order index-find",
     ),
     (Subject::Prefixes, "prefix best printed rows table-faults"),
     (Subject::Vectors, "facts places-by"),
@@ -87,7 +88,7 @@ fn subject_of(name: &str) -> Result<Subject, Unread> {
     Err(Unread::Form)
 }
 
-/// What calls leave behind: those about the limit, about tables and about prefixes.
+/// What the calls of a block leave: those about the limit, about tables and about prefixes.
 #[derive(Drop)]
 pub(crate) struct Values {
     limits: Limits,

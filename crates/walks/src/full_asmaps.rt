@@ -6,7 +6,7 @@ use asmap_vm::{Sane, check};
 use prefix_table::{MAX_TEXT, Row, Table, TableFault, put_table, read_table};
 use std::alloc::{AllocError, Global};
 
-/// The most rows of a table.
+/// The maximum number of rows of a table.
 const MOST: u32 = 2_000_000;
 /// With this many large numbers, the code of `MOST` rows has exactly as many bits as a file may
 /// have.

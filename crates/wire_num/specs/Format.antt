@@ -1,21 +1,21 @@
--- The meaning of bytes that are read from the start, field by field: the value that they spell, or
--- their first fault.
+-- The meaning of bytes that are read from the start, field by field: the value that they encode,
+-- or their first fault.
 use Rattle.std.specs.Prelude.{◌≡◌, ◌≢◌, ℕ, zero, suc, ◌+◌, List, [], ◌∷◌, ◌++◌, Bool, true, false, ◌⊎◌}
 
--- which bytes spell a value; and which bytes begin with fields that show no fault, and then a field
+-- which bytes encode a value; and which bytes begin with fields without a fault, and then a field
 -- that shows this one
 pub record Format (F A : Type 0) : Type 1 where
   pub spells : List ℕ → A → Type 0
   pub shows : List ℕ → F → Type 0
 
--- the bytes begin with a spelling of the value, and have this rest
+-- the bytes begin with an encoding of the value, and have this rest
 pub record Begins {F A : Type 0} (p : Format F A) (bytes : List ℕ) (a : A)
     (rest : List ℕ) : Type 0 where
   pub front : List ℕ
   pub joined : bytes ≡ front ++ rest
   pub spelled : p.spells front a
 
--- one format, and after it another that may depend on its value: the spellings are joined
+-- one format, and after it another that may depend on its value: the encodings are joined
 unfoldable pub sequence : {F A B : Type 0} → Format F A → (A → Format F B) → Format F B
 sequence p q = record {
   spells = λ bytes b. (a : _) × (rest : List ℕ) × Begins p bytes a rest × (q a).spells rest b;
@@ -51,13 +51,13 @@ unfoldable pub map_fault : {E F A : Type 0} → (E → F) → Format E A → For
 map_fault name p =
     record { spells = p.spells; shows = λ bytes f. (e : _) × p.shows bytes e × (f ≡ name e) }
 
--- the first fault of bytes that are to spell one value and end there
+-- the first fault of bytes that have to encode one value and end there
 abbrev pub HasFault : {F A : Type 0} → Format F A → F → List ℕ → F → Type 0
 HasFault p trailing bytes f =
     p.shows bytes f
     ⊎ ((a : _) × (rest : List ℕ) × Begins p bytes a rest × (rest ≢ []) × (f ≡ trailing))
 
--- the bytes spell one value or have one fault, and never both
+-- the bytes encode one value or have one fault, and never both
 pub record HasOneMeaning {F A : Type 0} (p : Format F A) (trailing : F)
     (bytes : List ℕ) : Type 0 where
   pub some : ((a : A) × p.spells bytes a) ⊎ ((f : F) × HasFault p trailing bytes f)
