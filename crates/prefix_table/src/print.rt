@@ -49,7 +49,7 @@ fn put_rows(rows: &[Row], out: &mut Vec<u8>) -> Result<(), Memory>
 fn put_row(row: &Row, out: &mut Vec<u8>) -> Result<(), Memory>
     requires { IsRow row.now }
     ensures ok { OnOk result (out.new.items ≡ out.old.items ++ row_text row.now) }
-    ensures err { OnErr result (take (length out.old.items) out.new.items ≡ out.old.items) }
+    ensures err { OnErr result (out.new.items ≡ out.old.items) }
     ensures reads_back { OnOk result (IsRowAddress (entry_of row.now).family
         (address_text (entry_of row.now)) (entry_of row.now).address) }
 {
@@ -62,7 +62,7 @@ fn put_row(row: &Row, out: &mut Vec<u8>) -> Result<(), Memory>
 pub fn put_prefix(row: &Row, out: &mut Vec<u8>) -> Result<(), Memory>
     requires { row.now.bits < 2 ^ 128 }
     ensures ok { OnOk result (out.new.items ≡ out.old.items ++ prefix_text row.now) }
-    ensures err { OnErr result (take (length out.old.items) out.new.items ≡ out.old.items) }
+    ensures err { OnErr result (out.new.items ≡ out.old.items) }
     ensures reads_back { OnOk result (IsRowAddress (entry_of row.now).family
         (address_text (entry_of row.now)) (entry_of row.now).address) }
 {

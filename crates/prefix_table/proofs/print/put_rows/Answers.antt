@@ -1,7 +1,6 @@
-use Rattle.std.proofs.Common.{◌≡◌, ◌+◌, ◌<◌, ℕ, List, [], ◌∷◌, ◌++◌, length, get_or, take, Result, Ok, Err, ap, ◌∙◌, sym, arith, append_assoc, append-nil, length-append}
+use Rattle.std.proofs.Common.{◌≡◌, ◌+◌, ◌<◌, ℕ, List, [], ◌∷◌, ◌++◌, length, get_or, take, Result, Ok, Err, ap, ◌∙◌, sym, append_assoc, append-nil}
 use Rattle.std.specs.Prelude.{flat_map, OnErr}
 use Rattle.std.proofs.Math.Seq.{take-append_seam}
-use Rattle.std.proofs.lemmas.List.{take-take}
 use Rattle.std.proofs.lemmas.List.Elements.{All-more}
 use Rattle.std.proofs.lemmas.Grind.{take_at_read, flat_map-append}
 use Rattle.prefix_table.specs.Text.{IsRowAddress}
@@ -17,9 +16,8 @@ on_err (Ok x) P p = tt
 on_err (Err e) P p = p
 
 -- what was there before stays at the start
-kept : (before mid new tail : List ℕ) → mid ≡ before ++ tail → take (length mid) new ≡ mid → take (length before) new ≡ before
-kept before mid new tail e front =
-    sym (take-take (length before) (length mid) new (omega (arith, ap (λ (xs : List ℕ). length xs) e, length-append before tail))) ∙ ap (λ (xs : List ℕ). take (length before) xs) (front ∙ e) ∙ take-append_seam before tail
+kept : (before mid new tail : List ℕ) → mid ≡ before ++ tail → new ≡ mid → take (length before) new ≡ before
+kept before mid new tail e same = ap (λ (xs : List ℕ). take (length before) xs) (same ∙ e) ∙ take-append_seam before tail
 
 -- one more line
 one_more : (before : List ℕ) (rows : List Row) (i : ℕ) → i < length rows → (before ++ flat_map row_text (take i rows)) ++ row_text (get_or rows i blank) ≡ before ++ flat_map row_text (take (i + 1) rows)
