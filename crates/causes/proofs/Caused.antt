@@ -9,11 +9,11 @@ use Rattle.peer_rec.specs.Buckets.{with_bucket, without_bucket}
 use Rattle.peer_rec.specs.Rec.{buckets_of}
 use Rattle.peer_rec.specs.declared.rec.Rec.{Rec}
 use Rattle.peer_rec.specs.declared.place.Place.TheVariants.{New}
-use Rattle.table_machine.specs.State.{State, find_peer}
+use Rattle.table_machine.specs.State.{State}
 use Rattle.table_machine.specs.Entries.{add}
-use Rattle.table_machine.specs.Tried.{good, mark}
+use Rattle.table_machine.specs.Tried.{good}
 use Rattle.table_machine.proofs.Buckets.{placed, with_bucket-cases, without_bucket-cases}
-use Rattle.table_machine.proofs.EachRec.{add-each, good-each, mark-each}
+use Rattle.table_machine.proofs.EachRec.{add-each, good-each}
 use Rattle.table_machine.proofs.Lists.{Contains-cases, none_in_nil}
 
 -- each bucket of a record
@@ -43,11 +43,6 @@ module _ (C : ℕ → Peer → Address → ℕ → Type 0) where
       add-each (EachBucket C) one-less st now entry source penalty word all (λ b c. absurd (none_in_nil b c)) (λ r each. each)
       (λ yes r same each. one-more r (new_bucket st.places r.peer source) each (
       subst (λ (p : Peer). C r.number p r.source (new_bucket st.places p source)) same (cause yes r.number r.source)))
-
-  -- a mark
-  pub marked : (change : Rec → Rec) (st : State) (peer : Peer) → ((r : Rec) → EachBucket C r → EachBucket C (change r)) → EachRecord C st.records
-      → EachRecord C (mark change st (find_peer st peer)).state.records
-  marked change st peer keeps all = mark-each (EachBucket C) change st peer all (λ r c. keeps r (all r c))
 
 -- where the bucket of its own source holds of a record
 module _ (C : ℕ → Peer → Address → ℕ → Type 0) (places : Places) (own : (number : ℕ) (peer : Peer) (source : Address) → C number peer source (new_bucket places peer source)) where

@@ -1,13 +1,11 @@
 -- A record leaves tried only by `good PEER force` or `resolve`, for a record of the same slot.
-use Rattle.std.proofs.Common.{◌≡◌, ◌≢◌, ℕ, ◌+◌, ◌<◌, ◌≤◌, ◌^◌, ◌&&◌, nat_lt, Bool, true, false, List, [], ◌∷◌, Contains, Option, Some, None, refl, sym, ap, subst, ◌∙◌, inl, inr, ⊎_elim, ◌⊎◌, arith, true≢false, if◌then◌else◌}
+use Rattle.std.proofs.Common.{◌≡◌, ◌≢◌, ℕ, ◌+◌, ◌<◌, ◌≤◌, ◌^◌, nat_lt, Bool, true, false, List, [], ◌∷◌, Contains, Option, Some, None, refl, sym, ap, subst, ◌∙◌, inl, inr, ⊎_elim, ◌⊎◌, arith, true≢false, if◌then◌else◌}
 use Rattle.std.specs.Bool.{⊤}
 use Rattle.std.proofs.lemmas.Bool.{ltb-false}
 use Rattle.std.proofs.lemmas.List.Elements.{All-contains}
 use Rattle.net_addr.specs.Address.{Address}
 use Rattle.net_addr.specs.declared.entry.Entry.{Entry}
 use Rattle.net_addr.specs.declared.peer.Peer.{Peer}
-use Rattle.addr_codecs.specs.Layout.{IsAddrMessage, IsAddrv2Message, HasAddrFault, HasAddrv2Fault}
-use Rattle.addr_codecs.specs.declared.fault.MsgFault.{MsgFault}
 use Rattle.placing.specs.Places.{Places, tried_bucket, tried_slot}
 use Rattle.peer_rec.specs.Rec.{is_tried, tried_by}
 use Rattle.peer_rec.specs.declared.rec.Rec.{Rec}
@@ -16,9 +14,9 @@ use Rattle.peer_rec.specs.declared.place.Place.TheVariants.{New, Tried}
 use Rattle.log_lines.specs.declared.command.Command.{Command}
 use Rattle.log_lines.specs.declared.command.Command.TheVariants as command
 use Rattle.log_lines.specs.declared.reply.Reply.{Reply}
-use Rattle.table_machine.specs.State.{State, by_number, find_peer, tried_occupant}
+use Rattle.table_machine.specs.State.{State, by_number, tried_occupant}
 use Rattle.table_machine.specs.Sound.{IsSound}
-use Rattle.table_machine.specs.Tried.{after_success, after_try, good, mark, still_connected, with_services}
+use Rattle.table_machine.specs.Tried.{after_success, good}
 use Rattle.peer_rec.specs.declared.fate.Fate.{Fate}
 use Rattle.table_machine.specs.Clashes.{after_fate, erase_clash, fate_against, fate_by, fate_of, resolve, resolve_all}
 use Rattle.peer_rec.specs.declared.fate.Fate.TheVariants.{Erased, Kept, Moved}
@@ -32,12 +30,13 @@ use Rattle.table_machine.proofs.SoundBut.{is_at_own}
 use Rattle.table_machine.proofs.Tried.{SharesTried}
 use Rattle.table_machine.proofs.Unchanged.{good-rest}
 use Rattle.manager.specs.Machine.{Machine}
-use Rattle.manager.specs.Messages.{clamp_time, message_penalty, take_entries, take_entry}
-use Rattle.manager.specs.Step.{MessageStep, Step}
+use Rattle.manager.specs.Messages.{clamp_time, message_penalty, take_entries, take_entry, take_message}
+use Rattle.manager.specs.Step.{Step}
 use Rattle.causes.specs.Tried.{MayDisplace, StaysTried, TakesSlot}
-use Rattle.table_machine.proofs.Folds.{clash_pick-keeps, sample-keeps}
 use Rattle.causes.proofs.Displaced.{Displacing, reached-stays}
-use Rattle.causes.proofs.Stays.{Fits, IsDisplaced, Stays, added-stays, marked-stays}
+use Rattle.causes.proofs.StepKinds.{Kind, kind_of}
+use Rattle.causes.proofs.StepKinds.Kind.{Decides, Keeps, Succeeds, Takes, Takes2}
+use Rattle.causes.proofs.Stays.{Fits, IsDisplaced, Stays, added-stays}
 
 tried-place : (place : Place) → tried_by place ≡ true → place ≡ Tried
 tried-place (New buckets) is = absurd (true≢false (sym is))
@@ -181,18 +180,6 @@ module _ (n : ℕ) (peer : Peer) where
       let one = entry-still st now entry source word old s in
       entries-still (take_entry st now entry source word).state now entries source words one.0 one.1
 
-  still-mark : (change : Rec → Rec) (st : State) (p : Peer) → ((r : Rec) → ((change r).number ≡ r.number) × ((change r).peer ≡ r.peer) × ((change r).place ≡ r.place)) → Still st
-      → Still (mark change st (find_peer st p)).state
-  still-mark change st p is s =
-      marked-stays Tried refl n peer (λ t. ⊤) change st p (λ r fits. ((is r).1 ∙ fits.0, (is r).2 ∙ fits.1, tt)) (λ r. (is r).0) s
-
-  still-message : (IsMessage : List (Option Entry) → Type 0) (HasFault : MsgFault → Type 0) (old : Machine) (source : Address) (words : List ℕ) (answer : Reply) (new : Machine)
-      → n < old.tables.next_number → Still old.tables → MessageStep IsMessage HasFault old source words answer new → Still new.tables
-  still-message IsMessage HasFault old source words answer new below s =
-      ⊎_elim (λ refused. subst (λ (m : Machine). Still m.tables) (sym refused.4) s)
-      (λ taken. ⊎_elim (λ short. subst (λ (m : Machine). Still m.tables) (sym short.2) s)
-      (λ all. subst (λ (m : Machine). Still m.tables) (sym all.2) (entries-still old.tables old.clock taken.0 source words below s)) taken.2)
-
 -- what stays in the sense of the proof does in that of the promise
 stays-tried : (p : Rec) (Success : ℕ → Type 0) (st : State) → Stays Tried p.number p.peer Success st.records → StaysTried st p
 stays-tried p Success st s =
@@ -202,26 +189,6 @@ stays-tried p Success st s =
 takes-slot : (p q : Rec) (st : State) → Contains st.records q → is_tried q ≡ true → SharesTried st.places p.peer q.peer → q.number ≢ p.number → TakesSlot st p q
 takes-slot p q st has tried shared other = record { has = has; tried = tried; bucket = sym shared.0; slot = sym shared.1; other = other }
 
-try-is : (last_good now : ℕ) (count : Bool) (r : Rec) → ((after_try last_good now count r).number ≡ r.number) × ((after_try last_good now count r).peer ≡ r.peer) × ((after_try last_good now count r).place ≡ r.place)
-try-is last_good now count r = by (count && nat_lt r.last_count last_good)
-  where
-    one : Rec
-    one = after_try 1 now true (record r { last_count = 0 })
-
-    two : Rec
-    two = record r { last_try = now }
-
-    by : (b : Bool) → ((if b then one else two).number ≡ r.number) × ((if b then one else two).peer ≡ r.peer) × ((if b then one else two).place ≡ r.place)
-    by true = (refl, refl, refl)
-    by false = (refl, refl, refl)
-
-seen-is : (now : ℕ) (r : Rec) → ((still_connected now r).number ≡ r.number) × ((still_connected now r).peer ≡ r.peer) × ((still_connected now r).place ≡ r.place)
-seen-is now r = by (nat_lt (r.time + 1200) now)
-  where
-    by : (b : Bool) → ((if b then record r { time = now } else r).number ≡ r.number) × ((if b then record r { time = now } else r).peer ≡ r.peer) × ((if b then record r { time = now } else r).place ≡ r.place)
-    by true = (refl, refl, refl)
-    by false = (refl, refl, refl)
-
 -- over a command each tried record stays, or another one takes its slot
 abbrev pub KeepsOver : Machine → Command → Machine → Type 0
 KeepsOver old command new =
@@ -230,7 +197,7 @@ KeepsOver old command new =
 
 pub step-keeps_tried : (old : Machine) (command : Command) (answer : Reply) (new : Machine) → IsSound old.tables → old.clock < 2 ^ 32
     → Step old command answer new → KeepsOver old command new
-step-keeps_tried old cmd answer new sound low step p has tried = by cmd step
+step-keeps_tried old cmd answer new sound low step p has tried = by (kind_of old cmd answer new step)
   where
     s : Stays Tried p.number p.peer (λ t. ⊤) old.tables.records
     s = start (λ t. ⊤) old.tables p sound has tried tt
@@ -241,11 +208,9 @@ step-keeps_tried old cmd answer new sound low step p has tried = by cmd step
     Result : Command → State → Type 0
     Result c st = StaysTried st p ⊎ ((q : Rec) × TakesSlot st p q × MayDisplace old c p q)
 
-    still : (c : Command) → Stays Tried p.number p.peer (λ t. ⊤) new.tables.records → Result c new.tables
-    still c h = inl (stays-tried p (λ t. ⊤) new.tables h)
-
-    same : (c : Command) (st : State) → new ≡ record old { tables = st } → Stays Tried p.number p.peer (λ t. ⊤) st.records → Result c new.tables
-    same c st is h = still c (subst (λ (m : Machine). Stays Tried p.number p.peer (λ t. ⊤) m.tables.records) (sym is) h)
+    taken : (c : Command) (entries : List (Option Entry)) (source : Address) (words : List ℕ) → Result c (take_message old entries source words).state
+    taken c entries source words =
+        inl (stays-tried p (λ t. ⊤) (take_message old entries source words).state (entries-still p.number p.peer old.tables old.clock entries source words below s))
 
     forced : (peer : Peer) (testing : Bool) → Result (command.Good peer testing) (good old.tables old.clock peer testing).state
     forced peer testing =
@@ -281,22 +246,11 @@ step-keeps_tried old cmd answer new sound low step p has tried = by cmd step
           over = inl (start (λ t. (t ≡ p.last_success) ⊎ (t ≡ old.clock)) old.tables p sound has tried (inl refl));
         }
 
-    by : (c : Command) → Step old c answer new → Result c new.tables
-    by (command.Now time) h = still (command.Now time) (subst (λ (m : Machine). Stays Tried p.number p.peer (λ t. ⊤) m.tables.records) (sym h.1) s)
-    by (command.Addr source payload words) h = still (command.Addr source payload words) (still-message p.number p.peer (IsAddrMessage payload) (HasAddrFault payload) old source words answer new below s h)
-    by (command.Addr2 source payload words) h = still (command.Addr2 source payload words) (still-message p.number p.peer (IsAddrv2Message payload) (HasAddrv2Fault payload) old source words answer new below s h)
-    by (command.Good peer testing) h = subst (λ (m : Machine). Result (command.Good peer testing) m.tables) (sym h.1) (forced peer testing)
-    by (command.Attempt peer count) h = same (command.Attempt peer count) _ h.1 (still-mark p.number p.peer (after_try old.tables.last_good old.clock count) old.tables peer (try-is old.tables.last_good old.clock count) s)
-    by (command.Connected peer) h = same (command.Connected peer) _ h.1 (still-mark p.number p.peer (still_connected old.clock) old.tables peer (seen-is old.clock) s)
-    by (command.Services peer services) h = same (command.Services peer services) _ h.1 (still-mark p.number p.peer (with_services services) old.tables peer (λ r. (refl, refl, refl)) s)
-    by (command.Find peer) h = same (command.Find peer) old.tables h.1 s
-    by command.Size h = same command.Size old.tables h.1 s
-    by (command.Select new_only net words) h = same (command.Select new_only net words) old.tables h.1 s
-    by (command.Sample max pct class words) h =
-        ⊎_elim (λ short. same (command.Sample max pct class words) old.tables short.1.1 s)
-        (λ drawn. same (command.Sample max pct class words) _ drawn.1.1
-        (sample-keeps class old.clock (Still p.number p.peer) (λ st i j k. k) old.tables max pct words s)) h
-    by command.Resolve h = subst (λ (m : Machine). Result command.Resolve m.tables) (sym h.1) resolved
-    by (command.Clash word) h = same (command.Clash word) _ h.1 (clash_pick-keeps old.tables (Still p.number p.peer) s (λ number. s) word)
-    by command.Dump h = same command.Dump old.tables h.1 s
-    by other h = absurd h
+    by : {c : Command} {m : Machine} → Kind old c m → Result c m.tables
+    by (Keeps c m is keeps) =
+        let k = keeps.there sound p has in
+        inl (k.0, k.1, ap (λ (q : Rec). q.number) k.2, ap (λ (q : Rec). q.peer) k.2, ap is_tried k.2 ∙ tried)
+    by (Takes source payload words entries is enough) = taken (command.Addr source payload words) entries source words
+    by (Takes2 source payload words entries is enough) = taken (command.Addr2 source payload words) entries source words
+    by (Succeeds peer testing) = forced peer testing
+    by Decides = resolved

@@ -9,6 +9,7 @@ pub mod Restored
 pub mod Runs
 pub mod Sound
 pub mod Stays
+pub mod StepKinds
 pub mod Steps
 pub mod Examples
 pub mod Leaving

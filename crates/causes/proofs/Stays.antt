@@ -15,7 +15,7 @@ use Rattle.peer_rec.specs.declared.rec.Rec.{Rec}
 use Rattle.peer_rec.specs.declared.place.Place.TheVariants.{New, Tried}
 use Rattle.table_machine.specs.State.{State, find_peer, is_new_at, new_rec_at, tried_occupant}
 use Rattle.table_machine.specs.Entries.{add, add_by, clear_slot, delete, enter_bucket, enter_slot, give_bucket, makes_way, new_record, no, penalty_of, refresh, take_bucket, with_last, with_record, yes}
-use Rattle.table_machine.specs.Tried.{back_to_new, clear_new, displace, mark, move_to_tried}
+use Rattle.table_machine.specs.Tried.{back_to_new, clear_new, displace, move_to_tried}
 use Rattle.table_machine.proofs.Buckets.{placed}
 use Rattle.table_machine.proofs.Lists.{find-Some, none_in_nil}
 use Rattle.table_machine.proofs.Records.{changed_cases, changed_other, changed_own, new_at_parts, own_slot, peer_found, tried_at-is_tried, without_number-cases, without_number-keeps}
@@ -112,14 +112,6 @@ module _ (place : Place) (bare : buckets_by place ≡ []) (n : ℕ) (peer : Peer
       by (Some occupant) is =
           changed-stays (clear_slot st occupant bucket) (placed r (New (bucket ∷ [])))
           (cleared-stays st occupant bucket s (occupant-other st bucket slot occupant s is)) (λ same. absurd (other same))
-
-  pub marked-stays : (change : Rec → Rec) (st : State) (p : Peer) → ((r : Rec) → F r → F (change r)) → ((r : Rec) → (change r).number ≡ r.number)
-      → S st.records → S (mark change st (find_peer st p)).state.records
-  marked-stays change st p fits number s = by (find_peer st p) refl
-    where
-      by : (o : Option Rec) → find_peer st p ≡ o → S (mark change st o).state.records
-      by None missing = s
-      by (Some r) found = changed-stays st (change r) s (λ same. fits r (s.each r (peer_found st.records p r found).0 (sym (number r) ∙ same)))
 
 or_middle : (a b c : Bool) → b ≡ true → (a || b || c) ≡ true
 or_middle true b c is = refl

@@ -1,5 +1,5 @@
 -- What is there under its number is there with its peer, after each step of the tables.
-use Rattle.std.proofs.Common.{◌≡◌, ℕ, ◌<◌, Bool, Contains, Option, Some, None, refl, sym, ap, ◌∙◌, inl, inr, ⊎_elim, arith}
+use Rattle.std.proofs.Common.{◌≡◌, ℕ, ◌<◌, Bool, Contains, refl, sym, ap, ◌∙◌, inl, inr, ⊎_elim, arith}
 use Rattle.std.proofs.lemmas.List.Elements.{All-contains}
 use Rattle.net_addr.specs.Address.{Address}
 use Rattle.net_addr.specs.declared.entry.Entry.{Entry}
@@ -7,12 +7,12 @@ use Rattle.net_addr.specs.declared.peer.Peer.{Peer}
 use Rattle.peer_rec.specs.declared.rec.Rec.{Rec}
 use Rattle.table_machine.specs.Entries.{add}
 use Rattle.table_machine.specs.Sound.{IsSound}
-use Rattle.table_machine.specs.State.{State, find_peer}
-use Rattle.table_machine.specs.Tried.{good, mark}
+use Rattle.table_machine.specs.State.{State}
+use Rattle.table_machine.specs.Tried.{good}
 use Rattle.table_machine.proofs.Kept.{KeepsPeers, add-keeps_peers, good-keeps_peers}
 use Rattle.table_machine.proofs.Records.{same_record}
 use Rattle.laws.specs.Losses.{HasRecord, KeepsByEntry, KeepsBySuccess}
-use Rattle.laws.proofs.LossesOf.{K, changed-keeps, entry_keeps, success_keeps}
+use Rattle.laws.proofs.LossesOf.{K, entry_keeps, success_keeps}
 
 pub itself : (st : State) (r : Rec) → Contains st.records r → HasRecord st r
 itself st r has = (r, has, refl, refl)
@@ -37,12 +37,3 @@ pub success_there : (st : State) → IsSound st → (now : ℕ) (peer : Peer) (t
 success_there st sound now peer testing r has =
     ⊎_elim (λ k. inl (with_peer st (good st now peer testing).state sound (good-keeps_peers st now peer testing) r has k)) inr
     (success_keeps st sound now peer testing r has)
-
--- a mark
-pub marked_there : (change : Rec → Rec) (st : State) (peer : Peer) → IsSound st → KeepsPeers st (mark change st (find_peer st peer)).state
-    → (r : Rec) → Contains st.records r → HasRecord (mark change st (find_peer st peer)).state r
-marked_there change st peer sound keeps r has = with_peer st (mark change st (find_peer st peer)).state sound keeps r has (by (find_peer st peer))
-  where
-    by : (o : Option Rec) → K r.number (mark change st o).state.records
-    by None = (r, has, refl)
-    by (Some q) = changed-keeps r.number st (change q) (r, has, refl)
