@@ -289,6 +289,10 @@ none_by (a ∷ ahead) left are e = absurd (omega (arith, ap length are))
 pub none_left : (bits : List Bool) (at : ℕ) (left : List Row) → AreAhead bits at [] left → left ≡ []
 none_left bits at left h = none_by h.ahead left h.are h.rows_are
 
+-- and none comes later
+pub none_after : (bits : List Bool) (at : ℕ) (left : List Row) → AreAhead bits at [] left → AreAhead bits at [] []
+none_after bits at left h = subst (AreAhead bits at []) (none_left bits at left h) h
+
 first_none : first_at [] ≡ 0
 unfolding number_of
 first_none = refl

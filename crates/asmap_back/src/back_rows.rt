@@ -27,10 +27,11 @@ impl<'a> BackRows<'a> {
         }
     }
 
-    /// Returns the next row, or `None` after the last one.
+    /// Returns the next row, or `None` after the last one, and `None` again when asked again.
     pub fn next(&mut self) -> Option<Row>
         requires { (left : List Row) × HasLeft self.old left }
-        ensures row { (left : List Row) → HasLeft self.old left → MatchOption result (left ≡ [])
+        ensures row { (left : List Row) → HasLeft self.old left → MatchOption result
+            ((left ≡ []) × HasLeft self.new [])
             (λ row. (after : List Row) × (left ≡ row ∷ after) × HasLeft self.new after) }
         ensures further { OnSome result (bits_left self.new < bits_left self.old) }
     {

@@ -32,9 +32,9 @@ loop-count-preserved c =
 pub returns-clause-few : goal.returns-clause-few
 returns-clause-few c = λ _.
     let now = c.loop-count.invariant in
-    all_counted _ _ now.left now.all (c.in_default.ensures.row now.left now.has) now.few
+    all_counted _ _ now.left now.all (c.in_default.ensures.row now.left now.has).0 now.few
 
 pub returns-clause-best : goal.returns-clause-best
 returns-clause-best c = λ _ bits long.
     let now = c.loop-count.invariant in
-    back_best _ bits c.args.code.now.sane.sane (all_counted _ _ now.left now.all (c.in_default.ensures.row now.left now.has) now.few) long
+    back_best _ bits c.args.code.now.sane.sane (all_counted _ _ now.left now.all (c.in_default.ensures.row now.left now.has).0 now.few) long

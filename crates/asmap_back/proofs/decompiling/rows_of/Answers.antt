@@ -42,10 +42,10 @@ loop-row-preserved c =
 pub returns-clause-found : goal.returns-clause-found
 returns-clause-found c =
     let now = c.loop-row.invariant in
-    all_there _ c.loop-row.rows.items now.after now.all (c.in_default.ensures.row now.after now.has)
+    all_there _ c.loop-row.rows.items now.after now.all (c.in_default.ensures.row now.after now.has).0
 
 pub returns-clause-few : goal.returns-clause-few
 returns-clause-few c =
     let now = c.loop-row.invariant in
-    let same = all_there _ c.loop-row.rows.items now.after now.all (c.in_default.ensures.row now.after now.has) in
+    let same = all_there _ c.loop-row.rows.items now.after now.all (c.in_default.ensures.row now.after now.has).0 in
     omega (arith, now.few, ap (λ (rs : List Row). length rs) same)

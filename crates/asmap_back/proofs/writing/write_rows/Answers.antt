@@ -50,7 +50,7 @@ returns-clause-all g c =
     let mid = g.K.Sink.written c.loop-row.out in
     let new = g.K.Sink.written c.write_all.new.sink in
     on_ok_then c.write_all.result _ _
-    (λ put. waits_all (table_text (rows_back (tree_held c.args.code.now))) now.left c.loop-row.piece.items (g.K.Sink.written c.args.out.now) mid new now.waits (c.in_default.ensures.row now.left now.has) (subst (Appended mid new) c.as_slice.ensures.value put))
+    (λ put. waits_all (table_text (rows_back (tree_held c.args.code.now))) now.left c.loop-row.piece.items (g.K.Sink.written c.args.out.now) mid new now.waits (c.in_default.ensures.row now.left now.has).0 (subst (Appended mid new) c.as_slice.ensures.value put))
     c.write_all.ensures.all
 
 pub returns-clause-err : goal.returns-clause-err

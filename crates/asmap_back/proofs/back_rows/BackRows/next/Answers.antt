@@ -1,5 +1,5 @@
-use Rattle.std.proofs.Common.{refl}
-use Rattle.asmap_back.proofs.Steps.{none_left, moved, given_row}
+use Rattle.std.proofs.Common.{refl, sym}
+use Rattle.asmap_back.proofs.Steps.{none_after, none_left, moved, given_row}
 use Rattle.asmap_back.proofs.back_rows.BackRows.next.Goals as goal
 
 pub step-requires-clause-offset : goal.step-requires-clause-offset
@@ -15,4 +15,5 @@ returns-in-Some-step-clause-row c = λ left h.
 pub returns-clause-row : goal.returns-clause-row
 returns-clause-row c = λ left h.
     let now = c.loop-part.invariant.same left h in
-    none_left _ _ left (moved _ _ _ _ _ left refl c.in_default.ensures.0 now.parts)
+    let parts = moved _ _ _ _ _ left refl c.in_default.ensures.0 now.parts in
+    (none_left _ _ left parts, record { parts = moved _ _ _ _ _ _ refl (sym c.in_default.ensures.1) (none_after _ _ left parts); within = now.within })
