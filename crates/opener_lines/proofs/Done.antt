@@ -1,5 +1,5 @@
 -- What a request has done, and what it leaves.
-use Rattle.std.proofs.Common.{◌≡◌, ◌⊎◌, ℕ, ◌<◌, List, [], ◌∷◌, ◌++◌, length, Bool, true, false, not, ◌||◌, codes, cond, Option, Some, None, find, Result, Ok, Err, OnOk, OnErr, inl, inr, refl, sym, ap, subst, append-nil}
+use Rattle.std.proofs.Common.{◌≡◌, ◌⊎◌, ℕ, ◌<◌, List, [], ◌∷◌, ◌++◌, length, take, Bool, true, false, not, codes, cond, Option, Some, None, find, Result, Ok, Err, OnOk, OnErr, inl, inr, refl, sym, ap, subst, append-nil}
 use Rattle.std.specs.List.{list_all}
 use Rattle.std.specs.Prelude.{bytes_eq}
 use Rattle.std.proofs.lemmas.Bool.{and_parts}
@@ -74,20 +74,16 @@ feeler_leaves old new peers seed word is =
 
 -- ---- of a line
 
--- the word is not one that saves
+-- the word does not begin as those that save do
 keeps : List ℕ → Bool
-keeps word = not (bytes_eq word (codes "save") || bytes_eq word (codes "save-begin") || bytes_eq word (codes "save-step") || bytes_eq word (codes "save-end"))
+keeps word = not (bytes_eq (take 4 word) (codes "save"))
 
 -- a command with such a word can be carried out
 can_do : (command : Command) (texts : List (List ℕ)) → keeps (log.word_of (log.verb_of command)) ≡ true → AreFieldsOf command texts
     → manager.SavesNothing command × manager.HasPercent command
 unfolding keeps
 can_do (c.Sample max pct classes words) texts kept h = (tt, percent texts max pct classes words h)
-can_do c.Save texts kept h = absurd (cc kept)
-can_do c.SaveBegin texts kept h = absurd (cc kept)
-can_do (c.SaveStep count) texts kept h = absurd (cc kept)
-can_do c.SaveEnd texts kept h = absurd (cc kept)
-can_do other texts kept h = (tt, tt)
+can_do other texts kept h = (first_of (search, cc kept), tt)
 
 some_in : {A : Type 0} (x y : A) → Some x ≡ Some y → x ≡ y
 some_in x y e = cc e

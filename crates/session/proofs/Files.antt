@@ -1,6 +1,7 @@
 -- What a step of a session does to the files that a crash may leave.
-use Rattle.std.proofs.Common.{◌≡◌, ℕ, ◌≤◌, List, ◌++◌, take, drop, inl, inr, sym, ap, ◌∙◌, subst, append_assoc, arith}
-use Rattle.std.specs.Prelude.{Option, Some, None, IfSome, ◌⊎◌, Bool, true, false}
+use Rattle.std.proofs.Common.{◌≡◌, ℕ, ◌≤◌, List, ◌++◌, take, drop, inl, inr, sym, ap, ◌∙◌, subst, append_assoc, arith, ⊎_elim}
+use Rattle.std.specs.Prelude.{Option, Some, None, IfSome, IsSomeAnd, ◌⊎◌, Bool, true, false}
+use Rattle.std.specs.Option.{option_map}
 use Rattle.std.proofs.Math.Nat.{eq-or-lt_of_le}
 use Rattle.std.proofs.lemmas.List.{take-append-drop}
 use Rattle.host_io.specs.Disk.{Disk, MayHave}
@@ -9,15 +10,15 @@ use Rattle.host_io.specs.Past.{Past}
 use Rattle.host_io.specs.PerName.{under}
 use Rattle.host_io.specs.declared.name.Name.TheVariants.{Peers}
 use Rattle.log_lines.specs.declared.command.Command.{Command}
-use Rattle.log_lines.specs.declared.command.Command.TheVariants as command
 use Rattle.log_lines.specs.declared.reply.Reply.{Reply}
 use Rattle.save_store.specs.Job.{Job, whole}
 use Rattle.save_store.specs.Saves.{IsStored}
-use Rattle.session.specs.Events.{Ended, SaveCommand, after_step, save, save_begin, save_end, save_step}
+use Rattle.session.specs.Events.{Ended, Event, IsOfEvent, after_step, event_of, save, save_begin, save_end, save_step}
 use Rattle.session.specs.Events.Ended.{NotSaved, Saved}
-use Rattle.session.specs.Folders.{HasEnded, LeavesFile, published, published_in}
+use Rattle.session.specs.Folders.{HasEnded, LeavesFile, published, published_in, unless}
 use Rattle.session.specs.History.{IsAny, IsLast, OrOpen, failed, onto}
 use Rattle.session.specs.State.{CommandStep, LineStep, SessionState, file_now}
+use Rattle.session.proofs.Effects.{of_event, publishes_none, saves_nothing}
 
 -- what every crash leaves after a save that is acknowledged
 abbrev pub EndedAt : Option Ended → Disk → Type 0
@@ -35,196 +36,102 @@ ended_at (Some (NotSaved file)) (Some p) f g h = tt
 step_whole : (j : Job) (n : ℕ) → whole j ≡ whole (after_step j n)
 step_whole j n = ap (λ t. j.written ++ t) (sym (take-append-drop n j.left)) ∙ sym (append_assoc j.written (take n j.left) (drop n j.left))
 
-last_save : (start disk : Disk) (file : List ℕ) (job : Option Job) (done : Bool) (ended : List Ended) (found : Option (List ℕ))
-    → EndedAt (save file job done).ended disk → MayHave (under disk Peers) found
-    → OrOpen job found (IsLast start ended found) ⊎ LeavesFile (published file job command.Save) found
-    → OrOpen (save file job done).job found (IsLast start (onto (save file job done).ended ended) found)
-last_save start disk file None true ended found h may x = inr (h found may)
-last_save start disk file None false ended found h may (inl (inl o)) = absurd o
-last_save start disk file None false ended found h may (inl (inr l)) = inr (inr l)
-last_save start disk file None false ended found h may (inr is) = inr (inl is)
-last_save start disk file (Some j) done ended found h may (inl x) = x
-last_save start disk file (Some j) done ended found h may (inr y) = absurd y
+-- the file of a save that ended
+abbrev ended_file : Option Ended → Option (List ℕ)
+ended_file None = None
+ended_file (Some (Saved file)) = Some file
+ended_file (Some (NotSaved file)) = Some file
 
-last_begin : (start disk : Disk) (file : List ℕ) (job : Option Job) (done : Bool) (ended : List Ended) (found : Option (List ℕ))
-    → OrOpen job found (IsLast start ended found) ⊎ LeavesFile (published file job command.SaveBegin) found
-    → OrOpen (save_begin file job done).job found (IsLast start (onto (save_begin file job done).ended ended) found)
-last_begin start disk file None true ended found (inl (inl o)) = absurd o
-last_begin start disk file None true ended found (inl (inr l)) = inr l
-last_begin start disk file None true ended found (inr y) = absurd y
-last_begin start disk file None false ended found (inl (inl o)) = absurd o
-last_begin start disk file None false ended found (inl (inr l)) = inr (inr l)
-last_begin start disk file None false ended found (inr y) = absurd y
-last_begin start disk file (Some j) done ended found (inl x) = x
-last_begin start disk file (Some j) done ended found (inr y) = absurd y
+-- the file of the open save before an event, or the one that it publishes, is that of the open save
+-- after it, or of the save that ended in it
+abbrev Passes : Option Job → (Bool → Event) → Option (List ℕ) → Type 0
+Passes job outcome file = (done : Bool) (found : Option (List ℕ)) → OrOpen job found (LeavesFile file found)
+    → OrOpen (outcome done).job found (LeavesFile (ended_file (outcome done).ended) found)
 
-last_step : (start disk : Disk) (file : List ℕ) (n : ℕ) (job : Option Job) (done : Bool) (ended : List Ended) (found : Option (List ℕ))
-    → OrOpen job found (IsLast start ended found) ⊎ LeavesFile (published file job (command.SaveStep n)) found
-    → OrOpen (save_step n job done).job found (IsLast start (onto (save_step n job done).ended ended) found)
-last_step start disk file n None done ended found (inl x) = x
-last_step start disk file n None done ended found (inr y) = absurd y
-last_step start disk file n (Some j) true ended found (inl (inl o)) = inl (o ∙ ap Some (step_whole j n))
-last_step start disk file n (Some j) true ended found (inl (inr l)) = inr l
-last_step start disk file n (Some j) true ended found (inr y) = absurd y
-last_step start disk file n (Some j) false ended found (inl (inl o)) = inr (inl o)
-last_step start disk file n (Some j) false ended found (inl (inr l)) = inr (inr l)
-last_step start disk file n (Some j) false ended found (inr y) = absurd y
+passes_save : (file : List ℕ) (job : Option Job) → Passes job (save file job) (unless job file)
+passes_save file None true found = ⊎_elim (λ x. absurd x) inr
+passes_save file None false found = ⊎_elim (λ x. absurd x) inr
+passes_save file (Some j) done found = λ x. x
 
-last_end : (start disk : Disk) (file : List ℕ) (job : Option Job) (done : Bool) (ended : List Ended) (found : Option (List ℕ))
-    → EndedAt (save_end job done).ended disk → MayHave (under disk Peers) found
-    → OrOpen job found (IsLast start ended found) ⊎ LeavesFile (published file job command.SaveEnd) found
-    → OrOpen (save_end job done).job found (IsLast start (onto (save_end job done).ended ended) found)
-last_end start disk file None done ended found h may (inl x) = x
-last_end start disk file None done ended found h may (inr y) = absurd y
-last_end start disk file (Some j) true ended found h may x = inr (h found may)
-last_end start disk file (Some j) false ended found h may (inl (inl o)) = inr (inl o)
-last_end start disk file (Some j) false ended found h may (inl (inr l)) = inr (inr l)
-last_end start disk file (Some j) false ended found h may (inr is) = inr (inl is)
+passes_begin : (file : List ℕ) (job : Option Job) → Passes job (save_begin file job) None
+passes_begin file None done found = ⊎_elim (λ x. absurd x) (λ x. absurd x)
+passes_begin file (Some j) done found = λ x. x
 
-any_save : (start : Disk) (file : List ℕ) (job : Option Job) (done : Bool) (ended : List Ended) (found : Option (List ℕ))
-    → OrOpen job found (IsAny start ended found) ⊎ LeavesFile (published file job command.Save) found
-    → OrOpen (save file job done).job found (IsAny start (onto (save file job done).ended ended) found)
-any_save start file None true ended found (inl (inl o)) = absurd o
-any_save start file None true ended found (inl (inr l)) = inr (inr l)
-any_save start file None true ended found (inr is) = inr (inl is)
-any_save start file None false ended found (inl (inl o)) = absurd o
-any_save start file None false ended found (inl (inr l)) = inr (inr l)
-any_save start file None false ended found (inr is) = inr (inl is)
-any_save start file (Some j) done ended found (inl x) = x
-any_save start file (Some j) done ended found (inr y) = absurd y
+passes_step : (n : ℕ) (job : Option Job) → Passes job (save_step n job) None
+passes_step n None done found = λ x. x
+passes_step n (Some j) true found = ⊎_elim (λ is. inl (is ∙ ap Some (step_whole j n))) (λ x. absurd x)
+passes_step n (Some j) false found = ⊎_elim inr (λ x. absurd x)
 
-any_begin : (start : Disk) (file : List ℕ) (job : Option Job) (done : Bool) (ended : List Ended) (found : Option (List ℕ))
-    → OrOpen job found (IsAny start ended found) ⊎ LeavesFile (published file job command.SaveBegin) found
-    → OrOpen (save_begin file job done).job found (IsAny start (onto (save_begin file job done).ended ended) found)
-any_begin start file None true ended found (inl (inl o)) = absurd o
-any_begin start file None true ended found (inl (inr l)) = inr l
-any_begin start file None true ended found (inr y) = absurd y
-any_begin start file None false ended found (inl (inl o)) = absurd o
-any_begin start file None false ended found (inl (inr l)) = inr (inr l)
-any_begin start file None false ended found (inr y) = absurd y
-any_begin start file (Some j) done ended found (inl x) = x
-any_begin start file (Some j) done ended found (inr y) = absurd y
+passes_end : (job : Option Job) → Passes job (save_end job) (option_map whole job)
+passes_end None done found = λ x. x
+passes_end (Some j) true found = ⊎_elim inr inr
+passes_end (Some j) false found = ⊎_elim inr inr
 
-any_step : (start : Disk) (file : List ℕ) (n : ℕ) (job : Option Job) (done : Bool) (ended : List Ended) (found : Option (List ℕ))
-    → OrOpen job found (IsAny start ended found) ⊎ LeavesFile (published file job (command.SaveStep n)) found
-    → OrOpen (save_step n job done).job found (IsAny start (onto (save_step n job done).ended ended) found)
-any_step start file n None done ended found (inl x) = x
-any_step start file n None done ended found (inr y) = absurd y
-any_step start file n (Some j) true ended found (inl (inl o)) = inl (o ∙ ap Some (step_whole j n))
-any_step start file n (Some j) true ended found (inl (inr l)) = inr l
-any_step start file n (Some j) true ended found (inr y) = absurd y
-any_step start file n (Some j) false ended found (inl (inl o)) = inr (inl o)
-any_step start file n (Some j) false ended found (inl (inr l)) = inr (inr l)
-any_step start file n (Some j) false ended found (inr y) = absurd y
+-- so does what an event, a command or a line has done
+by_event : (job next : Option Job) (o : Option (Bool → Event)) (file : Option (List ℕ)) (answer : Reply) (e : Option Ended) (found : Option (List ℕ))
+    → IfSome o (λ outcome. Passes job outcome file) → IsSomeAnd o (λ outcome. IsOfEvent outcome answer next e)
+    → OrOpen job found (LeavesFile file found) → OrOpen next found (LeavesFile (ended_file e) found)
+by_event job next None file answer e found passes step x = absurd step
+by_event job next (Some outcome) file answer e found passes (done, said, left, ends) x =
+    subst (λ j. OrOpen j found (LeavesFile (ended_file e) found)) (sym left)
+    (subst (λ v. OrOpen (outcome done).job found (LeavesFile (ended_file v) found)) (sym ends) (passes done found x))
 
-any_end : (start : Disk) (file : List ℕ) (job : Option Job) (done : Bool) (ended : List Ended) (found : Option (List ℕ))
-    → OrOpen job found (IsAny start ended found) ⊎ LeavesFile (published file job command.SaveEnd) found
-    → OrOpen (save_end job done).job found (IsAny start (onto (save_end job done).ended ended) found)
-any_end start file None done ended found (inl x) = x
-any_end start file None done ended found (inr y) = absurd y
-any_end start file (Some j) true ended found (inl (inl o)) = inr (inl o)
-any_end start file (Some j) true ended found (inl (inr l)) = inr (inr l)
-any_end start file (Some j) true ended found (inr is) = inr (inl is)
-any_end start file (Some j) false ended found (inl (inl o)) = inr (inl o)
-any_end start file (Some j) false ended found (inl (inr l)) = inr (inr l)
-any_end start file (Some j) false ended found (inr is) = inr (inl is)
+by_command : (s t : SessionState) (asked : Command) (answer : Reply) (e : Option Ended) (found : Option (List ℕ)) → CommandStep s asked answer t e
+    → OrOpen s.job found (LeavesFile (published (file_now s) s.job asked) found) → OrOpen t.job found (LeavesFile (ended_file e) found)
+by_command s t asked answer e found (inl (job, step, is)) x =
+    let file = file_now s in
+    let passes = of_event (Passes s.job) file s.job (passes_save file s.job) (passes_begin file s.job) (λ n. passes_step n s.job) (passes_end s.job) asked in
+    subst (λ u. OrOpen u.job found (LeavesFile (ended_file e) found)) (sym is)
+    (by_event s.job job (event_of file s.job asked) (published file s.job asked) answer e found passes step x)
+by_command s t asked answer e found (inr (machine, step, is, none)) x =
+    let no_file = publishes_none (file_now s) s.job asked (saves_nothing s.machine machine asked answer step) in
+    subst (λ u. OrOpen u.job found (LeavesFile (ended_file e) found)) (sym is)
+    (⊎_elim inl (λ y. absurd (subst (λ o. LeavesFile o found) no_file y)) x)
 
--- a save command
-last_job : (start disk : Disk) (file : List ℕ) (job next : Option Job) (asked : Command) (answer : Reply) (e : Option Ended) (ended : List Ended)
-    (found : Option (List ℕ)) → SaveCommand file job asked answer next e → EndedAt e disk → MayHave (under disk Peers) found
-    → OrOpen job found (IsLast start ended found) ⊎ LeavesFile (published file job asked) found
-    → OrOpen next found (IsLast start (onto e ended) found)
-last_job start disk file job next command.Save answer e ended found step h may x =
-    subst (λ u. OrOpen u found (IsLast start (onto e ended) found)) (sym step.1.1)
-    (subst (λ v. OrOpen (save file job step.0).job found (IsLast start (onto v ended) found)) (sym step.1.2)
-    (last_save start disk file job step.0 ended found (subst (λ v. EndedAt v disk) step.1.2 h) may x))
-last_job start disk file job next command.SaveBegin answer e ended found step h may x =
-    subst (λ u. OrOpen u found (IsLast start (onto e ended) found)) (sym step.1.1)
-    (subst (λ v. OrOpen (save_begin file job step.0).job found (IsLast start (onto v ended) found)) (sym step.1.2)
-    (last_begin start disk file job step.0 ended found x))
-last_job start disk file job next (command.SaveStep n) answer e ended found step h may x =
-    subst (λ u. OrOpen u found (IsLast start (onto e ended) found)) (sym step.1.1)
-    (subst (λ v. OrOpen (save_step n job step.0).job found (IsLast start (onto v ended) found)) (sym step.1.2)
-    (last_step start disk file n job step.0 ended found x))
-last_job start disk file job next command.SaveEnd answer e ended found step h may x =
-    subst (λ u. OrOpen u found (IsLast start (onto e ended) found)) (sym step.1.1)
-    (subst (λ v. OrOpen (save_end job step.0).job found (IsLast start (onto v ended) found)) (sym step.1.2)
-    (last_end start disk file job step.0 ended found (subst (λ v. EndedAt v disk) step.1.2 h) may x))
-last_job start disk file job next other answer e ended found step h may x = absurd step
+by_line : (s t : SessionState) (line text : List ℕ) (e : Option Ended) (found : Option (List ℕ)) → (step : LineStep s line text t e)
+    → OrOpen s.job found (LeavesFile (published_in s line text t e step) found) → OrOpen t.job found (LeavesFile (ended_file e) found)
+by_line s t line text e found (inl passed) x =
+    subst (λ u. OrOpen u.job found (LeavesFile (ended_file e) found)) (sym passed.2) (⊎_elim inl (λ y. absurd y) x)
+by_line s t line text e found (inr step) x = by_command s t step.0 step.1 e found step.3 x
 
-any_job : (start : Disk) (file : List ℕ) (job next : Option Job) (asked : Command) (answer : Reply) (e : Option Ended) (ended : List Ended)
-    (found : Option (List ℕ)) → SaveCommand file job asked answer next e
-    → OrOpen job found (IsAny start ended found) ⊎ LeavesFile (published file job asked) found
-    → OrOpen next found (IsAny start (onto e ended) found)
-any_job start file job next command.Save answer e ended found step x =
-    subst (λ u. OrOpen u found (IsAny start (onto e ended) found)) (sym step.1.1)
-    (subst (λ v. OrOpen (save file job step.0).job found (IsAny start (onto v ended) found)) (sym step.1.2)
-    (any_save start file job step.0 ended found x))
-any_job start file job next command.SaveBegin answer e ended found step x =
-    subst (λ u. OrOpen u found (IsAny start (onto e ended) found)) (sym step.1.1)
-    (subst (λ v. OrOpen (save_begin file job step.0).job found (IsAny start (onto v ended) found)) (sym step.1.2)
-    (any_begin start file job step.0 ended found x))
-any_job start file job next (command.SaveStep n) answer e ended found step x =
-    subst (λ u. OrOpen u found (IsAny start (onto e ended) found)) (sym step.1.1)
-    (subst (λ v. OrOpen (save_step n job step.0).job found (IsAny start (onto v ended) found)) (sym step.1.2)
-    (any_step start file n job step.0 ended found x))
-any_job start file job next command.SaveEnd answer e ended found step x =
-    subst (λ u. OrOpen u found (IsAny start (onto e ended) found)) (sym step.1.1)
-    (subst (λ v. OrOpen (save_end job step.0).job found (IsAny start (onto v ended) found)) (sym step.1.2)
-    (any_end start file job step.0 ended found x))
-any_job start file job next other answer e ended found step x = absurd step
+-- what was found before a line, or what it brings, is found after it
+module _ {job next file brought before after : Type 0} (passes : job ⊎ file → next ⊎ brought) (onto_it : brought ⊎ before → after) where
+  one_of : next ⊎ brought → next ⊎ after
+  one_of (inl is) = inl is
+  one_of (inr is) = inr (onto_it (inl is))
 
-last_command : (start disk : Disk) (s t : SessionState) (asked : Command) (answer : Reply) (e : Option Ended) (ended : List Ended) (found : Option (List ℕ))
-    → CommandStep s asked answer t e → EndedAt e disk → MayHave (under disk Peers) found
-    → OrOpen s.job found (IsLast start ended found) ⊎ LeavesFile (published (file_now s) s.job asked) found
-    → OrOpen t.job found (IsLast start (onto e ended) found)
-last_command start disk s t command.Save answer e ended found step h may x =
-    subst (λ u. OrOpen u.job found (IsLast start (onto e ended) found)) (sym step.2) (last_job start disk (file_now s) s.job step.0 command.Save answer e ended found step.1 h may x)
-last_command start disk s t command.SaveBegin answer e ended found step h may x =
-    subst (λ u. OrOpen u.job found (IsLast start (onto e ended) found)) (sym step.2) (last_job start disk (file_now s) s.job step.0 command.SaveBegin answer e ended found step.1 h may x)
-last_command start disk s t (command.SaveStep n) answer e ended found step h may x =
-    subst (λ u. OrOpen u.job found (IsLast start (onto e ended) found)) (sym step.2) (last_job start disk (file_now s) s.job step.0 (command.SaveStep n) answer e ended found step.1 h may x)
-last_command start disk s t command.SaveEnd answer e ended found step h may x =
-    subst (λ u. OrOpen u.job found (IsLast start (onto e ended) found)) (sym step.2) (last_job start disk (file_now s) s.job step.0 command.SaveEnd answer e ended found step.1 h may x)
-last_command start disk s t other answer e ended found step h may (inl x) =
-    subst (λ u. OrOpen u.job found (IsLast start (onto e ended) found)) (sym step.2) (subst (λ v. OrOpen s.job found (IsLast start (onto v ended) found)) (sym step.3) x)
-last_command start disk s t other answer e ended found step h may (inr y) = absurd y
+  goes_on : (job ⊎ before) ⊎ file → next ⊎ after
+  goes_on (inl (inl is)) = one_of (passes (inl is))
+  goes_on (inl (inr was)) = inr (onto_it (inr was))
+  goes_on (inr is) = one_of (passes (inr is))
 
-any_command : (start : Disk) (s t : SessionState) (asked : Command) (answer : Reply) (e : Option Ended) (ended : List Ended) (found : Option (List ℕ))
-    → CommandStep s asked answer t e
-    → OrOpen s.job found (IsAny start ended found) ⊎ LeavesFile (published (file_now s) s.job asked) found
-    → OrOpen t.job found (IsAny start (onto e ended) found)
-any_command start s t command.Save answer e ended found step x =
-    subst (λ u. OrOpen u.job found (IsAny start (onto e ended) found)) (sym step.2) (any_job start (file_now s) s.job step.0 command.Save answer e ended found step.1 x)
-any_command start s t command.SaveBegin answer e ended found step x =
-    subst (λ u. OrOpen u.job found (IsAny start (onto e ended) found)) (sym step.2) (any_job start (file_now s) s.job step.0 command.SaveBegin answer e ended found step.1 x)
-any_command start s t (command.SaveStep n) answer e ended found step x =
-    subst (λ u. OrOpen u.job found (IsAny start (onto e ended) found)) (sym step.2) (any_job start (file_now s) s.job step.0 (command.SaveStep n) answer e ended found step.1 x)
-any_command start s t command.SaveEnd answer e ended found step x =
-    subst (λ u. OrOpen u.job found (IsAny start (onto e ended) found)) (sym step.2) (any_job start (file_now s) s.job step.0 command.SaveEnd answer e ended found step.1 x)
-any_command start s t other answer e ended found step (inl x) =
-    subst (λ u. OrOpen u.job found (IsAny start (onto e ended) found)) (sym step.2) (subst (λ v. OrOpen s.job found (IsAny start (onto v ended) found)) (sym step.3) x)
-any_command start s t other answer e ended found step (inr y) = absurd y
+onto_last : (start disk : Disk) (e : Option Ended) (ended : List Ended) (found : Option (List ℕ)) → EndedAt e disk → MayHave (under disk Peers) found
+    → LeavesFile (ended_file e) found ⊎ IsLast start ended found → IsLast start (onto e ended) found
+onto_last start disk None ended found h may = ⊎_elim (λ x. absurd x) (λ was. was)
+onto_last start disk (Some (Saved file)) ended found h may = λ x. h found may
+onto_last start disk (Some (NotSaved file)) ended found h may = λ x. x
+
+onto_any : (start : Disk) (e : Option Ended) (ended : List Ended) (found : Option (List ℕ))
+    → LeavesFile (ended_file e) found ⊎ IsAny start ended found → IsAny start (onto e ended) found
+onto_any start None ended found = ⊎_elim (λ x. absurd x) (λ was. was)
+onto_any start (Some (Saved file)) ended found = λ x. x
+onto_any start (Some (NotSaved file)) ended found = λ x. x
 
 -- after a line: the last acknowledged file, or one begun after it
 pub next_last : (start disk : Disk) (s t : SessionState) (line text : List ℕ) (e : Option Ended) (ended : List Ended) (found : Option (List ℕ))
     → (step : LineStep s line text t e) → EndedAt e disk → MayHave (under disk Peers) found
     → OrOpen s.job found (IsLast start ended found) ⊎ LeavesFile (published_in s line text t e step) found
     → OrOpen t.job found (IsLast start (onto e ended) found)
-next_last start disk s t line text e ended found (inl passed) h may (inl x) =
-    subst (λ u. OrOpen u.job found (IsLast start (onto e ended) found)) (sym passed.2) (subst (λ v. OrOpen s.job found (IsLast start (onto v ended) found)) (sym passed.3) x)
-next_last start disk s t line text e ended found (inl passed) h may (inr y) = absurd y
-next_last start disk s t line text e ended found (inr step) h may x = last_command start disk s t step.0 step.1 e ended found step.3 h may x
+next_last start disk s t line text e ended found step h may =
+    goes_on (by_line s t line text e found step) (onto_last start disk e ended found h may)
 
 -- and any file of this run
 pub next_any : (start : Disk) (s t : SessionState) (line text : List ℕ) (e : Option Ended) (ended : List Ended) (found : Option (List ℕ))
     → (step : LineStep s line text t e)
     → OrOpen s.job found (IsAny start ended found) ⊎ LeavesFile (published_in s line text t e step) found
     → OrOpen t.job found (IsAny start (onto e ended) found)
-next_any start s t line text e ended found (inl passed) (inl x) =
-    subst (λ u. OrOpen u.job found (IsAny start (onto e ended) found)) (sym passed.2) (subst (λ v. OrOpen s.job found (IsAny start (onto v ended) found)) (sym passed.3) x)
-next_any start s t line text e ended found (inl passed) (inr y) = absurd y
-next_any start s t line text e ended found (inr step) x = any_command start s t step.0 step.1 e ended found step.3 x
+next_any start s t line text e ended found step =
+    goes_on (by_line s t line text e found step) (onto_any start e ended found)
 
 -- a count that rose is still above after more calls, or at its end
 rose_later : (f mid g : ℕ) → f ≤ mid → mid ≤ g → Rose f mid → Rose f g

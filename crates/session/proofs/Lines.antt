@@ -12,7 +12,8 @@ use Rattle.log_lines.proofs.Percents.{percent}
 use Rattle.manager.specs.Step.{HasPercent}
 use Rattle.grammar.specs.declared.fault.LineFault.{LineFault}
 use Rattle.log_lines.specs.declared.reply.Reply.{Reply}
-use Rattle.session.specs.Folders.{AtMost, IsEvent, IsEventLine, MayPublish, Turn, published}
+use Rattle.session.specs.Events.{IsEvent}
+use Rattle.session.specs.Folders.{AtMost, IsEventLine, MayPublish, Turn, published}
 use Rattle.session.specs.Inside.{Carried}
 use Rattle.session.specs.State.{SessionState, file_now}
 use Rattle.session.proofs.Effects.{may_publish, still_moments}

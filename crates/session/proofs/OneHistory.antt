@@ -2,7 +2,7 @@
 -- reply and one next machine, and the reply to a save shows whether it was done.
 use Rattle.std.proofs.Common.{◌≡◌, ℕ, Bool, true, false, List, [], ◌∷◌, ◌++◌, get_or, inl, inr, refl, sym, ap, ◌∙◌, subst, append_assoc, append-nil, arith, lit<}
 use Rattle.std.proofs.lemmas.List.{append_cancel_left}
-use Rattle.std.specs.Prelude.{Option, Some, None}
+use Rattle.std.specs.Prelude.{Option, Some, None, IfSome, IsSomeAnd}
 use Rattle.hex.proofs.HexLemmas.{decode_of-ok}
 use Rattle.net_addr.specs.Address.{Address}
 use Rattle.net_addr.specs.declared.entry.Entry.{Entry}
@@ -25,9 +25,10 @@ use Rattle.log_run.specs.Run.{Run}
 use Rattle.manager.specs.Machine.{Machine}
 use Rattle.manager.specs.Step as manager
 use Rattle.save_store.specs.Job.{Job}
-use Rattle.session.specs.Events.{Ended, Event, IsOfEvent, SaveCommand, save, save_begin, save_end, save_step}
+use Rattle.session.specs.Events.{Ended, Event, IsOfEvent, SaveCommand, event_of, save, save_begin, save_end, save_step}
 use Rattle.session.specs.History.{History, HistoryStep, onto}
 use Rattle.session.specs.State.{CommandStep, JobStep, LineStep, MachineStep, SessionState, file_now}
+use Rattle.session.proofs.Effects.{no_save, of_event, saves_nothing}
 
 -- ---- the payload of a message
 
@@ -105,11 +106,7 @@ one_machine old (command.Addr2 source payload words) a b m n bytes =
     (one_meaning (message addrv2_entry) Trailing (message_at addrv2_entry_at) payload (Reads-message addrv2_entry addrv2_entry_at Reads-addrv2_entry) bytes)
     old source words a b m n
 one_machine old (command.Sample max pct classes words) a b m n bytes = one_sample old max pct classes words a b m n
-one_machine old command.Save a b m n bytes = λ h k. absurd h
-one_machine old command.SaveBegin a b m n bytes = λ h k. absurd h
-one_machine old (command.SaveStep count) a b m n bytes = λ h k. absurd h
-one_machine old command.SaveEnd a b m n bytes = λ h k. absurd h
-one_machine old other a b m n bytes = λ h k. (h.0 ∙ sym k.0, h.1 ∙ sym k.1)
+one_machine old other a b m n bytes = λ h k. (search, search)
 
 -- ---- a save command
 
@@ -145,29 +142,32 @@ shows_end (Some job) x y e = absurd (omega (arith, ap (λ t. get_or t 0 0) e))
 abbrev SameEvent : Reply → Option Job → Option Ended → Reply → Option Job → Option Ended → Type 0
 SameEvent a job ended b other last = (a ≡ b) × (job ≡ other) × (ended ≡ last)
 
-module _ (go : Bool → Event) (shows : ShowsDone go) where
-  one_way : (d f : Bool) (x y : List ℕ) → Alike (go d).reply (go f).reply x y → go d ≡ go f
+module _ (outcome : Bool → Event) (shows : ShowsDone outcome) where
+  one_way : (d f : Bool) (x y : List ℕ) → Alike (outcome d).reply (outcome f).reply x y → outcome d ≡ outcome f
   one_way true true x y e = refl
   one_way true false x y e = shows x y e
   one_way false true x y e = sym (shows y x (sym e))
   one_way false false x y e = refl
 
   one_event : (a b : Reply) (j k : Option Job) (e f : Option Ended) (x y : List ℕ)
-      → ((done : Bool) × IsOfEvent (go done) a j e) → ((done : Bool) × IsOfEvent (go done) b k f) → Alike a b x y → SameEvent a j e b k f
+      → IsOfEvent outcome a j e → IsOfEvent outcome b k f → Alike a b x y → SameEvent a j e b k f
   one_event a b j k e f x y h i alike =
-      let same = one_way h.0 i.0 x y (ap (λ r. reply_text r ++ x) (sym h.1.0) ∙ alike ∙ ap (λ r. reply_text r ++ y) i.1.0) in (
-        h.1.0 ∙ ap (λ (v : Event). v.reply) same ∙ sym i.1.0,
-        h.1.1 ∙ ap (λ (v : Event). v.job) same ∙ sym i.1.1,
-        h.1.2 ∙ ap (λ (v : Event). v.ended) same ∙ sym i.1.2,
+      let same = one_way h.0 i.0 x y (ap (λ r. reply_text r ++ x) (sym h.1) ∙ alike ∙ ap (λ r. reply_text r ++ y) i.1) in (
+        h.1 ∙ ap (λ (v : Event). v.reply) same ∙ sym i.1,
+        h.2 ∙ ap (λ (v : Event). v.job) same ∙ sym i.2,
+        h.3 ∙ ap (λ (v : Event). v.ended) same ∙ sym i.3,
       )
+
+by_event : (o : Option (Bool → Event)) (a b : Reply) (j k : Option Job) (e f : Option Ended) (x y : List ℕ) → IfSome o ShowsDone
+    → IsSomeAnd o (λ v. IsOfEvent v a j e) → IsSomeAnd o (λ v. IsOfEvent v b k f) → Alike a b x y → SameEvent a j e b k f
+by_event None a b j k e f x y shows h i = absurd h
+by_event (Some outcome) a b j k e f x y shows h i = one_event outcome shows a b j k e f x y h i
 
 one_save : (file : List ℕ) (old : Option Job) (asked : Command) (a b : Reply) (j k : Option Job) (e f : Option Ended) (x y : List ℕ)
     → SaveCommand file old asked a j e → SaveCommand file old asked b k f → Alike a b x y → SameEvent a j e b k f
-one_save file old command.Save a b j k e f x y = one_event (save file old) (shows_save file old) a b j k e f x y
-one_save file old command.SaveBegin a b j k e f x y = one_event (save_begin file old) (shows_begin file old) a b j k e f x y
-one_save file old (command.SaveStep n) a b j k e f x y = one_event (save_step n old) (shows_step n old) a b j k e f x y
-one_save file old command.SaveEnd a b j k e f x y = one_event (save_end old) (shows_end old) a b j k e f x y
-one_save file old other a b j k e f x y = λ h i. absurd h
+one_save file old asked a b j k e f x y =
+    by_event (event_of file old asked) a b j k e f x y
+    (of_event (λ outcome published. ShowsDone outcome) file old (shows_save file old) (shows_begin file old) (λ n. shows_step n old) (shows_end old) asked)
 
 -- ---- a line
 
@@ -189,11 +189,12 @@ by_machine old asked a b s t e f bytes h k =
 
 one_outcome : (old : SessionState) (asked : Command) (a b : Reply) (s t : SessionState) (e f : Option Ended) (x y : List ℕ) → HasBytes asked
     → CommandStep old asked a s e → CommandStep old asked b t f → Alike a b x y → SameOutcome a s e b t f
-one_outcome old command.Save a b s t e f x y bytes = by_job old command.Save a b s t e f x y
-one_outcome old command.SaveBegin a b s t e f x y bytes = by_job old command.SaveBegin a b s t e f x y
-one_outcome old (command.SaveStep n) a b s t e f x y bytes = by_job old (command.SaveStep n) a b s t e f x y
-one_outcome old command.SaveEnd a b s t e f x y bytes = by_job old command.SaveEnd a b s t e f x y
-one_outcome old other a b s t e f x y bytes = λ h k alike. by_machine old other a b s t e f bytes h k
+one_outcome old asked a b s t e f x y bytes (inl h) (inl k) alike = by_job old asked a b s t e f x y h k alike
+one_outcome old asked a b s t e f x y bytes (inl h) (inr k) alike =
+    absurd (no_save (file_now old) old.job h.0 asked a e (saves_nothing old.machine k.0 asked b k.1) h.1)
+one_outcome old asked a b s t e f x y bytes (inr h) (inl k) alike =
+    absurd (no_save (file_now old) old.job k.0 asked b f (saves_nothing old.machine h.0 asked a h.1) k.1)
+one_outcome old asked a b s t e f x y bytes (inr h) (inr k) alike = by_machine old asked a b s t e f bytes h k
 
 one_line : (old : SessionState) (line t u x y : List ℕ) (a b : SessionState) (e f : Option Ended) → LineStep old line t a e → LineStep old line u b f
     → t ++ x ≡ u ++ y → (t ≡ u) × (a ≡ b) × (e ≡ f)

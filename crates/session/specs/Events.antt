@@ -1,6 +1,6 @@
 -- The save events of a log: what each answers, and the open save after it. An event is done, or it
 -- fails.
-use Rattle.std.specs.Prelude.{◌≡◌, ℕ, List, [], ◌++◌, length, take, drop, Bool, true, false, Option, Some, None}
+use Rattle.std.specs.Prelude.{◌≡◌, ◌≢◌, ℕ, List, [], ◌++◌, length, take, drop, Bool, true, false, Option, Some, None, IsSomeAnd}
 use Rattle.host_io.specs.declared.name.Name.TheVariants.{PeersTemp}
 use Rattle.log_lines.specs.declared.command.Command.{Command}
 use Rattle.log_lines.specs.declared.command.Command.TheVariants as command
@@ -59,18 +59,29 @@ save_end None done = event reply.NoSave None None
 save_end (Some job) true = event reply.Saved None (Some (Saved (whole job)))
 save_end (Some job) false = event reply.NotSaved None (Some (NotSaved (whole job)))
 
--- the reply, the open save and the save that ended are those of the event
-abbrev pub IsOfEvent : Event → Reply → Option Job → Option Ended → Type 0
-IsOfEvent e answer job ended = (answer ≡ e.reply) × (job ≡ e.job) × (ended ≡ e.ended)
+-- what a save command does, with the file of the tables; any other command is no save
+abbrev pub event_of : List ℕ → Option Job → Command → Option (Bool → Event)
+event_of file old command.Save = Some (save file old)
+event_of file old command.SaveBegin = Some (save_begin file old)
+event_of file old (command.SaveStep n) = Some (save_step n old)
+event_of file old command.SaveEnd = Some (save_end old)
+event_of file old other = None
+
+-- the event was done, or it failed: the reply, the open save and the save that ended are its own
+abbrev pub IsOfEvent : (Bool → Event) → Reply → Option Job → Option Ended → Type 0
+IsOfEvent outcome answer job ended =
+    (done : Bool) × (answer ≡ (outcome done).reply) × (job ≡ (outcome done).job)
+    × (ended ≡ (outcome done).ended)
 
 -- what a save command does to the open save, with the file of the tables
 abbrev pub SaveCommand : List ℕ → Option Job → Command → Reply → Option Job → Option Ended → Type 0
-SaveCommand file old command.Save answer new ended =
-    (done : Bool) × IsOfEvent (save file old done) answer new ended
-SaveCommand file old command.SaveBegin answer new ended =
-    (done : Bool) × IsOfEvent (save_begin file old done) answer new ended
-SaveCommand file old (command.SaveStep n) answer new ended =
-    (done : Bool) × IsOfEvent (save_step n old done) answer new ended
-SaveCommand file old command.SaveEnd answer new ended =
-    (done : Bool) × IsOfEvent (save_end old done) answer new ended
-SaveCommand file old other answer new ended = ⊥
+SaveCommand file old asked answer new ended =
+    IsSomeAnd (event_of file old asked) (λ outcome. IsOfEvent outcome answer new ended)
+
+-- a save command that is answered neither `busy` nor `no save`
+abbrev pub IsEvent : Option Job → Command → Type 0
+IsEvent old command.Save = old ≡ None
+IsEvent old command.SaveBegin = old ≡ None
+IsEvent old (command.SaveStep n) = old ≢ None
+IsEvent old command.SaveEnd = old ≢ None
+IsEvent old other = ⊥

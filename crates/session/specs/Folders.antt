@@ -16,7 +16,7 @@ use Rattle.manager.specs.Machine.{Machine}
 use Rattle.manager.specs.Step as manager
 use Rattle.save_store.specs.Job.{Job, Reads, whole}
 use Rattle.save_store.specs.Saves.{IsStored, NoMore}
-use Rattle.session.specs.Events.{Ended}
+use Rattle.session.specs.Events.{Ended, IsEvent}
 use Rattle.session.specs.Events.Ended.{NotSaved, Saved}
 use Rattle.session.specs.State.{LineStep, SessionState, file_now}
 
@@ -60,15 +60,7 @@ HasEnded None past before after = ⊤
 HasEnded (Some (Saved file)) past before after = IfSome past (λ p. IsStored Peers file p.now)
 HasEnded (Some (NotSaved file)) past before after = Rose before after
 
--- a save command that is answered neither `busy` nor `no save`
-abbrev pub IsEvent : Option Job → Command → Type 0
-IsEvent job command.Save = job ≡ None
-IsEvent job command.SaveBegin = job ≡ None
-IsEvent job (command.SaveStep n) = job ≢ None
-IsEvent job command.SaveEnd = job ≢ None
-IsEvent job other = ⊥
-
--- the same of a line
+-- a line with a save command that is answered neither `busy` nor `no save`
 abbrev pub IsEventLine : SessionState → List ℕ → Type 0
 IsEventLine old line = (asked : Command) × SpellsCommand line asked × IsEvent old.job asked
 

@@ -1,20 +1,20 @@
--- What a save command and any command have done.
-use Rattle.std.specs.Prelude.{ℕ, List, Option}
+-- What an event and any command have done.
+use Rattle.std.specs.Prelude.{ℕ, List, Bool, Option}
 use Rattle.host_io.specs.Past.{Past, Always}
 use Rattle.log_lines.specs.declared.command.Command.{Command}
 use Rattle.log_lines.specs.declared.reply.Reply.{Reply}
 use Rattle.save_store.specs.Job.{Job}
-use Rattle.session.specs.Events.{Ended, SaveCommand}
-use Rattle.session.specs.Folders.{AtMost, HasEnded, IsOpen, published}
+use Rattle.session.specs.Events.{Ended, Event, IsOfEvent}
+use Rattle.session.specs.Folders.{AtMost, HasEnded, IsOpen}
 use Rattle.session.specs.State.{CommandStep, SessionState}
 
--- what a save command has done, to the open save and to the folder
-pub record Effect (file : List ℕ) (old : Option Job) (asked : Command) (answer : Reply)
+-- what an event has done, to the open save and to the folder, with the file that it may publish
+pub record Effect (outcome : Bool → Event) (file : Option (List ℕ)) (answer : Reply)
     (new : Option Job) (before after : Option Past) (faults_before faults_after : ℕ) : Type 0 where
   pub ended : Option Ended
-  pub step : SaveCommand file old asked answer new ended
+  pub step : IsOfEvent outcome answer new ended
   pub has : HasEnded ended after faults_before faults_after
-  pub moments : Always before after (AtMost (published file old asked))
+  pub moments : Always before after (AtMost file)
   pub is_open : IsOpen new after
 
 -- what a command has done, to the session and to the folder

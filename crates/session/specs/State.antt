@@ -4,7 +4,6 @@ use Rattle.host_io.specs.Lines.{IsPassedOver}
 use Rattle.log_lines.specs.Replies.{reply_text}
 use Rattle.log_lines.specs.Spelling.{SpellsCommand}
 use Rattle.log_lines.specs.declared.command.Command.{Command}
-use Rattle.log_lines.specs.declared.command.Command.TheVariants as command
 use Rattle.log_lines.specs.declared.reply.Reply.{Reply}
 use Rattle.manager.specs.Machine.{Machine}
 use Rattle.manager.specs.Step as manager
@@ -45,14 +44,11 @@ MachineStep old asked answer new ended =
     (machine : Machine) × manager.Step old.machine asked answer machine
     × (new ≡ record old { machine = machine }) × (ended ≡ None)
 
--- what a command is answered, the state after it, and the save that ended in it
+-- What a command is answered, the state after it, and the save that ended in it. A save command has
+-- only steps of the open save, and any other one only those of the machine.
 abbrev pub CommandStep : SessionState → Command → Reply → SessionState → Option Ended → Type 0
-CommandStep old command.Save answer new ended = JobStep old command.Save answer new ended
-CommandStep old command.SaveBegin answer new ended = JobStep old command.SaveBegin answer new ended
-CommandStep old (command.SaveStep n) answer new ended =
-    JobStep old (command.SaveStep n) answer new ended
-CommandStep old command.SaveEnd answer new ended = JobStep old command.SaveEnd answer new ended
-CommandStep old other answer new ended = MachineStep old other answer new ended
+CommandStep old asked answer new ended =
+    JobStep old asked answer new ended ⊎ MachineStep old asked answer new ended
 
 -- a line that is passed over has no reply; one that parses as a command has that of its step
 abbrev pub LineStep : SessionState → List ℕ → List ℕ → SessionState → Option Ended → Type 0

@@ -1,11 +1,11 @@
 ghost use Rattle.std.specs.Prelude.{◌≡◌, ◌+◌, ◌*◌, ◌≤◌, ◌<◌, ◌^◌, List, ℕ, Option, None, IfOk, OnErr};
 ghost use Rattle.host_io.specs.Past.{Always};
 ghost use Rattle.manager.specs.Step.{Step, SavesNothing, HasPercent, LeavesPart};
-ghost use Rattle.peers_file.specs.declared.chain.Chain as chains;
 ghost use Rattle.save_store.specs.Job.{Job};
-ghost use Rattle.session.specs.Folders.{AtMost, IsEvent, IsOpen, published};
+ghost use Rattle.session.specs.Events.{IsEvent};
+ghost use Rattle.session.specs.Folders.{AtMost, IsOpen, published};
 ghost use Rattle.session.specs.Inside.{Carried};
-ghost use Rattle.session.specs.State.{CommandStep, file_of, state};
+ghost use Rattle.session.specs.State.{file_of, state};
 
 use crate::events::{end_line, step_line};
 use crate::memory::Memory;
@@ -34,9 +34,13 @@ fn apply<L: Ledger, H: BuildHasher>(
     requires no_save { SavesNothing command.now }
     requires percent { HasPercent command.now }
     requires room { manager.old.tables.next_number < 2 ^ 62 }
+<<<<<<< HEAD
     ensures step { IfOk result (λ answer. (chain : chains.Chain) (job : Option Job) →
         CommandStep (state chain manager.old job) command.now
         answer (state chain manager.new job) None) }
+=======
+    ensures step { IfOk result (λ answer. Step manager.old command.now answer manager.new) }
+>>>>>>> a54aa81577c7a1052d0ecde16e8737aad90934a7
     ensures numbers { manager.new.tables.next_number ≤ manager.old.tables.next_number + 1000 }
     ensures err { OnErr result (LeavesPart manager.old command.now manager.new) }
     ensures no_file { (file : List ℕ) (job : Option Job) → published file job command.now ≡ None }
@@ -79,19 +83,6 @@ pub(crate) fn carry_out<F: Folder, H: BuildHasher>(
             Ok(reply)
         }
         Command::SaveEnd => Ok(end_line(folder, job.take())),
-        Command::Now { .. }
-        | Command::Addr { .. }
-        | Command::Addr2 { .. }
-        | Command::Good { .. }
-        | Command::Attempt { .. }
-        | Command::Connected { .. }
-        | Command::Services { .. }
-        | Command::Find { .. }
-        | Command::Size
-        | Command::Select { .. }
-        | Command::Sample { .. }
-        | Command::Resolve
-        | Command::Clash { .. }
-        | Command::Dump => apply::<Brand, H>(alloc, manager, command, Blank::new(1)),
+        _ => apply::<Brand, H>(alloc, manager, command, Blank::new(1)),
     }
 }

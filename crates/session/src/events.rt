@@ -1,14 +1,17 @@
-ghost use Rattle.std.specs.Prelude.{◌≡◌, ◌≤◌, ℕ, List, IfOk, OnErr};
-ghost use Rattle.session.specs.Folders.{IsEvent, IsOpen};
+ghost use Rattle.std.specs.Prelude.{◌≡◌, ◌≤◌, Some, None};
+ghost use Rattle.std.specs.Option.{option_map};
+ghost use Rattle.save_store.specs.Job.{whole};
+ghost use Rattle.session.specs.Events as event;
+ghost use Rattle.session.specs.Folders.{IsOpen};
 ghost use Rattle.session.specs.Inside.{Effect};
 
 use host_io::{Bytes, Folder, Name};
-use log_lines::{Command, Reply};
+use log_lines::Reply;
 use save_store::{SaveJob, save};
 
 /// Saves a file whole. A save in pieces must not be open.
 pub(crate) fn save_line<F: Folder>(folder: &mut F, file: &Bytes) -> Reply
-    ensures effect { Effect file.now None Command.Save result None
+    ensures effect { Effect (event.save file.now None) (Some file.now) result None
         (F.past folder.old) (F.past folder.new) (F.faults folder.old) (F.faults folder.new) }
     ensures never_falls { F.faults folder.old ≤ F.faults folder.new }
 {
@@ -20,7 +23,7 @@ pub(crate) fn save_line<F: Folder>(folder: &mut F, file: &Bytes) -> Reply
 
 /// Begins to save a file in pieces. No other save must be open.
 pub(crate) fn begin_line<F: Folder>(folder: &mut F, file: Bytes) -> (Option<SaveJob>, Reply)
-    ensures effect { Effect file None Command.SaveBegin result.1 result.0
+    ensures effect { Effect (event.save_begin file None) None result.1 result.0
         (F.past folder.old) (F.past folder.new) (F.faults folder.old) (F.faults folder.new) }
     ensures never_falls { F.faults folder.old ≤ F.faults folder.new }
 {
@@ -38,9 +41,9 @@ pub(crate) fn step_line<F: Folder>(
     count: u32,
 ) -> (Option<SaveJob>, Reply)
     requires is_open { IsOpen job (F.past folder.old) }
-    ensures effect { (file : List ℕ) → Effect file job (Command.SaveStep count) result.1 result.0
+    ensures effect { Effect (event.save_step count job) None result.1 result.0
         (F.past folder.old) (F.past folder.new) (F.faults folder.old) (F.faults folder.new) }
-    ensures still { ¬ IsEvent job (Command.SaveStep count) → folder.new ≡ folder.old }
+    ensures still { job ≡ None → folder.new ≡ folder.old }
     ensures never_falls { F.faults folder.old ≤ F.faults folder.new }
 {
     match job {
@@ -58,9 +61,9 @@ pub(crate) fn step_line<F: Folder>(
 /// Ends the open save.
 pub(crate) fn end_line<F: Folder>(folder: &mut F, job: Option<SaveJob>) -> Reply
     requires is_open { IsOpen job (F.past folder.old) }
-    ensures effect { (file : List ℕ) → Effect file job Command.SaveEnd result None
+    ensures effect { Effect (event.save_end job) (option_map whole job) result None
         (F.past folder.old) (F.past folder.new) (F.faults folder.old) (F.faults folder.new) }
-    ensures still { ¬ IsEvent job Command.SaveEnd → folder.new ≡ folder.old }
+    ensures still { job ≡ None → folder.new ≡ folder.old }
     ensures never_falls { F.faults folder.old ≤ F.faults folder.new }
 {
     match job {

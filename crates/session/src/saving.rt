@@ -1,5 +1,6 @@
-ghost use Rattle.std.specs.Prelude.{◌≡◌, ◌≤◌, IfOk, OnErr};
-ghost use Rattle.session.specs.Folders.{IsEvent, IsOpen};
+ghost use Rattle.std.specs.Prelude.{◌≡◌, ◌≢◌, ◌≤◌, None, IfOk, OnErr};
+ghost use Rattle.session.specs.Events as event;
+ghost use Rattle.session.specs.Folders.{IsOpen, unless};
 ghost use Rattle.session.specs.Inside.{Effect};
 ghost use Rattle.session.specs.State.{file_of};
 
@@ -7,7 +8,7 @@ use crate::encode::encode;
 use crate::events::{begin_line, end_line, save_line, step_line};
 use crate::memory::Memory;
 use host_io::Folder;
-use log_lines::{Command, Reply};
+use log_lines::Reply;
 use manager::Manager;
 use peers_file::Chain;
 use save_store::SaveJob;
@@ -26,10 +27,11 @@ pub(crate) fn save<F: Folder, H: BuildHasher>(
 ) -> Result<Reply, Memory>
     requires is_open { IsOpen job.now (F.past folder.old) }
     ensures effect { IfOk result (λ answer.
-        Effect (file_of chain manager.now.tables) job.now Command.Save answer job.now
+        Effect (event.save (file_of chain manager.now.tables) job.now)
+        (unless job.now (file_of chain manager.now.tables)) answer job.now
         (F.past folder.old) (F.past folder.new) (F.faults folder.old) (F.faults folder.new)) }
     ensures err { OnErr result (folder.new ≡ folder.old) }
-    ensures still { ¬ IsEvent job.now Command.Save → folder.new ≡ folder.old }
+    ensures still { job.now ≢ None → folder.new ≡ folder.old }
     ensures never_falls { F.faults folder.old ≤ F.faults folder.new }
 {
     if job.is_some() {
@@ -49,10 +51,10 @@ pub(crate) fn begin<F: Folder, H: BuildHasher>(
 ) -> Result<Reply, Memory>
     requires is_open { IsOpen job.old (F.past folder.old) }
     ensures effect { IfOk result (λ answer.
-        Effect (file_of chain manager.now.tables) job.old Command.SaveBegin answer job.new
+        Effect (event.save_begin (file_of chain manager.now.tables) job.old) None answer job.new
         (F.past folder.old) (F.past folder.new) (F.faults folder.old) (F.faults folder.new)) }
     ensures err { OnErr result ((folder.new ≡ folder.old) × (job.new ≡ job.old)) }
-    ensures still { ¬ IsEvent job.old Command.SaveBegin → folder.new ≡ folder.old }
+    ensures still { job.old ≢ None → folder.new ≡ folder.old }
     ensures never_falls { F.faults folder.old ≤ F.faults folder.new }
 {
     if job.is_some() {
