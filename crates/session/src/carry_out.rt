@@ -34,13 +34,7 @@ fn apply<L: Ledger, H: BuildHasher>(
     requires no_save { SavesNothing command.now }
     requires percent { HasPercent command.now }
     requires room { manager.old.tables.next_number < 2 ^ 62 }
-<<<<<<< HEAD
-    ensures step { IfOk result (λ answer. (chain : chains.Chain) (job : Option Job) →
-        CommandStep (state chain manager.old job) command.now
-        answer (state chain manager.new job) None) }
-=======
     ensures step { IfOk result (λ answer. Step manager.old command.now answer manager.new) }
->>>>>>> a54aa81577c7a1052d0ecde16e8737aad90934a7
     ensures numbers { manager.new.tables.next_number ≤ manager.old.tables.next_number + 1000 }
     ensures err { OnErr result (LeavesPart manager.old command.now manager.new) }
     ensures no_file { (file : List ℕ) (job : Option Job) → published file job command.now ≡ None }
