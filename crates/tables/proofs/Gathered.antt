@@ -13,7 +13,7 @@ use Rattle.peer_rec.specs.Rec.{is_tried}
 use Rattle.peer_rec.specs.declared.file_rec.FileRec.{FileRec}
 use Rattle.peer_rec.specs.declared.rec.Rec.{Rec}
 use Rattle.peer_index.specs.Order.{Item, Order, IsOrder, ids, rec_of, records}
-use Rattle.restoring.specs.Filled.{blank}
+use Rattle.tables.specs.Filled.{blank}
 use Rattle.table_machine.proofs.Grown.{range-push}
 use Rattle.table_machine.proofs.Lists.{AllPairs-from_map, find-Some}
 use Rattle.table_machine.proofs.Rising.{pairs_tail}

@@ -16,7 +16,7 @@ use Rattle.table_machine.specs.Sound.{IsSound}
 use Rattle.table_machine.proofs.Lists.{AllPairs-from_map, Contains-map, Contains-tail, find-None, find-Some, find_none_from, find_only}
 use Rattle.table_machine.proofs.Records.{same_record}
 use Rattle.table_machine.proofs.Rising.{filter_whole, pairs_head, pairs_tail}
-use Rattle.restoring.specs.Restored.{ArePartsOf, rec_by}
+use Rattle.tables.specs.Restored.{ArePartsOf, rec_by}
 use Rattle.tables.specs.declared.waiter.Waiter.{Waiter}
 use Rattle.tables.specs.Inside.{AreSlots, AreStored, record_at, records_below, state_with}
 use Rattle.tables.proofs.Searches.{some_is}

@@ -1,9 +1,9 @@
+use crate::parts::restore;
 use crate::reach::Reach;
-use crate::{Store, Tables};
+use crate::{RestoreFault, Store, Tables};
 use arrayvec::ArrayVec;
 use peer_rec::Snapshot;
 use placing::Placer;
-use restoring::{RestoreFault, restore};
 use std::alloc::Global;
 use std::hash::BuildHasher;
 use std::sync::ledger::Ledger;
@@ -13,7 +13,7 @@ impl<'a, H: BuildHasher + Drop> Tables<'a, H> {
     ghost use Rattle.std.specs.Prelude.{◌≡◌, ◌+◌, ◌*◌, ◌≤◌, length, IfOk, IfErr, None};
     ghost use Rattle.table_machine.specs.Restoring.{duplicate, restored};
     ghost use Rattle.table_machine.specs.Sound.{IsSound};
-    ghost use Rattle.restoring.specs.Restored.{IsCause};
+    ghost use Rattle.tables.specs.Restored.{IsCause};
     ghost use Rattle.slot_grid.specs.declared.sizes.TheConstants.{ALL_SLOTS};
 
     /// Makes the tables that a file of peers keeps, by a placer with the key of the file. Tables

@@ -75,7 +75,7 @@ impl<'a, H: BuildHasher> Tables<'a, H> {
     ghost use Rattle.peer_rec.specs.Rec.{buckets_of, is_tried};
     ghost use Rattle.peer_index.specs.Order.{Order, IsOrder, records};
     ghost use Rattle.slot_grid.specs.Masks.{IsMask};
-    ghost use Rattle.restoring.specs.Restored.{AreOf};
+    ghost use Rattle.tables.specs.Restored.{AreOf};
     ghost use Rattle.table_machine.specs.State.{State, empty_state, find_peer, by_number, new_rec_at, tried_rec_at, tried_occupant};
     ghost use Rattle.table_machine.specs.Sound.{IsSound};
     ghost use Rattle.table_machine.specs.Entries.{add};

@@ -3,7 +3,7 @@ ghost use Rattle.table_machine.specs.State.{find_peer};
 ghost use Rattle.table_machine.specs.Snapshot.{snapshot_of};
 ghost use Rattle.table_machine.specs.Restart.{restart};
 ghost use Rattle.table_machine.specs.Restoring.{restored, duplicate};
-ghost use Rattle.restoring.specs.Restored.{IsCause};
+ghost use Rattle.tables.specs.Restored.{IsCause};
 
 use net_addr::Peer;
 use peer_rec::{Rec, Recs, Snapshot};

@@ -2,7 +2,7 @@ use Rattle.std.proofs.Common.{rules, ◌≡◌, ◌∙◌, ◌+◌, ◌<◌, ◌
 use Rattle.std.specs.Prelude.{vec_len}
 use Rattle.std.proofs.lemmas.List.{get_or_default, length-map, take_all}
 use Rattle.peer_rec.specs.Rec.{is_tried}
-use Rattle.restoring.specs.Filled.{blank}
+use Rattle.tables.specs.Filled.{blank}
 use Rattle.table_machine.specs.Snapshot.{file_rec}
 use Rattle.tables.specs.Inside.{state_of}
 use Rattle.tables.proofs.Gathered.{AreKnown, as-long, indexes-all, known-new, known-tried, lead-at, new-first, new-more, tried-more}

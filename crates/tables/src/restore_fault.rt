@@ -1,0 +1,58 @@
+ghost use Rattle.std.specs.Prelude.{◌≡◌};
+ghost use Rattle.tables.specs.declared.restore_fault.RestoreFault.TheVariants.{Memory};
+
+use std::alloc::{AllocError, AllocFailed};
+
+/// Out of memory.
+#[derive(Clone, Copy, Debug, PartialEq, Eq)]
+pub struct Memory;
+
+impl From<slot_grid::Memory> for Memory {
+    fn from(_: slot_grid::Memory) -> Memory {
+        Memory
+    }
+}
+
+impl From<peer_index::Memory> for Memory {
+    fn from(_: peer_index::Memory) -> Memory {
+        Memory
+    }
+}
+
+impl<T: Drop> From<AllocFailed<T>> for Memory {
+    fn from(_: AllocFailed<T>) -> Memory {
+        Memory
+    }
+}
+
+impl From<AllocError> for Memory {
+    fn from(_: AllocError) -> Memory {
+        Memory
+    }
+}
+
+/// Why tables are not restored.
+#[derive(Clone, Copy, Debug, PartialEq, Eq)]
+pub enum RestoreFault {
+    /// Two records with valid addresses have one peer. `index` is the later one's, counted from 0,
+    /// the new records first.
+    Duplicate { index: u32 },
+    /// Out of memory.
+    Memory,
+}
+
+impl From<Memory> for RestoreFault {
+    ghost from_gives = { λ _ e. e ≡ Memory };
+
+    fn from(_: Memory) -> RestoreFault {
+        RestoreFault::Memory
+    }
+}
+
+impl From<peer_index::Memory> for RestoreFault {
+    ghost from_gives = { λ _ e. e ≡ Memory };
+
+    fn from(_: peer_index::Memory) -> RestoreFault {
+        RestoreFault::Memory
+    }
+}
