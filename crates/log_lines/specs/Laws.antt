@@ -1,11 +1,11 @@
 -- Why a line has one meaning.
-use Rattle.std.proofs.Common.{◌≡◌, ◌<◌, ℕ, List, [], ◌∷◌, get_or, Option, Some, find, refl, sym, ◌∙◌}
+use Rattle.std.proofs.Common.{◌≡◌, ◌<◌, ℕ, List, [], ◌∷◌, get_or, Option, Some, true, find, lit<, refl, sym, ap, ◌∙◌}
 use Rattle.std.specs.Prelude.{bytes_eq}
 use Rattle.grammar.specs.Fields.{Value, TheNumber, TheAddr, ThePeer, TheBytes, TheWords, TheChoice, TheNets}
-use Rattle.grammar.specs.Table.{kinds_after}
+use Rattle.grammar.specs.Table.{all_definite, kinds_after}
 use Rattle.grammar.specs.declared.fault.LineFault.{LineFault}
-use Rattle.grammar.proofs.TableLemmas.{one_values_after, one_fault_after, no_fault_after, letter_of_values}
-use Rattle.log_lines.specs.Spelling.{word_of, verb_of, command_values, verbs, table, SpellsAfter, HasFaultAfter}
+use Rattle.grammar.proofs.TableLemmas.{one_list, one_values_after, one_fault_after, no_fault_after, letter_of_values}
+use Rattle.log_lines.specs.Spelling.{word_of, kinds_of, verb_of, command_values, verbs, table, SpellsBy, SpellsAfter, HasFaultAfter}
 use Rattle.log_lines.specs.declared.command.Command.{Command}
 use Rattle.log_lines.specs.declared.command.Command.TheVariants as c
 use Rattle.log_lines.specs.declared.verb.Verb.{Verb}
@@ -39,11 +39,32 @@ command_by other values = c.Size
 verb_with : List ℕ → Option Verb
 verb_with word = find (λ verb. bytes_eq (word_of verb) word) verbs
 
+verb_back : (verb : Verb) → verb_with (word_of verb) ≡ Some verb
+unfolding verb_with
+verb_back v.Now = refl
+verb_back other = refl
+
 command_back : (command : Command) →
-    command_by (verb_with (word_of (verb_of command))) (command_values command) ≡ command
-unfolding command_by verb_with
+    command_by (Some (verb_of command)) (command_values command) ≡ command
+unfolding command_by
 command_back (c.Now time) = refl
 command_back other = refl
+
+same_command : (a b : Command) →
+    Some (verb_of a) ≡ Some (verb_of b) → command_values a ≡ command_values b → a ≡ b
+same_command a b same values =
+    sym (command_back a) ∙ (λ i. command_by (same i) (values i)) ∙ command_back b
+
+definite : (verb : Verb) → all_definite (kinds_of verb) ≡ true
+definite v.Now = refl
+definite other = refl
+
+-- the fields after a verb parse as one command
+pub one_by : (verb : Verb) (texts : List (List ℕ)) (a b : Command) →
+    SpellsBy verb texts a → SpellsBy verb texts b → a ≡ b
+one_by verb texts a b h k =
+    same_command a b (ap Some (h.0 ∙ sym k.0))
+    (one_list (kinds_of verb) texts (command_values a) (command_values b) (definite verb) h.1 k.1)
 
 -- a first word and the fields after it parse as one command
 pub one_after : (word : List ℕ) (texts : List (List ℕ)) (a b : Command) →
@@ -51,8 +72,8 @@ pub one_after : (word : List ℕ) (texts : List (List ℕ)) (a b : Command) →
 one_after word texts a b h k =
     let values = one_values_after table word texts
     (command_values a) (command_values b) refl h.1 k.1 in
-    let words = sym h.0 ∙ k.0 in
-    sym (command_back a) ∙ (λ i. command_by (verb_with (words i)) (values i)) ∙ command_back b
+    let words = sym (verb_back (verb_of a)) ∙ ap verb_with (sym h.0 ∙ k.0) ∙ verb_back (verb_of b) in
+    same_command a b words values
 
 -- or have one fault
 pub one_fault : (word : List ℕ) (texts : List (List ℕ)) (f g : LineFault) →
@@ -69,3 +90,8 @@ no_fault word texts a f h k =
 pub letters : (word : List ℕ) (texts : List (List ℕ)) (a : Command) →
     SpellsAfter word texts a → 96 < get_or word 0 0
 letters word texts a h = letter_of_values table word texts (command_values a) refl h.1
+
+-- the word of a verb begins with a letter
+pub letter : (verb : Verb) → 96 < get_or (word_of verb) 0 0
+letter v.Now = lit< tt
+letter other = lit< tt

@@ -1,6 +1,6 @@
 -- Which line parses as which command, and what is wrong in a line that parses as none.
 use Rattle.std.specs.Prelude.{◌≡◌, ◌^◌, ◌-◌, ℕ, List, [], ◌∷◌, map, codes}
-use Rattle.grammar.specs.Fields.{u32_field, u64_field, Kind, Number, OfAddr, OfPeer, Hex, Random, Either, Nets, Classes, Value, TheNumber, TheAddr, ThePeer, TheBytes, TheWords, TheChoice, TheNets}
+use Rattle.grammar.specs.Fields.{u32_field, u64_field, Kind, Number, OfAddr, OfPeer, Hex, Random, Either, Nets, Classes, Value, AllMean, TheNumber, TheAddr, ThePeer, TheBytes, TheWords, TheChoice, TheNets}
 use Rattle.grammar.specs.Reading.{Says}
 use Rattle.grammar.specs.Table.{Table, kinds_after, ValuesAfter, FaultAfter}
 use Rattle.grammar.specs.Words.{fields_of}
@@ -108,6 +108,11 @@ verbs =
 
 abbrev pub table : Table
 table = map (λ verb. (word_of verb, kinds_of verb)) verbs
+
+-- the fields after a verb parse as the command
+abbrev pub SpellsBy : Verb → List (List ℕ) → Command → Type 0
+SpellsBy verb texts command =
+    (verb_of command ≡ verb) × AllMean (kinds_of verb) texts (command_values command)
 
 -- a first word and the fields after it parse as the command
 abbrev pub SpellsAfter : List ℕ → List (List ℕ) → Command → Type 0

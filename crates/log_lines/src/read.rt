@@ -3,7 +3,7 @@ ghost use Rattle.host_io.specs.Lines.{IsPassedOver};
 ghost use Rattle.grammar.specs.Fields.{AllMean, AreAtFault};
 ghost use Rattle.grammar.specs.declared.fault.LineFault.{LineFault};
 ghost use Rattle.log_lines.specs.Laws.{one_after, one_fault, no_fault};
-ghost use Rattle.log_lines.specs.Spelling.{kinds_of, verb_of, command_values, SpellsAfter, HasFaultAfter, SpellsCommand, HasCommandFault};
+ghost use Rattle.log_lines.specs.Spelling.{kinds_of, SpellsBy, SpellsAfter, HasFaultAfter, SpellsCommand, HasCommandFault};
 ghost use Rattle.log_lines.specs.declared.command.Command.{Command};
 ghost use Rattle.log_lines.specs.declared.verb.Verb.TheVariants as verbs;
 
@@ -29,7 +29,7 @@ type Message = (Source, (Payload, (Random, ())));
 type PeerAnd<F> = (OnePeer, (F, ()));
 
 /// The grammar of a log's lines.
-pub struct LogLines;
+pub(crate) struct LogLines;
 
 impl<T: Texts> Grammar<T> for LogLines {
     type Said = Command;
@@ -69,10 +69,10 @@ pub fn read_line(alloc: Global, line: &[u8]) -> Result<Option<Command>, LineFaul
     grammar::read_line::<LogLines>(alloc, line)
 }
 
-/// Reads the fields after a verb.
-fn read_command<T: Texts>(alloc: Global, verb: Verb, rest: T) -> Result<Command, LineFault>
-    ensures found { IfOk result (λ c. (verb_of c ≡ verb)
-        × AllMean (kinds_of verb) (T.texts rest) (command_values c)) }
+/// Reads the fields after a verb. A grammar that has these verbs among others calls it once it has
+/// found one.
+pub fn read_command<T: Texts>(alloc: Global, verb: Verb, rest: T) -> Result<Command, LineFault>
+    ensures found { IfOk result (λ c. SpellsBy verb (T.texts rest) c) }
     ensures fault { (f : LineFault) → result ≡ Err f → f ≢ LineFault.Memory →
         AreAtFault (kinds_of verb) (T.texts rest) f }
 {
@@ -148,8 +148,7 @@ fn read_nothing<T: Texts>(alloc: Global, command: Command, rest: T) -> Result<Co
 
 /// Reads the fields after `select`.
 fn read_select<T: Texts>(alloc: Global, rest: T) -> Result<Command, LineFault>
-    ensures found { IfOk result (λ c. (verb_of c ≡ verbs.Select)
-        × AllMean (kinds_of verbs.Select) (T.texts rest) (command_values c)) }
+    ensures found { IfOk result (λ c. SpellsBy verbs.Select (T.texts rest) c) }
     ensures fault { (f : LineFault) → result ≡ Err f → f ≢ LineFault.Memory →
         AreAtFault (kinds_of verbs.Select) (T.texts rest) f }
 {
@@ -166,8 +165,7 @@ fn read_select<T: Texts>(alloc: Global, rest: T) -> Result<Command, LineFault>
 
 /// Reads the fields after `sample`.
 fn read_sample<T: Texts>(alloc: Global, rest: T) -> Result<Command, LineFault>
-    ensures found { IfOk result (λ c. (verb_of c ≡ verbs.Sample)
-        × AllMean (kinds_of verbs.Sample) (T.texts rest) (command_values c)) }
+    ensures found { IfOk result (λ c. SpellsBy verbs.Sample (T.texts rest) c) }
     ensures fault { (f : LineFault) → result ≡ Err f → f ≢ LineFault.Memory →
         AreAtFault (kinds_of verbs.Sample) (T.texts rest) f }
 {

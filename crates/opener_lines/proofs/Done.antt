@@ -6,9 +6,7 @@ use Rattle.std.proofs.lemmas.Bool.{and_parts}
 use Rattle.host_io.specs.Lines.{IsPassedOver}
 use Rattle.net_addr.specs.declared.peer.Peer.{Peer}
 use Rattle.table_machine.specs.Clashes.{clash_pick}
-use Rattle.grammar.specs.Table.{ValuesAfter, kinds_after}
 use Rattle.log_lines.specs.Spelling as log
-use Rattle.log_lines.proofs.OneMeaning.{AreFieldsOf}
 use Rattle.log_lines.proofs.Percents.{percent}
 use Rattle.log_lines.specs.declared.command.Command.{Command}
 use Rattle.log_lines.specs.declared.command.Command.TheVariants as c
@@ -79,10 +77,10 @@ keeps : List ℕ → Bool
 keeps word = not (bytes_eq (take 4 word) (codes "save"))
 
 -- a command with such a word can be carried out
-can_do : (command : Command) (texts : List (List ℕ)) → keeps (log.word_of (log.verb_of command)) ≡ true → AreFieldsOf command texts
+can_do : (command : Command) (texts : List (List ℕ)) → keeps (log.word_of (log.verb_of command)) ≡ true → log.SpellsBy (log.verb_of command) texts command
     → manager.SavesNothing command × manager.HasPercent command
 unfolding keeps
-can_do (c.Sample max pct classes words) texts kept h = (tt, percent texts max pct classes words h)
+can_do (c.Sample max pct classes words) texts kept h = (tt, percent texts max pct classes words h.1)
 can_do other texts kept h = (first_of (search, cc kept), tt)
 
 some_in : {A : Type 0} (x y : A) → Some x ≡ Some y → x ≡ y
@@ -109,8 +107,8 @@ can_be_done line asked (word, texts, is, asks) = by (verb_at word) refl asks
     by (Some Close) found (peer, h, said) = subst CanBeDone (sym said) tt
     by (Some (Log verb)) found (command, h, said) =
         let kept = found_passes (λ w. bytes_eq (opener_word w) word) (λ w. keeps (opener_word w)) verbs (Log verb) refl found in
-        let meant = subst (λ w. ValuesAfter (kinds_after log.table w) texts (log.command_values command)) h.0 h.1 in
-        subst CanBeDone (sym said) (can_do command texts (subst (λ w. keeps w ≡ true) h.0 kept) meant)
+        let meant = subst (λ w. log.SpellsBy w texts command) (sym h.0) h in
+        subst CanBeDone (sym said) (can_do command texts (subst (λ w. keeps (log.word_of w) ≡ true) (sym h.0) kept) meant)
 
 -- a line that is passed over
 pub passed : (old : OpenerState) (line items : List ℕ) → IsPassedOver line → (text : List ℕ) × LineStep old line text old × (items ≡ items ++ text)

@@ -46,8 +46,7 @@ AsksBy (Some Feeler) texts asked =
 AsksBy (Some Close) texts asked =
     (peer : Peer) × AllMean (OfPeer ∷ []) texts (ThePeer peer ∷ []) × (asked ≡ request.Close peer)
 AsksBy (Some (Log verb)) texts asked =
-    (command : Command) × log.SpellsAfter (log.word_of verb) texts command
-    × (asked ≡ request.Machine command)
+    (command : Command) × log.SpellsBy verb texts command × (asked ≡ request.Machine command)
 
 -- the same by the first word
 abbrev pub AsksAfter : List ℕ → List (List ℕ) → Request → Type 0
@@ -59,7 +58,7 @@ FaultBy None texts f = f ≡ fault.Word
 FaultBy (Some Outbound) texts f = AreAtFault (u32_field ∷ []) texts f
 FaultBy (Some Feeler) texts f = AreAtFault (u32_field ∷ u64_field ∷ []) texts f
 FaultBy (Some Close) texts f = AreAtFault (OfPeer ∷ []) texts f
-FaultBy (Some (Log verb)) texts f = log.HasFaultAfter (log.word_of verb) texts f
+FaultBy (Some (Log verb)) texts f = AreAtFault (log.kinds_of verb) texts f
 
 abbrev pub FaultAfter : List ℕ → List (List ℕ) → LineFault → Type 0
 FaultAfter word texts f = FaultBy (verb_at word) texts f

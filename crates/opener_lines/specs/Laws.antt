@@ -5,7 +5,7 @@ use Rattle.grammar.specs.Fields.{Kind, OfPeer, Value, TheNumber, ThePeer, u32_fi
 use Rattle.grammar.specs.declared.fault.LineFault.{LineFault}
 use Rattle.grammar.proofs.TableLemmas.{found_word, no_fault_after, one_fault_after, one_list}
 use Rattle.log_lines.specs.Laws as log
-use Rattle.log_lines.specs.Spelling as spelling
+use Rattle.log_lines.specs.Spelling.{command_values, kinds_of}
 use Rattle.opener_lines.specs.Grammar.{AsksAfter, AsksBy, FaultAfter, FaultBy, verb_at, verbs, opener_word}
 use Rattle.opener_lines.specs.declared.request.Request.{Request}
 use Rattle.opener_lines.specs.declared.request.Request.TheVariants as request
@@ -55,7 +55,7 @@ one_asked word texts a b = by (verb_at word)
         (one_list one_peer texts (ThePeer p ∷ []) (ThePeer q ∷ []) refl h k)
         ∙ sym is'
     by (Some (Log verb)) (c, h, is) (d, k, is') =
-        is ∙ ap request.Machine (log.one_after (spelling.word_of verb) texts c d h k) ∙ sym is'
+        is ∙ ap request.Machine (log.one_by verb texts c d h k) ∙ sym is'
 
 pub one_fault : (word : List ℕ) (texts : List (List ℕ)) (f g : LineFault) →
     FaultAfter word texts f → FaultAfter word texts g → f ≡ g
@@ -66,7 +66,7 @@ one_fault word texts f g = by (verb_at word)
     by (Some Outbound) h k = one_fault_after (Some seeds) texts f g h k
     by (Some Feeler) h k = one_fault_after (Some pairs) texts f g h k
     by (Some Close) h k = one_fault_after (Some one_peer) texts f g h k
-    by (Some (Log verb)) h k = log.one_fault (spelling.word_of verb) texts f g h k
+    by (Some (Log verb)) h k = one_fault_after (Some (kinds_of verb)) texts f g h k
 
 pub no_fault : (word : List ℕ) (texts : List (List ℕ)) (a : Request) (f : LineFault) →
     AsksAfter word texts a → FaultAfter word texts f → ⊥
@@ -78,11 +78,15 @@ no_fault word texts a f = by (verb_at word)
     by (Some Feeler) (s, m, h, is) k =
         no_fault_after (Some pairs) texts (TheNumber s ∷ TheNumber m ∷ []) f h k
     by (Some Close) (p, h, is) k = no_fault_after (Some one_peer) texts (ThePeer p ∷ []) f h k
-    by (Some (Log verb)) (c, h, is) k = log.no_fault (spelling.word_of verb) texts c f h k
+    by (Some (Log verb)) (c, h, is) k =
+        no_fault_after (Some (kinds_of verb)) texts (command_values c) f h.1 k
 
--- the word of a verb that is found is that verb's
-word_is : (word : List ℕ) (verb : Verb) → verb_at word ≡ Some verb → word ≡ opener_word verb
-word_is word verb is = found_word opener_word verbs word verb is
+-- the word of a verb begins with a letter
+letter : (verb : Verb) → 96 < get_or (opener_word verb) 0 0
+letter Outbound = lit< tt
+letter Feeler = lit< tt
+letter Close = lit< tt
+letter (Log verb) = log.letter verb
 
 -- a line that asks for something begins with a letter
 pub letters : (word : List ℕ) (texts : List (List ℕ)) (a : Request) →
@@ -91,10 +95,5 @@ letters word texts a = by (verb_at word) refl
   where
     by : (o : Option Verb) → verb_at word ≡ o → AsksBy o texts a → 96 < get_or word 0 0
     by None is h = absurd h
-    by (Some Outbound) is h =
-        subst (λ w. 96 < get_or w 0 0) (sym (word_is word Outbound is)) (lit< tt)
-    by (Some Feeler) is h = subst (λ w. 96 < get_or w 0 0) (sym (word_is word Feeler is)) (lit< tt)
-    by (Some Close) is h = subst (λ w. 96 < get_or w 0 0) (sym (word_is word Close is)) (lit< tt)
-    by (Some (Log verb)) is (c, h, asks) =
-        subst (λ w. 96 < get_or w 0 0) (sym (word_is word (Log verb) is))
-        (log.letters (spelling.word_of verb) texts c h)
+    by (Some verb) is h =
+        subst (λ w. 96 < get_or w 0 0) (sym (found_word opener_word verbs word verb is)) (letter verb)

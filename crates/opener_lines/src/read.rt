@@ -8,10 +8,9 @@ ghost use Rattle.opener_lines.specs.declared.request.Request.{Request};
 use crate::verb::VERBS;
 use crate::{Request, Verb};
 use grammar::{
-    Between, Grammar, Keyword, LineFault, LongBetween, OnePeer, Texts, find_keyword, read_fields,
-    read_line,
+    Between, Grammar, LineFault, LongBetween, OnePeer, Texts, find_keyword, read_fields, read_line,
 };
-use log_lines::LogLines;
+use log_lines::read_command;
 use std::alloc::Global;
 
 /// The grammar of the lines of an opener's log.
@@ -78,7 +77,7 @@ fn read_asked<T: Texts>(alloc: Global, verb: Verb, rest: T) -> Result<Request, L
             Ok(Request::Close { peer })
         }
         Verb::Log(verb) => {
-            let command = <LogLines as Grammar<T>>::read_after(alloc, verb.word(), rest)?;
+            let command = read_command(alloc, verb, rest)?;
             Ok(Request::Machine(command))
         }
     }

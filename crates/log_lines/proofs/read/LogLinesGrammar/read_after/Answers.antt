@@ -1,12 +1,12 @@
 use Rattle.std.proofs.Common.{◌≡◌, ℕ, List, Result, Ok, Err, Option, Some, None, IfOk, find, sym, ap, subst, ◌∙◌}
 use Rattle.std.specs.Option.{option_map}
 use Rattle.std.specs.Prelude.{bytes_eq}
-use Rattle.grammar.specs.Fields.{AllMean, AreAtFault}
+use Rattle.grammar.specs.Fields.{AreAtFault}
 use Rattle.grammar.specs.Table.{ValuesAfter, FaultAfter, kinds_after}
 use Rattle.grammar.specs.declared.fault.LineFault.{LineFault}
 use Rattle.grammar.specs.declared.fault.LineFault.TheVariants as fault
 use Rattle.grammar.proofs.TableLemmas.{kinds_of_found, found_word}
-use Rattle.log_lines.specs.Spelling.{word_of, kinds_of, verb_of, command_values, table, SpellsAfter, HasFaultAfter}
+use Rattle.log_lines.specs.Spelling.{word_of, kinds_of, command_values, table, SpellsBy, SpellsAfter, HasFaultAfter}
 use Rattle.log_lines.specs.declared.command.Command.{Command}
 use Rattle.log_lines.specs.declared.verb.TheConstants.{VERBS}
 use Rattle.log_lines.specs.declared.verb.Verb.{Verb}
@@ -17,7 +17,7 @@ kinds_found : (word : List ℕ) (found : Option Verb) → found ≡ find (λ ver
 kinds_found word found is = kinds_of_found word_of kinds_of VERBS word ∙ ap (option_map kinds_of) (sym is)
 
 spelled : (word : List ℕ) (texts : List (List ℕ)) (verb : Verb) (read : Result Command LineFault) → Some verb ≡ find (λ v. bytes_eq (word_of v) word) VERBS →
-    IfOk read (λ c. (verb_of c ≡ verb) × AllMean (kinds_of verb) texts (command_values c)) → IfOk read (λ c. SpellsAfter word texts c)
+    IfOk read (λ c. SpellsBy verb texts c) → IfOk read (λ c. SpellsAfter word texts c)
 spelled word texts verb (Ok c) is h = (
   found_word word_of VERBS word verb (sym is) ∙ ap word_of (sym h.0),
   subst (λ o. ValuesAfter o texts (command_values c)) (sym (kinds_found word (Some verb) is)) h.1,
