@@ -12,7 +12,7 @@ use crate::{Memory, Status};
 use asmap_vm::Sane;
 use host_io::{Folder, Sink};
 use names::name_of;
-use net_addr::{NetAddr, put_addr, put_text};
+use net_addr::{NetAddr, put_addr, put_hex, put_number, put_text};
 use net_group::group;
 use placing::number_of;
 use std::alloc::Global;
@@ -59,24 +59,24 @@ fn put_class(addr: &NetAddr, out: &mut Vec<u8>) -> Result<(), Memory>
 }
 
 /// Appends the line of an AS number, unless it is 0.
-fn put_number(alloc: Global, number: u32, out: &mut Vec<u8>) -> Result<(), Memory>
+fn put_asn(number: u32, out: &mut Vec<u8>) -> Result<(), Memory>
     ensures { OnOk result (out.new.items ≡ out.old.items ++ number_line number) }
 {
     if number == 0 {
         return Ok(());
     }
-    put_line(b"asn ", number.to_string(alloc)?.as_bytes(), out)
+    put_number(b"asn ", u64::from(number), out)?;
+    put_text(b"\n", out)
 }
 
 /// Appends an AS number, and the group of an address under it.
 #[tactic(auto, unfolding(crate::specs::Address::group_lines))]
-fn put_group(alloc: Global, addr: &NetAddr, number: u32, out: &mut Vec<u8>) -> Result<(), Memory>
+fn put_group(addr: &NetAddr, number: u32, out: &mut Vec<u8>) -> Result<(), Memory>
     ensures { OnOk result (out.new.items ≡ out.old.items ++ group_lines addr.now number) }
 {
-    put_number(alloc, number, out)?;
-    let digits = hex::encode(alloc, group(addr, number).as_slice())?;
-    put_line(b"group ", digits.as_bytes(), out)?;
-    Ok(())
+    put_asn(number, out)?;
+    put_hex(b"group ", group(addr, number).as_slice(), out)?;
+    put_text(b"\n", out)
 }
 
 /// Returns the number that an asmap gives an address, 0 without an asmap.
@@ -97,7 +97,7 @@ fn address_text(alloc: Global, map: Option<Sane<'_>>, addr: &NetAddr) -> Result<
     let mut text = Vec::new(alloc);
     put_names(alloc, addr, &mut text)?;
     put_class(addr, &mut text)?;
-    put_group(alloc, addr, number_in(map, addr), &mut text)?;
+    put_group(addr, number_in(map, addr), &mut text)?;
     Ok(text)
 }
 

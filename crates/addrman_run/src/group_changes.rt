@@ -1,10 +1,9 @@
 ghost use Rattle.std.specs.Prelude.{◌≡◌, ◌++◌, IfOk, OnOk};
-ghost use Rattle.hex.specs.Hex.{encode_lower};
 ghost use Rattle.placing.specs.Inside.{asmap_of};
 ghost use Rattle.addrman_run.specs.GroupChanges.{change_line, change_lines, changes_group, changes_of, group_changes_text, groups_text, totals_line};
 
 use asmap_vm::Sane;
-use net_addr::{Memory, Peer, put_number, put_peer, put_text};
+use net_addr::{Memory, Peer, put_hex, put_number, put_peer, put_text};
 use net_group::group;
 use peer_rec::{FileRec, Snapshot};
 use placing::number_of;
@@ -94,13 +93,4 @@ fn put_groups(peer: &Peer, group: &[u8], old_group: &[u8], out: &mut Vec<u8>) ->
     put_hex(b" was ", old_group, out)?;
     put_text(b"\n", out)?;
     Ok(())
-}
-
-/// Appends a text and then bytes in hexadecimal.
-fn put_hex(word: &[u8], bytes: &[u8], out: &mut Vec<u8>) -> Result<(), Memory>
-    ensures { OnOk result (out.new.items ≡ out.old.items ++ word.now ++ encode_lower bytes.now) }
-{
-    put_text(word, out)?;
-    let digits = hex::encode(*out.allocator(), bytes)?;
-    put_text(digits.as_bytes(), out)
 }

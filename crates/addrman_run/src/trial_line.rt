@@ -3,7 +3,7 @@ ghost use Rattle.peer_rec.specs.declared.counts.Counts.{Counts};
 ghost use Rattle.addrman_run.specs.Trial.{sizes_text, with_counts, with_sum};
 
 use crate::Memory;
-use net_addr::put_number;
+use net_addr::{put_hex, put_number, put_text};
 use peer_rec::Counts;
 use std::alloc::Global;
 
@@ -17,13 +17,11 @@ fn put_counts(counts: Counts, out: &mut Vec<u8>) -> Result<(), Memory>
 }
 
 /// Appends the SHA-256 of the replies, and a line feed.
-fn put_sum(alloc: Global, sum: &[u8], out: &mut Vec<u8>) -> Result<(), Memory>
+fn put_sum(sum: &[u8], out: &mut Vec<u8>) -> Result<(), Memory>
     ensures { OnOk result (out.new.items ≡ with_sum out.old.items sum.now) }
 {
-    out.extend_from_slice(b" sum ")?;
-    out.extend_from_slice(hex::encode(alloc, sum)?.as_bytes())?;
-    out.extend_from_slice(b"\n")?;
-    Ok(())
+    put_hex(b" sum ", sum, out)?;
+    put_text(b"\n", out)
 }
 
 /// Returns the line about a trial: how many lines its log has and how many bytes its replies, the
@@ -42,6 +40,6 @@ pub(crate) fn line_of(
     put_number(b"trial lines ", u64::from(lines), &mut line)?;
     put_number(b" replies ", bytes, &mut line)?;
     put_counts(counts, &mut line)?;
-    put_sum(alloc, sum, &mut line)?;
+    put_sum(sum, &mut line)?;
     Ok(line)
 }

@@ -4,6 +4,7 @@ ghost use Rattle.names.specs.Base32.{letter, letters, base32};
 ghost use Rattle.names.specs.Inside.{value_of, five_bytes, bits_of, decoded};
 
 use arrayvec::ArrayVec;
+use net_addr::append;
 
 /// The letters of base 32, in lower case.
 const ALPHABET: [u8; 32] = *b"abcdefghijklmnopqrstuvwxyz234567";
@@ -31,15 +32,6 @@ fn letters(a: u8, b: u8, c: u8, d: u8, e: u8) -> [u8; 8]
         letter(n / 32),
         letter(n),
     ]
-}
-
-/// Appends the bytes, for which there is room.
-pub(crate) fn append<const N: usize>(out: &mut ArrayVec<u8, N>, bytes: &[u8])
-    requires { array_vec_len out.old + length bytes.now ≤ N }
-    ensures items { out.new.items ≡ out.old.items ++ bytes.now }
-    ensures len { array_vec_len out.new ≡ array_vec_len out.old + length bytes.now }
-{
-    out.try_extend_from_slice(bytes).unwrap();
 }
 
 /// Appends the letters of fewer than five bytes.

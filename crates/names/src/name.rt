@@ -7,9 +7,9 @@ ghost use Rattle.net_addr.specs.OldForm.{address};
 ghost use Rattle.names.specs.Inside.{decoded};
 ghost use Rattle.names.specs.Name.{HasLetters, IsLettered, checksum, encoded, letters_of};
 
-use crate::base32::{append, decode, encode};
+use crate::base32::{decode, encode};
 use arrayvec::ArrayVec;
-use net_addr::{Net, NetAddr};
+use net_addr::{Net, NetAddr, append};
 use sha3_short::sha3_256;
 
 /// Returns the bytes whose hash has the checksum of a public key.

@@ -13,7 +13,6 @@
 
 mod address;
 mod address_traits;
-mod append;
 mod entry;
 mod law;
 mod memory;
@@ -38,4 +37,4 @@ pub use print::{
     IPV4_TEXT, IPV6_TEXT, ipv4_text, ipv6_text, put_addr, put_ipv4, put_ipv6, put_peer,
 };
 pub use read::{around_last, parse_addr, parse_ipv4, parse_ipv6, parse_number, parse_peer};
-pub use text::{put_number, put_text};
+pub use text::{append, put_hex, put_number, put_text};

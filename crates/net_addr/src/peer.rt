@@ -1,5 +1,5 @@
 use crate::NetAddr;
-use crate::append::append;
+use crate::text::append;
 use arrayvec::ArrayVec;
 
 /// An address and a port.

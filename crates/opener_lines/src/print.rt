@@ -1,8 +1,7 @@
-ghost use Rattle.std.specs.Prelude.{◌≡◌, ◌++◌, codes, IfOk, OnOk};
-ghost use Rattle.hex.specs.Hex.{encode_lower};
+ghost use Rattle.std.specs.Prelude.{◌≡◌, ◌++◌, IfOk, OnOk};
 ghost use Rattle.opener_lines.specs.Texts.{closed_text, opened_text, tested_text, tries_text};
 
-use net_addr::{Memory, Peer, put_number, put_peer, put_text};
+use net_addr::{Memory, Peer, put_hex, put_number, put_peer, put_text};
 use std::alloc::Global;
 
 /// Returns the answer to a connection that was opened, with the peer's group in hexadecimal.
@@ -17,7 +16,7 @@ pub(crate) fn opened_text(
     let mut text = Vec::new(alloc);
     put_text(b"outbound ", &mut text)?;
     put_peer(peer, &mut text)?;
-    put_group(group, &mut text)?;
+    put_hex(b" group ", group, &mut text)?;
     put_tries(tries, &mut text)?;
     Ok(text)
 }
@@ -38,16 +37,6 @@ pub(crate) fn closed_text(was_open: bool) -> &'static [u8]
     ensures { result.now ≡ closed_text was_open }
 {
     if was_open { b"closed\n" } else { b"unknown\n" }
-}
-
-/// Appends a group in hexadecimal.
-fn put_group(group: &[u8], out: &mut Vec<u8>) -> Result<(), Memory>
-    ensures { OnOk result (out.new.items
-        ≡ out.old.items ++ codes " group " ++ encode_lower group.now) }
-{
-    put_text(b" group ", out)?;
-    let digits = hex::encode(*out.allocator(), group)?;
-    put_text(digits.as_bytes(), out)
 }
 
 /// Appends how many tries there were, and a line feed.

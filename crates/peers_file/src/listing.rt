@@ -1,8 +1,7 @@
 ghost use Rattle.std.specs.Prelude.{◌≡◌, ◌++◌, decimal, IfOk, OnOk};
-ghost use Rattle.hex.specs.Hex.{encode_lower};
 ghost use Rattle.peers_file.specs.Listing.{totals_text, summary_line, origin_text, history_text, record_line, record_lines, snapshot_text};
 
-use net_addr::{Memory, put_addr, put_number, put_peer, put_text};
+use net_addr::{Memory, put_addr, put_hex, put_number, put_peer, put_text};
 use peer_rec::{FileRec, Snapshot};
 use std::alloc::Global;
 
@@ -85,13 +84,4 @@ fn put_history(rec: &FileRec, out: &mut Vec<u8>) -> Result<(), Memory>
     put_number(b" services ", rec.services, out)?;
     put_number(b" success ", u64::from(rec.last_success), out)?;
     put_number(b" attempts ", u64::from(rec.attempts), out)
-}
-
-/// Appends a text and 32 bytes in hexadecimal after it.
-fn put_hex(word: &[u8], bytes: &[u8; 32], out: &mut Vec<u8>) -> Result<(), Memory>
-    ensures { OnOk result (out.new.items ≡ out.old.items ++ word.now ++ encode_lower bytes.now) }
-{
-    put_text(word, out)?;
-    let digits = hex::encode(*out.allocator(), bytes.as_slice())?;
-    put_text(digits.as_bytes(), out)
 }

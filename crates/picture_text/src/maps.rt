@@ -2,8 +2,9 @@ ghost use Rattle.std.specs.Prelude.{◌≡◌, ◌<◌, ◌≤◌, ◌++◌, len
 ghost use Rattle.picture_text.specs.Maps.{ground_text, map_opening, map_text, name_at, path_element, paths_text};
 
 use crate::Memory;
-use crate::pieces::{colour, put_around, put_numbered, put_text};
+use crate::pieces::{colour, put_around, put_numbered};
 use dot_runs::put_path;
+use net_addr::put_text;
 
 /// Appends the map of a table, `side` tiles wide, whose left edge is at `x`: a path for each name,
 /// from the mark 1 on.

@@ -6,8 +6,8 @@ ghost use Rattle.net_addr.specs.declared.net.Net.TheVariants.{Ipv4};
 ghost use Rattle.picture_text.specs.Names.{ipv4_name, ipv6_name, letter, letters_text, name_by, name_of, name_with, prefix_text};
 
 use crate::Memory;
-use crate::pieces::{put_around, put_number, put_numbered, put_text};
-use net_addr::{Net, NetAddr, array_of, put_ipv6};
+use crate::pieces::put_numbered;
+use net_addr::{Net, NetAddr, array_of, put_hex, put_ipv6, put_number, put_text};
 use placing::Placer;
 use std::alloc::Global;
 
@@ -39,7 +39,7 @@ fn put_by_class(addr: &NetAddr, class: Net, out: &mut Vec<u8>) -> Result<(), Mem
     ensures { OnOk result (out.new.items ≡ out.old.items ++ name_by class addr.now) }
 {
     match class {
-        Net::Unroutable => put_text(b"not routable", out),
+        Net::Unroutable => Ok(put_text(b"not routable", out)?),
         Net::Ipv4 => put_linked(addr, out),
         Net::Ipv6 => put_ipv6_prefix(addr.bytes(), addr, out),
         Net::Onion => put_letters(b"Tor v3 ", addr.bytes(), out),
@@ -94,8 +94,7 @@ fn put_prefix(bytes: &[u8], size: u128, width: u32, out: &mut Vec<u8>) -> Result
 {
     let bits = u128::from_be_bytes(array_of(bytes));
     put_ipv6(bits / size * size, out)?;
-    put_text(b"/", out)?;
-    put_number(width, out)?;
+    put_number(b"/", u64::from(width), out)?;
     Ok(())
 }
 
@@ -128,6 +127,7 @@ fn put_internal(bytes: &[u8], out: &mut Vec<u8>) -> Result<(), Memory>
     ensures { OnOk result (out.new.items ≡ out.old.items
         ++ (codes "internal " ++ (encode_lower (take 4 bytes.now) ++ codes ".."))) }
 {
-    let digits = hex::encode(*out.allocator(), &bytes[..4])?;
-    put_around(b"internal ", digits.as_bytes(), b"..", out)
+    put_hex(b"internal ", &bytes[..4], out)?;
+    put_text(b"..", out)?;
+    Ok(())
 }

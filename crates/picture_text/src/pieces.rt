@@ -2,22 +2,7 @@ ghost use Rattle.std.specs.Prelude.{◌≡◌, ◌+◌, ◌<◌, ◌^◌, ◌++�
 ghost use Rattle.picture_text.specs.Elements.{colour, count_text, name_text, row_text, swatch};
 
 use crate::Memory;
-use itoa::Buffer;
-
-/// Appends the bytes.
-pub(crate) fn put_text(text: &[u8], out: &mut Vec<u8>) -> Result<(), Memory>
-    ensures { OnOk result (out.new.items ≡ out.old.items ++ text.now) }
-{
-    out.extend_from_slice(text)?;
-    Ok(())
-}
-
-/// Appends a number in decimal.
-pub(crate) fn put_number(number: u32, out: &mut Vec<u8>) -> Result<(), Memory>
-    ensures { OnOk result (out.new.items ≡ out.old.items ++ decimal number) }
-{
-    put_text(Buffer::new().format(number).as_bytes(), out)
-}
+use net_addr::{put_number, put_text};
 
 /// Appends a text, a number in decimal, and a text.
 pub(crate) fn put_numbered(
@@ -29,8 +14,7 @@ pub(crate) fn put_numbered(
     ensures { OnOk result (out.new.items ≡ out.old.items
         ++ (before.now ++ (decimal number ++ after.now))) }
 {
-    put_text(before, out)?;
-    put_number(number, out)?;
+    put_number(before, u64::from(number), out)?;
     put_text(after, out)?;
     Ok(())
 }

@@ -13,4 +13,4 @@ pub returns : goal.returns
 returns c =
     five c.args.out.now.items (codes "# ") (peer_text c.args.peer.now) (codes " group ") (encode_lower c.args.group.now) (codes " was ") (encode_lower c.args.old_group.now) (codes "\n")
     c.put_text.new.out.items c.put_peer.new.out.items c.put_hex.new.out.items c.put_hex-2.new.out.items c.put_text-2.new.out.items
-    c.in_ok-put_text.ensures.ok c.in_ok-put_peer.ensures.ok c.in_ok-put_hex.ensures c.in_ok-put_hex-2.ensures c.in_ok-put_text-2.ensures.ok
+    c.in_ok-put_text.ensures.ok c.in_ok-put_peer.ensures.ok c.in_ok-put_hex.ensures.ok c.in_ok-put_hex-2.ensures.ok c.in_ok-put_text-2.ensures.ok
