@@ -72,7 +72,9 @@ pub one_after : (word : List ℕ) (texts : List (List ℕ)) (a b : Command) →
 one_after word texts a b h k =
     let values = one_values_after table word texts
     (command_values a) (command_values b) refl h.1 k.1 in
-    let words = sym (verb_back (verb_of a)) ∙ ap verb_with (sym h.0 ∙ k.0) ∙ verb_back (verb_of b) in
+    let words = sym (verb_back (verb_of a))
+    ∙ ap verb_with (sym h.0 ∙ k.0)
+    ∙ verb_back (verb_of b) in
     same_command a b words values
 
 -- or have one fault

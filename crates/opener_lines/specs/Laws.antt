@@ -96,4 +96,5 @@ letters word texts a = by (verb_at word) refl
     by : (o : Option Verb) → verb_at word ≡ o → AsksBy o texts a → 96 < get_or word 0 0
     by None is h = absurd h
     by (Some verb) is h =
-        subst (λ w. 96 < get_or w 0 0) (sym (found_word opener_word verbs word verb is)) (letter verb)
+        subst (λ w. 96 < get_or w 0 0) (sym (found_word opener_word verbs word verb is))
+        (letter verb)
