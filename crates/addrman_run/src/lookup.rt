@@ -10,10 +10,10 @@ ghost use Rattle.addrman_run.specs.declared.input.Input.TheVariants as input;
 use crate::file_line::{FileLine, Refusal};
 use crate::input::Input;
 use asmap_vm::{Sane, check};
-use net_addr::{NetAddr, Peer};
+use net_addr::{Memory, NetAddr, Peer, put_hex, put_number, put_text};
 use net_group::group;
 use placing::number_of;
-use std::alloc::{AllocError, Global};
+use std::alloc::Global;
 
 /// The command that says which number and group a peer's address has.
 #[derive(Drop)]
@@ -47,22 +47,21 @@ pub(crate) fn lookup_line(
     alloc: Global,
     asmap: &Sane<'_>,
     addr: &NetAddr,
-) -> Result<Vec<u8>, AllocError>
+) -> Result<Vec<u8>, Memory>
     ensures { IfOk result (λ text. text.items ≡ lookup_text (asmap_of asmap.now) addr.now) }
 {
     line_of(alloc, asmap, addr)
 }
 
 /// Returns the line with the number that an asmap gives an address, and the address's group.
-fn line_of(alloc: Global, asmap: &Sane<'_>, addr: &NetAddr) -> Result<Vec<u8>, AllocError>
+fn line_of(alloc: Global, asmap: &Sane<'_>, addr: &NetAddr) -> Result<Vec<u8>, Memory>
     ensures { IfOk result (λ text. text.items ≡
         number_text (number_by (tree_held asmap.now) (asmap_bits addr.now)) addr.now) }
 {
     let number = number_of(asmap, addr);
-    let mut text = Vec::from_slice(alloc, b"asn ")?;
-    text.extend_from_slice(number.to_string(alloc)?.as_bytes())?;
-    text.extend_from_slice(b" group ")?;
-    text.extend_from_slice(hex::encode(alloc, group(addr, number).as_slice())?.as_bytes())?;
-    text.extend_from_slice(b"\n")?;
+    let mut text = Vec::new(alloc);
+    put_number(b"asn ", u64::from(number), &mut text)?;
+    put_hex(b" group ", group(addr, number).as_slice(), &mut text)?;
+    put_text(b"\n", &mut text)?;
     Ok(text)
 }

@@ -17,8 +17,8 @@ use asmap_vm::{Sane, check};
 use grammar::{OnePeer, read_fields};
 use host_io::{Folder, Sink, Source, is_passed_over};
 use log_run::{LineSteps, Stop, run_log};
-use net_addr::NetAddr;
-use std::alloc::{AllocError, Global};
+use net_addr::{Memory, NetAddr, put_text};
+use std::alloc::Global;
 
 /// The asmap in which the peers of a log are looked up.
 #[derive(Drop)]
@@ -32,12 +32,12 @@ fn put_lookup(
     asmap: &Sane<'_>,
     addr: &NetAddr,
     out: &mut Vec<u8>,
-) -> Result<(), AllocError>
+) -> Result<(), Memory>
     ensures { OnOk result (out.new.items
         ≡ out.old.items ++ lookup_text (asmap_of asmap.now) addr.now) }
 {
     let line = lookup_line(alloc, asmap, addr)?;
-    out.extend_from_slice(line.as_slice())
+    put_text(line.as_slice(), out)
 }
 
 /// The lines of a log, a peer each. They change nothing.

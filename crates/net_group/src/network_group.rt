@@ -5,7 +5,7 @@ ghost use Rattle.net_addr.specs.Address.{net_number};
 ghost use Rattle.net_addr.specs.Ranges.{in_range, linked_by, net_class};
 
 use arrayvec::ArrayVec;
-use net_addr::{Net, NetAddr};
+use net_addr::{Net, NetAddr, append};
 
 /// Returns the network group of an address in the autonomous system `asn`, 0 if that is not known
 /// (`NetGroupManager::GetGroup` in netgroup.cpp of Bitcoin Core).
@@ -77,13 +77,4 @@ fn append_bits(group: &mut ArrayVec<u8, 11>, bytes: &[u8], bits: usize)
     if rest != 0 {
         group.push(bytes[whole] | (0xff >> rest));
     }
-}
-
-/// Appends the bytes, for which there is room.
-fn append(group: &mut ArrayVec<u8, 11>, bytes: &[u8])
-    requires { array_vec_len group.old + length bytes.now ≤ 11 }
-    ensures items { group.new.items ≡ group.old.items ++ bytes.now }
-    ensures len { array_vec_len group.new ≡ array_vec_len group.old + length bytes.now }
-{
-    group.try_extend_from_slice(bytes).unwrap();
 }
