@@ -5,6 +5,7 @@ use Rattle.std.proofs.lemmas.Fmt.{decimal_injective}
 use Rattle.std.proofs.lemmas.Slice.Eq.{bytes_eq-Decides}
 use Rattle.addr_codecs.specs.declared.form.Form.{Form}
 use Rattle.addr_codecs.specs.declared.form.Form.TheVariants.{Addr, Addrv2}
+use Rattle.grammar.specs.Contents.{number_in}
 use Rattle.grammar.specs.Fields.{Kind, OfAddr, Hex, Random, Either, Value, TheNumber, TheAddr, TheBytes, TheWords, TheChoice, AllMean, u32_field}
 use Rattle.addr_limit.specs.State.{LimitState}
 use Rattle.addr_limit.specs.Steps.{after_event}
@@ -43,10 +44,6 @@ named number n (text ∷ texts) kinds rest about is low means =
     let same : m.0 ≡ n = ap number_in (sym m.1) in
     is text texts ∙ ap (λ t. bytes_eq t (decimal number)) (m.4 ∙ ap decimal same)
     ∙ decimals n number (subst (λ k. k < 2 ^ 64) same (omega (arith, m.3))) low
-  where
-    number_in : Value → ℕ
-    number_in (TheNumber k) = k
-    number_in other = 0
 
 -- the test on a line's text tells which events concern the number
 pub about_is : (number : ℕ) (line : List ℕ) (e : Event) → number < 2 ^ 64 → SaysEvent line e → is_about number line ≡ concerns number e

@@ -10,7 +10,8 @@ use Rattle.addr_codecs.specs.declared.form.Form.TheVariants.{Addr, Addrv2}
 use Rattle.addr_codecs.specs.declared.fault.MsgFault.{MsgFault}
 use Rattle.addr_codecs.specs.declared.fault.MsgFault.TheVariants.{Trailing}
 use Rattle.addr_codecs.proofs.MessageLaws.{Reads-message, Reads-addr_entry, Reads-addrv2_entry}
-use Rattle.grammar.specs.Fields.{Value, TheNumber, TheAddr, TheBytes, TheWords, TheChoice}
+use Rattle.grammar.specs.Contents.{at, number_in}
+use Rattle.grammar.specs.Fields.{Value, TheAddr, TheBytes, TheWords, TheChoice}
 use Rattle.grammar.specs.Table.{all_definite}
 use Rattle.grammar.specs.declared.fault.LineFault.{LineFault}
 use Rattle.grammar.proofs.TableLemmas.{one_list, one_fault_after, no_fault_after}
@@ -32,10 +33,6 @@ apart e = subst (λ (word : List ℕ). Holds (get_or word 0 0 == 117)) e tt
 
 -- ---- values
 
-abbrev number_in : Value → ℕ
-number_in (TheNumber n) = n
-number_in other = 0
-
 abbrev addr_in : Address → Value → Address
 addr_in a (TheAddr b) = b
 addr_in a other = a
@@ -51,9 +48,6 @@ words_in other = []
 abbrev choice_in : Value → Bool
 choice_in (TheChoice b) = b
 choice_in other = false
-
-abbrev at : List Value → ℕ → Value
-at values i = get_or values i (TheNumber 0)
 
 definite : (verb : Verb) → all_definite (limit_kinds verb) ≡ true
 definite v.Now = refl

@@ -14,12 +14,13 @@ use Rattle.net_addr.proofs.Words.{AllBytes-high_first}
 use Rattle.wire_num.proofs.ReadingLaws.{AreBytes}
 use Rattle.addr_codecs.specs.Entries.{IsEntry}
 use Rattle.addr_codecs.specs.Layout.{IsAddrMessage, IsAddrv2Message}
+use Rattle.grammar.specs.Contents.{bytes_in, number_in}
 use Rattle.grammar.specs.Fields.{AllMean, Hex, Kind, Means, OfAddr, OfPeer, Random, TheAddr, TheBytes, TheNumber, Value, ThePeer, TheWords, u32_field, u64_field}
 use Rattle.log_lines.specs.Spelling.{SpellsCommand}
 use Rattle.log_lines.proofs.OneMeaning.{AreFieldsOf, fields_of_line}
 use Rattle.log_lines.specs.declared.command.Command.{Command}
 use Rattle.log_lines.specs.declared.command.Command.TheVariants as command
-use Rattle.session.proofs.OneHistory.{bytes_in, hex_bytes}
+use Rattle.session.proofs.OneHistory.{hex_bytes}
 use Rattle.causes.proofs.Bytes.{addr_message-fits, addrv2_message-fits}
 
 -- the source is an address, and a message of the payload has few entries, which fit
@@ -43,11 +44,7 @@ addressed text a (i2p h) = IsAddress-hex I2p h.digits a (λ e. cc) (λ e. cc) h.
 addressed text a (cjdns h) = IsAddress-hex Cjdns h.digits a (λ e. cc) (λ e. cc) h.hex
 addressed text a (internal h) = IsAddress-hex Internal h.digits a (λ e. cc) (λ e. cc) h.hex
 
--- what a value has
-abbrev number_in : Value → ℕ
-number_in (TheNumber n) = n
-number_in other = 0
-
+-- the address of a value
 abbrev address_in : Value → Address
 address_in (TheAddr a) = a
 address_in other = record { net = Unroutable; bytes = [] }

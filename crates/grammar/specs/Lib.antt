@@ -2,6 +2,7 @@ pub mod FaultTexts
 pub mod Random
 pub mod Words
 pub mod Fields
+pub mod Contents
 pub mod Table
 pub mod Reading
 pub mod Inside

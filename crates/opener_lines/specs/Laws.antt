@@ -1,6 +1,7 @@
 -- Why a line has one meaning.
 use Rattle.std.proofs.Common.{◌≡◌, ◌<◌, ℕ, List, [], ◌∷◌, Option, Some, None, get_or, lit<, refl, sym, ap, subst, ◌∙◌}
 use Rattle.net_addr.specs.declared.peer.Peer.{Peer}
+use Rattle.grammar.specs.Contents.{at, number_in}
 use Rattle.grammar.specs.Fields.{Kind, OfPeer, Value, TheNumber, ThePeer, u32_field, u64_field}
 use Rattle.grammar.specs.declared.fault.LineFault.{LineFault}
 use Rattle.grammar.proofs.TableLemmas.{found_word, no_fault_after, one_fault_after, one_list}
@@ -12,16 +13,9 @@ use Rattle.opener_lines.specs.declared.request.Request.TheVariants as request
 use Rattle.opener_lines.specs.declared.verb.Verb.{Verb}
 use Rattle.opener_lines.specs.declared.verb.Verb.TheVariants.{Outbound, Feeler, Close, Log}
 
-abbrev number_in : Value → ℕ
-number_in (TheNumber n) = n
-number_in other = 0
-
 abbrev peer_in : Peer → Value → Peer
 peer_in p (ThePeer q) = q
 peer_in p other = p
-
-abbrev at : List Value → ℕ → Value
-at values i = get_or values i (TheNumber 0)
 
 abbrev seeds : List Kind
 seeds = u32_field ∷ []

@@ -13,7 +13,8 @@ use Rattle.addr_codecs.specs.Layout.{addr_entry, addrv2_entry, message}
 use Rattle.addr_codecs.specs.declared.fault.MsgFault.{MsgFault}
 use Rattle.addr_codecs.specs.declared.fault.MsgFault.TheVariants.{Trailing}
 use Rattle.addr_codecs.proofs.MessageLaws.{Reads-addr_entry, Reads-addrv2_entry, Reads-message}
-use Rattle.grammar.specs.Fields.{AllMean, Hex, IsHex, OfAddr, Random, TheAddr, TheBytes, TheWords, Value}
+use Rattle.grammar.specs.Contents.{bytes_in}
+use Rattle.grammar.specs.Fields.{AllMean, Hex, IsHex, OfAddr, Random, TheAddr, TheBytes, TheWords}
 use Rattle.log_lines.specs.Replies.{reply_text}
 use Rattle.log_lines.specs.Spelling.{SpellsCommand}
 use Rattle.log_lines.specs.declared.command.Command.{Command}
@@ -35,10 +36,6 @@ use Rattle.session.proofs.Effects.{no_save, of_event, saves_nothing}
 pub hex_bytes : (text bytes : List ℕ) → IsHex text bytes → AreBytes bytes
 hex_bytes text bytes (inl none) = subst AreBytes (sym none.1) (λ i. lit< tt)
 hex_bytes text bytes (inr some) = (decode_of-ok text bytes some.1).3
-
-abbrev pub bytes_in : Value → List ℕ
-bytes_in (TheBytes bytes) = bytes
-bytes_in other = []
 
 message_bytes : (source : Address) (payload words : List ℕ) (texts : List (List ℕ))
     → AllMean (OfAddr ∷ Hex ∷ Random ∷ []) texts (TheAddr source ∷ TheBytes payload ∷ TheWords words ∷ []) → AreBytes payload
