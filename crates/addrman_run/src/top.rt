@@ -45,12 +45,11 @@ use std::hash::BuildHasher;
 /// received addresses, and writes the log that is left. `show --net CHAIN` lists what peers.dat
 /// has, and `picture --net CHAIN` draws its tables. As JSON, `raw --net CHAIN` prints its records
 /// by their slots, `info --net CHAIN` how many each network has, and `groups --net CHAIN` how many
-/// each group. `ban SUBNET NOW UNTIL`
-/// and `unban SUBNET` change the list of bans in banlist.json, `banned PEER NOW` writes which ban
-/// covers the peer's address, and `bans NOW` the bans that are not over, as JSON. `gen START LINES`
-/// writes a generated log, and `trial START LINES` carries it out from empty tables and writes one
-/// line about the replies. `help COMMAND` writes the page of a command, and `help` the list of all;
-/// `version` writes the version and the toolchain.
+/// each group. `ban SUBNET NOW UNTIL` and `unban SUBNET` change the list of bans in banlist.json,
+/// `banned PEER NOW` writes which ban covers the peer's address, and `bans NOW` the bans that are
+/// not over, as JSON. `gen START LINES` writes a generated log, and `trial START LINES` carries it
+/// out from empty tables and writes one line about the replies. `help COMMAND` writes the page of a
+/// command, and `help` the list of all; `version` writes the version and the toolchain.
 pub fn run<L: Source, F: Folder, K: Sink, H: BuildHasher + Drop>(
     alloc: Global,
     hasher: H,

@@ -36,7 +36,7 @@ fn put_first(row: &[u8], mark: u8, x: u32, y: u32, out: &mut Vec<u8>) -> Result<
     Ok(wide)
 }
 
-/// Returns how many of the first marks are equal.
+/// Returns how many marks at the start are equal.
 #[tactic(auto, using(crate::proofs::Runs::run_some))]
 fn first_run(row: &[u8]) -> usize
     requires { 0 < length row.now }

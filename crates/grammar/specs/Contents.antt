@@ -12,6 +12,6 @@ abbrev pub bytes_in : Value → List ℕ
 bytes_in (TheBytes bytes) = bytes
 bytes_in other = []
 
--- the value of field i
+-- the value of field i, the number 0 if there is none
 abbrev pub at : List Value → ℕ → Value
 at values i = get_or values i (TheNumber 0)

@@ -336,7 +336,8 @@ impl Folder for MemFolder {
         self.carry_out(Action::Create { name }, Change::Created { name })
     }
 
-    /// Appends `bytes` to the file. Fails if this call was chosen to fail, or out of memory.
+    /// Appends `bytes` to the file. Fails if this call was chosen to fail, or if memory runs
+    /// out.
     fn append(&mut self, name: Name, bytes: &[u8]) -> Result<(), Failed>
         requires { IsSome (under (files_in self.old) name) }
         ensures chosen { IsSome (next_fault self.old) → IsErr result }

@@ -15,9 +15,8 @@
 //!    At most one bucket's triples a pair of groups select theirs, if they announce peers of some
 //!    groups only (`groups_reach_few`). And n records, of however many groups, are selected by at
 //!    most the triples whose starts lead to their slots, and by at most those of 8 n buckets
-//!    (`odds_are_bounded`). What bounds
-//!    the triples bounds the share of the searches, however many rounds they take
-//!    (`searches_share_alike`).
+//!    (`odds_are_bounded`). What bounds the triples bounds the share of the searches, however many
+//!    rounds they take (`searches_share_alike`).
 //! 4. A record is lost only if it is terrible and its last slot goes to another, or if a tried
 //!    record that a success displaces takes that slot (`losses_have_causes`,
 //!    `runs_lose_with_causes`).

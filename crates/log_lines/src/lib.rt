@@ -6,8 +6,8 @@
 //! - `read_line` gives a command exactly if the line parses as it (`found`, `only`), `None` exactly
 //!   for a line that is passed over (`passed`), and a fault exactly if it is the line's (`fault`,
 //!   `only_fault`), unless memory runs out. No line has two meanings (`lines_have_one_meaning`).
-//! - `read_command` gives the command that the fields after a verb parse as, or their fault
-//!   (`found`, `fault`).
+//! - `read_command` gives the command that the fields after a verb parse as, or their fault, unless
+//!   memory runs out (`found`, `fault`).
 //! - `put_reply` appends exactly the text of the reply (`ok`, `err`).
 //!
 //! Tested only: the texts of the faults.

@@ -5,10 +5,10 @@
 //!
 //! Proved:
 //! - `difference` gives the largest prefixes on which both asmaps are constant and differ, in their
-//!   order (`rows`), and refuses exactly what has more than 2,000,000 (`too_many`, `cause`). Their
-//!   addresses are as many as those with two numbers (`counted`).
-//! - `put_difference` writes exactly the lines of `difference_text` (`ok`), a form after
-//!   contrib/asmap/asmap-tool.py of Bitcoin Core.
+//!   order (`rows`). Unless memory runs out, it refuses exactly what has more than 2,000,000
+//!   (`too_many`, `cause`). Their addresses are as many as those with two numbers (`counted`).
+//! - `put_difference` writes exactly the lines of `difference_text` (`ok`), whose form follows
+//!   contrib/asmap/asmap-tool.py of Bitcoin Core but for the last line.
 //! - An address is covered by a change exactly if the asmaps give it two numbers, and the first
 //!   change that covers it has both (`exact`). No list of prefixes on which both are constant and
 //!   differ covers these addresses with fewer (`fewest`).

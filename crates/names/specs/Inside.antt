@@ -1,4 +1,4 @@
--- The bytes that letters of base 32 encode, if they encode some.
+-- The bytes that letters of base 32 encode; some other bytes if the letters encode none.
 use Rattle.std.specs.Prelude.{ℕ, ◌+◌, ◌-◌, ◌*◌, ◌/◌, ◌%◌, List, [], ◌∷◌, ◌++◌, nat_lt, if◌then◌else◌}
 
 -- the value of a letter, 0 for other bytes

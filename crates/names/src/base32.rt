@@ -98,8 +98,8 @@ fn half(s: u8, t: u8, u: u8, v: u8) -> u64
     ((value_of(s) * 32 + value_of(t)) * 32 + value_of(u)) * 32 + value_of(v)
 }
 
-/// Returns the bytes that the letters encode, if they encode some: the caller encodes the bytes
-/// again and compares.
+/// Returns the bytes that the letters encode. If they encode none, it returns some other bytes, so
+/// the caller encodes them again and compares.
 pub(crate) fn decode(letters: &[u8; 64]) -> ArrayVec<u8, 40>
     ensures items { result.items ≡ decoded letters.now }
     ensures len { array_vec_len result ≡ 40 }

@@ -137,8 +137,8 @@ HasRowFault before line n TooMany = IsOneTooMany before line
 HasRowFault before line n (TooLarge size) = ⊥
 HasRowFault before line n Memory = ⊥
 
--- The text has a first line with a fault: those before it are passed over or are those of rows
--- with distinct prefixes, and it has the fault.
+-- The first line with a fault has this one: the lines before it are passed over or are those of
+-- rows with distinct prefixes.
 pub record IsFault (text : List ℕ) (fault : TableFault) : Type 0 where
   pub before : List (List ℕ)
   pub line : List ℕ

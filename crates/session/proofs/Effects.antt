@@ -32,7 +32,7 @@ pub peers_apart : Peers ≢ PeersTemp
 unfolding IsPeers
 peers_apart e = subst IsPeers e tt
 
--- a save is open unless there is none
+-- if it cannot be that a save is open, none is
 pub is_none : (job : Option Job) → ¬ (job ≢ None) → job ≡ None
 is_none None apart = refl
 is_none (Some j) apart = absurd (apart (λ e. cc e))

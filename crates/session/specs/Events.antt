@@ -59,7 +59,8 @@ save_end None done = event reply.NoSave None None
 save_end (Some job) true = event reply.Saved None (Some (Saved (whole job)))
 save_end (Some job) false = event reply.NotSaved None (Some (NotSaved (whole job)))
 
--- what a save command does, with the file of the tables; any other command is no save
+-- The event of a save command, by whether it is done, with the file of the tables; other commands
+-- have none. `busy` and `no save` are the same either way.
 abbrev pub event_of : List ℕ → Option Job → Command → Option (Bool → Event)
 event_of file old command.Save = Some (save file old)
 event_of file old command.SaveBegin = Some (save_begin file old)

@@ -1,4 +1,4 @@
--- What an event and any command have done.
+-- What an event has done, and what a command has done.
 use Rattle.std.specs.Prelude.{ℕ, List, Bool, Option}
 use Rattle.host_io.specs.Past.{Past, Always}
 use Rattle.log_lines.specs.declared.command.Command.{Command}

@@ -45,7 +45,8 @@ MachineStep old asked answer new ended =
     × (new ≡ record old { machine = machine }) × (ended ≡ None)
 
 -- What a command is answered, the state after it, and the save that ended in it. A save command has
--- only steps of the open save, and any other one only those of the machine.
+-- only steps of the open save, and any other one only those of the machine, since `event_of` has
+-- none for the others, and `manager.Step` none for these.
 abbrev pub CommandStep : SessionState → Command → Reply → SessionState → Option Ended → Type 0
 CommandStep old asked answer new ended =
     JobStep old asked answer new ended ⊎ MachineStep old asked answer new ended
