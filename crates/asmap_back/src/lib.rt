@@ -4,8 +4,8 @@
 //! row, unless the longest row that is a shorter prefix of it has this number (`rows`). Their
 //! longest match gives each of the 2^128 addresses the number of the asmap (`best`, `asn`). Unless
 //! memory runs out, it refuses exactly what has more than 2,000,000 rows (`too_many`, `cause`);
-//! `fits_table` says whether an asmap has no more (`few`, `many`). `BackRows` gives the same rows one
-//! after another, and `write_rows` writes their lines; none of these three takes memory.
+//! `fits_table` says whether an asmap has no more (`few`, `many`). `BackRows` gives the same rows
+//! one after another, and `write_rows` writes their lines; none of these three takes memory.
 //!
 //! Tested besides: against an independent program, on 40 random codes.
 #![tactic(auto)]
