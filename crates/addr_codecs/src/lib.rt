@@ -31,5 +31,5 @@ pub use fault::MsgFault;
 pub use form::Form;
 pub use law::messages_have_one_meaning;
 pub use memory::Memory;
-pub use message::{read_addr, read_addrv2, read_message};
+pub use message::{MAX_ENTRIES, read_addr, read_addrv2, read_message};
 pub use writing::{put_address, write_addr, write_addrv2};

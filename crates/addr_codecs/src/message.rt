@@ -15,7 +15,7 @@ use std::alloc::Global;
 use wire_num::take_compact;
 
 /// The entries of a message, at most (`MAX_ADDR_TO_SEND` in net_processing.cpp of Bitcoin Core).
-const MAX_ENTRIES: u64 = 1000;
+pub const MAX_ENTRIES: u64 = 1000;
 
 /// Takes this many entries.
 fn take_entries(
