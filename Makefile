@@ -9,6 +9,7 @@
 # make lib        proves the library for C, and builds bin/lib/libaddrman.a and libaddrman.so.1
 # make lib-test   tries it from C, C++, Rust and Python, beside the built program
 # make ci-lib-test  the same with what rt ci has just proved and built in this clone
+# make ci-program-test  endings, mistakes and examples with what rt ci has just proved and built in this clone
 # make packed     tries make install and make dist
 # make figures    prints lines, words and the like, and checks the names that docs/DEFINITIONS.md lists
 # make install    copies program, manual page, completion, and the library for C if it is built,
@@ -23,7 +24,7 @@ DIST := addrman-$(VERSION)-x86_64-linux
 # Where the toolchain has its part of the C library: the allocator that the library calls.
 KIT = $(shell dirname "$$(dirname "$$(readlink -f "$$(command -v rt)")")")
 
-.PHONY: all try demo examples flood endings mistakes packed test figures lib lib-test ci-lib-test archive install \
+.PHONY: all try demo examples flood endings mistakes packed test figures lib lib-test ci-lib-test ci-program-test archive install \
 	install-lib dist
 
 all:
@@ -60,6 +61,11 @@ flood: all
 
 endings: all
 	tools/endings
+
+ci-program-test:
+	tools/endings crates/addrman/out/addrman
+	tools/mistakes crates/addrman/out/addrman
+	tools/examples crates/addrman/out/addrman
 
 packed: all
 	tools/packed
