@@ -1,4 +1,5 @@
 pub mod Addresses
+pub mod Handles
 pub mod Lists
 pub mod OnHandles
 pub mod Sets
