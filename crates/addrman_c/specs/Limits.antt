@@ -1,6 +1,7 @@
 -- What the calls on the limit of received addresses return, write and leave.
 use Rattle.std.specs.Prelude.{◌≡◌, ◌⊎◌, ℕ, ◌<◌, ◌≤◌, List, [], Bool, is_none, Option, Some, None, MatchOption}
 use Rattle.net_addr.specs.Address.{Address}
+use Rattle.addr_codecs.specs.declared.message.TheConstants.{MAX_ENTRIES}
 use Rattle.addr_limit.specs.State.{find_conn}
 use Rattle.addr_limit.specs.Steps.{new_conn}
 use Rattle.addr_limit.specs.Tokens.{refill, intake_count}
@@ -40,12 +41,12 @@ asked_number Unknown = 0
 asked_number Already = 1
 asked_number Granted = 2
 
--- How many entries of a message are admitted. No message has more than 1000, and a number may have
--- no connection.
+-- How many entries of a message are admitted. A count above the maximum of a message is refused, and
+-- a number may have no connection.
 abbrev pub AdmitCall : ℕ → ℕ → Option Conn → List Conn → ℕ → ℕ → List Conn → Type 0
 AdmitCall count now found old code admitted new =
-    ((1000 < count) × (code ≡ ARGUMENT) × (new ≡ old))
-    ⊎ ((count ≤ 1000) × (new ≡ after_taking now count found old)
+    ((MAX_ENTRIES < count) × (code ≡ ARGUMENT) × (new ≡ old))
+    ⊎ ((count ≤ MAX_ENTRIES) × (new ≡ after_taking now count found old)
     × MatchOption found (code ≡ NONE)
     (λ c. (code ≡ OK) × (admitted ≡ intake_count (refill now c) count)))
 

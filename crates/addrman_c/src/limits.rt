@@ -8,6 +8,7 @@ use crate::code::{ARGUMENT, CLOSED, MEMORY, NONE, OK};
 use crate::limiter_handle::{KeptLimiter, LimiterHandle};
 use crate::structs::AddrmanLimits;
 use crate::values::{AddrmanAddr, bit, read_addr};
+use addr_codecs::MAX_ENTRIES;
 use addr_limit::{Asked, Conn, Limiter};
 use keyed_hasher::Keyed;
 use net_addr::NetAddr;
@@ -154,7 +155,7 @@ fn admit_on(
         admitted.new limiter.new }
     ensures same { result ≢ OK → admitted.new ≡ admitted.old }
 {
-    if count > 1000 {
+    if u64::from(count) > MAX_ENTRIES {
         return ARGUMENT;
     }
     match limiter.admit(number, count, now) {
