@@ -1,6 +1,7 @@
-ghost use Rattle.std.specs.Prelude.{◌≡◌, ◌≢◌, ◌<◌, ◌≤◌, List, length, IfOk, OnOk, ℕ};
+ghost use Rattle.std.specs.Prelude.{◌≡◌, ◌≢◌, ◌<◌, ◌≤◌, ◌*◌, List, length, IfOk, OnOk, ℕ};
 ghost use Rattle.group_counts.specs.Ranks.{entries_of, groups_of};
 ghost use Rattle.group_counts.specs.Tally.{tally_of, count_in, noted, occurrences};
+ghost use Rattle.slot_grid.specs.declared.sizes.TheConstants.{ALL_SLOTS};
 
 use crate::{Counted, Lent, Memory};
 use indexmap::IndexMap;
@@ -18,7 +19,7 @@ pub fn count_groups<H: BuildHasher>(
     hasher: &H,
     keys: &[u128],
 ) -> Result<Vec<Counted>, Memory>
-    requires few { length keys.now ≤ 163840 }
+    requires few { length keys.now ≤ 2 * ALL_SLOTS }
     ensures groups { IfOk result (λ groups. groups.items ≡ groups_of keys.now) }
     ensures few { IfOk result (λ groups. length groups.items ≤ length keys.now) }
 {
@@ -45,7 +46,7 @@ pub fn tally<'a, H: BuildHasher>(
     hasher: &'a H,
     keys: &[u128],
 ) -> Result<Tally<'a, H>, Memory>
-    requires few { length keys.now ≤ 163840 }
+    requires few { length keys.now ≤ 2 * ALL_SLOTS }
     ensures tally { IfOk result (λ map. map.entries ≡ tally_of keys.now) }
 {
     let mut map = IndexMap::with_hasher(alloc, Lent::of(hasher));
@@ -57,7 +58,7 @@ pub fn tally<'a, H: BuildHasher>(
 
 /// Counts one slot more of a key, unless it is 0.
 fn note<H: BuildHasher>(map: &mut Tally<'_, H>, key: u128) -> Result<(), Memory>
-    requires { (k : ℕ) → count_in map.old.entries k < 163840 }
+    requires { (k : ℕ) → count_in map.old.entries k < 2 * ALL_SLOTS }
     ensures { OnOk result (map.new.entries ≡ noted map.old.entries key) }
 {
     if key != 0 {

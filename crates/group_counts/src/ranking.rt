@@ -1,6 +1,7 @@
 ghost use Rattle.std.specs.Prelude.{◌≡◌, ◌<◌, ◌≤◌, length, take, IfOk, OnOk};
 ghost use Rattle.arrayvec.specs.ArrayVec.{array_vec_len};
 ghost use Rattle.group_counts.specs.Ranks.{above, comes_before, first_six, in_order, placed, rank_in};
+ghost use Rattle.slot_grid.specs.declared.sizes.TheConstants.{NEW_SLOTS};
 
 use crate::{Counted, Memory};
 use arrayvec::ArrayVec;
@@ -78,7 +79,7 @@ fn put_in_order(list: &mut Vec<Counted>, group: Counted) -> Result<(), Memory>
 
 /// Returns how many groups have more than `limit` slots.
 pub fn above(groups: &[Counted], limit: u32) -> u32
-    requires { length groups.now < 65537 }
+    requires { length groups.now ≤ NEW_SLOTS }
     ensures { result ≡ above limit groups.now }
 {
     let mut count = 0;

@@ -4,6 +4,10 @@ pub const NEW_BUCKETS: u16 = 1024;
 pub const TRIED_BUCKETS: u16 = 256;
 /// The slots of a bucket of either table (`ADDRMAN_BUCKET_SIZE`).
 pub const SLOTS: u8 = 64;
+/// The slots of the new table.
+pub const NEW_SLOTS: usize = NEW_BUCKETS as usize * SLOTS as usize;
+/// The slots of the tried table.
+pub const TRIED_SLOTS: usize = TRIED_BUCKETS as usize * SLOTS as usize;
 /// The buckets of both tables.
 pub(crate) const BUCKETS: usize = NEW_BUCKETS as usize + TRIED_BUCKETS as usize;
 /// The slots of both tables.
