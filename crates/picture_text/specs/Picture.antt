@@ -8,13 +8,14 @@ use Rattle.picture_text.specs.Elements.{colour, ground, count_text, row_text, ne
 use Rattle.picture_text.specs.Head.{head_text, labels_text, opening_text}
 use Rattle.picture_text.specs.Maps.{map_text, name_at}
 use Rattle.picture_text.specs.Marks.{marks_of}
+use Rattle.slot_grid.specs.declared.sizes.TheConstants.{NEW_SLOTS}
 
 -- the keys or marks of the new table's slots, and those of the tried table's, which come after them
 unfoldable pub in_new : List ℕ → List ℕ
-in_new slots = take 65536 slots
+in_new slots = take NEW_SLOTS slots
 
 unfoldable pub in_tried : List ℕ → List ℕ
-in_tried slots = drop 65536 slots
+in_tried slots = drop NEW_SLOTS slots
 
 -- the keys of the six groups with the most slots
 unfoldable pub listed_keys : List ℕ → List ℕ

@@ -1,6 +1,7 @@
 ghost use Rattle.std.specs.Prelude.{◌≡◌, ◌+◌, ◌*◌, ◌<◌, ◌≤◌, ◌++◌, length, map, OnOk, IfOk, slice_index};
 ghost use Rattle.group_counts.specs.Buckets.{bucket_keys};
 ghost use Rattle.picture_text.specs.Picture.{free_row, group_row, group_rows, others_name, others_row, others_text, rows_text, top_of};
+ghost use Rattle.slot_grid.specs.declared.sizes.TheConstants.{ALL_SLOTS, NEW_SLOTS};
 
 use crate::Memory;
 use crate::maps::name_at;
@@ -28,9 +29,9 @@ fn put_group_row(
     index: u8,
     out: &mut Vec<u8>,
 ) -> Result<(), Memory>
-    requires keys { length keys.now ≡ 81920 }
+    requires keys { length keys.now ≡ ALL_SLOTS }
     requires buckets { buckets.now ≡ bucket_keys keys.now }
-    requires few { length buckets.now ≤ 65536 }
+    requires few { length buckets.now ≤ NEW_SLOTS }
     requires index { index < length listed.now }
     requires names { length listed.now ≤ length names.now }
     ensures { OnOk result (out.new.items ≡ out.old.items
@@ -59,9 +60,9 @@ fn put_group_rows(
     names: &[Vec<u8>],
     out: &mut Vec<u8>,
 ) -> Result<(), Memory>
-    requires keys { length keys.now ≡ 81920 }
+    requires keys { length keys.now ≡ ALL_SLOTS }
     requires buckets { buckets.now ≡ bucket_keys keys.now }
-    requires few { length buckets.now ≤ 65536 }
+    requires few { length buckets.now ≤ NEW_SLOTS }
     requires listed { length listed.now ≤ 6 }
     requires names { length listed.now ≤ length names.now }
     ensures { OnOk result (out.new.items ≡ out.old.items
@@ -85,7 +86,7 @@ pub(crate) fn others_name(alloc: Global, others: u32) -> Result<Vec<u8>, Memory>
 
 /// Appends the row of the groups that are not listed, if there are some.
 fn put_others_row(marks: &[u8], others: u32, out: &mut Vec<u8>) -> Result<(), Memory>
-    requires { length marks.now ≡ 81920 }
+    requires { length marks.now ≡ ALL_SLOTS }
     ensures { OnOk result (out.new.items ≡ out.old.items ++ others_row marks.now others) }
 {
     if others == 0 {
@@ -97,7 +98,7 @@ fn put_others_row(marks: &[u8], others: u32, out: &mut Vec<u8>) -> Result<(), Me
 /// Appends the row of the groups that are not listed.
 #[tactic(auto, unfolding(crate::specs::Picture::others_text))]
 fn put_others(marks: &[u8], others: u32, out: &mut Vec<u8>) -> Result<(), Memory>
-    requires { length marks.now ≡ 81920 }
+    requires { length marks.now ≡ ALL_SLOTS }
     ensures { OnOk result (out.new.items ≡ out.old.items ++ others_text marks.now others) }
 {
     let name = others_name(*out.allocator(), others)?;
@@ -115,7 +116,7 @@ fn put_others(marks: &[u8], others: u32, out: &mut Vec<u8>) -> Result<(), Memory
 /// Appends the row of the free slots.
 #[tactic(auto, unfolding(crate::specs::Picture::free_row))]
 fn put_free_row(keys: &[u128], index: u8, out: &mut Vec<u8>) -> Result<(), Memory>
-    requires { length keys.now ≡ 81920 }
+    requires { length keys.now ≡ ALL_SLOTS }
     ensures { OnOk result (out.new.items ≡ out.old.items ++ free_row keys.now index) }
 {
     put_row(
@@ -141,10 +142,10 @@ pub(crate) fn put_rows(
     others: u32,
     out: &mut Vec<u8>,
 ) -> Result<(), Memory>
-    requires keys { length keys.now ≡ 81920 }
-    requires marks { length marks.now ≡ 81920 }
+    requires keys { length keys.now ≡ ALL_SLOTS }
+    requires marks { length marks.now ≡ ALL_SLOTS }
     requires buckets { buckets.now ≡ bucket_keys keys.now }
-    requires few { length buckets.now ≤ 65536 }
+    requires few { length buckets.now ≤ NEW_SLOTS }
     requires listed { length listed.now ≤ 6 }
     requires names { length listed.now ≤ length names.now }
     requires few_names { length names.now ≤ 7 }

@@ -1,5 +1,6 @@
 ghost use Rattle.std.specs.Prelude.{◌≡◌, ◌<◌, ◌≤◌, ◌++◌, length, map, OnOk};
 ghost use Rattle.picture_text.specs.Maps.{ground_text, map_opening, map_text, name_at, path_element, paths_text};
+ghost use Rattle.slot_grid.specs.declared.sizes.TheConstants.{NEW_SLOTS};
 
 use crate::Memory;
 use crate::pieces::{colour, put_around, put_numbered};
@@ -17,7 +18,7 @@ pub(crate) fn put_map(
     out: &mut Vec<u8>,
 ) -> Result<(), Memory>
     requires some { 0 < side }
-    requires few { length marks.now ≤ 65536 }
+    requires few { length marks.now ≤ NEW_SLOTS }
     requires names { length names.now ≤ 7 }
     ensures { OnOk result (out.new.items ≡ out.old.items
         ++ map_text x side marks.now (map (λ v. v.items) names.now)) }
@@ -56,7 +57,7 @@ fn put_ground(size: u32, out: &mut Vec<u8>) -> Result<(), Memory>
 #[tactic(auto, unfolding(crate::specs::Maps::paths_text))]
 fn put_paths(marks: &[u8], side: u16, names: &[Vec<u8>], out: &mut Vec<u8>) -> Result<(), Memory>
     requires some { 0 < side }
-    requires few { length marks.now ≤ 65536 }
+    requires few { length marks.now ≤ NEW_SLOTS }
     requires names { length names.now ≤ 7 }
     ensures { OnOk result (out.new.items ≡ out.old.items
         ++ paths_text marks.now side (map (λ v. v.items) names.now)) }
@@ -77,7 +78,7 @@ fn put_element(
     out: &mut Vec<u8>,
 ) -> Result<(), Memory>
     requires some { 0 < side }
-    requires few { length marks.now ≤ 65536 }
+    requires few { length marks.now ≤ NEW_SLOTS }
     requires index { index < 7 }
     ensures { OnOk result (out.new.items ≡ out.old.items
         ++ path_element marks.now side name.now index) }

@@ -1,6 +1,7 @@
 ghost use Rattle.std.specs.Prelude.{◌≡◌, ◌≤◌, length, map, IfOk};
 ghost use Rattle.group_counts.specs.Tally.{occurrences};
 ghost use Rattle.picture_text.specs.Marks.{mark_of, marks_of, place_in};
+ghost use Rattle.slot_grid.specs.declared.sizes.TheConstants.{ALL_SLOTS};
 
 use crate::Memory;
 use std::alloc::Global;
@@ -47,7 +48,7 @@ fn place_in(listed: &[u128], key: u128) -> u8
 
 /// Returns how many slots have the mark.
 pub(crate) fn dots_of(marks: &[u8], mark: u8) -> u32
-    requires { length marks.now ≤ 81920 }
+    requires { length marks.now ≤ ALL_SLOTS }
     ensures { result ≡ occurrences marks.now mark }
 {
     let mut count = 0;

@@ -4,6 +4,7 @@ ghost use Rattle.group_counts.specs.Ranks.{above, groups_of};
 ghost use Rattle.picture_text.specs.Elements.{new_title, tried_title, wide_text};
 ghost use Rattle.picture_text.specs.Marks.{marks_of};
 ghost use Rattle.picture_text.specs.Picture.{body_text, listed_keys, maps_text, names_of, occupied, others_of, picture_text, titles_text, wide_of};
+ghost use Rattle.slot_grid.specs.declared.sizes.TheConstants.{ALL_SLOTS, NEW_SLOTS};
 
 use crate::Memory;
 use crate::head::{head_text, labels_text, opening_text};
@@ -31,7 +32,7 @@ pub fn find_groups<H: BuildHasher>(
     hasher: &H,
     keys: &[u128],
 ) -> Result<Groups, Memory>
-    requires { length keys.now ≡ 81920 }
+    requires { length keys.now ≡ ALL_SLOTS }
     ensures listed { IfOk result (λ groups. groups.listed.items ≡ listed_keys keys.now) }
     ensures few { IfOk result (λ groups. length groups.listed.items ≤ 6) }
     ensures others { IfOk result (λ groups. groups.others ≡ others_of keys.now) }
@@ -57,7 +58,7 @@ fn keys_of(alloc: Global, groups: &[Counted]) -> Result<Vec<u128>, Memory>
 
 /// Returns how many of the slots are occupied.
 fn occupied(keys: &[u128]) -> u32
-    requires { length keys.now ≤ 81920 }
+    requires { length keys.now ≤ ALL_SLOTS }
     ensures { result ≡ occupied keys.now }
 {
     keys.len() as u32 - occurrences(keys, 0)
@@ -66,7 +67,7 @@ fn occupied(keys: &[u128]) -> u32
 /// Appends how full the tables are.
 #[tactic(auto, unfolding(crate::specs::Picture::titles_text))]
 fn put_titles(keys: &[u128], out: &mut Vec<u8>) -> Result<(), Memory>
-    requires { length keys.now ≡ 81920 }
+    requires { length keys.now ≡ ALL_SLOTS }
     ensures { OnOk result (out.new.items ≡ out.old.items ++ titles_text keys.now) }
 {
     put_new_title(occupied(new_keys(keys)), out)?;
@@ -116,7 +117,7 @@ fn put_wide(count: u32, out: &mut Vec<u8>) -> Result<(), Memory>
 /// Appends both maps.
 #[tactic(auto, unfolding(crate::specs::Picture::maps_text))]
 fn put_maps(marks: &[u8], names: &[Vec<u8>], out: &mut Vec<u8>) -> Result<(), Memory>
-    requires marks { length marks.now ≡ 81920 }
+    requires marks { length marks.now ≡ ALL_SLOTS }
     requires names { length names.now ≤ 7 }
     ensures { OnOk result (out.new.items ≡ out.old.items
         ++ maps_text marks.now (map (λ v. v.items) names.now)) }
@@ -136,7 +137,7 @@ fn wide_of<H: BuildHasher>(
     buckets: &[u128],
 ) -> Result<u32, Memory>
     requires buckets { buckets.now ≡ bucket_keys keys.now }
-    requires few { length buckets.now ≤ 65536 }
+    requires few { length buckets.now ≤ NEW_SLOTS }
     ensures { IfOk result (λ count. count ≡ wide_of keys.now) }
 {
     let groups = count_groups(alloc, hasher, buckets)?;
@@ -154,7 +155,7 @@ fn put_body<H: BuildHasher>(
     others: u32,
     out: &mut Vec<u8>,
 ) -> Result<(), Memory>
-    requires keys { length keys.now ≡ 81920 }
+    requires keys { length keys.now ≡ ALL_SLOTS }
     requires listed { length listed.now ≤ 6 }
     requires names { length listed.now ≤ length names.now }
     requires few_names { length names.now ≤ 7 }
@@ -205,7 +206,7 @@ pub fn put_picture<H: BuildHasher>(
     names: Vec<Vec<u8>>,
     out: &mut Vec<u8>,
 ) -> Result<(), Memory>
-    requires keys { length keys.now ≡ 81920 }
+    requires keys { length keys.now ≡ ALL_SLOTS }
     requires listed { groups.now.listed.items ≡ listed_keys keys.now }
     requires few { length groups.now.listed.items ≤ 6 }
     requires others { groups.now.others ≡ others_of keys.now }
