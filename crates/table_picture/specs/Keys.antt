@@ -4,6 +4,7 @@ use Rattle.std.specs.Int.{w128, from_be_bytes}
 use Rattle.std.specs.List.{flat_map, range_with_len}
 use Rattle.placing.specs.Places.{Places, group}
 use Rattle.peer_rec.specs.declared.rec.Rec.{Rec}
+use Rattle.slot_grid.specs.declared.sizes.TheConstants.{NEW_BUCKETS, SLOTS, TRIED_BUCKETS}
 use Rattle.table_machine.specs.State.{State, new_rec_at, tried_rec_at}
 
 -- sixteen bytes: those of the group, of which there are at most eleven, zeros, and their number
@@ -22,20 +23,20 @@ slot_key places (Some r) = group_key (group places r.source)
 -- of the slots of a bucket
 abbrev pub bucket_keys : State → Places → ℕ → List ℕ
 bucket_keys st places bucket =
-    map (λ slot. slot_key places (new_rec_at st bucket slot)) (range_with_len 0 64)
+    map (λ slot. slot_key places (new_rec_at st bucket slot)) (range_with_len 0 SLOTS)
 
 -- of the slots of the new table, by rising bucket
 unfoldable pub new_keys : State → Places → List ℕ
-new_keys st places = flat_map (bucket_keys st places) (range_with_len 0 1024)
+new_keys st places = flat_map (bucket_keys st places) (range_with_len 0 NEW_BUCKETS)
 
 -- of the slots of a bucket
 abbrev pub tried_bucket_keys : State → Places → ℕ → List ℕ
 tried_bucket_keys st places bucket =
-    map (λ slot. slot_key places (tried_rec_at st bucket slot)) (range_with_len 0 64)
+    map (λ slot. slot_key places (tried_rec_at st bucket slot)) (range_with_len 0 SLOTS)
 
 -- of the slots of the tried table, by rising bucket
 unfoldable pub tried_keys : State → Places → List ℕ
-tried_keys st places = flat_map (tried_bucket_keys st places) (range_with_len 0 256)
+tried_keys st places = flat_map (tried_bucket_keys st places) (range_with_len 0 TRIED_BUCKETS)
 
 -- of all slots
 unfoldable pub slot_keys : State → Places → List ℕ

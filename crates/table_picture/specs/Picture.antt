@@ -5,14 +5,16 @@ use Rattle.placing.specs.Places.{Places}
 use Rattle.peer_rec.specs.declared.rec.Rec.{Rec}
 use Rattle.picture_text.specs.Names.{name_of}
 use Rattle.picture_text.specs.Picture.{listed_keys, picture_text}
+use Rattle.slot_grid.specs.declared.sizes.TheConstants.{ALL_SLOTS, NEW_SLOTS, SLOTS}
 use Rattle.table_machine.specs.State.{State, new_rec_at, tried_rec_at}
 use Rattle.table_picture.specs.Keys.{slot_keys}
 
 -- the record in a slot; slots are counted by rising bucket, those of the new table first
 abbrev pub rec_in : State → ℕ → Option Rec
 rec_in st slot =
-    if nat_lt slot 65536 then new_rec_at st (slot / 64) (slot % 64)
-    else if nat_lt slot 81920 then tried_rec_at st ((slot - 65536) / 64) ((slot - 65536) % 64)
+    if nat_lt slot NEW_SLOTS then new_rec_at st (slot / SLOTS) (slot % SLOTS)
+    else if nat_lt slot ALL_SLOTS
+    then tried_rec_at st ((slot - NEW_SLOTS) / SLOTS) ((slot - NEW_SLOTS) % SLOTS)
     else None
 
 abbrev pub rec_name : Places → Option Rec → List ℕ

@@ -1,9 +1,11 @@
 ghost use Rattle.std.specs.Prelude.{◌≡◌, ◌<◌, ◌≤◌, ◌++◌, length, IfOk, OnOk, option_map};
 ghost use Rattle.table_picture.specs.Keys.{bucket_keys, group_key, key_bytes, new_keys, slot_key, slot_keys, tried_bucket_keys, tried_keys};
+ghost use Rattle.slot_grid.specs.declared.sizes.TheConstants.{ALL_SLOTS, NEW_BUCKETS, TRIED_BUCKETS};
 
 use crate::Memory;
 use peer_rec::Rec;
 use placing::Placer;
+use slot_grid::{NEW_BUCKETS, SLOTS, TRIED_BUCKETS};
 use std::alloc::Global;
 use std::hash::BuildHasher;
 use std::sync::ledger::Ledger;
@@ -20,7 +22,7 @@ pub fn slot_keys<H: BuildHasher, L: Ledger>(
     steps: &mut Steps<L>,
 ) -> Result<Vec<u128>, Memory>
     ensures keys { IfOk result (λ keys. keys.items ≡ slot_keys tables.now placer.now) }
-    ensures long { IfOk result (λ keys. length keys.items ≡ 81920) }
+    ensures long { IfOk result (λ keys. length keys.items ≡ ALL_SLOTS) }
 {
     let mut keys = Vec::new(alloc);
     put_new_keys(tables, placer, &mut keys, steps)?;
@@ -38,7 +40,7 @@ fn put_new_keys<H: BuildHasher, L: Ledger>(
 ) -> Result<(), Memory>
     ensures { OnOk result (out.new.items ≡ out.old.items ++ new_keys tables.now placer.now) }
 {
-    for bucket in 0..1024u16 {
+    for bucket in 0..NEW_BUCKETS {
         put_bucket(tables, placer, bucket, out, steps)?;
     }
     Ok(())
@@ -52,11 +54,11 @@ fn put_bucket<H: BuildHasher, L: Ledger>(
     out: &mut Vec<u128>,
     steps: &mut Steps<L>,
 ) -> Result<(), Memory>
-    requires { bucket < 1024 }
+    requires { bucket < NEW_BUCKETS }
     ensures { OnOk result (out.new.items
         ≡ out.old.items ++ bucket_keys tables.now placer.now bucket) }
 {
-    for slot in 0..64u8 {
+    for slot in 0..SLOTS {
         let key = slot_key(placer, tables.new_rec_at(bucket, slot, steps));
         out.push(key)?;
     }
@@ -73,7 +75,7 @@ fn put_tried_keys<H: BuildHasher, L: Ledger>(
 ) -> Result<(), Memory>
     ensures { OnOk result (out.new.items ≡ out.old.items ++ tried_keys tables.now placer.now) }
 {
-    for bucket in 0..256u16 {
+    for bucket in 0..TRIED_BUCKETS {
         put_tried_bucket(tables, placer, bucket, out, steps)?;
     }
     Ok(())
@@ -87,11 +89,11 @@ fn put_tried_bucket<H: BuildHasher, L: Ledger>(
     out: &mut Vec<u128>,
     steps: &mut Steps<L>,
 ) -> Result<(), Memory>
-    requires { bucket < 256 }
+    requires { bucket < TRIED_BUCKETS }
     ensures { OnOk result (out.new.items ≡ out.old.items
         ++ tried_bucket_keys tables.now placer.now bucket) }
 {
-    for slot in 0..64u8 {
+    for slot in 0..SLOTS {
         let key = slot_key(placer, tables.tried_rec_at(bucket, slot, steps));
         out.push(key)?;
     }

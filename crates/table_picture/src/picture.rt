@@ -1,6 +1,5 @@
 ghost use Rattle.std.specs.Prelude.{◌≡◌, ◌<◌, ◌≤◌, ◌==◌, ◌++◌, length, map, IfOk, OnOk, option_map};
 ghost use Rattle.std.specs.List.{position_or_len};
-ghost use Rattle.picture_text.specs.Picture.{listed_keys};
 ghost use Rattle.table_picture.specs.Keys.{slot_keys};
 ghost use Rattle.table_picture.specs.Picture.{key_name, picture_of, picture_under, rec_in, rec_name};
 
@@ -9,6 +8,7 @@ use crate::keys::slot_keys;
 use peer_rec::Rec;
 use picture_text::{find_groups, name_of};
 use placing::Placer;
+use slot_grid::{ALL_SLOTS, NEW_SLOTS, SLOTS};
 use std::alloc::Global;
 use std::hash::BuildHasher;
 use std::sync::ledger::Ledger;
@@ -39,12 +39,13 @@ fn rec_in<'a, H: BuildHasher, L: Ledger>(
 ) -> Option<&'a Rec>
     ensures { option_map (λ r. r.now) result ≡ rec_in tables.now slot }
 {
-    if slot < 65536 {
-        return tables.new_rec_at((slot / 64) as u16, (slot % 64) as u8, steps);
+    let slots = usize::from(SLOTS);
+    if slot < NEW_SLOTS {
+        return tables.new_rec_at((slot / slots) as u16, (slot % slots) as u8, steps);
     }
-    if slot < 81920 {
-        let slot = slot - 65536;
-        return tables.tried_rec_at((slot / 64) as u16, (slot % 64) as u8, steps);
+    if slot < ALL_SLOTS {
+        let slot = slot - NEW_SLOTS;
+        return tables.tried_rec_at((slot / slots) as u16, (slot % slots) as u8, steps);
     }
     None
 }
