@@ -1,6 +1,7 @@
-use asmap_compile::CompileFault;
+use asmap_compile::{CompileFault, MAX_BITS};
 use asmap_vm::CodeFault;
-use ban_list::BanFault;
+use ban_list::{BanFault, MAX_BANS, MAX_FILE};
+use bit_code::MAX_ASMAP;
 use host_io::Name;
 use std::alloc::{AllocError, Global};
 
@@ -8,7 +9,7 @@ use std::alloc::{AllocError, Global};
 pub fn asmap_hint(alloc: Global, fault: &CodeFault) -> Result<String, AllocError> {
     match fault {
         CodeFault::TooLarge { size } => {
-            format!(in alloc; "an asmap has at most 8388608 bytes, not {size}")
+            format!(in alloc; "an asmap has at most {MAX_ASMAP} bytes, not {size}")
         }
         CodeFault::Insane => String::from_str(
             alloc,
@@ -24,7 +25,7 @@ pub fn compile_hint(alloc: Global, fault: &CompileFault) -> Result<String, Alloc
             String::from_str(alloc, "it has no row: a row is as 1.2.0.0/16 AS6")
         }
         CompileFault::TooLarge { bits } => {
-            format!(in alloc; "an asmap has at most 67108864 bits, not {bits}")
+            format!(in alloc; "an asmap has at most {MAX_BITS} bits, not {bits}")
         }
         CompileFault::Memory => Ok(String::new(alloc)),
     }
@@ -40,9 +41,9 @@ pub fn bans_hint(alloc: Global, fault: &BanFault) -> Result<String, AllocError> 
         BanFault::Form => {
             String::from_str(alloc, "it is no object with an array under banned_nets")
         }
-        BanFault::TooMany => String::from_str(alloc, "there are at most 100000 bans"),
+        BanFault::TooMany => format!(in alloc; "there are at most {MAX_BANS} bans"),
         BanFault::TooLarge { size } => {
-            format!(in alloc; "there are at most 33554432 bytes, not {size}")
+            format!(in alloc; "there are at most {MAX_FILE} bytes, not {size}")
         }
         BanFault::Memory => Ok(String::new(alloc)),
     }

@@ -24,8 +24,17 @@ static COMMANDS: [&str; 22] = [
     "version",
 ];
 
-/// The forms of the lines of a replay's log.
-static REPLAY: [&str; 18] = [
+/// How many of `LINES` only an opener's log has: the first ones.
+const ONLY_OPENER: usize = 3;
+
+/// How many of `LINES` only a replay's log has, since they save: the last ones.
+const ONLY_REPLAY: usize = 4;
+
+/// The forms of the lines of an opener's log and of a replay's.
+static LINES: [&str; 21] = [
+    "outbound S",
+    "feeler S N",
+    "close PEER",
     "now T",
     "addr ADDR HEX W",
     "addrv2 ADDR HEX W",
@@ -44,27 +53,6 @@ static REPLAY: [&str; 18] = [
     "save-begin",
     "save-step BYTES",
     "save-end",
-];
-
-/// The forms of the lines of an opener's log.
-static OPENER: [&str; 17] = [
-    "outbound S",
-    "feeler S N",
-    "close PEER",
-    "now T",
-    "addr ADDR HEX W",
-    "addrv2 ADDR HEX W",
-    "find PEER",
-    "good PEER test|force",
-    "attempt PEER count|nocount",
-    "connected PEER",
-    "services PEER N",
-    "size",
-    "select new|any NETS W",
-    "sample MAX PERCENT CLASSES W",
-    "resolve",
-    "clash N",
-    "dump",
 ];
 
 /// The forms of the lines of a log of events.
@@ -123,8 +111,8 @@ impl Reader {
     pub(crate) fn forms(self) -> &'static [&'static str] {
         match self {
             Reader::Arguments => &COMMANDS,
-            Reader::Replay => &REPLAY,
-            Reader::Opener => &OPENER,
+            Reader::Replay => &LINES[ONLY_OPENER..],
+            Reader::Opener => &LINES[..LINES.len() - ONLY_REPLAY],
             Reader::Limit => &LIMIT,
         }
     }

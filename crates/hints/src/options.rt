@@ -1,12 +1,10 @@
 use crate::forms::keyword_of;
+use crate::peers::CHAINS;
 use crate::shown::quoted;
 use std::alloc::{AllocError, Global};
 
 /// How many hexadecimal digits a key has.
 const KEY_DIGITS: usize = 64;
-
-/// The names of the chains.
-static CHAINS: [&str; 4] = ["main", "test", "signet", "regtest"];
 
 /// An option.
 #[derive(Clone, Copy, PartialEq, Eq)]
@@ -120,7 +118,7 @@ fn explain_given(alloc: Global, given: Given<'_>) -> Result<Option<String>, Allo
 
 /// Says what is wrong with the name of a chain, or returns `None` if nothing is.
 fn explain_chain(alloc: Global, value: &str) -> Result<Option<String>, AllocError> {
-    if CHAINS.contains(&value) {
+    if CHAINS.iter().any(|(_, name)| *name == value) {
         return Ok(None);
     }
     let shown = quoted(alloc, value.as_bytes())?;
@@ -133,7 +131,9 @@ fn explain_chain(alloc: Global, value: &str) -> Result<Option<String>, AllocErro
 fn explain_key(alloc: Global, digits: &str) -> Result<Option<String>, AllocError> {
     let count = digits.len();
     if count != KEY_DIGITS {
-        let text = format!(in alloc; "a key has 64 hexadecimal digits, this has {count}")?;
+        let text = format!(in alloc;
+            "a key has {KEY_DIGITS} hexadecimal digits, this has {count}"
+        )?;
         return Ok(Some(text));
     }
     for (i, byte) in digits.as_bytes().iter().enumerate() {

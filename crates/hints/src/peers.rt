@@ -1,9 +1,10 @@
-use peers_file::{FileFault, RecordCause, Which};
+use peer_rec::{MAX_BUCKETS, MAX_NEW, MAX_TRIED};
+use peers_file::{FileFault, MAX_FILE, RecordCause, Which};
 use std::alloc::{AllocError, Global};
 
 /// The first bytes of the files of the chains (`pchMessageStart` in kernel/chainparams.cpp of
 /// Bitcoin Core).
-static CHAINS: [([u8; 4], &str); 4] = [
+pub(crate) static CHAINS: [([u8; 4], &str); 4] = [
     ([0xf9, 0xbe, 0xb4, 0xd9], "main"),
     ([0x0b, 0x11, 0x09, 0x07], "test"),
     ([0x0a, 0x03, 0xcf, 0x40], "signet"),
@@ -59,15 +60,18 @@ fn fault_text(alloc: Global, fault: &FileFault, head: &[u8]) -> Result<String, A
         FileFault::Count { which, value } => count_text(alloc, *which, *value),
         FileFault::Record { index, cause } => record_text(alloc, *index, *cause),
         FileFault::Buckets { value } => {
-            format!(in alloc; "there are at most 65536 buckets, not {value}")
+            format!(in alloc; "there are at most {MAX_BUCKETS} buckets, not {value}")
         }
         FileFault::Time { index } => {
-            format!(in alloc; "record {index} has a last success outside of 0 to 4294967295")
+            format!(in alloc;
+                "record {index} has a last success outside of 0 to {}",
+                u32::MAX
+            )
         }
         FileFault::Attempts { index } => format!(in alloc; "record {index} has tries below 0"),
         FileFault::Trailing => String::from_str(alloc, "bytes are left after the last field"),
         FileFault::TooLarge { size } => {
-            format!(in alloc; "there are at most 33554432 bytes, not {size}")
+            format!(in alloc; "there are at most {MAX_FILE} bytes, not {size}")
         }
         FileFault::Memory => Ok(String::new(alloc)),
     }
@@ -84,8 +88,10 @@ fn magic_text(alloc: Global, head: &[u8]) -> Result<String, AllocError> {
 /// Says how many records of a table there are.
 fn count_text(alloc: Global, which: Which, value: i32) -> Result<String, AllocError> {
     match which {
-        Which::New => format!(in alloc; "there are at most 65536 new records, not {value}"),
-        Which::Tried => format!(in alloc; "there are at most 16384 tried records, not {value}"),
+        Which::New => format!(in alloc; "there are at most {MAX_NEW} new records, not {value}"),
+        Which::Tried => format!(in alloc;
+            "there are at most {MAX_TRIED} tried records, not {value}"
+        ),
     }
 }
 

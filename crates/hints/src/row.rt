@@ -1,7 +1,7 @@
 use crate::shown::{is_marked, quoted};
 use ban_list::{parse_subnet, put_subnet};
 use host_io::split_line;
-use prefix_table::{MAX_TEXT, TableFault, read_table};
+use prefix_table::{MAX_ASN, MAX_ROWS, MAX_TEXT, TableFault, read_table};
 use std::alloc::{AllocError, Global};
 
 /// The maximum number of bytes of a row that is explained.
@@ -15,9 +15,9 @@ pub fn table_hint(alloc: Global, fault: &TableFault, text: &[u8]) -> Result<Stri
         }
         TableFault::HostBits { line } => host_bits_hint(alloc, line_at(text, *line)),
         TableFault::Repeated { line } => repeated_hint(alloc, *line, text),
-        TableFault::TooMany => String::from_str(alloc, "there are at most 2000000 rows"),
+        TableFault::TooMany => format!(in alloc; "there are at most {MAX_ROWS} rows"),
         TableFault::TooLarge { size } => {
-            format!(in alloc; "there are at most 134217728 bytes, not {size}")
+            format!(in alloc; "there are at most {MAX_TEXT} bytes, not {size}")
         }
         TableFault::Memory => Ok(String::new(alloc)),
     }
@@ -63,7 +63,7 @@ fn asn_hint(alloc: Global, space: usize, asn: &[u8]) -> Result<String, AllocErro
     let column = space.saturating_add(2);
     let shown = quoted(alloc, asn.get(1..).unwrap_or(b""))?;
     let shown = shown.as_str();
-    format!(in alloc; "column {column}: AS1 to AS33521664 are wanted; {shown} is none of them")
+    format!(in alloc; "column {column}: AS1 to AS{MAX_ASN} are wanted; {shown} is none of them")
 }
 
 /// Returns whether two texts together are a row, or have bits after their prefix.

@@ -1,4 +1,5 @@
 use ban_list::parse_subnet;
+use gen_load::MAX_LINES;
 use grammar::{AddrClasses, Field, Networks, Payload, Random};
 use names::parse_text;
 use net_addr::{parse_addr, parse_number, parse_peer};
@@ -29,7 +30,7 @@ pub(crate) struct Wanted {
 }
 
 /// The largest number of 32 bits.
-const MAX: u64 = 4_294_967_295;
+const MAX: u64 = u32::MAX as u64;
 
 /// What is said of a time.
 const TIME: &str = "a time in seconds since 1970, at most 4294967295";
@@ -63,7 +64,7 @@ static NAMES: [Wanted; 19] = [
     },
     Wanted {
         name: "LINES",
-        kind: Kind::Number(1, 100_000),
+        kind: Kind::Number(1, MAX_LINES as u64),
         text: "a number from 1 to 100000",
     },
     Wanted {
