@@ -5,11 +5,8 @@ use Rattle.std.proofs.lemmas.List.{get_or_past, take_all, length-drop}
 use Rattle.std.proofs.lemmas.List.Elements.{All-drop}
 use Rattle.net_addr.specs.Address.{IsAddress, length_of, is_old_form, begins_with, mapped_prefix, internal_prefix, torv2_prefix}
 use Rattle.net_addr.specs.OldForm.{address, from_v1}
-use Rattle.net_addr.specs.Inside.{address_of, IsOwnForm}
-use Rattle.net_addr.specs.declared.address.Bytes.{Bytes}
-use Rattle.net_addr.specs.declared.address.Bytes.TheVariants as B
 use Rattle.net_addr.specs.declared.net.Net.{Net}
-use Rattle.net_addr.specs.declared.net.Net.TheVariants.{Unroutable, Ipv4, Ipv6, Onion, I2p, Cjdns, Internal}
+use Rattle.net_addr.specs.declared.net.Net.TheVariants.{Unroutable, Ipv4, Ipv6, Internal}
 use Rattle.net_addr.proofs.Bits.{AllBytes}
 
 -- each element is below 256
@@ -34,15 +31,6 @@ IsAddress-plain n xs some other l h = record { network = some; length = l; bytes
 -- an IPv6 address
 pub IsAddress-ipv6 : (xs : List ℕ) → length xs ≡ 16 → All (λ b. b < 256) xs → is_old_form xs ≡ false → IsAddress (address Ipv6 xs)
 IsAddress-ipv6 xs l h own = record { network = λ e. cc; length = l; bytes = h; own_form = λ _. own }
-
--- an address by how it is stored
-pub IsAddress-stored : (b : Bytes) → IsOwnForm b → length (address_of b).bytes ≡ length_of (address_of b).net → All (λ x. x < 256) (address_of b).bytes → IsAddress (address_of b)
-IsAddress-stored (B.Ipv4 xs) own l h = IsAddress-plain Ipv4 xs (λ e. cc) (λ e. cc) l h
-IsAddress-stored (B.Ipv6 xs) own l h = IsAddress-ipv6 xs l h own
-IsAddress-stored (B.Onion xs) own l h = IsAddress-plain Onion xs (λ e. cc) (λ e. cc) l h
-IsAddress-stored (B.I2p xs) own l h = IsAddress-plain I2p xs (λ e. cc) (λ e. cc) l h
-IsAddress-stored (B.Cjdns xs) own l h = IsAddress-plain Cjdns xs (λ e. cc) (λ e. cc) l h
-IsAddress-stored (B.Internal xs) own l h = IsAddress-plain Internal xs (λ e. cc) (λ e. cc) l h
 
 -- sixteen bytes of the old form, and the parts of them that are an address
 sixteen_zeros : All (λ b. b < 256) (replicate 16 0)

@@ -1,6 +1,6 @@
 -- How an address is stored, and which networks have a label.
-use Rattle.std.specs.Prelude.{◌≡◌, false, List, ℕ, refl}
-use Rattle.net_addr.specs.Address.{Address, is_old_form}
+use Rattle.std.specs.Prelude.{◌≡◌, List, ℕ, refl}
+use Rattle.net_addr.specs.Address.{Address}
 use Rattle.net_addr.specs.declared.address.Bytes.{Bytes}
 use Rattle.net_addr.specs.declared.address.Bytes.TheVariants as B
 use Rattle.net_addr.specs.declared.net.Net.{Net}
@@ -38,11 +38,6 @@ HasLabel I2p = Unit {0}
 HasLabel Cjdns = Unit {0}
 HasLabel Internal = Unit {0}
 HasLabel other = ⊥
-
--- an IPv6 value is not the old form of another address
-abbrev pub IsOwnForm : Bytes → Type 0
-IsOwnForm (B.Ipv6 bytes) = is_old_form bytes ≡ false
-IsOwnForm other = Unit {0}
 
 pub bytes_of-address_of : (b : Bytes) → bytes_of (address_of b) ≡ b
 bytes_of-address_of (B.Ipv4 bytes) = refl

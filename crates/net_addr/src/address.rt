@@ -1,4 +1,4 @@
-ghost use Rattle.std.specs.Prelude.{◌≡◌, ◌<◌, length, All};
+ghost use Rattle.std.specs.Prelude.{◌≡◌};
 
 use crate::Net;
 use crate::old_form::{
@@ -22,22 +22,19 @@ enum Bytes {
 }
 
 impl Bytes {
-    ghost use Rattle.net_addr.specs.Address.{length_of};
     ghost use Rattle.net_addr.specs.Inside.{address_of};
 
     /// Returns the bytes of the address.
     fn as_slice(&self) -> &[u8]
         ensures value { result.now ≡ (address_of self.now).bytes }
-        ensures len { length (address_of self.now).bytes ≡ length_of (address_of self.now).net }
-        ensures all { All (λ b. b < 256) (address_of self.now).bytes }
     {
         match self {
-            Bytes::Ipv4(bytes) => lent(bytes),
-            Bytes::Ipv6(bytes) => lent(bytes),
-            Bytes::Onion(bytes) => lent(bytes),
-            Bytes::I2p(bytes) => lent(bytes),
-            Bytes::Cjdns(bytes) => lent(bytes),
-            Bytes::Internal(bytes) => lent(bytes),
+            Bytes::Ipv4(bytes) => bytes,
+            Bytes::Ipv6(bytes) => bytes,
+            Bytes::Onion(bytes) => bytes,
+            Bytes::I2p(bytes) => bytes,
+            Bytes::Cjdns(bytes) => bytes,
+            Bytes::Internal(bytes) => bytes,
         }
     }
 }
@@ -51,14 +48,14 @@ pub struct NetAddr {
 impl Model for NetAddr {
     ghost use Rattle.std.specs.Prelude.{◌≡◌};
     ghost use Rattle.std.proofs.Common.{ap};
-    ghost use Rattle.net_addr.specs.Address.{Address};
-    ghost use Rattle.net_addr.specs.Inside.{address_of, bytes_of, IsOwnForm, bytes_of-address_of};
+    ghost use Rattle.net_addr.specs.Address.{Address, IsAddress};
+    ghost use Rattle.net_addr.specs.Inside.{address_of, bytes_of, bytes_of-address_of};
 
     ghost Value = { Address };
 
     ghost view = { λ a. address_of a.bytes };
 
-    ghost invariant = { λ a. IsOwnForm a.bytes };
+    ghost invariant = { λ a. IsAddress (address_of a.bytes) };
 
     ghost inverse = { λ a. record { bytes = bytes_of a } };
 
@@ -255,21 +252,4 @@ impl NetAddr {
             Bytes::Onion(_) | Bytes::I2p(_) | Bytes::Cjdns(_) => None,
         }
     }
-}
-
-/// Returns the bytes of an array.
-fn lent<const N: usize>(bytes: &[u8; N]) -> &[u8]
-    ensures value { result.now ≡ bytes.now }
-    ensures len { length bytes.now ≡ N }
-    ensures all { All (λ b. b < 256) bytes.now }
-{
-    same(bytes.as_slice())
-}
-
-/// Returns the bytes themselves, of which the contract says that they are below 256.
-fn same(bytes: &[u8]) -> &[u8]
-    ensures value { result.now ≡ bytes.now }
-    ensures all { All (λ b. b < 256) bytes.now }
-{
-    bytes
 }
