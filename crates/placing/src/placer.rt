@@ -32,9 +32,7 @@ pub struct Placer<'a> {
 }
 
 impl<'a> Model for Placer<'a> {
-    ghost use Rattle.placing.specs.Places.{Places, coded_places};
-    ghost use Rattle.std.specs.Prelude.{IfSome};
-    ghost use Rattle.asmap_vm.specs.Asmap.{IsAsmap};
+    ghost use Rattle.placing.specs.Places.{IsPlaces, Places, coded_places};
     ghost use Rattle.placing.specs.Inside.{map_in};
 
     ghost Value = { Places };
@@ -43,7 +41,7 @@ impl<'a> Model for Placer<'a> {
 
     ghost view = { λ p. record { key = p.key; map = map_in p.map } };
 
-    ghost invariant = { λ p. IfSome (map_in p.map) IsAsmap };
+    ghost invariant = { λ p. IsPlaces (record { key = p.key; map = map_in p.map }) };
 }
 
 impl<'a> Placer<'a> {
@@ -61,7 +59,10 @@ impl<'a> Placer<'a> {
             Some(asmap) => Map::Lent(asmap),
             None => Map::None,
         };
-        Placer { key, map }
+        Placer {
+            key: copied(&key),
+            map,
+        }
     }
 
     /// Makes the placer of a node with this key, and keeps a copy of this asmap in it.
@@ -74,7 +75,7 @@ impl<'a> Placer<'a> {
             placer ≡ record { key = key; map = Some (asmap_of asmap.now) }) }
     {
         Ok(Placer {
-            key,
+            key: copied(&key),
             map: Map::Owned(OwnedSane::copy_of(alloc, asmap)?),
         })
     }
@@ -95,7 +96,7 @@ impl<'a> Placer<'a> {
         ensures value { result ≡ self.now.key }
         ensures places { IsPlaces self.now }
     {
-        copied(&self.key)
+        self.key
     }
 
     /// Returns the checksum of the asmap's file: SHA-256 of its SHA-256, or 32 zero bytes if there
@@ -275,12 +276,11 @@ pub fn number_of(asmap: &Sane<'_>, addr: &NetAddr) -> u32
     }
 }
 
-/// Returns the bytes of a key, each below 256.
+/// Returns the bytes of a key. The clause `all` makes a placer's key one of bytes.
 fn copied(key: &[u8]) -> [u8; 32]
     requires { length key.now ≡ 32 }
     ensures value { result ≡ key.now }
     ensures all { All (λ b. b < 256) key.now }
-    ensures length { length key.now ≡ 32 }
 {
     let mut all = [0; 32];
     all.copy_from_slice(key);

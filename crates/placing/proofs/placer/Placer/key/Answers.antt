@@ -3,9 +3,4 @@ use Rattle.placing.specs.Places.{IsPlaces}
 use Rattle.placing.proofs.placer.Placer.key.Goals as goal
 
 pub returns-clause-places : goal.returns-clause-places
-returns-clause-places c =
-    subst IsPlaces c.self.view_is (record {
-      key_length = c.copied.ensures.length;
-      key_bytes = c.copied.ensures.all;
-      map = c.self.invariant;
-    })
+returns-clause-places c = subst IsPlaces c.self.view_is c.self.invariant
