@@ -121,7 +121,6 @@ impl<'a, H: BuildHasher> Store<'a, H> {
         ensures steps { steps.new ≤ steps.old + 17 }
     {
         let mut left = self.index.get(id, steps).copy();
-        let _ = left.place.bucket_count();
         while let Some(bucket) = first_bucket(&left) {
             let slot = self.placer.new_slot(&left.peer, bucket);
             self.leave_slot(id, &left, bucket, slot, steps);

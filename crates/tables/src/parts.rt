@@ -47,8 +47,6 @@ pub(crate) fn restore<'a, H: BuildHasher + Drop, L: Ledger>(
     ensures steps { steps.new ≤ steps.old + length snap.now.new_recs
         + 3 * length snap.now.tried_recs + 4 * length snap.now.listed + 2 * ALL_SLOTS }
 {
-    // Its clause on the key says what holds of every placer.
-    let _ = placer.key();
     let mut index = empty_index(alloc, snap, hasher, steps)?;
     let plan = final_plan(alloc, snap, placer, &mut index, steps)?;
     let next_number = plan.recs.len() as u64;

@@ -314,7 +314,7 @@ impl<'a, 's> Plan<'a, 's> {
             return;
         }
         let own = self.placer.new_bucket(&peer, &source);
-        let _ = self.give_if_empty(index, own, steps);
+        self.give_if_empty(index, own, steps);
     }
 }
 

@@ -1,7 +1,7 @@
 ghost use Rattle.peer_rec.specs.declared.snapshot.TheConstants.{MAX_NEW, MAX_TRIED};
 ghost use Rattle.slot_grid.specs.declared.sizes.TheConstants.{NEW_BUCKETS, TRIED_BUCKETS, SLOTS};
 
-use crate::known::{after_try, check_fields, still_connected, with_services};
+use crate::known::{after_try, still_connected, with_services};
 use crate::reach::Reach;
 use crate::{Memory, Store};
 use arrayvec::ArrayVec;
@@ -51,8 +51,6 @@ impl<'a, H: BuildHasher + Drop> Tables<'a, H> {
         ensures empty { IfOk result (λ t. t ≡ empty_state placer.entry) }
         ensures sound { IfOk result IsSound }
     {
-        // A placer has a key of 32 bytes: its clause on the key says so.
-        let _ = placer.key();
         let store = Store {
             alloc,
             placer,
@@ -123,9 +121,7 @@ impl<'a, H: BuildHasher> Tables<'a, H> {
         ensures err { OnErr result (self.new ≡ self.old) }
         ensures steps { steps.new ≤ steps.old + 16 }
     {
-        check_fields(entry, source);
-        self.store
-            .add(entry, source, penalty, word, now, &mut self.reach, steps)
+        self.store.add(*entry, *source, penalty, word, now, &mut self.reach, steps)
     }
 
     /// Records that `peer` was reached, at a time in seconds since 1970. A record of the new table
