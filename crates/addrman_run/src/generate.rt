@@ -7,13 +7,10 @@ ghost use Rattle.log_run.specs.Counts.{IsCounted};
 
 use crate::Status;
 use gen_load::{Gen, MAX_LENGTH};
-use host_io::{Failed, Sink, write_all};
+use host_io::{Failed, PIECE, Sink, write_all};
 use std::alloc::Global;
 
-/// How many bytes of a log are written at once, or up to a line more.
-const PIECE: usize = 65_536;
-
-/// Writes the generated log of a number, in pieces.
+/// Writes the generated log of a number, in pieces of `PIECE` bytes and up to a line more.
 pub(crate) fn generate<K: Sink>(alloc: Global, start: u64, lines: u32, out: &mut K) -> Status
     requires { lines ≤ MAX_LINES }
     ensures text { GenText start lines (K.written out.old) (K.written out.new) result }

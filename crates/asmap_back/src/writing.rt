@@ -9,11 +9,8 @@ ghost use Rattle.asmap_back.specs.Back.{rows_back};
 use crate::back_rows::BackRows;
 use arrayvec::ArrayVec;
 use asmap_vm::Sane;
-use host_io::{Failed, Sink, write_all};
+use host_io::{Failed, PIECE, Sink, write_all};
 use prefix_table::{Row, row_text};
-
-/// The maximum number of bytes that are written at once.
-const PIECE: usize = 65_536;
 
 /// Writes the rows that an asmap is turned back into, one a line, in pieces. It takes no memory, so
 /// only the sink can fail. A part of the text is then written, and not all.

@@ -8,8 +8,8 @@ use crate::folder::Folder;
 use crate::name::Name;
 use std::alloc::{AllocError, Global};
 
-/// The maximum number of bytes that one read takes.
-const PIECE: usize = 65_536;
+/// The bytes that a file is read or a text is written in at once, at most.
+pub const PIECE: usize = 65_536;
 
 /// Makes room for one read.
 fn room(alloc: Global) -> Result<Vec<u8>, AllocError>
