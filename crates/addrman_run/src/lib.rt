@@ -25,7 +25,6 @@ mod help;
 mod input;
 mod law;
 mod limit;
-mod log_status;
 mod lookup;
 mod lookup_lines;
 mod opener;

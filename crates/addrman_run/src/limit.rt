@@ -5,7 +5,7 @@ ghost use Rattle.addrman_run.specs.Limit.{LimitOutcome};
 ghost use Rattle.log_run.specs.Counts.{IsCounted};
 
 use crate::Status;
-use crate::log_status::status_of;
+use crate::status::status_of;
 use addr_limit::{LimitLog, connections_are_apart};
 use host_io::{Sink, Source};
 use log_run::run_log;

@@ -1,10 +1,7 @@
-ghost use Rattle.std.specs.Prelude.{◌≡◌, IfOk};
-ghost use Rattle.net_group.specs.Group.{asmap_bits};
-ghost use Rattle.asmap_vm.specs.Held.{tree_held};
+ghost use Rattle.std.specs.Prelude.{◌≡◌, ◌++◌, OnOk};
 ghost use Rattle.placing.specs.Inside.{asmap_of};
-ghost use Rattle.placing.specs.Places.{number_by};
 ghost use Rattle.addrman_run.specs.Asmaps.{IsAsmapLine, ReportsAsmap};
-ghost use Rattle.addrman_run.specs.Lookup.{number_text, lookup_text};
+ghost use Rattle.addrman_run.specs.Lookup.{lookup_text};
 ghost use Rattle.addrman_run.specs.declared.input.Input.TheVariants as input;
 
 use crate::file_line::{FileLine, Refusal};
@@ -33,35 +30,27 @@ impl FileLine for Lookup {
     }
 
     fn line_of(&self, alloc: Global, bytes: &[u8]) -> Result<Vec<u8>, Refusal> {
-        match check(bytes) {
-            Ok(asmap) => {
-                lookup_line(alloc, &asmap, &self.peer.addr).map_err(|_| Refusal::Memory)
-            }
-            Err(fault) => Err(Refusal::Asmap(fault)),
+        let asmap = match check(bytes) {
+            Ok(asmap) => asmap,
+            Err(fault) => return Err(Refusal::Asmap(fault)),
+        };
+        let mut line = Vec::new(alloc);
+        match put_lookup(&asmap, &self.peer.addr, &mut line) {
+            Ok(()) => Ok(line),
+            Err(_) => Err(Refusal::Memory),
         }
     }
 }
 
-/// Returns the line about an address under an asmap.
-pub(crate) fn lookup_line(
-    alloc: Global,
-    asmap: &Sane<'_>,
-    addr: &NetAddr,
-) -> Result<Vec<u8>, Memory>
-    ensures { IfOk result (λ text. text.items ≡ lookup_text (asmap_of asmap.now) addr.now) }
-{
-    line_of(alloc, asmap, addr)
-}
-
-/// Returns the line with the number that an asmap gives an address, and the address's group.
-fn line_of(alloc: Global, asmap: &Sane<'_>, addr: &NetAddr) -> Result<Vec<u8>, Memory>
-    ensures { IfOk result (λ text. text.items ≡
-        number_text (number_by (tree_held asmap.now) (asmap_bits addr.now)) addr.now) }
+/// Appends the line about an address: the number that an asmap gives it, and its group. After
+/// `Memory` the list may end in a part of the line.
+#[tactic(auto, unfolding(crate::specs::Lookup::lookup_text))]
+pub(crate) fn put_lookup(asmap: &Sane<'_>, addr: &NetAddr, out: &mut Vec<u8>) -> Result<(), Memory>
+    ensures { OnOk result (out.new.items
+        ≡ out.old.items ++ lookup_text (asmap_of asmap.now) addr.now) }
 {
     let number = number_of(asmap, addr);
-    let mut text = Vec::new(alloc);
-    put_number(b"asn ", u64::from(number), &mut text)?;
-    put_hex(b" group ", group(addr, number).as_slice(), &mut text)?;
-    put_text(b"\n", &mut text)?;
-    Ok(text)
+    put_number(b"asn ", u64::from(number), out)?;
+    put_hex(b" group ", group(addr, number).as_slice(), out)?;
+    put_text(b"\n", out)
 }

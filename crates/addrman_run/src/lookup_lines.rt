@@ -1,43 +1,26 @@
-ghost use Rattle.std.specs.Prelude.{◌≡◌, ◌+◌, ◌++◌, OnOk};
+ghost use Rattle.std.specs.Prelude.{◌≡◌, ◌+◌};
 ghost use Rattle.host_io.specs.Outside.{outside};
 ghost use Rattle.host_io.specs.Reading.{TakesAtMost};
 ghost use Rattle.host_io.specs.declared.name.Name.TheVariants as name;
 ghost use Rattle.log_run.specs.declared.limits.TheConstants.{MAX_LOG};
-ghost use Rattle.placing.specs.Inside.{asmap_of};
 ghost use Rattle.addrman_run.specs.InFolder.{ReportsAbsence};
-ghost use Rattle.addrman_run.specs.Lookup.{lookup_text};
 ghost use Rattle.addrman_run.specs.LookupLines.{LookupLinesOutcome};
 ghost use Rattle.log_run.specs.Counts.{IsCounted};
 
 use crate::Status;
 use crate::input::{Input, load_present};
-use crate::log_status::status_of;
-use crate::lookup::lookup_line;
+use crate::lookup::put_lookup;
+use crate::status::status_of;
 use asmap_vm::{Sane, check};
 use grammar::{OnePeer, read_fields};
 use host_io::{Folder, Sink, Source, is_passed_over};
 use log_run::{LineSteps, Stop, run_log};
-use net_addr::{Memory, NetAddr, put_text};
 use std::alloc::Global;
 
 /// The asmap in which the peers of a log are looked up.
 #[derive(Drop)]
 struct LookupLines<'a> {
     asmap: Sane<'a>,
-}
-
-/// Appends the line about an address under an asmap.
-fn put_lookup(
-    alloc: Global,
-    asmap: &Sane<'_>,
-    addr: &NetAddr,
-    out: &mut Vec<u8>,
-) -> Result<(), Memory>
-    ensures { OnOk result (out.new.items
-        ≡ out.old.items ++ lookup_text (asmap_of asmap.now) addr.now) }
-{
-    let line = lookup_line(alloc, asmap, addr)?;
-    put_text(line.as_slice(), out)
 }
 
 /// The lines of a log, a peer each. They change nothing.
@@ -69,7 +52,7 @@ impl<'a> LineSteps<()> for LookupLines<'a> {
             Ok((peer, ())) => peer,
             Err(fault) => return Err(Stop::of(fault)),
         };
-        match put_lookup(alloc, &self.asmap, &peer.addr, out) {
+        match put_lookup(&self.asmap, &peer.addr, out) {
             Ok(()) => Ok(()),
             Err(_) => Err(Stop::Memory),
         }

@@ -6,8 +6,8 @@ ghost use Rattle.addrman_run.specs.Opener.{OpenerOutcome};
 ghost use Rattle.log_run.specs.Counts.{IsCounted};
 
 use crate::Status;
-use crate::log_status::status_of;
 use crate::opening::open_folder;
+use crate::status::status_of;
 use host_io::{Folder, Sink, Source};
 use log_run::run_log;
 use manager::Manager;

@@ -1,8 +1,12 @@
+ghost use Rattle.std.specs.Prelude.{◌≡◌};
+ghost use Rattle.addrman_run.specs.Inside.{status_of};
+
 use crate::{PeersFault, TablesFault};
 use asmap_vm::CodeFault;
 use ban_list::BanFault;
 use host_io::Name;
 use log_lines::LineFault;
+use log_run::LogEnd;
 
 /// How a run of the program ended.
 #[derive(Clone, Copy, Debug, PartialEq, Eq)]
@@ -47,4 +51,20 @@ pub enum Status {
     /// More prefixes than a table may have rows have one number in asmap.old and another one in
     /// asmap.dat.
     TooManyChanges,
+}
+
+/// Returns the status of a command that carries out the lines of the log, by the end of its run
+/// over it.
+pub(crate) fn status_of(end: LogEnd) -> Status
+    ensures { result ≡ status_of end }
+{
+    match end {
+        LogEnd::Done => Status::Done,
+        LogEnd::Fault { line, fault } => Status::LogLine { line, fault },
+        LogEnd::LineTooLong { line } => Status::LineTooLong { line },
+        LogEnd::LogTooLong => Status::LogTooLong,
+        LogEnd::ReadFault => Status::ReadFault,
+        LogEnd::WriteFault => Status::WriteFault,
+        LogEnd::Memory => Status::Memory,
+    }
 }
