@@ -18,6 +18,7 @@ use Rattle.session.specs.History.{AtExit, Now, SinceEntry, HistoryStep, failed, 
 use Rattle.session.specs.State as session
 use Rattle.session.proofs.OneHistory.{one_run}
 use Rattle.session.proofs.Promise.{IsKept, history, kept_line, kept_start}
+use Rattle.slot_grid.specs.declared.sizes.TheConstants.{ALL_SLOTS}
 use Rattle.table_machine.specs.State.{State}
 use Rattle.addrman_run.proofs.FileIndexes.{file-below}
 use Rattle.addrman_run.proofs.Reopening.{reopens}
@@ -80,7 +81,7 @@ record Begun {key : Option (List ℕ)} {chain : Chain} {past : Option Past} {map
   with_map : places.map ≡ map
 
 begun_with : (key : Option (List ℕ)) (chain : Chain) (past : Option Past) (map : Option Asmap) (st : State) (opens : Opens key chain past map st) → IsSound st
-    → st.next_number ≤ 81920 → Begun opens
+    → st.next_number ≤ ALL_SLOTS → Begun opens
 begun_with key chain past map st (from_file snap is_in no_duplicate is) sound few = record {
   places = places_of snap.key map;
   opening = record { tables = is; sound = sound; clock = omega arith; numbers = omega (arith, few) };
@@ -122,7 +123,7 @@ module _ {F : Type 0} (past : F → Option Past) (faults : F → ℕ) where
   later_rose n f g h le (inr (full, inr is)) = inr (full, inr is)
 
   replayed_from : (key : Option (List ℕ)) (chain : Chain) (tables : State) (old new : Outside) (w v : F) (how : LogEnd)
-      → Opened key chain old.past tables → IsSound tables → tables.next_number ≤ 81920 → past w ≡ old.past → old.folder_faults ≤ faults w
+      → Opened key chain old.past tables → IsSound tables → tables.next_number ≤ ALL_SLOTS → past w ≡ old.past → old.folder_faults ≤ faults w
       → new.past ≡ past v → new.folder_faults ≡ faults v
       → RanIn (SessionStep past faults) HasCommandFault (at_start chain tables, w) (streams_of old) (streams_of new) v how
       → Replayed key chain old new how
@@ -158,7 +159,7 @@ module _ {F : Type 0} (past : F → Option Past) (faults : F → ℕ) where
 
   pub replayed : (key : Option (List ℕ)) (chain : Chain) (tables : State) (start : session.SessionState) (old new : Outside) (w v : F) (how : LogEnd)
       → Opened key chain old.past tables → start ≡ at_start chain tables → IsSound tables
-      → tables.next_number ≤ 81920 → past w ≡ old.past → old.folder_faults ≤ faults w
+      → tables.next_number ≤ ALL_SLOTS → past w ≡ old.past → old.folder_faults ≤ faults w
       → new.past ≡ past v → new.folder_faults ≡ faults v
       → RanIn (SessionStep past faults) HasCommandFault (start, w) (streams_of old) (streams_of new) v how
       → Replayed key chain old new how

@@ -4,6 +4,7 @@ ghost use Rattle.asmap_vm.specs.declared.fault.CodeFault.{CodeFault};
 ghost use Rattle.log_run.specs.Counts.{IsCounted};
 ghost use Rattle.placing.specs.Inside.{map_of};
 ghost use Rattle.peers_file.specs.Layout.{IsFile};
+ghost use Rattle.slot_grid.specs.declared.sizes.TheConstants.{ALL_SLOTS};
 ghost use Rattle.table_machine.specs.Restoring.{duplicate};
 ghost use Rattle.table_machine.specs.Sound.{IsSound};
 ghost use Rattle.addrman_run.specs.Asmaps.{IsMapIn};
@@ -24,9 +25,6 @@ use std::marker::Brand;
 use std::sync::ledger::{Blank, Ledger};
 use steps::Steps;
 use tables::{RestoreFault, Tables};
-
-/// The maximum number of records of a file of peers.
-const MAX_RECORDS: u64 = 81_920;
 
 /// Reads the bytes of peers.dat, and drops them.
 pub(crate) fn read_peers(alloc: Global, bytes: Bytes, chain: Chain) -> Result<Snapshot, Status>
@@ -53,7 +51,7 @@ fn restore_tables<'a, L: Ledger, H: BuildHasher + Drop>(
     requires one { blank.parts ≡ 1 }
     ensures found { IfOk result (λ tables. (duplicate snap.now ≡ None)
         × (tables ≡ tables_of snap.now (map_of map.entry))) }
-    ensures small { IfOk result (λ tables. tables.next_number ≤ MAX_RECORDS) }
+    ensures small { IfOk result (λ tables. tables.next_number ≤ ALL_SLOTS) }
     ensures sound { IfOk result (λ tables. IsSound tables) }
     ensures cause { IfErr result (IsNotRestored snap.now) }
 {
@@ -76,7 +74,7 @@ fn empty_tables<'a, H: BuildHasher + Drop>(
     map: Option<Sane<'a>>,
 ) -> Result<Tables<'a, H>, Status>
     ensures found { IfOk result (OpensWith key Chain.Main None (map_of map.entry)) }
-    ensures small { IfOk result (λ tables. tables.next_number ≤ MAX_RECORDS) }
+    ensures small { IfOk result (λ tables. tables.next_number ≤ ALL_SLOTS) }
     ensures sound { IfOk result (λ tables. IsSound tables) }
     ensures cause { IfErr result (IsKeyless key) }
 {
@@ -99,7 +97,7 @@ fn open_tables<'a, H: BuildHasher + Drop>(
     file: Option<Bytes>,
 ) -> Result<Tables<'a, H>, Status>
     ensures found { IfOk result (OpensWith key chain file (map_of map.entry)) }
-    ensures small { IfOk result (λ tables. tables.next_number ≤ MAX_RECORDS) }
+    ensures small { IfOk result (λ tables. tables.next_number ≤ ALL_SLOTS) }
     ensures sound { IfOk result (λ tables. IsSound tables) }
     ensures cause { IfErr result (IsNotOpened key chain file) }
 {
@@ -164,7 +162,7 @@ pub(crate) fn open_folder<'a, F: Folder, H: BuildHasher + Drop>(
     folder: &mut F,
 ) -> Result<Tables<'a, H>, Status>
     ensures found { IfOk result (Opened key chain (F.past folder.old)) }
-    ensures small { IfOk result (λ tables. tables.next_number ≤ MAX_RECORDS) }
+    ensures small { IfOk result (λ tables. tables.next_number ≤ ALL_SLOTS) }
     ensures sound { IfOk result (λ tables. IsSound tables) }
     ensures cause { IfErr result (IsUnopened key chain (F.past folder.old)) }
     ensures disk { IsCounted (Err Status.DiskFault)

@@ -1,5 +1,5 @@
-ghost use Rattle.std.specs.Prelude.{◌≡◌, ◌≢◌, ◌<◌, ◌≤◌, ◌+◌, ◌*◌, ◌^◌, ◌++◌, ℕ, List, length, map, None, IfOk, IfSome, OnOk};
-ghost use Rattle.sha2.specs.Sha256.{sha256};
+ghost use Rattle.std.specs.Prelude.{◌≡◌, ◌≢◌, ◌<◌, ◌≤◌, ◌+◌, ◌^◌, ◌++◌, ℕ, List, length, map, None, IfOk, OnOk};
+ghost use Rattle.addr_codecs.specs.declared.message.TheConstants.{MAX_ENTRIES};
 ghost use Rattle.gen_load.specs.Spelling.{without_feed};
 ghost use Rattle.gen_load.specs.declared.generated.TheConstants.{MAX_LENGTH, MAX_LINES};
 ghost use Rattle.session.specs.Folders.{IsOpen};
@@ -45,7 +45,7 @@ fn reply_to<H: BuildHasher + Drop>(
         reply.old.items reply.new.items session.new) }
     ensures is_open { IsOpen session.new.job None }
     ensures numbers { session.new.machine.tables.next_number ≤
-        session.old.machine.tables.next_number + 1000 }
+        session.old.machine.tables.next_number + MAX_ENTRIES }
 {
     let mut folder = SureFolder::make();
     let text = &line[..line.len() - 1];
