@@ -2,14 +2,13 @@
 use Rattle.std.proofs.Common.{◌≡◌, ◌≤◌, ℕ, List, [], ◌∷◌, length, refl, sym, inl, inr, arith}
 use Rattle.std.specs.Prelude.{All, Option, Some, None, codes}
 use Rattle.std.proofs.lemmas.List.Elements.{All-from_recursion}
-use Rattle.host_io.specs.Disk.{safe}
 use Rattle.host_io.specs.Lines.{lines_of}
-use Rattle.host_io.specs.Past.{Past}
 use Rattle.log_lines.specs.declared.command.Command.TheVariants.{Size}
 use Rattle.log_run.specs.declared.limits.TheConstants.{MAX_LINE}
 use Rattle.peers_file.specs.declared.chain.Chain.TheVariants.{Main}
 use Rattle.addrman_run.specs.Complete.{IsGoodLog, IsReplayLine, NoRefusal}
 use Rattle.addrman_run.specs.Opening.{ReportsOpening}
+use Rattle.addrman_run.proofs.OpeningExamples.{folder}
 use Rattle.addrman_run.specs.declared.peers_fault.PeersFault.TheVariants.{File, Duplicate}
 use Rattle.asmap_vm.specs.declared.fault.CodeFault.TheVariants.{TooLarge, Insane}
 use Rattle.addrman_run.specs.declared.status.Status.TheVariants.{AsmapRefused, NoKey, PeersRefused}
@@ -43,23 +42,8 @@ good_log = record {
   right = rw three_lines good_lines;
 }
 
-abbrev no_files : Option Past
-no_files = Some (record {
-  now = record {
-    peers = safe None;
-    peers_temp = safe None;
-    asmap = safe None;
-    asmap_temp = safe None;
-    asmap_old = safe None;
-    prefixes = safe None;
-    bans = safe None;
-    bans_temp = safe None;
-  };
-  before = [];
-})
-
 -- a folder without files, and a key
-nothing_refused : (key : List ℕ) → NoRefusal (ReportsOpening (Some key) Main no_files)
+nothing_refused : (key : List ℕ) → NoRefusal (ReportsOpening (Some key) Main (folder None))
 nothing_refused key (AsmapRefused (TooLarge size)) why = none_some size why.1
 nothing_refused key (AsmapRefused Insane) why = none_some why.0 why.1.1
 nothing_refused key (PeersRefused (File fault)) why = none_some why.1.1.0 why.1.1.1

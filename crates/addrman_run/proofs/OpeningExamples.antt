@@ -37,7 +37,7 @@ unfolding hex_on_literals
 chain_and_key = (codes "--net=signet" ∷ [], (codes "--key=" ++ digits) ∷ [], refl, inr (inr (inr refl), (digits, (refl, refl), inr refl)))
 
 -- a folder with these bytes in peers.dat, or without the file, and no other file
-abbrev folder : Option (List ℕ) → Option Past
+abbrev pub folder : Option (List ℕ) → Option Past
 folder bytes = Some (record {
   now = record {
     peers = safe bytes;
