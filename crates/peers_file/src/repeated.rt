@@ -2,6 +2,7 @@ ghost use Rattle.std.specs.Prelude.{◌≡◌, ◌≤◌, ◌<◌, ◌+◌, vec_
 ghost use Rattle.std.specs.Int.{w32};
 ghost use Rattle.wire_num.specs.Readings.{Gives, then_at, times_at, value_at, le_at};
 ghost use Rattle.peer_rec.specs.declared.file_rec.TheConstants.{MAX_ATTEMPTS};
+ghost use Rattle.peer_rec.specs.declared.snapshot.TheConstants.{MAX_NEW, MAX_TRIED};
 ghost use Rattle.peers_file.specs.Layout.{entries_of, pairs_with};
 ghost use Rattle.peers_file.specs.Readings.{GivesUnlessMemory, AppendsUnlessMemory, field_at, record_in_at, bucket_at, all_buckets_at};
 
@@ -26,7 +27,7 @@ pub(crate) fn take_records(
     count: u32,
     bytes: &[u8],
 ) -> Result<(Vec<FileRec>, &[u8]), FileFault>
-    requires { first + count ≤ 81920 }
+    requires { first + count ≤ MAX_NEW + MAX_TRIED }
     ensures found { GivesUnlessMemory (λ x. (x.0.items, x.1.now)) result
         (times_at first count (record_in_at format) bytes.now) }
     ensures count { IfOk result (λ x. vec_len x.0 ≡ count) }
