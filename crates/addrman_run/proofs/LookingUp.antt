@@ -9,13 +9,13 @@ use Rattle.log_run.specs.declared.end.LogEnd.{LogEnd}
 use Rattle.net_addr.specs.declared.peer.Peer.{Peer}
 use Rattle.addrman_run.specs.Asmaps.{IsMapIn}
 use Rattle.addrman_run.specs.Lookup.{lookup_text}
-use Rattle.addrman_run.specs.LookupLines.{ArePeers, HasPeerFault, IsPeerLine, LookedUp, LookupStep}
+use Rattle.addrman_run.specs.LookupLines.{ArePeerLines, HasPeerFault, IsPeerLine, LookedUp, LookupStep}
 use Rattle.addrman_run.proofs.Seen.{Seen, ran_of}
 
 -- the peers of a run's lines, and the text about them
 record Given (map : Asmap) (lines : List (List ℕ)) (text : List ℕ) : Type 0 where
   peers : List Peer
-  each : ArePeers lines peers
+  each : ArePeerLines lines peers
   whole : text ≡ flat_map (λ peer. lookup_text map peer.addr) peers
 
 one_more : (map : Asmap) (line : List ℕ) (lines : List (List ℕ)) (first rest text : List ℕ) → text ≡ first ++ rest

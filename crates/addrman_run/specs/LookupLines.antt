@@ -38,12 +38,12 @@ LookupStep old line text new =
     ⊎ ((peer : Peer) × IsPeerLine line peer × (text ≡ lookup_text old peer.addr)))
 
 -- the peers of some lines, in order; lines that are passed over have none
-abbrev pub ArePeers : List (List ℕ) → List Peer → Type 0
-ArePeers [] peers = peers ≡ []
-ArePeers (line ∷ lines) peers =
-    (IsPassedOver line × ArePeers lines peers)
+abbrev pub ArePeerLines : List (List ℕ) → List Peer → Type 0
+ArePeerLines [] peers = peers ≡ []
+ArePeerLines (line ∷ lines) peers =
+    (IsPassedOver line × ArePeerLines lines peers)
     ⊎ ((peer : Peer) × (rest : List Peer) × (peers ≡ peer ∷ rest)
-    × IsPeerLine line peer × ArePeers lines rest)
+    × IsPeerLine line peer × ArePeerLines lines rest)
 
 -- A run over the log under the folder's asmap, by its end. Line n of the output is the lookup of
 -- the n-th peer.
@@ -52,7 +52,7 @@ pub record LookedUp (past : Option Past) (old new : Streams) (how : LogEnd) : Ty
   pub has_map : IsMapIn past (Some map)
   pub ran : Ran LookupStep HasPeerFault map old new how
   pub peers : List Peer
-  pub each : ArePeers ran.carried peers
+  pub each : ArePeerLines ran.carried peers
   pub whole : ran.replies ≡ flat_map (λ peer. lookup_text map peer.addr) peers
 
 -- why there is no asmap to look addresses up in

@@ -21,7 +21,7 @@ use Rattle.gen_load.specs.declared.position.Position.{Position}
 use Rattle.gen_load.specs.declared.kind.Kind.{Kind}
 use Rattle.gen_load.specs.declared.kind.Kind.TheVariants as kind
 use Rattle.gen_load.specs.Inside.{IsInTime, lines_left}
-use Rattle.gen_load.specs.Spelling.{AreLines, IsLine, without_feed}
+use Rattle.gen_load.specs.Spelling.{AreLines, IsGenLine, without_feed}
 use Rattle.gen_load.specs.Log.{draw, past, past_entries, peer_of, draw_entry, draw_entries, message_line, line_of, kind_of, drawn_line, drawn_lines, next_line, whole_log}
 use Rattle.gen_load.proofs.Lines.{past-time, drawn_line-time}
 use Rattle.gen_load.proofs.Spelled.{HasCommand, draw-small, drawn_line_spells, entries_bytes, entries_length, few_size, now_spells, peer_drawn}
@@ -227,7 +227,7 @@ unfolding drawn_line
 drawn-lacks at early = line-lacks (kind_of (draw 16 at)) (past at) (omega (arith, early, past-time at))
 
 -- a text with its line feed
-line_of_text : (text : List ℕ) → length text ≤ 299 → Lacks text → HasCommand text → IsLine (text ++ 10 ∷ [])
+line_of_text : (text : List ℕ) → length text ≤ 299 → Lacks text → HasCommand text → IsGenLine (text ++ 10 ∷ [])
 line_of_text text few lacks h =
     let whole = length-append text (10 ∷ []) in
     record {
@@ -241,12 +241,12 @@ line_of_text text few lacks h =
       drawn = h.1;
     }
 
-first-is_line : (at : Position) (left : ℕ) → IsInTime at.time left → IsLine (codes "now " ++ decimal at.time ++ 10 ∷ [])
+first-is_line : (at : Position) (left : ℕ) → IsInTime at.time left → IsGenLine (codes "now " ++ decimal at.time ++ 10 ∷ [])
 first-is_line at left in_time =
     line_of_text (codes "now " ++ decimal at.time) (clock-length at.time (omega (arith, in_time.early)))
     (number-lacks (codes "now ") at.time (omega (arith, in_time.early)) refl) (now_spells at.time (omega (arith, in_time.early)))
 
-drawn-is_line : (at : Position) (left : ℕ) → IsInTime at.time left → IsLine ((drawn_line at).text ++ 10 ∷ [])
+drawn-is_line : (at : Position) (left : ℕ) → IsInTime at.time left → IsGenLine ((drawn_line at).text ++ 10 ∷ [])
 drawn-is_line at left in_time =
     line_of_text (drawn_line at).text (drawn-length at (omega (arith, in_time.early)))
     (drawn-lacks at (omega (arith, in_time.early))) (drawn_line_spells at (omega (arith, in_time.early)))
@@ -265,7 +265,7 @@ log-is_lines (suc n) at in_time =
     (first-is_line at (suc n) in_time, drawn_lines-are n at (record { late = in_time.late; early = omega (arith, in_time.early) }))
 
 -- the next line of those that are to come, if there is one
-pub next-is_line : (begun : Bool) (left : ℕ) (at : Position) → IsInTime at.time left → lines_left begun left at ≢ [] → IsLine (next_line (lines_left begun left at))
+pub next-is_line : (begun : Bool) (left : ℕ) (at : Position) → IsInTime at.time left → lines_left begun left at ≢ [] → IsGenLine (next_line (lines_left begun left at))
 next-is_line true zero at in_time some = absurd (some refl)
 next-is_line false zero at in_time some = absurd (some refl)
 next-is_line true (suc left) at in_time some = drawn-is_line at (suc left) in_time

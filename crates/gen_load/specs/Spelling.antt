@@ -29,7 +29,7 @@ IsDrawn other = ⊥
 
 -- a line of a generated log: it ends with its only line feed, is short, and parses as exactly one
 -- command, one of those that are generated
-pub record IsLine (line : List ℕ) : Type 0 where
+pub record IsGenLine (line : List ℕ) : Type 0 where
   pub text : List ℕ
   pub whole : line ≡ text ++ 10 ∷ []
   pub one_line : All (λ b. b ≢ 10) text
@@ -45,4 +45,4 @@ without_feed line = take (length line - 1) line
 
 abbrev pub AreLines : List (List ℕ) → Type 0
 AreLines [] = ⊤
-AreLines (line ∷ lines) = IsLine line × AreLines lines
+AreLines (line ∷ lines) = IsGenLine line × AreLines lines

@@ -41,7 +41,7 @@ impl Model for Gen {
 impl Gen {
     ghost use Rattle.std.specs.Prelude.{◌≡◌, ◌≢◌, ◌↔◌, ◌≤◌, ◌++◌, [], IsTrue, IfOk, OnOk, OnErr};
     ghost use Rattle.gen_load.specs.Log.{log, next_line, lines_after};
-    ghost use Rattle.gen_load.specs.Spelling.{IsLine};
+    ghost use Rattle.gen_load.specs.Spelling.{IsGenLine};
     ghost use Rattle.gen_load.specs.declared.generated.TheConstants.{MAX_LINES};
 
     /// Makes the log of a number, with this many lines.
@@ -65,7 +65,7 @@ impl Gen {
         ensures more { IfOk result (λ more. IsTrue more ↔ (self.old ≢ [])) }
         ensures text { OnOk result (out.new.items ≡ out.old.items ++ next_line self.old) }
         ensures lines { OnOk result (self.new ≡ lines_after self.old) }
-        ensures line { OnOk result (self.old ≢ [] → IsLine (next_line self.old)) }
+        ensures line { OnOk result (self.old ≢ [] → IsGenLine (next_line self.old)) }
         ensures err_lines { OnErr result (self.new ≡ self.old) }
         ensures err_out { OnErr result (out.new.items ≡ out.old.items) }
     {

@@ -24,7 +24,7 @@ use Rattle.laws.proofs.BoundOf.{few_words}
 use Rattle.laws.proofs.Picked.{found_at}
 use Rattle.laws.proofs.SomeOf.{candidate-there}
 use Rattle.laws.proofs.Within.{count_outside}
-use Rattle.laws.specs.Shares.{AreBy, AreOf, IsOf, IsShared, KeepsShares, LeadsTo}
+use Rattle.laws.specs.Shares.{AreBy, AreInGroups, IsOf, IsShared, KeepsShares, LeadsTo}
 
 pub Contains-flat_map : {X : Type 0} (f : X → List ℕ) (xs : List X) (x : X) (b : ℕ) → Contains xs x → Contains (f x) b → Contains (flat_map f xs) b
 Contains-flat_map f [] x b c h = absurd (none_in_nil x c)
@@ -83,7 +83,7 @@ module _ (Accepted : Peer → Address → Type 0) (Listed : ℕ → Peer → ℕ
       let h = find-Some (is_new_at st.places b found.0) st.records q found.1 in
       by_reach Accepted st.places groups q b (theirs q h.0 passes b (new_at_parts st.places b found.0 q h.1).0)
 
-  pair_inside : (groups peers : List (List ℕ)) (test : Rec → Bool) → AreBy Accepted st groups test → AreOf st peers test → (b start : ℕ) (nets : List ℕ) (q : Rec)
+  pair_inside : (groups peers : List (List ℕ)) (test : Rec → Bool) → AreBy Accepted st groups test → AreInGroups st peers test → (b start : ℕ) (nets : List ℕ) (q : Rec)
       → first_candidate st true nets b start ≡ Some q → test q ≡ true → Contains (between st.places groups peers) b
   pair_inside groups peers test theirs own b start nets q is passes =
       let found = found_at (new_rec_at st b) nets (slots_from start) q is in

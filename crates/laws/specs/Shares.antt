@@ -45,8 +45,8 @@ AreBy Accepted st groups test =
     → Contains (buckets_of r) bucket → IsBy Accepted st.places groups r bucket
 
 -- the records that pass the test have addresses of the groups
-abbrev pub AreOf : State → List (List ℕ) → (Rec → Bool) → Type 0
-AreOf st groups test =
+abbrev pub AreInGroups : State → List (List ℕ) → (Rec → Bool) → Type 0
+AreInGroups st groups test =
     (r : Rec) → Contains st.records r → test r ≡ true
     → Contains groups (group st.places r.peer.addr)
 
@@ -66,10 +66,10 @@ pub record IsShared (Accepted : Peer → Address → Type 0) (Listed : ℕ → P
       → AreBy Accepted st groups test
       → words_for st true nets now factor test ≤ 64 * length groups * (SLOTS * 2 ^ 30)
   pub tried_words : (nets : List ℕ) (now factor : ℕ) (groups : List (List ℕ)) (test : Rec → Bool)
-      → AreOf st groups test
+      → AreInGroups st groups test
       → words_for st false nets now factor test ≤ 8 * length groups * (SLOTS * 2 ^ 30)
   pub pair_words : (nets : List ℕ) (now factor : ℕ) (groups peers : List (List ℕ))
-      (test : Rec → Bool) → AreBy Accepted st groups test → AreOf st peers test
+      (test : Rec → Bool) → AreBy Accepted st groups test → AreInGroups st peers test
       → words_for st true nets now factor test ≤ length groups * length peers * (SLOTS * 2 ^ 30)
   pub others : (groups : List (List ℕ)) (r : Rec) → Contains st.records r → (bucket : ℕ)
       → Contains (buckets_of r) bucket → (Contains (reach st.places groups) bucket → ⊥)

@@ -17,7 +17,7 @@ use Rattle.peer_open.specs.Groups as groups
 use Rattle.peer_open.specs.Groups.{is_open, without_peer}
 use Rattle.opener_lines.specs.Grammar.{LineAsks, AsksBy, verb_at, verbs, opener_word}
 use Rattle.opener_lines.specs.Inside.{CanBeDone, Leaves}
-use Rattle.opener_lines.specs.Lines.{LeavesPart, LineStep}
+use Rattle.opener_lines.specs.Lines.{OpenerLeavesPart, LineStep}
 use Rattle.opener_lines.specs.State.{Answer, Closed, FeelerStep, Full, OutboundStep, OpenerState, RequestStep, Told, after_clash, answer_to_feeler, answer_to_outbound, peers_after, state}
 use Rattle.opener_lines.specs.Texts.{answer_text}
 use Rattle.peer_open.specs.declared.opener.TheConstants.{MAX_OUTBOUND}
@@ -120,7 +120,7 @@ pub carried : (old new : OpenerState) (line before after : List ℕ) (asked : Re
 carried old new line before after asked asks done = (answer_text done.0, inr (asked, done.0, asks, done.1, refl), done.2)
 
 -- memory ran out after it
-pub left : (old new : OpenerState) (line : List ℕ) (asked : Request) → LineAsks line asked → Leaves old asked new → LeavesPart old line new
+pub left : (old new : OpenerState) (line : List ℕ) (asked : Request) → LineAsks line asked → Leaves old asked new → OpenerLeavesPart old line new
 left old new line asked asks (inl same) = inl same
 left old new line asked asks (inr (inl done)) = inr (inl (answer_text done.0, inr (asked, done.0, asks, done.1, refl)))
 left old new line (request.Machine command) asks (inr (inr part)) = inr (inr (command, part.0, asks, part.1, part.2))

@@ -19,8 +19,8 @@ LineStep old line text new =
 
 -- What a line leaves that ran out of memory: the state before it, that after it, or a message of
 -- which some of the first entries were taken.
-abbrev pub LeavesPart : OpenerState → List ℕ → OpenerState → Type 0
-LeavesPart old line new =
+abbrev pub OpenerLeavesPart : OpenerState → List ℕ → OpenerState → Type 0
+OpenerLeavesPart old line new =
     (new ≡ old)
     ⊎ (((text : List ℕ) × LineStep old line text new)
     ⊎ ((asked : Command) × (machine : Machine) × LineAsks line (request.Machine asked)

@@ -2,7 +2,7 @@ ghost use Rattle.std.specs.Prelude.{◌≡◌, ◌≢◌, ◌+◌, ◌≤◌, �
 ghost use Rattle.grammar.specs.declared.fault.LineFault.{LineFault};
 ghost use Rattle.peer_open.specs.Groups.{AreApart};
 ghost use Rattle.opener_lines.specs.Grammar.{HasRequestFault};
-ghost use Rattle.opener_lines.specs.Lines.{LeavesPart, LineStep};
+ghost use Rattle.opener_lines.specs.Lines.{OpenerLeavesPart, LineStep};
 ghost use Rattle.opener_lines.specs.State.{state};
 
 use crate::carry_out::carry_out;
@@ -34,7 +34,7 @@ pub fn opener_line<H: BuildHasher, L: Ledger>(
     ensures only_fault { (f : LineFault) → HasRequestFault line.now f →
         (result ≡ Err f) ⊎ (result ≡ Err LineFault.Memory) }
     ensures memory { IsErrOf result LineFault.Memory →
-        LeavesPart (state manager.old opener.old) line.now (state manager.new opener.new) }
+        OpenerLeavesPart (state manager.old opener.old) line.now (state manager.new opener.new) }
     ensures list { OnErr result (out.new.items ≡ out.old.items) }
     ensures numbers { manager.new.tables.next_number ≤ manager.old.tables.next_number + 1000 }
 {

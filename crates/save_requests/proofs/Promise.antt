@@ -7,7 +7,7 @@ use Rattle.host_io.specs.Disk.{Disk, after_append, after_create, after_rename, a
 use Rattle.host_io.specs.Past.{Past, AfterFault, Always, after}
 use Rattle.host_io.specs.PerName.{under}
 use Rattle.host_io.specs.declared.name.Name.{Name}
-use Rattle.save_store.specs.Job.{Reads}
+use Rattle.save_store.specs.Job.{ReadsAs}
 use Rattle.save_store.specs.Saves.{IsStored, KeepsOthers, PublishesOrNot}
 use Rattle.save_store.proofs.Published.{moved_and_synced, moved_only, not_renamed, not_written, stored, written_first}
 use Rattle.save_store.proofs.Temp.{appended_reads, changed, created_reads, failed, failed_append, is_synced, unchanged}
@@ -27,7 +27,7 @@ stops partly old new how = elim how [
 
 module _ (temp name : Name) (apart : temp ≢ name) where
   -- after the last piece
-  ended : (bytes : List ℕ) (old mid new : Option Past) → Always old mid (KeepsOthers temp) → Reads temp bytes mid
+  ended : (bytes : List ℕ) (old mid new : Option Past) → Always old mid (KeepsOthers temp) → ReadsAs temp bytes mid
       → AreCarriedOut temp name ending mid new → Always old new (PublishesOrNot temp name bytes)
   ended bytes old mid new so_far reads carried =
       let two = after (after_sync temp) mid in
@@ -53,7 +53,7 @@ module _ (temp name : Name) (apart : temp ≢ name) where
 
   -- from a piece on
   appending : (ps : List (List ℕ)) (written : List ℕ) (old mid new : Option Past) → Always old mid (KeepsOthers temp)
-      → Reads temp written mid → AreCarriedOut temp name (map ask_append ps ++ ending) mid new
+      → ReadsAs temp written mid → AreCarriedOut temp name (map ask_append ps ++ ending) mid new
       → Always old new (PublishesOrNot temp name (written ++ concat ps))
   appending [] written old mid new so_far reads carried =
       subst (λ bytes. Always old new (PublishesOrNot temp name bytes)) (sym (append-nil written))
@@ -88,13 +88,13 @@ module _ (temp name : Name) (apart : temp ≢ name) where
 
   -- ALL OF THEM
 
-  last : (bytes : List ℕ) (mid : Option Past) → Reads temp bytes mid
+  last : (bytes : List ℕ) (mid : Option Past) → ReadsAs temp bytes mid
       → IfSome (after_all temp name ending mid) (λ p. IsStored name bytes p.now)
   last bytes mid reads =
       let two = after (after_sync temp) mid in let three = after (after_rename temp name) two in
       stored temp name bytes two three (after after_sync_dir three) apart (is_synced temp bytes mid two reads refl) refl refl
 
-  pieces_done : (ps : List (List ℕ)) (written : List ℕ) (mid : Option Past) → Reads temp written mid
+  pieces_done : (ps : List (List ℕ)) (written : List ℕ) (mid : Option Past) → ReadsAs temp written mid
       → IfSome (after_all temp name (map ask_append ps ++ ending) mid) (λ p. IsStored name (written ++ concat ps) p.now)
   pieces_done [] written mid reads =
       subst (λ bytes. IfSome (after_all temp name ending mid) (λ p. IsStored name bytes p.now)) (sym (append-nil written))

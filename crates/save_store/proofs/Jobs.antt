@@ -5,7 +5,7 @@ use Rattle.std.proofs.lemmas.List.{drop-drop}
 use Rattle.std.specs.Prelude.{Option}
 use Rattle.host_io.specs.Past.{Past}
 use Rattle.host_io.specs.declared.name.Name.{Name}
-use Rattle.save_store.specs.Job.{Job, Reads}
+use Rattle.save_store.specs.Job.{Job, ReadsAs}
 
 take_length : (c : ℕ) (ys : List ℕ) → take (length (take c ys)) ys ≡ take c ys
 take_length zero ys = refl
@@ -32,10 +32,10 @@ stepped t xs d c n is =
     (sym (drop-drop (length (take c (drop d xs))) d xs) ∙ drop_length c (drop d xs)))
 
 -- what is written of a job, said of a job that is equal
-pub reads_as : (past : Option Past) (j k : Job) → j ≡ k → Reads j.temp j.written past → Reads k.temp k.written past
-reads_as past j k e = subst (λ (x : Job). Reads x.temp x.written past) e
+pub reads_as : (past : Option Past) (j k : Job) → j ≡ k → ReadsAs j.temp j.written past → ReadsAs k.temp k.written past
+reads_as past j k e = subst (λ (x : Job). ReadsAs x.temp x.written past) e
 
 -- the bytes that come next, in a list that is equal
 pub next_same : (past : Option Past) (temp : Name) (written xs ys : List ℕ) (n : ℕ) → xs ≡ ys
-    → Reads temp (written ++ take n xs) past → Reads temp (written ++ take n ys) past
-next_same past temp written xs ys n e = subst (λ zs. Reads temp (written ++ take n zs) past) e
+    → ReadsAs temp (written ++ take n xs) past → ReadsAs temp (written ++ take n ys) past
+next_same past temp written xs ys n e = subst (λ zs. ReadsAs temp (written ++ take n zs) past) e

@@ -11,7 +11,7 @@ use Rattle.host_io.specs.declared.name.Name.{Name}
 use Rattle.host_io.specs.declared.entry.Fate.{Fate}
 use Rattle.host_io.proofs.Moments.{begun, broke, went}
 use Rattle.host_io.proofs.Names.{under_each, under_other, under_same}
-use Rattle.save_store.specs.Job.{Reads}
+use Rattle.save_store.specs.Job.{ReadsAs}
 use Rattle.save_store.specs.Saves.{IsSafe, IsSynced, KeepsOthers}
 
 -- nothing has changed yet
@@ -58,13 +58,13 @@ some_there : (now : Option (List ℕ)) (bytes : List ℕ) → now ≡ Some bytes
 some_there now bytes is = subst IsSome (sym is) refl
 
 pub reads_there : (name : Name) (bytes : List ℕ) (past : Option Past)
-    → Reads name bytes past → IsThere (files_of past) name
+    → ReadsAs name bytes past → IsThere (files_of past) name
 reads_there name bytes None reads = tt
 reads_there name bytes (Some p) reads =
     there name (Some p) (some_there (under p.now name).file bytes reads)
 
 pub some_reads_there : (name : Name) (past : Option Past)
-    → (bytes : List ℕ) × Reads name bytes past → IsThere (files_of past) name
+    → (bytes : List ℕ) × ReadsAs name bytes past → IsThere (files_of past) name
 some_reads_there name past reads = reads_there name reads.0 past reads.1
 
 pub synced_there : (name : Name) (past : Option Past)
@@ -76,25 +76,25 @@ synced_there name (Some p) synced =
 -- the bytes as they read
 
 pub created_reads : (name : Name) (old new : Option Past) → new ≡ after (after_create name) old
-    → Reads name [] new
-created_reads name None new goes = subst (Reads name []) (sym goes) tt
+    → ReadsAs name [] new
+created_reads name None new goes = subst (ReadsAs name []) (sym goes) tt
 created_reads name (Some p) new goes =
-    subst (Reads name []) (sym goes) (ap (λ (e : Entry). e.file) (under_same p.now name created))
+    subst (ReadsAs name []) (sym goes) (ap (λ (e : Entry). e.file) (under_same p.now name created))
 
 pub appended_reads : (name : Name) (written bytes : List ℕ) (old new : Option Past)
-    → Reads name written old → new ≡ after (after_append name bytes) old
-    → Reads name (written ++ bytes) new
+    → ReadsAs name written old → new ≡ after (after_append name bytes) old
+    → ReadsAs name (written ++ bytes) new
 appended_reads name written bytes None new reads goes =
-    subst (Reads name (written ++ bytes)) (sym goes) tt
+    subst (ReadsAs name (written ++ bytes)) (sym goes) tt
 appended_reads name written bytes (Some p) new reads goes =
-    subst (Reads name (written ++ bytes)) (sym goes)
+    subst (ReadsAs name (written ++ bytes)) (sym goes)
     (ap (λ (e : Entry). e.file) (under_same p.now name (appended bytes (under p.now name)))
     ∙ ap (option_map (λ old. old ++ bytes)) reads)
 
 -- what is synced
 
 pub is_synced : (name : Name) (bytes : List ℕ) (old new : Option Past)
-    → Reads name bytes old → new ≡ after (after_sync name) old
+    → ReadsAs name bytes old → new ≡ after (after_sync name) old
     → IfSome new (λ p. IsSynced name bytes p.now)
 is_synced name bytes None new reads goes =
     subst (λ o. IfSome o (λ p. IsSynced name bytes p.now)) (sym goes) tt

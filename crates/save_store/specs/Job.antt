@@ -15,5 +15,5 @@ abbrev pub whole : Job → List ℕ
 whole job = job.written ++ job.left
 
 -- The file reads as these bytes, if contracts know the folder's files.
-abbrev pub Reads : Name → List ℕ → Option Past → Type 0
-Reads name bytes past = IfSome past (λ p. (under p.now name).file ≡ Some bytes)
+abbrev pub ReadsAs : Name → List ℕ → Option Past → Type 0
+ReadsAs name bytes past = IfSome past (λ p. (under p.now name).file ≡ Some bytes)

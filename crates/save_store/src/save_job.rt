@@ -1,7 +1,7 @@
 ghost use Rattle.std.specs.Prelude.{◌≡◌, ◌≢◌, ◌≤◌, ◌++◌, ℕ, List, [], take, drop, length, IfOk, IfSome, OnOk, OnErr};
 ghost use Rattle.host_io.specs.Faults.{Rose};
 ghost use Rattle.host_io.specs.Past.{Always};
-ghost use Rattle.save_store.specs.Job.{Reads, whole};
+ghost use Rattle.save_store.specs.Job.{ReadsAs, whole};
 ghost use Rattle.save_store.specs.Saves.{KeepsOthers, PublishesOrNot, IsSynced, IsStored};
 
 use crate::saving::publish;
@@ -38,7 +38,7 @@ impl SaveJob {
         ensures any_moment { Always (F.past folder.old) (F.past folder.new) (KeepsOthers temp) }
         ensures job { IfOk result (λ job.
             job ≡ record { temp = temp; written = []; left = bytes }) }
-        ensures reads { IfOk result (λ job. Reads job.temp job.written (F.past folder.new)) }
+        ensures reads { IfOk result (λ job. ReadsAs job.temp job.written (F.past folder.new)) }
         ensures cause { OnErr result (Rose (F.faults folder.old) (F.faults folder.new)) }
         ensures never_falls { F.faults folder.old ≤ F.faults folder.new }
     {
@@ -53,7 +53,7 @@ impl SaveJob {
     /// Appends the first of the bytes left to the temporary file: `count` of them, or all if they
     /// are fewer.
     pub fn step<F: Folder>(self, folder: &mut F, count: u32) -> Result<SaveJob, Failed>
-        requires reads { Reads self.temp self.written (F.past folder.old) }
+        requires reads { ReadsAs self.temp self.written (F.past folder.old) }
         ensures any_moment { Always (F.past folder.old) (F.past folder.new)
             (KeepsOthers self.temp) }
         ensures job { IfOk result (λ job. job ≡ record {
@@ -61,7 +61,7 @@ impl SaveJob {
           written = self.written ++ take count self.left;
           left = drop count self.left;
         }) }
-        ensures reads { IfOk result (λ job. Reads job.temp job.written (F.past folder.new)) }
+        ensures reads { IfOk result (λ job. ReadsAs job.temp job.written (F.past folder.new)) }
         ensures cause { OnErr result (Rose (F.faults folder.old) (F.faults folder.new)) }
         ensures never_falls { F.faults folder.old ≤ F.faults folder.new }
     {
@@ -86,7 +86,7 @@ impl SaveJob {
     /// new one.
     pub fn end<F: Folder>(self, folder: &mut F, name: Name) -> Result<(), Failed>
         requires apart { self.temp ≢ name }
-        requires reads { Reads self.temp self.written (F.past folder.old) }
+        requires reads { ReadsAs self.temp self.written (F.past folder.old) }
         ensures any_moment { Always (F.past folder.old) (F.past folder.new)
             (PublishesOrNot self.temp name (whole self)) }
         ensures stored { OnOk result
@@ -117,11 +117,11 @@ fn write_next<F: Folder>(
     bytes: &[u8],
     count: u32,
 ) -> Result<usize, Failed>
-    requires reads { (written : List ℕ) × Reads temp written (F.past folder.old) }
+    requires reads { (written : List ℕ) × ReadsAs temp written (F.past folder.old) }
     ensures any_moment { Always (F.past folder.old) (F.past folder.new) (KeepsOthers temp) }
     ensures count { IfOk result (λ n. n ≡ length (take count bytes.now)) }
-    ensures reads { (written : List ℕ) → Reads temp written (F.past folder.old) →
-        OnOk result (Reads temp (written ++ take count bytes.now) (F.past folder.new)) }
+    ensures reads { (written : List ℕ) → ReadsAs temp written (F.past folder.old) →
+        OnOk result (ReadsAs temp (written ++ take count bytes.now) (F.past folder.new)) }
     ensures cause { OnErr result (Rose (F.faults folder.old) (F.faults folder.new)) }
     ensures never_falls { F.faults folder.old ≤ F.faults folder.new }
 {
@@ -132,9 +132,9 @@ fn write_next<F: Folder>(
 
 /// Appends bytes to the temporary file, and makes all of it safe.
 fn write_rest<F: Folder>(folder: &mut F, temp: Name, bytes: &[u8]) -> Result<(), Failed>
-    requires reads { (written : List ℕ) × Reads temp written (F.past folder.old) }
+    requires reads { (written : List ℕ) × ReadsAs temp written (F.past folder.old) }
     ensures any_moment { Always (F.past folder.old) (F.past folder.new) (KeepsOthers temp) }
-    ensures synced { (written : List ℕ) → Reads temp written (F.past folder.old) →
+    ensures synced { (written : List ℕ) → ReadsAs temp written (F.past folder.old) →
         OnOk result (IfSome (F.past folder.new) (λ p.
         IsSynced temp (written ++ bytes.now) p.now)) }
     ensures cause { OnErr result (Rose (F.faults folder.old) (F.faults folder.new)) }
@@ -147,11 +147,11 @@ fn write_rest<F: Folder>(folder: &mut F, temp: Name, bytes: &[u8]) -> Result<(),
 /// Appends bytes to the temporary file, makes all of it safe, and puts it in the place of another.
 fn finish<F: Folder>(folder: &mut F, temp: Name, name: Name, bytes: &[u8]) -> Result<(), Failed>
     requires apart { temp ≢ name }
-    requires reads { (written : List ℕ) × Reads temp written (F.past folder.old) }
-    ensures any_moment { (written : List ℕ) → Reads temp written (F.past folder.old) →
+    requires reads { (written : List ℕ) × ReadsAs temp written (F.past folder.old) }
+    ensures any_moment { (written : List ℕ) → ReadsAs temp written (F.past folder.old) →
         Always (F.past folder.old) (F.past folder.new)
         (PublishesOrNot temp name (written ++ bytes.now)) }
-    ensures stored { (written : List ℕ) → Reads temp written (F.past folder.old) →
+    ensures stored { (written : List ℕ) → ReadsAs temp written (F.past folder.old) →
         OnOk result (IfSome (F.past folder.new) (λ p.
         IsStored name (written ++ bytes.now) p.now)) }
     ensures cause { OnErr result (Rose (F.faults folder.old) (F.faults folder.new)) }

@@ -11,7 +11,7 @@ use Rattle.host_io.proofs.Moments.{begun as nothing_since, joined}
 use Rattle.log_lines.specs.declared.command.Command.TheVariants as command
 use Rattle.log_lines.specs.declared.reply.Reply.{Reply}
 use Rattle.log_lines.specs.declared.reply.Reply.TheVariants.{Begun, NotSaved, Saved, Stepped}
-use Rattle.save_store.specs.Job.{Job, Reads, whole}
+use Rattle.save_store.specs.Job.{Job, ReadsAs, whole}
 use Rattle.save_store.specs.Saves.{IsStored, KeepsOthers, PublishesOrNot}
 use Rattle.session.specs.Events.{Ended, Event, IsOfEvent, SaveCommand, after_step, begun, event_of, save, save_begin, save_end, save_step}
 use Rattle.session.specs.Events.Ended.{Saved as was_saved, NotSaved as was_not}
@@ -63,7 +63,7 @@ published_moments file old new always =
     (λ start d e p same. subst (AtMost (Some file) start) (sym same) (record { at = p.at; others = p.others }))
 
 pub save_begun : (file : List ℕ) (n : ℕ) (b : Job) (old new : Option Past) (f g : ℕ) → b ≡ begun file → n ≡ length file
-    → Always old new (KeepsOthers PeersTemp) → Reads PeersTemp [] new
+    → Always old new (KeepsOthers PeersTemp) → ReadsAs PeersTemp [] new
     → Effect (save_begin file None) None (Begun n) (Some b) old new f g
 save_begun file n b old new f g is size always reads =
     subst (λ m. Effect (save_begin file None) None (Begun m) (Some b) old new f g) (sym size) (
@@ -87,7 +87,7 @@ begin_failed file old new f g always rose = record {
 
 pub save_stepped : (n left : ℕ) (job : Option Job) (j b : Job) (old new : Option Past) (f g : ℕ)
     → job ≡ Some j → j.temp ≡ PeersTemp → b ≡ after_step j n → left ≡ length b.left
-    → Always old new (KeepsOthers j.temp) → Reads j.temp (j.written ++ take n j.left) new
+    → Always old new (KeepsOthers j.temp) → ReadsAs j.temp (j.written ++ take n j.left) new
     → Effect (save_step n job) None (Stepped left) (Some b) old new f g
 save_stepped n left job j b old new f g some temp is size always reads =
     subst (λ o. Effect (save_step n o) None (Stepped left) (Some b) old new f g) (sym some) (
@@ -97,7 +97,7 @@ save_stepped n left job j b old new f g some temp is size always reads =
       step = (true, refl, refl, refl);
       has = tt;
       moments = kept_moments old new (subst (λ t. Always old new (KeepsOthers t)) temp always);
-      is_open = (temp, subst (λ t. Reads t (j.written ++ take n j.left) new) temp reads);
+      is_open = (temp, subst (λ t. ReadsAs t (j.written ++ take n j.left) new) temp reads);
     })))
 
 pub step_failed : (n : ℕ) (job : Option Job) (j : Job) (old new : Option Past) (f g : ℕ) → job ≡ Some j

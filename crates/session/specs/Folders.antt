@@ -14,7 +14,7 @@ use Rattle.log_lines.specs.declared.command.Command.TheVariants as command
 use Rattle.log_run.specs.Worlds.{StepsIn}
 use Rattle.manager.specs.Machine.{Machine}
 use Rattle.manager.specs.Step as manager
-use Rattle.save_store.specs.Job.{Job, Reads, whole}
+use Rattle.save_store.specs.Job.{Job, ReadsAs, whole}
 use Rattle.save_store.specs.Saves.{IsStored, NoMore}
 use Rattle.session.specs.Events.{Ended, IsEvent}
 use Rattle.session.specs.Events.Ended.{NotSaved, Saved}
@@ -52,7 +52,7 @@ pub record AtMost (file : Option (List ℕ)) (start disk : Disk) : Type 0 where
 
 -- peers.tmp reads as the bytes written of the open save, if one is open
 abbrev pub IsOpen : Option Job → Option Past → Type 0
-IsOpen job past = IfSome job (λ j. (j.temp ≡ PeersTemp) × Reads PeersTemp j.written past)
+IsOpen job past = IfSome job (λ j. (j.temp ≡ PeersTemp) × ReadsAs PeersTemp j.written past)
 
 -- Why a save ended as it did: every crash leaves its file at peers.dat, or the folder failed.
 abbrev pub HasEnded : Option Ended → Option Past → ℕ → ℕ → Type 0
@@ -81,8 +81,8 @@ pub record Turn (old : SessionState) (line text : List ℕ) (new : SessionState)
 
 -- What a line leaves that ran out of memory before it was carried out: the state before it, or a
 -- message of which some of the first entries were taken.
-abbrev pub LeavesPart : SessionState → List ℕ → SessionState → Type 0
-LeavesPart old line new =
+abbrev pub SessionLeavesPart : SessionState → List ℕ → SessionState → Type 0
+SessionLeavesPart old line new =
     (new ≡ old)
     ⊎ ((asked : Command) × (machine : Machine) × SpellsCommand line asked
     × manager.LeavesPart old.machine asked machine × (new ≡ record old { machine = machine }))

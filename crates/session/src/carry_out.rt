@@ -1,4 +1,5 @@
 ghost use Rattle.std.specs.Prelude.{◌≡◌, ◌+◌, ◌*◌, ◌≤◌, ◌<◌, ◌^◌, List, ℕ, Option, None, IfOk, OnErr};
+ghost use Rattle.addr_codecs.specs.declared.message.TheConstants.{MAX_ENTRIES};
 ghost use Rattle.host_io.specs.Past.{Always};
 ghost use Rattle.manager.specs.Step.{Step, SavesNothing, HasPercent, LeavesPart};
 ghost use Rattle.save_store.specs.Job.{Job};
@@ -35,7 +36,8 @@ fn apply<L: Ledger, H: BuildHasher>(
     requires percent { HasPercent command.now }
     requires room { manager.old.tables.next_number < 2 ^ 62 }
     ensures step { IfOk result (λ answer. Step manager.old command.now answer manager.new) }
-    ensures numbers { manager.new.tables.next_number ≤ manager.old.tables.next_number + 1000 }
+    ensures numbers { manager.new.tables.next_number
+        ≤ manager.old.tables.next_number + MAX_ENTRIES }
     ensures err { OnErr result (LeavesPart manager.old command.now manager.new) }
     ensures no_file { (file : List ℕ) (job : Option Job) → published file job command.now ≡ None }
 {
@@ -65,7 +67,8 @@ pub(crate) fn carry_out<F: Folder, H: BuildHasher>(
     ensures still { ¬ IsEvent job.old command.now → folder.new ≡ folder.old }
     ensures err { OnErr result ((folder.new ≡ folder.old) × (job.new ≡ job.old)
         × LeavesPart manager.old command.now manager.new) }
-    ensures numbers { manager.new.tables.next_number ≤ manager.old.tables.next_number + 1000 }
+    ensures numbers { manager.new.tables.next_number
+        ≤ manager.old.tables.next_number + MAX_ENTRIES }
     ensures never_falls { F.faults folder.old ≤ F.faults folder.new }
 {
     match command {

@@ -32,11 +32,12 @@ impl<'a, H: BuildHasher> Model for Session<'a, H> {
 }
 
 impl<'a, H: BuildHasher> Session<'a, H> {
-    ghost use Rattle.std.specs.Prelude.{◌≡◌, ◌≢◌, ◌+◌, ◌≤◌, ◌<◌, ◌^◌, ◌++◌, ◌⊎◌, ℕ, List, length, Option, None, Err, OnOk, OnErr, IsErrOf};
+    ghost use Rattle.std.specs.Prelude.{◌≡◌, ◌≢◌, ◌+◌, ◌≤◌, ◌<◌, ◌^◌, ◌++◌, ◌⊎◌, ℕ, List, Option, None, Err, OnOk, OnErr, IsErrOf};
+    ghost use Rattle.addr_codecs.specs.declared.message.TheConstants.{MAX_ENTRIES};
     ghost use Rattle.host_io.specs.Past.{Always};
     ghost use Rattle.log_lines.specs.Spelling.{HasCommandFault, SpellsCommand};
     ghost use Rattle.manager.specs.Step.{HasPercent};
-    ghost use Rattle.session.specs.Folders.{AtMost, IsEventLine, IsOpen, LeavesPart, MayPublish, Turn};
+    ghost use Rattle.session.specs.Folders.{AtMost, IsEventLine, IsOpen, SessionLeavesPart, MayPublish, Turn};
 
     /// Makes a session in which no save is open.
     pub fn make(manager: Manager<'a, H>, chain: Chain) -> Session<'a, H>
@@ -83,10 +84,10 @@ impl<'a, H: BuildHasher> Session<'a, H> {
         ensures memory { IsErrOf result LineFault.Memory →
             ((text : List ℕ) × Turn self.old line.now text self.new (F.past folder.old)
             (F.past folder.new) (F.faults folder.old) (F.faults folder.new))
-            ⊎ (LeavesPart self.old line.now self.new × (folder.new ≡ folder.old)) }
+            ⊎ (SessionLeavesPart self.old line.now self.new × (folder.new ≡ folder.old)) }
         ensures list { OnErr result (out.new.items ≡ out.old.items) }
         ensures numbers { self.new.machine.tables.next_number
-            ≤ self.old.machine.tables.next_number + 1000 }
+            ≤ self.old.machine.tables.next_number + MAX_ENTRIES }
         ensures never_falls { F.faults folder.old ≤ F.faults folder.new }
     {
         match read_line(alloc, line) {
@@ -123,10 +124,10 @@ impl<'a, H: BuildHasher> Session<'a, H> {
             (line : List ℕ) → SpellsCommand line command.now →
             ((text : List ℕ) × Turn self.old line text self.new (F.past folder.old)
             (F.past folder.new) (F.faults folder.old) (F.faults folder.new))
-            ⊎ (LeavesPart self.old line self.new × (folder.new ≡ folder.old)) }
+            ⊎ (SessionLeavesPart self.old line self.new × (folder.new ≡ folder.old)) }
         ensures list { OnErr result (out.new.items ≡ out.old.items) }
         ensures numbers { self.new.machine.tables.next_number
-            ≤ self.old.machine.tables.next_number + 1000 }
+            ≤ self.old.machine.tables.next_number + MAX_ENTRIES }
         ensures never_falls { F.faults folder.old ≤ F.faults folder.new }
     {
         let (manager, job) = (&mut self.manager, &mut self.job);
@@ -142,6 +143,7 @@ impl<'a, H: BuildHasher> Session<'a, H> {
 
 impl<'a, F: Folder, H: BuildHasher> LineSteps<F> for Session<'a, H> {
     ghost use Rattle.std.specs.Prelude.{◌+◌, ◌*◌, ◌<◌, ◌^◌};
+    ghost use Rattle.addr_codecs.specs.declared.message.TheConstants.{MAX_ENTRIES};
     ghost use Rattle.log_lines.specs.Spelling.{HasCommandFault};
     ghost use Rattle.session.specs.Folders.{IsOpen, SessionStep};
 
@@ -151,8 +153,8 @@ impl<'a, F: Folder, H: BuildHasher> LineSteps<F> for Session<'a, H> {
 
     ghost ready = { λ s folder. IsOpen s.job (F.past folder) };
 
-    // Each line takes at most a thousand numbers.
-    ghost has_room = { λ s n. s.machine.tables.next_number + 1000 * n < 2 ^ 62 };
+    // A line takes a number for each entry of a message, at most.
+    ghost has_room = { λ s n. s.machine.tables.next_number + MAX_ENTRIES * n < 2 ^ 62 };
 
     fn carry_out(
         &mut self,

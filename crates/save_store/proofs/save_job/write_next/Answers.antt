@@ -1,7 +1,7 @@
 use Rattle.std.proofs.Common.{◌++◌, subst}
 use Rattle.host_io.specs.Disk.{appended}
 use Rattle.host_io.specs.PerName.{under}
-use Rattle.save_store.specs.Job.{Reads}
+use Rattle.save_store.specs.Job.{ReadsAs}
 use Rattle.save_store.proofs.Temp.{appended_reads, changed, failed_append, unchanged}
 use Rattle.save_store.proofs.save_job.write_next.Goals as goal
 
@@ -22,6 +22,6 @@ returns-clause-any_moment g c =
 pub returns-clause-reads : goal.returns-clause-reads
 returns-clause-reads g c written reads =
     let P = g.F.Folder.past in
-    subst (λ bytes. Reads c.args.temp (written ++ bytes) (P c.append.new.self)) c.first_of-next.ensures
+    subst (λ bytes. ReadsAs c.args.temp (written ++ bytes) (P c.append.new.self)) c.first_of-next.ensures
     (appended_reads c.args.temp written c.first_of-next.result.now (P c.args.folder.now)
     (P c.append.new.self) reads c.in_ok-append.ensures.ok)

@@ -1,7 +1,7 @@
 use Rattle.std.proofs.Common.{rules, ◌≡◌, ◌≢◌, ◌++◌, ℕ, List, [], sym, ap, subst, ◌∙◌, arith, ◌-◌}
 use Rattle.gen_load.specs.Inside.{line_with, position_with}
 use Rattle.gen_load.specs.Log.{drawn_lines, next_line, lines_after}
-use Rattle.gen_load.specs.Spelling.{IsLine}
+use Rattle.gen_load.specs.Spelling.{IsGenLine}
 use Rattle.gen_load.proofs.LineLaws.{next-is_line}
 use Rattle.gen_load.proofs.Lines.{still_in_time, next_text, later_lines, is_some}
 use Rattle.gen_load.proofs.generated.Gen.next.Goals as goal
@@ -32,5 +32,5 @@ returns-clause-lines c =
 
 pub returns-clause-line : goal.returns-clause-line
 returns-clause-line c =
-    subst (λ (ls : List (List ℕ)). ls ≢ [] → IsLine (next_line ls)) c.self.view_is
+    subst (λ (ls : List (List ℕ)). ls ≢ [] → IsGenLine (next_line ls)) c.self.view_is
     (next-is_line c.self.inside.begun c.self.inside.left c.self.inside.position c.self.invariant)
