@@ -1,12 +1,12 @@
 // Files of peers of the largest sizes, made by their numbers, and what comes of them. No row has so
 // many bytes.
-use crate::peers_files::is_rewritten;
+use crate::peers_files::{file_of, is_rewritten};
 use crate::places::hashed_twice;
 use crate::tables_state::Hasher;
 use crate::text::{hex_text, yes_or_no};
 use crate::unread::Unread;
 use peer_rec::Snapshot;
-use peers_file::{Chain, read_file, snapshot_text, write_file};
+use peers_file::{Chain, read_file, snapshot_text};
 use sha2::{Digest, Sha256};
 use std::alloc::Global;
 use std::sync::ledger::Ledger;
@@ -125,11 +125,6 @@ pub(crate) fn saved<L: Ledger>(
 
 /// Returns the size and the sum of the file.
 fn sum_of_file(alloc: Global, snap: &Snapshot) -> Result<String, Unread> {
-    if snap.bucket_count() != 1024 || snap.listed().len() > 65_536 {
-        return Err(Unread::Unmet);
-    }
-    match write_file(alloc, snap, Chain::Main) {
-        Ok(file) => size_and_sum(alloc, file.items()),
-        Err(_) => Err(Unread::Memory),
-    }
+    let file = file_of(alloc, snap, Chain::Main)?;
+    size_and_sum(alloc, file.items())
 }

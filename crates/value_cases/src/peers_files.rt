@@ -2,6 +2,7 @@ use crate::damage::{cuts, flips};
 use crate::fields::RowFields;
 use crate::text::{bytes_of, owned};
 use crate::unread::Unread;
+use host_io::Bytes;
 use peer_rec::Snapshot;
 use peers_file::{Chain, FileFault, read_file, snapshot_text, write_file};
 use std::alloc::Global;
@@ -69,20 +70,21 @@ pub(crate) fn fault_of(
     }
 }
 
-/// Whether the file of the snapshot is the wanted one.
-fn is_written_as(
-    alloc: Global,
-    snap: &Snapshot,
-    chain: Chain,
-    wanted: &[u8],
-) -> Result<bool, Unread> {
+/// Writes the file of the snapshot.
+pub(crate) fn file_of(alloc: Global, snap: &Snapshot, chain: Chain) -> Result<Bytes, Unread> {
     if snap.bucket_count() != 1024 || snap.listed().len() > 65_536 {
         return Err(Unread::Unmet);
     }
     match write_file(alloc, snap, chain) {
-        Ok(written) => Ok(written.items() == wanted),
+        Ok(file) => Ok(file),
         Err(_) => Err(Unread::Memory),
     }
+}
+
+/// Whether the file of the snapshot is the wanted one.
+fn is_file_of(alloc: Global, snap: &Snapshot, chain: Chain, wanted: &[u8]) -> Result<bool, Unread> {
+    let file = file_of(alloc, snap, chain)?;
+    Ok(file.items() == wanted)
 }
 
 /// Whether what the first file has is written as the second one.
@@ -93,7 +95,7 @@ pub(crate) fn is_rewritten(
     wanted: &[u8],
 ) -> Result<bool, Unread> {
     match read_file(alloc, bytes, chain) {
-        Ok(snap) => is_written_as(alloc, &snap, chain, wanted),
+        Ok(snap) => is_file_of(alloc, &snap, chain, wanted),
         Err(_) => Err(Unread::Unmet),
     }
 }
