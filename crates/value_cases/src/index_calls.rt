@@ -2,7 +2,7 @@ ghost use Rattle.std.specs.Prelude.{◌≡◌};
 
 use crate::fields::RowFields;
 use crate::tables_state::Hasher;
-use crate::text::owned;
+use crate::text::{decimal, owned};
 use crate::unread::Unread;
 use net_addr::{NetAddr, Peer};
 use peer_index::PeerIndex;
@@ -40,7 +40,7 @@ fn add<L: Ledger>(
         return Err(Unread::Unmet);
     }
     match index.add(record(peer), steps) {
-        Ok(id) => Ok(format!(in alloc; "{id}")?),
+        Ok(id) => decimal(alloc, id as u64),
         Err(_) => Err(Unread::Memory),
     }
 }
@@ -107,7 +107,7 @@ pub(crate) fn answer<L: Ledger>(
         "swap" => swap(alloc, index, fields, steps),
         "order" => order(alloc, index, steps),
         "find" => match index.find(&fields.peer()?, steps) {
-            Some(id) => Ok(format!(in alloc; "{id}")?),
+            Some(id) => decimal(alloc, id as u64),
             None => owned(alloc, "none"),
         },
         _ => Err(Unread::Form),

@@ -2,7 +2,7 @@ ghost use Rattle.std.specs.Prelude.{◌≤◌};
 
 use crate::fields::RowFields;
 use crate::tables_state::Hasher;
-use crate::text::owned;
+use crate::text::{bool_text, number_text, owned};
 use crate::unread::Unread;
 use addr_limit::{Conn, Limiter, Memory};
 use std::alloc::Global;
@@ -33,8 +33,7 @@ pub(crate) fn limiter_call(
 
 /// Closes a connection.
 fn close(alloc: Global, limiter: &mut Limiter<Hasher>, number: u32) -> Result<String, Unread> {
-    let closed = limiter.close_conn(number);
-    Ok(format!(in alloc; "{closed}")?)
+    bool_text(alloc, limiter.close_conn(number))
 }
 
 /// Notes that getaddr was sent.
@@ -53,7 +52,7 @@ fn add(
     let addr = fields.addr()?;
     let unlimited = fields.word() == "unlimited";
     match limiter.add_conn(number, addr, unlimited, fields.small()?) {
-        Ok(added) => Ok(format!(in alloc; "{added}")?),
+        Ok(added) => bool_text(alloc, added),
         Err(Memory) => Err(Unread::Memory),
     }
 }
@@ -71,10 +70,7 @@ fn admit(
     if count > 1000 {
         return Err(Unread::Unmet);
     }
-    match admit_times(limiter, times, number, count, now) {
-        Some(admitted) => Ok(format!(in alloc; "{admitted}")?),
-        None => owned(alloc, "none"),
-    }
+    number_text(alloc, admit_times(limiter, times, number, count, now))
 }
 
 /// Returns how many entries of all these messages are admitted.

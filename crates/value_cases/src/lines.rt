@@ -1,5 +1,5 @@
 use crate::fields::RowFields;
-use crate::text::{bytes_of, hex_text, owned, peer_text};
+use crate::text::{bytes_of, decimal, hex_text, owned, peer_text};
 use crate::unread::Unread;
 use grammar::read_words;
 use host_io::split_line;
@@ -70,10 +70,7 @@ fn payload_line(alloc: Global, count: u64) -> Result<Vec<u8>, AllocError> {
 /// Returns the length of the payload of the command.
 fn length_text(alloc: Global, command: &Option<Command>) -> Result<String, Unread> {
     match command {
-        Some(Command::Addr { payload, .. }) => {
-            let length = payload.items().len();
-            Ok(format!(in alloc; "{length}")?)
-        }
+        Some(Command::Addr { payload, .. }) => decimal(alloc, payload.items().len() as u64),
         _ => Err(Unread::Form),
     }
 }

@@ -1,5 +1,6 @@
 // Lists of the largest size, and of one ban more or less. No row has so many bytes.
 use crate::made_files::size_and_sum;
+use crate::text::decimal;
 use crate::unread::Unread;
 use ban_list::{Bans, parse_subnet, read_bans, write_bans};
 use std::alloc::{AllocError, Global};
@@ -31,7 +32,7 @@ fn text_of(alloc: Global, count: u64) -> Result<String, AllocError> {
 pub(crate) fn others(alloc: Global, count: u64) -> Result<String, Unread> {
     let text = text_of_others(alloc, count)?;
     match read_bans(alloc, text.as_bytes()) {
-        Ok(bans) => Ok(format!(in alloc; "{}", bans.bans().len())?),
+        Ok(bans) => decimal(alloc, bans.bans().len() as u64),
         Err(fault) => Ok(format!(in alloc; "{fault}")?),
     }
 }

@@ -1,5 +1,5 @@
 use crate::fields::{RowFields, first_word};
-use crate::text::{bytes_of, owned, peer_text};
+use crate::text::{bytes_of, decimal, owned, peer_text};
 use crate::unread::Unread;
 use addr_codecs::{Entries, MsgFault, read_addr, read_addrv2};
 use net_addr::Entry;
@@ -77,15 +77,25 @@ fn message_of(alloc: Global, count: u64) -> Result<Vec<u8>, Unread> {
     Ok(bytes)
 }
 
+/// Whether no entry is skipped.
+fn are_read(entries: &Entries) -> bool {
+    for entry in entries.items() {
+        if entry.is_none() {
+            return false;
+        }
+    }
+    true
+}
+
 /// `equal-entries COUNT`: how many entries the message has, all of them read, or its fault.
 fn equal_entries(alloc: Global, count: u64) -> Result<String, Unread> {
     let bytes = message_of(alloc, count)?;
     match read_addr(alloc, bytes.as_slice()) {
         Ok(entries) => {
-            if entries.items().iter().any(|entry| entry.is_none()) {
+            if !are_read(&entries) {
                 return owned(alloc, "skipped");
             }
-            Ok(format!(in alloc; "{}", entries.items().len())?)
+            decimal(alloc, entries.items().len() as u64)
         }
         Err(fault) => Ok(format!(in alloc; "{fault}")?),
     }

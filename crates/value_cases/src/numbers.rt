@@ -8,9 +8,9 @@ use wire_num::{read_be16, read_le32, read_le64};
 /// Returns the number of the call's kind that the bytes have at the offset.
 fn read(kind: &str, bytes: &[u8], at: usize) -> Option<u64> {
     match kind {
-        "le32" => read_le32(bytes, at).map(|number| u64::from(number)),
+        "le32" => Some(u64::from(read_le32(bytes, at)?)),
         "le64" => read_le64(bytes, at),
-        _ => read_be16(bytes, at).map(|number| u64::from(number)),
+        _ => Some(u64::from(read_be16(bytes, at)?)),
     }
 }
 

@@ -1,5 +1,5 @@
 use crate::fields::{RowFields, first_word};
-use crate::text::{bytes_of, hex_text, owned};
+use crate::text::{bytes_of, decimal, hex_text, owned};
 use crate::unread::Unread;
 use asmap_vm::check;
 use net_addr::{NetAddr, Peer};
@@ -103,7 +103,10 @@ fn choice(alloc: Global, arguments: &str) -> Result<String, Unread> {
     }
     let zero = Placer::make([0; 32], None);
     let choice = zero.source_choice(peer.as_slice(), source.as_slice());
-    Ok(format!(in alloc; "{}", zero.source_bucket(source.as_slice(), choice))?)
+    decimal(
+        alloc,
+        u64::from(zero.source_bucket(source.as_slice(), choice)),
+    )
 }
 
 /// `new-slot PEER BUCKET`: the slot of the peer in the bucket of the new table.
@@ -115,7 +118,7 @@ fn new_slot(alloc: Global, arguments: &str) -> Result<String, Unread> {
         return Err(Unread::Unmet);
     }
     let zero = Placer::make([0; 32], None);
-    Ok(format!(in alloc; "{}", zero.new_slot(&peer, bucket as u16))?)
+    decimal(alloc, u64::from(zero.new_slot(&peer, bucket as u16)))
 }
 
 /// `next-port SLOT BUCKET`: the least port from 1 on with which 8.8.8.8 has the slot of the bucket.
@@ -127,7 +130,7 @@ fn next_port(alloc: Global, arguments: &str) -> Result<String, Unread> {
     let addr = NetAddr::ipv4([8, 8, 8, 8]);
     for port in 1..u16::MAX {
         if u64::from(zero.new_slot(&Peer { addr, port }, (bucket % 1024) as u16)) == slot {
-            return Ok(format!(in alloc; "{port}")?);
+            return decimal(alloc, u64::from(port));
         }
     }
     owned(alloc, "none")

@@ -1,5 +1,5 @@
 use crate::fields::RowFields;
-use crate::text::{bytes_of, in_one_line, owned};
+use crate::text::{bytes_of, decimal, in_one_line, owned};
 use crate::unread::Unread;
 use prefix_table::{MAX_TEXT, Row, Table, TableFault, put_table, read_table};
 use std::alloc::Global;
@@ -48,8 +48,7 @@ fn read(alloc: Global, text: &[u8]) -> Result<Table, Unread> {
 /// table, with `|` for each line feed, if it reads as the same table.
 fn of_table(alloc: Global, name: &str, arguments: &str, table: &Table) -> Result<String, Unread> {
     if name == "best" {
-        let asn = table.best(bits_of(alloc, arguments)?);
-        return Ok(format!(in alloc; "{asn}")?);
+        return decimal(alloc, u64::from(table.best(bits_of(alloc, arguments)?)));
     }
     let text = table_text(alloc, table)?;
     if read(alloc, text.as_slice())?.rows() != table.rows() {

@@ -1,5 +1,5 @@
 use crate::fields::RowFields;
-use crate::text::yes_or_no;
+use crate::text::{decimal, yes_or_no};
 use crate::unread::Unread;
 use net_addr::{NetAddr, Peer};
 use peer_rec::{Buckets, Place, Rec};
@@ -30,13 +30,12 @@ fn record_of(fields: &mut RowFields<'_>) -> Result<Rec, Unread> {
     let last_success = fields.small()?;
     let last_try = fields.small()?;
     let attempts = fields.small()?;
-    Ok(Rec {
-        time,
-        last_success,
-        last_try,
-        attempts,
-        ..record(Place::New(Buckets::one(87)))
-    })
+    let mut rec = record(Place::New(Buckets::one(87)));
+    rec.time = time;
+    rec.last_success = last_success;
+    rec.last_try = last_try;
+    rec.attempts = attempts;
+    Ok(rec)
 }
 
 /// `chance TIME SUCCESS TRY TRIES CLOCK`: the chance of the record, in parts of 2^30.
@@ -46,7 +45,7 @@ pub(crate) fn answer(alloc: Global, name: &str, arguments: &str) -> Result<Strin
     let rec = record_of(&mut fields)?;
     let clock = fields.small()?;
     if name == "chance" {
-        return Ok(format!(in alloc; "{}", rec.chance(clock))?);
+        return decimal(alloc, rec.chance(clock));
     }
     yes_or_no(alloc, rec.terrible(clock))
 }

@@ -34,8 +34,13 @@ fn put_restored<L: Ledger>(
     steps: &mut Steps<L>,
 ) -> Result<(), RestoreFault> {
     let placer = Placer::make(snap.key(), None);
-    *tables = Tables::restore(alloc, snap, placer, BuildHasherDefault::new(), steps)?;
-    Ok(())
+    match Tables::restore(alloc, snap, placer, BuildHasherDefault::new(), steps) {
+        Ok(restored) => {
+            *tables = restored;
+            Ok(())
+        }
+        Err(fault) => Err(fault),
+    }
 }
 
 /// Returns the answer to `restore`.

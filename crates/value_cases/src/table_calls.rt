@@ -1,6 +1,6 @@
 use crate::fields::RowFields;
 use crate::tables_state::Hasher;
-use crate::text::{owned, peer_text};
+use crate::text::{bool_text, decimal, owned, peer_text};
 use crate::unread::Unread;
 use net_addr::{Entry, Net, NetSet, Peer};
 use peer_rec::{Good, Place, Rec};
@@ -75,7 +75,7 @@ fn add<L: Ledger>(
         return Err(Unread::Unmet);
     }
     match tables.add(&entry, &source, 7200, word, now, steps) {
-        Ok(added) => Ok(format!(in alloc; "{added}")?),
+        Ok(added) => bool_text(alloc, added),
         Err(_) => Err(Unread::Memory),
     }
 }
@@ -181,8 +181,10 @@ fn wanted(alloc: Global, tables: &Tabled, names: &str) -> Result<String, Unread>
 /// `counts`: how many records are in new and in tried, and how many collisions there are.
 fn counts(alloc: Global, tables: &Tabled) -> Result<String, Unread> {
     let counts = tables.counts();
-    let (new, tried) = (counts.new_count, counts.tried_count);
-    Ok(format!(in alloc; "{new} {tried} {}", counts.clashes)?)
+    Ok(format!(in alloc;
+        "{} {} {}",
+        counts.new_count, counts.tried_count, counts.clashes
+    )?)
 }
 
 /// Answers the calls above, and `next`, the next number.
@@ -198,7 +200,7 @@ pub(crate) fn answer<L: Ledger>(
         "good" => good(alloc, tables, fields, steps),
         "find" | "record" => find(alloc, tables, name == "record", &fields.peer()?, steps),
         "order" => order(alloc, tables, steps),
-        "next" => Ok(format!(in alloc; "{}", tables.next_number())?),
+        "next" => decimal(alloc, tables.next_number()),
         "new-at" | "tried-at" => {
             let at = (fields.number()?, fields.number()?);
             rec_at(alloc, tables, name, at, steps)

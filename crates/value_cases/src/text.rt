@@ -7,10 +7,15 @@ pub(crate) fn owned(alloc: Global, text: &str) -> Result<String, Unread> {
     Ok(String::from_str(alloc, text)?)
 }
 
+/// Returns the number in decimal.
+pub(crate) fn decimal(alloc: Global, number: u64) -> Result<String, Unread> {
+    Ok(format!(in alloc; "{number}")?)
+}
+
 /// Returns the number in decimal, or `none`.
 pub(crate) fn number_text(alloc: Global, number: Option<u64>) -> Result<String, Unread> {
     match number {
-        Some(number) => Ok(format!(in alloc; "{number}")?),
+        Some(number) => decimal(alloc, number),
         None => owned(alloc, "none"),
     }
 }
@@ -63,6 +68,11 @@ pub(crate) fn peer_text(alloc: Global, peer: &Peer) -> Result<String, Unread> {
         Ok(()) => text_of(text),
         Err(_) => Err(Unread::Memory),
     }
+}
+
+/// Returns `true` or `false`.
+pub(crate) fn bool_text(alloc: Global, is_true: bool) -> Result<String, Unread> {
+    owned(alloc, if is_true { "true" } else { "false" })
 }
 
 /// Returns `yes` or `no`.

@@ -2,7 +2,7 @@ ghost use Rattle.std.specs.Prelude.{◌≡◌, IfOk};
 
 use crate::records::record;
 use crate::replies::two_buckets;
-use crate::text::{bytes_of, hex_text};
+use crate::text::{bool_text, bytes_of, hex_text};
 use crate::unread::Unread;
 use addr_codecs::{AddressFault, MsgFault, write_addr, write_addrv2};
 use log_lines::LineFault;
@@ -105,11 +105,7 @@ fn are_listed(alloc: Global) -> Result<bool, Unread> {
     let peer = record(Place::Tried).peer;
     let peers = Peers::of(vec![in alloc; peer]?);
     let recs = Recs::of(vec![in alloc; record(Place::Tried)]?);
-    Ok(
-        peers.items() == [peer].as_slice()
-            && recs.items().len() == 1
-            && recs.items().iter().all(|rec| has_numbers(rec)),
-    )
+    Ok(peers.items() == [peer].as_slice() && matches!(recs.items(), [rec] if has_numbers(rec)))
 }
 
 /// Whether equal answers are equal, copies among them, and others are not.
@@ -152,10 +148,10 @@ pub(crate) fn answer(alloc: Global, what: &str) -> Result<String, Unread> {
         "addr" => addr_messages(alloc),
         "addrv2-one" => one_addrv2(alloc),
         "addrv2-four" => four_addrv2(alloc),
-        "copies" => Ok(format!(in alloc; "{}", are_copied())?),
-        "lists" => Ok(format!(in alloc; "{}", are_listed(alloc)?)?),
-        "answers" => Ok(format!(in alloc; "{}", are_compared()?)?),
-        "counts" => Ok(format!(in alloc; "{}", are_counted())?),
+        "copies" => bool_text(alloc, are_copied()),
+        "lists" => bool_text(alloc, are_listed(alloc)?),
+        "answers" => bool_text(alloc, are_compared()?),
+        "counts" => bool_text(alloc, are_counted()),
         "memory-faults" => memory_faults(alloc),
         "address-faults" => address_faults(alloc),
         _ => Err(Unread::Form),
