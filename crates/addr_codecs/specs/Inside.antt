@@ -13,6 +13,7 @@ use Rattle.addr_codecs.specs.declared.form.Form.{Form}
 use Rattle.addr_codecs.specs.declared.form.Form.TheVariants.{Addr, Addrv2}
 use Rattle.addr_codecs.specs.declared.fault.MsgFault.{MsgFault}
 use Rattle.addr_codecs.specs.declared.fault.MsgFault.TheVariants.{TooMany, Memory}
+use Rattle.addr_codecs.specs.declared.message.TheConstants.{MAX_ENTRIES}
 
 unfoldable pub addr_entry_at : List ℕ → Result (Option Entry × List ℕ) MsgFault
 addr_entry_at bytes = do
@@ -34,7 +35,7 @@ unfoldable pub message_at : (List ℕ → Result (Option Entry × List ℕ) MsgF
     → Result (List (Option Entry) × List ℕ) MsgFault
 message_at r bytes = do
   n ← fault_as of_wire (compact_at bytes)
-  if nat_le n.0 1000 then times_at 0 n.0 (λ _. r) n.1 else Err TooMany
+  if nat_le n.0 MAX_ENTRIES then times_at 0 n.0 (λ _. r) n.1 else Err TooMany
 
 -- The view of an answer is what the reading gives, unless memory ran out.
 abbrev pub GivesUnlessMemory : {X Y : Type 0} → (X → Y) → Result X MsgFault → Result Y MsgFault

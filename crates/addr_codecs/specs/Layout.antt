@@ -15,6 +15,7 @@ use Rattle.addr_codecs.specs.declared.form.Form.{Form}
 use Rattle.addr_codecs.specs.declared.form.Form.TheVariants.{Addr, Addrv2}
 use Rattle.addr_codecs.specs.declared.fault.MsgFault.{MsgFault}
 use Rattle.addr_codecs.specs.declared.fault.MsgFault.TheVariants.{TooMany, Trailing}
+use Rattle.addr_codecs.specs.declared.message.TheConstants.{MAX_ENTRIES}
 use Rattle.addr_codecs.specs.declared.address_fault.AddressFault.{AddressFault}
 use Rattle.addr_codecs.specs.declared.address_fault.AddressFault.TheVariants.{BadLength, TooLong}
 
@@ -62,11 +63,11 @@ addrv2_entry = do
   port ← field (be w16)
   value (option_map (entry time services port) addr)
 
--- the number of entries, at most 1000, and this many entries
+-- the number of entries, at most MAX_ENTRIES, and this many entries
 unfoldable pub message : Format MsgFault (Option Entry) → Format MsgFault (List (Option Entry))
 message p = do
   n ← field compact
-  count ← check (nat_le n 1000) TooMany n
+  count ← check (nat_le n MAX_ENTRIES) TooMany n
   times 0 count (λ _. p)
 
 abbrev pub IsAddrMessage : List ℕ → List (Option Entry) → Type 0

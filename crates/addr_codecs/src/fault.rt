@@ -16,7 +16,7 @@ pub enum MsgFault {
     /// A CompactSize has more bytes than its value needs.
     #[error("non-canonical")]
     NonCanonical = 2,
-    /// The count is above 1000.
+    /// The count is above `MAX_ENTRIES`.
     #[error("too-many")]
     TooMany = 3,
     /// The network of an address has addresses of another length.

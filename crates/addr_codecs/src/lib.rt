@@ -29,7 +29,7 @@ pub use address_fault::AddressFault;
 pub use entries::Entries;
 pub use fault::MsgFault;
 pub use form::Form;
-pub use law::messages_have_one_meaning;
+pub use law::{limits, messages_have_one_meaning};
 pub use memory::Memory;
 pub use message::{MAX_ENTRIES, read_addr, read_addrv2, read_message};
 pub use writing::{put_address, write_addr, write_addrv2};

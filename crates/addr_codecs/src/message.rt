@@ -6,6 +6,7 @@ ghost use Rattle.addr_codecs.specs.Layout.{IsAddrMessage, IsAddrv2Message, IsMes
 ghost use Rattle.addr_codecs.specs.Inside.{GivesUnlessMemory, entry_at, message_at};
 ghost use Rattle.addr_codecs.specs.declared.fault.MsgFault.{MsgFault};
 ghost use Rattle.addr_codecs.specs.declared.fault.MsgFault.TheVariants.{Memory, Trailing};
+ghost use Rattle.addr_codecs.specs.declared.message.TheConstants.{MAX_ENTRIES};
 
 use crate::entries::Entries;
 use crate::fault::MsgFault;
@@ -46,7 +47,7 @@ fn take_entries(
 fn read_whole(alloc: Global, form: Form, bytes: &[u8]) -> Result<Entries, MsgFault>
     ensures found { GivesUnlessMemory (λ x. x) result
         (all_of (message_at (entry_at form)) Trailing bytes.now) }
-    ensures few { IfOk result (λ entries. length entries ≤ 1000) }
+    ensures few { IfOk result (λ entries. length entries ≤ MAX_ENTRIES) }
 {
     let (count, rest) = take_compact(bytes)?;
     if count > MAX_ENTRIES {
@@ -62,7 +63,7 @@ fn read_whole(alloc: Global, form: Form, bytes: &[u8]) -> Result<Entries, MsgFau
 /// Reads the message of a form, as `read_addr` or `read_addrv2` does.
 pub fn read_message(alloc: Global, form: Form, bytes: &[u8]) -> Result<Entries, MsgFault>
     ensures found { IfOk result (λ entries. IsMessage form bytes.now entries) }
-    ensures few { IfOk result (λ entries. length entries ≤ 1000) }
+    ensures few { IfOk result (λ entries. length entries ≤ MAX_ENTRIES) }
     ensures only { (entries : List (Option Entry)) → IsMessage form bytes.now entries →
         UnlessMemory result (Ok entries) }
     ensures cause { IfErr result (λ fault. fault ≢ Memory
@@ -80,7 +81,7 @@ pub fn read_message(alloc: Global, form: Form, bytes: &[u8]) -> Result<Entries, 
 /// An error is the first fault from the start; `Memory` is possible instead of any result.
 pub fn read_addr(alloc: Global, bytes: &[u8]) -> Result<Entries, MsgFault>
     ensures found { IfOk result (λ entries. IsAddrMessage bytes.now entries) }
-    ensures few { IfOk result (λ entries. length entries ≤ 1000) }
+    ensures few { IfOk result (λ entries. length entries ≤ MAX_ENTRIES) }
     ensures only { (entries : List (Option Entry)) → IsAddrMessage bytes.now entries →
         UnlessMemory result (Ok entries) }
     ensures cause { IfErr result (λ fault. fault ≢ Memory → HasAddrFault bytes.now fault) }
@@ -99,7 +100,7 @@ pub fn read_addr(alloc: Global, bytes: &[u8]) -> Result<Entries, MsgFault>
 /// An error is the first fault from the start; `Memory` is possible instead of any result.
 pub fn read_addrv2(alloc: Global, bytes: &[u8]) -> Result<Entries, MsgFault>
     ensures found { IfOk result (λ entries. IsAddrv2Message bytes.now entries) }
-    ensures few { IfOk result (λ entries. length entries ≤ 1000) }
+    ensures few { IfOk result (λ entries. length entries ≤ MAX_ENTRIES) }
     ensures only { (entries : List (Option Entry)) → IsAddrv2Message bytes.now entries →
         UnlessMemory result (Ok entries) }
     ensures cause { IfErr result (λ fault. fault ≢ Memory → HasAddrv2Fault bytes.now fault) }

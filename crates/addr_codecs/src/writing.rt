@@ -6,6 +6,7 @@ ghost use Rattle.addr_codecs.specs.Entries.{IsEntry};
 ghost use Rattle.addr_codecs.specs.Inside.{CanWrite, text_in};
 ghost use Rattle.addr_codecs.specs.Layout.{IsAddrMessage, IsAddrv2Message};
 ghost use Rattle.addr_codecs.specs.Texts.{addr_entry_text, addrv2_entry_text, address_text, prefix_of, id_of, message_text};
+ghost use Rattle.addr_codecs.specs.declared.message.TheConstants.{MAX_ENTRIES};
 
 use crate::form::Form;
 use crate::memory::Memory;
@@ -138,7 +139,7 @@ fn write_message(alloc: Global, form: Form, entries: &[Entry]) -> Result<Bytes, 
 
 /// Writes an `addr` message of the entries, which reads as these entries.
 pub fn write_addr(alloc: Global, entries: &[Entry]) -> Result<Bytes, Memory>
-    requires count { length entries.now ≤ 1000 }
+    requires count { length entries.now ≤ MAX_ENTRIES }
     requires networks { All (λ e. (e.peer.addr.net ≡ Ipv4) ⊎ (e.peer.addr.net ≡ Ipv6)) entries.now }
     ensures found { IfOk result (λ bytes. bytes ≡ message_text addr_entry_text entries.now) }
     ensures read_back { IfOk result (λ bytes. IsAddrMessage bytes (map Some entries.now)) }
@@ -148,7 +149,7 @@ pub fn write_addr(alloc: Global, entries: &[Entry]) -> Result<Bytes, Memory>
 
 /// Writes an `addrv2` message (BIP 155) of the entries, which reads as these entries.
 pub fn write_addrv2(alloc: Global, entries: &[Entry]) -> Result<Bytes, Memory>
-    requires count { length entries.now ≤ 1000 }
+    requires count { length entries.now ≤ MAX_ENTRIES }
     requires networks { All (λ e. e.peer.addr.net ≢ Internal) entries.now }
     ensures found { IfOk result (λ bytes. bytes ≡ message_text addrv2_entry_text entries.now) }
     ensures read_back { IfOk result (λ bytes. IsAddrv2Message bytes (map Some entries.now)) }
