@@ -6,7 +6,7 @@ use Rattle.std.proofs.lemmas.List.Sums.{sum_by-cons}
 use Rattle.std.specs.Map.{lookup}
 use Rattle.indexmap.specs.IndexMap.{insert_entry}
 use Rattle.group_counts.specs.Ranks.{counted_at, entries_of}
-use Rattle.group_counts.specs.declared.counted.Counted.{Counted}
+use Rattle.group_counts.specs.declared.counting.Counted.{Counted}
 use Rattle.std.proofs.lemmas.List.{length-map}
 use Rattle.group_counts.specs.Tally.{count_in, counted, noted, occurrences, tally_of}
 

@@ -1,7 +1,7 @@
 -- The first six groups, as they are found one after another.
 use Rattle.std.proofs.Common.{◌≡◌, ℕ, zero, suc, ◌+◌, Bool, true, false, cond, List, [], ◌∷◌, take, refl, ap, ◌∙◌, add-one}
 use Rattle.std.specs.List.{fold, insert}
-use Rattle.group_counts.specs.declared.counted.Counted.{Counted}
+use Rattle.group_counts.specs.declared.counting.Counted.{Counted}
 use Rattle.group_counts.specs.Ranks.{comes_before, placed, rank_in}
 
 insert-next : (d c : Counted) (ds : List Counted) (n : ℕ) → insert (d ∷ ds) (n + 1) c ≡ d ∷ insert ds n c

@@ -2,7 +2,7 @@
 use Rattle.std.specs.Prelude.{ℕ, ◌+◌, ◌==◌, ◌&&◌, ◌||◌, nat_lt, Bool, if◌then◌else◌, List, [], ◌∷◌, map, take}
 use Rattle.std.specs.List.{count_by, fold}
 use Rattle.group_counts.specs.Tally.{count_in, tally_of}
-use Rattle.group_counts.specs.declared.counted.Counted.{Counted}
+use Rattle.group_counts.specs.declared.counting.Counted.{Counted}
 
 abbrev pub counted_at : List (ℕ × ℕ) → ℕ → Counted
 counted_at es k = record { key = k; slots = count_in es k }

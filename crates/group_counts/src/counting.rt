@@ -3,10 +3,40 @@ ghost use Rattle.group_counts.specs.Ranks.{entries_of, groups_of};
 ghost use Rattle.group_counts.specs.Tally.{tally_of, count_in, noted, occurrences};
 ghost use Rattle.slot_grid.specs.declared.sizes.TheConstants.{ALL_SLOTS};
 
-use crate::{Counted, Lent, Memory};
+use crate::Memory;
 use indexmap::IndexMap;
 use std::alloc::Global;
 use std::hash::BuildHasher;
+
+/// The key of a group, and how many slots it has.
+#[derive(Clone, Copy, Default)]
+pub struct Counted {
+    pub key: u128,
+    pub slots: u32,
+}
+
+/// A maker of hashers that is lent, so that several maps have one.
+#[derive(Clone, Copy)]
+pub struct Lent<'a, H> {
+    hasher: &'a H,
+}
+
+impl<'a, H: BuildHasher> Lent<'a, H> {
+    /// Lends a maker of hashers.
+    pub fn of(hasher: &'a H) -> Lent<'a, H> {
+        Lent { hasher }
+    }
+}
+
+impl<'a, H: BuildHasher> BuildHasher for Lent<'a, H> {
+    type Hasher = H::Hasher;
+
+    ghost build_hasher = { λ lent. H.build_hasher lent.hasher.now };
+
+    fn build_hasher(&self) -> H::Hasher {
+        self.hasher.build_hasher()
+    }
+}
 
 /// The groups of some slots, each with the number of its slots.
 pub type Tally<'a, H> = IndexMap<u128, u32, Lent<'a, H>>;
@@ -76,6 +106,21 @@ pub fn count_of<H: BuildHasher>(map: &Tally<'_, H>, key: u128) -> u32
         Some(count) => *count,
         None => 0,
     }
+}
+
+/// Returns how often the key occurs.
+pub fn occurrences(keys: &[u128], key: u128) -> u32
+    requires { length keys.now ≤ ALL_SLOTS }
+    ensures value { result ≡ occurrences keys.now key }
+    ensures few { result ≤ length keys.now }
+{
+    let mut count = 0;
+    for next in keys {
+        if *next == key {
+            count += 1;
+        }
+    }
+    count
 }
 
 /// The counts of a tally are those of the slots.

@@ -4,17 +4,12 @@
 #![tactic(auto)]
 
 mod buckets;
-mod counted;
 mod counting;
-mod lent;
-mod memory;
 mod ranking;
-mod slots;
 
 pub use buckets::bucket_keys;
-pub use counted::Counted;
-pub use counting::{Tally, count_groups, count_of, counts_are_of_slots, tally};
-pub use lent::Lent;
-pub use memory::Memory;
+pub use counting::{
+    Counted, Lent, Tally, count_groups, count_of, counts_are_of_slots, occurrences, tally,
+};
+pub use net_addr::Memory;
 pub use ranking::{above, first_six, in_order};
-pub use slots::occurrences;

@@ -10,7 +10,7 @@ use Rattle.std.proofs.lemmas.Slice.Eq.{bytes_eq-Decides}
 use Rattle.group_counts.proofs.Counts.{counts}
 use Rattle.group_counts.specs.Ranks.{groups_of}
 use Rattle.group_counts.specs.Tally.{occurrences, tally_of}
-use Rattle.group_counts.specs.declared.counted.Counted.{Counted}
+use Rattle.group_counts.specs.declared.counting.Counted.{Counted}
 use Rattle.net_addr.specs.Address.{IsAddress}
 use Rattle.peer_rec.specs.Rec.{IsPlace, IsRec, buckets_by, buckets_of, is_tried, tried_by}
 use Rattle.peer_rec.specs.declared.place.Place.{Place}

@@ -3,9 +3,9 @@ use Rattle.std.proofs.Common.{◌≡◌, ℕ, zero, suc, length, ◌++◌, ◌+�
 use Rattle.std.specs.List.{fold, sum_by}
 use Rattle.std.proofs.lemmas.Bool.{both_ways, eq-eqb, eqb-true}
 use Rattle.std.proofs.lemmas.List.Sums.{sum_by-append, sum_by-cons}
-use Rattle.group_counts.specs.Ranks.{comes_before, counted_at, entries_of, groups_of, in_order, placed}
+use Rattle.group_counts.specs.Ranks.{comes_before, counted_at, groups_of, placed}
 use Rattle.group_counts.specs.Tally.{count_in, counted, noted, occurrences, tally_of}
-use Rattle.group_counts.specs.declared.counted.Counted.{Counted}
+use Rattle.group_counts.specs.declared.counting.Counted.{Counted}
 use Rattle.group_counts.proofs.Counts.{counted-count, counts}
 use Rattle.table_machine.specs.State.{State}
 use Rattle.node_json.specs.Groups.{count_of, groups_in, record_keys, row_of, rows_of, source_keys}

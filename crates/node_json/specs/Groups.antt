@@ -5,7 +5,7 @@ use Rattle.json.specs.Json.{Json, string}
 use Rattle.group_counts.specs.Buckets.{bucket_keys}
 use Rattle.group_counts.specs.Ranks.{groups_of, in_order}
 use Rattle.group_counts.specs.Tally.{count_in, occurrences, tally_of}
-use Rattle.group_counts.specs.declared.counted.Counted.{Counted}
+use Rattle.group_counts.specs.declared.counting.Counted.{Counted}
 use Rattle.net_addr.specs.Address.{Address}
 use Rattle.net_addr.specs.Ranges.{net_class}
 use Rattle.net_addr.specs.declared.net.Net.{Net}

@@ -6,7 +6,7 @@ use Rattle.std.proofs.lemmas.List.{length-map, length-take}
 use Rattle.std.proofs.lemmas.List.Sums.{sum_by-cons, sum_by-take-le}
 use Rattle.group_counts.specs.Ranks.{comes_before, counted_at, first_six, groups_of, in_order, placed}
 use Rattle.group_counts.specs.Tally.{counted, noted, occurrences, tally_of}
-use Rattle.group_counts.specs.declared.counted.Counted.{Counted}
+use Rattle.group_counts.specs.declared.counting.Counted.{Counted}
 use Rattle.picture_text.specs.Picture.{listed_keys}
 
 abbrev pub one_if : Bool → ℕ

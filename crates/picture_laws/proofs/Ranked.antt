@@ -7,7 +7,7 @@ use Rattle.std.proofs.lemmas.List.{length-take, length-map}
 use Rattle.std.proofs.lemmas.Slice.Eq.{bytes_eq-Decides}
 use Rattle.group_counts.specs.Ranks.{comes_before, counted_at, first_six, groups_of, in_order, placed}
 use Rattle.group_counts.specs.Tally.{count_in, occurrences, tally_of}
-use Rattle.group_counts.specs.declared.counted.Counted.{Counted}
+use Rattle.group_counts.specs.declared.counting.Counted.{Counted}
 use Rattle.picture_text.specs.Picture.{listed_keys}
 use Rattle.table_picture.specs.Keys.{group_key}
 use Rattle.picture_laws.proofs.Groups.{IsGroup, key-tells}

@@ -10,7 +10,7 @@ use Rattle.group_counts.proofs.Counts.{counts}
 use Rattle.group_counts.specs.Buckets as buckets
 use Rattle.group_counts.specs.Ranks.{above, groups_of}
 use Rattle.group_counts.specs.Tally.{count_in, occurrences, tally_of}
-use Rattle.group_counts.specs.declared.counted.Counted.{Counted}
+use Rattle.group_counts.specs.declared.counting.Counted.{Counted}
 use Rattle.peer_rec.specs.Rec.{IsRec}
 use Rattle.peer_rec.specs.declared.rec.Rec.{Rec}
 use Rattle.picture_text.specs.Elements.{wide_text}

@@ -5,13 +5,12 @@ mod head;
 mod list;
 mod maps;
 mod marks;
-mod memory;
 mod names;
 mod parts;
 mod picture;
 mod pieces;
 
-pub use memory::Memory;
 pub use names::name_of;
+pub use net_addr::Memory;
 pub use parts::new_keys;
 pub use picture::{Groups, find_groups, put_picture};

@@ -1,4 +1,4 @@
-ghost use Rattle.std.specs.Prelude.{◌≡◌, ◌+◌, ◌*◌, ◌<◌, ◌≤◌, ◌++◌, length, map, OnOk, IfOk, slice_index};
+ghost use Rattle.std.specs.Prelude.{◌≡◌, ◌+◌, ◌*◌, ◌<◌, ◌≤◌, ◌++◌, length, map, OnOk, IfOk};
 ghost use Rattle.group_counts.specs.Buckets.{bucket_keys};
 ghost use Rattle.picture_text.specs.Picture.{free_row, group_row, group_rows, others_name, others_row, others_text, rows_text, top_of};
 ghost use Rattle.slot_grid.specs.declared.sizes.TheConstants.{ALL_SLOTS, NEW_SLOTS};

@@ -1,5 +1,5 @@
 ghost use Rattle.std.specs.Prelude.{◌≡◌, ◌<◌, ◌≤◌, ◌++◌, [], length, take, codes, decimal, slice_index, unwrap_or, IfOk, OnOk};
-ghost use Rattle.std.specs.Int.{w128, from_be_bytes};
+ghost use Rattle.std.specs.Int.{from_be_bytes};
 ghost use Rattle.hex.specs.Hex.{encode_lower};
 ghost use Rattle.net_addr.specs.Ranges.{linked_ipv4, net_class};
 ghost use Rattle.net_addr.specs.declared.net.Net.TheVariants.{Ipv4};

@@ -1,6 +1,6 @@
 ghost use Rattle.std.specs.Prelude.{◌≡◌, ◌+◌, ◌≤◌, ◌++◌, length, map, IfOk, OnOk};
 ghost use Rattle.group_counts.specs.Buckets.{bucket_keys};
-ghost use Rattle.group_counts.specs.Ranks.{above, groups_of};
+ghost use Rattle.group_counts.specs.Ranks.{above};
 ghost use Rattle.picture_text.specs.Elements.{new_title, tried_title, wide_text};
 ghost use Rattle.picture_text.specs.Marks.{marks_of};
 ghost use Rattle.picture_text.specs.Picture.{body_text, listed_keys, maps_text, names_of, occupied, others_of, picture_text, titles_text, wide_of};

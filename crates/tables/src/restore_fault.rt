@@ -7,6 +7,12 @@ use std::alloc::{AllocError, AllocFailed};
 #[derive(Clone, Copy, Debug, PartialEq, Eq)]
 pub struct Memory;
 
+impl From<Memory> for net_addr::Memory {
+    fn from(_: Memory) -> net_addr::Memory {
+        net_addr::Memory
+    }
+}
+
 impl From<slot_grid::Memory> for Memory {
     fn from(_: slot_grid::Memory) -> Memory {
         Memory

@@ -1,7 +1,7 @@
 use Rattle.std.proofs.Common.{[], List, take, sym, ap, ◌∙◌}
 use Rattle.std.specs.List.{fold}
 use Rattle.std.proofs.lemmas.List.{drop_all}
-use Rattle.group_counts.specs.declared.counted.Counted.{Counted}
+use Rattle.group_counts.specs.declared.counting.Counted.{Counted}
 use Rattle.group_counts.specs.Ranks.{placed, first_six}
 use Rattle.group_counts.proofs.Ranks.{fold-placed}
 use Rattle.group_counts.proofs.ranking.first_six.Goals as goal

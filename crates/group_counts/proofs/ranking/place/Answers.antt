@@ -1,6 +1,6 @@
 use Rattle.std.proofs.Common.{◌≡◌, ℕ, List, take, ap, ◌∙◌}
 use Rattle.std.specs.List.{insert}
-use Rattle.group_counts.specs.declared.counted.Counted.{Counted}
+use Rattle.group_counts.specs.declared.counting.Counted.{Counted}
 use Rattle.group_counts.specs.Ranks.{placed, rank_in}
 use Rattle.group_counts.proofs.Ranks.{insert-placed}
 use Rattle.group_counts.proofs.ranking.place.Goals as goal

@@ -1,4 +1,4 @@
-use Rattle.std.proofs.Common.{ℕ, sym, ap, ◌∙◌}
+use Rattle.std.proofs.Common.{ℕ, ap, ◌∙◌}
 use Rattle.std.specs.List.{insert}
 use Rattle.group_counts.specs.Ranks.{rank_in}
 use Rattle.group_counts.proofs.Ranks.{insert-placed}

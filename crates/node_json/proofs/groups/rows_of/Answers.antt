@@ -1,6 +1,6 @@
 use Rattle.std.proofs.Common.{◌≡◌, ◌++◌, ◌∙◌, map}
 use Rattle.group_counts.specs.Ranks.{groups_of, in_order}
-use Rattle.group_counts.specs.declared.counted.Counted.{Counted}
+use Rattle.group_counts.specs.declared.counting.Counted.{Counted}
 use Rattle.picture_text.specs.Picture.{in_new}
 use Rattle.node_json.specs.Groups.{groups_in, part_key, record_keys, rows_of, source_keys}
 use Rattle.node_json.specs.Inside.{row_by}

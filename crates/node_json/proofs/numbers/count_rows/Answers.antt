@@ -1,6 +1,6 @@
 use Rattle.std.proofs.Common.{◌≡◌, ◌∙◌, ap, map}
 use Rattle.group_counts.specs.Tally.{tally_of}
-use Rattle.group_counts.specs.declared.counted.Counted.{Counted}
+use Rattle.group_counts.specs.declared.counting.Counted.{Counted}
 use Rattle.node_json.specs.Inside.{row_by, row_in}
 use Rattle.node_json.proofs.Tokens.{if_ok}
 use Rattle.node_json.proofs.numbers.count_rows.Goals as goal

@@ -1,6 +1,6 @@
 use Rattle.std.proofs.Common.{◌≡◌, ◌≤◌, take}
 use Rattle.group_counts.specs.Tally.{occurrences}
-use Rattle.group_counts.proofs.slots.occurrences.Given as goal
+use Rattle.group_counts.proofs.counting.occurrences.Given as goal
 
 abbrev pub invariant-loop-next : goal.invariant-loop-next
 invariant-loop-next l = record {
