@@ -16,6 +16,7 @@ use Rattle.picture_text.specs.Names.{name_of}
 use Rattle.picture_text.specs.Picture.{in_new}
 use Rattle.placing.specs.Places.{Places, asn, group}
 use Rattle.table_machine.specs.State.{State}
+use Rattle.slot_grid.specs.declared.sizes.TheConstants.{NEW_SLOTS}
 use Rattle.table_picture.specs.Keys.{group_key, slot_keys}
 use Rattle.node_json.specs.Value.{Member, array_of, json_number, object_of, unless_zero}
 use Rattle.node_json.specs.declared.numbers.Numbers.{Numbers}
@@ -131,7 +132,7 @@ totals_by groups slots records tried =
 
 abbrev pub totals_members : State → List Member
 totals_members st =
-    totals_by (length (groups_in st)) (65536 - occurrences (source_keys st) 0)
+    totals_by (length (groups_in st)) (NEW_SLOTS - occurrences (source_keys st) 0)
     (count_by (λ r. not (is_tried r)) st.records) (count_by is_tried st.records)
 
 -- the records whose address an asmap can map

@@ -1,4 +1,4 @@
-ghost use Rattle.std.specs.Prelude.{◌≡◌, ◌≤◌, ◌-◌, ◌+◌, [], ◌∷◌, ◌++◌, IfOk, OnOk, codes, filter, length, map, option_map, string_bytes};
+ghost use Rattle.std.specs.Prelude.{◌≡◌, ◌≤◌, ◌-◌, ◌+◌, [], ◌∷◌, ◌++◌, IfOk, OnOk, codes, filter, length, map, option_map};
 ghost use Rattle.std.specs.List.{flat_map};
 ghost use Rattle.json.specs.Json.{string};
 ghost use Rattle.json.specs.Tree.{json_tokens};
@@ -13,6 +13,7 @@ ghost use Rattle.node_json.specs.Value.{IsJsonText, array_of, object_of};
 ghost use Rattle.node_json.specs.declared.part.Part.TheVariants.{Both};
 ghost use Rattle.table_picture.specs.Keys.{slot_keys};
 ghost use Rattle.group_counts.specs.Tally.{occurrences};
+ghost use Rattle.slot_grid.specs.declared.sizes.TheConstants.{ALL_SLOTS, NEW_SLOTS};
 
 use crate::Memory;
 use crate::numbers::{Numbers, Row, count_rows};
@@ -25,6 +26,7 @@ use peer_rec::Rec;
 use picture_laws::names_are_plain;
 use picture_text::{name_of, new_keys};
 use placing::Placer;
+use slot_grid::NEW_SLOTS;
 use std::alloc::{AllocError, Global};
 use std::hash::BuildHasher;
 use std::sync::ledger::Ledger;
@@ -196,7 +198,7 @@ fn put_health<H: BuildHasher>(
     json: &mut Pretty,
     numbers: &[u128],
 ) -> Result<(), Memory>
-    requires { length numbers.now ≤ 81920 }
+    requires { length numbers.now ≤ ALL_SLOTS }
     ensures { OnOk result (json.new ≡ json.old ++ tokens_of (health_members numbers.now)) }
 {
     let groups = count_groups(alloc, hasher, numbers)?;
@@ -213,7 +215,7 @@ fn put_asmap<H: BuildHasher>(
     json: &mut Pretty,
     numbers: &[u128],
 ) -> Result<(), Memory>
-    requires { length numbers.now ≤ 81920 }
+    requires { length numbers.now ≤ ALL_SLOTS }
     ensures { OnOk result (json.new ≡ json.old
         ++ tokens_of ((codes "asmap", object_of (health_members numbers.now)) ∷ [])) }
 {
@@ -250,15 +252,16 @@ fn put_totals(
     records: u32,
     tried: u32,
 ) -> Result<(), AllocError>
-    requires { length keys.now ≡ 65536 }
+    requires { length keys.now ≡ NEW_SLOTS }
     ensures { OnOk result (json.new ≡ json.old ++ tokens_of ((
       codes "totals",
       object_of
-          (totals_by groups (65536 - occurrences keys.now 0) records tried),
+          (totals_by groups (NEW_SLOTS - occurrences keys.now 0) records tried),
     ) ∷ [])) }
 {
     put_begin(json, "totals")?;
-    put_numbers_of_all(json, groups, 65536 - occurrences(keys, 0), records, tried)?;
+    let slots = NEW_SLOTS as u32 - occurrences(keys, 0);
+    put_numbers_of_all(json, groups, slots, records, tried)?;
     json.token(Token::EndObject)?;
     Ok(())
 }
@@ -305,8 +308,8 @@ fn groups_in<H: BuildHasher>(
     slots: &[u128],
     tried: &[u128],
 ) -> Result<Vec<Counted>, Memory>
-    requires slots { length slots.now ≡ 81920 }
-    requires tried { length tried.now ≤ 81920 }
+    requires slots { length slots.now ≡ ALL_SLOTS }
+    requires tried { length tried.now ≤ ALL_SLOTS }
     ensures { IfOk result (λ groups. groups.items
         ≡ in_order (groups_of (in_new slots.now ++ tried.now))) }
 {
@@ -324,9 +327,9 @@ fn rows_of<H: BuildHasher, G: BuildHasher>(
     recs: &[Rec],
 ) -> Result<Vec<Row>, Memory>
     requires slots { slots.now ≡ slot_keys tables.now tables.now.places }
-    requires long { length slots.now ≡ 81920 }
+    requires long { length slots.now ≡ ALL_SLOTS }
     requires recs { recs.now ≡ tables.now.records }
-    requires few { length recs.now ≤ 81920 }
+    requires few { length recs.now ≤ ALL_SLOTS }
     ensures { IfOk result (λ rows. rows.items ≡ rows_of tables.now) }
 {
     let new = record_keys(alloc, tables.placer(), recs, Part::New)?;
@@ -352,7 +355,7 @@ fn put_members<H: BuildHasher, G: BuildHasher>(
     recs: &[Rec],
 ) -> Result<(), Memory>
     requires slots { slots.now ≡ slot_keys tables.now tables.now.places }
-    requires long { length slots.now ≡ 81920 }
+    requires long { length slots.now ≡ ALL_SLOTS }
     requires recs { recs.now ≡ tables.now.records }
     ensures { OnOk result (json.new ≡ json.old ++ tokens_of (groups_members tables.now)) }
 {

@@ -1,7 +1,7 @@
-ghost use Rattle.std.specs.Prelude.{◌≡◌, ◌≤◌, IfOk, length, map};
+ghost use Rattle.std.specs.Prelude.{◌≡◌, ◌≤◌, ◌*◌, IfOk, length, map};
 ghost use Rattle.group_counts.specs.Buckets.{bucket_keys};
-ghost use Rattle.group_counts.specs.Tally.{count_in, tally_of};
 ghost use Rattle.node_json.specs.Inside.{row_by, row_in};
+ghost use Rattle.slot_grid.specs.declared.sizes.TheConstants.{ALL_SLOTS};
 
 use crate::Memory;
 use group_counts::{Counted, Tally, bucket_keys, count_of, tally};
@@ -77,9 +77,9 @@ pub(crate) fn count_rows<H: BuildHasher>(
     new: &[u128],
     tried: &[u128],
 ) -> Result<Vec<Row>, Memory>
-    requires slots { length slots.now ≡ 81920 }
-    requires new { length new.now ≤ 163840 }
-    requires tried { length tried.now ≤ 163840 }
+    requires slots { length slots.now ≡ ALL_SLOTS }
+    requires new { length new.now ≤ 2 * ALL_SLOTS }
+    requires tried { length tried.now ≤ 2 * ALL_SLOTS }
     ensures { IfOk result (λ rows. rows.items
         ≡ map (λ c. row_by slots.now new.now tried.now c.key) groups.now) }
 {
