@@ -1,8 +1,8 @@
-ghost use Rattle.std.specs.Prelude.{◌≡◌, ◌<◌, ◌≤◌, ◌+◌, ◌^◌, ◌++◌, length, decimal, drop, OnOk, IfOk, get_or};
+ghost use Rattle.std.specs.Prelude.{◌≡◌, ◌<◌, ◌≤◌, ◌+◌, ◌^◌, ◌++◌, length, drop, OnOk, IfOk, get_or};
 ghost use Rattle.dot_runs.specs.Runs.{leading, row_text, run_text, rect_text, run};
 
 use crate::Memory;
-use itoa::Buffer;
+use net_addr::{put_number, put_text};
 
 /// Appends the rectangles of one mark in a row of marks, whose first is at `x` and `y`: one for
 /// each longest run of this mark.
@@ -71,25 +71,9 @@ fn put_run(of: u8, mark: u8, x: u32, y: u32, wide: u32, out: &mut Vec<u8>) -> Re
 fn put_rect(x: u32, y: u32, wide: u32, out: &mut Vec<u8>) -> Result<(), Memory>
     ensures { OnOk result (out.new.items ≡ out.old.items ++ rect_text x y wide) }
 {
-    put_number(b"M", x, out)?;
-    put_number(b" ", y, out)?;
-    put_number(b"h", wide, out)?;
-    put_number(b"v1h-", wide, out)?;
+    put_number(b"M", u64::from(x), out)?;
+    put_number(b" ", u64::from(y), out)?;
+    put_number(b"h", u64::from(wide), out)?;
+    put_number(b"v1h-", u64::from(wide), out)?;
     put_text(b"z", out)
-}
-
-/// Appends a text and a number after it.
-fn put_number(word: &[u8], number: u32, out: &mut Vec<u8>) -> Result<(), Memory>
-    ensures { OnOk result (out.new.items ≡ out.old.items ++ word.now ++ decimal number) }
-{
-    put_text(word, out)?;
-    put_text(Buffer::new().format(number).as_bytes(), out)
-}
-
-/// Appends the bytes.
-fn put_text(text: &[u8], out: &mut Vec<u8>) -> Result<(), Memory>
-    ensures { OnOk result (out.new.items ≡ out.old.items ++ text.now) }
-{
-    out.extend_from_slice(text)?;
-    Ok(())
 }
