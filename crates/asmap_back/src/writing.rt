@@ -3,7 +3,7 @@ ghost use Rattle.host_io.specs.Faults.{Rose};
 ghost use Rattle.host_io.specs.Writing.{Appended, AppendedPart};
 ghost use Rattle.asmap_vm.specs.Held.{tree_held};
 ghost use Rattle.prefix_table.specs.Print.{row_text, table_text};
-ghost use Rattle.prefix_table.specs.declared.print.TheConstants.{MAX_LINE};
+ghost use Rattle.prefix_table.specs.declared.print.TheConstants.{ROW_ROOM};
 ghost use Rattle.asmap_back.specs.Back.{rows_back};
 
 use crate::back_rows::BackRows;
@@ -37,7 +37,7 @@ fn put_line<K: Sink, const N: usize>(
     piece: &mut ArrayVec<u8, N>,
     out: &mut K,
 ) -> Result<(), Failed>
-    requires { MAX_LINE ≤ N }
+    requires { ROW_ROOM ≤ N }
     ensures written { OnOk result ((text : List ℕ)
         × Appended (K.written out.old) (K.written out.new) text
         × (text ++ piece.new.items ≡ piece.old.items ++ row_text row)) }
@@ -51,8 +51,6 @@ fn put_line<K: Sink, const N: usize>(
         write_all(out, piece.as_slice())?;
         piece.clear();
     }
-    let Ok(()) = piece.try_extend_from_slice(line.as_slice()) else {
-        unreachable!()
-    };
+    piece.try_extend_from_slice(line.as_slice()).unwrap();
     Ok(())
 }

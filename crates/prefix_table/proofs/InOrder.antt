@@ -10,9 +10,6 @@ use Rattle.prefix_table.specs.declared.row.Row.{Row}
 precedes_by : (ab al bb bl : ℕ) → nat_lt ab bb || (nat_eq ab bb && nat_lt al bl) ≡ true → (ab < bb) ⊎ ((ab ≡ bb) × (al < bl))
 precedes_by ab al bb bl h = grind (arith, nat_tests)
 
-by_precedes : (ab al bb bl : ℕ) → (ab < bb) ⊎ ((ab ≡ bb) × (al < bl)) → nat_lt ab bb || (nat_eq ab bb && nat_lt al bl) ≡ true
-by_precedes ab al bb bl h = grind (arith, nat_tests)
-
 along : (a b c : Row) → Precedes a b → Precedes b c → Precedes a c
 along a b c (inl h) (inl k) = inl (omega arith)
 along a b c (inl h) (inr k) = inl (omega (arith, k.0))
@@ -39,10 +36,3 @@ rise rows next =
     let a = get_or rows k d in
     let b = get_or rows (k + 1) d in
     precedes_by a.bits a.len b.bits b.len (next k d low))
-
--- in rows that rise each precedes the next
-pub rise_next : (rows : List Row) (k : ℕ) (d : Row) → AllPairs Precedes rows → k + 1 < length rows → precedes (get_or rows k d) (get_or rows (k + 1) d) ≡ true
-rise_next rows k d up low =
-    let a = get_or rows k d in
-    let b = get_or rows (k + 1) d in
-    by_precedes a.bits a.len b.bits b.len (up k (k + 1) d (omega arith) low)

@@ -35,7 +35,7 @@ mod table;
 pub use fault::TableFault;
 pub use law::texts_have_one_meaning;
 pub use memory::Memory;
-pub use print::{MAX_LINE, put_prefix, put_table, row_text};
+pub use print::{ROW_ROOM, put_prefix, put_table, row_text};
 pub use read::{MAX_TEXT, read_table};
 pub use row::{MAX_ASN, MAX_ROWS, Row};
 pub use search::common_bits;

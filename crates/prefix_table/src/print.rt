@@ -1,18 +1,18 @@
-ghost use Rattle.std.specs.Prelude.{◌≡◌, ◌≤◌, ◌++◌, ◌+◌, ◌<◌, ◌^◌, List, length, take, flat_map, OnOk, OnErr, All, decimal, codes};
+ghost use Rattle.std.specs.Prelude.{◌≡◌, ◌≤◌, ◌++◌, ◌<◌, ◌^◌, length, take, flat_map, OnOk, OnErr, All};
 ghost use Rattle.arrayvec.specs.ArrayVec.{array_vec_len};
-ghost use Rattle.prefix_table.specs.Rows.{IsRow, IsTable};
-ghost use Rattle.prefix_table.specs.Text.{IsTableText, IsRowLine, IsRowAddress, width};
+ghost use Rattle.prefix_table.specs.Rows.{IsRow};
+ghost use Rattle.prefix_table.specs.Text.{IsTableText, IsRowAddress, width};
 ghost use Rattle.prefix_table.specs.declared.read.TheConstants.{MAX_TEXT};
-ghost use Rattle.prefix_table.specs.Print.{entry_of, address_text, prefix_text, entry_text, row_text, table_text};
+ghost use Rattle.prefix_table.specs.Print.{entry_of, address_text, prefix_text, row_text, table_text};
 
 use crate::entry::{Entry, Family};
 use crate::{Memory, Row, Table};
 use arrayvec::ArrayVec;
 use itoa::Buffer;
-use net_addr::{ipv4_text, ipv6_text};
+use net_addr::{append, ipv4_text, ipv6_text};
 
 /// Room for the line of a row: an address of at most 39 bytes, and two numbers.
-pub const MAX_LINE: usize = 80;
+pub const ROW_ROOM: usize = 80;
 
 /// Appends the rows of the table in their order, one a line. A row of mapped addresses is written
 /// in the IPv4 form. If memory runs out, `out` is unchanged.
@@ -72,7 +72,7 @@ pub fn put_prefix(row: &Row, out: &mut Vec<u8>) -> Result<(), Memory>
 
 /// Returns the line of a row: its prefix, a space, `AS`, the number and a line feed. A row of
 /// mapped addresses is written in the IPv4 form.
-pub fn row_text(row: Row) -> ArrayVec<u8, MAX_LINE>
+pub fn row_text(row: Row) -> ArrayVec<u8, ROW_ROOM>
     ensures text { result.items ≡ row_text row }
     ensures reads_back { IsRowAddress (entry_of row).family (address_text (entry_of row))
         (entry_of row).address }
@@ -85,7 +85,7 @@ pub fn row_text(row: Row) -> ArrayVec<u8, MAX_LINE>
 }
 
 /// Returns the prefix of a row: the address, a slash and the length.
-fn prefix_text(row: &Row) -> ArrayVec<u8, MAX_LINE>
+fn prefix_text(row: &Row) -> ArrayVec<u8, ROW_ROOM>
     requires { row.now.bits < 2 ^ 128 }
     ensures text { result.items ≡ prefix_text row.now }
     ensures short { array_vec_len result ≤ 60 }
@@ -100,7 +100,7 @@ fn prefix_text(row: &Row) -> ArrayVec<u8, MAX_LINE>
 }
 
 /// Returns the address of an entry.
-fn address_text(entry: &Entry) -> ArrayVec<u8, MAX_LINE>
+fn address_text(entry: &Entry) -> ArrayVec<u8, ROW_ROOM>
     requires { entry.now.address < 2 ^ width entry.now.family }
     ensures text { result.items ≡ address_text entry.now }
     ensures short { array_vec_len result ≤ 39 }
@@ -112,17 +112,6 @@ fn address_text(entry: &Entry) -> ArrayVec<u8, MAX_LINE>
         Family::Ipv6 => append(&mut text, ipv6_text(entry.address).as_slice()),
     }
     text
-}
-
-/// Appends bytes for which there is room.
-fn append<const N: usize>(out: &mut ArrayVec<u8, N>, text: &[u8])
-    requires { array_vec_len out.old + length text.now ≤ N }
-    ensures items { out.new.items ≡ out.old.items ++ text.now }
-    ensures len { array_vec_len out.new ≡ array_vec_len out.old + length text.now }
-{
-    let Ok(()) = out.try_extend_from_slice(text) else {
-        unreachable!()
-    };
 }
 
 /// Returns how the row is printed.
