@@ -1,5 +1,5 @@
 -- Decimal numbers, digit by digit.
-use Rattle.std.proofs.Common.{◌≡◌, ◌≢◌, ℕ, ◌+◌, ◌-◌, ◌*◌, ◌<◌, ◌≤◌, ◌^◌, All, List, length, get_or, take, decimal, refl, sym, ap, ◌∙◌, subst, arith, inl, inr}
+use Rattle.std.proofs.Common.{◌≡◌, ◌≢◌, ℕ, ◌+◌, ◌-◌, ◌*◌, ◌<◌, ◌≤◌, ◌^◌, All, List, length, get_or, take, decimal, sym, ap, ◌∙◌, subst, arith, inl, inr}
 use Rattle.std.proofs.lemmas.Bool.{cases_lt}
 use Rattle.std.proofs.lemmas.Fmt.{decimal_is_IsNumeral, decimal_digit, first_decimal, decimal-digits_value}
 use Rattle.std.proofs.lemmas.Int.Digits.{digits_value_more, digits_more}
@@ -18,9 +18,6 @@ own = numerals_by_value (AllDigits 10) tells_digits
 pub record Reads (text : List ℕ) (i value : ℕ) : Type 0 where
   pub digits : AllDigits 10 (take i text)
   pub number : value ≡ digits_value 10 (take i text)
-
-pub Reads-none : (text : List ℕ) → Reads text 0 0
-Reads-none text = record { digits = tt; number = refl }
 
 pub Reads-more : (text : List ℕ) (i value next : ℕ) → i < length text → Reads text i value → IsInRange 48 57 (get_or text i 0) → next ≡ value * 10 + (get_or text i 0 - 48) → Reads text (i + 1) next
 Reads-more text i value next lt so_far digit e =
