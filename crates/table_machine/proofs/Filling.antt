@@ -2,7 +2,6 @@
 -- invalid or of a peer that is there twice.
 use Rattle.std.proofs.Common.{◌≡◌, ◌≢◌, ℕ, ◌+◌, ◌<◌, ◌≤◌, ◌^◌, true, not, ◌==◌, [], ◌∷◌, ◌++◌, length, get_or, All, Contains, None, IsPermutation, refl, sym, ap, subst, ◌∙◌, inl, inr, ⊎_elim, ◌⊎◌, arith, true≢false}
 use Rattle.std.specs.List.Sorted.{IsStrictlyIncreasing}
-use Rattle.std.proofs.lemmas.Bool.{both_ways}
 use Rattle.std.proofs.lemmas.List.{map-append}
 use Rattle.std.proofs.lemmas.List.Elements.{All-map, All-filter, All-push, All-weaker, Contains-push_cases, Contains-get_or}
 use Rattle.std.proofs.lemmas.List.Kept.{AllPairs-from_increasing, IsStrictlyIncreasing-filter}
@@ -18,11 +17,12 @@ use Rattle.peer_rec.specs.declared.place.Place.TheVariants.{New, Tried}
 use Rattle.table_machine.specs.State.{State, is_new_at, is_tried_at, new_rec_at}
 use Rattle.table_machine.specs.Entries.{delete, give_bucket, with_last}
 use Rattle.table_machine.specs.Sound.{AtMostOne, HasOccupant, IsSound}
-use Rattle.table_machine.proofs.Buckets.{HasRoom, IsRec-placed, IsRec-with_bucket, placed, with_bucket-cases}
-use Rattle.table_machine.proofs.Lists.{All-from_Contains, AllPairs-from_map, All-same_images, Contains-map, filter-map, find-None, rising-push}
+use Rattle.table_machine.proofs.Buckets.{HasRoom, IsRec-placed, IsRec-with_bucket, placed}
+use Rattle.table_machine.proofs.Lists.{All-from_Contains, AllPairs-from_map, All-same_images, Contains-map, filter-map, rising-push}
 use Rattle.table_machine.proofs.Orders.{others, others-without_first}
 use Rattle.table_machine.proofs.Primitives.{AtMostOne-with, IsOnlyAt}
-use Rattle.table_machine.proofs.Records.{numbers, changed_cases, change_number-images, new_at_from, new_at_parts, tried_at-is_tried, without_number-cases}
+use Rattle.table_machine.proofs.Slots.{only-given}
+use Rattle.table_machine.proofs.Records.{numbers, changed_cases, change_number-images, tried_at-is_tried, without_number-cases}
 
 -- in tried, or in a bucket of the new table
 abbrev pub IsPlaced : Rec → Type 0
@@ -142,19 +142,6 @@ module _ (n : ℕ) (st : State) (r : Rec) (bucket : ℕ) (fill : IsFilling n st)
   fits : IsRec (placed r (New (with_bucket bucket (buckets_of r))))
   fits = IsRec-with_bucket r bucket has_room below
 
-  only_given : IsOnlyAt (is_new_at st.places) st.records (placed r (New (with_bucket bucket (buckets_of r))))
-  only_given b slot q c at_given at_q =
-      let parts = new_at_parts st.places b slot (placed r (New (with_bucket bucket (buckets_of r)))) at_given in
-      by parts.1 (with_bucket-cases bucket (buckets_of r) b parts.0)
-    where
-      by : new_slot st.places r.peer b ≡ slot → (b ≡ bucket) ⊎ Contains (buckets_of r) b → q.number ≡ r.number
-      by is (inl same) =
-          let slots : slot ≡ new_slot st.places r.peer bucket = sym is ∙ ap (new_slot st.places r.peer) same in
-          let at : is_new_at st.places bucket (new_slot st.places r.peer bucket) q ≡ true =
-          subst (λ k. is_new_at st.places bucket k q ≡ true) slots (subst (λ k. is_new_at st.places k slot q ≡ true) same at_q) in
-          absurd (both_ways _ (find-None (is_new_at st.places bucket (new_slot st.places r.peer bucket)) st.records q empty c) at)
-      by is (inr old) = fill.new_slots b slot q r c has at_q (new_at_from st.places b slot r old is)
-
   at : (q : Rec) → Contains (give_bucket st r bucket).records q → (placed r (New (with_bucket bucket (buckets_of r))) ≡ q) ⊎ (Contains st.records q × (q.number ≢ r.number))
   at = changed_cases r.number (placed r (New (with_bucket bucket (buckets_of r)))) st.records
 
@@ -180,7 +167,8 @@ module _ (n : ℕ) (st : State) (r : Rec) (bucket : ℕ) (fill : IsFilling n st)
     next_number = fill.next_number;
     last_good = fill.last_good;
     nothing_waits = fill.nothing_waits;
-    new_slots = AtMostOne-with (is_new_at st.places) st.records (give_bucket st r bucket).records (placed r (New (with_bucket bucket (buckets_of r)))) fill.new_slots only_given own_or_old;
+    new_slots = AtMostOne-with (is_new_at st.places) st.records (give_bucket st r bucket).records (placed r (New (with_bucket bucket (buckets_of r)))) fill.new_slots
+        (only-given st r bucket (λ b slot q c at_r at_q. fill.new_slots b slot q r c has at_q at_r) empty) own_or_old;
     tried_slots = AtMostOne-with (is_tried_at st.places) st.records (give_bucket st r bucket).records (placed r (New (with_bucket bucket (buckets_of r)))) fill.tried_slots
         (λ b slot q c at_given at_q. absurd (true≢false (sym (tried_at-is_tried st.places b slot (placed r (New (with_bucket bucket (buckets_of r)))) at_given)))) own_or_old;
     peers = λ p q one two is same.

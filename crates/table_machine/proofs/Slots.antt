@@ -31,28 +31,31 @@ untried-listed r bucket c = by r.place c
 pub only-untried : (st : State) (r : Rec) → is_tried r ≡ false → IsOnlyAt (is_tried_at st.places) st.records r
 only-untried st r untried bucket slot q c at other = absurd (both_ways (is_tried r) untried (tried_at-is_tried st.places bucket slot r at))
 
+-- a record that takes an empty slot of the new table is alone there
+pub only-given : (st : State) (r : Rec) (bucket : ℕ) → IsOnlyAt (is_new_at st.places) st.records r → new_rec_at st bucket (new_slot st.places r.peer bucket) ≡ None
+    → IsOnlyAt (is_new_at st.places) st.records (placed r (New (with_bucket bucket (buckets_of r))))
+only-given st r bucket only empty b slot q c at_given at_q =
+    let parts = new_at_parts st.places b slot (placed r (New (with_bucket bucket (buckets_of r)))) at_given in
+    by parts.1 (with_bucket-cases bucket (buckets_of r) b parts.0)
+  where
+    by : new_slot st.places r.peer b ≡ slot → (b ≡ bucket) ⊎ Contains (buckets_of r) b → q.number ≡ r.number
+    by is (inl same) =
+        let slots : slot ≡ new_slot st.places r.peer bucket = sym is ∙ ap (new_slot st.places r.peer) same in
+        let at : is_new_at st.places bucket (new_slot st.places r.peer bucket) q ≡ true =
+        subst (λ k. is_new_at st.places bucket k q ≡ true) slots (subst (λ k. is_new_at st.places k slot q ≡ true) same at_q) in
+        absurd (both_ways _ (find-None (is_new_at st.places bucket (new_slot st.places r.peer bucket)) st.records q empty c) at)
+    by is (inr old) = only b slot q c (new_at_from st.places b slot r old is) at_q
+
 -- A record takes an empty slot of the new table.
 module _ (n : ℕ) (MayBeEmpty : Peer → Type 0) (st : State) (r : Rec) (bucket : ℕ) (but : IsMidway n MayBeEmpty st) (has : Contains st.records r) (untried : is_tried r ≡ false)
     (room : HasRoom r) (below : bucket < 1024) (empty : new_rec_at st bucket (new_slot st.places r.peer bucket) ≡ None) where
   pub given : Rec
   given = placed r (New (with_bucket bucket (buckets_of r)))
 
-  only_given : IsOnlyAt (is_new_at st.places) st.records (placed r (New (with_bucket bucket (buckets_of r))))
-  only_given b slot q c at_given at_q =
-      let parts = new_at_parts st.places b slot (placed r (New (with_bucket bucket (buckets_of r)))) at_given in
-      by parts.1 (with_bucket-cases bucket (buckets_of r) b parts.0)
-    where
-      by : new_slot st.places r.peer b ≡ slot → (b ≡ bucket) ⊎ Contains (buckets_of r) b → q.number ≡ r.number
-      by is (inl same) =
-          let slots : slot ≡ new_slot st.places r.peer bucket = sym is ∙ ap (new_slot st.places r.peer) same in
-          let at : is_new_at st.places bucket (new_slot st.places r.peer bucket) q ≡ true =
-          subst (λ k. is_new_at st.places bucket k q ≡ true) slots (subst (λ k. is_new_at st.places k slot q ≡ true) same at_q) in
-          absurd (both_ways _ (find-None (is_new_at st.places bucket (new_slot st.places r.peer bucket)) st.records q empty c) at)
-      by is (inr old) = but.new_slots b slot q r c has at_q (new_at_from st.places b slot r old is)
-
   pub give-keeps : IsMidway n MayBeEmpty (give_bucket st r bucket)
   give-keeps =
-      change-keeps n MayBeEmpty st r (placed r (New (with_bucket bucket (buckets_of r)))) but has refl refl only_given
+      change-keeps n MayBeEmpty st r (placed r (New (with_bucket bucket (buckets_of r)))) but has refl refl
+      (only-given st r bucket (λ b slot q c at_r at_q. but.new_slots b slot q r c has at_q at_r) empty)
       (only-untried st (placed r (New (with_bucket bucket (buckets_of r)))) refl)
       (λ tried. absurd (both_ways (is_tried r) untried tried)) (λ other. IsRec-with_bucket r bucket room below)
 
