@@ -10,13 +10,14 @@ use Rattle.asmap_vm.specs.declared.sane.Sane.{Sane}
 use Rattle.asmap_vm.specs.declared.instruction.Instruction.{Instruction}
 use Rattle.asmap_vm.specs.declared.instruction.Instruction.TheVariants as instructions
 use Rattle.asmap_vm.proofs.PartLaws.{HasHead, has_head}
-use Rattle.asmap_vm.proofs.MatchLaws.{match_size-wanted, match_value, match_range}
+use Rattle.asmap_vm.proofs.MatchLaws.{match_size-wanted, match_value, match_range, number_of_wanted}
 use Rattle.prefix_table.specs.declared.row.Row.{Row}
 use Rattle.asmap_back.specs.Back.{first_at, row_at, unless_same, rows_of, rows_back}
 use Rattle.asmap_back.specs.Ahead.{Ahead, part_of, IsSaneAhead, AreSane, AreDeep, rows_ahead, code_ahead, AreAhead}
 use Rattle.asmap_back.specs.Inside.{Gives, whole_part, zero_side, one_side, after_match, row_of}
 use Rattle.asmap_back.specs.declared.part.Part.{Part}
 use Rattle.asmap_back.proofs.PathRows.{span, first_longer, below_top, number_zero, number_one}
+use Rattle.prefix_table.proofs.PrintLaws.{row_with}
 
 -- the first instruction was read
 pub record Reads (bits : List Bool) (at next : ℕ) (i : Instruction) : Type 0 where
@@ -91,9 +92,6 @@ opened bits at next i part more left reads h = opened_by bits at next i part mor
 abbrev made : ℕ → ℕ → ℕ → ℕ → Part
 made bits len default last = record { bits = bits; len = len; default = default; last = last }
 
-abbrev row_with : ℕ → ℕ → ℕ → Row
-row_with bits len asn = record { bits = bits; len = len; asn = asn }
-
 -- the same with another form of the tree
 record Formed (bits : List Bool) (next : ℕ) (part : Part) (left : List Row) (path : List Bool) (ahead : List Ahead) (rest : List Bool) (t : Tree) : Type 0 where
   sane : IsSaneWithin (128 - length path) t
@@ -146,14 +144,14 @@ after_default bits next asn part more left o =
       };
     }
 
-longer : (p : List Bool) (side : Bool) → length (p ++ side ∷ []) ≡ length p + 1
+pub longer : (p : List Bool) (side : Bool) → length (p ++ side ∷ []) ≡ length p + 1
 longer p side = length-append p (side ∷ [])
 
-first_zero : (p : List Bool) → length p < 128 → first_at (p ++ false ∷ []) ≡ first_at p
+pub first_zero : (p : List Bool) → length p < 128 → first_at (p ++ false ∷ []) ≡ first_at p
 first_zero p low =
     omega (arith, first_longer p (false ∷ []) (omega arith), ap (λ n. n * span (length (p ++ false ∷ []))) number_zero)
 
-first_one : (p : List Bool) → length p < 128 → first_at (p ++ true ∷ []) ≡ first_at p + 2 ^ (127 - length p)
+pub first_one : (p : List Bool) → length p < 128 → first_at (p ++ true ∷ []) ≡ first_at p + 2 ^ (127 - length p)
 first_one p low =
     let e : 128 - length (p ++ true ∷ []) ≡ 127 - length p = omega (arith, longer p true) in
     omega (arith, first_longer p (true ∷ []) (omega arith), ap (λ n. n * span (length (p ++ true ∷ []))) number_one, ap (λ n. 2 ^ n) e)
@@ -214,10 +212,6 @@ record Wanted (part : Part) (path wanted : List Bool) (number : ℕ) : Type 0 wh
   bits : first_at (path ++ wanted) ≡ (after_match part number).bits
   len : length (path ++ wanted) ≡ (after_match part number).len
   short : length (path ++ wanted) ≤ 128
-
-number_of_wanted : (wanted : List Bool) → number_of (true ∷ wanted) ≡ 2 ^ length wanted + number_of wanted
-unfolding number_of
-number_of_wanted wanted = refl
 
 wanted_by : (part : Part) (path wanted : List Bool) (number : ℕ) → first_at path ≡ part.bits → length path ≡ part.len → length wanted ≤ 8 → length path + length wanted ≤ 128 → number_of (true ∷ wanted) ≡ number → Wanted part path wanted number
 wanted_by part path wanted number bits len few short e =
@@ -293,7 +287,7 @@ none_left bits at left h = none_by h.ahead left h.are h.rows_are
 pub none_after : (bits : List Bool) (at : ℕ) (left : List Row) → AreAhead bits at [] left → AreAhead bits at [] []
 none_after bits at left h = subst (AreAhead bits at []) (none_left bits at left h) h
 
-first_none : first_at [] ≡ 0
+pub first_none : first_at [] ≡ 0
 unfolding number_of
 first_none = refl
 

@@ -1,29 +1,23 @@
 -- The bits of an address from one index up to another.
 use Rattle.std.proofs.Common.{◌≡◌, ℕ, zero, suc, ◌+◌, ◌-◌, ◌*◌, ◌/◌, ◌%◌, ◌^◌, ◌<◌, ◌≤◌, Bool, true, List, [], ◌∷◌, ◌++◌, length, take, drop, min, refl, ap, sym, ◌∙◌, arith, length-append, bit_and, ◌⊎◌, inl, inr, append-nil}
-use Rattle.std.proofs.lemmas.Nat.{shr-shr, shr_split, pow_pos, one_shl, and_mask, mod_below}
+use Rattle.std.proofs.lemmas.Nat.{shr-shr, one_shl, and_mask}
 use Rattle.std.proofs.lemmas.List.{take_at, drop_at, take_all, drop_all}
 use Rattle.std.proofs.Math.Nat.{pow-suc}
 use Rattle.std.proofs.Math.Pow.{pow_mono}
-use Rattle.bit_code.specs.Coder.{digits, number_of, HasValue, values_of, sizes}
+use Rattle.bit_code.specs.Coder.{digits, number_of, HasValue}
 use Rattle.bit_code.specs.declared.coder.Coder.TheVariants as coders
-use Rattle.bit_code.proofs.DigitLaws.{length-digits, digits_above, digits_low, number_of-digits, number_of-lt}
+use Rattle.bit_code.proofs.DigitLaws.{length-digits, digits_above, number_of-lt}
 use Rattle.asmap_vm.specs.Code.{Tree, Match}
 use Rattle.asmap_compile.specs.Compiled.{matches}
 use Rattle.asmap_compile.specs.Inside.{bits_between}
 use Rattle.bit_code.proofs.PrefixLaws.{nil_from}
 use Rattle.std.proofs.lemmas.Bool.{cases_lt}
+use Rattle.asmap_vm.proofs.AddressLaws.{number_of-mod}
+use Rattle.asmap_vm.proofs.MatchLaws.{match_values, number_of_wanted}
 
 pub between_long : (bits from to : ℕ) → length (bits_between bits from to) ≡ to - from
 unfolding bits_between
 between_long bits from to = length-digits (to - from) (bits / 2 ^ (128 - to))
-
-number_of_more : (bits : List Bool) → number_of (true ∷ bits) ≡ 2 ^ length bits + number_of bits
-unfolding number_of
-number_of_more bits = refl
-
-match_values : values_of (sizes coders.Match) ≡ 510
-unfolding values_of sizes
-match_values = refl
 
 pub between_value : (bits from to : ℕ) → from < to → to ≤ from + 8 → HasValue coders.Match (number_of (true ∷ bits_between bits from to))
 between_value bits from to some few =
@@ -32,16 +26,9 @@ between_value bits from to some few =
     let one : 1 ≤ length wanted = omega arith in
     let eight : length wanted ≤ 8 = omega arith in
     record {
-      low = omega (arith, number_of_more wanted, pow_mono one);
+      low = omega (arith, number_of_wanted wanted, pow_mono one);
       high = omega (arith, number_of-lt (true ∷ wanted), pow_mono eight, pow-suc 2 (length wanted), match_values);
     }
-
--- the low digits of a number are those of its low part
-digits_mod : (k n : ℕ) → digits k n ≡ digits k (n % 2 ^ k)
-digits_mod k n = ap (digits k) (sym (shr_split n k)) ∙ digits_low k k (n / 2 ^ k) (n % 2 ^ k) (omega arith)
-
-number_of-mod : (k n : ℕ) → number_of (digits k n) ≡ n % 2 ^ k
-number_of-mod k n = ap number_of (digits_mod k n) ∙ number_of-digits k (n % 2 ^ k) (mod_below n (2 ^ k) (pow_pos k))
 
 pub match_number_is : (bits from to : ℕ) → from < to → to ≤ from + 8 →
     1 * 2 ^ (to - from) % 2 ^ 32 + bit_and (bits / 2 ^ (128 - to)) (1 * 2 ^ (to - from) % 2 ^ 128 - 1) ≡ number_of (true ∷ bits_between bits from to)
@@ -51,7 +38,7 @@ match_number_is bits from to some few =
     let low = bits / 2 ^ (128 - to) in
     let value : number_of (digits size low) ≡ low % 2 ^ size = number_of-mod size low in
     let long : length (digits size low) ≡ size = length-digits size low in
-    rw (one_shl size 128 (omega arith), one_shl size 32 (omega arith), and_mask, number_of_more (digits size low), long, value) refl
+    rw (one_shl size 128 (omega arith), one_shl size 32 (omega arith), and_mask, number_of_wanted (digits size low), long, value) refl
 
 -- the bits up to an index between, and then those after it
 pub between_split : (bits from end to : ℕ) → from ≤ end → end ≤ to → to ≤ 128 → bits_between bits from to ≡ bits_between bits from end ++ bits_between bits end to

@@ -7,12 +7,13 @@ use Rattle.std.proofs.lemmas.Bool.{eqb-true}
 use Rattle.bit_code.specs.Coder.{digits, number_of}
 use Rattle.bit_code.proofs.DigitLaws.{length-digits, digits_above, digits_low, number_of-digits}
 use Rattle.bit_code.specs.Prefixes.{begins_with}
+use Rattle.bit_code.proofs.PrefixLaws.{same_tests}
 
 -- the low digits of a number are those of its low part
-digits_mod : (k n : ℕ) → digits k n ≡ digits k (n % 2 ^ k)
+pub digits_mod : (k n : ℕ) → digits k n ≡ digits k (n % 2 ^ k)
 digits_mod k n = ap (digits k) (sym (shr_split n k)) ∙ digits_low k k (n / 2 ^ k) (n % 2 ^ k) (omega arith)
 
-number_of-mod : (k n : ℕ) → number_of (digits k n) ≡ n % 2 ^ k
+pub number_of-mod : (k n : ℕ) → number_of (digits k n) ≡ n % 2 ^ k
 number_of-mod k n = ap number_of (digits_mod k n) ∙ number_of-digits k (n % 2 ^ k) (omega (arith, pow_pos k))
 
 begins_with_start : (xs ys : List Bool) → begins_with (xs ++ ys) xs ≡ true
@@ -29,12 +30,6 @@ start_begins (true ∷ bits) (true ∷ wanted) h = ap (λ xs. true ∷ xs) (star
 start_begins (false ∷ bits) (false ∷ wanted) h = ap (λ xs. false ∷ xs) (start_begins bits wanted h)
 start_begins (true ∷ bits) (false ∷ wanted) h = cc
 start_begins (false ∷ bits) (true ∷ wanted) h = cc
-
-same_tests : (b w : Bool) → (b ≡ true → w ≡ true) → (w ≡ true → b ≡ true) → b ≡ w
-same_tests true true f g = refl
-same_tests true false f g = sym (f refl)
-same_tests false true f g = g refl
-same_tests false false f g = refl
 
 there : (size left a n : ℕ) → eqb (a / 2 ^ left % 2 ^ size) (n % 2 ^ size) ≡ true → begins_with (digits size (a / 2 ^ left) ++ digits left a) (digits size n) ≡ true
 there size left a n h =

@@ -39,14 +39,14 @@ leads_at n low high =
     let top = leading_top 32 n (omega arith) small in
     rw (match_size_is n top.0 top.2 top.3 (omega arith)) (leads n top.0 top.2 top.3 low high)
 
-match_values : values_of (sizes coders.Match) ≡ 510
+pub match_values : values_of (sizes coders.Match) ≡ 510
 unfolding values_of sizes
 match_values = refl
 
 pub match_range : (n : ℕ) → HasValue coders.Match n → (2 ≤ n) × (n < 512)
 match_range n h = (h.low, omega (arith, h.high, match_values))
 
-number_of_wanted : (wanted : List Bool) → number_of (true ∷ wanted) ≡ 2 ^ length wanted + number_of wanted
+pub number_of_wanted : (wanted : List Bool) → number_of (true ∷ wanted) ≡ 2 ^ length wanted + number_of wanted
 unfolding number_of
 number_of_wanted wanted = refl
 

@@ -25,7 +25,7 @@ tried_reach places peer =
     Contains-map (group_bucket places (group places peer.addr)) 8 (group_choice places peer) _
     (mod_below _ 8 (omega arith)) refl
 
-Contains-flat_map : {X : Type 0} (f : X → List ℕ) (xs : List X) (x : X) (b : ℕ) → Contains xs x → Contains (f x) b → Contains (flat_map f xs) b
+pub Contains-flat_map : {X : Type 0} (f : X → List ℕ) (xs : List X) (x : X) (b : ℕ) → Contains xs x → Contains (f x) b → Contains (flat_map f xs) b
 Contains-flat_map f [] x b c h = absurd (none_in_nil x c)
 Contains-flat_map {X} f (y ∷ xs) x b c h =
     let later = Contains-flat_map f xs x b in

@@ -1,14 +1,11 @@
 -- A text of a kind has one value.
-use Rattle.std.proofs.Common.{◌≡◌, ◌≢◌, ℕ, Bool, true, false, List, codes, Result, Ok, refl, sym, ap, ◌∙◌, arith, inl, inr}
+use Rattle.std.proofs.Common.{◌≡◌, ◌≢◌, ℕ, Bool, true, false, List, codes, Ok, refl, sym, ap, ◌∙◌, arith, inl, inr}
 use Rattle.std.proofs.lemmas.Fmt.{decimal_injective}
 use Rattle.hex.specs.Hex.{decode_of}
-use Rattle.net_addr.proofs.OneReading.{one_address, one_peer}
+use Rattle.net_addr.proofs.OneReading.{one_address, one_peer, same_ok}
 use Rattle.grammar.specs.Fields.{Kind, Number, OfAddr, OfPeer, Hex, Random, Either, Nets, Classes, Value, TheNumber, TheAddr, ThePeer, TheBytes, TheWords, TheChoice, TheNets, Means, IsHex, IsDefinite, choice}
 use Rattle.grammar.proofs.NameLemmas.{one_nets, one_classes}
 use Rattle.grammar.proofs.WordLemmas.{one_words}
-
-same_ok : {A E : Type 0} (r : Result A E) (x y : A) → r ≡ Ok x → r ≡ Ok y → x ≡ y
-same_ok r x y e f = cc
 
 no_digits : (bytes : List ℕ) → decode_of (codes "-") ≡ Ok bytes → ⊥
 no_digits bytes e = cc e

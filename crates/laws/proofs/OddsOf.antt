@@ -24,7 +24,7 @@ use Rattle.laws.specs.Rounds.{gap, holds, idle_below}
 use Rattle.laws.proofs.BoundOf.{few_words, sum_at_most}
 use Rattle.laws.proofs.Picked.{found_at, new_words, tried_words}
 use Rattle.laws.proofs.SearchOf.{sum_constant}
-use Rattle.laws.proofs.SharesOf.{Contains-flat_map}
+use Rattle.causes.proofs.Reach.{Contains-flat_map}
 use Rattle.laws.proofs.SomeOf.{candidate-there, some_words}
 use Rattle.laws.proofs.Within.{count_within}
 

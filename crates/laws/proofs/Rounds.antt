@@ -7,6 +7,7 @@ use Rattle.std.proofs.lemmas.List.Elements.{All-head, All-tail, All-append}
 use Rattle.std.proofs.lemmas.List.Folds.{list_any-append}
 use Rattle.laws.specs.Rounds.{around, gap, holds, idle_below}
 use Rattle.laws.proofs.Counts.{all_range, count_agree, count_append, count_cons, count_no, range_at, range_from_at, range_last}
+use Rattle.net_addr.proofs.Bits.{and_true}
 
 not_or : (a b : Bool) → not (a || b) ≡ (not a && not b)
 not_or true b = refl
@@ -15,10 +16,6 @@ not_or false b = refl
 or_end : (a : Bool) → (a || false) ≡ a
 or_end true = refl
 or_end false = refl
-
-and_true : (a : Bool) → (a && true) ≡ a
-and_true true = refl
-and_true false = refl
 
 and_false : (a : Bool) → (a && false) ≡ false
 and_false true = refl

@@ -1,7 +1,6 @@
 -- The buckets that some groups reach are few of those that a word selects.
-use Rattle.std.proofs.Common.{◌≡◌, ℕ, suc, ◌+◌, ◌*◌, ◌^◌, ◌≤◌, Bool, true, false, List, [], ◌∷◌, length, count_by, flat_map, map, Contains, Option, Some, refl, sym, subst, ◌∙◌, ⊎_elim, arith, length-append}
+use Rattle.std.proofs.Common.{◌≡◌, ℕ, suc, ◌+◌, ◌*◌, ◌^◌, ◌≤◌, Bool, true, false, List, [], ◌∷◌, length, count_by, flat_map, map, Contains, Option, Some, refl, sym, subst, ◌∙◌, arith, length-append}
 use Rattle.std.specs.List.{range_with_len}
-use Rattle.std.proofs.lemmas.List.Elements.{Contains-append_left, Contains-append_right}
 use Rattle.std.proofs.lemmas.List.{length-map}
 use Rattle.std.proofs.lemmas.List.FromFn.{length-map-range_with_len}
 use Rattle.net_addr.specs.Address.{Address}
@@ -9,7 +8,7 @@ use Rattle.net_addr.specs.declared.peer.Peer.{Peer}
 use Rattle.placing.specs.Places.{Places, group, group_bucket, group_buckets, new_bucket, source_bucket, source_choice, tried_bucket}
 use Rattle.table_machine.specs.State.{State, is_new_at, is_tried_at, new_rec_at, tried_rec_at}
 use Rattle.table_machine.specs.Picks.{first_candidate, slots_from}
-use Rattle.table_machine.proofs.Lists.{Contains-cases, Contains-map, find-Some, none_in_nil}
+use Rattle.table_machine.proofs.Lists.{Contains-map, find-Some}
 use Rattle.table_machine.proofs.Records.{new_at_parts, tried_at_parts}
 use Rattle.peer_rec.specs.declared.rec.Rec.{Rec}
 use Rattle.peer_rec.specs.Snapshot.{Snapshot}
@@ -18,20 +17,13 @@ use Rattle.causes.specs.Accepted.{IsAccepted}
 use Rattle.causes.specs.Buckets.{AreCaused, IsListed, reach}
 use Rattle.causes.specs.Kept.{IsOpening}
 use Rattle.causes.proofs.Laws.{keeps_causes}
-use Rattle.causes.proofs.Reach.{by_reach, long-reach, tried_reach}
+use Rattle.causes.proofs.Reach.{Contains-flat_map, by_reach, long-reach, tried_reach}
 use Rattle.laws.specs.Chances.{words_for}
 use Rattle.laws.proofs.BoundOf.{few_words}
 use Rattle.laws.proofs.Picked.{found_at}
 use Rattle.laws.proofs.SomeOf.{candidate-there}
 use Rattle.laws.proofs.Within.{count_outside}
 use Rattle.laws.specs.Shares.{AreBy, AreInGroups, IsOf, IsShared, KeepsShares, LeadsTo}
-
-pub Contains-flat_map : {X : Type 0} (f : X → List ℕ) (xs : List X) (x : X) (b : ℕ) → Contains xs x → Contains (f x) b → Contains (flat_map f xs) b
-Contains-flat_map f [] x b c h = absurd (none_in_nil x c)
-Contains-flat_map {X} f (y ∷ xs) x b c h =
-    let later = Contains-flat_map f xs x b in
-    ⊎_elim (λ (is : y ≡ x). Contains-append_left (f y) (flat_map f xs) b (subst (λ (z : X). Contains (f z) b) (sym is) h))
-    (λ rest. Contains-append_right (f y) (flat_map f xs) b (later rest h)) (Contains-cases y xs x c)
 
 -- the buckets of the tried table for addresses of some groups: the 8 of each group in turn
 abbrev tried_buckets : Places → List (List ℕ) → List ℕ

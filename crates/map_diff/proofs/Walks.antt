@@ -10,7 +10,8 @@ use Rattle.map_diff.specs.declared.walk.Pair.{Pair}
 use Rattle.map_diff.specs.declared.walk.Prefix.{Prefix}
 use Rattle.map_diff.specs.declared.fault.DiffFault.{DiffFault}
 use Rattle.map_diff.proofs.DiffLaws.{all_same}
-use Rattle.map_diff.proofs.Paths.{longer, first_zero, first_one, one_room}
+use Rattle.asmap_back.proofs.Steps.{longer, first_zero, first_one}
+use Rattle.map_diff.proofs.Paths.{one_room}
 use Rattle.map_diff.proofs.Joins.{left_cause, right_cause, cause_more}
 
 -- the bits that are left after one more

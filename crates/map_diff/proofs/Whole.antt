@@ -1,16 +1,16 @@
 -- The changes of two whole files.
 use Rattle.std.proofs.Common.{◌≡◌, ℕ, suc, false, ◌-◌, ◌<◌, ◌≤◌, Bool, List, [], ◌∷◌, map, length, refl, ap, ◌∙◌, subst, arith, replicate}
-use Rattle.bit_code.specs.Coder.{number_of, file_bits}
+use Rattle.bit_code.specs.Coder.{file_bits}
 use Rattle.asmap_vm.specs.Code.{Tree, code, IsSaneFile}
 use Rattle.asmap_vm.specs.Held.{bytes_held, tree_held}
 use Rattle.asmap_vm.specs.declared.sane.Sane.{Sane}
-use Rattle.asmap_back.specs.Back.{first_at}
 use Rattle.prefix_table.specs.declared.row.TheConstants.{MAX_ROWS}
 use Rattle.map_diff.specs.Diff.{Change, changes_of, map_of, changed_at, changed_prefixes}
 use Rattle.map_diff.specs.Inside.{IsTree, IsMap, AreMaps, part_at, rows_at, HasCause}
 use Rattle.map_diff.specs.declared.cursor.Cursor.{Cursor}
 use Rattle.map_diff.specs.declared.fault.DiffFault.{DiffFault}
 use Rattle.map_diff.specs.declared.fault.DiffFault.TheVariants.{TooMany, Memory}
+use Rattle.asmap_back.proofs.Steps.{first_none}
 
 whole_by : (t : Tree) (bits : List Bool) (bytes : List ℕ) → bits ≡ file_bits bytes → IsSaneFile t bytes → IsTree bits 128 0 0 (map_of t)
 whole_by t bits bytes e file =
@@ -25,10 +25,6 @@ whole_by t bits bytes e file =
 -- the whole tree of a checked file is at its start
 pub whole_tree : (s : Sane) (bits : List Bool) (bytes : List ℕ) → bytes ≡ bytes_held s → bits ≡ file_bits bytes → IsSaneFile (tree_held s) (bytes_held s) → IsTree bits 128 0 0 (map_of (tree_held s))
 whole_tree s bits bytes e f file = whole_by (tree_held s) bits (bytes_held s) (f ∙ ap file_bits e) file
-
-first_none : first_at [] ≡ 0
-unfolding number_of
-first_none = refl
 
 -- two cursors at the starts stand for the maps of the files
 pub whole_maps : (old_bits new_bits : List Bool) (from to : Cursor) (f g : List Bool → ℕ) → IsMap old_bits 128 from f → IsMap new_bits 128 to g → AreMaps old_bits new_bits (record { bits = 0; len = 0 }) from to [] f g

@@ -1,5 +1,5 @@
 -- What is printed of an address parses as the address.
-use Rattle.std.proofs.Common.{◌≡◌, ◌≢◌, ℕ, ◌<◌, ◌==◌, ◌||◌, Bool, true, false, cond, List, [], ◌∷◌, ◌++◌, length, All, slice_index, refl, arith, ap, sym, ◌∙◌, subst}
+use Rattle.std.proofs.Common.{◌≡◌, ◌≢◌, ℕ, ◌<◌, ◌==◌, Bool, true, false, cond, List, [], ◌∷◌, ◌++◌, length, All, slice_index, refl, arith, ap, sym, ◌∙◌, subst}
 use Rattle.std.specs.Int.{w32, w128, from_be_bytes}
 use Rattle.std.proofs.lemmas.Bool.Decides.{Decides-eqb}
 use Rattle.net_addr.specs.Address.{Address, IsAddress}
@@ -13,12 +13,7 @@ use Rattle.net_addr.proofs.Words.{to_be_bytes-from_be_bytes_16, from_be_bytes-be
 use Rattle.names.specs.Name.{HasOwnName, IsColonText, IsLettered, IsName, IsSuffix, encoded, flipped, letters_of, name_by, name_text, own_by, suffix_of}
 use Rattle.names.specs.Name.IsName.{dotted, colons, lettered}
 use Rattle.names.proofs.Lower.{base32_lower}
-
-neither : (a b c : Bool) → (a || b || c) ≡ false → (a ≡ false) × (b ≡ false) × (c ≡ false)
-neither false false false e = (refl, refl, refl)
-neither true b c e = cc
-neither false true c e = cc
-neither false false true e = cc
+use Rattle.net_addr.proofs.Printed.{neither}
 
 dotted_name : (bytes : List ℕ) → IsAddress (address Ipv4 bytes) → IsName (ipv4_text bytes) (address Ipv4 bytes)
 dotted_name bytes h =

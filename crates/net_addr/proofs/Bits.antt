@@ -13,7 +13,7 @@ one_more x y x' y' t e f = grind (arith, nat_tests)
 first_bit : (x y : ℕ) (t : Bool) → x < 2 → y < 2 → (eqb (x % 2) (y % 2) && t) ≡ (eqb x y && t)
 first_bit x y t e f = grind (arith, nat_tests)
 
-and_true : (a : Bool) → (a && true) ≡ a
+pub and_true : (a : Bool) → (a && true) ≡ a
 and_true true = refl
 and_true false = refl
 

@@ -34,7 +34,7 @@ one_bracketed text a b h k =
     ∙ octets-segments (to_be_bytes w128 k.bits) refl (AllBytes-high_first 16 k.bits) in
     h.address ∙ ap from_v1 bytes ∙ sym k.address
 
-same_ok : {A E : Type 0} (r : Result A E) (x y : A) → r ≡ Ok x → r ≡ Ok y → x ≡ y
+pub same_ok : {A E : Type 0} (r : Result A E) (x y : A) → r ≡ Ok x → r ≡ Ok y → x ≡ y
 same_ok r x y e f = cc
 
 one_labelled : (net : Net) (text : List ℕ) (a b : Address) → HasLabel net → IsHexText net text a → IsAddrText text b → a ≡ b

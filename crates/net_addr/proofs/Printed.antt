@@ -14,7 +14,7 @@ use Rattle.net_addr.proofs.Bytes.{AllBytes-All, from_v1-ipv6}
 use Rattle.net_addr.proofs.Texts.{bits_of_bytes, IsIpv6Text-ipv6_text}
 use Rattle.net_addr.proofs.Words.{to_be_bytes-from_be_bytes_16, from_be_bytes-below_16}
 
-neither : (a b c : Bool) → (a || b || c) ≡ false → (a ≡ false) × (b ≡ false) × (c ≡ false)
+pub neither : (a b c : Bool) → (a || b || c) ≡ false → (a ≡ false) × (b ≡ false) × (c ≡ false)
 neither false false false e = (refl, refl, refl)
 neither true b c e = cc
 neither false true c e = cc

@@ -1,7 +1,6 @@
 -- A file is read exactly as it is laid out, and has one meaning.
-use Rattle.std.proofs.Common.{◌≡◌, ℕ, ◌-◌, ◌==◌, Bool, true, false, cond, ltb, List, length, take, drop, replicate, Option, Some, None, Result, Ok, Err, ◌≢◌, refl, sym, ap, ◌∙◌, inl, inr, ⊎_elim, arith}
-use Rattle.std.proofs.lemmas.Bool.{cases_lt}
-use Rattle.std.proofs.lemmas.List.{take-append-drop, length-take, get_or-take, get_or_past}
+use Rattle.std.proofs.Common.{◌≡◌, ℕ, ◌-◌, ◌==◌, Bool, true, false, cond, ltb, List, length, take, drop, replicate, Option, Some, None, Result, Ok, Err, ◌≢◌, refl, sym, ap, ◌∙◌, inl, inr, ⊎_elim}
+use Rattle.std.proofs.lemmas.List.{take-append-drop}
 use Rattle.std.specs.Prelude.{IfOk, IfErr}
 use Rattle.std.specs.Int.{w16, w32, w64, to_le_bytes, to_be_bytes, from_le_bytes, from_be_bytes}
 use Rattle.wire_num.specs.Format as wire
@@ -9,7 +8,7 @@ use Rattle.wire_num.specs.Format.{value, map_fault}
 use Rattle.wire_num.specs.Fields.{some_bytes, byte, le, be, compact}
 use Rattle.wire_num.specs.Readings.{all_of, value_at, map_fault_at, bytes_at, byte_at, le_at, be_at, compact_at}
 use Rattle.wire_num.proofs.ReadingLaws.{AreBytes, AreBytes-rest, Reads, reads_next, Reads-value, Reads-check, Reads-times, Reads-map_fault, reads_all, one_meaning}
-use Rattle.wire_num.proofs.FieldLaws.{Reads-some_bytes, Reads-byte, Reads-number, le32, le64, be16}
+use Rattle.wire_num.proofs.FieldLaws.{Reads-some_bytes, Reads-byte, Reads-number, le32, le64, be16, AreBytes-take}
 use Rattle.wire_num.proofs.CompactLaws.{Reads-compact}
 use Rattle.addr_codecs.specs.Layout.{addrv2_address}
 use Rattle.addr_codecs.specs.Readings.{address_at}
@@ -146,13 +145,6 @@ one_meaning_of chain bytes fits = by (whole_fault chain bytes) refl
       never_both = λ a f file fault. no_and_some e file.0 is;
       no_memory = λ fault. ⊎_elim (never_whole chain bytes) (λ h. no_and_some e h.0 is) fault;
     }
-
-AreBytes-take : (n : ℕ) (bytes : List ℕ) → AreBytes bytes → AreBytes (take n bytes)
-AreBytes-take n bytes h i =
-    elim (cases_lt i n) [
-      | inl lt ↦ rw (get_or-take n bytes i 0 lt) (h i)
-      | inr le ↦ rw (get_or_past (take n bytes) i 0 (omega (arith, length-take n bytes))) (omega arith)
-    ]
 
 pub AreBytes-between : (bytes : List ℕ) → AreBytes bytes → AreBytes (between bytes)
 AreBytes-between bytes fits =

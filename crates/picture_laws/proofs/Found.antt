@@ -18,6 +18,7 @@ use Rattle.table_picture.specs.Picture.{rec_in}
 use Rattle.picture_laws.proofs.Groups.{IsGroup, group-is, key-some, key-tells}
 use Rattle.picture_laws.proofs.Listed.{count-map}
 use Rattle.picture_laws.specs.Slots.{is_of, new_slots, tried_slots}
+use Rattle.table_picture.proofs.Slots.{long}
 
 -- a record, if there is one, has a source
 abbrev pub HasSource : Places → Option Rec → Type 0
@@ -95,11 +96,6 @@ module _ (st : State) (each : All IsRec st.records) where
   count-tried p test same =
       count-buckets p (λ b s. slot_key st.places (tried_rec_at st b s)) (λ b s. test (tried_rec_at st b s)) (range_with_len 0 64) (range_with_len 0 256)
       (λ b s. same (tried_rec_at st b s) (tried-source b s))
-
--- 64 keys a bucket
-long : (f : ℕ → List ℕ) (a n : ℕ) → ((k : ℕ) → length (f k) ≡ 64) → length (flat_map f (range_with_len a n)) ≡ 64 * n
-long f a zero each = omega arith
-long f a (suc n) each = length-append (f a) (flat_map f (range_with_len (a + 1) n)) ∙ omega (arith, each a, long f (a + 1) n each)
 
 next : (m b s : ℕ) → m ≡ 64 → 64 * suc b + s ≡ m + (64 * b + s)
 next m b s e = omega arith

@@ -90,7 +90,7 @@ entry-line entry hl ha =
 abbrev EntryFits : Row → Entry → Type 0
 EntryFits row entry = IsInRange entry × (row ≡ row_of entry)
 
-abbrev row_with : ℕ → ℕ → ℕ → Row
+abbrev pub row_with : ℕ → ℕ → ℕ → Row
 row_with bits len asn = record { bits = bits; len = len; asn = asn }
 
 le_from_test : (a b : ℕ) → nat_le a b ≡ true → a ≤ b

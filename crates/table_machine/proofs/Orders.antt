@@ -43,7 +43,7 @@ others-without_position ns (o ∷ order) n i distinct same within at =
     subst (IsPermutation (others n ns)) (whole ∙ named) (IsPermutation-filter (λ m. not (m == n)) ns (n ∷ rest) moved)
 
 -- a number that is in the list has a first position
-first_within : (n : ℕ) (ns : List ℕ) → Contains ns n → position_or_len (λ m. m == n) ns < length ns
+pub first_within : (n : ℕ) (ns : List ℕ) → Contains ns n → position_or_len (λ m. m == n) ns < length ns
 first_within n [] c = absurd (none_in_nil n c)
 first_within n (m ∷ ms) c = by (m == n) refl (first_within n ms) (Contains-cases m ms n c)
   where

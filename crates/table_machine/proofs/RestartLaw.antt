@@ -111,7 +111,7 @@ pairs_before {X} R (y ∷ ys) q qs apart x c =
     ⊎_elim (λ (is : y ≡ x). subst (λ (z : X). R z q) is (pairs_head R y q (ys ++ q ∷ qs) apart (Contains-append_right ys (q ∷ qs) q (Contains-head q qs))))
     (pairs_before R ys q qs (pairs_tail R y (ys ++ q ∷ qs) apart) x) (Contains-cases y ys x c)
 
-and-no : (x y : Bool) → y ≡ false → (x && y) ≡ false
+pub and-no : (x y : Bool) → y ≡ false → (x && y) ≡ false
 and-no true y h = h
 and-no false y h = refl
 

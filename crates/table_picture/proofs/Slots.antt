@@ -6,7 +6,7 @@ use Rattle.placing.specs.Places.{Places}
 use Rattle.table_machine.specs.State.{State, new_rec_at, tried_rec_at}
 use Rattle.table_picture.specs.Keys.{slot_key, bucket_keys, new_keys, tried_bucket_keys, tried_keys, slot_keys}
 
-long : (f : ℕ → List ℕ) (a n : ℕ) → ((k : ℕ) → length (f k) ≡ 64) → length (flat_map f (range_with_len a n)) ≡ 64 * n
+pub long : (f : ℕ → List ℕ) (a n : ℕ) → ((k : ℕ) → length (f k) ≡ 64) → length (flat_map f (range_with_len a n)) ≡ 64 * n
 long f a zero each = omega arith
 long f a (suc n) each = length-append (f a) (flat_map f (range_with_len (a + 1) n)) ∙ omega (arith, each a, long f (a + 1) n each)
 

@@ -18,6 +18,7 @@ use Rattle.table_machine.proofs.Records.{same_record}
 use Rattle.table_machine.proofs.Rising.{filter_same_at, filter_whole}
 use Rattle.tables.specs.Planned.{IsPlan, dropping, state_of, stays}
 use Rattle.tables.proofs.Plans.{number-is, rising}
+use Rattle.table_machine.proofs.RestartLaw.{and-no}
 
 filter-filter : {X : Type 0} (p q : X → Bool) (xs : List X) → filter p (filter q xs) ≡ filter (λ x. q x && p x) xs
 filter-filter p q [] = refl
@@ -29,11 +30,6 @@ filter-filter {X} p q (x ∷ xs) = by (q x) (filter-filter p q xs)
 
 less-next : (a n : ℕ) → a ≢ n → nat_lt a (n + 1) ≡ nat_lt a n
 less-next a n differs = grind (arith, differs)
-
--- both, if one of them is known
-and-no : (x y : Bool) → y ≡ false → (x && y) ≡ false
-and-no true y h = h
-and-no false y h = refl
 
 and-yes : (x y : Bool) → y ≡ true → (x && y) ≡ x
 and-yes true y h = h

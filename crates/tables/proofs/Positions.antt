@@ -1,5 +1,5 @@
 -- Deletion of a number from an order, by its position.
-use Rattle.std.proofs.Common.{AllPairs, ◌≡◌, ◌≢◌, ℕ, suc, ◌+◌, ◌-◌, ◌<◌, Bool, true, false, List, [], ◌∷◌, length, get_or, set, take, Contains, Option, Some, None, position, swap_remove, refl, sym, ap, subst, ◌∙◌, inl, inr, ◌⊎◌, arith, true≢false, ◌==◌, not, if◌then◌else◌, lt-ltb}
+use Rattle.std.proofs.Common.{AllPairs, ◌≡◌, ◌≢◌, ℕ, ◌+◌, ◌-◌, ◌<◌, List, [], ◌∷◌, length, get_or, set, take, Contains, Option, Some, None, position, swap_remove, refl, sym, ap, subst, ◌∙◌, arith, ◌==◌, if◌then◌else◌, lt-ltb}
 use Rattle.std.specs.List.{position_or_len, range_with_len}
 use Rattle.std.specs.Option.{option_map_or}
 use Rattle.std.proofs.lemmas.Bool.Decides.{Decides-eqb}
@@ -7,19 +7,8 @@ use Rattle.std.proofs.lemmas.List.{get_or_default}
 use Rattle.std.proofs.lemmas.List.FromFn.{get_or-range_with_len, length-range_with_len}
 use Rattle.std.proofs.lemmas.List.Quantifiers.{position-Some}
 use Rattle.peer_rec.specs.Deletion.{without_first, without_position}
-use Rattle.table_machine.proofs.Lists.{Contains-cases, none_in_nil}
 use Rattle.tables.specs.Positions.{ArePositions}
-
--- a number that is in the list has a first position
-first_within : (n : ℕ) (ns : List ℕ) → Contains ns n → position_or_len (λ m. m == n) ns < length ns
-first_within n [] c = absurd (none_in_nil n c)
-first_within n (m ∷ ms) c = by (m == n) refl (first_within n ms) (Contains-cases m ms n c)
-  where
-    by : (b : Bool) → (m == n) ≡ b → (Contains ms n → position_or_len (λ k. k == n) ms < length ms) → (m ≡ n) ⊎ Contains ms n
-        → (if not b then 1 + position_or_len (λ k. k == n) ms else 0) < suc (length ms)
-    by true h more cases = omega arith
-    by false h more (inl one) = absurd (true≢false (sym ((Decides-eqb m n).1 one) ∙ h))
-    by false h more (inr c) = let below = more c in omega arith
+use Rattle.table_machine.proofs.Orders.{first_within}
 
 -- the default past the end is never used
 swap_remove-default : (ns : List ℕ) (i d e : ℕ) → i < length ns → swap_remove ns i d ≡ swap_remove ns i e

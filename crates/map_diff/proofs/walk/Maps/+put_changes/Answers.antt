@@ -3,7 +3,7 @@ use Rattle.std.proofs.lemmas.Result.{err_from_is_err_and}
 use Rattle.map_diff.specs.Diff.{after_bit}
 use Rattle.map_diff.specs.Inside.{AreMaps}
 use Rattle.map_diff.proofs.Results.{if_ok, if_err, by_fault}
-use Rattle.map_diff.proofs.Paths.{longer}
+use Rattle.asmap_back.proofs.Steps.{longer}
 use Rattle.map_diff.proofs.Walks.{fixed_pair, below_zero, below_one, room_at, left_fault, put_fault, right_fault, join_fault, both_sides, sides_of, side_part, whole_read}
 use Rattle.map_diff.proofs.walk.Maps.+put_changes.Goals.{In_default, After-sides-to_zero, In_ok-left, In_ok-put_pair, In_ok-right}
 use Rattle.map_diff.proofs.walk.Maps.+put_changes.Goals as goal
