@@ -1,4 +1,5 @@
 ghost use Rattle.std.specs.Prelude.{◌≡◌, ◌≢◌, ◌+◌, ◌≤◌, ◌<◌, ◌^◌, length, IfOk, OnOk, OnErr};
+ghost use Rattle.addr_codecs.specs.declared.message.TheConstants.{MAX_ENTRIES};
 ghost use Rattle.addr_codecs.specs.Layout.{IsMessage, HasMessageFault};
 ghost use Rattle.manager.specs.Step.{Step, MessageStep, LeavesEntries, SavesNothing, HasPercent, NeedsMemory, LeavesPart};
 
@@ -81,7 +82,7 @@ impl<'a, H: BuildHasher> Manager<'a, H> {
         requires percent { HasPercent command.now }
         requires room { self.old.tables.next_number < 2 ^ 62 }
         ensures step { IfOk result (λ answer. Step self.old command.now answer self.new) }
-        ensures numbers { self.new.tables.next_number ≤ self.old.tables.next_number + 1000 }
+        ensures numbers { self.new.tables.next_number ≤ self.old.tables.next_number + MAX_ENTRIES }
         ensures cause { OnErr result (NeedsMemory command.now) }
         ensures err { OnErr result (LeavesPart self.old command.now self.new) }
     {
@@ -138,7 +139,7 @@ impl<'a, H: BuildHasher> Manager<'a, H> {
         requires more { self.old.tables.next_number < 2 ^ 62 }
         ensures step { IfOk result (λ answer. MessageStep (IsMessage form payload.now)
             (HasMessageFault form payload.now) self.old source.now words.now answer self.new) }
-        ensures numbers { self.new.tables.next_number ≤ self.old.tables.next_number + 1000 }
+        ensures numbers { self.new.tables.next_number ≤ self.old.tables.next_number + MAX_ENTRIES }
         ensures err { OnErr result (LeavesEntries (IsMessage form payload.now) self.old
             source.now words.now self.new) }
     {

@@ -1,4 +1,5 @@
 ghost use Rattle.std.specs.Prelude.{◌≡◌, ◌+◌, ◌≤◌, ◌<◌, ◌^◌, length, IfOk, IfErr, OnOk, OnErr};
+ghost use Rattle.addr_codecs.specs.declared.message.TheConstants.{MAX_ENTRIES};
 ghost use Rattle.manager.specs.Messages.{clamp_time, take_entry, take_entries};
 ghost use Rattle.manager.specs.Taking.{IsAdded, AreAdded, HasFirst, IsMessageFault};
 ghost use Rattle.manager.specs.Inside.{IsEntriesFault};
@@ -51,7 +52,7 @@ pub fn take_message<H: BuildHasher, L: Ledger>(
         words.now added tables.new) }
     ensures cause { IfErr result (λ fault. IsMessageFault form payload.now tables.old now
         source.now words.now fault tables.new) }
-    ensures numbers { tables.new.next_number ≤ tables.old.next_number + 1000 }
+    ensures numbers { tables.new.next_number ≤ tables.old.next_number + MAX_ENTRIES }
 {
     match read_message(alloc, form, payload) {
         Ok(entries) => take_all(tables, entries.items(), source, words, now, steps),
@@ -70,12 +71,12 @@ fn take_all<H: BuildHasher, L: Ledger>(
     steps: &mut Steps<L>,
 ) -> Result<Added, MessageFault>
     requires more { tables.old.next_number < 2 ^ 62 }
-    requires few { length entries.now ≤ 1000 }
+    requires few { length entries.now ≤ MAX_ENTRIES }
     ensures added { IfOk result (λ added. AreAdded entries.now tables.old now source.now
         words.now added tables.new) }
     ensures cause { IfErr result (λ fault. IsEntriesFault entries.now tables.old now source.now
         words.now fault tables.new) }
-    ensures numbers { tables.new.next_number ≤ tables.old.next_number + 1000 }
+    ensures numbers { tables.new.next_number ≤ tables.old.next_number + MAX_ENTRIES }
 {
     if entries.len() > words.len() {
         return Err(MessageFault::ShortWords {
@@ -103,13 +104,13 @@ fn take_entries<H: BuildHasher, L: Ledger>(
     steps: &mut Steps<L>,
 ) -> Result<u32, Memory>
     requires more { tables.old.next_number < 2 ^ 62 }
-    requires few { length entries.now ≤ 1000 }
+    requires few { length entries.now ≤ MAX_ENTRIES }
     requires words { length entries.now ≤ length words.now }
     ensures count { IfOk result (λ count. count
         ≡ (take_entries tables.old now entries.now source.now words.now).answer) }
     ensures state { OnOk result (tables.new
         ≡ (take_entries tables.old now entries.now source.now words.now).state) }
-    ensures numbers { tables.new.next_number ≤ tables.old.next_number + 1000 }
+    ensures numbers { tables.new.next_number ≤ tables.old.next_number + MAX_ENTRIES }
     ensures err { OnErr result (HasFirst entries.now tables.old now source.now words.now
         tables.new) }
 {
