@@ -5,8 +5,8 @@ use Rattle.table_machine.specs.Snapshot.{snapshot_of}
 use Rattle.peers_file.specs.Texts.{file_text}
 use Rattle.peers_file.specs.declared.chain.Chain.{Chain}
 use Rattle.save_requests.specs.Requests.{Request, IsSafeSave, save_requests}
-use Rattle.save_requests.specs.declared.request.SaveRequest.{SaveRequest}
-use Rattle.save_requests.specs.declared.request.SaveRequest.TheVariants.{Create, Append, Sync, Rename, SyncDir}
+use Rattle.save_requests.specs.declared.requests.SaveRequest.{SaveRequest}
+use Rattle.save_requests.specs.declared.requests.SaveRequest.TheVariants.{Create, Append, Sync, Rename, SyncDir}
 use Rattle.addrman_c.specs.declared.code.TheConstants.{OK, CLOSED, MEMORY, ARGUMENT, NONE}
 use Rattle.addrman_c.specs.declared.save_handle.KeptSave.{KeptSave}
 use Rattle.addrman_c.specs.Values.{IsPut}

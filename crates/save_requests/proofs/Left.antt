@@ -5,8 +5,8 @@ use Rattle.std.proofs.lemmas.Bool.{eqb-true}
 use Rattle.std.proofs.lemmas.List.{length-drop, drop-drop}
 use Rattle.save_requests.specs.Requests.{Request, ask_append, ending, next_of, piece_of, pieces}
 use Rattle.save_requests.specs.Inside.{asked_at, left_at, piece_at, stage_after}
-use Rattle.save_requests.specs.declared.request.Stage.{Stage}
-use Rattle.save_requests.specs.declared.request.Stage.TheVariants.{Create, Append, Sync, Rename, SyncDir, Saved}
+use Rattle.save_requests.specs.declared.requests.Stage.{Stage}
+use Rattle.save_requests.specs.declared.requests.Stage.TheVariants.{Create, Append, Sync, Rename, SyncDir, Saved}
 use Rattle.save_requests.proofs.Pieces.{one_more}
 
 -- what is appended, and what comes after it

@@ -1,10 +1,10 @@
 -- Definitions for private contracts.
 use Rattle.std.specs.Prelude.{ℕ, List, [], ◌∷◌, ◌++◌, map, take, Option, Some, None, ◌==◌, if◌then◌else◌}
 use Rattle.save_requests.specs.Requests.{Request, ask, ask_append, ending, pieces, save_requests}
-use Rattle.save_requests.specs.declared.request.SaveRequest.{SaveRequest}
-use Rattle.save_requests.specs.declared.request.SaveRequest.TheVariants as request
-use Rattle.save_requests.specs.declared.request.Stage.{Stage}
-use Rattle.save_requests.specs.declared.request.Stage.TheVariants.{Create, Append, Sync, Rename, SyncDir, Saved}
+use Rattle.save_requests.specs.declared.requests.SaveRequest.{SaveRequest}
+use Rattle.save_requests.specs.declared.requests.SaveRequest.TheVariants as request
+use Rattle.save_requests.specs.declared.requests.Stage.{Stage}
+use Rattle.save_requests.specs.declared.requests.Stage.TheVariants.{Create, Append, Sync, Rename, SyncDir, Saved}
 
 -- what is asked for from a stage on, with the bytes that are not yet appended
 abbrev pub left_at : Stage → ℕ → List ℕ → List Request

@@ -4,8 +4,8 @@ use Rattle.host_io.specs.Disk.{Disk, Partly, PartlyAppended, after_create, after
 use Rattle.host_io.specs.Past.{Past, AfterFault, Always, after}
 use Rattle.host_io.specs.declared.name.Name.{Name}
 use Rattle.save_store.specs.Saves.{PublishesOrNot, IsStored}
-use Rattle.save_requests.specs.declared.request.SaveRequest.{SaveRequest}
-use Rattle.save_requests.specs.declared.request.SaveRequest.TheVariants.{Create, Append, Sync, Rename, SyncDir}
+use Rattle.save_requests.specs.declared.requests.SaveRequest.{SaveRequest}
+use Rattle.save_requests.specs.declared.requests.SaveRequest.TheVariants.{Create, Append, Sync, Rename, SyncDir}
 
 -- what to do, and the bytes to append, if it is that
 pub record Request : Type 0 where

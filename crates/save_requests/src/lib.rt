@@ -10,8 +10,6 @@
 //! Tested besides: the saves of `libaddrman`'s callers (`tools/lib_test`).
 #![tactic(auto)]
 
-mod request;
 mod requests;
 
-pub use request::SaveRequest;
-pub use requests::SaveRequests;
+pub use requests::{SaveRequest, SaveRequests};

@@ -2,9 +2,34 @@ ghost use Rattle.std.specs.Prelude.{◌≡◌, ◌<◌, ◌≤◌, length, drop}
 ghost use Rattle.save_requests.specs.Requests.{next_of, piece_of, save_requests, IsSafeSave};
 ghost use Rattle.save_requests.specs.Inside.{asked_at, piece_at, stage_after};
 
-use crate::request::{SaveRequest, Stage};
 use host_io::Bytes;
 use std::marker::Model;
+
+/// What a save asks its caller to do in the folder of the file.
+#[derive(Clone, Copy)]
+pub enum SaveRequest {
+    /// Make an empty file with the temporary name.
+    Create,
+    /// Append bytes to the temporary file.
+    Append,
+    /// Make the bytes of the temporary file safe, as `fsync` of it does.
+    Sync,
+    /// Rename the temporary file to the name of the file that is saved.
+    Rename,
+    /// Make the names of the folder safe, as `fsync` of the folder does.
+    SyncDir,
+}
+
+/// How far a save has come: what is asked for next.
+#[derive(Clone, Copy)]
+pub(crate) enum Stage {
+    Create,
+    Append,
+    Sync,
+    Rename,
+    SyncDir,
+    Saved,
+}
 
 /// A save that hands out one request after another: `next` and `bytes` say what to do, and `done`
 /// is called once that has succeeded. If it fails, the save is over: it is dropped, and the file is
@@ -21,7 +46,7 @@ impl Model for SaveRequests {
     ghost use Rattle.std.specs.Prelude.{◌≡◌, ◌<◌, ◌≤◌, List, length, drop};
     ghost use Rattle.save_requests.specs.Requests.{Request};
     ghost use Rattle.save_requests.specs.Inside.{left_at};
-    ghost use Rattle.save_requests.specs.declared.request.Stage.TheVariants.{Append};
+    ghost use Rattle.save_requests.specs.declared.requests.Stage.TheVariants.{Append};
 
     ghost Value = { List Request };
 
