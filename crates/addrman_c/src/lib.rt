@@ -1,14 +1,13 @@
 //! The address manager for programs in C and in what links C: a static library. Its header is
 //! `bindings/addrman.h`.
 //!
-//! Only `handle` has raw pointers. A handle is open or closed, and a call on a closed one
+//! Only the handles have raw pointers. A handle is open or closed, and a call on a closed one
 //! returns a code.
 //!
 //! Proved: each export states what it returns, writes and leaves by the tables before it, in the
 //! words of `table_machine` (`specs/Calls.antt`). None has a condition.
 #![tactic(auto)]
 
-mod abi;
 mod asmaps;
 mod bans;
 mod bans_handle;
@@ -22,12 +21,10 @@ mod limiter_handle;
 mod limits;
 mod loading;
 mod marks;
-mod nets;
 mod opener;
 mod opening;
 mod output;
 mod picks;
-mod reads;
 mod records;
 mod sampling;
 mod save_handle;
@@ -37,7 +34,6 @@ mod text;
 mod values;
 mod writing;
 
-pub use abi::addrman_abi;
 pub use asmaps::{addrman_asmap_compile, addrman_asmap_decompile};
 pub use bans::{
     addrman_bans_add, addrman_bans_close, addrman_bans_covering, addrman_bans_open,
@@ -62,14 +58,13 @@ pub use opener::{
 };
 pub use opening::{addrman_close, addrman_open};
 pub use picks::{addrman_resolve_collisions, addrman_select, addrman_select_collision};
-pub use reads::addrman_size;
-pub use records::{addrman_find, addrman_records};
+pub use records::{addrman_find, addrman_records, addrman_size};
 pub use sampling::addrman_sample;
 pub use save_handle::{KeptSave, LooseSave, SaveHandle};
 pub use saves::{addrman_save_begin, addrman_save_close, addrman_save_done, addrman_save_next};
 pub use structs::{
     AddrmanAdded, AddrmanBan, AddrmanCounts, AddrmanFault, AddrmanLimits, AddrmanPicked,
-    AddrmanRecord, AddrmanResolved,
+    AddrmanRecord, AddrmanResolved, addrman_abi,
 };
 pub use text::{addrman_addr_parse, addrman_addr_text, addrman_peer_parse, addrman_peer_text};
 pub use values::{AddrmanAddr, AddrmanPeer};

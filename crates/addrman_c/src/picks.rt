@@ -7,9 +7,8 @@ ghost use Rattle.addrman_c.specs.OnHandle.{OnTables};
 
 use crate::code::{CLOSED, EXHAUSTED, NONE, OK};
 use crate::handle::Handle;
-use crate::nets::read_nets;
 use crate::structs::{AddrmanPicked, AddrmanResolved};
-use crate::values::write_peer;
+use crate::values::{read_nets, write_peer};
 use keyed_hasher::Keyed;
 use net_addr::{NetSet, Peer};
 use picking::Picked;

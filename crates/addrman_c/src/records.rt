@@ -1,12 +1,12 @@
-ghost use Rattle.std.specs.Prelude.{◌≡◌, ◌≢◌, ◌≤◌, length, take, drop};
-ghost use Rattle.peer_rec.specs.Rec.{buckets_by};
+ghost use Rattle.std.specs.Prelude.{◌≡◌, ◌≢◌, ◌≤◌, length, take, drop, count_by, not};
+ghost use Rattle.peer_rec.specs.Rec.{buckets_by, is_tried};
 ghost use Rattle.addrman_c.specs.Values.{peer_in};
 ghost use Rattle.addrman_c.specs.Calls.{FindCall, IsRecord, AreRecords, RecordsCall};
 ghost use Rattle.addrman_c.specs.OnHandle.{OnTables};
 
 use crate::code::{ARGUMENT, CLOSED, MEMORY, NONE, OK, SHORT_BUFFER};
 use crate::handle::Handle;
-use crate::structs::AddrmanRecord;
+use crate::structs::{AddrmanCounts, AddrmanRecord};
 use crate::values::{AddrmanPeer, read_peer, write_addr, write_peer};
 use keyed_hasher::Keyed;
 use net_addr::Peer;
@@ -133,4 +133,31 @@ pub extern "C" fn addrman_records(
     let code = records_on(&kept.tables, out, length);
     handle.put(kept);
     code
+}
+
+/// Counts the records and the collisions.
+#[unsafe(no_mangle)]
+pub extern "C" fn addrman_size(
+    alloc: Global,
+    handle: &mut Handle,
+    counts: &mut AddrmanCounts,
+) -> u32
+    ensures call { OnTables handle.old.loose.kept result handle.new.loose.kept (λ old new.
+        (result ≡ OK) × (counts.new.new_count ≡ count_by (λ r. not (is_tried r)) old.records)
+        × (counts.new.tried_count ≡ count_by is_tried old.records)
+        × (counts.new.collisions ≡ length old.collisions)
+        × (new ≡ old)) }
+    ensures same { result ≢ OK → counts.new ≡ counts.old }
+{
+    let Some(kept) = handle.take(alloc) else {
+        return CLOSED;
+    };
+    let found = kept.tables.counts();
+    handle.put(kept);
+    *counts = AddrmanCounts {
+        new_count: found.new_count,
+        tried_count: found.tried_count,
+        collisions: found.clashes,
+    };
+    OK
 }

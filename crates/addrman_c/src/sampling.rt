@@ -5,8 +5,7 @@ ghost use Rattle.addrman_c.specs.OnHandle.{OnTables};
 
 use crate::code::{ARGUMENT, CLOSED, MEMORY, OK, SHORT_BUFFER, SHORT_WORDS};
 use crate::handle::Handle;
-use crate::nets::read_nets;
-use crate::values::{AddrmanPeer, write_peer};
+use crate::values::{AddrmanPeer, read_nets, write_peer};
 use keyed_hasher::Keyed;
 use net_addr::{NetSet, Peer};
 use picking::SampleFault;

@@ -1,6 +1,5 @@
 ghost use Rattle.std.specs.Prelude.{◌≡◌, ◌≢◌, ◌<◌, Option, None, IfSome};
 ghost use Rattle.peers_file.specs.Texts.{file_text};
-ghost use Rattle.save_requests.specs.Requests.{save_requests, IsSafeSave};
 ghost use Rattle.table_machine.specs.Snapshot.{snapshot_of};
 ghost use Rattle.addrman_c.specs.Files.{chain_of};
 ghost use Rattle.addrman_c.specs.OnHandle.{OnTables};

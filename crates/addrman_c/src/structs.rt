@@ -1,3 +1,5 @@
+ghost use Rattle.std.specs.Prelude.{◌≡◌};
+
 use crate::values::{AddrmanAddr, AddrmanPeer};
 
 /// How many entries a message has, and how many of them got a slot.
@@ -82,4 +84,12 @@ pub struct AddrmanLimits {
     pub limited: u32,
     pub asked: u32,
     pub unlimited: u32,
+}
+
+/// Returns the number of the structs' layout and of the calls, `ADDRMAN_ABI` in the header.
+#[unsafe(no_mangle)]
+pub extern "C" fn addrman_abi() -> u32
+    ensures { result ≡ 1 }
+{
+    1
 }

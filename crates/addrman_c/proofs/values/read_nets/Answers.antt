@@ -1,6 +1,6 @@
 use Rattle.std.proofs.Common.{◌%◌, arith}
 use Rattle.addrman_c.proofs.Sets.{set_of_bits}
-use Rattle.addrman_c.proofs.nets.read_nets.Goals as goal
+use Rattle.addrman_c.proofs.values.read_nets.Goals as goal
 
 pub returns : goal.returns
 returns c =
