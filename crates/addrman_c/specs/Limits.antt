@@ -41,8 +41,8 @@ asked_number Unknown = 0
 asked_number Already = 1
 asked_number Granted = 2
 
--- How many entries of a message are admitted. A count above the maximum of a message is refused, and
--- a number may have no connection.
+-- How many entries of a message are admitted. A count above the maximum of a message is refused,
+-- and a number may have no connection.
 abbrev pub AdmitCall : ℕ → ℕ → Option Conn → List Conn → ℕ → ℕ → List Conn → Type 0
 AdmitCall count now found old code admitted new =
     ((MAX_ENTRIES < count) × (code ≡ ARGUMENT) × (new ≡ old))
