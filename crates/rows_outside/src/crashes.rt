@@ -1,5 +1,6 @@
 // What crashes leave of a folder in memory in which three files were made and the folder was not
-// synced: each mix of what may be at their names.
+// synced: each mix of what may be at their names. Then the same after it was synced, and after one
+// of the files was renamed and synced.
 use host_io::{Bytes, Failed, Folder, MemFolder, Memory, Name};
 use save_store::{SaveJob, write_temp};
 use std::alloc::Global;
@@ -49,18 +50,50 @@ fn print_crash<R: Print>(rt: &R, folder: &MemFolder, choice: u64) -> io::Result<
     }
 }
 
-/// Prints what crashes with the choices 0 to 15 leave of the folder, the last of which begins anew.
-fn print_each<R: Print>(rt: &R, folder: &MemFolder) -> io::Result<()> {
-    for choice in 0..16u64 {
+/// Prints what crashes with the choices below `count` leave of the folder.
+fn print_each<R: Print>(rt: &R, folder: &MemFolder, count: u64) -> io::Result<()> {
+    for choice in 0..count {
         print_crash(rt, folder, choice)?;
     }
     Ok(())
 }
 
+/// Renames peers.tmp to peers.dat and syncs the file, but not the folder.
+fn move_file<F: Folder>(folder: &mut F) -> Result<(), Failed> {
+    if let Some(_) = folder.size(Name::PeersTemp)? {
+        folder.rename(Name::PeersTemp, Name::Peers)?;
+    }
+    if let Some(_) = folder.size(Name::Peers)? {
+        folder.sync(Name::Peers)?;
+    }
+    Ok(())
+}
+
+/// Prints how these calls of the folder ended, and what crashes with the choices 0 to 8 leave.
+fn print_after<R: Print>(
+    rt: &R,
+    folder: &MemFolder,
+    calls: &str,
+    done: Result<(), Failed>,
+) -> io::Result<()> {
+    println!(rt; "{calls}: {done:?}")?;
+    print_each(rt, folder, 9)
+}
+
+/// Prints what crashes leave of the folder with those files: with the choices 0 to 15, the last of
+/// which begins anew, and after the further calls.
+fn print_three<R: Print>(rt: &R, folder: &mut MemFolder) -> io::Result<()> {
+    print_each(rt, folder, 16)?;
+    let done = folder.sync_dir();
+    print_after(rt, folder, "folder synced", done)?;
+    let done = move_file(folder);
+    print_after(rt, folder, "renamed and synced", done)
+}
+
 /// Prints what crashes leave of the folder once it has those files.
 fn print_filled<R: Print + AllocGlobal>(rt: &R, folder: &mut MemFolder) -> io::Result<()> {
     match fill(rt.alloc(), folder) {
-        Ok(()) => print_each(rt, folder),
+        Ok(()) => print_three(rt, folder),
         Err(_) => println!(rt; "no files"),
     }
 }
