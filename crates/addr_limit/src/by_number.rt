@@ -1,4 +1,4 @@
-ghost use Rattle.std.specs.Prelude.{◌≡◌, ◌≤◌, ◌++◌, [], ◌∷◌, Option, None, is_some, take, vec_len, IfSome, IfOk, OnOk, OnErr, option_map, option_copied};
+ghost use Rattle.std.specs.Prelude.{◌≡◌, ◌++◌, [], ◌∷◌, Option, None, is_some, IfSome, IfOk, OnOk, OnErr, option_map, option_copied};
 ghost use Rattle.addr_limit.specs.State.{find_conn, with_conn, without_conn, set_conn};
 ghost use Rattle.addr_limit.specs.Steps.{new_conn, serve, serve_none};
 ghost use Rattle.addr_limit.specs.Tokens.{refill, intake_count};

@@ -28,7 +28,7 @@ impl<H: BuildHasher> Model for LimitLog<H> {
 }
 
 impl<H: BuildHasher> LimitLog<H> {
-    ghost use Rattle.std.specs.Prelude.{◌≡◌, ◌≢◌, ◌≤◌, ◌++◌, ◌⊎◌, [], ◌∷◌, ℕ, List, length, Err, OnOk, OnErr};
+    ghost use Rattle.std.specs.Prelude.{◌≡◌, ◌≢◌, ◌++◌, ◌⊎◌, [], ◌∷◌, ℕ, List, length, Err, OnOk, OnErr};
     ghost use Rattle.addr_limit.specs.State.{start};
     ghost use Rattle.addr_limit.specs.Steps.{after_event, output, serve_in};
     ghost use Rattle.addr_limit.specs.declared.event.Event.TheVariants.{Of};

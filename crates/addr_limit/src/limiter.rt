@@ -33,7 +33,7 @@ impl<H: BuildHasher> Limiter<H> {
     ghost use Rattle.addr_limit.specs.declared.conn.Conn.{Conn};
     ghost use Rattle.addr_limit.specs.State.{find_conn, without_conn, set_conn, IsBounded, AreRising};
     ghost use Rattle.addr_limit.specs.Steps.{new_conn, serve};
-    ghost use Rattle.addr_limit.specs.Tokens.{refill, intake, intake_count, admit_conn};
+    ghost use Rattle.addr_limit.specs.Tokens.{refill, intake, intake_count};
     ghost use Rattle.addr_limit.specs.Calls.{asked_of, after_open, after_asking, after_taking, after_message};
     ghost use Rattle.addr_limit.specs.Inside.{IsShort};
 

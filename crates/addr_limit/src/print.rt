@@ -1,4 +1,4 @@
-ghost use Rattle.std.specs.Prelude.{◌≡◌, ◌++◌, [], ◌∷◌, codes, decimal, map, ℕ, List, if◌then◌else◌, IfOk, OnOk};
+ghost use Rattle.std.specs.Prelude.{◌≡◌, ◌++◌, [], ◌∷◌, codes, map, ℕ, List, if◌then◌else◌, IfOk, OnOk};
 ghost use Rattle.net_addr.specs.declared.entry.Entry.{Entry};
 ghost use Rattle.log_lines.specs.Replies.{reply_line, numbers_text};
 ghost use Rattle.addr_limit.specs.Steps.{comment, stat_text, addrv2_line, message_line, limit_message, serve_none, serve_conn};

@@ -6,7 +6,7 @@ use Rattle.host_io.specs.declared.name.Name.TheVariants as name
 use Rattle.asmap_vm.specs.Asmap.{Asmap}
 use Rattle.peers_file.specs.declared.chain.Chain.{Chain}
 use Rattle.addrman_run.specs.Asmaps.{IsMapAt}
-use Rattle.addrman_run.specs.Diff.{AreMapsIn, HasMaps, IsDifference, LacksFile, ReportsDiff}
+use Rattle.addrman_run.specs.Diff.{AreMapsIn, IsDifference, LacksFile, ReportsDiff}
 use Rattle.addrman_run.specs.Inside.{IsLoaded, IsNoDifference, IsNoRecords, IsNoSnapshot, IsNotLoaded}
 use Rattle.addrman_run.specs.TextOut.{TextOut}
 use Rattle.addrman_run.specs.declared.input.Input.TheVariants as input

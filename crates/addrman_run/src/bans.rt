@@ -1,4 +1,4 @@
-ghost use Rattle.std.specs.Prelude.{◌≡◌, ◌≤◌, ℕ, List, Err, Some, IfOk, IfErr, option_map, ⊤};
+ghost use Rattle.std.specs.Prelude.{◌≡◌, ℕ, List, Err, Some, IfOk, IfErr, option_map, ⊤};
 ghost use Rattle.ban_list.specs.BanFile.{IsBanFile, bans_text};
 ghost use Rattle.ban_list.specs.Bans.{ban_of};
 ghost use Rattle.ban_list.specs.Subnet.{IsProper};

@@ -1,4 +1,4 @@
-ghost use Rattle.std.specs.Prelude.{◌≡◌, ◌≢◌, ◌≤◌, ℕ, Option, length};
+ghost use Rattle.std.specs.Prelude.{◌≡◌, ◌≢◌, ◌≤◌, Option, length};
 ghost use Rattle.bit_code.specs.declared.bits.TheConstants.{MAX_ASMAP};
 ghost use Rattle.host_io.specs.Past.{Past};
 ghost use Rattle.host_io.specs.declared.name.Name.TheVariants as name;

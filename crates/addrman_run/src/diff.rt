@@ -8,7 +8,7 @@ ghost use Rattle.map_diff.specs.Diff.{changed_prefixes};
 ghost use Rattle.placing.specs.Inside.{asmap_of};
 ghost use Rattle.prefix_table.specs.declared.row.TheConstants.{MAX_ROWS};
 ghost use Rattle.addrman_run.specs.Asmaps.{IsMapAt};
-ghost use Rattle.addrman_run.specs.Diff.{AreChangeLines, AreMapsIn, AreRecordLines, IsDifference, ReportsDiff};
+ghost use Rattle.addrman_run.specs.Diff.{AreChangeLines, AreRecordLines, IsDifference, ReportsDiff};
 ghost use Rattle.addrman_run.specs.InFolder.{ReportsAbsence};
 ghost use Rattle.addrman_run.specs.Inside.{IsNoDifference, IsNoRecords};
 ghost use Rattle.addrman_run.specs.TextOut.{TextOut};

@@ -1,4 +1,4 @@
-ghost use Rattle.std.specs.Prelude.{◌≡◌, ℕ, ◌-◌, ◌<◌, ◌≤◌, Bool, true, false, length, IfOk, slice_index_or};
+ghost use Rattle.std.specs.Prelude.{◌≡◌, ℕ, ◌-◌, ◌<◌, ◌≤◌, true, false, length, IfOk, slice_index_or};
 ghost use Rattle.prefix_table.specs.Rows.{IsTable, row_covers, first_bits};
 ghost use Rattle.prefix_table.specs.declared.row.Row.{Row};
 ghost use Rattle.asmap_compile.specs.Compiled.{rows_kept};

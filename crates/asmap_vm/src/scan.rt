@@ -1,4 +1,4 @@
-ghost use Rattle.std.specs.Prelude.{◌≡◌, ℕ, ◌+◌, ◌-◌, ◌^◌, ◌<◌, ◌≤◌, ◌↔◌, ◌≢◌, [], ◌∷◌, true, false, IsTrue, length, drop, if◌then◌else◌, nat_lt};
+ghost use Rattle.std.specs.Prelude.{◌≡◌, ◌+◌, ◌-◌, ◌^◌, ◌<◌, ◌≤◌, ◌↔◌, ◌≢◌, [], ◌∷◌, true, false, IsTrue, length, drop, if◌then◌else◌};
 ghost use Rattle.asmap_vm.specs.declared.stack.RightPart.{RightPart};
 ghost use Rattle.asmap_vm.specs.Matches.{match_size};
 ghost use Rattle.asmap_vm.specs.Scanning.{Completes, IsUnderWay, IsPadding, IsStuck, Advances, after_match, start};

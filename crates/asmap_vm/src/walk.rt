@@ -1,4 +1,4 @@
-ghost use Rattle.std.specs.Prelude.{◌≡◌, ℕ, ◌+◌, ◌^◌, ◌<◌, ◌≤◌, Bool, length, IfNone};
+ghost use Rattle.std.specs.Prelude.{◌≡◌, ℕ, ◌+◌, ◌^◌, ◌<◌, ◌≤◌, length, IfNone};
 ghost use Rattle.bit_code.specs.Coder.{has_bit, digits};
 ghost use Rattle.bit_code.specs.Prefixes.{begins_with};
 ghost use Rattle.asmap_vm.specs.Matches.{match_bits, match_size};

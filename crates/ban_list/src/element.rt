@@ -1,4 +1,4 @@
-ghost use Rattle.std.specs.Prelude.{◌≡◌, ◌<◌, ◌^◌, ℕ, Some, IfSome, codes, string_bytes, option_and_then, true, false, min, option_map};
+ghost use Rattle.std.specs.Prelude.{◌≡◌, ◌<◌, Some, IfSome, codes, option_and_then, true, false, min, option_map};
 ghost use Rattle.serde_json.specs.Find.{get, as_number, as_str, as_u64};
 ghost use Rattle.serde_json.specs.View.{view};
 ghost use Rattle.ban_list.specs.Subnet.{IsProper};

@@ -1,9 +1,9 @@
-ghost use Rattle.std.specs.Prelude.{◌≡◌, ◌≢◌, ℕ, List, ◌∷◌, ◌++◌, ◌≤◌, Some, None, All, IfSome, IfNone, length, codes, true, false};
-ghost use Rattle.net_addr.specs.Address.{Address, IsAddress, length_of};
+ghost use Rattle.std.specs.Prelude.{◌≡◌, ◌≢◌, ◌≤◌, Some, None, IfSome, length, true, false};
+ghost use Rattle.net_addr.specs.Address.{Address, IsAddress};
 ghost use Rattle.net_addr.specs.declared.net.Net.{Net};
 ghost use Rattle.net_addr.specs.declared.net.Net.TheVariants.{Ipv6};
 ghost use Rattle.ban_list.specs.Subnet.{IsProper, IsMasked, IsWhole, width};
-ghost use Rattle.ban_list.specs.SubnetText.{IsIpText, IsLength, IsMaskedFrom, IsSubnetText, IsWholeSubnet};
+ghost use Rattle.ban_list.specs.SubnetText.{IsIpText, IsMaskedFrom, IsSubnetText, IsWholeSubnet};
 ghost use Rattle.ban_list.specs.declared.subnet.Subnet.{Subnet};
 
 use crate::Subnet;

@@ -1,9 +1,9 @@
-ghost use Rattle.std.specs.Prelude.{◌≡◌, ◌<◌, ◌^◌, All, IfOk, map, codes, string_bytes, IsUtf8};
+ghost use Rattle.std.specs.Prelude.{◌≡◌, ◌<◌, All, IfOk, map, codes, string_bytes, IsUtf8};
 ghost use Rattle.serde_json.specs.Data.{object, member, array, no_members};
 ghost use Rattle.serde_json.specs.View.{view, items_view};
 ghost use Rattle.ban_list.specs.Subnet.{IsProper};
 ghost use Rattle.ban_list.specs.SubnetText.{IsSubnetText, subnet_text};
-ghost use Rattle.ban_list.specs.BanFile.{IsBanFile, IsReadBack, ban_data, file_data, bans_text};
+ghost use Rattle.ban_list.specs.BanFile.{IsBanFile, IsReadBack, ban_data, bans_text};
 
 use crate::{Ban, Bans, Memory, Subnet, put_subnet};
 use host_io::Bytes;

@@ -1,4 +1,4 @@
-ghost use Rattle.std.specs.Prelude.{◌≡◌, ◌+◌, ◌-◌, ◌*◌, ◌^◌, ◌<◌, ◌≤◌, Bool, List, ◌++◌, Some, drop, length};
+ghost use Rattle.std.specs.Prelude.{◌≡◌, ◌+◌, ◌-◌, ◌<◌, ◌≤◌, Bool, List, ◌++◌, Some, drop, length};
 ghost use Rattle.bit_code.specs.Coder.{low_digits, coder_after};
 ghost use Rattle.bit_code.specs.Reading.{read_value};
 ghost use Rattle.bit_code.specs.Inside.{longest, class_head, IsClass, HasClasses};

@@ -1,5 +1,5 @@
-ghost use Rattle.std.specs.Prelude.{◌≡◌, ◌≤◌, ◌+◌, ◌++◌, codes, decimal, length, take, All, IfOk, OnOk, vec_len};
-ghost use Rattle.net_addr.specs.declared.net.Net.TheVariants.{Ipv4, Ipv6};
+ghost use Rattle.std.specs.Prelude.{◌≡◌, ◌≤◌, ◌+◌, ◌++◌, length, take, All, IfOk, OnOk, vec_len};
+ghost use Rattle.net_addr.specs.declared.net.Net.TheVariants.{Ipv4};
 ghost use Rattle.addr_codecs.specs.Texts.{addr_entry_text, message_text};
 ghost use Rattle.gen_load.specs.Inside.{payload_text};
 ghost use Rattle.gen_load.specs.declared.line.TheConstants.{MAX_MESSAGE};

@@ -1,4 +1,4 @@
-ghost use Rattle.std.specs.Prelude.{◌≡◌, ◌≢◌, ◌≤◌, ◌⊎◌, ℕ, List, decimal, length, IfOk, IfSome, Some, Ok, Err};
+ghost use Rattle.std.specs.Prelude.{◌≡◌, ◌≢◌, ◌≤◌, ◌⊎◌, ℕ, List, decimal, IfOk, IfSome, Some, Ok, Err};
 ghost use Rattle.grammar.specs.Fields.{Means, Number, Either, TheNumber, TheChoice, IsFieldFault, IsHex};
 
 use crate::LineFault;

@@ -1,4 +1,4 @@
-ghost use Rattle.std.specs.Prelude.{◌≡◌, ◌≢◌, ◌⊎◌, ◌↔◌, ℕ, List, [], ◌∷◌, length, IfOk, IsTrue, Err};
+ghost use Rattle.std.specs.Prelude.{◌≡◌, ◌≢◌, ◌⊎◌, ◌↔◌, List, [], ◌∷◌, length, IfOk, IsTrue, Err};
 ghost use Rattle.grammar.specs.Fields.{Kind, Value, Means, AllMean, AreAtFault, IsFieldFault, IsFirstFault};
 ghost use Rattle.grammar.specs.declared.fault.LineFault.{LineFault};
 

@@ -1,4 +1,4 @@
-ghost use Rattle.std.specs.Prelude.{◌≡◌, ◌≢◌, List, codes, IfOk, IfSome, IfNone, IsTrue, Err};
+ghost use Rattle.std.specs.Prelude.{◌≡◌, List, codes, IfOk, IfSome, IfNone, IsTrue, Err};
 ghost use Rattle.grammar.specs.Fields.{Means, Nets, Classes, TheNets, AreNames, IsFieldFault, set_of};
 ghost use Rattle.net_addr.specs.declared.net.Net as net;
 

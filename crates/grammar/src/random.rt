@@ -1,4 +1,4 @@
-ghost use Rattle.std.specs.Prelude.{◌≡◌, ◌≤◌, ◌<◌, ◌^◌, ◌⊎◌, ◌∷◌, ℕ, List, codes, length, vec_len, IfOk, IsTrue, Ok, Err};
+ghost use Rattle.std.specs.Prelude.{◌≡◌, ◌≤◌, ◌<◌, ◌^◌, ◌⊎◌, ◌∷◌, ℕ, List, codes, length, IfOk, IsTrue, Ok, Err};
 ghost use Rattle.grammar.specs.Fields.{AreWords, AreNumbers, AreSeeded};
 ghost use Rattle.grammar.specs.Random.{seeded_words};
 ghost use Rattle.grammar.specs.declared.random.TheConstants.{MAX_WORDS_TEXT};

@@ -1,4 +1,4 @@
-ghost use Rattle.std.specs.Prelude.{◌≡◌, ◌≢◌, ◌<◌, ◌≤◌, ◌↔◌, ◌++◌, [], length, min, take, drop, IsErr, IsSome, IfOk, IfSome, OnOk, OnErr, Some, None};
+ghost use Rattle.std.specs.Prelude.{◌≡◌, ◌≢◌, ◌<◌, ◌≤◌, ◌++◌, [], length, min, take, drop, IsErr, IsSome, IfOk, IfSome, OnOk, OnErr, Some, None};
 ghost use Rattle.std.specs.Option.{option_map};
 ghost use Rattle.host_io.specs.Disk.{IsImage, Partly, PartlyAppended, after_append, after_create, after_rename, after_sync, after_sync_dir};
 ghost use Rattle.host_io.specs.Faults.{Rose};

@@ -25,7 +25,7 @@ impl Model for Buffer {
 }
 
 impl Buffer {
-    ghost use Rattle.std.specs.Prelude.{◌≡◌, ◌+◌, ◌<◌, ◌≤◌, ◌↔◌, ◌++◌, ℕ, List, [], length, drop, take, IfOk, IfSome, IfNone, OnOk, OnErr, IsErrOf, None, vec_len};
+    ghost use Rattle.std.specs.Prelude.{◌≡◌, ◌+◌, ◌<◌, ◌≤◌, ◌↔◌, ◌++◌, ℕ, List, [], length, drop, IfOk, IfSome, IfNone, OnOk, OnErr, IsErrOf, None, vec_len};
     ghost use Rattle.host_io.specs.Faults.{Rose};
     ghost use Rattle.host_io.specs.Reading.{MovesBytes};
 

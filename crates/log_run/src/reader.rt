@@ -29,7 +29,7 @@ impl Model for LogReader {
 }
 
 impl LogReader {
-    ghost use Rattle.std.specs.Prelude.{◌≡◌, ◌≢◌, ◌+◌, ◌<◌, ◌≤◌, ℕ, List, [], length, drop, take, Bool, true, false, IsTrue, IfOk, IfErr, IfSome, IfNone, Ok, Err, Some, None, OnOk, OnErr, IsErrOf};
+    ghost use Rattle.std.specs.Prelude.{◌≡◌, ◌≢◌, ◌+◌, ◌<◌, ◌≤◌, ℕ, List, [], length, drop, take, true, false, IsTrue, IfOk, IfErr, IfSome, IfNone, Ok, Err, Some, None, OnOk, OnErr, IsErrOf};
     ghost use Rattle.host_io.specs.Faults.{Rose};
     ghost use Rattle.host_io.specs.Reading.{MovesBytes};
     ghost use Rattle.log_run.specs.Log.{HasNoFeed, IsAtEnd};

@@ -1,4 +1,4 @@
-ghost use Rattle.std.specs.Prelude.{◌≡◌, ◌+◌, ◌<◌, ◌≤◌, ◌↔◌, ◌++◌, ℕ, List, [], length, drop, take, IfOk, IfSome, IfNone, OnOk, OnErr, Some, None, vec_len};
+ghost use Rattle.std.specs.Prelude.{◌≡◌, ◌+◌, ◌<◌, ◌≤◌, ◌↔◌, ℕ, [], length, drop, take, IfOk, IfSome, IfNone, OnErr, Some, None, vec_len};
 ghost use Rattle.host_io.specs.Faults.{Rose};
 ghost use Rattle.log_run.specs.Parts.{between};
 

@@ -1,4 +1,4 @@
-ghost use Rattle.std.specs.Prelude.{◌≡◌, ◌≢◌, ◌+◌, ℕ};
+ghost use Rattle.std.specs.Prelude.{◌≡◌, ◌≢◌, ◌+◌};
 ghost use Rattle.host_io.specs.Reading.{TakesAtMost};
 ghost use Rattle.grammar.specs.declared.fault.LineFault.{LineFault};
 ghost use Rattle.log_run.specs.Counts.{IsCounted};

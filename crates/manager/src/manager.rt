@@ -1,4 +1,4 @@
-ghost use Rattle.std.specs.Prelude.{◌≡◌, ◌≢◌, ◌+◌, ◌≤◌, ◌<◌, ◌^◌, length, IfOk, OnOk, OnErr};
+ghost use Rattle.std.specs.Prelude.{◌≡◌, ◌+◌, ◌≤◌, ◌<◌, ◌^◌, IfOk, OnErr};
 ghost use Rattle.addr_codecs.specs.declared.message.TheConstants.{MAX_ENTRIES};
 ghost use Rattle.addr_codecs.specs.Layout.{IsMessage, HasMessageFault};
 ghost use Rattle.manager.specs.Step.{Step, MessageStep, LeavesEntries, SavesNothing, HasPercent, NeedsMemory, LeavesPart};

@@ -1,4 +1,4 @@
-ghost use Rattle.std.specs.Prelude.{◌≡◌, ℕ, ◌<◌, ◌^◌, ◌-◌, ◌≤◌, Bool, true, false, List, length};
+ghost use Rattle.std.specs.Prelude.{◌≡◌, ℕ, ◌<◌, ◌^◌, ◌-◌, Bool, true, false, List, length};
 ghost use Rattle.bit_code.specs.Coder.{has_bit};
 ghost use Rattle.map_diff.specs.Diff.{after_bit};
 ghost use Rattle.map_diff.specs.Inside.{IsTree, IsMap, IsMatching};

@@ -1,4 +1,4 @@
-ghost use Rattle.std.specs.Prelude.{◌≡◌, ◌<◌, ◌≤◌, ◌+◌, ◌-◌, ◌^◌, ◌++◌, ◌==◌, Bool, true, false, List, length, take, flat_map, OnOk, OnErr, decimal};
+ghost use Rattle.std.specs.Prelude.{◌≡◌, ◌<◌, ◌≤◌, ◌+◌, ◌-◌, ◌^◌, ◌++◌, ◌==◌, Bool, true, false, length, take, flat_map, OnOk, OnErr, decimal};
 ghost use Rattle.map_diff.specs.Text.{new_row, is_counted, number_text, change_text, given_text, taken_text, count_of, counts_text, difference_text};
 
 use crate::Memory;

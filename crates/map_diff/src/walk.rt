@@ -1,4 +1,4 @@
-ghost use Rattle.std.specs.Prelude.{◌≡◌, ℕ, ◌+◌, ◌-◌, ◌<◌, ◌≤◌, ◌^◌, Bool, true, false, List, [], ◌∷◌, ◌++◌, Some, None, length, IfOk, IfErr, IfSome, IfNone, OnOk};
+ghost use Rattle.std.specs.Prelude.{◌≡◌, ℕ, ◌+◌, ◌-◌, ◌<◌, ◌^◌, Bool, false, List, ◌++◌, Some, None, length, IfOk, IfErr, IfSome, IfNone, OnOk};
 ghost use Rattle.asmap_back.specs.Back.{first_at};
 ghost use Rattle.prefix_table.specs.declared.row.TheConstants.{MAX_ROWS};
 ghost use Rattle.map_diff.specs.Diff.{Part, Same, unless_equal, changes_of, joined};

@@ -1,7 +1,7 @@
 ghost use Rattle.std.specs.Prelude.{◌≡◌, ◌+◌, ◌*◌, ◌<◌, ◌≤◌, ◌++◌, length};
 ghost use Rattle.arrayvec.specs.ArrayVec.{array_vec_len};
 ghost use Rattle.names.specs.Base32.{letter, letters, base32};
-ghost use Rattle.names.specs.Inside.{value_of, five_bytes, bits_of, decoded};
+ghost use Rattle.names.specs.Inside.{value_of, five_bytes, decoded};
 
 use arrayvec::ArrayVec;
 use net_addr::append;

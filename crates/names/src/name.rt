@@ -1,4 +1,4 @@
-ghost use Rattle.std.specs.Prelude.{◌≡◌, ℕ, List, [], ◌∷◌, ◌++◌, ◌≤◌, length, map, codes, IsTrue, ◌↔◌, IfSome, IfNone, Some, take};
+ghost use Rattle.std.specs.Prelude.{◌≡◌, [], ◌∷◌, ◌++◌, ◌≤◌, length, map, codes, IsTrue, ◌↔◌, IfSome, Some, take};
 ghost use Rattle.std.specs.Char.{to_ascii_lowercase};
 ghost use Rattle.std.specs.Str.{IsAscii};
 ghost use Rattle.net_addr.specs.Address.{Address, IsAddress, length_of};

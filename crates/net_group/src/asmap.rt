@@ -1,4 +1,4 @@
-ghost use Rattle.std.specs.Prelude.{◌≡◌, ◌++◌, length, IsSome};
+ghost use Rattle.std.specs.Prelude.{◌≡◌, ◌++◌, IsSome};
 ghost use Rattle.std.specs.Int.{w128, from_be_bytes};
 ghost use Rattle.net_addr.specs.Address.{mapped_prefix};
 ghost use Rattle.net_group.specs.Group.{asmap_bits, looked_up};

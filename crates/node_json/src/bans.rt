@@ -1,9 +1,9 @@
-ghost use Rattle.std.specs.Prelude.{◌≡◌, ◌<◌, [], ◌∷◌, ◌++◌, IfOk, OnOk, map, length};
+ghost use Rattle.std.specs.Prelude.{◌≡◌, ◌<◌, [], ◌∷◌, ◌++◌, IfOk, OnOk, map};
 ghost use Rattle.std.specs.String.{string_bytes};
 ghost use Rattle.json.specs.Tree.{json_tokens};
 ghost use Rattle.ban_list.specs.Bans.{current};
 ghost use Rattle.node_json.specs.Bans.{ban_json, bans_json, subnet_name};
-ghost use Rattle.node_json.specs.Inside.{items_tokens_of, span_tokens, time_tokens, tokens_of};
+ghost use Rattle.node_json.specs.Inside.{items_tokens_of, span_tokens, time_tokens};
 ghost use Rattle.node_json.specs.Value.{IsJsonText};
 
 use crate::put::{put_number, put_string, with_end};

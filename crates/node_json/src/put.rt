@@ -1,6 +1,6 @@
-ghost use Rattle.std.specs.Prelude.{◌≡◌, [], ◌∷◌, ◌++◌, IfOk, OnOk, codes, ◌≤◌};
+ghost use Rattle.std.specs.Prelude.{◌≡◌, [], ◌∷◌, ◌++◌, IfOk, OnOk, ◌≤◌};
 ghost use Rattle.json.specs.Json.{Json, string};
-ghost use Rattle.json.specs.Token.{begin_object, end_object, key};
+ghost use Rattle.json.specs.Token.{begin_object, key};
 ghost use Rattle.json.specs.Tree.{depth, json_tokens};
 ghost use Rattle.node_json.specs.Inside.{tokens_of};
 ghost use Rattle.node_json.specs.Value.{IsJsonText, json_number, unless_zero};

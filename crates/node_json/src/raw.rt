@@ -1,4 +1,4 @@
-ghost use Rattle.std.specs.Prelude.{◌≡◌, ◌<◌, [], ◌∷◌, ◌++◌, IfOk, OnOk, option_map, Some, codes};
+ghost use Rattle.std.specs.Prelude.{◌≡◌, ◌<◌, [], ◌∷◌, ◌++◌, IfOk, OnOk, option_map, Some};
 ghost use Rattle.std.specs.String.{string_bytes};
 ghost use Rattle.json.specs.Json.{string};
 ghost use Rattle.json.specs.Token.{begin_object, end_object, key};
@@ -6,8 +6,8 @@ ghost use Rattle.json.specs.Tree.{json_tokens};
 ghost use Rattle.slot_grid.specs.declared.sizes.TheConstants.{SLOTS};
 ghost use Rattle.node_json.specs.Inside.{peer_tokens, source_tokens, tokens_of};
 ghost use Rattle.names.specs.Name.{name_text};
-ghost use Rattle.node_json.specs.Raw.{both_members, bucket_members, buckets_of, class_name, name_of, network_name, position_text, raw_json, rec_at, record_members, slot_member, table_members};
-ghost use Rattle.node_json.specs.Value.{IsJsonText, json_number, object_of, unless_zero};
+ghost use Rattle.node_json.specs.Raw.{both_members, bucket_members, buckets_of, class_name, name_of, network_name, raw_json, rec_at, slot_member, table_members};
+ghost use Rattle.node_json.specs.Value.{IsJsonText, object_of};
 
 use crate::put::{put_begin, put_number, put_string, put_unless_zero, with_end};
 use crate::table::Table;

@@ -29,7 +29,7 @@ impl<'a, H: BuildHasher> Model for OpenerLog<'a, H> {
 }
 
 impl<'a, H: BuildHasher> OpenerLog<'a, H> {
-    ghost use Rattle.std.specs.Prelude.{◌≡◌, ◌≢◌, ◌+◌, ◌≤◌, ◌<◌, ◌^◌, ◌++◌, [], ℕ, List, length, Err, OnOk};
+    ghost use Rattle.std.specs.Prelude.{◌≡◌, ◌≢◌, ◌+◌, ◌≤◌, ◌<◌, ◌^◌, ◌++◌, [], ℕ, List, Err, OnOk};
     ghost use Rattle.grammar.specs.declared.fault.LineFault.{LineFault};
     ghost use Rattle.opener_lines.specs.Grammar.{HasRequestFault};
     ghost use Rattle.opener_lines.specs.Lines.{LineStep};

@@ -1,6 +1,6 @@
-ghost use Rattle.std.specs.Prelude.{◌≡◌, ◌≤◌, ◌<◌};
+ghost use Rattle.std.specs.Prelude.{◌<◌};
 ghost use Rattle.opener_lines.specs.Inside.{Finds};
-ghost use Rattle.opener_lines.specs.Tries.{HasOutcome, ToKeep, ToTest, try_by};
+ghost use Rattle.opener_lines.specs.Tries.{HasOutcome, ToTest, try_by};
 
 use crate::pick::{pick_of_feeler, pick_of_try};
 use arrayvec::ArrayVec;

@@ -1,4 +1,4 @@
-ghost use Rattle.std.specs.Prelude.{◌≡◌, ◌≤◌, ◌^◌, IfOk};
+ghost use Rattle.std.specs.Prelude.{◌≤◌, ◌^◌, IfOk};
 ghost use Rattle.std.specs.Int.Bits.{bit_xor};
 ghost use Rattle.wire_num.specs.Readings.{Gives, then_at, value_at, bytes_at};
 ghost use Rattle.peers_file.specs.Layout.{head_with};

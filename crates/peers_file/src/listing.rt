@@ -1,4 +1,4 @@
-ghost use Rattle.std.specs.Prelude.{◌≡◌, ◌++◌, decimal, IfOk, OnOk};
+ghost use Rattle.std.specs.Prelude.{◌≡◌, ◌++◌, IfOk, OnOk};
 ghost use Rattle.peers_file.specs.Listing.{totals_text, summary_line, origin_text, history_text, record_line, record_lines, snapshot_text};
 
 use net_addr::{Memory, put_addr, put_hex, put_number, put_peer, put_text};

@@ -1,4 +1,4 @@
-ghost use Rattle.std.specs.Prelude.{◌≡◌, ◌≢◌, ◌≤◌, ◌<◌, ◌+◌, length, vec_len, All, AllPairs, IfOk, IfErr, Ok, Err, MatchResult, None, Some, bytes_eq};
+ghost use Rattle.std.specs.Prelude.{◌≡◌, ◌≢◌, ◌≤◌, ◌<◌, length, vec_len, All, IfOk, IfErr, Ok, Err, MatchResult, None, Some, bytes_eq};
 ghost use Rattle.wire_num.specs.Readings.{Gives, all_of, then_at, times_at, value_at};
 ghost use Rattle.peer_rec.specs.Snapshot.{snapshot};
 ghost use Rattle.peer_rec.specs.declared.file_rec.TheConstants.{MAX_ATTEMPTS};

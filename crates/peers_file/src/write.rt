@@ -1,4 +1,4 @@
-ghost use Rattle.std.specs.Prelude.{◌≡◌, ℕ, ◌*◌, ◌≤◌, ◌<◌, ◌^◌, ◌++◌, length, All, AllPairs, IfOk, OnOk, ◌==◌};
+ghost use Rattle.std.specs.Prelude.{◌≡◌, ◌*◌, ◌≤◌, ◌<◌, ◌^◌, ◌++◌, length, All, AllPairs, IfOk, OnOk, ◌==◌};
 ghost use Rattle.std.specs.List.{flat_map, take_while, range_with_len};
 ghost use Rattle.std.specs.Int.{w32, to_le_bytes};
 ghost use Rattle.net_addr.specs.Address.{IsAddress};

@@ -1,4 +1,4 @@
-ghost use Rattle.std.specs.Prelude.{◌≡◌, ◌≢◌, ℕ, ◌⊎◌, ◌+◌, ◌<◌, ◌≤◌, ◌^◌, ◌↔◌, [], ◌∷◌, ◌++◌, All, IsTrue, IfSome, IfNone, IfOk, IfErr, MatchOption, Some};
+ghost use Rattle.std.specs.Prelude.{◌≡◌, ℕ, ◌+◌, ◌<◌, ◌≤◌, ◌^◌, ◌↔◌, [], IsTrue, IfSome, IfOk, IfErr, MatchOption, Some};
 ghost use Rattle.host_io.specs.Lines.{IsPassedOver};
 ghost use Rattle.prefix_table.specs.Text.{HasRowFault, IsRowAddress, IsRowEntry, IsInRange, IsClear, IsRowLine, row_of, width};
 ghost use Rattle.prefix_table.specs.Numbered.{IsSettled};

@@ -1,4 +1,4 @@
-ghost use Rattle.std.specs.Prelude.{◌≡◌, ◌≢◌, ◌≤◌, ℕ, List, IfSome, OnOk, OnErr};
+ghost use Rattle.std.specs.Prelude.{◌≢◌, ◌≤◌, ℕ, List, IfSome, OnOk, OnErr};
 ghost use Rattle.host_io.specs.Faults.{Rose};
 ghost use Rattle.host_io.specs.Past.{Always};
 ghost use Rattle.save_store.specs.Saves.{KeepsOthers, PublishesOrNot, IsSafe, IsSynced, IsStored};

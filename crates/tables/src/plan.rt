@@ -29,7 +29,7 @@ pub(crate) struct Plan<'a, 's> {
 }
 
 impl<'a, 's> Plan<'a, 's> {
-    ghost use Rattle.std.specs.Prelude.{All, ◌≡◌, ◌≢◌, ℕ, ◌+◌, ◌*◌, ◌<◌, ◌≤◌, ◌^◌, Bool, true, false, [], length, slice_get, Some, IfOk, OnOk, IsSomeAnd, Contains, vec_len};
+    ghost use Rattle.std.specs.Prelude.{All, ◌≡◌, ◌≢◌, ℕ, ◌+◌, ◌*◌, ◌<◌, ◌≤◌, true, false, [], length, slice_get, Some, IfOk, OnOk, IsSomeAnd, Contains};
     ghost use Rattle.peer_rec.specs.Rec.{buckets_of};
     ghost use Rattle.peer_rec.specs.declared.rec.Rec.{Rec};
     ghost use Rattle.table_machine.specs.State.{State, by_number, empty_state};

@@ -1,4 +1,4 @@
-ghost use Rattle.std.specs.Prelude.{◌≡◌, None, IfOk, IfErr, option_map};
+ghost use Rattle.std.specs.Prelude.{◌≡◌, None, IfOk, IfErr};
 ghost use Rattle.table_machine.specs.State.{find_peer};
 ghost use Rattle.table_machine.specs.Snapshot.{snapshot_of};
 ghost use Rattle.table_machine.specs.Restart.{restart};

@@ -1,4 +1,4 @@
-use Rattle.std.proofs.Common.{length, string_bytes, ap, sym, ◌∙◌, arith, None, Option, ◌≡◌}
+use Rattle.std.proofs.Common.{length, string_bytes, ap, sym, ◌∙◌, arith, None, Option}
 use Rattle.std.specs.Prelude.{IfNone}
 use Rattle.std.proofs.lemmas.Bool.{eqb-false}
 use Rattle.std.proofs.lemmas.List.{length-map}

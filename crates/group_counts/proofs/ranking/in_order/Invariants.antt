@@ -1,4 +1,4 @@
-use Rattle.std.proofs.Common.{◌≡◌, [], drop}
+use Rattle.std.proofs.Common.{◌≡◌, drop}
 use Rattle.std.specs.List.{fold}
 use Rattle.group_counts.specs.Ranks.{in_order, placed}
 use Rattle.group_counts.proofs.ranking.in_order.Given as goal

@@ -1,4 +1,4 @@
-use Rattle.std.proofs.Common.{◌≢◌, All, inr}
+use Rattle.std.proofs.Common.{◌≢◌, All}
 use Rattle.net_addr.specs.Text.{IsAddrText}
 use Rattle.names.specs.Name.{IsName}
 use Rattle.names.proofs.Readings.{both_found, colon_in, first_only, none_of, second_found, second_only}

@@ -1,4 +1,4 @@
-use Rattle.std.proofs.Common.{[], ◌∙◌, ◌++◌, ap}
+use Rattle.std.proofs.Common.{◌∙◌, ◌++◌, ap}
 use Rattle.json.specs.Tree.{json_tokens}
 use Rattle.node_json.specs.Groups.{groups_json, groups_members}
 use Rattle.node_json.proofs.Listed.{groups_depth}

@@ -1,8 +1,8 @@
-use Rattle.std.proofs.Common.{◌≡◌, not, length, arith, ap, ◌∙◌, subst, sym}
+use Rattle.std.proofs.Common.{◌≡◌, not, ap, ◌∙◌, subst, sym}
 use Rattle.std.specs.Prelude.{is_some}
 use Rattle.ban_list.specs.Bans.{AreBans, is_of, listed}
 use Rattle.ban_list.specs.declared.ban.Ban.{Ban}
-use Rattle.ban_list.proofs.BanLaws.{AreBans-filter, is_found}
+use Rattle.ban_list.proofs.BanLaws.{AreBans-filter}
 use Rattle.ban_list.proofs.bans.Bans.unban.Goals as goal
 
 pub invariant_of-self : goal.invariant_of-self
