@@ -24,8 +24,8 @@ DIST := addrman-$(VERSION)-x86_64-linux
 # Where the toolchain has its part of the C library: the allocator that the library calls.
 KIT = $(shell dirname "$$(dirname "$$(readlink -f "$$(command -v rt)")")")
 
-.PHONY: all try demo examples flood endings mistakes packed test figures lib lib-test ci-lib-test ci-program-test archive install \
-	install-lib dist
+.PHONY: all try demo examples flood endings mistakes packed test figures lib lib-test ci-lib-test \
+	ci-program-test archive install install-lib dist
 
 all:
 	mkdir -p bin
