@@ -28,7 +28,7 @@ use Rattle.addr_codecs.proofs.MessageLaws.{Reads-addr_entry, Reads-message}
 use Rattle.addr_codecs.proofs.TextLaws.{FitsAddr, of_addr_entry, of_message}
 use Rattle.wire_num.proofs.ReadingLaws.{AreBytes-all, one_meaning}
 use Rattle.grammar.specs.Fields.{AreWords}
-use Rattle.grammar.specs.Random.{seeded_words}
+use Rattle.random_words.specs.Seeded.{seeded_words}
 use Rattle.log_lines.specs.Spelling.{SpellsCommand}
 use Rattle.log_lines.specs.declared.command.Command.{Command}
 use Rattle.log_lines.specs.declared.command.Command.TheVariants as command

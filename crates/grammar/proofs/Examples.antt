@@ -6,7 +6,7 @@ use Rattle.rand_core.specs.Steps.{u32_at, stream_of, word_bytes}
 use Rattle.rand_core.specs.Stream.{fill_bytes}
 use Rattle.net_addr.specs.declared.net.Net.TheVariants.{Ipv4, Onion}
 use Rattle.grammar.specs.Fields.{Number, OfPeer, Either, TheNumber, TheChoice, Means, AreAtFault, AreSeeded, set_of, u32_field, fault_of}
-use Rattle.grammar.specs.Random.{seeded_words}
+use Rattle.random_words.specs.Seeded.{seeded_words}
 use Rattle.grammar.specs.Table.{Table, kinds_after, begin_with_letters, is_definite, FaultAfter}
 use Rattle.grammar.specs.Words.{fields_of}
 use Rattle.grammar.specs.declared.fault.LineFault.TheVariants as fault

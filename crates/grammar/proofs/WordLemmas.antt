@@ -8,9 +8,7 @@ use Rattle.std.proofs.lemmas.Str.Parse.{digit_at}
 use Rattle.std.proofs.lemmas.List.Elements.{All-nil, All-cons, All-append, All-head, All-tail, All-from_get_or}
 use Rattle.std.proofs.lemmas.List.Splits.{slice_split_at, slice_split_none, join_with_byte-slice_split, length-slice_split}
 use Rattle.grammar.specs.Fields.{AreWords, AreNumbers, AreSeeded}
-use Rattle.rand_xoshiro.specs.Xoshiro256.{plus_plus, of_seed}
-use Rattle.rand_xoshiro.specs.SplitMix64.{splitmix_seed}
-use Rattle.grammar.specs.Random.{outputs, seeded_words}
+use Rattle.random_words.specs.Seeded.{seeded_words}
 use Rattle.grammar.specs.Words.{pieces_after}
 
 -- the digits of a number have no byte that is not a digit
@@ -145,12 +143,3 @@ one_words text xs ys h (inl k) = no_words text xs k.0 h ∙ sym k.1
 one_words text xs ys (inr (inl h)) (inr (inl k)) = same_numbers xs ys h.1 k.1 (sym (numbers_cut text xs h) ∙ numbers_cut text ys k)
 one_words text xs ys (inr (inr h)) k = one_seeded _ xs ys (only_seeded text _ xs h.4 (inr (inr h))) (only_seeded text _ ys h.4 k)
 one_words text xs ys h (inr (inr k)) = one_seeded _ xs ys (only_seeded text _ xs k.4 h) (only_seeded text _ ys k.4 (inr (inr k)))
-
--- a seed gives as many words as are wanted
-outputs_count : (state : List ℕ) (count : ℕ) → length (outputs state count) ≡ count
-outputs_count state zero = refl
-outputs_count state (suc n) = ap suc (outputs_count (plus_plus state).1 n)
-
-pub seeded_count : (seed count : ℕ) → length (seeded_words seed count) ≡ count
-unfolding seeded_words
-seeded_count seed count = outputs_count (of_seed (splitmix_seed 32 seed)) count

@@ -8,7 +8,7 @@ use Rattle.net_addr.specs.Text.{net_name, IsAddrText, IsPeerText}
 use Rattle.net_addr.specs.declared.net.Net.{Net}
 use Rattle.net_addr.specs.declared.net.Net.TheVariants.{Unroutable}
 use Rattle.net_addr.specs.declared.peer.Peer.{Peer}
-use Rattle.grammar.specs.Random.{seeded_words}
+use Rattle.random_words.specs.Seeded.{seeded_words}
 use Rattle.grammar.specs.declared.fault.LineFault.{LineFault}
 use Rattle.grammar.specs.declared.fault.LineFault.TheVariants as fault
 use Rattle.grammar.specs.declared.random.TheConstants.{MAX_SEEDED}

@@ -1,9 +1,7 @@
 -- Definitions for private contracts.
 use Rattle.std.specs.Prelude.{ℕ, ◌+◌, ◌≤◌, List, length, Option, Some, None, ⊤}
 use Rattle.std.specs.Borrow.{Bor}
-use Rattle.grammar.specs.Random.{outputs, seeded_words}
-use Rattle.grammar.specs.declared.draws.Left.{Left}
-use Rattle.grammar.specs.declared.draws.Left.TheVariants.{Slice, Generator}
+use Rattle.random_words.specs.Seeded.{seeded_words}
 use Rattle.grammar.specs.declared.random.TheConstants.{MAX_SEEDED}
 use Rattle.grammar.specs.declared.word_source.Given.{Given}
 use Rattle.grammar.specs.declared.word_source.Given.TheVariants.{Listed, Seeded}
@@ -12,11 +10,6 @@ use Rattle.grammar.specs.declared.word_source.Given.TheVariants.{Listed, Seeded}
 abbrev pub length_after : Option (Bor (List ℕ)) → ℕ
 length_after None = 0
 length_after (Some rest) = length rest.now + 1
-
--- the words of a slice, or those that a generator gives next
-abbrev pub words_left : Left → List ℕ
-words_left (Slice words) = words.now
-words_left (Generator generator count) = outputs generator count
 
 -- the words that a line gives
 abbrev pub words_given : Given → List ℕ

@@ -1,5 +1,4 @@
 pub mod FaultTexts
-pub mod Random
 pub mod Words
 pub mod Fields
 pub mod Contents

@@ -16,7 +16,6 @@
 #![tactic(auto)]
 
 mod choice;
-mod draws;
 mod fault;
 mod field;
 mod fields;
@@ -33,7 +32,6 @@ mod word_source;
 mod words;
 
 pub use choice::{Choice, OneOf};
-pub use draws::Draws;
 pub use fault::LineFault;
 pub use field::{read_decimal, read_hex};
 pub use fields::{Field, Fields, read_fields};

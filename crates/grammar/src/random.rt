@@ -1,11 +1,12 @@
 ghost use Rattle.std.specs.Prelude.{◌≡◌, ◌≤◌, ◌<◌, ◌^◌, ◌⊎◌, ◌∷◌, ℕ, List, codes, length, IfOk, IsTrue, Ok, Err};
 ghost use Rattle.grammar.specs.Fields.{AreWords, AreNumbers, AreSeeded};
-ghost use Rattle.grammar.specs.Random.{seeded_words};
+ghost use Rattle.random_words.specs.Seeded.{seeded_words};
 ghost use Rattle.grammar.specs.declared.random.TheConstants.{MAX_WORDS_TEXT};
 
 use crate::pieces::{after_byte, cut_piece};
-use crate::{Draws, LineFault, WordSource, Words};
+use crate::{LineFault, WordSource, Words};
 use net_addr::parse_number;
+use random_words::Draws;
 use std::alloc::{AllocError, Global};
 
 /// The maximum number of random words that a seed gives.

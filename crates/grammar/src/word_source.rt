@@ -1,5 +1,6 @@
 use crate::random::seeded_words;
-use crate::{Draws, MAX_SEEDED, Words};
+use crate::{MAX_SEEDED, Words};
+use random_words::Draws;
 use std::alloc::{AllocError, Global};
 use std::marker::Model;
 
@@ -30,7 +31,7 @@ impl Model for WordSource {
 
 impl WordSource {
     ghost use Rattle.std.specs.Prelude.{◌≡◌, ◌≤◌, IfOk};
-    ghost use Rattle.grammar.specs.Random.{seeded_words};
+    ghost use Rattle.random_words.specs.Seeded.{seeded_words};
     ghost use Rattle.grammar.specs.declared.random.TheConstants.{MAX_SEEDED};
 
     /// Makes the source of these words.

@@ -8,7 +8,7 @@ use Rattle.peer_rec.specs.Blank.{blank_record}
 use Rattle.peer_rec.specs.declared.rec.Rec.{Rec}
 use Rattle.peer_rec.specs.declared.place.Place.TheVariants.{New, Tried}
 use Rattle.grammar.specs.Fields.{AreAtFault, AreSeeded}
-use Rattle.grammar.specs.Random.{seeded_words}
+use Rattle.random_words.specs.Seeded.{seeded_words}
 use Rattle.log_lines.specs.Spelling.{kinds_of, SpellsAfter}
 use Rattle.log_lines.specs.declared.command.Command.TheVariants as c
 use Rattle.grammar.specs.declared.fault.LineFault.TheVariants as fault

@@ -7,7 +7,7 @@ use Rattle.placing.specs.Places.{Places, group}
 use Rattle.peer_rec.specs.declared.picked.Picked.{Picked}
 use Rattle.peer_rec.specs.declared.picked.Picked.TheVariants as picked
 use Rattle.table_machine.specs.Picks.{select}
-use Rattle.grammar.specs.Random.{seeded_words}
+use Rattle.random_words.specs.Seeded.{seeded_words}
 use Rattle.manager.specs.Machine.{Machine}
 use Rattle.peer_open.specs.Groups.{Outbound}
 use Rattle.peer_open.specs.Verdicts.{judge, judge_feeler}

@@ -1,7 +1,7 @@
 ghost use Rattle.std.specs.Prelude.{◌≡◌};
 ghost use Rattle.opener_lines.specs.Tries.{pick_of_feeler, pick_of_try};
 
-use grammar::Draws;
+use random_words::Draws;
 use manager::Manager;
 use net_addr::{NetSet, Peer};
 use picking::{Picked, select_by};

@@ -3,7 +3,7 @@ ghost use Rattle.table_machine.specs.Picks.{candidate, candidates, first_accepte
 ghost use Rattle.peer_rec.specs.declared.picked.Picked.TheVariants.{Exhausted};
 
 use crate::bucket::first_candidate;
-use grammar::Draws;
+use random_words::Draws;
 use net_addr::NetSet;
 use peer_rec::{Picked, Rec};
 use slot_grid::{NEW_BUCKETS, SLOTS, TRIED_BUCKETS};

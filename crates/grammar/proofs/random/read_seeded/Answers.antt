@@ -5,7 +5,7 @@ use Rattle.std.proofs.lemmas.Option.{none-some}
 use Rattle.std.proofs.lemmas.Fmt.{decimal_injective}
 use Rattle.grammar.proofs.WordLemmas.{cut_joined, seeded_pieces}
 use Rattle.grammar.specs.Words.{pieces_after}
-use Rattle.grammar.specs.Random.{seeded_words}
+use Rattle.random_words.specs.Seeded.{seeded_words}
 use Rattle.std.specs.Option.{option_map_or}
 use Rattle.grammar.proofs.random.read_seeded.Goals as goal
 

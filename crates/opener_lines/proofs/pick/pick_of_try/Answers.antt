@@ -1,6 +1,6 @@
 use Rattle.std.proofs.Common.{◌≡◌, ◌+◌, ◌∙◌, rules}
 use Rattle.table_machine.specs.Picks.{select}
-use Rattle.grammar.specs.Random.{seeded_words}
+use Rattle.random_words.specs.Seeded.{seeded_words}
 use Rattle.opener_lines.specs.declared.pick.TheConstants.{TRY_WORDS}
 use Rattle.opener_lines.proofs.pick.pick_of_try.Goals as goal
 

@@ -1,7 +1,7 @@
 ghost use Rattle.std.specs.Prelude.{◌≡◌, length};
 ghost use Rattle.std.specs.Iterator.{YieldsFirst};
-ghost use Rattle.grammar.specs.Random.{seeded_words};
-ghost use Rattle.grammar.specs.Inside.{words_left};
+ghost use Rattle.random_words.specs.Seeded.{seeded_words};
+ghost use Rattle.random_words.specs.Inside.{words_left};
 
 use rand_core::SeedableRng;
 use rand_core::utils::NextWord;
@@ -27,7 +27,7 @@ enum Left<'a> {
 
 impl<'a> Model for Draws<'a> {
     ghost use Rattle.std.specs.Prelude.{ℕ, List};
-    ghost use Rattle.grammar.specs.Inside.{words_left};
+    ghost use Rattle.random_words.specs.Inside.{words_left};
 
     ghost Value = { List ℕ };
 
@@ -45,7 +45,7 @@ impl<'a> Draws<'a> {
     }
 
     /// Draws the first `count` words of the generator with this seed. Takes no memory.
-    #[tactic(auto, using(crate::proofs::WordLemmas::seeded_count), unfolding(crate::specs::Random::seeded_words))]
+    #[tactic(auto, using(crate::proofs::Counts::seeded_count), unfolding(crate::specs::Seeded::seeded_words))]
     pub fn seeded(seed: u64, count: u64) -> Draws<'a>
         ensures words { result ≡ seeded_words seed count }
         ensures count { length result ≡ count }
