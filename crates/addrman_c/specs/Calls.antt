@@ -17,10 +17,10 @@ use Rattle.peer_rec.specs.declared.picked.Picked.TheVariants.{One, Nothing, Exha
 use Rattle.table_machine.specs.State.{State, After, find_peer}
 use Rattle.table_machine.specs.Entries.{add}
 use Rattle.table_machine.specs.Tried.{good}
-use Rattle.manager.specs.Taking.{IsAdded, IsMessageFault}
-use Rattle.manager.specs.declared.messages.Added.{Added}
-use Rattle.manager.specs.declared.messages.MessageFault.{MessageFault}
-use Rattle.manager.specs.declared.messages.MessageFault.TheVariants.{Memory, Refused, ShortWords}
+use Rattle.taking.specs.Taking.{IsAdded, IsMessageFault}
+use Rattle.taking.specs.declared.messages.Added.{Added}
+use Rattle.taking.specs.declared.messages.MessageFault.{MessageFault}
+use Rattle.taking.specs.declared.messages.MessageFault.TheVariants.{Memory, Refused, ShortWords}
 use Rattle.addrman_c.specs.declared.code.TheConstants.{OK, MEMORY, ARGUMENT, FULL, SHORT_WORDS, SHORT_BUFFER, REFUSED, NONE, EXHAUSTED}
 use Rattle.addrman_c.specs.declared.structs.AddrmanAdded.{AddrmanAdded}
 use Rattle.addrman_c.specs.declared.structs.AddrmanFault.{AddrmanFault}

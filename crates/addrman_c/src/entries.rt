@@ -9,7 +9,7 @@ use crate::structs::{AddrmanAdded, AddrmanFault};
 use crate::values::{AddrmanAddr, AddrmanPeer, bit, read_addr, read_peer};
 use addr_codecs::{Form, MsgFault};
 use keyed_hasher::Keyed;
-use manager::{Added, MessageFault};
+use taking::{Added, MessageFault};
 use net_addr::{Entry, NetAddr, Peer};
 use std::alloc::Global;
 use tables::Tables;

@@ -30,7 +30,8 @@ use Rattle.table_machine.proofs.SoundBut.{is_at_own}
 use Rattle.table_machine.proofs.Tried.{SharesTried}
 use Rattle.table_machine.proofs.Unchanged.{good-rest}
 use Rattle.manager.specs.Machine.{Machine}
-use Rattle.manager.specs.Messages.{clamp_time, message_penalty, take_entries, take_entry, take_message}
+use Rattle.taking.specs.Messages.{clamp_time, message_penalty, take_entries, take_entry}
+use Rattle.manager.specs.Step.{take_message}
 use Rattle.manager.specs.Step.{Step}
 use Rattle.causes.specs.Tried.{MayDisplace, StaysTried, TakesSlot}
 use Rattle.causes.proofs.Displaced.{Displacing, reached-stays}

@@ -14,7 +14,8 @@ use Rattle.table_machine.proofs.Reached.{good-sound}
 use Rattle.table_machine.proofs.Rest.{add-rest}
 use Rattle.table_machine.proofs.Unchanged.{good-next}
 use Rattle.manager.specs.Machine.{Machine, with_tables}
-use Rattle.manager.specs.Messages.{clamp_time, message_penalty, take_entries, take_entry, take_message}
+use Rattle.taking.specs.Messages.{clamp_time, message_penalty, take_entries, take_entry}
+use Rattle.manager.specs.Step.{take_message}
 use Rattle.manager.specs.Step.{Step}
 use Rattle.causes.proofs.Fits.{IsFit}
 use Rattle.causes.proofs.StepKinds.{Kind, kind_of}

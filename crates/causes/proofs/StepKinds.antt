@@ -20,7 +20,7 @@ use Rattle.table_machine.proofs.Folds.{clash_pick-keeps, clash_pick-sound, sampl
 use Rattle.table_machine.proofs.Marks.{attempt-sound, connected-sound, services-sound}
 use Rattle.table_machine.proofs.Records.{changed_cases, changed_other, changed_own, peer_found, same_record}
 use Rattle.manager.specs.Machine.{Machine, with_tables}
-use Rattle.manager.specs.Messages.{take_message}
+use Rattle.manager.specs.Step.{take_message}
 use Rattle.manager.specs.Step.{MessageStep, Step}
 use Rattle.causes.proofs.Fits.{IsFit}
 

@@ -13,7 +13,7 @@ use Rattle.table_machine.proofs.Lists.{Contains-head}
 use Rattle.table_machine.proofs.Rest.{add-rest}
 use Rattle.table_machine.proofs.Unchanged.{good-rest}
 use Rattle.manager.specs.Machine.{Machine}
-use Rattle.manager.specs.Messages.{clamp_time, message_penalty, take_entries, take_entry}
+use Rattle.taking.specs.Messages.{clamp_time, message_penalty, take_entries, take_entry}
 use Rattle.manager.specs.Step.{Step}
 use Rattle.causes.specs.Accepted.{Accepts, peer_if, peers_taken}
 use Rattle.table_machine.proofs.Folds.{resolve-keeps}

@@ -8,7 +8,7 @@ use Rattle.log_lines.specs.Spelling.{SpellsCommand}
 use Rattle.log_lines.specs.declared.command.Command.{Command}
 use Rattle.log_lines.specs.declared.command.Command.TheVariants as command
 use Rattle.manager.specs.Machine.{Machine}
-use Rattle.manager.specs.Messages.{take_entry}
+use Rattle.taking.specs.Messages.{take_entry}
 use Rattle.session.specs.History.{History, HistoryStep, fresh}
 use Rattle.log_run.specs.Run.{Run}
 use Rattle.session.specs.State.{SessionState}

@@ -9,7 +9,8 @@ use Rattle.peer_rec.specs.declared.fate.Fate.TheVariants.{Erased, Kept, Moved}
 use Rattle.log_lines.specs.declared.command.Command.{Command}
 use Rattle.log_lines.specs.declared.reply.Reply.{Reply}
 use Rattle.manager.specs.Machine.{Machine}
-use Rattle.manager.specs.Messages.{clamp_time, message_penalty, take_entries, take_entry, take_message}
+use Rattle.taking.specs.Messages.{clamp_time, message_penalty, take_entries, take_entry}
+use Rattle.manager.specs.Step.{take_message}
 use Rattle.manager.specs.Step.{Step}
 use Rattle.table_machine.specs.Clashes.{after_fate, erase_clash, fate_of, resolve_all}
 use Rattle.table_machine.specs.Sound.{IsSound}

@@ -7,7 +7,7 @@ use Rattle.log_lines.specs.declared.command.Command.{Command}
 use Rattle.log_lines.specs.declared.command.Command.TheVariants as command
 use Rattle.log_lines.specs.declared.reply.Reply.{Reply}
 use Rattle.manager.specs.Machine.{Machine}
-use Rattle.manager.specs.Messages.{clamp_time, message_penalty, take_entries, take_entry}
+use Rattle.taking.specs.Messages.{clamp_time, message_penalty, take_entries, take_entry}
 use Rattle.manager.specs.Step.{Step}
 use Rattle.table_machine.specs.State.{State}
 use Rattle.table_machine.specs.Clashes.{resolve}

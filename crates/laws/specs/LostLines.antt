@@ -11,7 +11,7 @@ use Rattle.log_lines.specs.Spelling.{SpellsCommand}
 use Rattle.log_lines.specs.declared.command.Command.{Command}
 use Rattle.log_lines.specs.declared.command.Command.TheVariants as command
 use Rattle.manager.specs.Machine.{Machine}
-use Rattle.manager.specs.Messages.{clamp_time, take_entry}
+use Rattle.taking.specs.Messages.{clamp_time, take_entry}
 use Rattle.log_run.specs.Run.{Run}
 use Rattle.session.specs.History.{History, HistoryStep}
 use Rattle.session.specs.State as session

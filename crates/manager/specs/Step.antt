@@ -16,7 +16,11 @@ use Rattle.log_lines.specs.declared.command.Command.TheVariants as command
 use Rattle.log_lines.specs.declared.reply.Reply.{Reply}
 use Rattle.log_lines.specs.declared.reply.Reply.TheVariants as reply
 use Rattle.manager.specs.Machine.{Machine, with_tables}
-use Rattle.manager.specs.Messages.{take_message, take_entries}
+use Rattle.taking.specs.Messages.{take_entries}
+
+-- a message at the machine's clock
+abbrev pub take_message : Machine → List (Option Entry) → Address → List ℕ → After ℕ
+take_message m entries source words = take_entries m.tables m.clock entries source words
 
 -- A message of these entries. One with more entries than there are random words changes nothing.
 abbrev pub EntriesStep : Machine → List (Option Entry) → Address → List ℕ → Reply → Machine → Type 0

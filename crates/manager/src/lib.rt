@@ -6,14 +6,9 @@
 //! (`step`). Only a message, a sample and a dump can run out of memory (`cause`). The tables and
 //! the clock are then unchanged, but for some first entries of a message (`err`).
 //!
-//! `take_message` does the same with a message on tables at a given time, and says why it does not
-//! (`added`, `cause`).
-//!
 //! Not said: how many steps a command takes.
 #![tactic(auto)]
 
 mod manager;
-mod messages;
 
 pub use manager::{Manager, Memory};
-pub use messages::{Added, MessageFault, clamp_time, take_message};

@@ -3,7 +3,6 @@ ghost use Rattle.addr_codecs.specs.declared.message.TheConstants.{MAX_ENTRIES};
 ghost use Rattle.addr_codecs.specs.Layout.{IsMessage, HasMessageFault};
 ghost use Rattle.manager.specs.Step.{Step, MessageStep, LeavesEntries, SavesNothing, HasPercent, NeedsMemory, LeavesPart};
 
-use crate::messages::{MessageFault, take_message};
 use addr_codecs::Form;
 use host_io::Bytes;
 use log_lines::{Command, Reply, WordSource, Words};
@@ -15,6 +14,7 @@ use std::marker::Model;
 use std::sync::ledger::Ledger;
 use steps::Steps;
 use tables::Tables;
+use taking::{MessageFault, take_message};
 use tried_clash::{clash_pick, resolve};
 
 /// Out of memory.

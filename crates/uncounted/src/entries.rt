@@ -1,9 +1,9 @@
 ghost use Rattle.std.specs.Prelude.{◌≡◌, ◌<◌, ◌^◌, IfOk, IfErr, OnOk, OnErr};
 ghost use Rattle.table_machine.specs.Entries.{add};
-ghost use Rattle.manager.specs.Taking.{IsAdded, IsMessageFault};
+ghost use Rattle.taking.specs.Taking.{IsAdded, IsMessageFault};
 
 use addr_codecs::Form;
-use manager::{Added, MessageFault};
+use taking::{Added, MessageFault};
 use net_addr::{Entry, NetAddr};
 use std::alloc::Global;
 use std::hash::BuildHasher;
@@ -58,7 +58,7 @@ fn count_add<H: BuildHasher, L: Ledger>(
 }
 
 /// Adds the entries of a message that `source` sent, each with the random word at its index, at a
-/// time in seconds since 1970. The next record number must be below 2^62 (`manager::take_message`).
+/// time in seconds since 1970. The next record number must be below 2^62 (`taking::take_message`).
 pub fn take_message<H: BuildHasher>(
     alloc: Global,
     tables: &mut Tables<'_, H>,
@@ -107,5 +107,5 @@ fn count_take_message<H: BuildHasher, L: Ledger>(
         source.now words.now fault tables.new) }
 {
     let mut steps = Steps::<L>::none(blank);
-    manager::take_message(alloc, tables, form, payload, source, words, now, &mut steps)
+    taking::take_message(alloc, tables, form, payload, source, words, now, &mut steps)
 }

@@ -3,9 +3,9 @@ use Rattle.std.specs.Prelude.{◌≡◌, ℕ, ◌<◌, List, length, Option}
 use Rattle.net_addr.specs.Address.{Address}
 use Rattle.net_addr.specs.declared.entry.Entry.{Entry}
 use Rattle.table_machine.specs.State.{State}
-use Rattle.manager.specs.declared.messages.MessageFault.{MessageFault}
-use Rattle.manager.specs.declared.messages.MessageFault.TheVariants.{Memory, Refused, ShortWords}
-use Rattle.manager.specs.Taking.{HasFirst}
+use Rattle.taking.specs.declared.messages.MessageFault.{MessageFault}
+use Rattle.taking.specs.declared.messages.MessageFault.TheVariants.{Memory, Refused, ShortWords}
+use Rattle.taking.specs.Taking.{HasFirst}
 
 -- why entries are not added, and what is left
 abbrev pub IsEntriesFault : List (Option Entry) → State → ℕ → Address → List ℕ → MessageFault

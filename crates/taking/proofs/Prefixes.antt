@@ -3,7 +3,7 @@ use Rattle.std.proofs.Common.{◌≡◌, ℕ, zero, suc, ◌+◌, ◌<◌, ◌�
 use Rattle.net_addr.specs.Address.{Address}
 use Rattle.net_addr.specs.declared.entry.Entry.{Entry}
 use Rattle.table_machine.specs.State.{State, After}
-use Rattle.manager.specs.Messages.{take_entry, take_entries}
+use Rattle.taking.specs.Messages.{take_entry, take_entries}
 
 -- the tally with one more entry
 abbrev pub goes_on : After ℕ → ℕ → Option Entry → Address → ℕ → After ℕ

@@ -6,7 +6,7 @@ use Rattle.net_addr.specs.Same.{same_address}
 use Rattle.net_addr.specs.declared.net.Net.TheVariants.{Ipv4}
 use Rattle.net_addr.specs.declared.entry.Entry.{Entry}
 use Rattle.table_machine.specs.Entries.{penalty_of}
-use Rattle.manager.specs.Messages.{clamp_time}
+use Rattle.taking.specs.Messages.{clamp_time}
 
 abbrev dns : Address
 dns = address Ipv4 (8 ∷ 8 ∷ 8 ∷ 8 ∷ [])

@@ -1,8 +1,8 @@
 use Rattle.std.proofs.Common.{◌≡◌, ◌+◌, ◌<◌, ◌≤◌, ◌∙◌, length, get_or, None, refl, ap, Bool, true, false, cond, ℕ, arith}
 use mir.Val.{bool_byte}
 use Rattle.std.proofs.lemmas.List.{get_or_default}
-use Rattle.manager.proofs.Prefixes.{next_state, next_count}
-use Rattle.manager.proofs.messages.take_entries.Goals as goal
+use Rattle.taking.proofs.Prefixes.{next_state, next_count}
+use Rattle.taking.proofs.messages.take_entries.Goals as goal
 
 -- a truth value as a number
 sum_of : (b : Bool) (count more : ℕ) → more ≡ bool_byte b → count + more ≡ count + cond b 1 0

@@ -5,7 +5,6 @@ use Rattle.net_addr.specs.Address.{Address}
 use Rattle.net_addr.specs.declared.entry.Entry.{Entry}
 use Rattle.table_machine.specs.State.{State, After, outcome}
 use Rattle.table_machine.specs.Entries.{add, no}
-use Rattle.manager.specs.Machine.{Machine}
 
 -- a time long past or ahead counts as five days ago
 abbrev pub clamp_time : Entry → ℕ → Entry
@@ -35,7 +34,3 @@ take_entries st now (entry ∷ entries) source [] = outcome 0 st
 take_entries st now (entry ∷ entries) source (word ∷ words) =
     let first = take_entry st now entry source word in
     with_entry first (take_entries first.state now entries source words)
-
--- a message at the machine's clock
-abbrev pub take_message : Machine → List (Option Entry) → Address → List ℕ → After ℕ
-take_message m entries source words = take_entries m.tables m.clock entries source words

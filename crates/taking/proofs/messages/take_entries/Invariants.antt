@@ -1,6 +1,6 @@
 use Rattle.std.proofs.Common.{◌≡◌, ◌+◌, ◌≤◌, take}
-use Rattle.manager.specs.Messages.{take_entries}
-use Rattle.manager.proofs.messages.take_entries.Given as goal
+use Rattle.taking.specs.Messages.{take_entries}
+use Rattle.taking.proofs.messages.take_entries.Given as goal
 
 -- the entries before index i are taken
 abbrev pub invariant-loop-i : goal.invariant-loop-i

@@ -6,10 +6,10 @@ use Rattle.addr_codecs.specs.Layout.{IsMessage, HasMessageFault}
 use Rattle.addr_codecs.specs.declared.form.Form.{Form}
 use Rattle.addr_codecs.specs.declared.fault.MsgFault.TheVariants as msg
 use Rattle.table_machine.specs.State.{State}
-use Rattle.manager.specs.declared.messages.Added.{Added}
-use Rattle.manager.specs.declared.messages.MessageFault.{MessageFault}
-use Rattle.manager.specs.declared.messages.MessageFault.TheVariants.{Memory, Refused, ShortWords}
-use Rattle.manager.specs.Messages.{take_entries}
+use Rattle.taking.specs.declared.messages.Added.{Added}
+use Rattle.taking.specs.declared.messages.MessageFault.{MessageFault}
+use Rattle.taking.specs.declared.messages.MessageFault.TheVariants.{Memory, Refused, ShortWords}
+use Rattle.taking.specs.Messages.{take_entries}
 
 -- the entries are added in order, each with the random word at its index
 abbrev pub AreAdded : List (Option Entry) → State → ℕ → Address → List ℕ → Added → State → Type 0

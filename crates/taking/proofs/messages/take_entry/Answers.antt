@@ -3,7 +3,7 @@ use Rattle.std.specs.Prelude.{OnOk, OnErr}
 use Rattle.table_machine.specs.State.{State}
 use Rattle.table_machine.specs.Entries.{add}
 use Rattle.table_machine.proofs.Rest.{add-rest}
-use Rattle.manager.proofs.messages.take_entry.Goals as goal
+use Rattle.taking.proofs.messages.take_entry.Goals as goal
 
 -- the next number rises by at most one, whether the entry is added or memory runs out
 next_by : {T E : Type 0} (result : Result T E) (old new added : State) → added.next_number ≤ old.next_number + 1

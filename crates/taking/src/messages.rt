@@ -1,8 +1,8 @@
 ghost use Rattle.std.specs.Prelude.{◌≡◌, ◌+◌, ◌≤◌, ◌<◌, ◌^◌, length, IfOk, IfErr, OnOk, OnErr};
 ghost use Rattle.addr_codecs.specs.declared.message.TheConstants.{MAX_ENTRIES};
-ghost use Rattle.manager.specs.Messages.{clamp_time, take_entry, take_entries};
-ghost use Rattle.manager.specs.Taking.{IsAdded, AreAdded, HasFirst, IsMessageFault};
-ghost use Rattle.manager.specs.Inside.{IsEntriesFault};
+ghost use Rattle.taking.specs.Messages.{clamp_time, take_entry, take_entries};
+ghost use Rattle.taking.specs.Taking.{IsAdded, AreAdded, HasFirst, IsMessageFault};
+ghost use Rattle.taking.specs.Inside.{IsEntriesFault};
 
 use addr_codecs::{Form, MsgFault, read_message};
 use net_addr::{Entry, NetAddr};
