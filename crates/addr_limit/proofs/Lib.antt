@@ -1,14 +1,7 @@
-pub mod Apart
-mod Conns
+pub mod Conns
 pub mod Tokens
-mod Served
-pub mod LineLaws
-pub mod Fits
-mod Examples
-pub mod Events
 pub mod Entries
+pub mod Found
 pub mod Written
 pub mod Removed
 pub mod Messages
-pub mod Changes
-pub mod PassedOn

@@ -7,15 +7,11 @@ use Rattle.std.proofs.lemmas.Bool.Decides.{nat_tests}
 use Rattle.std.specs.Map.{lookup, set_value}
 use Rattle.addr_limit.specs.declared.conn.Conn.{Conn}
 use Rattle.net_addr.specs.Address.{Address}
-use Rattle.addr_limit.specs.State.{find_conn, with_conn, without_conn, set_conn}
-use Rattle.addr_limit.specs.Steps.{Outcome, new_conn, serve_conn}
-use Rattle.addr_limit.specs.Inside.{conns_of, AreEntries, IsConn, IsKept, IsLeft, IsServed, IsAppended}
-use Rattle.addr_limit.specs.declared.request.Request.{Request}
-use Rattle.addr_limit.specs.declared.serving.Served.{Served}
-use Rattle.addr_limit.specs.declared.serving.Served.TheVariants.{Unknown, Stays, Closes}
+use Rattle.addr_limit.specs.State.{new_conn, find_conn, with_conn, set_conn}
+use Rattle.addr_limit.specs.Inside.{conns_of, AreEntries, IsConn, IsKept}
 use Rattle.addr_limit.specs.Tokens.{after_getaddr}
 use Rattle.addr_limit.specs.Calls.{after_asking}
-use Rattle.addr_limit.proofs.Changes.{set-found}
+use Rattle.addr_limit.proofs.Found.{set-found}
 use Rattle.addr_limit.proofs.Entries.{Finds, lookup-is, put-is, set-entries, found-both, are_rising}
 
 -- what is borrowed has what the value has
@@ -59,37 +55,6 @@ found_conn number es kept c found = conn_is number es c kept (sym found ∙ sym 
 
 pub some_found : {A : Type 0} (x : A) (o : Option A) → Some x ≡ o → IsSome o
 some_found x o is = subst IsSome is refl
-
-without-with : (c : Conn) (conns : List Conn) → without_conn c.number (with_conn c conns) ≡ without_conn c.number conns
-without-with c [] = grind (arith, nat_tests)
-without-with c (d ∷ conns) = grind (arith, nat_tests, without-with c conns)
-
--- what became of a request, from what it left of its connection
-pub served_by : (served : Served) (number clock : ℕ) (c next : Conn) (request : Request) (old new : List Conn) → next.number ≡ number → new ≡ with_conn next old
-    → IsLeft served (serve_conn clock c request).conn next → IsServed served number (Some c) (serve_conn clock c request) old new
-served_by Unknown number clock c next request old new own is left = absurd left
-served_by Stays number clock c next request old new own is left = is ∙ ap (λ o. set_conn number o old) (sym left)
-served_by Closes number clock c next request old new own is left =
-    (left, ap (without_conn number) is ∙ subst (λ n. without_conn n (with_conn next old) ≡ without_conn n old) own (without-with next old))
-
--- the line of a request about a connection
-pub appended_by : (served : Served) (c next : Conn) (outcome : Outcome) (before after : List ℕ) → IsLeft served outcome.conn next
-    → after ≡ before ++ (outcome.text ++ 10 ∷ []) → IsAppended served outcome before after
-appended_by Unknown c next outcome before after left is = absurd left
-appended_by Stays c next outcome before after left is = is
-appended_by Closes c next outcome before after left is = is
-
-pub ok_then : {X E : Type 0} (r : Result X E) (P Q : X → Type 0) → ((x : X) → P x → Q x) → IfOk r P → IfOk r Q
-ok_then (Ok x) P Q f p = f x p
-ok_then (Err e) P Q f p = tt
-
-pub ok_both : {X E : Type 0} (r : Result X E) (P Q : X → Type 0) (R : Type 0) → ((x : X) → P x → R → Q x) → IfOk r P → OnOk r R → IfOk r Q
-ok_both (Ok x) P Q R f p s = f x p s
-ok_both (Err e) P Q R f p s = tt
-
-pub err_then : {X E : Type 0} (r : Result X E) (P Q : Type 0) → (P → Q) → OnErr r P → OnErr r Q
-err_then (Ok x) P Q f p = tt
-err_then (Err e) P Q f p = f p
 
 -- a connection that was asked before stays as it was
 pub asking_is : (number : ℕ) (c : Conn) (es : List (ℕ × Conn)) → find_conn number (conns_of es) ≡ Some c → with_conn (after_getaddr c) (conns_of es) ≡ after_asking (Some c) (conns_of es)

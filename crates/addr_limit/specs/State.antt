@@ -1,16 +1,23 @@
--- The state of the limit: a clock, and the connections by rising number.
-use Rattle.std.specs.Prelude.{ℕ, ◌≤◌, map, List, [], ◌∷◌, ◌==◌, nat_lt, not, filter, find, Option, Some, None, if◌then◌else◌}
+-- The connections by rising number.
+use Rattle.std.specs.Prelude.{Bool, false, ℕ, ◌≤◌, map, List, [], ◌∷◌, ◌==◌, nat_lt, not, filter, find, Option, Some, None, if◌then◌else◌}
 use Rattle.std.specs.List.{AllByRecursion}
 use Rattle.std.specs.List.Sorted.{IsStrictlySortedBy}
 use Rattle.std.specs.Ordering.{nat_cmp}
+use Rattle.net_addr.specs.Address.{Address}
 use Rattle.addr_limit.specs.declared.conn.Conn.{Conn}
 
-pub record LimitState : Type 0 where
-  pub clock : ℕ
-  pub conns : List Conn
-
-abbrev pub start : LimitState
-start = record { clock = 0; conns = [] }
+-- a connection that opens, with one token
+abbrev pub new_conn : ℕ → Address → Bool → ℕ → Conn
+new_conn number addr unlimited now = record {
+  number = number;
+  addr = addr;
+  tenths = 10;
+  moment = now;
+  asked = false;
+  unlimited = unlimited;
+  processed = 0;
+  limited = 0;
+}
 
 -- the connection of the number, if it has one
 abbrev pub find_conn : ℕ → List Conn → Option Conn

@@ -1,16 +1,13 @@
-ghost use Rattle.std.specs.Prelude.{◌≡◌, ◌++◌, [], ◌∷◌, Option, None, is_some, IfSome, IfOk, OnOk, OnErr, option_map, option_copied};
-ghost use Rattle.addr_limit.specs.State.{find_conn, with_conn, without_conn, set_conn};
-ghost use Rattle.addr_limit.specs.Steps.{new_conn, serve, serve_none};
+ghost use Rattle.std.specs.Prelude.{◌≡◌, is_some, IfSome, OnOk, OnErr, option_map, option_copied};
+ghost use Rattle.addr_limit.specs.State.{new_conn, find_conn, with_conn, without_conn};
 ghost use Rattle.addr_limit.specs.Tokens.{refill, intake_count};
 ghost use Rattle.addr_limit.specs.Calls.{asked_of, after_asking, after_taking};
-ghost use Rattle.addr_limit.specs.Inside.{conns_of, AreEntries, IsConn, IsShort, IsServed, IsAppended};
+ghost use Rattle.addr_limit.specs.Inside.{conns_of, AreEntries, IsConn};
 
-use crate::print::unknown_line;
-use crate::serving::{Served, TOKEN, ask, serve_conn, spend};
-use crate::{Asked, Conn, Memory, Request};
+use crate::spending::{TOKEN, ask, spend};
+use crate::{Asked, Conn, Memory};
 use indexmap::IndexMap;
-use net_addr::{NetAddr, put_text};
-use std::alloc::Global;
+use net_addr::NetAddr;
 use std::hash::BuildHasher;
 
 /// Returns the connection of the number.
@@ -95,117 +92,5 @@ pub(crate) fn admit_in<H: BuildHasher>(
     match conns.get_mut(&number) {
         Some(conn) => Some(spend(now, conn, count)),
         None => None,
-    }
-}
-
-/// Carries out a request about the connection of the number, at a time in seconds since 1970, and
-/// appends its output line and a line feed. If memory runs out, nothing changes.
-pub(crate) fn serve_in<H: BuildHasher>(
-    conns: &mut IndexMap<u32, Conn, H>,
-    alloc: Global,
-    clock: u32,
-    number: u32,
-    request: &Request,
-    out: &mut Vec<u8>,
-) -> Result<(), Memory>
-    requires entries { AreEntries conns.old.entries }
-    requires short { IsShort request.now }
-    ensures conns { OnOk result (conns_of conns.new.entries ≡ set_conn number
-        (serve clock number (find_conn number (conns_of conns.old.entries)) request.now).conn
-        (conns_of conns.old.entries)) }
-    ensures text { OnOk result (out.new.items ≡ out.old.items
-        ++ ((serve clock number (find_conn number (conns_of conns.old.entries))
-        request.now).text ++ 10 ∷ [])) }
-    ensures entries { AreEntries conns.new.entries }
-    ensures err { OnErr result (conns_of conns.new.entries ≡ conns_of conns.old.entries) }
-    ensures list { OnErr result (out.new.items ≡ out.old.items) }
-{
-    match serve_known(conns, alloc, clock, number, request, out)? {
-        Served::Unknown => serve_unknown(conns, alloc, clock, number, request, out),
-        Served::Stays => Ok(()),
-        Served::Closes => {
-            remove_in(conns, number);
-            Ok(())
-        }
-    }
-}
-
-/// Carries out a request about the connection of the number, if it has one. One that closes is
-/// still there.
-fn serve_known<H: BuildHasher>(
-    conns: &mut IndexMap<u32, Conn, H>,
-    alloc: Global,
-    clock: u32,
-    number: u32,
-    request: &Request,
-    out: &mut Vec<u8>,
-) -> Result<Served, Memory>
-    requires entries { AreEntries conns.old.entries }
-    requires short { IsShort request.now }
-    ensures served { IfOk result (λ served. IsServed served number
-        (find_conn number (conns_of conns.old.entries))
-        (serve clock number (find_conn number (conns_of conns.old.entries)) request.now)
-        (conns_of conns.old.entries) (conns_of conns.new.entries)) }
-    ensures text { IfOk result (λ served. IsAppended served
-        (serve clock number (find_conn number (conns_of conns.old.entries)) request.now)
-        out.old.items out.new.items) }
-    ensures entries { AreEntries conns.new.entries }
-    ensures err { OnErr result (conns_of conns.new.entries ≡ conns_of conns.old.entries) }
-    ensures list { OnErr result (out.new.items ≡ out.old.items) }
-{
-    match conns.get_mut(&number) {
-        Some(conn) => serve_conn(alloc, clock, conn, request, out),
-        None => Ok(Served::Unknown),
-    }
-}
-
-/// Carries out a request about the connection of a number that has none.
-fn serve_unknown<H: BuildHasher>(
-    conns: &mut IndexMap<u32, Conn, H>,
-    alloc: Global,
-    clock: u32,
-    number: u32,
-    request: &Request,
-    out: &mut Vec<u8>,
-) -> Result<(), Memory>
-    requires entries { AreEntries conns.old.entries }
-    requires unknown { find_conn number (conns_of conns.old.entries) ≡ None }
-    ensures conns { OnOk result (conns_of conns.new.entries ≡ set_conn number
-        (serve_none clock number request.now).conn (conns_of conns.old.entries)) }
-    ensures text { OnOk result (out.new.items ≡ out.old.items
-        ++ ((serve_none clock number request.now).text ++ 10 ∷ [])) }
-    ensures entries { AreEntries conns.new.entries }
-    ensures err { OnErr result (conns_of conns.new.entries ≡ conns_of conns.old.entries) }
-    ensures list { OnErr result (out.new.items ≡ out.old.items) }
-{
-    let text = unknown_line(alloc, number, request)?;
-    let length = out.len();
-    put_text(text.as_slice(), out)?;
-    match open_new(conns, clock, number, request) {
-        Ok(()) => Ok(()),
-        Err(fault) => {
-            out.truncate(length);
-            Err(fault)
-        }
-    }
-}
-
-/// Puts a connection at a number that has none, if the request opens one.
-fn open_new<H: BuildHasher>(
-    conns: &mut IndexMap<u32, Conn, H>,
-    clock: u32,
-    number: u32,
-    request: &Request,
-) -> Result<(), Memory>
-    requires entries { AreEntries conns.old.entries }
-    requires unknown { find_conn number (conns_of conns.old.entries) ≡ None }
-    ensures conns { OnOk result (conns_of conns.new.entries ≡ set_conn number
-        (serve_none clock number request.now).conn (conns_of conns.old.entries)) }
-    ensures entries { AreEntries conns.new.entries }
-    ensures err { OnErr result (conns_of conns.new.entries ≡ conns_of conns.old.entries) }
-{
-    match request {
-        Request::Open { addr, unlimited } => put_in(conns, number, *addr, *unlimited, clock),
-        Request::Close | Request::GetAddr | Request::Message { .. } | Request::Stat => Ok(()),
     }
 }

@@ -1,5 +1,5 @@
-use crate::by_number::{admit_in, find_in, getaddr_in, put_in, remove_in, serve_in};
-use crate::{Asked, Conn, Memory, Request};
+use crate::by_number::{admit_in, find_in, getaddr_in, put_in, remove_in};
+use crate::{Asked, Conn, Memory};
 use indexmap::IndexMap;
 use net_addr::NetAddr;
 use std::alloc::Global;
@@ -28,14 +28,12 @@ impl<H: BuildHasher> Model for Limiter<H> {
 }
 
 impl<H: BuildHasher> Limiter<H> {
-    ghost use Rattle.std.specs.Prelude.{◌≡◌, ◌≤◌, ◌++◌, [], ◌∷◌, Option, Some, List, length, take, is_some, is_none, IfSome, IfOk, OnOk, OnErr, option_map, option_copied};
+    ghost use Rattle.std.specs.Prelude.{◌≡◌, ◌≤◌, [], Option, Some, List, length, take, is_some, is_none, IfSome, IfOk, OnOk, OnErr, option_map, option_copied};
     ghost use Rattle.net_addr.specs.declared.entry.Entry.{Entry};
     ghost use Rattle.addr_limit.specs.declared.conn.Conn.{Conn};
-    ghost use Rattle.addr_limit.specs.State.{find_conn, without_conn, set_conn, IsBounded, AreRising};
-    ghost use Rattle.addr_limit.specs.Steps.{new_conn, serve};
+    ghost use Rattle.addr_limit.specs.State.{new_conn, find_conn, without_conn, IsBounded, AreRising};
     ghost use Rattle.addr_limit.specs.Tokens.{refill, intake, intake_count};
     ghost use Rattle.addr_limit.specs.Calls.{asked_of, after_open, after_asking, after_taking, after_message};
-    ghost use Rattle.addr_limit.specs.Inside.{IsShort};
 
     /// Makes the limit, with no connections.
     pub fn make(alloc: Global, hasher: H) -> Limiter<H>
@@ -110,26 +108,5 @@ impl<H: BuildHasher> Limiter<H> {
             IfSome result (λ n. intake (refill now c) entries ≡ take n entries) }
     {
         admit_in(&mut self.conns, number, count, now)
-    }
-
-    /// Carries out a request about the connection of the number, at a time in seconds since 1970,
-    /// and appends its output line and a line feed. If memory runs out, nothing changes.
-    pub(crate) fn serve(
-        &mut self,
-        alloc: Global,
-        clock: u32,
-        number: u32,
-        request: &Request,
-        out: &mut Vec<u8>,
-    ) -> Result<(), Memory>
-        requires { IsShort request.now }
-        ensures conns { OnOk result (self.new ≡ set_conn number
-            (serve clock number (find_conn number self.old) request.now).conn self.old) }
-        ensures text { OnOk result (out.new.items ≡ out.old.items
-            ++ ((serve clock number (find_conn number self.old) request.now).text ++ 10 ∷ [])) }
-        ensures err { OnErr result (self.new ≡ self.old) }
-        ensures list { OnErr result (out.new.items ≡ out.old.items) }
-    {
-        serve_in(&mut self.conns, alloc, clock, number, request, out)
     }
 }

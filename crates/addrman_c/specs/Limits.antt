@@ -2,8 +2,7 @@
 use Rattle.std.specs.Prelude.{◌≡◌, ◌⊎◌, ℕ, ◌<◌, ◌≤◌, List, [], Bool, is_none, Option, Some, None, MatchOption}
 use Rattle.net_addr.specs.Address.{Address}
 use Rattle.addr_codecs.specs.declared.message.TheConstants.{MAX_ENTRIES}
-use Rattle.addr_limit.specs.State.{find_conn}
-use Rattle.addr_limit.specs.Steps.{new_conn}
+use Rattle.addr_limit.specs.State.{find_conn, new_conn}
 use Rattle.addr_limit.specs.Tokens.{refill, intake_count}
 use Rattle.addr_limit.specs.Calls.{after_open, after_taking}
 use Rattle.addr_limit.specs.declared.conn.Conn.{Conn}

@@ -1,0 +1,27 @@
+-- Definitions for private contracts: short messages, and entries that are passed on.
+use Rattle.std.specs.Prelude.{◌≢◌, ℕ, ◌≤◌, List, length, All, Option, Result, Ok, Err}
+use Rattle.net_addr.specs.declared.entry.Entry.{Entry}
+use Rattle.net_addr.specs.declared.net.Net.TheVariants.{Internal}
+use Rattle.addr_codecs.specs.declared.fault.MsgFault.{MsgFault}
+use Rattle.limit_lines.specs.declared.event.Event.{Event}
+use Rattle.limit_lines.specs.declared.event.Event.TheVariants.{Of}
+use Rattle.limit_lines.specs.declared.request.Request.{Request}
+use Rattle.limit_lines.specs.declared.request.Request.TheVariants.{Message}
+
+-- a message has at most 1000 entries
+abbrev pub IsShortRead : Result (List (Option Entry)) MsgFault → Type 0
+IsShortRead (Ok entries) = length entries ≤ 1000
+IsShortRead (Err fault) = Unit {0}
+
+abbrev pub IsShort : Request → Type 0
+IsShort (Message read words) = IsShortRead read
+IsShort other = Unit {0}
+
+abbrev pub IsShortEvent : Event → Type 0
+IsShortEvent (Of number request) = IsShort request
+IsShortEvent other = Unit {0}
+
+-- entries that `write_addrv2` takes
+pub record ArePassing (entries : List Entry) : Type 0 where
+  pub count : length entries ≤ 1000
+  pub networks : All (λ e. e.peer.addr.net ≢ Internal) entries
