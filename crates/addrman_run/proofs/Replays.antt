@@ -27,9 +27,9 @@ use Rattle.addrman_run.specs.Opening.Opens.{from_file, from_key}
 use Rattle.causes.specs.Kept.{IsOpening, KeepsCauses}
 use Rattle.causes.proofs.Laws.{keeps_causes}
 use Rattle.laws.specs.LostLines.{KeepsLosses}
-use Rattle.laws.specs.Openings.{KeepsOpened}
+use Rattle.table_laws.specs.Openings.{KeepsOpened}
 use Rattle.laws.specs.Shares.{KeepsShares}
-use Rattle.laws.proofs.OpeningOf.{keeps_at_opening}
+use Rattle.table_laws.proofs.OpeningOf.{keeps_at_opening}
 use Rattle.laws.proofs.RunsOf.{keeps_losses}
 use Rattle.laws.proofs.SharesOf.{keeps_shares}
 use Rattle.placing.specs.Places.{Places}

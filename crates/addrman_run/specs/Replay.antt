@@ -11,7 +11,7 @@ use Rattle.host_io.specs.declared.name.Name.TheVariants as name
 use Rattle.asmap_vm.specs.Asmap.{Asmap}
 use Rattle.causes.specs.Kept.{IsAfter, KeepsCauses}
 use Rattle.laws.specs.LostLines.{KeepsLosses}
-use Rattle.laws.specs.Openings.{KeepsOpened}
+use Rattle.table_laws.specs.Openings.{KeepsOpened}
 use Rattle.laws.specs.Shares.{KeepsShares}
 use Rattle.log_lines.specs.Spelling.{HasCommandFault}
 use Rattle.log_run.specs.Run.{Ran, Run}

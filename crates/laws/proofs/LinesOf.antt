@@ -23,9 +23,9 @@ use Rattle.causes.proofs.Fits.{IsFit}
 use Rattle.causes.proofs.StepKinds.{Kind, kind_of}
 use Rattle.causes.proofs.StepKinds.Kind.{Decides, Keeps, Succeeds, Takes, Takes2}
 use Rattle.causes.proofs.Sound.{entry-sound}
-use Rattle.laws.specs.Losses.{HasRecord, LosesBySuccess}
+use Rattle.table_laws.specs.Losses.{HasRecord, LosesBySuccess}
 use Rattle.laws.specs.LostLines.{LosesAt, LosesBy, LosesByDecisions, LosesByEntries}
-use Rattle.laws.proofs.There.{entry_there, itself, success_there, there-trans}
+use Rattle.table_laws.proofs.There.{entry_there, itself, success_there, there-trans}
 
 entry_over : (st : State) (now : ℕ) (entry : Option Entry) (source : Address) (word : ℕ) → IsSound st → (r : Rec) → HasRecord st r
     → HasRecord (take_entry st now entry source word).state r ⊎ LosesAt st now entry (take_entry st now entry source word).state r

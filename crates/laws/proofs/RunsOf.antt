@@ -17,12 +17,12 @@ use Rattle.causes.specs.Kept.{IsAfter, IsOpening}
 use Rattle.causes.proofs.Fits.{spelled-fits}
 use Rattle.causes.proofs.Runs.{line_moves}
 use Rattle.causes.proofs.Sound.{step-sound}
-use Rattle.laws.specs.Losses.{HasRecord}
+use Rattle.table_laws.specs.Losses.{HasRecord}
 use Rattle.laws.specs.LostLines.{CountsAgree, IsLost, IsMessage, KeepsLosses, KeepsRecords, LosesInLine}
-use Rattle.laws.proofs.Balance.{balance, none_made}
+use Rattle.table_laws.proofs.Balance.{balance, none_made}
 use Rattle.laws.proofs.PeersOf.{command_keeps, same}
 use Rattle.laws.proofs.LinesOf.{command_over}
-use Rattle.laws.proofs.There.{itself, there-trans}
+use Rattle.table_laws.proofs.There.{itself, there-trans}
 
 -- what each line keeps, after n of them
 pub record IsKept (n : ℕ) (m : Machine) : Type 0 where

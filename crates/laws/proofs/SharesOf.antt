@@ -18,11 +18,11 @@ use Rattle.causes.specs.Buckets.{AreCaused, IsListed, reach}
 use Rattle.causes.specs.Kept.{IsOpening}
 use Rattle.causes.proofs.Laws.{keeps_causes}
 use Rattle.causes.proofs.Reach.{Contains-flat_map, by_reach, long-reach, tried_reach}
-use Rattle.laws.specs.Chances.{words_for}
-use Rattle.laws.proofs.BoundOf.{few_words}
-use Rattle.laws.proofs.Picked.{found_at}
-use Rattle.laws.proofs.SomeOf.{candidate-there}
-use Rattle.laws.proofs.Within.{count_outside}
+use Rattle.table_laws.specs.Chances.{words_for}
+use Rattle.table_laws.proofs.BoundOf.{few_words}
+use Rattle.table_laws.proofs.Picked.{found_at}
+use Rattle.table_laws.proofs.SomeOf.{candidate-there}
+use Rattle.table_laws.proofs.Within.{count_outside}
 use Rattle.laws.specs.Shares.{AreBy, AreInGroups, IsOf, IsShared, KeepsShares, LeadsTo}
 
 -- the buckets of the tried table for addresses of some groups: the 8 of each group in turn

@@ -1,11 +1,2 @@
-pub mod Rounds
-pub mod Chances
-pub mod Odds
-pub mod Shuffle
-pub mod Samples
-pub mod Losses
 pub mod LostLines
 pub mod Shares
-pub mod Restarts
-pub mod Openings
-pub mod Searches

@@ -1,5 +1,5 @@
 -- Why a record is lost in a line of a log, and in a run of lines.
-use Rattle.std.specs.Prelude.{◌≡◌, ◌⊎◌, ℕ, ◌+◌, ◌<◌, ◌≤◌, List, [], ◌∷◌, ◌++◌, length, count_by, not, is_some, nat_le, Contains, Option, Some, None, ⊤}
+use Rattle.std.specs.Prelude.{◌≡◌, ◌⊎◌, ℕ, ◌+◌, ◌<◌, ◌≤◌, List, [], ◌∷◌, ◌++◌, length, Contains, Option, Some, None, ⊤}
 use Rattle.net_addr.specs.Address.{Address}
 use Rattle.net_addr.specs.declared.entry.Entry.{Entry}
 use Rattle.addr_codecs.specs.Layout.{IsAddrMessage, IsAddrv2Message}
@@ -16,7 +16,7 @@ use Rattle.log_run.specs.Run.{Run}
 use Rattle.session.specs.History.{History, HistoryStep}
 use Rattle.session.specs.State as session
 use Rattle.causes.specs.Kept.{IsAfter, most_lines}
-use Rattle.laws.specs.Losses.{HasRecord, LosesByEntry, LosesBySuccess}
+use Rattle.table_laws.specs.Losses.{lost_count, made_count, HasRecord, LosesByEntry, LosesBySuccess}
 
 -- the record is lost at an entry of a message, as it was when the entry came
 abbrev pub LosesAt : State → ℕ → Option Entry → State → Rec → Type 0
@@ -64,14 +64,6 @@ abbrev pub KeepsRecords : Machine → List ℕ → Machine → Type 0
 KeepsRecords old line new =
     (r : Rec) → Contains old.tables.records r
     → HasRecord new.tables r ⊎ LosesInLine old line r
-
--- how many records are not there any more
-abbrev pub lost_count : State → State → ℕ
-lost_count old new = count_by (λ r. not (is_some (by_number new r.number))) old.records
-
--- how many records have numbers that were not given before
-abbrev pub made_count : State → State → ℕ
-made_count old new = count_by (λ r. nat_le old.next_number r.number) new.records
 
 -- the command is a message
 abbrev pub IsMessage : Command → Type 0

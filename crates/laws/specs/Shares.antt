@@ -15,7 +15,7 @@ use Rattle.session.specs.State as session
 use Rattle.causes.specs.Accepted.{IsAccepted}
 use Rattle.causes.specs.Buckets.{IsBy, IsCaused, IsListed, reach}
 use Rattle.causes.specs.Kept.{IsAfter}
-use Rattle.laws.specs.Chances.{words_for}
+use Rattle.table_laws.specs.Chances.{words_for}
 
 -- a round that selects this bucket can come to a record that is theirs: from some slot on, it is
 -- the candidate

@@ -1,5 +1,0 @@
-use Rattle.laws.proofs.SamplesOf.{sample-is}
-use Rattle.laws.proofs.samples.samples_are_shuffles.Goals as goal
-
-pub returns : goal.returns
-returns c = λ st most percent classes words now enough. sample-is classes now st most percent words enough

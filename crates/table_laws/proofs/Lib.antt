@@ -1,0 +1,25 @@
+pub mod Contained
+pub mod Counts
+pub mod Rounds
+pub mod Shuffle
+pub mod Exchanges
+pub mod Draws
+pub mod Picked
+pub mod Within
+pub mod SamplesOf
+pub mod LossesOf
+pub mod There
+pub mod Balance
+pub mod SomeOf
+pub mod Residues
+pub mod SearchOf
+pub mod RoundsOf
+pub mod BoundOf
+pub mod OddsOf
+pub mod SearchesOf
+pub mod Restarted
+pub mod AppendedOf
+pub mod PlacingOf
+pub mod OpeningOf
+pub mod ReopeningOf
+mod Examples

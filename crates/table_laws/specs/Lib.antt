@@ -1,0 +1,9 @@
+pub mod Rounds
+pub mod Chances
+pub mod Odds
+pub mod Shuffle
+pub mod Samples
+pub mod Losses
+pub mod Restarts
+pub mod Openings
+pub mod Searches

@@ -1,0 +1,21 @@
+//! What the definitions of the tables give, in the words of a node's author. There is no program
+//! here, only definitions and laws.
+#![tactic(auto)]
+
+mod losses;
+mod odds;
+mod openings;
+mod picks;
+mod restarts;
+mod samples;
+mod searches;
+mod words;
+
+pub use losses::losses_have_causes;
+pub use odds::odds_are_bounded;
+pub use openings::openings_lose_with_causes;
+pub use picks::{picks_are_counted, rounds_are_counted};
+pub use restarts::restarts_keep_records;
+pub use samples::{samples_are_shuffles, shuffles_are_fair};
+pub use searches::{rounds_are_of_three_kinds, searches_are_counted, searches_share_alike};
+pub use words::residues_decide;
