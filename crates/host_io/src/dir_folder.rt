@@ -3,6 +3,7 @@ ghost use Rattle.host_io.specs.declared.name.Name.{Name};
 ghost use Rattle.host_io.specs.Faults.{Rose, raised};
 
 use crate::failed::{Failed, fault};
+use crate::failure::{Failure, Tried};
 use crate::folder::Folder;
 use crate::name::Name;
 use std::fs::{File, OpenFile, OpenOptions};
@@ -48,6 +49,8 @@ pub struct DirFolder<'a, R: Files> {
     lock: Option<R::File>,
     /// Whether another program had the lock when `create` was called last.
     is_in_use: bool,
+    /// The call that failed last.
+    last: Option<Failure>,
     faults: u64,
 }
 
@@ -75,6 +78,7 @@ impl<'a, R: Files + Alloc> DirFolder<'a, R> {
             written: None,
             lock: None,
             is_in_use: false,
+            last: None,
             faults: 0,
         }
     }
@@ -82,6 +86,21 @@ impl<'a, R: Files + Alloc> DirFolder<'a, R> {
     /// Returns whether the last `create` failed because another program was saving in the folder.
     pub fn is_in_use(&self) -> bool {
         self.is_in_use
+    }
+
+    /// Returns the call that failed last.
+    pub fn last_failure(&self) -> Option<Failure> {
+        self.last
+    }
+
+    /// Counts a fault, and keeps why.
+    fn failed(&mut self, name: Option<Name>, tried: Tried, error: io::Error) -> Failed
+        ensures counted { self.new ≡ raised self.old }
+        ensures cause { Rose self.old self.new }
+        ensures never_falls { self.old ≤ self.new }
+    {
+        self.last = Some(Failure { name, tried, error });
+        fault(&mut self.faults)
     }
 
     /// Closes the open file and opens this one. Returns its size in bytes, or `None` if it is
@@ -156,7 +175,12 @@ impl<'a, R: Files + Alloc> DirFolder<'a, R> {
     }
 
     /// Counts a fault if a call failed, which ends a save.
-    fn counted(&mut self, outcome: io::Result<()>) -> Result<(), Failed>
+    fn counted(
+        &mut self,
+        name: Option<Name>,
+        tried: Tried,
+        outcome: io::Result<()>,
+    ) -> Result<(), Failed>
         ensures steady { OnOk result (self.new ≡ self.old) }
         ensures counted { OnErr result (self.new ≡ raised self.old) }
         ensures cause { OnErr result (Rose self.old self.new) }
@@ -164,10 +188,10 @@ impl<'a, R: Files + Alloc> DirFolder<'a, R> {
     {
         match outcome {
             Ok(()) => Ok(()),
-            Err(_) => {
+            Err(error) => {
                 self.written = None;
                 self.lock = None;
-                Err(fault(&mut self.faults))
+                Err(self.failed(name, tried, error))
             }
         }
     }
@@ -223,7 +247,7 @@ where
     {
         match self.reopen(name) {
             Ok(size) => Ok(size),
-            Err(_) => Err(fault(&mut self.faults)),
+            Err(error) => Err(self.failed(Some(name), Tried::Read, error)),
         }
     }
 
@@ -238,7 +262,7 @@ where
     {
         match self.read_open(name, at, buf) {
             Ok(count) => Ok(count),
-            Err(_) => Err(fault(&mut self.faults)),
+            Err(error) => Err(self.failed(Some(name), Tried::Read, error)),
         }
     }
 
@@ -251,7 +275,7 @@ where
         ensures never_falls { self.old ≤ self.new }
     {
         let outcome = self.create_own(name);
-        self.counted(outcome)
+        self.counted(Some(name), Tried::Create, outcome)
     }
 
     /// Writes to the file that was created last, until all of `bytes` is written. It is a fault if
@@ -263,7 +287,7 @@ where
         ensures never_falls { self.old ≤ self.new }
     {
         let outcome = self.append_own(name, bytes);
-        self.counted(outcome)
+        self.counted(Some(name), Tried::Write, outcome)
     }
 
     /// Asks the system to write the file that was created last to the disk (`fsync`). It is a fault
@@ -275,7 +299,7 @@ where
         ensures never_falls { self.old ≤ self.new }
     {
         let outcome = self.sync_own(name);
-        self.counted(outcome)
+        self.counted(Some(name), Tried::Sync, outcome)
     }
 
     /// Closes the file that was created last, and renames it. It is a fault if that file has
@@ -288,7 +312,7 @@ where
         ensures never_falls { self.old ≤ self.new }
     {
         let outcome = self.rename_own(from, to);
-        self.counted(outcome)
+        self.counted(Some(from), Tried::Rename, outcome)
     }
 
     /// Asks the system to write the folder itself to the disk (`fsync`), and unlocks it.
@@ -299,7 +323,7 @@ where
         ensures never_falls { self.old ≤ self.new }
     {
         let outcome = self.sync_folder();
-        self.counted(outcome)
+        self.counted(None, Tried::Sync, outcome)
     }
 }
 

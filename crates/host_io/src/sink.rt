@@ -5,7 +5,8 @@ ghost use Rattle.host_io.specs.MemSink.{sink_after_write, sink_after_fault, sink
 
 use crate::failed::{Failed, FailingCalls, Memory, fault};
 use std::alloc::Global;
-use std::io::Write;
+use std::io;
+use std::io::{ErrorKind, Write};
 use std::marker::Model;
 
 /// Where bytes go, as the output of a program.
@@ -48,6 +49,8 @@ pub fn write_all<K: Sink>(sink: &mut K, bytes: &[u8]) -> Result<(), Failed>
 #[derive(Drop)]
 pub struct StdSink<W> {
     writer: W,
+    /// Why the last write failed.
+    error: Option<io::Error>,
     faults: u64,
 }
 
@@ -62,7 +65,30 @@ impl<W: Write> StdSink<W> {
     pub fn make(writer: W) -> StdSink<W>
         ensures { result ≡ 0 }
     {
-        StdSink { writer, faults: 0 }
+        StdSink {
+            writer,
+            error: None,
+            faults: 0,
+        }
+    }
+
+    /// Returns why the last write failed.
+    pub fn error(&self) -> Option<io::Error> {
+        self.error
+    }
+
+    /// Writes once, and flushes.
+    fn write_once(&mut self, piece: &[u8]) -> io::Result<usize>
+        requires { 0 < length piece.now }
+        ensures some { IfOk result (λ n. (0 < n) × (n ≤ length piece.now)) }
+        ensures steady { self.new ≡ self.old }
+    {
+        let count = self.writer.write(piece)?;
+        if count == 0 {
+            return Err(io::Error::from(ErrorKind::WriteZero));
+        }
+        self.writer.flush()?;
+        Ok(count)
     }
 }
 
@@ -81,9 +107,12 @@ impl<W: Write> Sink for StdSink<W> {
         ensures cause { OnErr result (Rose self.old self.new) }
         ensures never_falls { self.old ≤ self.new }
     {
-        match self.writer.write(piece) {
-            Ok(count) if 0 < count && self.writer.flush().is_ok() => Ok(count),
-            _ => Err(fault(&mut self.faults)),
+        match self.write_once(piece) {
+            Ok(count) => Ok(count),
+            Err(error) => {
+                self.error = Some(error);
+                Err(fault(&mut self.faults))
+            }
         }
     }
 }

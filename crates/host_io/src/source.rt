@@ -4,6 +4,7 @@ ghost use Rattle.host_io.specs.MemSource.{source_after_read, source_after_fault}
 
 use crate::failed::{Failed, FailingCalls, Memory, fault};
 use std::alloc::Global;
+use std::io;
 use std::io::Read;
 use std::marker::Model;
 
@@ -35,6 +36,8 @@ pub trait Source {
 #[derive(Drop)]
 pub struct StdSource<R> {
     reader: R,
+    /// Why the last read failed.
+    error: Option<io::Error>,
     faults: u64,
 }
 
@@ -49,7 +52,16 @@ impl<R: Read> StdSource<R> {
     pub fn make(reader: R) -> StdSource<R>
         ensures { result ≡ 0 }
     {
-        StdSource { reader, faults: 0 }
+        StdSource {
+            reader,
+            error: None,
+            faults: 0,
+        }
+    }
+
+    /// Returns why the last read failed.
+    pub fn error(&self) -> Option<io::Error> {
+        self.error
     }
 }
 
@@ -69,7 +81,10 @@ impl<R: Read> Source for StdSource<R> {
     {
         match self.reader.read(buf) {
             Ok(count) => Ok(count),
-            Err(_) => Err(fault(&mut self.faults)),
+            Err(error) => {
+                self.error = Some(error);
+                Err(fault(&mut self.faults))
+            }
         }
     }
 }
