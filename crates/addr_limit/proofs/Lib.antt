@@ -1,7 +1,8 @@
-pub mod Conns
-pub mod Tokens
-pub mod Entries
-pub mod Found
-pub mod Written
-pub mod Removed
-pub mod Messages
+pub mod Apart
+mod Served
+pub mod LineLaws
+pub mod Fits
+mod Examples
+pub mod Events
+pub mod Changes
+pub mod PassedOn

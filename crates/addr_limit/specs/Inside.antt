@@ -1,25 +1,27 @@
--- Definitions for private contracts: the connections in a map by number.
-use Rattle.std.specs.Prelude.{◌≡◌, ℕ, ◌<◌, ◌^◌, List, [], ◌∷◌}
-use Rattle.std.specs.List.{AllByRecursion}
-use Rattle.addr_limit.specs.declared.conn.Conn.{Conn}
-use Rattle.addr_limit.specs.State.{IsBounded, with_conn}
+-- Definitions for private contracts: short messages, and entries that are passed on.
+use Rattle.std.specs.Prelude.{◌≢◌, ℕ, ◌≤◌, List, length, All, Option, Result, Ok, Err}
+use Rattle.net_addr.specs.declared.entry.Entry.{Entry}
+use Rattle.net_addr.specs.declared.net.Net.TheVariants.{Internal}
+use Rattle.addr_codecs.specs.declared.fault.MsgFault.{MsgFault}
+use Rattle.addr_limit.specs.declared.event.Event.{Event}
+use Rattle.addr_limit.specs.declared.event.Event.TheVariants.{Of}
+use Rattle.addr_limit.specs.declared.request.Request.{Request}
+use Rattle.addr_limit.specs.declared.request.Request.TheVariants.{Message}
 
--- the connections of a map by rising number
-abbrev pub conns_of : List (ℕ × Conn) → List Conn
-conns_of [] = []
-conns_of (e ∷ es) = with_conn e.1 (conns_of es)
+-- a message has at most 1000 entries
+abbrev pub IsShortRead : Result (List (Option Entry)) MsgFault → Type 0
+IsShortRead (Ok entries) = length entries ≤ 1000
+IsShortRead (Err fault) = Unit {0}
 
--- few enough tenths, and counts of 32 bits
-pub record IsConn (c : Conn) : Type 0 where
-  pub tenths : IsBounded c
-  pub processed : c.processed < 2 ^ 32
-  pub limited : c.limited < 2 ^ 32
+abbrev pub IsShort : Request → Type 0
+IsShort (Message read words) = IsShortRead read
+IsShort other = Unit {0}
 
--- each connection is at its number
-abbrev pub AreEntries : List (ℕ × Conn) → Type 0
-AreEntries entries = AllByRecursion (λ e. (e.1.number ≡ e.0) × IsConn e.1) entries
+abbrev pub IsShortEvent : Event → Type 0
+IsShortEvent (Of number request) = IsShort request
+IsShortEvent other = Unit {0}
 
--- a connection that was changed keeps its number
-pub record IsKept (old new : Conn) : Type 0 where
-  pub conn : IsConn new
-  pub number : new.number ≡ old.number
+-- entries that `write_addrv2` takes
+pub record ArePassing (entries : List Entry) : Type 0 where
+  pub count : length entries ≤ 1000
+  pub networks : All (λ e. e.peer.addr.net ≢ Internal) entries

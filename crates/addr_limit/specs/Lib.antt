@@ -1,4 +1,6 @@
-pub mod Tokens
-pub mod State
-pub mod Calls
+pub mod LogState
+pub mod Steps
+pub mod Apart
+pub mod Lines
+pub mod Laws
 pub mod Inside

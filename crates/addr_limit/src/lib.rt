@@ -1,21 +1,29 @@
-//! The limit on the addresses that a node takes from each of its connections: a token bucket for
-//! each.
+//! The lines of a log of connections: what each says, and the line that the limit answers.
 //!
-//! Contracts see a `Limiter` as the list of connections, by rising number. A connection is found by
-//! one look-up under the caller's hasher.
+//! Contracts see a `LimitLog` as the clock and the list of connections.
 //!
-//! Proved: each call leaves the connections that the definition gives. No connection that a
-//! `Limiter` has is above 2,000 tokens, or 1,000 before getaddr (`bounded` of `find`).
+//! Proved: a step never takes a connection above 2,000 tokens, or 1,000 before getaddr, if it was
+//! not above before. What one connection sends never changes what is admitted from another
+//! (`connections_are_apart`, over all logs). The calls of `Limiter` do what the lines say
+//! (`calls_are_events`).
 #![tactic(auto)]
 
-mod asked;
-mod by_number;
-mod conn;
-mod limiter;
-mod spending;
+mod event;
+mod law;
+mod limit_log;
+mod passing;
+mod payload;
+mod print;
+mod read;
+mod request;
+mod serving;
+mod verb;
 
-pub use asked::Asked;
-pub use conn::Conn;
-pub use limiter::Limiter;
-pub use net_addr::Memory;
-pub use spending::admitted;
+pub use event::Event;
+pub use law::{
+    calls_are_events, connections_are_apart, lines_have_one_meaning, tokens_are_bounded,
+};
+pub use limit_log::LimitLog;
+pub use limiter::{Asked, Conn, Limiter, Memory};
+pub use request::Request;
+pub use verb::Verb;

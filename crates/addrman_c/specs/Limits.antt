@@ -2,12 +2,12 @@
 use Rattle.std.specs.Prelude.{◌≡◌, ◌⊎◌, ℕ, ◌<◌, ◌≤◌, List, [], Bool, is_none, Option, Some, None, MatchOption}
 use Rattle.net_addr.specs.Address.{Address}
 use Rattle.addr_codecs.specs.declared.message.TheConstants.{MAX_ENTRIES}
-use Rattle.addr_limit.specs.State.{find_conn, new_conn}
-use Rattle.addr_limit.specs.Tokens.{refill, intake_count}
-use Rattle.addr_limit.specs.Calls.{after_open, after_taking}
-use Rattle.addr_limit.specs.declared.conn.Conn.{Conn}
-use Rattle.addr_limit.specs.declared.asked.Asked.{Asked}
-use Rattle.addr_limit.specs.declared.asked.Asked.TheVariants.{Unknown, Already, Granted}
+use Rattle.limiter.specs.State.{find_conn, new_conn}
+use Rattle.limiter.specs.Tokens.{refill, intake_count}
+use Rattle.limiter.specs.Calls.{after_open, after_taking}
+use Rattle.limiter.specs.declared.conn.Conn.{Conn}
+use Rattle.limiter.specs.declared.asked.Asked.{Asked}
+use Rattle.limiter.specs.declared.asked.Asked.TheVariants.{Unknown, Already, Granted}
 use Rattle.addrman_c.specs.declared.code.TheConstants.{OK, CLOSED, MEMORY, ARGUMENT, NONE}
 use Rattle.addrman_c.specs.declared.limiter_handle.KeptLimiter.{KeptLimiter}
 use Rattle.addrman_c.specs.declared.structs.AddrmanLimits.{AddrmanLimits}

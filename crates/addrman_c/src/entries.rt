@@ -9,10 +9,10 @@ use crate::structs::{AddrmanAdded, AddrmanFault};
 use crate::values::{AddrmanAddr, AddrmanPeer, bit, read_addr, read_peer};
 use addr_codecs::{Form, MsgFault};
 use keyed_hasher::Keyed;
-use taking::{Added, MessageFault};
 use net_addr::{Entry, NetAddr, Peer};
 use std::alloc::Global;
 use tables::Tables;
+use taking::{Added, MessageFault};
 
 /// The next record number must be below this, so that a whole message fits.
 const MOST_RECORDS: u64 = 1 << 62;

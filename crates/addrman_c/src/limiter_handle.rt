@@ -6,9 +6,9 @@ ghost use Rattle.addrman_c.specs.Held.{held};
 ghost use Rattle.std.specs.Coded.{codes};
 ghost use Rattle.placing.specs.Places.{coded_places};
 
-use addr_limit::Limiter;
 use box_parts::Parts;
 use keyed_hasher::Keyed;
+use limiter::Limiter;
 use std::alloc::Global;
 use std::marker::Model;
 use std::{mem, ptr};

@@ -1,6 +1,6 @@
 ghost use Rattle.std.specs.Prelude.{◌≡◌, ◌≢◌, None, is_some};
-ghost use Rattle.addr_limit.specs.State.{find_conn, without_conn};
-ghost use Rattle.addr_limit.specs.Calls.{asked_of, after_asking};
+ghost use Rattle.limiter.specs.State.{find_conn, without_conn};
+ghost use Rattle.limiter.specs.Calls.{asked_of, after_asking};
 ghost use Rattle.addrman_c.specs.Values.{address_in, bit};
 ghost use Rattle.addrman_c.specs.Limits.{OnLimiter, StartCall, ConnectCall, AdmitCall, StatCall, IsLimits, asked_number};
 
@@ -9,8 +9,8 @@ use crate::limiter_handle::{KeptLimiter, LimiterHandle};
 use crate::structs::AddrmanLimits;
 use crate::values::{AddrmanAddr, bit, read_addr};
 use addr_codecs::MAX_ENTRIES;
-use addr_limit::{Asked, Conn, Limiter};
 use keyed_hasher::Keyed;
+use limiter::{Asked, Conn, Limiter};
 use net_addr::NetAddr;
 use std::alloc::Global;
 

@@ -3,8 +3,8 @@ use Rattle.std.proofs.Common.{◌≡◌, ◌≢◌, ◌≤◌, ◌+◌, ℕ, zer
 use Rattle.std.specs.Prelude.{◌⊎◌, All, IfSome, Option, Some}
 use Rattle.std.proofs.lemmas.Bool.{ne_eqb}
 use Rattle.std.proofs.lemmas.List.Elements.{All-head, All-tail}
-use Rattle.limit_lines.specs.Laws.{no_fault as no_limit_fault}
-use Rattle.limit_lines.specs.Lines.{FaultAfter, HasEventFault, SaysAfter}
+use Rattle.addr_limit.specs.Laws.{no_fault as no_limit_fault}
+use Rattle.addr_limit.specs.Lines.{FaultAfter, HasEventFault, SaysAfter}
 use Rattle.ban_list.specs.declared.ban.Ban.{Ban}
 use Rattle.host_io.specs.Faults.{Rose, RoseBy}
 use Rattle.host_io.specs.Lines.{lines_of, onto_first}

@@ -3,9 +3,9 @@ use Rattle.std.proofs.Common.{◌≡◌, ◌<◌, ◌^◌, ℕ, List, [], ◌∷
 use Rattle.std.specs.List.{flat_map}
 use Rattle.log_run.specs.Run.{Ran, Run, Streams}
 use Rattle.log_run.specs.declared.end.LogEnd.{LogEnd}
-use Rattle.limit_lines.specs.Apart.{IsLastOutput, Outputs}
-use Rattle.limit_lines.specs.Lines.{HasEventFault, LimitStep, is_about}
-use Rattle.limit_lines.specs.LogState.{LimitState, start}
+use Rattle.addr_limit.specs.Apart.{IsLastOutput, Outputs}
+use Rattle.addr_limit.specs.Lines.{HasEventFault, LimitStep, is_about}
+use Rattle.addr_limit.specs.LogState.{LimitState, start}
 use Rattle.addrman_run.specs.Inside.{status_of}
 use Rattle.addrman_run.specs.Limit.{LimitOutcome, Limited}
 use Rattle.addrman_run.proofs.Seen.{Seen, by_status, ran_of}

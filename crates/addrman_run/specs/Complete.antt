@@ -1,8 +1,8 @@
 -- When a run has to do what it is asked for: nothing is wrong with the log and the files, and
 -- nothing fails.
 use Rattle.std.specs.Prelude.{◌≡◌, ◌⊎◌, ◌≤◌, ℕ, List, All, length, Option, Some, None, ⊤}
-use Rattle.limit_lines.specs.Lines.{SaysEvent}
-use Rattle.limit_lines.specs.declared.event.Event.{Event}
+use Rattle.addr_limit.specs.Lines.{SaysEvent}
+use Rattle.addr_limit.specs.declared.event.Event.{Event}
 use Rattle.host_io.specs.Faults.{Rose}
 use Rattle.host_io.specs.Lines.{IsPassedOver, lines_of}
 use Rattle.host_io.specs.Outside.{Outside}

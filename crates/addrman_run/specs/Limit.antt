@@ -3,9 +3,9 @@ use Rattle.std.specs.Prelude.{◌≡◌, ℕ, ◌+◌, ◌<◌, ◌^◌, List, [
 use Rattle.std.specs.List.{flat_map, last_or}
 use Rattle.host_io.specs.Outside.{Outside}
 use Rattle.host_io.specs.Reading.{TakesAtMost}
-use Rattle.limit_lines.specs.Apart.{Outputs}
-use Rattle.limit_lines.specs.Lines.{HasEventFault, LimitStep, is_about}
-use Rattle.limit_lines.specs.LogState.{LimitState, start}
+use Rattle.addr_limit.specs.Apart.{Outputs}
+use Rattle.addr_limit.specs.Lines.{HasEventFault, LimitStep, is_about}
+use Rattle.addr_limit.specs.LogState.{LimitState, start}
 use Rattle.log_run.specs.Run.{Ran, Streams}
 use Rattle.log_run.specs.declared.end.LogEnd.{LogEnd}
 use Rattle.log_run.specs.declared.limits.TheConstants.{MAX_LOG}

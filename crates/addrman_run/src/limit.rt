@@ -6,7 +6,7 @@ ghost use Rattle.log_run.specs.Counts.{IsCounted};
 
 use crate::Status;
 use crate::status::status_of;
-use limit_lines::{LimitLog, connections_are_apart};
+use addr_limit::{LimitLog, connections_are_apart};
 use host_io::{Sink, Source};
 use log_run::run_log;
 use std::alloc::Global;

@@ -6,7 +6,7 @@ use crate::memory::Memory;
 
 /// The maximum number of bytes of a list of bits. With more, the number of bits would not fit a
 /// `usize`.
-const MAX_BYTES: usize = 1 << 60;
+const MAX_BYTES: usize = usize::MAX / 16 + 1;
 
 /// Makes room for `more` bytes.
 pub(crate) fn make_room(bytes: &mut Vec<u8>, more: usize) -> Result<(), Memory>

@@ -11,7 +11,7 @@
 //!   both.
 //! - A field has at most one value and at most one fault (`fields_have_one_value`).
 //!
-//! It reads the lines of a log (`log_lines`), of the limit (`addr_limit`) and of the opener
+//! It reads the lines of a log (`log_lines`), of the limit (`limiter`) and of the opener
 //! (`opener_lines`), and the arguments of the command line (`arguments`).
 #![tactic(auto)]
 

@@ -4,7 +4,7 @@ use crate::fields::RowFields;
 use crate::tables_state::Hasher;
 use crate::text::{bool_text, number_text, owned};
 use crate::unread::Unread;
-use addr_limit::{Conn, Limiter, Memory};
+use limiter::{Conn, Limiter, Memory};
 use std::alloc::Global;
 
 /// Makes a call of `Limiter`: `open N ADDR MODE NOW`, `close N`, `getaddr N`, `admit N COUNT NOW`,

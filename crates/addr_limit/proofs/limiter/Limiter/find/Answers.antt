@@ -1,7 +1,0 @@
-use Rattle.std.proofs.Common.{subst}
-use Rattle.addr_limit.specs.State.{AreRising}
-use Rattle.addr_limit.proofs.Entries.{are_rising}
-use Rattle.addr_limit.proofs.limiter.Limiter.find.Goals as goal
-
-pub returns-clause-rising : goal.returns-clause-rising
-returns-clause-rising g c = subst AreRising c.self.view_is (are_rising c.self.inside.conns.entries)

@@ -1,0 +1,115 @@
+ghost use Rattle.std.specs.Prelude.{◌≡◌, ◌++◌, [], ◌∷◌, IfOk, OnOk, OnErr};
+ghost use Rattle.limiter.specs.State.{find_conn, set_conn, AreRising};
+ghost use Rattle.addr_limit.specs.Steps.{serve};
+ghost use Rattle.addr_limit.specs.Inside.{IsShort, IsShortRead};
+ghost use Rattle.addr_limit.specs.declared.request.Request.TheVariants.{Message};
+
+use crate::Request;
+use crate::passing::count_of;
+use crate::print::{known_line, unknown_line};
+use addr_codecs::{Entries, MsgFault};
+use grammar::Words;
+use limiter::{Limiter, Memory};
+use net_addr::put_text;
+use std::alloc::Global;
+use std::hash::BuildHasher;
+
+/// Carries out a request about the connection of the number, at a time in seconds since 1970, and
+/// appends its output line and a line feed. If memory runs out, nothing changes.
+pub(crate) fn serve<H: BuildHasher>(
+    limiter: &mut Limiter<H>,
+    alloc: Global,
+    clock: u32,
+    number: u32,
+    request: &Request,
+    out: &mut Vec<u8>,
+) -> Result<(), Memory>
+    requires { IsShort request.now }
+    ensures conns { OnOk result (limiter.new ≡ set_conn number
+        (serve clock number (find_conn number limiter.old) request.now).conn limiter.old) }
+    ensures text { OnOk result (out.new.items ≡ out.old.items
+        ++ ((serve clock number (find_conn number limiter.old) request.now).text ++ 10 ∷ [])) }
+    ensures err { OnErr result (limiter.new ≡ limiter.old) }
+    ensures list { OnErr result (out.new.items ≡ out.old.items) }
+{
+    let text = line_of(limiter, alloc, clock, number, request)?;
+    let length = out.len();
+    put_text(text.as_slice(), out)?;
+    match change(limiter, clock, number, request) {
+        Ok(()) => Ok(()),
+        Err(fault) => {
+            out.truncate(length);
+            Err(fault)
+        }
+    }
+}
+
+/// Returns the output line of a request about the number, and a line feed.
+fn line_of<H: BuildHasher>(
+    limiter: &Limiter<H>,
+    alloc: Global,
+    clock: u32,
+    number: u32,
+    request: &Request,
+) -> Result<Vec<u8>, Memory>
+    requires { IsShort request.now }
+    ensures text { IfOk result (λ text. text.items
+        ≡ (serve clock number (find_conn number limiter.now) request.now).text ++ 10 ∷ []) }
+    ensures rising { AreRising limiter.now }
+{
+    match limiter.find(number) {
+        Some(conn) => known_line(alloc, clock, conn, request),
+        None => unknown_line(alloc, number, request),
+    }
+}
+
+/// Changes the connections as the request says.
+fn change<H: BuildHasher>(
+    limiter: &mut Limiter<H>,
+    clock: u32,
+    number: u32,
+    request: &Request,
+) -> Result<(), Memory>
+    requires short { IsShort request.now }
+    requires rising { AreRising limiter.old }
+    ensures conns { OnOk result (limiter.new ≡ set_conn number
+        (serve clock number (find_conn number limiter.old) request.now).conn limiter.old) }
+    ensures err { OnErr result (limiter.new ≡ limiter.old) }
+{
+    match request {
+        Request::Open { addr, unlimited } => {
+            limiter.add_conn(number, *addr, *unlimited, clock)?;
+        }
+        Request::Close => {
+            limiter.close_conn(number);
+        }
+        Request::GetAddr => {
+            limiter.getaddr(number);
+        }
+        Request::Message { read, words } => take_message(limiter, clock, number, read, words),
+        Request::Stat => {}
+    }
+    Ok(())
+}
+
+/// Takes a message, unless it was refused or has too few random words.
+fn take_message<H: BuildHasher>(
+    limiter: &mut Limiter<H>,
+    clock: u32,
+    number: u32,
+    read: &Result<Entries, MsgFault>,
+    words: &Words,
+)
+    requires short { IsShortRead read.now }
+    requires rising { AreRising limiter.old }
+    ensures { limiter.new ≡ set_conn number (serve clock number (find_conn number limiter.old)
+        (Message read.now words.now)).conn limiter.old }
+{
+    let Ok(entries) = read else {
+        return;
+    };
+    let entries = entries.items();
+    if entries.len() <= words.items().len() {
+        limiter.admit(number, count_of(entries), clock);
+    }
+}

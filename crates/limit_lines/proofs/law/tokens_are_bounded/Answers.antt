@@ -1,5 +1,0 @@
-use Rattle.limit_lines.proofs.Fits.{after-bounded}
-use Rattle.limit_lines.proofs.law.tokens_are_bounded.Goals as goal
-
-pub returns : goal.returns
-returns c = λ st event h. after-bounded st event h

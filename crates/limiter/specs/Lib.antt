@@ -1,0 +1,4 @@
+pub mod Tokens
+pub mod State
+pub mod Calls
+pub mod Inside
