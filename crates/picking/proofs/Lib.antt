@@ -1,3 +1,5 @@
 pub mod Candidates
 pub mod FirstBits
 pub mod Samples
+pub mod Drawn
+pub mod SampleLaws

@@ -12,9 +12,13 @@
 #![tactic(auto)]
 
 mod bucket;
+mod drawing;
+mod law;
 mod sampling;
 mod search;
 
+pub use drawing::sample_by;
+pub use law::{samples_are_records, words_suffice};
 pub use peer_rec::{Peers, Picked};
 pub use sampling::{SampleFault, sample};
 pub use search::{select, select_by};

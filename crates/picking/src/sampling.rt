@@ -39,7 +39,7 @@ fn is_eligible(classes: NetSet, now: u32, rec: &Rec) -> bool
 }
 
 /// Returns the number of records.
-fn count_of<H: BuildHasher>(tables: &Tables<'_, H>) -> u32
+pub(crate) fn count_of<H: BuildHasher>(tables: &Tables<'_, H>) -> u32
     ensures count { result ≡ length tables.now.order }
     ensures sound { IsSound tables.now }
 {
@@ -49,7 +49,7 @@ fn count_of<H: BuildHasher>(tables: &Tables<'_, H>) -> u32
 
 /// Returns how many peers a sample of `count` records may have: at most `most`, and at most
 /// `percent` percent of the records. For both, 0 is no limit.
-fn sample_limit(count: u32, most: u32, percent: u32) -> u32
+pub(crate) fn sample_limit(count: u32, most: u32, percent: u32) -> u32
     requires percent { percent ≤ 100 }
     ensures limit { result ≡ sample_limit count most percent }
     ensures few { result ≤ count }
@@ -64,7 +64,7 @@ fn sample_limit(count: u32, most: u32, percent: u32) -> u32
 
 /// Exchanges a position of the order with one that the random word selects, itself or a later one.
 /// Returns the peer that is there then, if its record is eligible.
-fn select_at<H: BuildHasher, L: Ledger>(
+pub(crate) fn select_at<H: BuildHasher, L: Ledger>(
     tables: &mut Tables<'_, H>,
     classes: NetSet,
     now: u32,

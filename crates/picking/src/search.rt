@@ -3,9 +3,9 @@ ghost use Rattle.table_machine.specs.Picks.{candidate, candidates, first_accepte
 ghost use Rattle.peer_rec.specs.declared.picked.Picked.TheVariants.{Exhausted};
 
 use crate::bucket::first_candidate;
-use random_words::Draws;
 use net_addr::NetSet;
 use peer_rec::{Picked, Rec};
+use random_words::Draws;
 use slot_grid::{NEW_BUCKETS, SLOTS, TRIED_BUCKETS};
 use std::hash::BuildHasher;
 use std::sync::ledger::Ledger;
