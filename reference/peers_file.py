@@ -101,9 +101,14 @@ def read_peers(data: bytes, chain: str) -> PeersFile:
     return PeersFile(key, new, tried, buckets, asmap_sum)
 
 
-def asmap_sum_of(asmap: Asmap) -> bytes:
-    """The checksum of an asmap, or of none."""
-    return NO_SUM if asmap.data is None else places.double_sha256(asmap.data)
+def asmap_sum_of(asmap: Asmap, of_bits: bool = False) -> bytes:
+    """The checksum of an asmap, or of none: of its bytes, or as Bitcoin Core has it, of its bits."""
+    if asmap.data is None:
+        return NO_SUM
+    if not of_bits:
+        return places.double_sha256(asmap.data)
+    bits = bytes(byte >> place & 1 for byte in asmap.data for place in range(8))
+    return places.double_sha256(compact_size(len(bits)) + bits)
 
 
 def restored(file: PeersFile, asmap: Asmap) -> Tables:

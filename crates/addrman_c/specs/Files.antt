@@ -3,6 +3,7 @@ use Rattle.std.specs.Prelude.{◌≡◌, ◌⊎◌, ℕ, ◌<◌, ◌≤◌, Lis
 use Rattle.bit_code.specs.declared.bits.TheConstants.{MAX_ASMAP}
 use Rattle.asmap_vm.specs.Code.{Tree, IsSaneFile}
 use Rattle.asmap_vm.specs.Asmap.{Asmap}
+use Rattle.placing.specs.declared.sum.SumRule.TheVariants.{Bytes}
 use Rattle.table_machine.specs.State.{State, empty_state}
 use Rattle.table_machine.specs.Snapshot.{snapshot_of}
 use Rattle.peers_file.specs.Texts.{file_text}
@@ -28,7 +29,10 @@ IsNoMap bytes =
 -- empty tables of the key and the asmap, and no outbound peer
 abbrev pub IsOpened : List ℕ → Option Asmap → Kept → Type 0
 IsOpened key map kept =
-    kept ≡ record { tables = empty_state (record { key = key; map = map }); opener = [] }
+    kept ≡ record {
+      tables = empty_state (record { key = key; map = map; rule = Bytes });
+      opener = [];
+    }
 
 -- tables are opened, or the handle is closed
 abbrev pub OpenCall : List ℕ → List ℕ → ℕ → Option Kept → Type 0

@@ -2,6 +2,7 @@
 use Rattle.std.specs.Prelude.{◌≡◌, ◌≢◌, ◌⊎◌, ℕ, List, [], Option, Some, None, ⊤}
 use Rattle.asmap_vm.specs.Asmap.{Asmap}
 use Rattle.peer_rec.specs.Snapshot.{Snapshot}
+use Rattle.placing.specs.declared.sum.SumRule.TheVariants.{Bytes}
 use Rattle.table_machine.specs.Restoring.{restored, duplicate}
 use Rattle.peers_file.specs.Layout.{IsFile, HasFileFault}
 use Rattle.peers_file.specs.declared.chain.Chain.{Chain}
@@ -37,7 +38,10 @@ fault_of file.Memory = fault_at 0 0
 abbrev pub IsLoaded : Chain → List ℕ → Option Asmap → Kept → Type 0
 IsLoaded chain bytes map kept =
     (snap : Snapshot) × IsFile chain bytes snap
-    × (kept ≡ record { tables = restored snap (record { key = snap.key; map = map }); opener = [] })
+    × (kept ≡ record {
+      tables = restored snap (record { key = snap.key; map = map; rule = Bytes });
+      opener = [];
+    })
 
 -- why bytes are not loaded: memory, their first fault as a file, or two valid records of one peer
 abbrev pub IsLoadFault : Chain → List ℕ → LoadFault → Type 0

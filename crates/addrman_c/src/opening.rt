@@ -1,5 +1,6 @@
 ghost use Rattle.std.specs.Prelude.{◌≡◌, [], None, IfOk, IfErr, IfSome};
 ghost use Rattle.placing.specs.Inside.{map_of};
+ghost use Rattle.placing.specs.declared.sum.SumRule.TheVariants.{Bytes};
 ghost use Rattle.addrman_c.specs.Files.{IsMapOf, IsNoMap, IsOpened, OpenCall};
 
 use crate::code::{MEMORY, OK, REFUSED};
@@ -31,7 +32,8 @@ pub(crate) fn placer_of(
     key: [u8; 32],
     map: Option<Sane<'_>>,
 ) -> Option<Placer<'static>>
-    ensures { IfSome result (λ placer. placer ≡ record { key = key; map = map_of map.entry }) }
+    ensures { IfSome result (λ placer.
+        placer ≡ record { key = key; map = map_of map.entry; rule = Bytes }) }
 {
     let Some(map) = map else {
         return Some(Placer::make(key, None));

@@ -5,7 +5,8 @@ use Rattle.std.proofs.lemmas.List.{append-nil}
 use Rattle.sha2.proofs.Facts256.{length-sha256}
 use Rattle.sha2.specs.Sha256.{sha256}
 use Rattle.asmap_vm.specs.Asmap.{Asmap}
-use Rattle.placing.specs.Places.{double_sha256, sum_of}
+use Rattle.placing.specs.Places.{double_sha256, sum_input, sum_by}
+use Rattle.placing.specs.declared.sum.SumRule.{SumRule}
 use Rattle.peer_rec.specs.Snapshot.{Snapshot}
 use Rattle.peers_file.specs.Inside.{IsWritten}
 use Rattle.peers_file.specs.Layout.{IsFile, between}
@@ -25,10 +26,10 @@ use Rattle.addrman_run.specs.Opening.{Opens, tables_of}
 use Rattle.addrman_run.specs.Opening.Opens.{from_file, from_key}
 use Rattle.addrman_run.specs.Replay.{ReopensAs}
 
-length-sum : (map : Option Asmap) → length (sum_of map) ≡ 32
+length-sum : (rule : SumRule) (map : Option Asmap) → length (sum_by rule map) ≡ 32
 unfolding double_sha256
-length-sum None = refl
-length-sum (Some m) = length-sha256 (sha256 m.file)
+length-sum rule None = refl
+length-sum rule (Some m) = length-sha256 (sha256 (sum_input rule m.file))
 
 -- a snapshot of sound tables can be written
 written : (st : State) → IsSound st → IsWritten (snapshot_of st)
@@ -38,7 +39,7 @@ written st sound =
     record {
       snapshot = record {
         key_length = sound.places.key_length;
-        sum_length = length-sum st.places.map;
+        sum_length = length-sum st.places.rule st.places.map;
         few_new = fits.few_new;
         few_tried = fits.few_tried;
         new_attempts = fits.new_attempts;

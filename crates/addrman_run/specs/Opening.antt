@@ -5,6 +5,7 @@ use Rattle.host_io.specs.Past.{Past}
 use Rattle.host_io.specs.declared.name.Name.TheVariants as name
 use Rattle.asmap_vm.specs.Asmap.{Asmap}
 use Rattle.placing.specs.Places.{Places}
+use Rattle.placing.specs.declared.sum.SumRule.TheVariants.{Bytes}
 use Rattle.peer_rec.specs.Snapshot.{Snapshot}
 use Rattle.table_machine.specs.State.{State, empty_state}
 use Rattle.table_machine.specs.Restoring.{restored, duplicate}
@@ -19,7 +20,7 @@ use Rattle.addrman_run.specs.declared.status.Status.TheVariants as status
 
 -- what buckets and slots depend on, under a key and the folder's asmap
 abbrev pub places_of : List ℕ → Option Asmap → Places
-places_of key map = record { key = key; map = map }
+places_of key map = record { key = key; map = map; rule = Bytes }
 
 -- the tables of a file, under its own key
 abbrev pub tables_of : Snapshot → Option Asmap → State

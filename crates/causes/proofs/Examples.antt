@@ -20,6 +20,7 @@ use Rattle.addr_codecs.specs.Layout.{IsAddrMessage, addr_entry}
 use Rattle.addr_codecs.specs.Texts.{addr_entry_text}
 use Rattle.addr_codecs.proofs.TextLaws.{FitsAddr, of_addr_entry, of_message}
 use Rattle.placing.specs.Places.{Places, cheap_hash, double_sha256, new_bucket}
+use Rattle.placing.specs.declared.sum.SumRule.TheVariants.{Bytes}
 use Rattle.peer_rec.specs.Snapshot.{Snapshot, snapshot}
 use Rattle.peer_rec.specs.declared.file_rec.FileRec.{FileRec}
 use Rattle.peers_file.specs.declared.chain.Chain.TheVariants.{Main}
@@ -35,7 +36,7 @@ use Rattle.causes.specs.Buckets.IsCaused.{Told, Own, InFile}
 
 -- a key of zeros, and no asmap
 abbrev pub zeros : Places
-zeros = record { key = replicate 32 0; map = None }
+zeros = record { key = replicate 32 0; map = None; rule = Bytes }
 
 abbrev pub dns : Address
 dns = address Ipv4 (8 ∷ 8 ∷ 8 ∷ 8 ∷ [])

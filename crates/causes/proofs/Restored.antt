@@ -63,10 +63,10 @@ with_records-bare snap places =
     (new-bare places (empty_state places) snap.new_recs (refl, λ r c. absurd (none_in_nil r c)))
 
 -- a file's buckets are used if their number and the asmap are the same
-used-are : (snap : Snapshot) (places : Places) → uses_buckets snap places ≡ true → (snap.bucket_count ≡ 1024) × (snap.sum ≡ sum_of places.map)
+used-are : (snap : Snapshot) (places : Places) → uses_buckets snap places ≡ true → (snap.bucket_count ≡ 1024) × (snap.sum ≡ sum_of places)
 used-are snap places is =
-    let parts = and_parts (snap.bucket_count == 1024) (bytes_eq snap.sum (sum_of places.map)) is in
-    ((Decides-eqb snap.bucket_count 1024).0 parts.0, (bytes_eq-Decides snap.sum (sum_of places.map)).0 parts.1)
+    let parts = and_parts (snap.bucket_count == 1024) (bytes_eq snap.sum (sum_of places)) is in
+    ((Decides-eqb snap.bucket_count 1024).0 parts.0, (bytes_eq-Decides snap.sum (sum_of places)).0 parts.1)
 
 module _ (Accepted : Peer → Address → Type 0) (snap : Snapshot) (places : Places) where
   abbrev C : ℕ → Peer → Address → ℕ → Type 0

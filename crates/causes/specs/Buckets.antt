@@ -15,7 +15,7 @@ use Rattle.table_machine.specs.State.{State}
 abbrev pub IsListed : Option Snapshot → Places → ℕ → Peer → ℕ → Type 0
 IsListed None places number peer bucket = ⊥
 IsListed (Some snap) places number peer bucket =
-    (snap.bucket_count ≡ 1024) × (snap.sum ≡ sum_of places.map)
+    (snap.bucket_count ≡ 1024) × (snap.sum ≡ sum_of places)
     × ((r : Rec) × Contains (with_records snap places).records r
     × (r.number ≡ number) × (r.peer ≡ peer))
     × Contains snap.listed (bucket, number)

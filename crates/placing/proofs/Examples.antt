@@ -1,7 +1,8 @@
 -- Worked examples of the definitions, each computed.
-use Rattle.std.specs.Prelude.{◌≡◌, ℕ, List, [], ◌∷◌, replicate, Some, None, codes, refl}
+use Rattle.std.specs.Prelude.{◌≡◌, ℕ, List, [], ◌∷◌, replicate, reverse, Some, None, codes, refl}
 use Rattle.sha2.specs.Sha256.{sha256, digest_bytes, hash_after, compress, rounds, schedule, first_words}
 use Rattle.wire_num.specs.CompactSize.{compact_size}
+use Rattle.bit_code.specs.Coder.{low_digits, file_bits}
 use Rattle.net_addr.specs.Address.{Address}
 use Rattle.net_addr.specs.OldForm.{address}
 use Rattle.net_addr.specs.Ranges.{in_range}
@@ -10,7 +11,8 @@ use Rattle.net_addr.specs.declared.peer.Peer.{Peer}
 use Rattle.asmap_vm.specs.Code.{asn_of, meaning}
 use Rattle.asmap_vm.specs.Code.Tree.{Return}
 use Rattle.asmap_vm.specs.Asmap.{Asmap}
-use Rattle.placing.specs.Places.{Places, double_sha256, cheap_hash, group, sum_of, new_bucket, new_slot, tried_bucket, tried_slot}
+use Rattle.placing.specs.declared.sum.SumRule.TheVariants.{Bytes, Bits}
+use Rattle.placing.specs.Places.{Places, double_sha256, cheap_hash, group, sum_input, sum_by, sum_of, new_bucket, new_slot, tried_bucket, tried_slot}
 
 abbrev ipv4 : ℕ → ℕ → ℕ → ℕ → Address
 ipv4 a b c d = address Ipv4 (a ∷ b ∷ c ∷ d ∷ [])
@@ -22,7 +24,7 @@ core_key =
 
 -- its placer without an asmap
 abbrev core : Places
-core = record { key = core_key; map = None }
+core = record { key = core_key; map = None; rule = Bytes }
 
 abbrev one : Peer
 one = record { addr = ipv4 250 1 1 1; port = 8333 }
@@ -61,15 +63,43 @@ abbrev everything : Asmap
 everything = record { file = 0 ∷ 0 ∷ 0 ∷ []; tree = Return 7 }
 
 abbrev by_map : Places
-by_map = record { key = replicate 32 0; map = Some everything }
+by_map = record { key = replicate 32 0; map = Some everything; rule = Bytes }
 
 group_by_the_map : group by_map (ipv4 8 8 8 8) ≡ 2 ∷ 7 ∷ 0 ∷ 0 ∷ 0 ∷ []
 unfolding in_range asn_of meaning
 group_by_the_map = refl
 
--- the checksum is that of the file
-sum_of_the_map : sum_of (Some everything) ≡ double_sha256 (0 ∷ 0 ∷ 0 ∷ [])
+-- the checksum is that of the file's bytes, or of its bits after their number
+sum_of_the_map : sum_of by_map ≡ double_sha256 (0 ∷ 0 ∷ 0 ∷ [])
 sum_of_the_map = refl
+
+sum_of_the_bits : sum_by Bits (Some everything) ≡ double_sha256 (24 ∷ replicate 24 0)
+unfolding compact_size file_bits low_digits
+sum_of_the_bits = refl
+
+low_bit_first : sum_input Bits (0x05 ∷ []) ≡ 8 ∷ 1 ∷ 0 ∷ 1 ∷ 0 ∷ 0 ∷ 0 ∷ 0 ∷ 0 ∷ []
+unfolding compact_size file_bits low_digits
+low_bit_first = refl
+
+-- the asmap of Bitcoin Core's own tests, and its checksum as feature_asmap.py has it, the last byte
+-- first
+abbrev core_file : List ℕ
+core_file =
+    0xfb ∷ 0x03 ∷ 0xec ∷ 0x0f ∷ 0xb0 ∷ 0x3f ∷ 0xc0 ∷ 0xfe ∷ 0x00 ∷ 0xfb ∷ 0x03 ∷ 0xec
+    ∷ 0x0f ∷ 0xb0 ∷ 0x3f ∷ 0xc0 ∷ 0xfe ∷ 0x00 ∷ 0xfb ∷ 0x03 ∷ 0xec ∷ 0x0f ∷ 0xb0 ∷ 0xff
+    ∷ 0xff ∷ 0xfe ∷ 0xff ∷ 0xed ∷ 0xb0 ∷ 0xff ∷ 0xd4 ∷ 0x86 ∷ 0xe6 ∷ 0x28 ∷ 0x29 ∷ 0x00
+    ∷ 0x00 ∷ 0x40 ∷ 0x00 ∷ 0x00 ∷ 0x40 ∷ 0x00 ∷ 0x40 ∷ 0x99 ∷ 0x01 ∷ 0x00 ∷ 0x80 ∷ 0x01
+    ∷ 0x80 ∷ 0x04 ∷ 0x00 ∷ 0x00 ∷ 0x05 ∷ 0x00 ∷ 0x06 ∷ 0x00 ∷ 0x1c ∷ 0xf0 ∷ 0x39 ∷ []
+
+abbrev printed_sum : List ℕ
+printed_sum =
+    0xfe ∷ 0xc6 ∷ 0x1f ∷ 0xa2 ∷ 0x1a ∷ 0x9f ∷ 0x46 ∷ 0xf3 ∷ 0xb1 ∷ 0x7b ∷ 0xdc ∷ 0xd6
+    ∷ 0x60 ∷ 0xd7 ∷ 0xf4 ∷ 0xcd ∷ 0x90 ∷ 0xb9 ∷ 0x66 ∷ 0xaa ∷ 0xd3 ∷ 0xae ∷ 0xc5 ∷ 0x93
+    ∷ 0xc9 ∷ 0x9b ∷ 0x35 ∷ 0xf0 ∷ 0xac ∷ 0xa1 ∷ 0x58 ∷ 0x53 ∷ []
+
+sum_of_core_file : reverse (double_sha256 (sum_input Bits core_file)) ≡ printed_sum
+unfolding compact_size file_bits low_digits double_sha256 sha256 digest_bytes hash_after compress rounds schedule first_words
+sum_of_core_file = refl
 
 -- an address that is not looked up, and one without an asmap
 not_looked_up : group by_map (address Onion (replicate 32 0xab)) ≡ 3 ∷ 0xaf ∷ []
@@ -80,7 +110,7 @@ no_map : group core (ipv4 8 8 8 8) ≡ 1 ∷ 8 ∷ 8 ∷ []
 unfolding in_range
 no_map = refl
 
-sum_without_a_map : sum_of None ≡ replicate 32 0
+sum_without_a_map : sum_of core ≡ replicate 32 0
 sum_without_a_map = refl
 
 -- The eight places of Bitcoin Core's functional test of `getrawaddrman` (rpc_net.py): under the key
@@ -89,7 +119,7 @@ abbrev one_key : List ℕ
 one_key = 1 ∷ replicate 31 0
 
 abbrev under_one : Places
-under_one = record { key = one_key; map = None }
+under_one = record { key = one_key; map = None; rule = Bytes }
 
 abbrev new_place : Peer → ℕ × ℕ
 new_place peer =

@@ -1,2 +1,3 @@
+pub mod BitBytes
 pub mod Buckets
 pub mod Examples

@@ -1,10 +1,11 @@
 -- Buckets and slots: where in the tables a peer can be (`AddrInfo::GetNewBucket`, `GetTriedBucket`
 -- and `GetBucketPosition` in addrman.cpp of Bitcoin Core).
-use Rattle.std.specs.Prelude.{◌≡◌, ℕ, ◌<◌, ◌%◌, List, [], ◌∷◌, ◌++◌, length, take, map, replicate, All, Option, Some, None, IfSome, refl}
-use Rattle.std.specs.Int.{w32, w64, to_le_bytes, from_le_bytes}
+use Rattle.std.specs.Prelude.{◌≡◌, ℕ, ◌<◌, ◌%◌, List, [], ◌∷◌, ◌++◌, length, take, map, replicate, All, Option, Some, None, IfSome, Bool, true, false, if◌then◌else◌, refl}
+use Rattle.std.specs.Int.{w32, w64, to_le_bytes, from_le_bytes, from_bool}
 use Rattle.std.specs.List.{concat, range_with_len}
-use Rattle.std.specs.Coded.{Coded, code_by, coded×, coded_ℕ, coded_list, coded_option}
+use Rattle.std.specs.Coded.{Coded, code_by, coded×, coded_ℕ, coded_bool, coded_list, coded_option}
 use Rattle.sha2.specs.Sha256.{sha256}
+use Rattle.bit_code.specs.Coder.{file_bits}
 use Rattle.wire_num.specs.CompactSize.{compact_size}
 use Rattle.net_addr.specs.Address.{Address}
 use Rattle.net_addr.specs.OldForm.{key_bytes}
@@ -12,6 +13,8 @@ use Rattle.net_addr.specs.declared.peer.Peer.{Peer}
 use Rattle.net_group.specs.Group.{group_of, asmap_bits}
 use Rattle.asmap_vm.specs.Code.{Tree, asn_of}
 use Rattle.asmap_vm.specs.Asmap.{Asmap, IsAsmap, coded_asmap}
+use Rattle.placing.specs.declared.sum.SumRule.{SumRule}
+use Rattle.placing.specs.declared.sum.SumRule.TheVariants.{Bytes, Bits}
 
 -- SHA-256 of SHA-256 (FIPS 180-4)
 unfoldable pub double_sha256 : List ℕ → List ℕ
@@ -29,15 +32,32 @@ sized bytes = compact_size (length bytes) ++ bytes
 abbrev pub hash_of : List (List ℕ) → ℕ
 hash_of parts = cheap_hash (concat parts)
 
--- what buckets and slots depend on: a node's secret key of 32 bytes, and its asmap if it has one
+-- a rule is stored as whether it is the one of bits
+abbrev is_bits : SumRule → Bool
+is_bits Bytes = false
+is_bits Bits = true
+
+pub rule_of_is_bits : (rule : SumRule) → (if is_bits rule then Bits else Bytes) ≡ rule
+rule_of_is_bits Bytes = refl
+rule_of_is_bits Bits = refl
+
+abbrev coded_rule : Coded SumRule
+coded_rule =
+    code_by Bool coded_bool is_bits (λ bits. if bits then Bits else Bytes) rule_of_is_bits
+
+-- what buckets and slots depend on: a node's secret key of 32 bytes, and its asmap if it has one;
+-- and what of the asmap's file is hashed for its checksum
 pub record Places : Type 0 where
   pub key : List ℕ
   pub map : Option Asmap
+  pub rule : SumRule
 
 abbrev pub coded_places : Coded Places
 coded_places =
-    code_by (List ℕ × Option Asmap) (coded× (coded_list coded_ℕ) (coded_option coded_asmap))
-    (λ p. (p.key, p.map)) (λ p. record { key = p.0; map = p.1 }) (λ _. refl)
+    code_by (List ℕ × (Option Asmap × SumRule))
+    (coded× (coded_list coded_ℕ) (coded× (coded_option coded_asmap) coded_rule))
+    (λ p. (p.key, (p.map, p.rule)))
+    (λ p. record { key = p.0; map = p.1.0; rule = p.1.1 }) (λ _. refl)
 
 -- the key has 32 bytes, and the asmap is one that is accepted
 pub record IsPlaces (places : Places) : Type 0 where
@@ -56,10 +76,24 @@ abbrev pub asn : Option Asmap → Address → ℕ
 asn None a = 0
 asn (Some m) a = number_by m.tree (asmap_bits a)
 
--- the checksum of the asmap's file, 32 zero bytes if there is none
-abbrev pub sum_of : Option Asmap → List ℕ
-sum_of None = replicate 32 0
-sum_of (Some m) = double_sha256 m.file
+-- the bits of a file, one byte each
+abbrev pub bit_bytes : List ℕ → List ℕ
+bit_bytes file = map from_bool (file_bits file)
+
+-- what of an asmap's file is hashed: its bytes; or its bits, one byte each, after their number
+-- (`NetGroupManager::GetAsmapChecksum` of Bitcoin Core 24 to 30, from memory)
+abbrev pub sum_input : SumRule → List ℕ → List ℕ
+sum_input Bytes file = file
+sum_input Bits file = sized (bit_bytes file)
+
+-- the checksum of an asmap by a rule, 32 zero bytes if there is none
+abbrev pub sum_by : SumRule → Option Asmap → List ℕ
+sum_by rule None = replicate 32 0
+sum_by rule (Some m) = double_sha256 (sum_input rule m.file)
+
+-- the checksum of a node's asmap
+abbrev pub sum_of : Places → List ℕ
+sum_of places = sum_by places.rule places.map
 
 -- the group of an address by the node's asmap
 abbrev pub group : Places → Address → List ℕ

@@ -1,6 +1,6 @@
 //! Buckets and slots of the tables, by hashes over a node's secret key.
 //!
-//! Contracts see a `Placer` as the key and the asmap (`Places`).
+//! Contracts see a `Placer` as the key, the asmap and the rule of its checksum (`Places`).
 //!
 //! Proved: the AS number and the group of an address, and its buckets and slots by SHA-256 as the
 //! crate `sha2` defines it. A new bucket is one of the 64 of the source's group, a tried bucket one
@@ -11,6 +11,8 @@
 
 mod hash;
 mod placer;
+mod sum;
 
 pub use hash::{cheap, double_sha256};
 pub use placer::{Placer, number_of};
+pub use sum::{SumRule, sum_by};

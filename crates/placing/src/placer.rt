@@ -4,7 +4,8 @@ ghost use Rattle.net_group.specs.Group.{asmap_bits};
 ghost use Rattle.placing.specs.Places.{number_by};
 ghost use Rattle.slot_grid.specs.declared.sizes.TheConstants.{NEW_BUCKETS, TRIED_BUCKETS, SLOTS};
 
-use crate::hash::{add_sized, double_sha256, finish};
+use crate::hash::{add_sized, finish};
+use crate::sum::{SumRule, sum_by};
 use arrayvec::ArrayVec;
 use asmap_vm::{OwnedSane, Sane};
 use net_addr::{NetAddr, Peer};
@@ -24,11 +25,12 @@ pub(crate) enum Map<'a> {
 }
 
 /// What buckets and slots depend on: a node's secret key, which nobody else knows, and the node's
-/// asmap if it has one.
+/// asmap if it has one. The rule says what the checksum of the asmap is.
 #[derive(Drop)]
 pub struct Placer<'a> {
     key: [u8; 32],
     map: Map<'a>,
+    rule: SumRule,
 }
 
 impl<'a> Model for Placer<'a> {
@@ -39,9 +41,10 @@ impl<'a> Model for Placer<'a> {
 
     ghost coded = { coded_places };
 
-    ghost view = { λ p. record { key = p.key; map = map_in p.map } };
+    ghost view = { λ p. record { key = p.key; map = map_in p.map; rule = p.rule } };
 
-    ghost invariant = { λ p. IsPlaces (record { key = p.key; map = map_in p.map }) };
+    ghost invariant = { λ p.
+        IsPlaces (record { key = p.key; map = map_in p.map; rule = p.rule }) };
 }
 
 impl<'a> Placer<'a> {
@@ -50,10 +53,11 @@ impl<'a> Placer<'a> {
     ghost use Rattle.std.specs.List.{Contains};
     ghost use Rattle.placing.specs.Places.{IsPlaces, hash_of, sized, slot, group_choice, asn, sum_of, group, source_bucket, source_buckets, source_choice, group_bucket, group_buckets, new_bucket, tried_bucket, new_slot, tried_slot};
     ghost use Rattle.placing.specs.Inside.{asmap_of, map_of};
+    ghost use Rattle.placing.specs.declared.sum.SumRule.TheVariants.{Bytes};
 
-    /// Makes the placer of a node with this key and this asmap.
+    /// Makes the placer of a node with this key and this asmap, whose checksum is of its bytes.
     pub fn make(key: [u8; 32], asmap: Option<Sane<'a>>) -> Placer<'a>
-        ensures { result ≡ record { key = key; map = map_of asmap.entry } }
+        ensures { result ≡ record { key = key; map = map_of asmap.entry; rule = Bytes } }
     {
         let map = match asmap {
             Some(asmap) => Map::Lent(asmap),
@@ -62,22 +66,36 @@ impl<'a> Placer<'a> {
         Placer {
             key: copied(&key),
             map,
+            rule: SumRule::Bytes,
         }
     }
 
-    /// Makes the placer of a node with this key, and keeps a copy of this asmap in it.
+    /// Makes the placer of a node with this key, and keeps a copy of this asmap in it. Its checksum
+    /// is of its bytes.
     pub fn with_copy(
         alloc: Global,
         key: [u8; 32],
         asmap: &Sane<'_>,
     ) -> Result<Placer<'a>, AllocError>
         ensures { IfOk result (λ placer.
-            placer ≡ record { key = key; map = Some (asmap_of asmap.now) }) }
+            placer ≡ record { key = key; map = Some (asmap_of asmap.now); rule = Bytes }) }
     {
         Ok(Placer {
             key: copied(&key),
             map: Map::Owned(OwnedSane::copy_of(alloc, asmap)?),
+            rule: SumRule::Bytes,
         })
+    }
+
+    /// Returns the placer with another rule for the checksum of its asmap.
+    pub fn with_rule(self, rule: SumRule) -> Placer<'a>
+        ensures { result ≡ record self.entry { rule = rule } }
+    {
+        Placer {
+            key: self.key,
+            map: self.map,
+            rule,
+        }
     }
 
     /// Returns the asmap.
@@ -99,15 +117,11 @@ impl<'a> Placer<'a> {
         self.key
     }
 
-    /// Returns the checksum of the asmap's file: SHA-256 of its SHA-256, or 32 zero bytes if there
-    /// is no asmap.
+    /// Returns the checksum of the asmap by the placer's rule, 32 zero bytes if there is no asmap.
     pub fn sum(&self) -> [u8; 32]
-        ensures { result ≡ sum_of self.now.map }
+        ensures { result ≡ sum_of self.now }
     {
-        match self.asmap() {
-            Some(asmap) => double_sha256(asmap.code()),
-            None => [0; 32],
-        }
+        sum_by(self.rule, self.asmap())
     }
 
     /// Returns the number of the autonomous system that announces an address, 0 if none is known.

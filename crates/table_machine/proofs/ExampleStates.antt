@@ -5,6 +5,7 @@ use Rattle.net_addr.specs.OldForm.{address}
 use Rattle.net_addr.specs.declared.net.Net.TheVariants.{Ipv4}
 use Rattle.net_addr.specs.declared.peer.Peer.{Peer}
 use Rattle.placing.specs.Places.{Places}
+use Rattle.placing.specs.declared.sum.SumRule.TheVariants.{Bytes}
 use Rattle.peer_rec.specs.Blank.{blank_record}
 use Rattle.peer_rec.specs.declared.rec.Rec.{Rec}
 use Rattle.peer_rec.specs.declared.place.Place.{Place}
@@ -33,7 +34,7 @@ failed number port attempts place = record (rec number port place) { time = 1699
 
 -- a key of zeros, and no map
 abbrev pub zeros : Places
-zeros = record { key = replicate 32 0; map = None }
+zeros = record { key = replicate 32 0; map = None; rule = Bytes }
 
 -- a state with some records, in an order, some collisions, and a next number
 abbrev pub state : List Rec → List ℕ → List ℕ → ℕ → State

@@ -43,7 +43,7 @@ placed-all st sound m r at b listed =
     (c.0, (b, m), c.1, c.2, λ i. (Decides-eqb b b).1 refl i && (Decides-eqb m m).1 refl i)
 
 uses : (st : State) → uses_buckets (snapshot_of st) st.places ≡ true
-uses st = (bytes_eq-Decides (sum_of st.places.map) (sum_of st.places.map)).1 refl
+uses st = (bytes_eq-Decides (sum_of st.places) (sum_of st.places)).1 refl
 
 -- a record of the first part of a list
 at-left : (n : ℕ) (xs ys : List Rec) (m : ℕ) (r : Rec) → At n (xs ++ ys) m r → m < n + length xs → At n xs m r

@@ -274,7 +274,7 @@ restored_sound snap places is places_are none =
     let tried = all-tried n snap.new_recs (with_all_new (empty_state places) snap.new_recs) snap.tried_recs new apart is.tried_recs (omega arith) in
     let same = uses_buckets snap places in
     let filled = place-fill n same (with_records snap places) snap.listed tried.fill (λ uses p c.
-    let count : snap.bucket_count ≡ 1024 = (Decides-eqb snap.bucket_count 1024).0 (and_parts (snap.bucket_count == 1024) (bytes_eq snap.sum (sum_of places.map)) uses).0 in
+    let count : snap.bucket_count ≡ 1024 = (Decides-eqb snap.bucket_count 1024).0 (and_parts (snap.bucket_count == 1024) (bytes_eq snap.sum (sum_of places)) uses).0 in
     let low = All-contains (λ (pair : ℕ × ℕ). pair.0 < snap.bucket_count) snap.listed p is.buckets c in
     omega (arith, count)) in
     drop-sound n (place_all same (with_records snap places) snap.listed) (range_with_len 0 n) filled (λ r c.

@@ -93,7 +93,7 @@ drop_all st (number ∷ numbers) = drop_all (drop_record st (by_number st number
 
 -- The file's buckets are used if there are as many as in these tables, and the asmap is the same.
 abbrev pub uses_buckets : Snapshot → Places → Bool
-uses_buckets snap places = snap.bucket_count == NEW_BUCKETS && bytes_eq snap.sum (sum_of places.map)
+uses_buckets snap places = snap.bucket_count == NEW_BUCKETS && bytes_eq snap.sum (sum_of places)
 
 -- the records of a file, the new ones first
 abbrev pub with_records : Snapshot → Places → State

@@ -60,5 +60,5 @@ snapshot_of st = record {
   tried_recs = map file_rec (tried_records st);
   bucket_count = NEW_BUCKETS;
   listed = listed_of st;
-  sum = sum_of st.places.map;
+  sum = sum_of st.places;
 }

@@ -3,7 +3,7 @@ use crate::text::{bytes_of, decimal, hex_text, owned};
 use crate::unread::Unread;
 use asmap_vm::check;
 use net_addr::{NetAddr, Peer};
-use placing::{Placer, cheap};
+use placing::{Placer, SumRule, cheap};
 use sha2::{Digest, Sha256};
 use std::alloc::{AllocError, Global};
 
@@ -69,6 +69,18 @@ fn mapped(alloc: Global, name: &str, text: &str) -> Result<String, Unread> {
         return hex_text(alloc, placer.sum().as_slice());
     }
     group(alloc, &placer, text)
+}
+
+/// `core-sum ASMAP`: the checksum of the asmap as Bitcoin Core has it, the last byte first.
+fn core_sum(alloc: Global, hex: &str) -> Result<String, Unread> {
+    let bytes = bytes_of(alloc, hex)?;
+    let Ok(asmap) = check(bytes.as_slice()) else {
+        return Err(Unread::Form);
+    };
+    let placer = Placer::make([0; 32], Some(asmap)).with_rule(SumRule::Bits);
+    let mut sum = placer.sum();
+    sum.reverse();
+    hex_text(alloc, sum.as_slice())
 }
 
 /// `key`: the key of the placer that has Bitcoin Core's, and the sum of one without an asmap.
@@ -150,6 +162,7 @@ pub(crate) fn answer(alloc: Global, name: &str, arguments: &str) -> Result<Strin
         "places" => both_places(alloc, arguments),
         "group" => group_by_zero(alloc, arguments),
         "mapped-group" | "asmap-sum" => mapped(alloc, name, arguments),
+        "core-sum" => core_sum(alloc, arguments),
         "key" => key(alloc),
         "source-buckets" | "group-buckets" => buckets(alloc, name, arguments),
         "choice" => choice(alloc, arguments),

@@ -72,7 +72,7 @@ returns-clause-found g c =
     let listed : c.of-listed.result ≡ listed_of st = c.of-listed.ensures ∙ c.in_ok-listed.ensures.found ∙ ap listed_of c.self.view_is in
     let count : c.from.result ≡ 1024 = search rules in
     let key : c.key-key.result ≡ st.places.key = c.key-key.ensures.value ∙ ap (λ (t : State). t.places.key) c.self.view_is in
-    let sum : c.sum-sum.result ≡ sum_of st.places.map = c.sum-sum.ensures ∙ ap (λ (t : State). sum_of t.places.map) c.self.view_is in
+    let sum : c.sum-sum.result ≡ sum_of st.places = c.sum-sum.ensures ∙ ap (λ (t : State). sum_of t.places) c.self.view_is in
     c.make.ensures ∙ (λ i. snapshot (key i) (news i) (trieds i) (count i) (listed i) (sum i))
 
 pub returns-clause-restart : goal.returns-clause-restart
