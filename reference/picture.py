@@ -5,7 +5,7 @@ from addresses import Address
 from places import LONG_GROUPS, NEW_BUCKETS, SLOTS, TRIED_BUCKETS, group
 from tables import Record, Tables
 
-COLOURS = "#d55e00", "#0072b2", "#009e73", "#cc79a7", "#e69f00", "#56b4e9", "#8b949e"
+COLOURS = "#d55e00", "#0072b2", "#009e73", "#cc79a7", "#e69f00", "#56b4e9", "#57606a"
 GROUND = "#eceff2"
 LISTED = 6
 MANY_BUCKETS = 32

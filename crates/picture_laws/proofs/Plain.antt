@@ -72,7 +72,7 @@ plain-path mark side marks =
 pub plain-colour : (index : ℕ) → IsPlain (colour index)
 plain-colour index = a (index == 0) (index == 1) (index == 2) (index == 3) (index == 4) (index == 5)
   where
-    a : (p q r s t u : Bool) → IsPlain (cond p (codes "#d55e00") (cond q (codes "#0072b2") (cond r (codes "#009e73") (cond s (codes "#cc79a7") (cond t (codes "#e69f00") (cond u (codes "#56b4e9") (codes "#8b949e")))))))
+    a : (p q r s t u : Bool) → IsPlain (cond p (codes "#d55e00") (cond q (codes "#0072b2") (cond r (codes "#009e73") (cond s (codes "#cc79a7") (cond t (codes "#e69f00") (cond u (codes "#56b4e9") (codes "#57606a")))))))
     a true q r s t u = refl
     a false true r s t u = refl
     a false false true s t u = refl

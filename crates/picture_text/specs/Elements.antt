@@ -11,7 +11,7 @@ colour index =
     else if index == 3 then codes "#cc79a7"
     else if index == 4 then codes "#e69f00"
     else if index == 5 then codes "#56b4e9"
-    else codes "#8b949e"
+    else codes "#57606a"
 
 -- that of a free slot
 abbrev pub ground : List ℕ

@@ -46,7 +46,7 @@ pub(crate) fn colour(index: u8) -> &'static [u8]
         3 => b"#cc79a7",
         4 => b"#e69f00",
         5 => b"#56b4e9",
-        _ => b"#8b949e",
+        _ => b"#57606a",
     }
 }
 
