@@ -3,6 +3,7 @@ use Rattle.std.specs.Prelude.{◌≡◌, ◌⊎◌, ℕ, ◌*◌, List, [], ◌�
 use Rattle.net_addr.specs.Address.{Address}
 use Rattle.net_addr.specs.declared.peer.Peer.{Peer}
 use Rattle.placing.specs.Places.{Places, group, group_buckets, new_bucket, source_buckets, sum_of, tried_bucket}
+use Rattle.placing.specs.declared.placer.TheConstants.{GROUP_BUCKETS, SOURCE_BUCKETS}
 use Rattle.peer_rec.specs.Rec.{buckets_of, is_tried}
 use Rattle.peer_rec.specs.Snapshot.{Snapshot}
 use Rattle.peer_rec.specs.declared.rec.Rec.{Rec}
@@ -15,7 +16,7 @@ use Rattle.table_machine.specs.State.{State}
 abbrev pub IsListed : Option Snapshot → Places → ℕ → Peer → ℕ → Type 0
 IsListed None places number peer bucket = ⊥
 IsListed (Some snap) places number peer bucket =
-    (snap.bucket_count ≡ 1024) × (snap.sum ≡ sum_of places)
+    (snap.bucket_count ≡ NEW_BUCKETS) × (snap.sum ≡ sum_of places)
     × ((r : Rec) × Contains (with_records snap places).records r
     × (r.number ≡ number) × (r.peer ≡ peer))
     × Contains snap.listed (bucket, number)
@@ -45,13 +46,13 @@ IsBy Accepted places groups r bucket =
     × (Accepted r.peer source ⊎ (source ≡ r.source))
     × (bucket ≡ new_bucket places r.peer source)
 
--- the buckets that sources of some groups reach: the 64 of each group in turn
+-- the buckets that sources of some groups reach: those of each group in turn
 abbrev pub reach : Places → List (List ℕ) → List ℕ
 reach places groups = flat_map (source_buckets places) groups
 
--- A bucket by a source is among the 64 of the source's group. So sources of some groups, however
--- many they are and whatever other lines come between, have put records into 64 buckets a
--- group at most. The tried records of one group are in 8 buckets at most.
+-- A bucket by a source is among those of the source's group. So sources of some groups, however
+-- many they are and whatever other lines come between, have put records into `SOURCE_BUCKETS`
+-- buckets a group at most. The tried records of one group are in `GROUP_BUCKETS` at most.
 pub record IsBounded (Accepted : Peer → Address → Type 0) (st : State) : Type 0 where
   pub new_source : (r : Rec) → Contains st.records r → (bucket : ℕ)
       → Contains (buckets_of r) bucket → (source : Address)
@@ -60,8 +61,8 @@ pub record IsBounded (Accepted : Peer → Address → Type 0) (st : State) : Typ
   pub new_groups : (groups : List (List ℕ)) (r : Rec) → Contains st.records r → (bucket : ℕ)
       → Contains (buckets_of r) bucket
       → IsBy Accepted st.places groups r bucket → Contains (reach st.places groups) bucket
-  pub new_count : (groups : List (List ℕ)) → length (reach st.places groups) ≡ 64 * length groups
+  pub new_count : (groups : List (List ℕ)) → length (reach st.places groups) ≡ SOURCE_BUCKETS * length groups
   pub tried_group : (r : Rec) → Contains st.records r → is_tried r ≡ true
       → Contains (group_buckets st.places (group st.places r.peer.addr))
       (tried_bucket st.places r.peer)
-  pub tried_count : (peer_group : List ℕ) → length (group_buckets st.places peer_group) ≡ 8
+  pub tried_count : (peer_group : List ℕ) → length (group_buckets st.places peer_group) ≡ GROUP_BUCKETS

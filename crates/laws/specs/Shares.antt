@@ -4,6 +4,7 @@ use Rattle.std.specs.List.{range_with_len}
 use Rattle.net_addr.specs.Address.{Address}
 use Rattle.net_addr.specs.declared.peer.Peer.{Peer}
 use Rattle.placing.specs.Places.{Places, group}
+use Rattle.placing.specs.declared.placer.TheConstants.{GROUP_BUCKETS, SOURCE_BUCKETS}
 use Rattle.peer_rec.specs.Rec.{buckets_of}
 use Rattle.peer_rec.specs.Snapshot.{Snapshot}
 use Rattle.peer_rec.specs.declared.rec.Rec.{Rec}
@@ -59,15 +60,15 @@ AreInGroups st groups test =
 pub record IsShared (Accepted : Peer → Address → Type 0) (Listed : ℕ → Peer → ℕ → Type 0)
     (st : State) : Type 0 where
   pub new : (nets : List ℕ) (groups : List (List ℕ))
-      → AllBut (64 * length groups) st true nets (IsBy Accepted st.places groups)
+      → AllBut (SOURCE_BUCKETS * length groups) st true nets (IsBy Accepted st.places groups)
   pub tried : (nets : List ℕ) (groups : List (List ℕ))
-      → AllBut (8 * length groups) st false nets (IsOf st groups)
+      → AllBut (GROUP_BUCKETS * length groups) st false nets (IsOf st groups)
   pub new_words : (nets : List ℕ) (now factor : ℕ) (groups : List (List ℕ)) (test : Rec → Bool)
       → AreBy Accepted st groups test
-      → words_for st true nets now factor test ≤ 64 * length groups * (SLOTS * 2 ^ 30)
+      → words_for st true nets now factor test ≤ SOURCE_BUCKETS * length groups * (SLOTS * 2 ^ 30)
   pub tried_words : (nets : List ℕ) (now factor : ℕ) (groups : List (List ℕ)) (test : Rec → Bool)
       → AreInGroups st groups test
-      → words_for st false nets now factor test ≤ 8 * length groups * (SLOTS * 2 ^ 30)
+      → words_for st false nets now factor test ≤ GROUP_BUCKETS * length groups * (SLOTS * 2 ^ 30)
   pub pair_words : (nets : List ℕ) (now factor : ℕ) (groups peers : List (List ℕ))
       (test : Rec → Bool) → AreBy Accepted st groups test → AreInGroups st peers test
       → words_for st true nets now factor test ≤ length groups * length peers * (SLOTS * 2 ^ 30)

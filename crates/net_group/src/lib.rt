@@ -5,7 +5,9 @@
 #![tactic(auto)]
 
 mod asmap;
+mod law;
 mod network_group;
 
 pub use asmap::asmap_bits;
-pub use network_group::group;
+pub use law::limits;
+pub use network_group::{MAX_GROUP, group};

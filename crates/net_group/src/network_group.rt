@@ -7,9 +7,12 @@ ghost use Rattle.net_addr.specs.Ranges.{in_range, linked_by, net_class};
 use arrayvec::ArrayVec;
 use net_addr::{Net, NetAddr, append};
 
+/// Bytes of a group, at most.
+pub const MAX_GROUP: usize = 11;
+
 /// Returns the network group of an address in the autonomous system `asn`, 0 if that is not known
 /// (`NetGroupManager::GetGroup` in netgroup.cpp of Bitcoin Core).
-pub fn group(addr: &NetAddr, asn: u32) -> ArrayVec<u8, 11>
+pub fn group(addr: &NetAddr, asn: u32) -> ArrayVec<u8, MAX_GROUP>
     ensures { result.items ≡ group_of addr.now asn }
 {
     if asn == 0 {
@@ -22,7 +25,7 @@ pub fn group(addr: &NetAddr, asn: u32) -> ArrayVec<u8, 11>
 }
 
 /// Returns the number of the class, and the part of the address that its class groups by.
-fn group_by_class(addr: &NetAddr, class: Net) -> ArrayVec<u8, 11>
+fn group_by_class(addr: &NetAddr, class: Net) -> ArrayVec<u8, MAX_GROUP>
     requires { class ≡ net_class addr.now }
     ensures { result.items ≡ net_number class ∷ part_by class addr.now }
 {
@@ -53,7 +56,7 @@ fn ipv6_bits(addr: &NetAddr) -> usize
 }
 
 /// Appends the first two bytes of the IPv4 address that the address is or carries.
-fn append_linked(group: &mut ArrayVec<u8, 11>, addr: &NetAddr)
+fn append_linked(group: &mut ArrayVec<u8, MAX_GROUP>, addr: &NetAddr)
     requires { array_vec_len group.old ≤ 1 }
     ensures { group.new.items
         ≡ group.old.items ++ take 2 (unwrap_or (linked_by addr.now.net addr.now.bytes) []) }
@@ -66,7 +69,7 @@ fn append_linked(group: &mut ArrayVec<u8, 11>, addr: &NetAddr)
 }
 
 /// Appends the first bits of the bytes, and ones after them up to a whole byte.
-fn append_bits(group: &mut ArrayVec<u8, 11>, bytes: &[u8], bits: usize)
+fn append_bits(group: &mut ArrayVec<u8, MAX_GROUP>, bytes: &[u8], bits: usize)
     requires enough { bits ≤ 8 * length bytes.now }
     requires room { 8 * array_vec_len group.old + bits ≤ 80 }
     ensures { group.new.items ≡ group.old.items ++ prefix_bytes bits bytes.now }

@@ -6,6 +6,7 @@ use Rattle.net_addr.specs.Ranges.{is_routable}
 use Rattle.net_addr.specs.declared.net.Net.{Net}
 use Rattle.net_addr.specs.declared.net.Net.TheVariants.{Unroutable}
 use Rattle.slot_grid.specs.declared.sizes.TheConstants.{NEW_BUCKETS}
+use Rattle.peer_rec.specs.declared.buckets.TheConstants.{MAX_LISTS}
 use Rattle.peer_rec.specs.declared.file_rec.TheConstants.{MAX_ATTEMPTS}
 use Rattle.peer_rec.specs.declared.rec.Rec.{Rec}
 use Rattle.peer_rec.specs.declared.place.Place.{Place}
@@ -30,10 +31,10 @@ is_tried r = tried_by r.place
 abbrev pub network : Rec → Net
 network r = if is_routable r.peer.addr then r.peer.addr.net else Unroutable
 
--- one to eight buckets of the new table, which rise
+-- some buckets of the new table, at most `MAX_LISTS`, which rise
 pub record AreBuckets (buckets : List ℕ) : Type 0 where
   pub some : 0 < length buckets
-  pub most : length buckets ≤ 8
+  pub most : length buckets ≤ MAX_LISTS
   pub below : All (λ b. b < NEW_BUCKETS) buckets
   pub rising : IsStrictlyIncreasing buckets
 

@@ -1,34 +1,40 @@
 ghost use Rattle.std.specs.Prelude.{◌≡◌, ◌+◌, ◌≤◌, ◌<◌, ◌∷◌, ◌++◌, [], length, filter, nat_lt, ◌==◌};
 ghost use Rattle.arrayvec.specs.ArrayVec.{array_vec_len};
 ghost use Rattle.peer_rec.specs.Buckets.{with_bucket, without_bucket};
+ghost use Rattle.peer_rec.specs.declared.buckets.TheConstants.{MAX_LISTS};
 
 use arrayvec::ArrayVec;
 use std::marker::Model;
 
-/// The buckets of the new table that list a record: at most eight numbers.
+/// Buckets of the new table that list a record, at most (`ADDRMAN_NEW_BUCKETS_PER_ADDRESS` in
+/// addrman_impl.h of Bitcoin Core).
+pub const MAX_LISTS: usize = 8;
+
+/// The buckets of the new table that list a record.
 #[derive(Drop)]
 pub struct Buckets {
     /// The first `count` are the buckets.
-    numbers: [u16; 8],
+    numbers: [u16; MAX_LISTS],
     count: u8,
 }
 
 impl Model for Buckets {
     ghost use Rattle.std.specs.Prelude.{ℕ, List, ◌≤◌, take};
+    ghost use Rattle.peer_rec.specs.declared.buckets.TheConstants.{MAX_LISTS};
 
     ghost Value = { List ℕ };
 
     ghost view = { λ b. take b.count b.numbers };
 
-    ghost invariant = { λ b. b.count ≤ 8 };
+    ghost invariant = { λ b. b.count ≤ MAX_LISTS };
 }
 
 impl Buckets {
-    /// Makes the buckets of a list of at most eight.
-    pub fn of(items: ArrayVec<u16, 8>) -> Buckets
+    /// Makes the buckets of a list.
+    pub fn of(items: ArrayVec<u16, MAX_LISTS>) -> Buckets
         ensures { result ≡ items.items }
     {
-        let mut numbers = [0; 8];
+        let mut numbers = [0; MAX_LISTS];
         numbers[..items.len()].copy_from_slice(items.as_slice());
         Buckets {
             numbers,
@@ -41,7 +47,7 @@ impl Buckets {
         ensures { result ≡ [] }
     {
         Buckets {
-            numbers: [0; 8],
+            numbers: [0; MAX_LISTS],
             count: 0,
         }
     }
@@ -58,7 +64,7 @@ impl Buckets {
     /// Returns the buckets as a slice.
     pub fn items(&self) -> &[u16]
         ensures items { result.now ≡ self.now }
-        ensures few { length self.now ≤ 8 }
+        ensures few { length self.now ≤ MAX_LISTS }
     {
         &self.numbers[..usize::from(self.count)]
     }
@@ -80,9 +86,9 @@ impl Buckets {
         self.count == 0
     }
 
-    /// Adds a bucket to fewer than eight.
+    /// Adds a bucket to fewer than `MAX_LISTS`.
     pub fn insert(&mut self, bucket: u16)
-        requires room { length self.old < 8 }
+        requires room { length self.old < MAX_LISTS }
         ensures { self.new ≡ with_bucket bucket self.old }
     {
         let mut items = below(self.items(), bucket);
@@ -102,9 +108,9 @@ impl Buckets {
     }
 }
 
-/// Copies at most eight buckets.
-fn list_of(buckets: &[u16]) -> ArrayVec<u16, 8>
-    requires { length buckets.now ≤ 8 }
+/// Copies buckets.
+fn list_of(buckets: &[u16]) -> ArrayVec<u16, MAX_LISTS>
+    requires { length buckets.now ≤ MAX_LISTS }
     ensures { result.items ≡ buckets.now }
 {
     let mut items = ArrayVec::new();
@@ -113,8 +119,8 @@ fn list_of(buckets: &[u16]) -> ArrayVec<u16, 8>
 }
 
 /// Appends buckets, for which there is room.
-fn append(items: &mut ArrayVec<u16, 8>, more: &[u16])
-    requires { array_vec_len items.old + length more.now ≤ 8 }
+fn append(items: &mut ArrayVec<u16, MAX_LISTS>, more: &[u16])
+    requires { array_vec_len items.old + length more.now ≤ MAX_LISTS }
     ensures { items.new.items ≡ items.old.items ++ more.now }
 {
     // There is room for all of them.
@@ -122,8 +128,8 @@ fn append(items: &mut ArrayVec<u16, 8>, more: &[u16])
 }
 
 /// Returns the buckets below `bucket`.
-fn below(buckets: &[u16], bucket: u16) -> ArrayVec<u16, 8>
-    requires { length buckets.now ≤ 8 }
+fn below(buckets: &[u16], bucket: u16) -> ArrayVec<u16, MAX_LISTS>
+    requires { length buckets.now ≤ MAX_LISTS }
     ensures { result.items ≡ filter (λ b. nat_lt b bucket) buckets.now }
 {
     let mut items = list_of(buckets);
@@ -132,8 +138,8 @@ fn below(buckets: &[u16], bucket: u16) -> ArrayVec<u16, 8>
 }
 
 /// Returns the buckets above `bucket`.
-fn above(buckets: &[u16], bucket: u16) -> ArrayVec<u16, 8>
-    requires { length buckets.now ≤ 8 }
+fn above(buckets: &[u16], bucket: u16) -> ArrayVec<u16, MAX_LISTS>
+    requires { length buckets.now ≤ MAX_LISTS }
     ensures { result.items ≡ filter (λ b. nat_lt bucket b) buckets.now }
 {
     let mut items = list_of(buckets);

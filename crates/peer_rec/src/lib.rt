@@ -19,7 +19,7 @@ mod rec;
 mod resolved;
 mod snapshot;
 
-pub use buckets::Buckets;
+pub use buckets::{Buckets, MAX_LISTS};
 pub use counts::Counts;
 pub use fate::Fate;
 pub use file_rec::{FileRec, FileRecs, MAX_ATTEMPTS};

@@ -2,11 +2,11 @@ ghost use Rattle.std.specs.Prelude.{◌≡◌, ◌<◌, ◌≤◌, length};
 ghost use Rattle.peer_rec.specs.declared.place.Place.TheVariants.{New};
 ghost use Rattle.peer_rec.specs.Rec.{buckets_by, tried_by};
 ghost use Rattle.peer_rec.specs.Buckets.{with_bucket, without_bucket};
+ghost use Rattle.peer_rec.specs.declared.buckets.TheConstants.{MAX_LISTS};
 
 use crate::Buckets;
 
-/// Where a record is: in the new table, in one to eight buckets in rising order, or in the tried
-/// table.
+/// Where a record is: in some buckets of the new table, in rising order, or in the tried table.
 #[derive(Drop)]
 pub enum Place {
     New(Buckets),
@@ -34,7 +34,7 @@ impl Place {
     /// Returns how many buckets of the new table list the record.
     pub fn bucket_count(&self) -> usize
         ensures count { result ≡ length (buckets_by self.now) }
-        ensures few { result ≤ 8 }
+        ensures few { result ≤ MAX_LISTS }
     {
         match self {
             Place::New(buckets) => buckets.items().len(),
@@ -42,10 +42,10 @@ impl Place {
         }
     }
 
-    /// Returns the place in the new table with `bucket` added. There must be fewer than eight
+    /// Returns the place in the new table with `bucket` added. There must be fewer than `MAX_LISTS`
     /// buckets.
     pub fn with_bucket(&self, bucket: u16) -> Place
-        requires room { length (buckets_by self.now) < 8 }
+        requires room { length (buckets_by self.now) < MAX_LISTS }
         ensures { result ≡ New (with_bucket bucket (buckets_by self.now)) }
     {
         match self {

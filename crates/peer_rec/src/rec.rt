@@ -45,6 +45,7 @@ pub struct Rec {
 
 impl Rec {
     ghost use Rattle.std.specs.Prelude.{◌<◌, length};
+    ghost use Rattle.peer_rec.specs.declared.buckets.TheConstants.{MAX_LISTS};
     ghost use Rattle.peer_rec.specs.declared.place.Place.TheVariants.{New};
     ghost use Rattle.peer_rec.specs.Rec.{buckets_of, is_terrible, chance, network};
     ghost use Rattle.peer_rec.specs.Buckets.{with_bucket, without_bucket};
@@ -78,10 +79,10 @@ impl Rec {
         }
     }
 
-    /// Returns the record in the new table with `bucket` added. Fewer than eight buckets must list
-    /// it.
+    /// Returns the record in the new table with `bucket` added. Fewer than `MAX_LISTS` buckets must
+    /// list it.
     pub fn with_bucket(&self, bucket: u16) -> Rec
-        requires room { length (buckets_of self.now) < 8 }
+        requires room { length (buckets_of self.now) < MAX_LISTS }
         ensures { result
             ≡ record self.now { place = New (with_bucket bucket (buckets_of self.now)) } }
     {

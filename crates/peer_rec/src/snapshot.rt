@@ -51,11 +51,11 @@ impl Snapshot {
         listed: Pairs,
         sum: [u8; 32],
     ) -> Snapshot
-        requires few_new { length new_recs ≤ 65536 }
-        requires few_tried { length tried_recs ≤ 16384 }
-        requires new_attempts { All (λ r. r.attempts ≤ 2147483647) new_recs }
+        requires few_new { length new_recs ≤ MAX_NEW }
+        requires few_tried { length tried_recs ≤ MAX_TRIED }
+        requires new_attempts { All (λ r. r.attempts ≤ MAX_ATTEMPTS) new_recs }
         requires tried_attempts { All (λ r. r.attempts ≤ MAX_ATTEMPTS) tried_recs }
-        requires few_buckets { bucket_count ≤ 65536 }
+        requires few_buckets { bucket_count ≤ MAX_BUCKETS }
         requires buckets { All (λ pair. pair.0 < bucket_count) listed }
         requires indexes { All (λ pair. pair.1 < length new_recs) listed }
         requires rising { AllPairs (λ pair later. pair.0 ≤ later.0) listed }

@@ -6,6 +6,7 @@ use Rattle.std.specs.List.{concat, range_with_len}
 use Rattle.std.specs.Coded.{Coded, code_by, coded×, coded_ℕ, coded_bool, coded_list, coded_option}
 use Rattle.sha2.specs.Sha256.{sha256}
 use Rattle.bit_code.specs.Coder.{file_bits}
+use Rattle.slot_grid.specs.declared.sizes.TheConstants.{NEW_BUCKETS, SLOTS, TRIED_BUCKETS}
 use Rattle.wire_num.specs.CompactSize.{compact_size}
 use Rattle.net_addr.specs.Address.{Address}
 use Rattle.net_addr.specs.OldForm.{key_bytes}
@@ -13,6 +14,7 @@ use Rattle.net_addr.specs.declared.peer.Peer.{Peer}
 use Rattle.net_group.specs.Group.{group_of, asmap_bits}
 use Rattle.asmap_vm.specs.Code.{Tree, asn_of}
 use Rattle.asmap_vm.specs.Asmap.{Asmap, IsAsmap, coded_asmap}
+use Rattle.placing.specs.declared.placer.TheConstants.{GROUP_BUCKETS, SOURCE_BUCKETS}
 use Rattle.placing.specs.declared.sum.SumRule.{SumRule}
 use Rattle.placing.specs.declared.sum.SumRule.TheVariants.{Bytes, Bits}
 
@@ -99,45 +101,45 @@ sum_of places = sum_by places.rule places.map
 abbrev pub group : Places → Address → List ℕ
 group places a = group_of a (asn places.map a)
 
--- the 64 buckets of the new table for peers that sources of one group announce
+-- the buckets of the new table for peers that sources of one group announce
 abbrev pub source_bucket : Places → List ℕ → ℕ → ℕ
 source_bucket places source_group i =
-    hash_of (places.key ∷ sized source_group ∷ to_le_bytes w64 i ∷ []) % 1024
+    hash_of (places.key ∷ sized source_group ∷ to_le_bytes w64 i ∷ []) % NEW_BUCKETS
 
 abbrev pub source_buckets : Places → List ℕ → List ℕ
-source_buckets places source_group = map (source_bucket places source_group) (range_with_len 0 64)
+source_buckets places source_group = map (source_bucket places source_group) (range_with_len 0 SOURCE_BUCKETS)
 
--- the 8 buckets of the tried table for peers of one group
+-- the buckets of the tried table for peers of one group
 abbrev pub group_bucket : Places → List ℕ → ℕ → ℕ
 group_bucket places peer_group i =
-    hash_of (places.key ∷ sized peer_group ∷ to_le_bytes w64 i ∷ []) % 256
+    hash_of (places.key ∷ sized peer_group ∷ to_le_bytes w64 i ∷ []) % TRIED_BUCKETS
 
 abbrev pub group_buckets : Places → List ℕ → List ℕ
-group_buckets places peer_group = map (group_bucket places peer_group) (range_with_len 0 8)
+group_buckets places peer_group = map (group_bucket places peer_group) (range_with_len 0 GROUP_BUCKETS)
 
--- the index, among the source group's 64 buckets, of the bucket for peers of `peer_group`
+-- the index, among the source group's buckets, of the bucket for peers of `peer_group`
 abbrev pub source_choice : Places → List ℕ → List ℕ → ℕ
 source_choice places peer_group source_group =
-    hash_of (places.key ∷ sized peer_group ∷ sized source_group ∷ []) % 64
+    hash_of (places.key ∷ sized peer_group ∷ sized source_group ∷ []) % SOURCE_BUCKETS
 
--- the bucket of the new table for a peer that a source announces, below 1024
+-- the bucket of the new table for a peer that a source announces
 unfoldable pub new_bucket : Places → Peer → Address → ℕ
 new_bucket places peer source =
     source_bucket places (group places source)
     (source_choice places (group places peer.addr) (group places source))
 
--- the index, among the 8 buckets of its group, of a peer's bucket
+-- the index, among the buckets of its group, of a peer's bucket
 abbrev pub group_choice : Places → Peer → ℕ
-group_choice places peer = hash_of (places.key ∷ sized (key_bytes peer) ∷ []) % 8
+group_choice places peer = hash_of (places.key ∷ sized (key_bytes peer) ∷ []) % GROUP_BUCKETS
 
--- the bucket of the tried table for a peer, below 256
+-- the bucket of the tried table for a peer
 unfoldable pub tried_bucket : Places → Peer → ℕ
 tried_bucket places peer = group_bucket places (group places peer.addr) (group_choice places peer)
 
--- the slot of a peer in a bucket, below 64; the letter of the table is N for new and K for tried
+-- the slot of a peer in a bucket; the letter of the table is N for new and K for tried
 abbrev pub slot : ℕ → Places → Peer → ℕ → ℕ
 slot letter places peer bucket =
-    hash_of (places.key ∷ (letter ∷ []) ∷ to_le_bytes w32 bucket ∷ sized (key_bytes peer) ∷ []) % 64
+    hash_of (places.key ∷ (letter ∷ []) ∷ to_le_bytes w32 bucket ∷ sized (key_bytes peer) ∷ []) % SLOTS
 
 unfoldable pub new_slot : Places → Peer → ℕ → ℕ
 new_slot places peer bucket = slot 0x4e places peer bucket

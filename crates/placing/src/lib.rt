@@ -10,9 +10,11 @@
 #![tactic(auto)]
 
 mod hash;
+mod law;
 mod placer;
 mod sum;
 
 pub use hash::{cheap, double_sha256};
-pub use placer::{Placer, number_of};
+pub use law::limits;
+pub use placer::{GROUP_BUCKETS, Placer, SOURCE_BUCKETS, number_of};
 pub use sum::{SumRule, sum_by};

@@ -1,6 +1,8 @@
 ghost use Rattle.std.specs.Prelude.{◌≡◌, ◌<◌, length, All};
 ghost use Rattle.asmap_vm.specs.Held.{tree_held};
 ghost use Rattle.net_group.specs.Group.{asmap_bits};
+ghost use Rattle.net_group.specs.declared.network_group.TheConstants.{MAX_GROUP};
+ghost use Rattle.placing.specs.declared.placer.TheConstants.{GROUP_BUCKETS, SOURCE_BUCKETS};
 ghost use Rattle.placing.specs.Places.{number_by};
 ghost use Rattle.slot_grid.specs.declared.sizes.TheConstants.{NEW_BUCKETS, TRIED_BUCKETS, SLOTS};
 
@@ -9,12 +11,18 @@ use crate::sum::{SumRule, sum_by};
 use arrayvec::ArrayVec;
 use asmap_vm::{OwnedSane, Sane};
 use net_addr::{NetAddr, Peer};
-use net_group::asmap_bits;
+use net_group::{MAX_GROUP, asmap_bits};
 use sha2::{Digest, Sha256};
 use slot_grid::{NEW_BUCKETS, SLOTS, TRIED_BUCKETS};
 use std::alloc::{AllocError, Global};
 use std::array::from_fn;
 use std::marker::Model;
+
+/// The buckets of the new table for peers that sources of one group announce
+/// (`ADDRMAN_NEW_BUCKETS_PER_SOURCE_GROUP` in addrman_impl.h of Bitcoin Core).
+pub const SOURCE_BUCKETS: usize = 64;
+/// The buckets of the tried table for peers of one group (`ADDRMAN_TRIED_BUCKETS_PER_GROUP`).
+pub const GROUP_BUCKETS: usize = 8;
 
 /// Where a placer has its asmap.
 #[derive(Drop)]
@@ -136,39 +144,38 @@ impl<'a> Placer<'a> {
 
     /// Returns the network group of an address: addresses of one group are assumed to have one
     /// owner.
-    pub fn group(&self, addr: &NetAddr) -> ArrayVec<u8, 11>
+    pub fn group(&self, addr: &NetAddr) -> ArrayVec<u8, MAX_GROUP>
         ensures { result.items ≡ group self.now addr.now }
     {
         net_group::group(addr, self.asn(addr))
     }
 
-    /// Returns the index, below 64, of the bucket for peers of one group among the buckets of a
-    /// source group. Groups have at most 11 bytes.
+    /// Returns the index of the bucket for peers of one group among the buckets of a source group.
     pub fn source_choice(&self, peer_group: &[u8], source_group: &[u8]) -> u8
-        requires peer { length peer_group.now ≤ 11 }
-        requires source { length source_group.now ≤ 11 }
+        requires peer { length peer_group.now ≤ MAX_GROUP }
+        requires source { length source_group.now ≤ MAX_GROUP }
         ensures value { result ≡ source_choice self.now peer_group.now source_group.now }
-        ensures below { result < 64 }
+        ensures below { result < SOURCE_BUCKETS }
     {
         let mut hasher = Sha256::new();
         hasher.update(self.key);
         add_sized(&mut hasher, peer_group);
         add_sized(&mut hasher, source_group);
-        (finish(hasher) % 64) as u8
+        (finish(hasher) % SOURCE_BUCKETS as u64) as u8
     }
 
-    /// Returns the bucket of the new table at an index among the 64 of a source group.
+    /// Returns the bucket of the new table at an index among those of a source group.
     pub fn source_bucket(&self, source_group: &[u8], choice: u8) -> u16
-        requires { length source_group.now ≤ 11 }
+        requires { length source_group.now ≤ MAX_GROUP }
         ensures value { result ≡ source_bucket self.now source_group.now choice }
         ensures below { result < NEW_BUCKETS }
     {
         (self.indexed(source_group, choice) % u64::from(NEW_BUCKETS)) as u16
     }
 
-    /// Returns the bucket of the tried table at an index among the 8 of a group.
+    /// Returns the bucket of the tried table at an index among those of a group.
     fn group_bucket(&self, group: &[u8], choice: u8) -> u16
-        requires { length group.now ≤ 11 }
+        requires { length group.now ≤ MAX_GROUP }
         ensures value { result ≡ group_bucket self.now group.now choice }
         ensures below { result < TRIED_BUCKETS }
     {
@@ -177,7 +184,7 @@ impl<'a> Placer<'a> {
 
     /// Returns the hash of the key, a group and an index.
     fn indexed(&self, group: &[u8], index: u8) -> u64
-        requires { length group.now ≤ 11 }
+        requires { length group.now ≤ MAX_GROUP }
         ensures { result ≡ hash_of (self.now.key ∷ sized group.now ∷ to_le_bytes w64 index ∷ []) }
     {
         let mut hasher = Sha256::new();
@@ -215,15 +222,15 @@ impl<'a> Placer<'a> {
         self.group_bucket(group.as_slice(), choice)
     }
 
-    /// Returns the index, below 8, of a peer's bucket among those of its group.
+    /// Returns the index of a peer's bucket among those of its group.
     fn group_choice(&self, peer: &Peer) -> u8
         ensures value { result ≡ group_choice self.now peer.now }
-        ensures below { result < 8 }
+        ensures below { result < GROUP_BUCKETS }
     {
         let mut hasher = Sha256::new();
         hasher.update(self.key);
         add_sized(&mut hasher, peer.key_bytes().as_slice());
-        (finish(hasher) % 8) as u8
+        (finish(hasher) % GROUP_BUCKETS as u64) as u8
     }
 
     /// Returns the slot of a peer in a bucket of the new table (`AddrInfo::GetBucketPosition` in
@@ -258,22 +265,21 @@ impl<'a> Placer<'a> {
         (finish(hasher) % u64::from(SLOTS)) as u8
     }
 
-    /// Returns the 64 buckets of the new table for peers that sources of a group announce. A group
-    /// has at most 11 bytes.
-    pub fn source_buckets(&self, group: &[u8]) -> [u16; 64]
-        requires { length group.now ≤ 11 }
+    /// Returns the buckets of the new table for peers that sources of a group announce.
+    pub fn source_buckets(&self, group: &[u8]) -> [u16; SOURCE_BUCKETS]
+        requires { length group.now ≤ MAX_GROUP }
         ensures { result ≡ source_buckets self.now group.now }
     {
-        let mut buckets = [0; 64];
-        for i in 0..64 {
+        let mut buckets = [0; SOURCE_BUCKETS];
+        for i in 0..SOURCE_BUCKETS {
             buckets[i] = self.source_bucket(group, i as u8);
         }
         buckets
     }
 
-    /// Returns the 8 buckets of the tried table for peers of a group. A group has at most 11 bytes.
-    pub fn group_buckets(&self, group: &[u8]) -> [u16; 8]
-        requires { length group.now ≤ 11 }
+    /// Returns the buckets of the tried table for peers of a group.
+    pub fn group_buckets(&self, group: &[u8]) -> [u16; GROUP_BUCKETS]
+        requires { length group.now ≤ MAX_GROUP }
         ensures { result ≡ group_buckets self.now group.now }
     {
         from_fn(|i| self.group_bucket(group, i as u8))

@@ -11,6 +11,7 @@ use Rattle.peer_rec.specs.Buckets.{with_bucket, without_bucket}
 use Rattle.peer_rec.specs.Deletion.{without_first}
 use Rattle.peer_rec.specs.declared.rec.Rec.{Rec}
 use Rattle.peer_rec.specs.declared.place.Place.TheVariants.{New}
+use Rattle.peer_rec.specs.declared.buckets.TheConstants.{MAX_LISTS}
 use Rattle.table_machine.specs.State.{State, find_peer, new_rec_at, After, outcome}
 
 -- whether an entry got a slot, or whether a peer is known
@@ -102,7 +103,7 @@ abbrev pub add_known : State → ℕ → Rec → Entry → Address → ℕ → �
 add_known st now r entry source penalty word =
     let known = refresh r entry penalty now in
     let kept = with_record st known in
-    if nat_le entry.time known.time || is_tried known || length (buckets_of known) == 8 then no kept
+    if nat_le entry.time known.time || is_tried known || length (buckets_of known) == MAX_LISTS then no kept
     else if word % 2 ^ length (buckets_of known) == 0 then enter_bucket kept now known false source
     else no kept
 

@@ -14,6 +14,7 @@ use Rattle.table_machine.specs.State.{State, empty_state, by_number, new_rec_at,
 use Rattle.table_machine.specs.Entries.{delete, give_bucket, with_last}
 use Rattle.peer_rec.specs.declared.file_rec.FileRec.{FileRec}
 use Rattle.peer_rec.specs.Snapshot.{Snapshot}
+use Rattle.peer_rec.specs.declared.buckets.TheConstants.{MAX_LISTS}
 
 -- the record made of a file's record, with a number and a place
 abbrev pub record_of : FileRec → ℕ → Place → Rec
@@ -67,7 +68,7 @@ give_if_empty st r bucket other =
 abbrev pub place_record : Bool → State → ℕ → Option Rec → State
 place_record same st bucket None = st
 place_record same st bucket (Some r) =
-    if not (is_valid r.peer.addr) || length (buckets_of r) == 8 then st
+    if not (is_valid r.peer.addr) || length (buckets_of r) == MAX_LISTS then st
     else (
     let by_source = give_if_empty st r (new_bucket st.places r.peer r.source) st in
     if same then give_if_empty st r bucket by_source else by_source)

@@ -6,6 +6,7 @@ use Rattle.placing.specs.Places.{Places}
 use Rattle.peer_rec.specs.Rec.{buckets_of, is_tried}
 use Rattle.peer_rec.specs.Snapshot.{Snapshot}
 use Rattle.peer_rec.specs.declared.rec.Rec.{Rec}
+use Rattle.peer_rec.specs.declared.buckets.TheConstants.{MAX_LISTS}
 use Rattle.slot_grid.specs.Slots.{Slots, new_id, tried_id}
 use Rattle.table_machine.specs.State.{State, is_new_at, is_tried_at}
 use Rattle.table_machine.specs.Restoring.{with_records, drop_all, give_if_empty, place_all, uses_buckets}
@@ -39,7 +40,7 @@ pub record IsPlan (places : Places) (recs : List Rec) (news : ℕ) (slots : Slot
 -- a record of the new table that another bucket may list
 pub record HasSpace (r : Rec) : Type 0 where
   pub untried : is_tried r ≡ false
-  pub room : length (buckets_of r) < 8
+  pub room : length (buckets_of r) < MAX_LISTS
 
 -- the record gets the bucket that lists it, if the file's buckets are used and the slot is empty
 abbrev pub give_listed : Bool → State → Rec → ℕ → State → State

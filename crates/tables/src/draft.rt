@@ -26,6 +26,7 @@ impl<'s> Draft<'s> {
     ghost use Rattle.std.specs.Prelude.{◌≡◌, ◌<◌, ◌≤◌, length};
     ghost use Rattle.peer_rec.specs.Buckets.{with_bucket};
     ghost use Rattle.peer_rec.specs.Rec.{buckets_of};
+    ghost use Rattle.peer_rec.specs.declared.buckets.TheConstants.{MAX_LISTS};
     ghost use Rattle.peer_rec.specs.declared.place.Place.TheVariants.{New};
     ghost use Rattle.table_machine.specs.Restoring.{record_of};
 
@@ -57,14 +58,14 @@ impl<'s> Draft<'s> {
     /// Returns how many buckets of the new table list the record.
     pub(crate) fn bucket_count(&self) -> usize
         ensures count { result ≡ length (buckets_of self.now) }
-        ensures few { result ≤ 8 }
+        ensures few { result ≤ MAX_LISTS }
     {
         self.place.bucket_count()
     }
 
-    /// Puts the record into one more bucket of the new table. Fewer than eight must list it.
+    /// Puts the record into one more bucket of the new table. Fewer than `MAX_LISTS` must list it.
     pub(crate) fn give_bucket(&mut self, bucket: u16)
-        requires room { length (buckets_of self.old) < 8 }
+        requires room { length (buckets_of self.old) < MAX_LISTS }
         ensures { self.new
             ≡ record self.old { place = New (with_bucket bucket (buckets_of self.old)) } }
     {

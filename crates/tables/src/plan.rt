@@ -1,20 +1,17 @@
 ghost use Rattle.std.specs.Prelude.{◌≡◌, ◌<◌, ◌==◌, ◌||◌, length, not, true};
 ghost use Rattle.net_addr.specs.Ranges.{is_valid};
 ghost use Rattle.peer_rec.specs.Rec.{buckets_of};
+ghost use Rattle.peer_rec.specs.declared.buckets.TheConstants.{MAX_LISTS};
 ghost use Rattle.table_machine.specs.Restoring.{uses_buckets};
 ghost use Rattle.slot_grid.specs.declared.sizes.TheConstants.{NEW_BUCKETS};
 
 use crate::{Draft, Memory, NumberOrder};
-use peer_rec::{Buckets, FileRec, Place, Snapshot};
+use peer_rec::{Buckets, FileRec, MAX_LISTS, Place, Snapshot};
 use placing::Placer;
 use slot_grid::{Grid, NEW_BUCKETS};
 use std::alloc::Global;
 use std::sync::ledger::Ledger;
 use steps::Steps;
-
-/// The buckets that list a record, at most (`ADDRMAN_NEW_BUCKETS_PER_ADDRESS` in addrman_impl.h of
-/// Bitcoin Core).
-const MAX_LISTS: usize = 8;
 
 /// Tables that are being restored, from which no record is deleted yet. The number of a record is
 /// its position, and each slot has the number of the record in it. What the file has of a record is
@@ -31,6 +28,7 @@ pub(crate) struct Plan<'a, 's> {
 impl<'a, 's> Plan<'a, 's> {
     ghost use Rattle.std.specs.Prelude.{All, ◌≡◌, ◌≢◌, ℕ, ◌+◌, ◌*◌, ◌<◌, ◌≤◌, true, false, [], length, slice_get, Some, IfOk, OnOk, IsSomeAnd, Contains};
     ghost use Rattle.peer_rec.specs.Rec.{buckets_of};
+    ghost use Rattle.peer_rec.specs.declared.buckets.TheConstants.{MAX_LISTS};
     ghost use Rattle.peer_rec.specs.declared.rec.Rec.{Rec};
     ghost use Rattle.table_machine.specs.State.{State, by_number, empty_state};
     ghost use Rattle.table_machine.specs.Restoring.{drop_record, give_if_empty, place_all, place_pair, with_all_new, with_all_tried, with_new, with_tried};
@@ -327,11 +325,11 @@ fn uses_buckets(snap: &Snapshot, placer: &Placer) -> bool
     snap.bucket_count() == u32::from(NEW_BUCKETS) && snap.sum() == placer.sum()
 }
 
-/// Returns `true` if a record's address is valid and fewer than eight buckets list it.
+/// Returns `true` if a record's address is valid and fewer than `MAX_LISTS` buckets list it.
 fn is_placeable(rec: &Draft) -> bool
     ensures value { result
-        ≡ not (not (is_valid rec.now.peer.addr) || length (buckets_of rec.now) == 8) }
-    ensures room { result ≡ true → length (buckets_of rec.now) < 8 }
+        ≡ not (not (is_valid rec.now.peer.addr) || length (buckets_of rec.now) == MAX_LISTS) }
+    ensures room { result ≡ true → length (buckets_of rec.now) < MAX_LISTS }
 {
     rec.peer().addr.is_valid() && rec.bucket_count() < MAX_LISTS
 }

@@ -1,0 +1,9 @@
+ghost use Rattle.std.specs.Prelude.{◌≡◌};
+ghost use Rattle.net_group.specs.declared.network_group.TheConstants.{MAX_GROUP};
+
+use crate::MAX_GROUP;
+
+/// The size of a group.
+pub fn limits()
+    ensures group { MAX_GROUP ≡ 11 }
+{}
