@@ -1,5 +1,6 @@
 # make            builds the proved program at bin/addrman
 # make try        runs examples from the source, before anything is proved
+# make ci-try     runs three of them, in a minute: diff, lookup and address
 # make demo       runs the built program on the files of examples/
 # make test       the gate: proves everything, tries wrong bodies, runs the tests
 # make examples   compares what README.md and docs/FORMATS.md show with what the built program prints
@@ -24,7 +25,7 @@ DIST := addrman-$(VERSION)-x86_64-linux
 # Where the toolchain has its part of the C library: the allocator that the library calls.
 KIT = $(shell dirname "$$(dirname "$$(readlink -f "$$(command -v rt)")")")
 
-.PHONY: all try demo examples flood endings mistakes packed test figures lib lib-test ci-lib-test \
+.PHONY: all try ci-try demo examples flood endings mistakes packed test figures lib lib-test ci-lib-test \
 	ci-program-test archive install install-lib dist
 
 all:
@@ -34,6 +35,9 @@ all:
 
 try:
 	tools/examples --try
+
+ci-try:
+	tools/examples --try diff lookup address
 
 demo: all
 	cd examples && ../bin/addrman compile
