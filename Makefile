@@ -1,6 +1,6 @@
 # make            builds the proved program at bin/addrman
 # make try        runs examples from the source, before anything is proved
-# make ci-try     runs three of them, in a minute: diff, lookup and address
+# make ci-try     runs those of diff and lookup alone
 # make demo       runs the built program on the files of examples/
 # make test       the gate: proves everything, tries wrong bodies, runs the tests
 # make examples   compares what README.md and docs/FORMATS.md show with what the built program prints
@@ -11,13 +11,23 @@
 # make lib-test   tries it from C, C++, Rust and Python, beside the built program
 # make ci-lib-test  the same with what rt ci has just proved and built in this clone
 # make ci-program-test  endings, mistakes and examples with what rt ci has just proved and built in this clone
-# make packed     tries make install and make dist
+# make packed     tries make install, make uninstall and make dist
 # make figures    prints lines, words and the like, and checks the names that docs/DEFINITIONS.md lists
-# make install    copies program, manual page, completion, and the library for C if it is built,
-#                 below $(DESTDIR)$(PREFIX)
-# make dist       packs the same, with the licence, as bin/addrman-VERSION.tar.gz
+# make install    copies program, manual page, completion, docs/FORMATS.md, and the library for C if
+#                 it is built, below $(DESTDIR)$(PREFIX); BINDIR, LIBDIR, INCLUDEDIR, MANDIR, DATADIR
+#                 and DOCDIR name the single folders
+# make uninstall  removes what make install copies, with the same variables
+# make dist       packs program, documents, bindings, examples and vectors as
+#                 bin/addrman-VERSION-x86_64-linux.tar.gz
 
 PREFIX ?= /usr/local
+BINDIR ?= $(PREFIX)/bin
+LIBDIR ?= $(PREFIX)/lib
+INCLUDEDIR ?= $(PREFIX)/include
+DATADIR ?= $(PREFIX)/share
+MANDIR ?= $(DATADIR)/man
+DOCDIR ?= $(DATADIR)/doc/addrman
+COMPLETIONS = $(DATADIR)/bash-completion/completions
 VERSION := 0.1.0
 ZERO_KEY := 0000000000000000000000000000000000000000000000000000000000000000
 DIST := addrman-$(VERSION)-x86_64-linux
@@ -26,7 +36,7 @@ DIST := addrman-$(VERSION)-x86_64-linux
 KIT = $(shell dirname "$$(dirname "$$(readlink -f "$$(command -v rt)")")")
 
 .PHONY: all try ci-try demo examples flood endings mistakes packed test figures lib lib-test ci-lib-test \
-	ci-program-test archive install install-lib dist
+	ci-program-test archive install install-lib uninstall dist
 
 all:
 	mkdir -p bin
@@ -37,7 +47,7 @@ try:
 	tools/examples --try
 
 ci-try:
-	tools/examples --try diff lookup address
+	tools/examples --try diff lookup
 
 demo: all
 	cd examples && ../bin/addrman compile
@@ -109,24 +119,48 @@ bin/addrman:
 	@echo "bin/addrman is not built: run make first" && false
 
 install: bin/addrman
-	install -d $(DESTDIR)$(PREFIX)/bin $(DESTDIR)$(PREFIX)/share/man/man1
-	install -d $(DESTDIR)$(PREFIX)/share/bash-completion/completions
-	install -m 755 bin/addrman $(DESTDIR)$(PREFIX)/bin/addrman
-	install -m 644 docs/addrman.1 $(DESTDIR)$(PREFIX)/share/man/man1/addrman.1
-	install -m 644 tools/addrman.bash $(DESTDIR)$(PREFIX)/share/bash-completion/completions/addrman
+	install -d $(DESTDIR)$(BINDIR) $(DESTDIR)$(MANDIR)/man1 $(DESTDIR)$(COMPLETIONS)
+	install -d $(DESTDIR)$(DOCDIR)
+	install -m 755 bin/addrman $(DESTDIR)$(BINDIR)/addrman
+	sed -e 's|docs/FORMATS.md|$(DOCDIR)/FORMATS.md|' docs/addrman.1 \
+		> $(DESTDIR)$(MANDIR)/man1/addrman.1
+	chmod 644 $(DESTDIR)$(MANDIR)/man1/addrman.1
+	install -m 644 tools/addrman.bash $(DESTDIR)$(COMPLETIONS)/addrman
+	install -m 644 docs/FORMATS.md LICENSE $(DESTDIR)$(DOCDIR)
 	test ! -d bin/lib || $(MAKE) install-lib
 
+# Bitcoin Core has a file addrman.h too, so the headers have a folder of their own:
+# #include <libaddrman/addrman.h>.
 install-lib:
-	install -d $(DESTDIR)$(PREFIX)/include $(DESTDIR)$(PREFIX)/lib/pkgconfig
-	install -m 644 bindings/addrman.h bindings/addrman.hpp $(DESTDIR)$(PREFIX)/include
-	install -m 644 bin/lib/libaddrman.a $(DESTDIR)$(PREFIX)/lib
-	install -m 755 bin/lib/libaddrman.so.1 $(DESTDIR)$(PREFIX)/lib
-	ln -sf libaddrman.so.1 $(DESTDIR)$(PREFIX)/lib/libaddrman.so
-	sed -e 's|@PREFIX@|$(PREFIX)|' -e 's|@VERSION@|$(VERSION)|' bindings/addrman.pc.in \
-		> $(DESTDIR)$(PREFIX)/lib/pkgconfig/addrman.pc
+	install -d $(DESTDIR)$(INCLUDEDIR)/libaddrman $(DESTDIR)$(LIBDIR)/pkgconfig
+	install -m 644 bindings/addrman.h bindings/addrman.hpp $(DESTDIR)$(INCLUDEDIR)/libaddrman
+	install -m 644 bin/lib/libaddrman.a $(DESTDIR)$(LIBDIR)
+	install -m 755 bin/lib/libaddrman.so.1 $(DESTDIR)$(LIBDIR)
+	ln -sf libaddrman.so.1 $(DESTDIR)$(LIBDIR)/libaddrman.so
+	sed -e 's|@PREFIX@|$(PREFIX)|' -e 's|@LIBDIR@|$(LIBDIR)|' -e 's|@INCLUDEDIR@|$(INCLUDEDIR)|' \
+		-e 's|@VERSION@|$(VERSION)|' bindings/addrman.pc.in \
+		> $(DESTDIR)$(LIBDIR)/pkgconfig/addrman.pc
+	chmod 644 $(DESTDIR)$(LIBDIR)/pkgconfig/addrman.pc
+
+uninstall:
+	rm -f $(DESTDIR)$(BINDIR)/addrman $(DESTDIR)$(MANDIR)/man1/addrman.1
+	rm -f $(DESTDIR)$(COMPLETIONS)/addrman $(addprefix $(DESTDIR)$(DOCDIR)/,FORMATS.md LICENSE)
+	rm -f $(addprefix $(DESTDIR)$(INCLUDEDIR)/libaddrman/,addrman.h addrman.hpp)
+	rm -f $(addprefix $(DESTDIR)$(LIBDIR)/,libaddrman.a libaddrman.so.1 libaddrman.so)
+	rm -f $(DESTDIR)$(LIBDIR)/pkgconfig/addrman.pc
+	-rmdir --ignore-fail-on-non-empty $(wildcard $(DESTDIR)$(DOCDIR) \
+		$(DESTDIR)$(INCLUDEDIR)/libaddrman)
+
+# What README.md names by a link is packed too, and what the packed documents name.
+PACKED := LICENSE README.md CHANGELOG.md CONTRIBUTING.md SECURITY.md docs examples bindings vectors \
+	bench/README.md tools/addrman.bash
 
 dist: bin/addrman
 	rm -rf bin/$(DIST) && mkdir -p bin/$(DIST)
-	cp bin/addrman docs/addrman.1 tools/addrman.bash LICENSE README.md CHANGELOG.md bin/$(DIST)
+	cp --parents -r $(PACKED) bin/$(DIST)
+	cp bin/addrman bin/$(DIST)
+	find bin/$(DIST) -name __pycache__ -prune -exec rm -r {} +
+	find bin/$(DIST) -type f -perm -u+x -exec chmod 755 {} + -o -type f -exec chmod 644 {} + \
+		-o -type d -exec chmod 755 {} +
 	tar -C bin --owner=0 --group=0 --sort=name --mtime=@0 -czf bin/$(DIST).tar.gz $(DIST)
 	rm -r bin/$(DIST)
