@@ -1,7 +1,7 @@
 -- An open handle whose box was taken out, used and put back.
 use Rattle.std.proofs.Common.{◌≡◌, ℕ, Option, Some, sym, subst}
 use Rattle.table_machine.specs.State.{State}
-use Rattle.addrman_c.specs.declared.handle.Kept.{Kept}
+use Rattle.c_handles.specs.declared.handle.Kept.{Kept}
 use Rattle.addrman_c.specs.OnHandle.{OnTables}
 
 pub done : (old new : Option Kept) (code : ℕ) (kept after : Kept) (Call : State → State → Type 0) → Some kept ≡ old → new ≡ Some after

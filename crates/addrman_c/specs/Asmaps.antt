@@ -17,10 +17,10 @@ use Rattle.addrman_c.specs.declared.asmaps.NoAsmap.{NoAsmap}
 use Rattle.addrman_c.specs.declared.asmaps.NoAsmap.TheVariants as asmap
 use Rattle.addrman_c.specs.declared.asmaps.NoTable.{NoTable}
 use Rattle.addrman_c.specs.declared.asmaps.NoTable.TheVariants as back
-use Rattle.addrman_c.specs.declared.code.TheConstants.{MEMORY, REFUSED}
-use Rattle.addrman_c.specs.declared.structs.AddrmanFault.{AddrmanFault}
-use Rattle.addrman_c.specs.Loading.{fault_at}
-use Rattle.addrman_c.specs.Values.{IsPut}
+use Rattle.c_values.specs.declared.code.TheConstants.{MEMORY, REFUSED}
+use Rattle.c_values.specs.declared.structs.AddrmanFault.{AddrmanFault}
+use Rattle.c_values.specs.Faults.{fault_at}
+use Rattle.c_values.specs.Values.{IsPut}
 
 -- The asmap is that of a table with this text: it gives every address the number of the longest row
 -- that covers it.

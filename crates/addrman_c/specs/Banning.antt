@@ -10,13 +10,13 @@ use Rattle.ban_list.specs.declared.bans.BanReply.{BanReply}
 use Rattle.ban_list.specs.declared.bans.BanReply.TheVariants.{Added, Kept, Full}
 use Rattle.ban_list.specs.declared.fault.BanFault.{BanFault}
 use Rattle.ban_list.specs.declared.fault.BanFault.TheVariants.{Json, Form, TooMany, TooLarge, Memory}
-use Rattle.addrman_c.specs.declared.bans_handle.KeptBans.{KeptBans}
-use Rattle.addrman_c.specs.declared.code.TheConstants.{OK, CLOSED, MEMORY, ARGUMENT, REFUSED, NONE}
-use Rattle.addrman_c.specs.declared.structs.AddrmanBan.{AddrmanBan}
-use Rattle.addrman_c.specs.declared.structs.AddrmanFault.{AddrmanFault}
-use Rattle.addrman_c.specs.declared.values.AddrmanAddr.{AddrmanAddr}
-use Rattle.addrman_c.specs.Loading.{fault_at}
-use Rattle.addrman_c.specs.Values.{address_in, bit, IsPut}
+use Rattle.c_handles.specs.declared.bans_handle.KeptBans.{KeptBans}
+use Rattle.c_values.specs.declared.code.TheConstants.{OK, CLOSED, MEMORY, ARGUMENT, REFUSED, NONE}
+use Rattle.c_values.specs.declared.structs.AddrmanBan.{AddrmanBan}
+use Rattle.c_values.specs.declared.structs.AddrmanFault.{AddrmanFault}
+use Rattle.c_values.specs.declared.values.AddrmanAddr.{AddrmanAddr}
+use Rattle.c_values.specs.Faults.{fault_at}
+use Rattle.c_values.specs.Values.{address_in, bit, IsPut}
 
 -- A closed handle stays closed. An open one stays open, and its list before and after is as the
 -- call says.

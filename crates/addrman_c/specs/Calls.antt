@@ -1,14 +1,11 @@
 -- What the calls on tables return, write and leave. A call's definition ends with the state
 -- before, the code, the outputs and the state after.
-use Rattle.std.specs.Prelude.{◌≡◌, ◌⊎◌, ℕ, ◌<◌, ◌≤◌, ◌^◌, List, take, drop, length, slice_get, Bool, true, false, Option, Some, None, Result, Ok, Err, MatchOption, MatchResult}
+use Rattle.std.specs.Prelude.{◌≡◌, ◌⊎◌, ℕ, ◌<◌, ◌≤◌, ◌^◌, List, drop, length, Bool, true, false, Option, Some, None, Result, Ok, Err, MatchOption, MatchResult}
 use Rattle.net_addr.specs.Address.{Address}
 use Rattle.net_addr.specs.declared.entry.Entry.{Entry}
 use Rattle.net_addr.specs.declared.peer.Peer.{Peer}
 use Rattle.addr_codecs.specs.declared.form.Form.{Form}
 use Rattle.addr_codecs.specs.declared.form.Form.TheVariants.{Addr, Addrv2}
-use Rattle.addr_codecs.specs.declared.fault.MsgFault.{MsgFault}
-use Rattle.addr_codecs.specs.declared.fault.MsgFault.TheVariants as msg
-use Rattle.peer_rec.specs.Rec.{buckets_of}
 use Rattle.peer_rec.specs.declared.rec.Rec.{Rec}
 use Rattle.peer_rec.specs.declared.good.Good.{Good}
 use Rattle.peer_rec.specs.declared.good.Good.TheVariants.{Unknown, Already, Clash, Moved}
@@ -21,13 +18,14 @@ use Rattle.taking.specs.Taking.{IsAdded, IsMessageFault}
 use Rattle.taking.specs.declared.messages.Added.{Added}
 use Rattle.taking.specs.declared.messages.MessageFault.{MessageFault}
 use Rattle.taking.specs.declared.messages.MessageFault.TheVariants.{Memory, Refused, ShortWords}
-use Rattle.addrman_c.specs.declared.code.TheConstants.{OK, MEMORY, ARGUMENT, FULL, SHORT_WORDS, SHORT_BUFFER, REFUSED, NONE, EXHAUSTED}
-use Rattle.addrman_c.specs.declared.structs.AddrmanAdded.{AddrmanAdded}
-use Rattle.addrman_c.specs.declared.structs.AddrmanFault.{AddrmanFault}
-use Rattle.addrman_c.specs.declared.structs.AddrmanPicked.{AddrmanPicked}
-use Rattle.addrman_c.specs.declared.structs.AddrmanRecord.{AddrmanRecord}
-use Rattle.addrman_c.specs.Loading.{fault_at}
-use Rattle.addrman_c.specs.Values.{peer_in, address_in, bit}
+use Rattle.c_values.specs.declared.code.TheConstants.{OK, MEMORY, ARGUMENT, FULL, SHORT_WORDS, SHORT_BUFFER, REFUSED, NONE, EXHAUSTED}
+use Rattle.c_values.specs.declared.structs.AddrmanAdded.{AddrmanAdded}
+use Rattle.c_values.specs.declared.structs.AddrmanFault.{AddrmanFault}
+use Rattle.c_values.specs.declared.structs.AddrmanPicked.{AddrmanPicked}
+use Rattle.c_values.specs.declared.structs.AddrmanRecord.{AddrmanRecord}
+use Rattle.c_values.specs.Faults.{fault_at, fault_number}
+use Rattle.c_values.specs.Records.{AreRecords, IsRecord}
+use Rattle.c_values.specs.Values.{peer_in, bit}
 
 -- nothing is done, for the reason that the code says
 abbrev pub Refuses : ℕ → State → ℕ → State → Type 0
@@ -68,18 +66,9 @@ AddCall (Some peer) (Some source) time services penalty word now old code accept
     let entry : Entry = record { time = time; services = services; peer = peer } in
     let after = add old now entry source penalty word in
     ((most_records ≤ old.next_number) × Refuses FULL old code new)
-    ⊎ (Refuses MEMORY old code new
-    ⊎ ((code ≡ OK) × (accepted ≡ bit after.answer) × (new ≡ after.state)))
-
--- the number of a fault of a message in the header
-abbrev pub fault_number : MsgFault → ℕ
-fault_number msg.Truncated = 1
-fault_number msg.NonCanonical = 2
-fault_number msg.TooMany = 3
-fault_number msg.BadLength = 4
-fault_number msg.TooLong = 5
-fault_number msg.Trailing = 6
-fault_number msg.Memory = 0
+    ⊎ ((old.next_number < most_records)
+    × (Refuses MEMORY old code new
+    ⊎ ((code ≡ OK) × (accepted ≡ bit after.answer) × (new ≡ after.state))))
 
 -- the form of a message
 abbrev pub form_of : Bool → Form
@@ -103,10 +92,10 @@ MessageCall form payload None words now old code added fault new =
     Refuses ARGUMENT old code new
 MessageCall form payload (Some source) words now old code added fault new =
     ((most_records ≤ old.next_number) × Refuses FULL old code new)
-    ⊎ ((answer : Result Added MessageFault)
+    ⊎ ((old.next_number < most_records) × ((answer : Result Added MessageFault)
     × MatchResult answer (λ taken. IsAdded form payload old now source words taken new)
     (λ why. IsMessageFault form payload old now source words why new)
-    × Tells answer code added fault)
+    × Tells answer code added fault))
 
 -- the code and the output for a pick
 abbrev pub PickCall : Picked → ℕ → AddrmanPicked → Type 0
@@ -121,30 +110,11 @@ OccupantCall None code picked = code ≡ NONE
 OccupantCall (Some found) code picked =
     (code ≡ OK) × (peer_in picked.peer ≡ Some found.0) × (picked.last_try ≡ found.1)
 
--- the struct has the fields of the record
-pub record IsRecord (out : AddrmanRecord) (r : Rec) : Type 0 where
-  pub number : out.number ≡ r.number
-  pub services : out.services ≡ r.services
-  pub peer : peer_in out.peer ≡ Some r.peer
-  pub source : address_in out.source ≡ Some r.source
-  pub time : out.time ≡ r.time
-  pub last_success : out.last_success ≡ r.last_success
-  pub last_try : out.last_try ≡ r.last_try
-  pub last_counted : out.last_counted ≡ r.last_count
-  pub attempts : out.attempts ≡ r.attempts
-  pub buckets : take out.bucket_count out.buckets ≡ buckets_of r
-
 -- the code and the output for the record of a peer; None is no peer
 abbrev pub FindCall : Option Peer → State → ℕ → AddrmanRecord → Type 0
 FindCall None st code out = code ≡ ARGUMENT
 FindCall (Some peer) st code out = MatchOption (find_peer st peer) (code ≡ NONE)
     (λ r. (code ≡ OK) × IsRecord out r)
-
--- the structs have the fields of the records, in the same order
-abbrev pub AreRecords : List AddrmanRecord → List Rec → Type 0
-AreRecords out recs = (length recs ≤ length out)
-    × ((i : ℕ) (told : AddrmanRecord) (r : Rec) → slice_get out i ≡ Some told
-    → slice_get recs i ≡ Some r → IsRecord told r)
 
 -- all records, whole or not at all, with nothing after them, and how many they are
 abbrev pub RecordsCall : List Rec → ℕ → List AddrmanRecord → List AddrmanRecord → ℕ → Type 0

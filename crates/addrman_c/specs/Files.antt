@@ -9,9 +9,9 @@ use Rattle.table_machine.specs.Snapshot.{snapshot_of}
 use Rattle.peers_file.specs.Texts.{file_text}
 use Rattle.peers_file.specs.declared.chain.Chain.{Chain}
 use Rattle.peers_file.specs.declared.chain.Chain.TheVariants.{Main, Test, Signet, Regtest}
-use Rattle.addrman_c.specs.declared.code.TheConstants.{OK, MEMORY, ARGUMENT, REFUSED}
-use Rattle.addrman_c.specs.declared.handle.Kept.{Kept}
-use Rattle.addrman_c.specs.Values.{IsPut}
+use Rattle.c_values.specs.declared.code.TheConstants.{OK, MEMORY, ARGUMENT, REFUSED}
+use Rattle.c_handles.specs.declared.handle.Kept.{Kept}
+use Rattle.c_values.specs.Values.{IsPut}
 
 -- the asmap of the bytes; no bytes are no asmap
 abbrev pub IsMapOf : List ℕ → Option Asmap → Type 0

@@ -4,8 +4,8 @@ use Rattle.bit_code.specs.declared.bits.TheConstants.{MAX_ASMAP}
 use Rattle.net_addr.specs.Address.{Address}
 use Rattle.asmap_vm.specs.Code.{Tree, IsSaneFile}
 use Rattle.placing.specs.Places.{Places, asn, group}
-use Rattle.addrman_c.specs.declared.code.TheConstants.{OK, ARGUMENT, REFUSED}
-use Rattle.addrman_c.specs.Values.{IsPut}
+use Rattle.c_values.specs.declared.code.TheConstants.{OK, ARGUMENT, REFUSED}
+use Rattle.c_values.specs.Values.{IsPut}
 
 -- whether bytes are the file of a sane tree, and not too many
 abbrev pub CheckCall : List ℕ → ℕ → Type 0

@@ -3,7 +3,6 @@ pub mod Banning
 pub mod Calls
 pub mod Files
 pub mod Groups
-pub mod Held
 pub mod Limits
 pub mod Loading
 pub mod OnHandle
@@ -11,4 +10,3 @@ pub mod Outbound
 pub mod Sampling
 pub mod Saving
 pub mod Texts
-pub mod Values

@@ -8,10 +8,10 @@ use Rattle.limiter.specs.Calls.{after_open, after_taking}
 use Rattle.limiter.specs.declared.conn.Conn.{Conn}
 use Rattle.limiter.specs.declared.asked.Asked.{Asked}
 use Rattle.limiter.specs.declared.asked.Asked.TheVariants.{Unknown, Already, Granted}
-use Rattle.addrman_c.specs.declared.code.TheConstants.{OK, CLOSED, MEMORY, ARGUMENT, NONE}
-use Rattle.addrman_c.specs.declared.limiter_handle.KeptLimiter.{KeptLimiter}
-use Rattle.addrman_c.specs.declared.structs.AddrmanLimits.{AddrmanLimits}
-use Rattle.addrman_c.specs.Values.{bit}
+use Rattle.c_values.specs.declared.code.TheConstants.{OK, CLOSED, MEMORY, ARGUMENT, NONE}
+use Rattle.c_handles.specs.declared.limiter_handle.KeptLimiter.{KeptLimiter}
+use Rattle.c_values.specs.declared.structs.AddrmanLimits.{AddrmanLimits}
+use Rattle.c_values.specs.Values.{bit}
 
 -- A closed handle stays closed. An open one stays open, and its connections before and after are as
 -- the call says.

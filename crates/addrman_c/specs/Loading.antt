@@ -8,15 +8,13 @@ use Rattle.peers_file.specs.Layout.{IsFile, HasFileFault}
 use Rattle.peers_file.specs.declared.chain.Chain.{Chain}
 use Rattle.peers_file.specs.declared.fault.FileFault.{FileFault}
 use Rattle.peers_file.specs.declared.fault.FileFault.TheVariants as file
-use Rattle.addrman_c.specs.declared.code.TheConstants.{OK, MEMORY, ARGUMENT, REFUSED}
-use Rattle.addrman_c.specs.declared.handle.Kept.{Kept}
-use Rattle.addrman_c.specs.declared.structs.AddrmanFault.{AddrmanFault}
+use Rattle.c_values.specs.declared.code.TheConstants.{OK, MEMORY, ARGUMENT, REFUSED}
+use Rattle.c_handles.specs.declared.handle.Kept.{Kept}
+use Rattle.c_values.specs.declared.structs.AddrmanFault.{AddrmanFault}
 use Rattle.addrman_c.specs.declared.loading.LoadFault.{LoadFault}
 use Rattle.addrman_c.specs.declared.loading.LoadFault.TheVariants.{Memory, Refused, Duplicate}
 use Rattle.addrman_c.specs.Files.{IsMapOf, IsNoMap}
-
-abbrev pub fault_at : ℕ → ℕ → AddrmanFault
-fault_at kind at = record { kind = kind; at = at }
+use Rattle.c_values.specs.Faults.{fault_at}
 
 -- a fault of a file as the header has it
 abbrev pub fault_of : FileFault → AddrmanFault
@@ -56,12 +54,14 @@ TellsLoad Memory code out = code ≡ MEMORY
 TellsLoad (Refused why) code out = (code ≡ REFUSED) × (out ≡ fault_of why)
 TellsLoad (Duplicate index) code out = (code ≡ REFUSED) × (out ≡ fault_at 20 index)
 
--- a file is loaded, or the handle is closed; None is no chain
+-- A file is loaded, or the handle is closed: an asmap that is refused goes before the file. None is
+-- no chain.
 abbrev pub LoadCall : Option Chain → List ℕ → List ℕ → ℕ → AddrmanFault → Option Kept → Type 0
 LoadCall None bytes asmap code out None = code ≡ ARGUMENT
 LoadCall None bytes asmap code out (Some kept) = ⊥
 LoadCall (Some chain) bytes asmap code out None =
     ((code ≡ REFUSED) × IsNoMap asmap × (out ≡ fault_at 21 0))
-    ⊎ ((why : LoadFault) × IsLoadFault chain bytes why × TellsLoad why code out)
+    ⊎ ((map : Option Asmap) × IsMapOf asmap map
+    × ((why : LoadFault) × IsLoadFault chain bytes why × TellsLoad why code out))
 LoadCall (Some chain) bytes asmap code out (Some kept) =
     (code ≡ OK) × ((map : Option Asmap) × IsMapOf asmap map × IsLoaded chain bytes map kept)

@@ -1,8 +1,8 @@
 -- What a call does to a handle that is open, and to one that is closed.
 use Rattle.std.specs.Prelude.{◌≡◌, ℕ, Option, Some, None}
 use Rattle.table_machine.specs.State.{State}
-use Rattle.addrman_c.specs.declared.handle.Kept.{Kept}
-use Rattle.addrman_c.specs.declared.code.TheConstants.{CLOSED}
+use Rattle.c_handles.specs.declared.handle.Kept.{Kept}
+use Rattle.c_values.specs.declared.code.TheConstants.{CLOSED}
 
 -- What the handle keeps before the call, the code, and what it keeps after. A closed one stays
 -- closed. An open one stays open, and what it keeps before and after is as the call says.

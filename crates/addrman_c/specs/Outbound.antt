@@ -7,9 +7,9 @@ use Rattle.peer_open.specs.Verdicts.{judge}
 use Rattle.peer_open.specs.declared.verdict.Verdict.{Verdict}
 use Rattle.peer_open.specs.declared.verdict.Verdict.TheVariants.{Take, SameGroup, Recent}
 use Rattle.peer_open.specs.declared.opener.TheConstants.{MAX_OUTBOUND}
-use Rattle.addrman_c.specs.declared.code.TheConstants.{OK, ARGUMENT, FULL}
-use Rattle.addrman_c.specs.declared.handle.Kept.{Kept}
-use Rattle.addrman_c.specs.Values.{bit}
+use Rattle.c_values.specs.declared.code.TheConstants.{OK, ARGUMENT, FULL}
+use Rattle.c_handles.specs.declared.handle.Kept.{Kept}
+use Rattle.c_values.specs.Values.{bit}
 
 -- the number of a verdict in the header
 abbrev pub verdict_number : Verdict → ℕ

@@ -1,5 +1,5 @@
 -- What the calls on a save return, write and leave.
-use Rattle.std.specs.Prelude.{◌≡◌, ◌⊎◌, ℕ, List, [], ◌∷◌, drop, Bool, true, false, Option, Some, None}
+use Rattle.std.specs.Prelude.{◌≡◌, ◌⊎◌, ◌<◌, ℕ, List, [], ◌∷◌, drop, Bool, true, false, Option, Some, None}
 use Rattle.table_machine.specs.State.{State}
 use Rattle.table_machine.specs.Snapshot.{snapshot_of}
 use Rattle.peers_file.specs.Texts.{file_text}
@@ -7,9 +7,9 @@ use Rattle.peers_file.specs.declared.chain.Chain.{Chain}
 use Rattle.save_requests.specs.Requests.{Request, IsSafeSave, save_requests}
 use Rattle.save_requests.specs.declared.requests.SaveRequest.{SaveRequest}
 use Rattle.save_requests.specs.declared.requests.SaveRequest.TheVariants.{Create, Append, Sync, Rename, SyncDir}
-use Rattle.addrman_c.specs.declared.code.TheConstants.{OK, CLOSED, MEMORY, ARGUMENT, NONE}
-use Rattle.addrman_c.specs.declared.save_handle.KeptSave.{KeptSave}
-use Rattle.addrman_c.specs.Values.{IsPut}
+use Rattle.c_values.specs.declared.code.TheConstants.{OK, CLOSED, MEMORY, ARGUMENT, NONE}
+use Rattle.c_handles.specs.declared.save_handle.KeptSave.{KeptSave}
+use Rattle.c_values.specs.Values.{IsPut}
 
 -- A closed handle stays closed. An open one stays open, and its requests before and after are as
 -- the call says.
@@ -29,7 +29,7 @@ IsBegun most bytes requests =
 abbrev pub BeginCall : Option Chain → ℕ → State → ℕ → Option KeptSave → Type 0
 BeginCall None most st code new = (code ≡ ARGUMENT) × (new ≡ None)
 BeginCall (Some chain) most st code None =
-    (code ≡ MEMORY) ⊎ ((code ≡ ARGUMENT) × (most ≡ 0))
+    ((code ≡ ARGUMENT) × (most ≡ 0)) ⊎ ((code ≡ MEMORY) × (0 < most))
 BeginCall (Some chain) most st code (Some kept) =
     (code ≡ OK) × IsBegun most (file_text chain (snapshot_of st)) kept.requests
 

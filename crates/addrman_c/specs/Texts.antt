@@ -3,8 +3,8 @@ use Rattle.std.specs.Prelude.{◌≡◌, ◌⊎◌, ℕ, List, Option, Some, Non
 use Rattle.net_addr.specs.Address.{Address, net_number}
 use Rattle.net_addr.specs.OldForm.{v1_bytes}
 use Rattle.net_addr.specs.Ranges.{is_routable, net_class}
-use Rattle.addrman_c.specs.declared.code.TheConstants.{OK, MEMORY, ARGUMENT, NONE}
-use Rattle.addrman_c.specs.Values.{IsPut, bit}
+use Rattle.c_values.specs.declared.code.TheConstants.{OK, MEMORY, ARGUMENT, NONE}
+use Rattle.c_values.specs.Values.{IsPut, bit}
 
 -- The text of a value; None is no value. If memory runs out or there is no value, the output is as
 -- it was.

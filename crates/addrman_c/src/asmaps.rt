@@ -1,11 +1,10 @@
 ghost use Rattle.std.specs.Prelude.{◌≡◌, ◌≢◌, IfOk, IfErr};
 ghost use Rattle.addrman_c.specs.Asmaps.{BackCall, CompileCall, IsCompiled, IsNoAsmap, IsNoTable, IsTextOf, TellsNoAsmap, TellsNoTable, table_fault};
 
-use crate::code::{MEMORY, OK, REFUSED, SHORT_BUFFER};
-use crate::output::put_all;
-use crate::structs::AddrmanFault;
 use asmap_back::{BackFault, decompile};
 use asmap_compile::{CompileFault, Compiled, compile_in_place};
+use c_values::code::{MEMORY, OK, REFUSED, SHORT_BUFFER};
+use c_values::{AddrmanFault, put_all};
 use prefix_table::{MAX_TEXT, TableFault, put_table, read_table};
 use std::alloc::Global;
 

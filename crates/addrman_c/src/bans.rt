@@ -1,15 +1,13 @@
 ghost use Rattle.std.specs.Prelude.{◌≡◌, ◌≢◌, Option, None, IfOk, IfErr, IfSome};
 ghost use Rattle.ban_list.specs.declared.subnet.Subnet.{Subnet};
 ghost use Rattle.ban_list.specs.Subnet.{IsProper};
-ghost use Rattle.addrman_c.specs.Values.{address_in};
+ghost use Rattle.c_values.specs.Values.{address_in};
 ghost use Rattle.addrman_c.specs.Banning.{OnBans, IsListOf, IsListFault, TellsList, ReadCall, PrintCall, IsParsed, BanCall, UnbanCall, CoverCall, SubnetCall, IsBan, ban_fault_number, reply_number};
 
-use crate::bans_handle::{BansHandle, KeptBans};
-use crate::code::{ARGUMENT, CLOSED, MEMORY, NONE, OK, REFUSED, SHORT_BUFFER};
-use crate::output::put_all;
-use crate::structs::{AddrmanBan, AddrmanFault};
-use crate::values::{AddrmanAddr, bit, read_addr, write_addr};
 use ban_list::{Ban, BanFault, BanReply, Bans, Subnet, parse_subnet, read_bans, write_bans};
+use c_handles::{BansHandle, KeptBans};
+use c_values::code::{ARGUMENT, CLOSED, MEMORY, NONE, OK, REFUSED, SHORT_BUFFER};
+use c_values::{AddrmanAddr, AddrmanBan, AddrmanFault, bit, put_all, read_addr, write_addr};
 use net_addr::NetAddr;
 use std::alloc::Global;
 
@@ -93,7 +91,7 @@ pub extern "C" fn addrman_bans_open(
 pub extern "C" fn addrman_bans_close(alloc: Global, handle: &mut BansHandle)
     ensures { handle.new.loose.kept ≡ None }
 {
-    let _kept = handle.take(alloc);
+    handle.close(alloc);
 }
 
 /// Writes the file of a list, and how many bytes it has.

@@ -1,14 +1,14 @@
 ghost use Rattle.std.specs.Prelude.{◌≡◌, ◌≢◌};
-ghost use Rattle.addrman_c.specs.Values.{peer_in, address_in};
-ghost use Rattle.addrman_c.specs.Calls.{AddCall, MessageCall, Tells, fault_number, form_of};
+ghost use Rattle.c_values.specs.Values.{peer_in, address_in};
+ghost use Rattle.addrman_c.specs.Calls.{AddCall, MessageCall, Tells, form_of};
 ghost use Rattle.addrman_c.specs.OnHandle.{OnTables};
 
-use crate::code::{ARGUMENT, CLOSED, FULL, MEMORY, OK, REFUSED, SHORT_WORDS};
-use crate::handle::Handle;
-use crate::structs::{AddrmanAdded, AddrmanFault};
-use crate::values::{AddrmanAddr, AddrmanPeer, bit, read_addr, read_peer};
-use addr_codecs::{Form, MsgFault};
-use keyed_hasher::Keyed;
+use addr_codecs::Form;
+use c_handles::{Handle, Keyed};
+use c_values::code::{ARGUMENT, CLOSED, FULL, MEMORY, OK, REFUSED, SHORT_WORDS};
+use c_values::{
+    AddrmanAdded, AddrmanAddr, AddrmanFault, AddrmanPeer, bit, fault_number, read_addr, read_peer,
+};
 use net_addr::{Entry, NetAddr, Peer};
 use std::alloc::Global;
 use tables::Tables;
@@ -91,21 +91,6 @@ pub extern "C" fn addrman_add(
     );
     handle.put(kept);
     code
-}
-
-/// Returns the number of a fault in the header.
-fn fault_number(fault: MsgFault) -> u32
-    ensures { result ≡ fault_number fault }
-{
-    match fault {
-        MsgFault::Truncated => 1,
-        MsgFault::NonCanonical => 2,
-        MsgFault::TooMany => 3,
-        MsgFault::BadLength => 4,
-        MsgFault::TooLong => 5,
-        MsgFault::Trailing => 6,
-        MsgFault::Memory => 0,
-    }
 }
 
 /// Tells what became of a message.

@@ -1,12 +1,11 @@
 ghost use Rattle.std.specs.Prelude.{◌≡◌, ◌≢◌};
-ghost use Rattle.addrman_c.specs.Values.{address_in};
+ghost use Rattle.c_values.specs.Values.{address_in};
 ghost use Rattle.addrman_c.specs.Groups.{AsnCall, GroupCall, CheckCall};
 ghost use Rattle.addrman_c.specs.OnHandle.{OnTables};
 
-use crate::code::{ARGUMENT, CLOSED, OK, REFUSED, SHORT_BUFFER};
-use crate::handle::Handle;
-use crate::output::put_all;
-use crate::values::{AddrmanAddr, read_addr};
+use c_handles::Handle;
+use c_values::code::{ARGUMENT, CLOSED, OK, REFUSED, SHORT_BUFFER};
+use c_values::{AddrmanAddr, put_all, read_addr};
 use net_addr::NetAddr;
 use placing::Placer;
 use std::alloc::Global;

@@ -1,10 +1,10 @@
 ghost use Rattle.std.specs.Prelude.{◌≡◌, ◌≢◌, Some};
 ghost use Rattle.net_addr.specs.OldForm.{from_v1};
-ghost use Rattle.addrman_c.specs.Values.{address_in};
+ghost use Rattle.c_values.specs.Values.{address_in};
 ghost use Rattle.addrman_c.specs.Texts.{ClassCall, RoutableCall, OldFormCall};
 
-use crate::code::{ARGUMENT, NONE, OK};
-use crate::values::{AddrmanAddr, bit, read_addr, write_addr};
+use c_values::code::{ARGUMENT, NONE, OK};
+use c_values::{AddrmanAddr, bit, read_addr, write_addr};
 use net_addr::NetAddr;
 
 /// Reads an address of sixteen bytes, as messages before BIP 155 have it.

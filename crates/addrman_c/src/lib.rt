@@ -1,37 +1,31 @@
 //! The address manager for programs in C and in what links C: a static library. Its header is
 //! `bindings/addrman.h`.
 //!
-//! Only the handles have raw pointers. A handle is open or closed, and a call on a closed one
-//! returns a code.
+//! `c_values` has the codes and the structs, `c_handles` the handles. A handle is open or closed,
+//! and a call on a closed one returns a code.
 //!
 //! Proved: each export states what it returns, writes and leaves by the tables before it, in the
 //! words of `table_machine` (`specs/Calls.antt`). None has a condition.
 #![tactic(auto)]
 
+ghost use Rattle.std.specs.Prelude.{◌≡◌};
+
 mod asmaps;
 mod bans;
-mod bans_handle;
 mod chain;
-mod code;
 mod entries;
 mod group;
-mod handle;
 mod kinds;
-mod limiter_handle;
 mod limits;
 mod loading;
 mod marks;
 mod opener;
 mod opening;
-mod output;
 mod picks;
 mod records;
 mod sampling;
-mod save_handle;
 mod saves;
-mod structs;
 mod text;
-mod values;
 mod writing;
 
 pub use asmaps::{addrman_asmap_compile, addrman_asmap_decompile};
@@ -39,14 +33,11 @@ pub use bans::{
     addrman_bans_add, addrman_bans_close, addrman_bans_covering, addrman_bans_open,
     addrman_bans_remove, addrman_bans_write, addrman_subnet_parse,
 };
-pub use bans_handle::{BansHandle, KeptBans, LooseBans};
 pub use entries::{addrman_add, addrman_take_message};
 pub use group::{addrman_asmap_check, addrman_asn, addrman_group};
-pub use handle::{Handle, Kept, Loose};
 pub use kinds::{
     addrman_addr_class, addrman_addr_from_v1, addrman_addr_routable, addrman_addr_to_v1,
 };
-pub use limiter_handle::{KeptLimiter, LimiterHandle, LooseLimiter};
 pub use limits::{
     addrman_limiter_add, addrman_limiter_admit, addrman_limiter_close, addrman_limiter_getaddr,
     addrman_limiter_open, addrman_limiter_remove, addrman_limiter_stat,
@@ -60,12 +51,14 @@ pub use opening::{addrman_close, addrman_open};
 pub use picks::{addrman_resolve_collisions, addrman_select, addrman_select_collision};
 pub use records::{addrman_find, addrman_records, addrman_size};
 pub use sampling::addrman_sample;
-pub use save_handle::{KeptSave, LooseSave, SaveHandle};
 pub use saves::{addrman_save_begin, addrman_save_close, addrman_save_done, addrman_save_next};
-pub use structs::{
-    AddrmanAdded, AddrmanBan, AddrmanCounts, AddrmanFault, AddrmanLimits, AddrmanPicked,
-    AddrmanRecord, AddrmanResolved, addrman_abi,
-};
 pub use text::{addrman_addr_parse, addrman_addr_text, addrman_peer_parse, addrman_peer_text};
-pub use values::{AddrmanAddr, AddrmanPeer};
 pub use writing::addrman_write_file;
+
+/// Returns the number of the structs' layout and of the calls, `ADDRMAN_ABI` in the header.
+#[unsafe(no_mangle)]
+pub extern "C" fn addrman_abi() -> u32
+    ensures { result ≡ 1 }
+{
+    1
+}

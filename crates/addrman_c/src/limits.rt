@@ -1,15 +1,13 @@
 ghost use Rattle.std.specs.Prelude.{◌≡◌, ◌≢◌, None, is_some};
 ghost use Rattle.limiter.specs.State.{find_conn, without_conn};
 ghost use Rattle.limiter.specs.Calls.{asked_of, after_asking};
-ghost use Rattle.addrman_c.specs.Values.{address_in, bit};
+ghost use Rattle.c_values.specs.Values.{address_in, bit};
 ghost use Rattle.addrman_c.specs.Limits.{OnLimiter, StartCall, ConnectCall, AdmitCall, StatCall, IsLimits, asked_number};
 
-use crate::code::{ARGUMENT, CLOSED, MEMORY, NONE, OK};
-use crate::limiter_handle::{KeptLimiter, LimiterHandle};
-use crate::structs::AddrmanLimits;
-use crate::values::{AddrmanAddr, bit, read_addr};
 use addr_codecs::MAX_ENTRIES;
-use keyed_hasher::Keyed;
+use c_handles::{KeptLimiter, Keyed, LimiterHandle};
+use c_values::code::{ARGUMENT, CLOSED, MEMORY, NONE, OK};
+use c_values::{AddrmanAddr, AddrmanLimits, bit, read_addr};
 use limiter::{Asked, Conn, Limiter};
 use net_addr::NetAddr;
 use std::alloc::Global;
@@ -38,7 +36,7 @@ pub extern "C" fn addrman_limiter_open(alloc: Global, handle: &mut LimiterHandle
 pub extern "C" fn addrman_limiter_close(alloc: Global, handle: &mut LimiterHandle)
     ensures { handle.new.loose.kept ≡ None }
 {
-    let _kept = handle.take(alloc);
+    handle.close(alloc);
 }
 
 /// Opens a connection.

@@ -4,12 +4,11 @@ ghost use Rattle.addrman_c.specs.Loading.{fault_of, IsLoaded, IsLoadFault, Tells
 ghost use Rattle.addrman_c.specs.Files.{chain_of};
 
 use crate::chain::chain_of;
-use crate::code::{ARGUMENT, MEMORY, OK, REFUSED};
-use crate::handle::{Handle, Kept};
 use crate::opening::{boxed, check_map, placer_of};
-use crate::structs::AddrmanFault;
 use asmap_vm::Sane;
-use keyed_hasher::Keyed;
+use c_handles::{Handle, Kept, Keyed};
+use c_values::AddrmanFault;
+use c_values::code::{ARGUMENT, MEMORY, OK, REFUSED};
 use peers_file::{Chain, FileFault, read_file};
 use std::alloc::Global;
 use tables::RestoreFault;

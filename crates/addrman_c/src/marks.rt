@@ -1,13 +1,12 @@
 ghost use Rattle.std.specs.Prelude.{◌≡◌, ◌≢◌};
 ghost use Rattle.table_machine.specs.Tried.{attempt, connected, set_services};
-ghost use Rattle.addrman_c.specs.Values.{peer_in};
+ghost use Rattle.c_values.specs.Values.{peer_in};
 ghost use Rattle.addrman_c.specs.Calls.{GoodCall, KnownCall, good_number};
 ghost use Rattle.addrman_c.specs.OnHandle.{OnTables};
 
-use crate::code::{ARGUMENT, CLOSED, OK};
-use crate::handle::Handle;
-use crate::values::{AddrmanPeer, bit, read_peer};
-use keyed_hasher::Keyed;
+use c_handles::{Handle, Keyed};
+use c_values::code::{ARGUMENT, CLOSED, OK};
+use c_values::{AddrmanPeer, bit, read_peer};
 use net_addr::Peer;
 use peer_rec::Good;
 use std::alloc::Global;

@@ -1,13 +1,12 @@
 ghost use Rattle.std.specs.Prelude.{◌≡◌, ◌≢◌};
 ghost use Rattle.peer_open.specs.Verdicts.{judge_feeler};
-ghost use Rattle.addrman_c.specs.Values.{peer_in};
+ghost use Rattle.c_values.specs.Values.{peer_in};
 ghost use Rattle.addrman_c.specs.Outbound.{verdict_number, JudgeCall, AddCall, RemoveCall};
 ghost use Rattle.addrman_c.specs.OnHandle.{OnHandle};
 
-use crate::code::{ARGUMENT, CLOSED, FULL, OK};
-use crate::handle::{Handle, Kept};
-use crate::structs::AddrmanPicked;
-use crate::values::{AddrmanPeer, bit, read_peer};
+use c_handles::{Handle, Kept};
+use c_values::code::{ARGUMENT, CLOSED, FULL, OK};
+use c_values::{AddrmanPeer, AddrmanPicked, bit, read_peer};
 use net_addr::Peer;
 use peer_open::{MAX_OUTBOUND, Opener, Verdict};
 use std::alloc::Global;

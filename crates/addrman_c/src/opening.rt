@@ -3,10 +3,9 @@ ghost use Rattle.placing.specs.Inside.{map_of};
 ghost use Rattle.placing.specs.declared.sum.SumRule.TheVariants.{Bytes};
 ghost use Rattle.addrman_c.specs.Files.{IsMapOf, IsNoMap, IsOpened, OpenCall};
 
-use crate::code::{MEMORY, OK, REFUSED};
-use crate::handle::{Handle, Kept};
 use asmap_vm::{CodeFault, Sane};
-use keyed_hasher::Keyed;
+use c_handles::{Handle, Kept, Keyed};
+use c_values::code::{MEMORY, OK, REFUSED};
 use peer_open::Opener;
 use placing::Placer;
 use std::alloc::Global;
@@ -96,5 +95,5 @@ pub extern "C" fn addrman_open(
 pub extern "C" fn addrman_close(alloc: Global, handle: &mut Handle)
     ensures { handle.new.loose.kept ≡ None }
 {
-    let _kept = handle.take(alloc);
+    handle.close(alloc);
 }

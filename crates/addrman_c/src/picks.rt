@@ -5,11 +5,9 @@ ghost use Rattle.table_machine.specs.Clashes.{resolve, clash_pick};
 ghost use Rattle.addrman_c.specs.Calls.{PickCall, OccupantCall};
 ghost use Rattle.addrman_c.specs.OnHandle.{OnTables};
 
-use crate::code::{CLOSED, EXHAUSTED, NONE, OK};
-use crate::handle::Handle;
-use crate::structs::{AddrmanPicked, AddrmanResolved};
-use crate::values::{read_nets, write_peer};
-use keyed_hasher::Keyed;
+use c_handles::{Handle, Keyed};
+use c_values::code::{CLOSED, EXHAUSTED, NONE, OK};
+use c_values::{AddrmanPicked, AddrmanResolved, read_nets, write_peer};
 use net_addr::{NetSet, Peer};
 use picking::Picked;
 use std::alloc::Global;

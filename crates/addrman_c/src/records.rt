@@ -1,53 +1,15 @@
-ghost use Rattle.std.specs.Prelude.{◌≡◌, ◌≢◌, ◌≤◌, length, take, drop, count_by, not};
-ghost use Rattle.peer_rec.specs.Rec.{buckets_by, is_tried};
-ghost use Rattle.addrman_c.specs.Values.{peer_in};
-ghost use Rattle.addrman_c.specs.Calls.{FindCall, IsRecord, AreRecords, RecordsCall};
+ghost use Rattle.std.specs.Prelude.{◌≡◌, ◌≢◌, length, count_by, not};
+ghost use Rattle.peer_rec.specs.Rec.{is_tried};
+ghost use Rattle.c_values.specs.Values.{peer_in};
+ghost use Rattle.addrman_c.specs.Calls.{FindCall, RecordsCall};
 ghost use Rattle.addrman_c.specs.OnHandle.{OnTables};
 
-use crate::code::{ARGUMENT, CLOSED, MEMORY, NONE, OK, SHORT_BUFFER};
-use crate::handle::Handle;
-use crate::structs::{AddrmanCounts, AddrmanRecord};
-use crate::values::{AddrmanPeer, read_peer, write_addr, write_peer};
-use keyed_hasher::Keyed;
+use c_handles::{Handle, Keyed};
+use c_values::code::{ARGUMENT, CLOSED, MEMORY, NONE, OK, SHORT_BUFFER};
+use c_values::{AddrmanCounts, AddrmanPeer, AddrmanRecord, put_records, read_peer, write_record};
 use net_addr::Peer;
-use peer_rec::{Place, Rec};
 use std::alloc::Global;
 use tables::Tables;
-
-/// Writes the buckets of a place to the start of an output, and returns how many they are.
-fn put_buckets(place: &Place, out: &mut [u16; 8]) -> u32
-    ensures { take result out.new ≡ buckets_by place.now }
-{
-    match place {
-        Place::New(buckets) => {
-            let items = buckets.items();
-            out[..items.len()].copy_from_slice(items);
-            items.len() as u32
-        }
-        Place::Tried => 0,
-    }
-}
-
-/// Writes a record as C sees it.
-fn write_record(rec: &Rec) -> AddrmanRecord
-    ensures { IsRecord result rec.now }
-{
-    let mut buckets = [0; 8];
-    let bucket_count = put_buckets(&rec.place, &mut buckets);
-    AddrmanRecord {
-        number: rec.number,
-        services: rec.services,
-        peer: write_peer(&rec.peer),
-        source: write_addr(&rec.source),
-        time: rec.time,
-        last_success: rec.last_success,
-        last_try: rec.last_try,
-        last_counted: rec.last_count,
-        attempts: rec.attempts,
-        buckets,
-        bucket_count,
-    }
-}
 
 /// Finds the record of a peer.
 fn find_on(tables: &Tables<'_, Keyed>, peer: Option<Peer>, out: &mut AddrmanRecord) -> u32
@@ -84,17 +46,6 @@ pub extern "C" fn addrman_find(
     let code = find_on(&kept.tables, read_peer(peer), out);
     handle.put(kept);
     code
-}
-
-/// Writes records to the start of an output that has room for them.
-fn put_records(out: &mut [AddrmanRecord], recs: &[Rec])
-    requires { length recs.now ≤ length out.old }
-    ensures told { AreRecords out.new recs.now }
-    ensures rest { drop (length recs.now) out.new ≡ drop (length recs.now) out.old }
-{
-    for i in 0..recs.len() {
-        out[i] = write_record(&recs[i]);
-    }
 }
 
 /// Writes all records, whole or not at all, and how many they are.

@@ -1,40 +1,15 @@
-ghost use Rattle.std.specs.Prelude.{◌≡◌, ◌≢◌, ◌≤◌, ◌%◌, length, drop};
+ghost use Rattle.std.specs.Prelude.{◌≡◌, ◌≢◌, ◌%◌};
 ghost use Rattle.net_addr.specs.NetBits.{nets_of};
-ghost use Rattle.addrman_c.specs.Sampling.{ArePeers, PeersPut, SampleCall};
+ghost use Rattle.addrman_c.specs.Sampling.{SampleCall};
 ghost use Rattle.addrman_c.specs.OnHandle.{OnTables};
 
-use crate::code::{ARGUMENT, CLOSED, MEMORY, OK, SHORT_BUFFER, SHORT_WORDS};
-use crate::handle::Handle;
-use crate::values::{AddrmanPeer, read_nets, write_peer};
-use keyed_hasher::Keyed;
-use net_addr::{NetSet, Peer};
+use c_handles::{Handle, Keyed};
+use c_values::code::{ARGUMENT, CLOSED, MEMORY, OK, SHORT_BUFFER, SHORT_WORDS};
+use c_values::{AddrmanPeer, put_peers, read_nets};
+use net_addr::NetSet;
 use picking::SampleFault;
 use std::alloc::Global;
 use tables::Tables;
-
-/// Writes peers to the start of an output that has room for them.
-fn put_start(out: &mut [AddrmanPeer], peers: &[Peer])
-    requires { length peers.now ≤ length out.old }
-    ensures told { ArePeers out.new peers.now }
-    ensures rest { drop (length peers.now) out.new ≡ drop (length peers.now) out.old }
-{
-    for i in 0..peers.len() {
-        out[i] = write_peer(&peers[i]);
-    }
-}
-
-/// Writes peers, whole or not at all, and how many they are.
-fn put_peers(out: &mut [AddrmanPeer], peers: &[Peer], length: &mut usize) -> u32
-    ensures call { PeersPut peers.now result out.old out.new length.new }
-    ensures same { result ≢ OK → out.new ≡ out.old }
-{
-    *length = peers.len();
-    if peers.len() > out.len() {
-        return SHORT_BUFFER;
-    }
-    put_start(out, peers);
-    OK
-}
 
 /// Samples peers to announce.
 fn sample_on(

@@ -6,13 +6,11 @@ ghost use Rattle.addrman_c.specs.OnHandle.{OnTables};
 ghost use Rattle.addrman_c.specs.Saving.{BeginCall, DoneCall, IsBegun, NextCall, OnSave, request_number};
 
 use crate::chain::chain_of;
-use crate::code::{ARGUMENT, CLOSED, MEMORY, NONE, OK, SHORT_BUFFER};
-use crate::handle::Handle;
-use crate::output::put_all;
-use crate::save_handle::{KeptSave, SaveHandle};
 use crate::writing::file_of;
+use c_handles::{Handle, KeptSave, Keyed, SaveHandle};
+use c_values::code::{ARGUMENT, CLOSED, MEMORY, NONE, OK, SHORT_BUFFER};
+use c_values::put_all;
 use host_io::Bytes;
-use keyed_hasher::Keyed;
 use peers_file::Chain;
 use save_requests::{SaveRequest, SaveRequests};
 use std::alloc::Global;
@@ -163,5 +161,5 @@ pub extern "C" fn addrman_save_done(alloc: Global, save: &mut SaveHandle, succee
 pub extern "C" fn addrman_save_close(alloc: Global, save: &mut SaveHandle)
     ensures { save.new.loose.kept ≡ None }
 {
-    let _kept = save.take(alloc);
+    save.close(alloc);
 }

@@ -2,12 +2,11 @@ ghost use Rattle.std.specs.Prelude.{◌≡◌, ◌≢◌, Some};
 ghost use Rattle.net_addr.specs.Address.{Address};
 ghost use Rattle.net_addr.specs.Text.{IsAddrText, IsPeerText, addr_text, peer_text};
 ghost use Rattle.net_addr.specs.declared.peer.Peer.{Peer};
-ghost use Rattle.addrman_c.specs.Values.{address_in, peer_in};
+ghost use Rattle.c_values.specs.Values.{address_in, peer_in};
 ghost use Rattle.addrman_c.specs.Texts.{TextCall};
 
-use crate::code::{ARGUMENT, MEMORY, OK, SHORT_BUFFER};
-use crate::output::put_all;
-use crate::values::{AddrmanAddr, AddrmanPeer, read_addr, read_peer, write_addr, write_peer};
+use c_values::code::{ARGUMENT, MEMORY, OK, SHORT_BUFFER};
+use c_values::{AddrmanAddr, AddrmanPeer, put_all, read_addr, read_peer, write_addr, write_peer};
 use net_addr::{NetAddr, Peer, parse_addr, parse_peer, put_addr, put_peer};
 use std::alloc::Global;
 

@@ -5,11 +5,10 @@ ghost use Rattle.addrman_c.specs.Files.{chain_of, WriteCall};
 ghost use Rattle.addrman_c.specs.OnHandle.{OnTables};
 
 use crate::chain::chain_of;
-use crate::code::{ARGUMENT, CLOSED, MEMORY, OK, SHORT_BUFFER};
-use crate::handle::Handle;
-use crate::output::put_all;
+use c_handles::{Handle, Keyed};
+use c_values::code::{ARGUMENT, CLOSED, MEMORY, OK, SHORT_BUFFER};
+use c_values::put_all;
 use host_io::Bytes;
-use keyed_hasher::Keyed;
 use peers_file::{Chain, write_file};
 use std::alloc::Global;
 use tables::Tables;

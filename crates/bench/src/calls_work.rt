@@ -1,6 +1,6 @@
 use crate::refusal::Refusal;
 use addr_codecs::Form;
-use keyed_hasher::Keyed;
+use c_handles::Keyed;
 use net_addr::{Entry, NetAddr, NetSet, Peer};
 use picking::Picked;
 use placing::Placer;

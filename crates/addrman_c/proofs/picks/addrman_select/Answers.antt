@@ -1,7 +1,7 @@
 use Rattle.std.proofs.Common.{List, ℕ, refl, subst}
 use Rattle.table_machine.specs.Picks.{select}
 use Rattle.addrman_c.specs.Calls.{PickCall}
-use Rattle.addrman_c.specs.declared.handle.Kept.{Kept}
+use Rattle.c_handles.specs.declared.handle.Kept.{Kept}
 use Rattle.addrman_c.proofs.OnHandles.{done}
 use Rattle.addrman_c.proofs.picks.addrman_select.Goals as goal
 

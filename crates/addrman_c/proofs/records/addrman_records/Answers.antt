@@ -1,6 +1,6 @@
 use Rattle.std.proofs.Common.{refl, subst}
 use Rattle.addrman_c.specs.Calls.{RecordsCall}
-use Rattle.addrman_c.specs.declared.handle.Kept.{Kept}
+use Rattle.c_handles.specs.declared.handle.Kept.{Kept}
 use Rattle.addrman_c.proofs.OnHandles.{done}
 use Rattle.addrman_c.proofs.records.addrman_records.Goals as goal
 
