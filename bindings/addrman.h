@@ -5,23 +5,27 @@
  * RULES FOR ALL CALLS
  *
  * Ownership. An object of type addrman is a struct that the caller declares, begins with
- *   ADDRMAN_INIT, opens by addrman_open or addrman_open_file, and closes by addrman_close. It may be
- *   moved by plain assignment while no call uses it, and the old copy is then not used any more; it
- *   is never copied. Its fields are private. addrman_close of a closed object does nothing; of the
- *   other calls, all but those that open it return ADDRMAN_ERR_CLOSED. Nothing that a call returns
- *   has to be freed: results go into memory of the caller's.
- * Memory. The library allocates by malloc, realloc and free alone. A call that can run out of memory
- *   returns ADDRMAN_ERR_MEMORY, and says what it then leaves. No call aborts.
- * Arguments. No pointer is null. One with a length of 0 may be any other pointer: pass the address of
- *   any object. What a call writes overlaps nothing else that is passed to it. A bool is 0 or 1.
+ *   ADDRMAN_INIT, opens by addrman_open or addrman_open_file, and closes by addrman_close. It may
+ *   be moved by plain assignment while no call uses it, and the old copy is then not used any more;
+ *   it is never copied. Its fields are private. addrman_close of a closed object, or of NULL, does
+ *   nothing; of the other calls, those that open the object open it, and all others return
+ *   ADDRMAN_ERR_CLOSED. Nothing that a call returns has to be freed: results go into memory of the
+ *   caller's.
+ * Memory. The library allocates by malloc, realloc and free alone. A call that can run out of
+ *   memory returns ADDRMAN_ERR_MEMORY, and says what it then leaves. No call aborts.
+ * Arguments. No pointer is NULL, but for those of the calls that close. One with a length of 0 may
+ *   be any other pointer: pass the address of any object. Texts have no zero at their end. What a
+ *   call writes overlaps nothing else that is passed to it. A bool is 0 or 1.
  * Threads. There is no global state. Two calls at the same time never use one object, not even two
  *   that only read: hold a lock for each object. It may go to another thread between calls.
- * Time and randomness. No call reads a clock or draws a random number. Times are seconds since 1970,
- *   random words are uniform 64-bit numbers from a cryptographic generator, and both come from the
- *   caller, so each run can be repeated.
- * Results. After a result other than ADDRMAN_OK the outputs are as they were, but for what the
- *   result is about: *length after ADDRMAN_ERR_SHORT_BUFFER, *fault after ADDRMAN_ERR_REFUSED, and
- *   what the call says. *fault is written after no other result.
+ * Time and randomness. No call reads a clock or draws a random number. Times are seconds since
+ *   1970, random words are uniform 64-bit numbers from a cryptographic generator, and both come
+ *   from the caller, so each run can be repeated.
+ * Results. "Codes" lists what a call returns besides ADDRMAN_OK, in the order in which it is
+ *   tested: if two hold, the first is returned, but memory can run out before a later test. After a
+ *   result other than ADDRMAN_OK the outputs are as they were, but for what the result is about:
+ *   *length after ADDRMAN_ERR_SHORT_BUFFER, *fault after ADDRMAN_ERR_REFUSED, and what the call
+ *   says. *fault is written after no other result.
  * Layout. The structs below are part of the ABI. ADDRMAN_ABI changes with them; compare it with
  *   addrman_abi().
  *
@@ -31,7 +35,8 @@
  * for all arguments that keep these rules. "Proved:" names the definitions of the clause. The rule
  * "Results" is a clause of each call, too. No proof sees the caller: that pointers are valid for
  * their lengths, that an open object is not copied, and that this header says what the functions'
- * signatures say, are trusted, as are the compiler and the C library.
+ * signatures say, are trusted, as are the compiler, the C library, and the test for NULL before the
+ * calls that close (bindings/close.c).
  */
 #ifndef ADDRMAN_H
 #define ADDRMAN_H
@@ -50,10 +55,20 @@ extern "C" {
 #error "libaddrman is built for ELF systems"
 #elif defined(__GNUC__) && __GNUC__ >= 4
 #define ADDRMAN_API __attribute__((visibility("default")))
-#define ADDRMAN_MUST_USE __attribute__((warn_unused_result))
+#define ADDRMAN_NONNULL __attribute__((nonnull))
+#define ADDRMAN_CALL ADDRMAN_API ADDRMAN_NONNULL __attribute__((warn_unused_result))
 #else
 #define ADDRMAN_API
-#define ADDRMAN_MUST_USE
+#define ADDRMAN_NONNULL
+#define ADDRMAN_CALL
+#endif
+
+#if defined(__cplusplus)
+#define ADDRMAN_SIZE(type, size) static_assert(sizeof(type) == (size), "the size of " #type)
+#elif defined(__STDC_VERSION__) && __STDC_VERSION__ >= 201112L
+#define ADDRMAN_SIZE(type, size) _Static_assert(sizeof(type) == (size), "the size of " #type)
+#else
+#define ADDRMAN_SIZE(type, size) typedef char addrman_sized_##type[sizeof(type) == (size) ? 1 : -1]
 #endif
 
 /* Returns ADDRMAN_ABI of the library that is linked. */
@@ -69,7 +84,7 @@ enum {
     ADDRMAN_ERR_ARGUMENT     = 3, /* an argument has no meaning, as an address of a wrong length */
     ADDRMAN_ERR_FULL         = 4, /* 2^62 records were made, or ten peers are open */
     ADDRMAN_ERR_SHORT_WORDS  = 5, /* too few random words; the call says how many it needs */
-    ADDRMAN_ERR_SHORT_BUFFER = 6, /* the output has too little room; *length says how much it needs */
+    ADDRMAN_ERR_SHORT_BUFFER = 6, /* the output has less room than *length then says */
     ADDRMAN_ERR_REFUSED      = 7, /* the bytes are no message, file or asmap; *fault says why */
     ADDRMAN_NONE             = 8, /* nothing to return: no candidate, no record, no collision */
     ADDRMAN_EXHAUSTED        = 9  /* the random words were used up: call with more */
@@ -110,6 +125,7 @@ typedef struct {
     uint32_t kind;
     uint64_t at; /* what the kind says of it, else 0 */
 } addrman_fault;
+ADDRMAN_SIZE(addrman_fault, 16);
 
 /* ----------------------------------------------------------------------------------- values */
 
@@ -123,19 +139,22 @@ enum {
 #define ADDRMAN_NET(n)   (1u << (n))
 #define ADDRMAN_ALL_NETS 0x7fu
 
-/* An address has 4 bytes (IPv4), 16 (IPv6, CJDNS), 32 (onion v3, I2P) or 10 (internal), in the order
- * of the wire; bytes after them do not count. IPv6 bytes that embed an IPv4, an internal or a Tor v2
- * address are no address. No address is of network ADDRMAN_UNROUTABLE: that is a class of them. */
+/* An address has 4 bytes (IPv4), 16 (IPv6, CJDNS), 32 (onion v3, I2P) or 10 (internal), in the
+ * order of the wire; bytes after them do not count. IPv6 bytes that embed an IPv4, an internal or a
+ * Tor v2 address are no address. No address is of network ADDRMAN_UNROUTABLE: that is a class of
+ * them. */
 typedef struct {
     uint8_t bytes[32];
     addrman_network network;
     uint8_t length;
 } addrman_addr;
+ADDRMAN_SIZE(addrman_addr, 34);
 
 typedef struct {
     addrman_addr addr;
     uint16_t port;
 } addrman_peer;
+ADDRMAN_SIZE(addrman_peer, 36);
 
 /* A record. Times are 0 if the event has not happened. */
 typedef struct {
@@ -148,39 +167,45 @@ typedef struct {
     uint16_t buckets[8];   /* of the new table, rising */
     uint32_t bucket_count; /* 0: the record is in the tried table */
 } addrman_record;
+ADDRMAN_SIZE(addrman_record, 128);
 
-/* Parse the text of an address (9.9.9.9, [2001:db8::1], onion:HEX, i2p:HEX, cjdns:HEX, internal:HEX;
- * HEX is its bytes) or of a peer, which has a colon and the port after it. ADDRMAN_ERR_ARGUMENT: the
- * text is none. Proved: `IsAddrText`, `IsPeerText`. */
-ADDRMAN_API addrman_result addrman_addr_parse(const uint8_t *text, size_t length,
+/* Parse the text of an address (9.9.9.9, [2001:db8::1], onion:HEX, i2p:HEX, cjdns:HEX,
+ * internal:HEX; HEX is its bytes) or of a peer, which has a colon and the port after it.
+ * ADDRMAN_ERR_ARGUMENT: the text is none. Proved: `IsAddrText`, `IsPeerText`.
+ * Codes: ARGUMENT. */
+ADDRMAN_CALL addrman_result addrman_addr_parse(const char *text, size_t length,
     addrman_addr *addr);
-ADDRMAN_API addrman_result addrman_peer_parse(const uint8_t *text, size_t length,
+ADDRMAN_CALL addrman_result addrman_peer_parse(const char *text, size_t length,
     addrman_peer *peer);
 
 /* Write the text, which has no zero at its end, and its length: at most 70 bytes for an address and
- * 76 for a peer. Proved: TextCall (`addr_text`, `peer_text`). */
-ADDRMAN_API addrman_result addrman_addr_text(const addrman_addr *addr, uint8_t *out,
+ * 76 for a peer. Proved: TextCall (`addr_text`, `peer_text`).
+ * Codes: ARGUMENT, MEMORY, SHORT_BUFFER. */
+ADDRMAN_CALL addrman_result addrman_addr_text(const addrman_addr *addr, char *out,
     size_t capacity, size_t *length);
-ADDRMAN_API addrman_result addrman_peer_text(const addrman_peer *peer, uint8_t *out,
+ADDRMAN_CALL addrman_result addrman_peer_text(const addrman_peer *peer, char *out,
     size_t capacity, size_t *length);
 
 /* Whether an address is one that can be reached from anywhere: *routable is 1 or 0. Proved:
- * RoutableCall (`is_routable`). */
-ADDRMAN_API addrman_result addrman_addr_routable(const addrman_addr *addr, uint32_t *routable);
+ * RoutableCall (`is_routable`).
+ * Codes: ARGUMENT. */
+ADDRMAN_CALL addrman_result addrman_addr_routable(const addrman_addr *addr, uint32_t *routable);
 
-/* The address of the sixteen bytes that messages before BIP 155 have. Of any bytes there is one. Proved:
- * `from_v1`. */
-ADDRMAN_API void addrman_addr_from_v1(const uint8_t v1[16], addrman_addr *addr);
+/* The address of the sixteen bytes that messages before BIP 155 have. Of any bytes there is one.
+ * Proved: `from_v1`. */
+ADDRMAN_API ADDRMAN_NONNULL void addrman_addr_from_v1(const uint8_t v1[16], addrman_addr *addr);
 
-/* The sixteen bytes of an address. ADDRMAN_NONE: it has none, as an onion address. Proved: OldFormCall
- * (`v1_bytes`). */
-ADDRMAN_API addrman_result addrman_addr_to_v1(const addrman_addr *addr, uint8_t v1[16]);
+/* The sixteen bytes of an address. ADDRMAN_NONE: it has none, as an onion address. Proved:
+ * OldFormCall (`v1_bytes`).
+ * Codes: ARGUMENT, NONE. */
+ADDRMAN_CALL addrman_result addrman_addr_to_v1(const addrman_addr *addr, uint8_t v1[16]);
 
-/* The network that an address is reached through: ADDRMAN_IPV4 for a routable IPv6 address that embeds
- * an IPv4 address, as those of 6to4 and Teredo do; ADDRMAN_INTERNAL for an internal name; and
- * ADDRMAN_UNROUTABLE for any other that is not routable. It is what the set of addrman_sample goes by.
- * Proved: ClassCall (`net_class`). */
-ADDRMAN_API addrman_result addrman_addr_class(const addrman_addr *addr, uint32_t *network);
+/* The network that an address is reached through: ADDRMAN_IPV4 for a routable IPv6 address that
+ * embeds an IPv4 address, as those of 6to4 and Teredo do; ADDRMAN_INTERNAL for an internal name;
+ * and ADDRMAN_UNROUTABLE for any other that is not routable. It is what the set of addrman_sample
+ * goes by. Proved: ClassCall (`net_class`).
+ * Codes: ARGUMENT. */
+ADDRMAN_CALL addrman_result addrman_addr_class(const addrman_addr *addr, uint32_t *network);
 
 /* ----------------------------------------------------------------------------------- tables */
 
@@ -188,6 +213,7 @@ typedef struct addrman {
     void *impl;
     bool is_open;
 } addrman;
+ADDRMAN_SIZE(addrman, 16);
 #define ADDRMAN_INIT { 0, false }
 
 typedef uint32_t addrman_chain;
@@ -198,37 +224,41 @@ enum { ADDRMAN_MAIN, ADDRMAN_TEST, ADDRMAN_SIGNET, ADDRMAN_REGTEST };
  * the object has a copy of them. What the object had is dropped first, and after any result other
  * than ADDRMAN_OK it is closed.
  *   ADDRMAN_ERR_REFUSED  the asmap is not sane, or has more than 8,388,608 bytes
- * Proved: OpenCall (`empty_state`). */
-ADDRMAN_API ADDRMAN_MUST_USE addrman_result addrman_open(addrman *am, const uint8_t key[32],
+ * Proved: OpenCall (`empty_state`).
+ * Codes: REFUSED, MEMORY. */
+ADDRMAN_CALL addrman_result addrman_open(addrman *am, const uint8_t key[32],
     const uint64_t seed[2], const uint8_t *asmap, size_t asmap_length);
 
 /* Opens the tables that the bytes of a peers.dat (formats 1 to 4) have, under the key in the file.
  * The bytes are not used afterwards.
  *   ADDRMAN_ERR_REFUSED  *fault says why
- * Proved: LoadCall (`IsFile`, `restored`, `HasFileFault`, `duplicate`). */
-ADDRMAN_API ADDRMAN_MUST_USE addrman_result addrman_open_file(addrman *am, const uint8_t *bytes,
+ * Proved: LoadCall (`IsFile`, `restored`, `HasFileFault`, `duplicate`).
+ * Codes: ARGUMENT (there is no such chain), REFUSED (the asmap), MEMORY or REFUSED. */
+ADDRMAN_CALL addrman_result addrman_open_file(addrman *am, const uint8_t *bytes,
     size_t length, addrman_chain chain, const uint64_t seed[2], const uint8_t *asmap,
     size_t asmap_length, addrman_fault *fault);
 
 /* Frees all memory of the object, and closes it. Proved: the object is closed. */
 ADDRMAN_API void addrman_close(addrman *am);
 
-/* Writes the file that keeps the tables (format 4) and how many bytes it has. addrman_save_begin says
- * how a node puts them in the place of its peers.dat.
+/* Writes the file that keeps the tables (format 4) and how many bytes it has. addrman_save_begin
+ * says how a node puts them in the place of its peers.dat.
  *   ADDRMAN_ERR_SHORT_BUFFER  nothing is written but *length
- * Proved: WriteCall (`file_text` of `snapshot_of`); the tables are as they were. */
-ADDRMAN_API ADDRMAN_MUST_USE addrman_result addrman_write_file(addrman *am, addrman_chain chain,
+ * Proved: WriteCall (`file_text` of `snapshot_of`); the tables are as they were.
+ * Codes: CLOSED, ARGUMENT (there is no such chain), MEMORY, SHORT_BUFFER. */
+ADDRMAN_CALL addrman_result addrman_write_file(addrman *am, addrman_chain chain,
     uint8_t *out, size_t capacity, size_t *length);
 
 /* ------------------------------------------------------------------------------------ saves */
 
 /* The library opens no file. A save says what to do in the folder of peers.dat, one request after
- * another, and has its own copy of the file, so the tables may change meanwhile. The rules for objects
- * of type addrman hold of it. */
+ * another, and has its own copy of the file, so the tables may change meanwhile. The rules for
+ * objects of type addrman hold of it. */
 typedef struct addrman_save {
     void *impl;
     bool is_open;
 } addrman_save;
+ADDRMAN_SIZE(addrman_save, 16);
 #define ADDRMAN_SAVE_INIT { 0, false }
 
 typedef uint32_t addrman_request;
@@ -240,26 +270,29 @@ enum {
     ADDRMAN_SYNC_FOLDER /* call fsync on the folder */
 };
 
-/* Begins a save of the tables as they are, in pieces of at most `most` bytes, which is at least 1. What
- * the save had is dropped first, and after any result other than ADDRMAN_OK it is closed.
+/* Begins a save of the tables as they are, in pieces of at most `most` bytes, which is at least 1.
+ * What the save had is dropped first, and after any result other than ADDRMAN_OK it is closed.
  * Proved: BeginCall. If the requests are carried out in their order, each after the one before has
  * succeeded, then a crash at any moment leaves peers.dat as it was or whole with these tables, and
- * after the last request always with these (`IsSafeSave`): of a disk that keeps the rules of `Disk`,
- * if nobody else changes the two files meanwhile. */
-ADDRMAN_API ADDRMAN_MUST_USE addrman_result addrman_save_begin(addrman_save *save, addrman *am,
+ * after the last request always with these (`IsSafeSave`): of a disk that keeps the rules of
+ * `Disk`, if nobody else changes the two files meanwhile.
+ * Codes: CLOSED, ARGUMENT (there is no such chain, or `most` is 0), MEMORY. */
+ADDRMAN_CALL addrman_result addrman_save_begin(addrman_save *save, addrman *am,
     addrman_chain chain, uint32_t most);
 
-/* Writes what to do next, the bytes to append, and how many they are: 0 of another request. It says the
- * same until addrman_save_done.
+/* Writes what to do next, the bytes to append, and how many they are: 0 of another request. It says
+ * the same until addrman_save_done.
  *   ADDRMAN_NONE              the file is saved
  *   ADDRMAN_ERR_SHORT_BUFFER  only *request and *length are written: call it with more room
- * Proved: NextCall; the save is as it was. */
-ADDRMAN_API ADDRMAN_MUST_USE addrman_result addrman_save_next(addrman_save *save,
+ * Proved: NextCall; the save is as it was.
+ * Codes: CLOSED, NONE, SHORT_BUFFER. */
+ADDRMAN_CALL addrman_result addrman_save_next(addrman_save *save,
     addrman_request *request, uint8_t *out, size_t capacity, size_t *length);
 
 /* What was to be done has succeeded, or has failed: then the save is over, and closed. Proved:
- * DoneCall. */
-ADDRMAN_API addrman_result addrman_save_done(addrman_save *save, bool succeeded);
+ * DoneCall.
+ * Codes: CLOSED. */
+ADDRMAN_CALL addrman_result addrman_save_done(addrman_save *save, bool succeeded);
 
 /* Frees all memory of the object, and closes it. */
 ADDRMAN_API void addrman_save_close(addrman_save *save);
@@ -269,6 +302,7 @@ ADDRMAN_API void addrman_save_close(addrman_save *save);
 typedef struct {
     uint32_t accepted, total;
 } addrman_added;
+ADDRMAN_SIZE(addrman_added, 8);
 
 /* Takes an addr (is_v2 false) or addrv2 message that `source` sent: its payload without the header.
  * Each entry needs a random word; more are ignored. Times are clamped as Bitcoin Core does, with a
@@ -277,18 +311,20 @@ typedef struct {
  *   ADDRMAN_ERR_SHORT_WORDS  nothing changes; added->total is how many entries there are, and
  *                            added->accepted is 0
  *   ADDRMAN_ERR_MEMORY       some of the first entries may have been added, and the others not
- * Proved: MessageCall (`IsMessage`, `take_entries`, `HasMessageFault`). */
-ADDRMAN_API ADDRMAN_MUST_USE addrman_result addrman_take_message(addrman *am, bool is_v2,
+ * Proved: MessageCall (`IsMessage`, `take_entries`, `HasMessageFault`).
+ * Codes: CLOSED, ARGUMENT, FULL, then REFUSED, SHORT_WORDS or MEMORY. */
+ADDRMAN_CALL addrman_result addrman_take_message(addrman *am, bool is_v2,
     const uint8_t *payload, size_t payload_length, const addrman_addr *source,
     const uint64_t *words, size_t word_count, uint32_t now, addrman_added *added,
     addrman_fault *fault);
 
-/* Adds one entry that `source` announced, with a penalty in seconds and a random word: for seeds, and
- * for callers that read messages themselves. The time is not clamped. *accepted is 1 if the peer got
- * a slot, else 0.
+/* Adds one entry that `source` announced, with a penalty in seconds and a random word: for seeds,
+ * and for callers that read messages themselves. The time is not clamped. *accepted is 1 if the
+ * peer got a slot, else 0.
  *   ADDRMAN_ERR_MEMORY  nothing changes
- * Proved: AddCall (`add`). */
-ADDRMAN_API ADDRMAN_MUST_USE addrman_result addrman_add(addrman *am, const addrman_peer *peer,
+ * Proved: AddCall (`add`).
+ * Codes: CLOSED, ARGUMENT, FULL, MEMORY. */
+ADDRMAN_CALL addrman_result addrman_add(addrman *am, const addrman_peer *peer,
     const addrman_addr *source, uint32_t time, uint64_t services, uint32_t penalty, uint64_t word,
     uint32_t now, uint32_t *accepted);
 
@@ -296,18 +332,21 @@ ADDRMAN_API ADDRMAN_MUST_USE addrman_result addrman_add(addrman *am, const addrm
 
 enum { ADDRMAN_GOOD_UNKNOWN, ADDRMAN_GOOD_ALREADY, ADDRMAN_GOOD_CLASH, ADDRMAN_GOOD_MOVED };
 
-/* A peer was reached. With `testing`, which a node always uses, the occupant of its slot of the tried
- * table stays until it was tested. *outcome is one of the names above. Proved: GoodCall (`good`). */
-ADDRMAN_API addrman_result addrman_good(addrman *am, const addrman_peer *peer, bool testing,
+/* A peer was reached. With `testing`, which a node always uses, the occupant of its slot of the
+ * tried table stays until it was tested. *outcome is one of the names above. Proved: GoodCall
+ * (`good`).
+ * Codes: CLOSED, ARGUMENT. */
+ADDRMAN_CALL addrman_result addrman_good(addrman *am, const addrman_peer *peer, bool testing,
     uint32_t now, uint32_t *outcome);
 
 /* A connection to a peer was tried, was open until now, or told the peer's services. *known is 1 if
- * the peer is known, else 0. Proved: KnownCall (`attempt`, `connected`, `set_services`). */
-ADDRMAN_API addrman_result addrman_attempt(addrman *am, const addrman_peer *peer, bool counted,
+ * the peer is known, else 0. Proved: KnownCall (`attempt`, `connected`, `set_services`).
+ * Codes: CLOSED, ARGUMENT. */
+ADDRMAN_CALL addrman_result addrman_attempt(addrman *am, const addrman_peer *peer, bool counted,
     uint32_t now, uint32_t *known);
-ADDRMAN_API addrman_result addrman_connected(addrman *am, const addrman_peer *peer, uint32_t now,
+ADDRMAN_CALL addrman_result addrman_connected(addrman *am, const addrman_peer *peer, uint32_t now,
     uint32_t *known);
-ADDRMAN_API addrman_result addrman_set_services(addrman *am, const addrman_peer *peer,
+ADDRMAN_CALL addrman_result addrman_set_services(addrman *am, const addrman_peer *peer,
     uint64_t services, uint32_t *known);
 
 /* ------------------------------------------------------------------------------------ picks */
@@ -316,26 +355,29 @@ typedef struct {
     addrman_peer peer;
     uint32_t last_try;
 } addrman_picked;
+ADDRMAN_SIZE(addrman_picked, 40);
 
 /* Picks a peer to connect to, of a set of networks. 300 words are enough nearly always; tables with
  * few records can need thousands.
  *   ADDRMAN_NONE       there is no candidate
  *   ADDRMAN_EXHAUSTED  call with more words
- * Proved: PickCall (`select`); the tables are as they were. */
-ADDRMAN_API ADDRMAN_MUST_USE addrman_result addrman_select(addrman *am, bool new_only,
+ * Proved: PickCall (`select`); the tables are as they were.
+ * Codes: CLOSED, then NONE or EXHAUSTED. */
+ADDRMAN_CALL addrman_result addrman_select(addrman *am, bool new_only,
     uint32_t nets, const uint64_t *words, size_t word_count, uint32_t now, addrman_picked *picked);
 
 /* Samples peers to announce to another node: at most `max`, and at most `percent` percent of all
  * records; 0 is no limit. `classes` is a set of networks, ADDRMAN_UNROUTABLE among them. *length is
- * how many peers the sample has. It needs a random word for each record (addrman_size tells how many
- * there are). The order of the records changes, which no other call shows. addrman_find has a peer's
- * time and services.
+ * how many peers the sample has. It needs a random word for each record (addrman_size tells how
+ * many there are). The order of the records changes, which no other call shows. addrman_find has a
+ * peer's time and services.
  *   ADDRMAN_ERR_ARGUMENT      `percent` is above 100, or there are 2^32 words or more
  *   ADDRMAN_ERR_SHORT_WORDS   nothing changes; *length is how many words are needed
  *   ADDRMAN_ERR_SHORT_BUFFER  nothing is written but *length. The order changes all the same
  *   ADDRMAN_ERR_MEMORY        nothing changes
- * Proved: SampleCall (`sample`). */
-ADDRMAN_API ADDRMAN_MUST_USE addrman_result addrman_sample(addrman *am, uint32_t max,
+ * Proved: SampleCall (`sample`).
+ * Codes: CLOSED, ARGUMENT, SHORT_WORDS, MEMORY, SHORT_BUFFER. */
+ADDRMAN_CALL addrman_result addrman_sample(addrman *am, uint32_t max,
     uint32_t percent, uint32_t classes, const uint64_t *words, size_t word_count, uint32_t now,
     addrman_peer *peers, size_t capacity, size_t *length);
 
@@ -344,15 +386,19 @@ ADDRMAN_API ADDRMAN_MUST_USE addrman_result addrman_sample(addrman *am, uint32_t
 typedef struct {
     uint32_t erased, moved, kept;
 } addrman_resolved;
+ADDRMAN_SIZE(addrman_resolved, 12);
 
-/* Decides on all collisions, every few minutes. Proved: `resolve`. */
-ADDRMAN_API addrman_result addrman_resolve_collisions(addrman *am, uint32_t now,
+/* Decides on all collisions, every few minutes. Proved: `resolve`.
+ * Codes: CLOSED. */
+ADDRMAN_CALL addrman_result addrman_resolve_collisions(addrman *am, uint32_t now,
     addrman_resolved *resolved);
 
-/* Selects a collision by a random word, and writes the occupant of its slot, which a node then tests.
+/* Selects a collision by a random word, and writes the occupant of its slot, which a node then
+ * tests.
  *   ADDRMAN_NONE  there is no collision, or its record is gone: then the collision is dropped
- * Proved: OccupantCall (`clash_pick`). */
-ADDRMAN_API addrman_result addrman_select_collision(addrman *am, uint64_t word,
+ * Proved: OccupantCall (`clash_pick`).
+ * Codes: CLOSED, NONE. */
+ADDRMAN_CALL addrman_result addrman_select_collision(addrman *am, uint64_t word,
     addrman_picked *occupant);
 
 /* ---------------------------------------------------------------------------------- records */
@@ -360,49 +406,58 @@ ADDRMAN_API addrman_result addrman_select_collision(addrman *am, uint64_t word,
 typedef struct {
     uint32_t new_count, tried_count, collisions;
 } addrman_counts;
+ADDRMAN_SIZE(addrman_counts, 12);
 
-/* How many records are in each table, and how many collisions there are. */
-ADDRMAN_API addrman_result addrman_size(addrman *am, addrman_counts *counts);
+/* How many records are in each table, and how many collisions there are.
+ * Codes: CLOSED. */
+ADDRMAN_CALL addrman_result addrman_size(addrman *am, addrman_counts *counts);
 
-/* The record of a peer. ADDRMAN_NONE: it has none. Proved: FindCall (`find_peer`). */
-ADDRMAN_API addrman_result addrman_find(addrman *am, const addrman_peer *peer,
+/* The record of a peer. ADDRMAN_NONE: it has none. Proved: FindCall (`find_peer`).
+ * Codes: CLOSED, ARGUMENT, NONE. */
+ADDRMAN_CALL addrman_result addrman_find(addrman *am, const addrman_peer *peer,
     addrman_record *record);
 
 /* Writes all records in the order of their numbers, and how many they are.
  *   ADDRMAN_ERR_SHORT_BUFFER  nothing is written but *length
- * Proved: RecordsCall. */
-ADDRMAN_API ADDRMAN_MUST_USE addrman_result addrman_records(addrman *am, addrman_record *records,
+ * Proved: RecordsCall.
+ * Codes: CLOSED, MEMORY, SHORT_BUFFER. */
+ADDRMAN_CALL addrman_result addrman_records(addrman *am, addrman_record *records,
     size_t capacity, size_t *length);
 
 /* ----------------------------------------------------------------------------------- groups */
 
 /* Whether bytes are a sane asmap of at most 8,388,608 bytes: ADDRMAN_OK or ADDRMAN_ERR_REFUSED.
- * Proved: CheckCall (`IsSaneFile`). */
-ADDRMAN_API addrman_result addrman_asmap_check(const uint8_t *asmap, size_t length);
+ * Proved: CheckCall (`IsSaneFile`).
+ * Codes: REFUSED. */
+ADDRMAN_CALL addrman_result addrman_asmap_check(const uint8_t *asmap, size_t length);
 
-/* Compiles a table of prefixes into an asmap, and writes that and how many bytes it has. A line of the
- * table is a prefix and a number (1.2.3.0/24 AS5, 2001:db8::/32 AS6). The output is as it was after a
- * result other than ADDRMAN_OK.
+/* Compiles a table of prefixes into an asmap, and writes that and how many bytes it has. A line of
+ * the table is a prefix and a number (1.2.3.0/24 AS5, 2001:db8::/32 AS6). The output is as it was
+ * after a result other than ADDRMAN_OK.
  *   ADDRMAN_ERR_REFUSED  *fault says why
- * Proved: CompileCall (`IsTableText`, `IsFault`, `compiled`, `best`). */
-ADDRMAN_API ADDRMAN_MUST_USE addrman_result addrman_asmap_compile(const uint8_t *table,
+ * Proved: CompileCall (`IsTableText`, `IsFault`, `compiled`, `best`).
+ * Codes: REFUSED or MEMORY, SHORT_BUFFER. */
+ADDRMAN_CALL addrman_result addrman_asmap_compile(const char *table,
     size_t table_length, uint8_t *out, size_t capacity, size_t *length, addrman_fault *fault);
 
-/* Turns an asmap back into a table whose longest prefixes give each address the number that the asmap
- * gives, and writes its text and how many bytes that has.
- *   ADDRMAN_ERR_REFUSED  it is not sane, has more than 8,388,608 bytes, or gives more than 2,000,000
- *                        rows
- * Proved: BackCall (`rows_back`, `table_text`). */
-ADDRMAN_API ADDRMAN_MUST_USE addrman_result addrman_asmap_decompile(const uint8_t *asmap,
-    size_t asmap_length, uint8_t *out, size_t capacity, size_t *length, addrman_fault *fault);
+/* Turns an asmap back into a table whose longest prefixes give each address the number that the
+ * asmap gives, and writes its text and how many bytes that has.
+ *   ADDRMAN_ERR_REFUSED  it is not sane, has more than 8,388,608 bytes, or gives more than
+ *                        2,000,000 rows
+ * Proved: BackCall (`rows_back`, `table_text`).
+ * Codes: REFUSED or MEMORY, SHORT_BUFFER. */
+ADDRMAN_CALL addrman_result addrman_asmap_decompile(const uint8_t *asmap,
+    size_t asmap_length, char *out, size_t capacity, size_t *length, addrman_fault *fault);
 
 /* The number of the autonomous system that announces an address by the object's asmap, 0 if none is
- * known. Proved: AsnCall (`asn`). */
-ADDRMAN_API addrman_result addrman_asn(addrman *am, const addrman_addr *addr, uint32_t *asn);
+ * known. Proved: AsnCall (`asn`).
+ * Codes: CLOSED, ARGUMENT. */
+ADDRMAN_CALL addrman_result addrman_asn(addrman *am, const addrman_addr *addr, uint32_t *asn);
 
 /* Writes the network group of an address, at most 11 bytes, and its length. Proved: GroupCall
- * (`group`). */
-ADDRMAN_API addrman_result addrman_group(addrman *am, const addrman_addr *addr, uint8_t *out,
+ * (`group`).
+ * Codes: CLOSED, ARGUMENT, SHORT_BUFFER. */
+ADDRMAN_CALL addrman_result addrman_group(addrman *am, const addrman_addr *addr, uint8_t *out,
     size_t capacity, size_t *length);
 
 /* ------------------------------------------------------------------- outbound connections */
@@ -411,10 +466,11 @@ ADDRMAN_API addrman_result addrman_group(addrman *am, const addrman_addr *addr, 
  * They are not part of the file. */
 enum { ADDRMAN_TAKE, ADDRMAN_SAME_GROUP, ADDRMAN_RECENT };
 
-/* Decides whether to connect to a candidate, in the try of this number, from 1 to 100. A peer that was
- * tried in the last ten minutes is taken only from the 31st try on. *verdict is one of the names
- * above; the object is as it was. Proved: JudgeCall (`judge`). */
-ADDRMAN_API addrman_result addrman_opener_judge(addrman *am, const addrman_picked *candidate,
+/* Decides whether to connect to a candidate, in the try of this number, from 1 to 100. A peer that
+ * was tried in the last ten minutes is taken only from the 31st try on. *verdict is one of the
+ * names above; the object is as it was. Proved: JudgeCall (`judge`).
+ * Codes: CLOSED, ARGUMENT. */
+ADDRMAN_CALL addrman_result addrman_opener_judge(addrman *am, const addrman_picked *candidate,
     uint32_t now, uint32_t tries, uint32_t *verdict);
 
 /* Returns the verdict on a connection that only tests whether a peer answers. Proved:
@@ -424,11 +480,13 @@ ADDRMAN_API uint32_t addrman_judge_feeler(uint32_t last_try, uint32_t now, uint3
 /* A connection to a peer was opened.
  *   ADDRMAN_ERR_FULL      ten are open
  *   ADDRMAN_ERR_ARGUMENT  one in its group is open
- * Proved: AddCall (`with_peer`). */
-ADDRMAN_API addrman_result addrman_opener_add(addrman *am, const addrman_peer *peer);
+ * Proved: AddCall (`with_peer`).
+ * Codes: CLOSED, ARGUMENT (no address), FULL, ARGUMENT (its group). */
+ADDRMAN_CALL addrman_result addrman_opener_add(addrman *am, const addrman_peer *peer);
 
-/* A connection to a peer was closed. *was_open is 1 or 0. Proved: RemoveCall (`without_peer`). */
-ADDRMAN_API addrman_result addrman_opener_remove(addrman *am, const addrman_peer *peer,
+/* A connection to a peer was closed. *was_open is 1 or 0. Proved: RemoveCall (`without_peer`).
+ * Codes: CLOSED, ARGUMENT. */
+ADDRMAN_CALL addrman_result addrman_opener_remove(addrman *am, const addrman_peer *peer,
     uint32_t *was_open);
 
 /* ------------------------------------------------------------------------------------- bans */
@@ -438,6 +496,7 @@ typedef struct addrman_bans {
     void *impl;
     bool is_open;
 } addrman_bans;
+ADDRMAN_SIZE(addrman_bans, 16);
 #define ADDRMAN_BANS_INIT { 0, false }
 
 enum { ADDRMAN_BAN_ADDED, ADDRMAN_BAN_KEPT, ADDRMAN_BAN_FULL };
@@ -447,42 +506,49 @@ typedef struct {
     uint32_t prefix;   /* how many of its bits count */
     uint32_t created, until;
 } addrman_ban;
+ADDRMAN_SIZE(addrman_ban, 48);
 
-/* Parses the text of a subnet (1.2.3.0/24, 2001:db8::/32, onion:HEX): its address, and how many of its
- * bits count. ADDRMAN_ERR_ARGUMENT: the text is none. Proved: SubnetCall (`IsSubnetText`). */
-ADDRMAN_API addrman_result addrman_subnet_parse(const uint8_t *text, size_t length,
+/* Parses the text of a subnet (1.2.3.0/24, 2001:db8::/32, onion:HEX): its address, and how many of
+ * its bits count. ADDRMAN_ERR_ARGUMENT: the text is none. Proved: SubnetCall (`IsSubnetText`).
+ * Codes: ARGUMENT. */
+ADDRMAN_CALL addrman_result addrman_subnet_parse(const char *text, size_t length,
     addrman_addr *base, uint32_t *prefix);
 
 /* Opens the list that the bytes of a banlist.json have, or an empty one (length 0). What the object
  * had is dropped first, and after any result other than ADDRMAN_OK it is closed.
  *   ADDRMAN_ERR_REFUSED  *fault says why
- * Proved: ReadCall (`IsBanFile`, `HasBanFault`). */
-ADDRMAN_API ADDRMAN_MUST_USE addrman_result addrman_bans_open(addrman_bans *bans,
-    const uint8_t *json, size_t length, addrman_fault *fault);
+ * Proved: ReadCall (`IsBanFile`, `HasBanFault`).
+ * Codes: REFUSED or MEMORY. */
+ADDRMAN_CALL addrman_result addrman_bans_open(addrman_bans *bans,
+    const char *json, size_t length, addrman_fault *fault);
 
 /* Frees all memory of the object, and closes it. */
 ADDRMAN_API void addrman_bans_close(addrman_bans *bans);
 
-/* Writes the banlist.json that keeps the list, and how many bytes it has. Proved: PrintCall. */
-ADDRMAN_API ADDRMAN_MUST_USE addrman_result addrman_bans_write(addrman_bans *bans, uint8_t *out,
+/* Writes the banlist.json that keeps the list, and how many bytes it has. Proved: PrintCall.
+ * Codes: CLOSED, MEMORY, SHORT_BUFFER. */
+ADDRMAN_CALL addrman_result addrman_bans_write(addrman_bans *bans, char *out,
     size_t capacity, size_t *length);
 
-/* Drops the bans that are over, and bans the subnet of a text (as addrman_subnet_parse reads it) from
- * `now` until a time. *reply is one of the names above.
+/* Drops the bans that are over, and bans the subnet of a text (as addrman_subnet_parse reads it)
+ * from `now` until a time. *reply is one of the names above.
  *   ADDRMAN_ERR_ARGUMENT  the text is no subnet
  *   ADDRMAN_ERR_MEMORY    nothing changes
- * Proved: BanCall (`after_ban`). */
-ADDRMAN_API ADDRMAN_MUST_USE addrman_result addrman_bans_add(addrman_bans *bans,
-    const uint8_t *subnet, size_t length, uint32_t now, uint32_t until, uint32_t *reply);
+ * Proved: BanCall (`after_ban`).
+ * Codes: CLOSED, ARGUMENT, MEMORY. */
+ADDRMAN_CALL addrman_result addrman_bans_add(addrman_bans *bans,
+    const char *subnet, size_t length, uint32_t now, uint32_t until, uint32_t *reply);
 
 /* Takes the ban of a subnet out of the list. *known is 1 if it had one, else 0. Proved: UnbanCall
- * (`without_ban`). */
-ADDRMAN_API addrman_result addrman_bans_remove(addrman_bans *bans, const uint8_t *subnet,
+ * (`without_ban`).
+ * Codes: CLOSED, ARGUMENT. */
+ADDRMAN_CALL addrman_result addrman_bans_remove(addrman_bans *bans, const char *subnet,
     size_t length, uint32_t *known);
 
 /* Writes the first ban that covers an address and is not over. ADDRMAN_NONE: the address is free.
- * Proved: CoverCall (`stops`). */
-ADDRMAN_API addrman_result addrman_bans_covering(addrman_bans *bans, const addrman_addr *addr,
+ * Proved: CoverCall (`stops`).
+ * Codes: CLOSED, ARGUMENT, NONE. */
+ADDRMAN_CALL addrman_result addrman_bans_covering(addrman_bans *bans, const addrman_addr *addr,
     uint32_t now, addrman_ban *ban);
 
 /* ------------------------------------------------------------- the limit on received addresses */
@@ -493,6 +559,7 @@ typedef struct addrman_limiter {
     void *impl;
     bool is_open;
 } addrman_limiter;
+ADDRMAN_SIZE(addrman_limiter, 16);
 #define ADDRMAN_LIMITER_INIT { 0, false }
 
 enum { ADDRMAN_GETADDR_UNKNOWN, ADDRMAN_GETADDR_ALREADY, ADDRMAN_GETADDR_GRANTED };
@@ -503,39 +570,46 @@ typedef struct {
     uint32_t processed, limited; /* how many entries were admitted, and dropped */
     uint32_t asked, unlimited;   /* 1 or 0: getaddr was sent; there is no limit */
 } addrman_limits;
+ADDRMAN_SIZE(addrman_limits, 24);
 
 /* Opens a limit without connections. The numbers of connections are the node's own: they are found
- * under a hasher without a secret key, so no peer may choose them. Proved: StartCall. */
-ADDRMAN_API ADDRMAN_MUST_USE addrman_result addrman_limiter_open(addrman_limiter *limiter);
+ * under a hasher without a secret key, so no peer may choose them. Proved: StartCall.
+ * Codes: MEMORY. */
+ADDRMAN_CALL addrman_result addrman_limiter_open(addrman_limiter *limiter);
 
 /* Frees all memory of the object, and closes it. */
 ADDRMAN_API void addrman_limiter_close(addrman_limiter *limiter);
 
-/* A connection to an address was opened: it has one token. *is_new is 0 if its number has one, which
- * then stays as it is.
+/* A connection to an address was opened: it has one token. *is_new is 0 if its number has one,
+ * which then stays as it is.
  *   ADDRMAN_ERR_MEMORY  nothing changes
- * Proved: ConnectCall (`after_open`). */
-ADDRMAN_API ADDRMAN_MUST_USE addrman_result addrman_limiter_add(addrman_limiter *limiter,
+ * Proved: ConnectCall (`after_open`).
+ * Codes: CLOSED, ARGUMENT, MEMORY. */
+ADDRMAN_CALL addrman_result addrman_limiter_add(addrman_limiter *limiter,
     uint32_t number, const addrman_addr *addr, bool unlimited, uint32_t now, uint32_t *is_new);
 
-/* A connection was closed. *known is 1 if there was one, else 0. Proved: `without_conn`. */
-ADDRMAN_API addrman_result addrman_limiter_remove(addrman_limiter *limiter, uint32_t number,
+/* A connection was closed. *known is 1 if there was one, else 0. Proved: `without_conn`.
+ * Codes: CLOSED. */
+ADDRMAN_CALL addrman_result addrman_limiter_remove(addrman_limiter *limiter, uint32_t number,
     uint32_t *known);
 
 /* getaddr was sent, which gives a thousand tokens once. *answer is one of the names above. Proved:
- * `after_asking`. */
-ADDRMAN_API addrman_result addrman_limiter_getaddr(addrman_limiter *limiter, uint32_t number,
+ * `after_asking`.
+ * Codes: CLOSED. */
+ADDRMAN_CALL addrman_result addrman_limiter_getaddr(addrman_limiter *limiter, uint32_t number,
     uint32_t *answer);
 
 /* A message of `count` entries came. The first *admitted of them are let through.
  *   ADDRMAN_ERR_ARGUMENT  `count` is above 1000
  *   ADDRMAN_NONE          the number has no connection
- * Proved: AdmitCall (`after_taking`, `intake_count`). */
-ADDRMAN_API addrman_result addrman_limiter_admit(addrman_limiter *limiter, uint32_t number,
+ * Proved: AdmitCall (`after_taking`, `intake_count`).
+ * Codes: CLOSED, ARGUMENT, NONE. */
+ADDRMAN_CALL addrman_result addrman_limiter_admit(addrman_limiter *limiter, uint32_t number,
     uint32_t count, uint32_t now, uint32_t *admitted);
 
-/* What is known of a connection. ADDRMAN_NONE: the number has none. Proved: StatCall. */
-ADDRMAN_API addrman_result addrman_limiter_stat(addrman_limiter *limiter, uint32_t number,
+/* What is known of a connection. ADDRMAN_NONE: the number has none. Proved: StatCall.
+ * Codes: CLOSED, NONE. */
+ADDRMAN_CALL addrman_result addrman_limiter_stat(addrman_limiter *limiter, uint32_t number,
     addrman_limits *limits);
 
 #ifdef __cplusplus

@@ -102,7 +102,7 @@ static void take(addrman *am, const char *source, const char *hex, uint32_t now)
     addrman_fault fault;
     size_t length = 0;
     for (unsigned byte; length < sizeof payload && sscanf(hex, "%2x", &byte) == 1; hex += 2) payload[length++] = (uint8_t)byte;
-    if (addrman_addr_parse((const uint8_t *)source, strlen(source), &from)) stop(source, 0);
+    if (addrman_addr_parse(source, strlen(source), &from)) stop(source, 0);
     addrman_result code = addrman_take_message(am, true, payload, length, &from, draw(1000), 1000, now, &added, &fault);
     if (code == ADDRMAN_ERR_REFUSED) printf("%s sent no message: fault %u\n", source, fault.kind);
     else if (code) stop("take_message", code);
@@ -115,7 +115,7 @@ static void connect_all(addrman *am, uint32_t now)
     for (uint32_t attempt = 1; attempt <= 100; attempt++) {
         addrman_picked picked;
         uint32_t verdict;
-        uint8_t text[80];
+        char text[80];
         size_t length;
         addrman_result code = addrman_select(am, false, ADDRMAN_ALL_NETS, draw(10000), 10000, now, &picked);
         if (code == ADDRMAN_NONE) return;

@@ -67,7 +67,7 @@ int main(void)
     size_t payload_length = fill(payload);
     size_t given_length = 0;
     addrman_fault none;
-    if (addrman_asmap_compile((const uint8_t *)table, sizeof table - 1, given, sizeof given, &given_length, &none)) return 1;
+    if (addrman_asmap_compile(table, sizeof table - 1, given, sizeof given, &given_length, &none)) return 1;
     unsigned wanted[CALLS] = { 0 }, without = 0;
     for (long fail = 1;; fail++) {
         addrman a = ADDRMAN_INIT, b = ADDRMAN_INIT;
@@ -78,9 +78,9 @@ int main(void)
         addrman_fault fault;
         addrman_picked picked;
         addrman_counts counts;
-        uint8_t text[100];
+        char text[100];
         uint32_t answer, code[CALLS];
-        size_t length = 0, map_length = 0;
+        size_t length = 0, map_length = 0, sampled = 77;
         addrman_save job = ADDRMAN_SAVE_INIT;
         left = fail;
         memcpy(map, given, given_length);
@@ -90,7 +90,7 @@ int main(void)
         code[2] = addrman_good(&a, &peer, true, 1700000001, &answer);
         code[3] = addrman_add(&a, &peer, &source, 1700000000, 1, 7200, 0, 1700000002, &answer);
         code[4] = addrman_select(&a, false, ADDRMAN_ALL_NETS, words, 12, 1700000003, &picked);
-        code[5] = addrman_sample(&a, 0, 0, ADDRMAN_ALL_NETS, words, 12, 1700000004, peers, 9, &length);
+        code[5] = addrman_sample(&a, 0, 0, ADDRMAN_ALL_NETS, words, 12, 1700000004, peers, 9, &sampled);
         code[6] = addrman_records(&a, records, 9, &length);
         code[7] = addrman_peer_text(&peer, text, sizeof text, &length);
         code[8] = addrman_write_file(&a, ADDRMAN_MAIN, file, sizeof file, &length);
@@ -98,7 +98,7 @@ int main(void)
         code[9] = code[8] ? 0 : addrman_open_file(&b, file, length, ADDRMAN_MAIN, seed, map, given_length, &fault);
         memset(map, 0xff, given_length);
         code[10] = addrman_save_begin(&job, &a, ADDRMAN_MAIN, 1000);
-        code[11] = addrman_asmap_compile((const uint8_t *)table, sizeof table - 1, map, sizeof map, &map_length, &fault);
+        code[11] = addrman_asmap_compile(table, sizeof table - 1, map, sizeof map, &map_length, &fault);
         code[12] = code[11] ? 0 : addrman_asmap_decompile(map, map_length, text, sizeof text, &length, &fault);
         bool reached = left == 0;
         left = 0;
@@ -115,6 +115,10 @@ int main(void)
         }
         if (failed > 1 || (code[0] == ADDRMAN_OK && addrman_size(&a, &counts) != ADDRMAN_OK)) {
             printf("allocation %ld: %u calls had no memory\n", fail, failed);
+            return 1;
+        }
+        if (code[5] == ADDRMAN_ERR_MEMORY && sampled != 77) {
+            printf("allocation %ld: sample wrote a length without memory\n", fail);
             return 1;
         }
         if (!knows(&a, &source) || !knows(&b, &source)) {

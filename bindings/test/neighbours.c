@@ -28,7 +28,7 @@ static uint32_t number(const char *text)
 static void ban_line(char **f)
 {
     static const char *replies[] = { "added", "kept", "full" };
-    const uint8_t *subnet = (const uint8_t *)f[1];
+    const char *subnet = f[1];
     uint32_t code, answer;
     if (strcmp(f[0], "ban") == 0) {
         if ((code = addrman_bans_add(&bans, subnet, strlen(f[1]), number(f[2]), number(f[3]), &answer))) fail("add", code);
@@ -47,7 +47,7 @@ static void ban_line(char **f)
             printf("free\n");
             return;
         }
-        if (code || (code = addrman_addr_text(&ban.base, (uint8_t *)text, sizeof text, &length))) fail("covering", code);
+        if (code || (code = addrman_addr_text(&ban.base, text, sizeof text, &length))) fail("covering", code);
         const char *inner = text;
         if (*text == '[') inner++, length -= 2;
         printf("banned %.*s", (int)length, inner);
@@ -63,7 +63,7 @@ static void event_line(char **f)
         now = number(f[1]);
     } else if (strcmp(f[0], "open") == 0) {
         addrman_addr addr;
-        if ((code = addrman_addr_parse((const uint8_t *)f[2], strlen(f[2]), &addr))) fail(f[2], code);
+        if ((code = addrman_addr_parse(f[2], strlen(f[2]), &addr))) fail(f[2], code);
         if ((code = addrman_limiter_add(&limiter, number(f[1]), &addr, strcmp(f[3], "unlimited") == 0, now, &answer))) fail("open", code);
         printf("# open %s%s\n", f[1], answer ? "" : " already");
     } else if (strcmp(f[0], "close") == 0) {
@@ -86,7 +86,7 @@ static void event_line(char **f)
 
 int main(void)
 {
-    static uint8_t json[1000000];
+    static char json[1000000];
     static char line[1000];
     size_t length = 0;
     addrman_fault fault;
@@ -113,5 +113,9 @@ int main(void)
     addrman_bans_close(&bans);
     addrman_bans_close(&bans);
     addrman_limiter_close(&limiter);
+    addrman_close(NULL);
+    addrman_save_close(NULL);
+    addrman_bans_close(NULL);
+    addrman_limiter_close(NULL);
     return 0;
 }

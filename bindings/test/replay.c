@@ -79,7 +79,7 @@ static size_t read_hex(const char *text, uint8_t *out)
 static addrman_peer read_peer(const char *text)
 {
     addrman_peer peer;
-    uint32_t code = addrman_peer_parse((const uint8_t *)text, strlen(text), &peer);
+    uint32_t code = addrman_peer_parse(text, strlen(text), &peer);
     if (code) fail(text, code);
     return peer;
 }
@@ -87,7 +87,7 @@ static addrman_peer read_peer(const char *text)
 static addrman_addr read_addr(const char *text)
 {
     addrman_addr addr;
-    uint32_t code = addrman_addr_parse((const uint8_t *)text, strlen(text), &addr);
+    uint32_t code = addrman_addr_parse(text, strlen(text), &addr);
     if (code) fail(text, code);
     return addr;
 }
@@ -107,7 +107,7 @@ static void put_peer(const addrman_peer *peer)
 {
     char text[100];
     size_t length;
-    uint32_t code = addrman_peer_text(peer, (uint8_t *)text, sizeof text, &length);
+    uint32_t code = addrman_peer_text(peer, text, sizeof text, &length);
     if (code) fail("peer_text", code);
     printf("%.*s", (int)length, text);
 }
@@ -116,7 +116,7 @@ static void put_record(const addrman_record *r)
 {
     char source[100];
     size_t length;
-    uint32_t code = addrman_addr_text(&r->source, (uint8_t *)source, sizeof source, &length);
+    uint32_t code = addrman_addr_text(&r->source, source, sizeof source, &length);
     if (code) fail("addr_text", code);
     printf("peer ");
     put_peer(&r->peer);

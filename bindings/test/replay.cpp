@@ -126,7 +126,7 @@ static std::string reply(tables &am, const std::vector<std::string> &f, std::uin
     if (f[0] == "now") out << "now " << (now = std::stoul(f[1]));
     else if (f[0] == "addr" || f[0] == "addrv2") return message(am, f[0] == "addrv2", f, now);
     else if (f[0] == "sample") return sample(am, f, now);
-    else if (f[0] == "good") return outcomes[am.good(parse_peer(f[1]), now, f[2] == "test")];
+    else if (f[0] == "good") return outcomes[am.good(parse_peer(f[1]), f[2] == "test", now)];
     else if (f[0] == "attempt") return known(am.attempt(parse_peer(f[1]), f[2] == "count", now));
     else if (f[0] == "connected") return known(am.connected(parse_peer(f[1]), now));
     else if (f[0] == "services") return known(am.set_services(parse_peer(f[1]), std::stoull(f[2])));
@@ -177,7 +177,9 @@ int main(int, char **argv)
 {
     std::ios::sync_with_stdio(false);
     tables am = opened(argv[1]);
-    tables moved(std::move(am));
+    tables moved(std::move(am)), other(key{}, seed{1, 2});
+    other = std::move(moved);
+    moved = std::move(other);
     std::uint32_t now = 0;
     std::string line;
     while (std::getline(std::cin, line))

@@ -1,0 +1,65 @@
+// Objects of addrman.hpp that are moved, and what calls take as elements.
+#include "../addrman.hpp"
+
+#include <cstdlib>
+#include <iostream>
+#include <type_traits>
+
+using namespace libaddrman;
+
+template <class T> constexpr bool moves_only = std::is_nothrow_move_constructible_v<T>
+    && std::is_nothrow_move_assignable_v<T> && !std::is_copy_constructible_v<T> && !std::is_copy_assignable_v<T>;
+static_assert(moves_only<tables> && moves_only<bans> && moves_only<limiter> && moves_only<save>);
+
+static void want(bool holds, const char *what)
+{
+    if (holds) return;
+    std::cout << "edges.cpp: " << what << "\n";
+    std::exit(1);
+}
+
+// Whether a call on an object says that it is closed.
+template <class Call> static bool is_closed(Call call)
+{
+    try {
+        call();
+        return false;
+    } catch (const std::logic_error &) {
+        return true;
+    }
+}
+
+int main()
+{
+    const seed s{1, 2};
+    const auto peer = parse_peer("8.8.8.8:8333");
+    const auto source = parse_addr("1.2.3.4");
+    tables one(key{}, s), two(key{}, s);
+    want(one.add(peer, source, 1700000000, 1, 0, 0, 1700000000), "a peer is not added");
+    two = std::move(one);
+    want(two.size().new_count == 1 && is_closed([&] { one.size(); }), "tables are not moved");
+    auto &same = two;
+    two = std::move(same);
+    want(two.size().new_count == 1, "tables are lost that are moved to themselves");
+
+    bans list("{\"banned_nets\":[]}"), other;
+    list.add("1.2.3.0/24", 1000, 2000);
+    other = std::move(list);
+    want(other.covering(source, 1500).has_value() && is_closed([&] { list.file(); }), "bans are not moved");
+    limiter limit, limits;
+    limit.add(1, source, false, 1000);
+    limits = std::move(limit);
+    want(limits.stat(1).has_value() && is_closed([&] { limit.remove(1); }), "limits are not moved");
+    save first(two, ADDRMAN_MAIN, 1000), second(two, ADDRMAN_MAIN, 1000);
+    second = std::move(first);
+    want(second.next()->what == ADDRMAN_CREATE && is_closed([&] { first.next(); }), "saves are not moved");
+
+    const std::array<std::uint64_t, 3> array{87, 37, 0};
+    const words vector(array.begin(), array.end());
+    auto picked = [&](view<std::uint64_t> words) { return two.select(false, ADDRMAN_ALL_NETS, words, 1700000000); };
+    want(picked(array) && picked(vector) && picked({87, 37, 0}) && picked({array.data(), array.size()}), "words select no peer");
+    want(!picked({}), "a peer is selected without words");
+    auto file = two.file(ADDRMAN_MAIN);
+    want(tables({file.data(), file.size()}, ADDRMAN_MAIN, s).size().new_count == 1, "a file is not loaded");
+    std::cout << "C++: objects are moved, and elements are taken from a vector, an array, a list and a pointer\n";
+}
