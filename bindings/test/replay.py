@@ -10,7 +10,7 @@ MASK = (1 << 64) - 1
 
 def save(am):
     """A save by requests, in pieces of 1000 bytes."""
-    job, file = addrman.Save(am, 1000), b""
+    job, file = addrman.Save(am, addrman.MAIN, 1000), b""
     while request := job.next():
         what, piece = request
         file = b"" if what == "create" else file + piece
@@ -74,7 +74,7 @@ def reply(am, f, now):
         except addrman.ShortWords as e:
             return f"short {e.need} {len(words)}"
     if f[0] == "good":
-        return am.good(f[1], now, f[2] == "test")
+        return am.good(f[1], f[2] == "test", now)
     if f[0] == "attempt":
         return known(am.attempt(f[1], f[2] == "count", now))
     if f[0] == "connected":
@@ -92,7 +92,7 @@ def reply(am, f, now):
         return picked_text("clash", am.select_collision(int(f[1])), "none")
     if f[0] == "select":
         try:
-            return picked_text("one", am.select(words_of(f[3]), now, nets_of(f[2]), f[1] == "new"), "nothing")
+            return picked_text("one", am.select(f[1] == "new", nets_of(f[2]), words_of(f[3]), now), "nothing")
         except addrman.Error as e:
             if e.code != addrman.EXHAUSTED:
                 raise
@@ -100,7 +100,7 @@ def reply(am, f, now):
     if f[0] == "sample":
         words = words_of(f[4])
         try:
-            peers = am.sample(int(f[1]), int(f[2]), words, now, nets_of(f[3]))
+            peers = am.sample(int(f[1]), int(f[2]), nets_of(f[3]), words, now)
             return " ".join([f"sample {len(peers)}"] + peers)
         except addrman.ShortWords as e:
             return f"short {e.need} {len(words)}"
@@ -116,7 +116,7 @@ def main():
     start = sys.argv[1]
     if os.path.exists(start):
         with open(start, "rb") as file:
-            am = addrman.AddrMan.load(file.read(), (1, 2))
+            am = addrman.AddrMan.load(file.read(), addrman.MAIN, (1, 2))
     else:
         am = addrman.AddrMan(bytes.fromhex(start), (1, 2))
     now = 0

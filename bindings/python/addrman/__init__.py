@@ -1,12 +1,18 @@
 """The proved address manager of a Bitcoin node, over its shared library.
 
 The library is libaddrman.so.1 of the system, or the file that the environment's ADDRMAN_LIBRARY names.
+
+Arguments come in the order of addrman.h. Of another type than the call says they raise TypeError, and ValueError if they
+are out of range or have no meaning. An object may be used from several threads: a lock of its own lets one call in at a
+time.
 """
 from __future__ import annotations
 
+import array
 import ctypes as c
 import os
-from typing import Callable, NamedTuple, Optional, Sequence
+import threading
+from typing import Callable, NamedTuple, Optional, Sequence, TypeVar, Union
 
 ABI = 1
 OK, CLOSED, MEMORY, ARGUMENT, FULL, SHORT_WORDS, SHORT_BUFFER, REFUSED, NONE, EXHAUSTED = range(10)
@@ -22,6 +28,8 @@ FAULTS = {1: "truncated", 2: "non-canonical", 3: "too-many", 4: "bad-length", 5:
           17: "time", 18: "attempts", 19: "too-large", 20: "duplicate", 21: "asmap",
           30: "json", 31: "form", 40: "form", 41: "number", 42: "host-bits", 43: "repeated", 44: "empty", 45: "code-too-large"}
 REQUESTS = ("create", "append", "sync", "rename", "sync-folder")
+
+BytesLike = Union[bytes, bytearray, memoryview]
 
 
 class _Handle(c.Structure):
@@ -173,7 +181,7 @@ def _check(code: int, fault: Optional[_Fault] = None, need: int = 0) -> None:
     if code == MEMORY:
         raise MemoryError
     if code == REFUSED and fault is not None:
-        raise Refused(FAULTS[fault.kind], fault.at)
+        raise Refused(FAULTS.get(fault.kind, str(fault.kind)), fault.at)
     if code == SHORT_WORDS:
         raise ShortWords(need)
     if code == ARGUMENT:
@@ -193,14 +201,60 @@ def _filled(kind, room: int, call: Callable, fault: Optional[_Fault] = None) -> 
         room = length.value
 
 
+def _number(name: str, value: int, bits: int = 32) -> int:
+    if isinstance(value, bool) or not isinstance(value, int):
+        raise TypeError(f"{name} is an int, not {type(value).__name__}")
+    if not 0 <= value < 1 << bits:
+        raise ValueError(f"{name} is a number of {bits} bits")
+    return value
+
+
+def _flag(name: str, value: bool) -> bool:
+    if not isinstance(value, bool):
+        raise TypeError(f"{name} is a bool, not {type(value).__name__}")
+    return value
+
+
+def _raw(name: str, value: BytesLike, size: Optional[int] = None) -> bytes:
+    if not isinstance(value, (bytes, bytearray, memoryview)):
+        raise TypeError(f"{name} is bytes, not {type(value).__name__}")
+    raw = bytes(value)
+    if size is not None and len(raw) != size:
+        raise ValueError(f"{name} has {size} bytes")
+    return raw
+
+
+def _text(name: str, value: str) -> bytes:
+    if not isinstance(value, str):
+        raise TypeError(f"{name} is a str, not {type(value).__name__}")
+    return value.encode()
+
+
+def _words(words: Sequence[int], name: str = "words") -> tuple[c.Array, int]:
+    if isinstance(words, (str, bytes, bytearray)):
+        raise TypeError(f"{name} is a sequence of ints, not {type(words).__name__}")
+    try:
+        listed = array.array("Q", words)
+    except OverflowError:
+        raise ValueError(f"{name} has numbers of 64 bits") from None
+    return (c.c_uint64 * max(len(listed), 1)).from_buffer(listed or array.array("Q", [0])), len(listed)
+
+
+def _seed(seed: tuple[int, int]) -> c.Array:
+    numbers, count = _words(seed, "seed")
+    if count != 2:
+        raise ValueError("seed has two numbers")
+    return numbers
+
+
 def _addr(text: str) -> _Addr:
-    out, raw = _Addr(), text.encode()
+    out, raw = _Addr(), _text("an address", text)
     _check(_lib.addrman_addr_parse(raw, len(raw), c.byref(out)))
     return out
 
 
 def _peer(text: str) -> _Peer:
-    out, raw = _Peer(), text.encode()
+    out, raw = _Peer(), _text("a peer", text)
     _check(_lib.addrman_peer_parse(raw, len(raw), c.byref(out)))
     return out
 
@@ -211,10 +265,6 @@ def _addr_text(addr: _Addr) -> str:
 
 def _peer_text(peer: _Peer) -> str:
     return bytes(_filled(c.c_uint8, 80, lambda p, n, l: _lib.addrman_peer_text(c.byref(peer), p, n, l))).decode()
-
-
-def _words(words: Sequence[int]):
-    return (c.c_uint64 * max(len(words), 1))(*words), len(words)
 
 
 def _record(r: _Record) -> Record:
@@ -229,10 +279,10 @@ def is_routable(addr: str) -> bool:
     return out.value != 0
 
 
-def from_v1(v1: bytes) -> str:
+def from_v1(v1: BytesLike) -> str:
     """The address of the sixteen bytes that messages before BIP 155 have."""
     out = _Addr()
-    _lib.addrman_addr_from_v1((c.c_uint8 * 16)(*v1), c.byref(out))
+    _lib.addrman_addr_from_v1(_raw("v1", v1, 16), c.byref(out))
     return _addr_text(out)
 
 
@@ -255,144 +305,161 @@ def network(addr: str) -> int:
 
 def subnet(text: str) -> tuple[str, int]:
     """The address of a subnet, and how many of its bits count."""
-    base, prefix, raw = _Addr(), _U32(), text.encode()
+    base, prefix, raw = _Addr(), _U32(), _text("a subnet", text)
     _check(_lib.addrman_subnet_parse(raw, len(raw), c.byref(base), c.byref(prefix)))
     return _addr_text(base), prefix.value
 
 
-def asmap_is_sane(asmap: bytes) -> bool:
+def asmap_is_sane(asmap: BytesLike) -> bool:
     """Whether the bytes are a sane asmap of at most 8,388,608 bytes."""
-    return _lib.addrman_asmap_check(asmap, len(asmap)) == OK
+    raw = _raw("asmap", asmap)
+    return _lib.addrman_asmap_check(raw, len(raw)) == OK
 
 
 def compile_asmap(table: str) -> bytes:
     """Compiles the text of a table of prefixes (lines as `1.2.3.0/24 AS5`) into an asmap."""
-    fault, raw = _Fault(), table.encode()
+    fault, raw = _Fault(), _text("table", table)
     return bytes(_filled(c.c_uint8, 0, lambda p, n, l: _lib.addrman_asmap_compile(raw, len(raw), p, n, l, c.byref(fault)), fault))
 
 
-def decompile_asmap(asmap: bytes) -> str:
+def decompile_asmap(asmap: BytesLike) -> str:
     """The text of a table of prefixes that means the same as an asmap."""
-    fault = _Fault()
+    fault, raw = _Fault(), _raw("asmap", asmap)
     return bytes(_filled(c.c_uint8, 0, lambda p, n, l: _lib.addrman_asmap_decompile(
-        asmap, len(asmap), p, n, l, c.byref(fault)), fault)).decode()
+        raw, len(raw), p, n, l, c.byref(fault)), fault)).decode()
 
 
-class AddrMan:
-    """The tables, and the outbound peers that are open. Peers and addresses are texts, as `9.9.9.9:8333`. Times are
-    seconds since 1970, and words random 64-bit numbers (`secrets.randbits(64)`). One call at a time."""
+_Self = TypeVar("_Self", bound="_Object")
 
-    def __init__(self, key: bytes, seed: tuple[int, int], asmap: bytes = b""):
-        """Empty tables under a secret key of 32 bytes."""
-        self._h = _Handle()
-        if len(key) != 32:
-            raise ValueError("a key has 32 bytes")
-        code = _lib.addrman_open(c.byref(self._h), key, _words(seed)[0], asmap, len(asmap))
-        _check(code, _Fault(21, 0))
 
-    @classmethod
-    def load(cls, file: bytes, seed: tuple[int, int], chain: int = MAIN, asmap: bytes = b"") -> AddrMan:
-        """The tables that the bytes of a peers.dat have."""
-        self, fault = cls.__new__(cls), _Fault()
-        self._h = _Handle()
-        code = _lib.addrman_open_file(c.byref(self._h), file, len(file), chain, _words(seed)[0], asmap, len(asmap),
-                                      c.byref(fault))
-        _check(code, fault)
-        return self
+class _Object:
+    """An object of the library: closed by `close`, at the end of a `with` block, or with its last reference. A call
+    after that raises Error."""
+    _prefix = ""
+
+    def __init__(self) -> None:
+        self._h, self._lock = _Handle(), threading.RLock()
+
+    def _call(self, name: str, *arguments: object) -> int:
+        with self._lock:
+            return getattr(_lib, "addrman_" + name)(c.byref(self._h), *arguments)
+
+    def _filled(self, kind, room: int, name: str, *arguments: object) -> list:
+        with self._lock:
+            return _filled(kind, room, lambda p, n, l: self._call(name, *arguments, p, n, l))
+
+    def _answer(self, name: str, *arguments: object) -> int:
+        out = _U32()
+        _check(self._call(name, *arguments, c.byref(out)))
+        return out.value
 
     def close(self) -> None:
-        _lib.addrman_close(c.byref(self._h))
+        self._call(self._prefix + "close")
 
-    def __enter__(self) -> AddrMan:
+    def __enter__(self: _Self) -> _Self:
         return self
 
     def __exit__(self, *_: object) -> None:
         self.close()
 
     def __del__(self) -> None:
-        if hasattr(self, "_h"):
+        if hasattr(self, "_lock"):
             self.close()
+
+
+class AddrMan(_Object):
+    """The tables, and the outbound peers that are open. Peers and addresses are texts, as `9.9.9.9:8333`. Times are
+    seconds since 1970, and words random 64-bit numbers (`secrets.randbits(64)`)."""
+
+    def __init__(self, key: BytesLike, seed: tuple[int, int], asmap: BytesLike = b""):
+        """Empty tables under a secret key of 32 bytes."""
+        super().__init__()
+        raw = _raw("asmap", asmap)
+        _check(self._call("open", _raw("key", key, 32), _seed(seed), raw, len(raw)), _Fault(21, 0))
+
+    @classmethod
+    def load(cls, file: BytesLike, chain: int, seed: tuple[int, int], asmap: BytesLike = b"") -> AddrMan:
+        """The tables that the bytes of a peers.dat have."""
+        self, fault = cls.__new__(cls), _Fault()
+        _Object.__init__(self)
+        bytes_of, raw = _raw("file", file), _raw("asmap", asmap)
+        _check(self._call("open_file", bytes_of, len(bytes_of), _number("chain", chain), _seed(seed), raw, len(raw),
+                          c.byref(fault)), fault)
+        return self
 
     def file(self, chain: int = MAIN) -> bytes:
         """The bytes of the peers.dat that keeps the tables."""
-        return bytes(_filled(c.c_uint8, 0, lambda p, n, l: _lib.addrman_write_file(c.byref(self._h), chain, p, n, l)))
+        return bytes(self._filled(c.c_uint8, 0, "write_file", _number("chain", chain)))
 
-    def take_message(self, is_v2: bool, payload: bytes, source: str, words: Sequence[int], now: int) -> tuple[int, int]:
+    def take_message(self, is_v2: bool, payload: BytesLike, source: str, words: Sequence[int], now: int) -> tuple[int, int]:
         """Takes a message that `source` sent. Returns how many entries got a slot, and how many there are."""
-        added, fault = _Added(), _Fault()
-        code = _lib.addrman_take_message(c.byref(self._h), is_v2, payload, len(payload), c.byref(_addr(source)),
-                                         *_words(words), now, c.byref(added), c.byref(fault))
+        added, fault, raw = _Added(), _Fault(), _raw("payload", payload)
+        code = self._call("take_message", _flag("is_v2", is_v2), raw, len(raw), c.byref(_addr(source)), *_words(words),
+                          _number("now", now), c.byref(added), c.byref(fault))
         _check(code, fault, added.total)
         return added.accepted, added.total
 
     def add(self, peer: str, source: str, time: int, services: int, penalty: int, word: int, now: int) -> bool:
         """Adds one entry that `source` announced. Returns whether its peer got a slot."""
-        out = _U32()
-        _check(_lib.addrman_add(c.byref(self._h), c.byref(_peer(peer)), c.byref(_addr(source)), time, services, penalty,
-                                word, now, c.byref(out)))
-        return out.value != 0
+        return self._answer("add", c.byref(_peer(peer)), c.byref(_addr(source)), _number("time", time),
+                            _number("services", services, 64), _number("penalty", penalty), _number("word", word, 64),
+                            _number("now", now)) != 0
 
-    def good(self, peer: str, now: int, testing: bool = True) -> str:
-        """A peer was reached: one of OUTCOMES."""
-        out = _U32()
-        _check(_lib.addrman_good(c.byref(self._h), c.byref(_peer(peer)), testing, now, c.byref(out)))
-        return OUTCOMES[out.value]
-
-    def _known(self, call: Callable, peer: str, *arguments: object) -> bool:
-        out = _U32()
-        _check(call(c.byref(self._h), c.byref(_peer(peer)), *arguments, c.byref(out)))
-        return out.value != 0
+    def good(self, peer: str, testing: bool, now: int) -> str:
+        """A peer was reached: one of OUTCOMES. `testing` is True in a node."""
+        return OUTCOMES[self._answer("good", c.byref(_peer(peer)), _flag("testing", testing), _number("now", now))]
 
     def attempt(self, peer: str, counted: bool, now: int) -> bool:
         """A connection was tried. Returns whether the peer is known."""
-        return self._known(_lib.addrman_attempt, peer, counted, now)
+        return self._answer("attempt", c.byref(_peer(peer)), _flag("counted", counted), _number("now", now)) != 0
 
     def connected(self, peer: str, now: int) -> bool:
         """A peer was connected until now. Returns whether it is known."""
-        return self._known(_lib.addrman_connected, peer, now)
+        return self._answer("connected", c.byref(_peer(peer)), _number("now", now)) != 0
 
     def set_services(self, peer: str, services: int) -> bool:
         """A peer told its services. Returns whether it is known."""
-        return self._known(_lib.addrman_set_services, peer, services)
+        return self._answer("set_services", c.byref(_peer(peer)), _number("services", services, 64)) != 0
 
-    def select(self, words: Sequence[int], now: int, nets: int = ALL_NETS, new_only: bool = False) -> Optional[tuple[str, int]]:
-        """Picks a peer to connect to, and when it was last tried. None: there is no candidate. Error with the code
-        EXHAUSTED: call with more words."""
+    def _picked(self, name: str, *arguments: object) -> Optional[tuple[str, int]]:
         out = _Picked()
-        code = _lib.addrman_select(c.byref(self._h), new_only, nets, *_words(words), now, c.byref(out))
+        code = self._call(name, *arguments, c.byref(out))
         if code == NONE:
             return None
         _check(code)
         return _peer_text(out.peer), out.last_try
 
-    def sample(self, most: int, percent: int, words: Sequence[int], now: int, classes: int = ALL_NETS) -> list[str]:
+    def select(self, new_only: bool, nets: int, words: Sequence[int], now: int) -> Optional[tuple[str, int]]:
+        """Picks a peer to connect to, and when it was last tried. None: there is no candidate. Error with the code
+        EXHAUSTED: call with more words."""
+        return self._picked("select", _flag("new_only", new_only), _number("nets", nets), *_words(words),
+                            _number("now", now))
+
+    def sample(self, max: int, percent: int, classes: int, words: Sequence[int], now: int) -> list[str]:
         """Peers to announce; a random word for each record."""
-        size = self.size()
-        return [_peer_text(p) for p in _filled(_Peer, size.new + size.tried, lambda p, n, l: _lib.addrman_sample(
-            c.byref(self._h), most, percent, classes, *_words(words), now, p, n, l))]
+        with self._lock:
+            size = self.size()
+            return [_peer_text(p) for p in self._filled(_Peer, size.new + size.tried, "sample", _number("max", max),
+                                                        _number("percent", percent), _number("classes", classes),
+                                                        *_words(words), _number("now", now))]
 
     def resolve_collisions(self, now: int) -> Resolved:
         out = _Three()
-        _check(_lib.addrman_resolve_collisions(c.byref(self._h), now, c.byref(out)))
+        _check(self._call("resolve_collisions", _number("now", now), c.byref(out)))
         return Resolved(out.first, out.second, out.third)
 
     def select_collision(self, word: int) -> Optional[tuple[str, int]]:
         """The occupant of a collision's slot, and when it was last tried."""
-        out = _Picked()
-        code = _lib.addrman_select_collision(c.byref(self._h), word, c.byref(out))
-        if code == NONE:
-            return None
-        _check(code)
-        return _peer_text(out.peer), out.last_try
+        return self._picked("select_collision", _number("word", word, 64))
 
     def size(self) -> Counts:
         out = _Three()
-        _check(_lib.addrman_size(c.byref(self._h), c.byref(out)))
+        _check(self._call("size", c.byref(out)))
         return Counts(out.first, out.second, out.third)
 
     def find(self, peer: str) -> Optional[Record]:
         out = _Record()
-        code = _lib.addrman_find(c.byref(self._h), c.byref(_peer(peer)), c.byref(out))
+        code = self._call("find", c.byref(_peer(peer)), c.byref(out))
         if code == NONE:
             return None
         _check(code)
@@ -400,105 +467,91 @@ class AddrMan:
 
     def records(self) -> list[Record]:
         """All records in the order of their numbers."""
-        size = self.size()
-        return [_record(r) for r in _filled(_Record, size.new + size.tried, lambda p, n, l: _lib.addrman_records(
-            c.byref(self._h), p, n, l))]
+        with self._lock:
+            size = self.size()
+            return [_record(r) for r in self._filled(_Record, size.new + size.tried, "records")]
 
     def asn(self, addr: str) -> int:
         """The number of the autonomous system of an address, 0 if none is known."""
-        out = _U32()
-        _check(_lib.addrman_asn(c.byref(self._h), c.byref(_addr(addr)), c.byref(out)))
-        return out.value
+        return self._answer("asn", c.byref(_addr(addr)))
 
     def group(self, addr: str) -> bytes:
         """The network group of an address."""
-        return bytes(_filled(c.c_uint8, 11, lambda p, n, l: _lib.addrman_group(
-            c.byref(self._h), c.byref(_addr(addr)), p, n, l)))
+        return bytes(self._filled(c.c_uint8, 11, "group", c.byref(_addr(addr))))
 
     def judge(self, peer: str, last_try: int, now: int, tries: int) -> str:
         """Whether to connect to a candidate, in the try of this number from 1 to 100: one of VERDICTS."""
-        out = _U32()
-        _check(_lib.addrman_opener_judge(c.byref(self._h), c.byref(_Picked(_peer(peer), last_try)), now, tries,
-                                         c.byref(out)))
-        return VERDICTS[out.value]
+        candidate = _Picked(_peer(peer), _number("last_try", last_try))
+        return VERDICTS[self._answer("opener_judge", c.byref(candidate), _number("now", now), _number("tries", tries))]
 
     def open_peer(self, peer: str) -> None:
         """A connection to a peer was opened."""
-        _check(_lib.addrman_opener_add(c.byref(self._h), c.byref(_peer(peer))))
+        _check(self._call("opener_add", c.byref(_peer(peer))))
 
     def close_peer(self, peer: str) -> bool:
         """A connection to a peer was closed. Returns whether it was open."""
-        return self._known(_lib.addrman_opener_remove, peer)
+        return self._answer("opener_remove", c.byref(_peer(peer))) != 0
 
 
-class Bans:
+class Bans(_Object):
     """A list of banned subnets, from the bytes of a banlist.json; no bytes are an empty list."""
+    _prefix = "bans_"
 
-    def __init__(self, json: bytes = b""):
-        self._h, fault = _Handle(), _Fault()
-        _check(_lib.addrman_bans_open(c.byref(self._h), json, len(json), c.byref(fault)), fault)
-
-    def __del__(self) -> None:
-        _lib.addrman_bans_close(c.byref(self._h))
+    def __init__(self, json: BytesLike = b""):
+        super().__init__()
+        fault, raw = _Fault(), _raw("json", json)
+        _check(self._call("bans_open", raw, len(raw), c.byref(fault)), fault)
 
     def file(self) -> bytes:
         """The bytes of the banlist.json that keeps the list."""
-        return bytes(_filled(c.c_uint8, 0, lambda p, n, l: _lib.addrman_bans_write(c.byref(self._h), p, n, l)))
+        return bytes(self._filled(c.c_uint8, 0, "bans_write"))
 
     def add(self, subnet: str, now: int, until: int) -> str:
         """Drops the bans that are over, and bans a subnet: one of BAN_REPLIES."""
-        out, raw = _U32(), subnet.encode()
-        _check(_lib.addrman_bans_add(c.byref(self._h), raw, len(raw), now, until, c.byref(out)))
-        return BAN_REPLIES[out.value]
+        raw = _text("subnet", subnet)
+        return BAN_REPLIES[self._answer("bans_add", raw, len(raw), _number("now", now), _number("until", until))]
 
     def remove(self, subnet: str) -> bool:
         """Takes the ban of a subnet out of the list. Returns whether it had one."""
-        out, raw = _U32(), subnet.encode()
-        _check(_lib.addrman_bans_remove(c.byref(self._h), raw, len(raw), c.byref(out)))
-        return out.value != 0
+        raw = _text("subnet", subnet)
+        return self._answer("bans_remove", raw, len(raw)) != 0
 
     def covering(self, addr: str, now: int) -> Optional[Ban]:
         """The first ban that covers an address and is not over."""
         out = _Ban()
-        code = _lib.addrman_bans_covering(c.byref(self._h), c.byref(_addr(addr)), now, c.byref(out))
+        code = self._call("bans_covering", c.byref(_addr(addr)), _number("now", now), c.byref(out))
         if code == NONE:
             return None
         _check(code)
         return Ban(_addr_text(out.base), out.prefix, out.created, out.until)
 
 
-class Limiter:
+class Limiter(_Object):
     """The limit on received addresses: a token bucket for each connection, by a number."""
+    _prefix = "limiter_"
 
     def __init__(self) -> None:
-        self._h = _Handle()
-        _check(_lib.addrman_limiter_open(c.byref(self._h)))
-
-    def __del__(self) -> None:
-        _lib.addrman_limiter_close(c.byref(self._h))
+        super().__init__()
+        _check(self._call("limiter_open"))
 
     def add(self, number: int, addr: str, unlimited: bool, now: int) -> bool:
         """A connection was opened: it has one token. False if its number has one."""
-        out = _U32()
-        _check(_lib.addrman_limiter_add(c.byref(self._h), number, c.byref(_addr(addr)), unlimited, now, c.byref(out)))
-        return out.value != 0
+        return self._answer("limiter_add", _number("number", number), c.byref(_addr(addr)), _flag("unlimited", unlimited),
+                            _number("now", now)) != 0
 
     def remove(self, number: int) -> bool:
         """A connection was closed. Returns whether there was one."""
-        out = _U32()
-        _check(_lib.addrman_limiter_remove(c.byref(self._h), number, c.byref(out)))
-        return out.value != 0
+        return self._answer("limiter_remove", _number("number", number)) != 0
 
     def getaddr(self, number: int) -> str:
         """getaddr was sent, which gives a thousand tokens once: one of ASKED."""
-        out = _U32()
-        _check(_lib.addrman_limiter_getaddr(c.byref(self._h), number, c.byref(out)))
-        return ASKED[out.value]
+        return ASKED[self._answer("limiter_getaddr", _number("number", number))]
 
     def admit(self, number: int, count: int, now: int) -> Optional[int]:
         """How many entries of a message are let through, the first ones. None: the number has no connection."""
         out = _U32()
-        code = _lib.addrman_limiter_admit(c.byref(self._h), number, count, now, c.byref(out))
+        code = self._call("limiter_admit", _number("number", number), _number("count", count), _number("now", now),
+                          c.byref(out))
         if code == NONE:
             return None
         _check(code)
@@ -506,28 +559,35 @@ class Limiter:
 
     def stat(self, number: int) -> Optional[Limits]:
         out = _Limits()
-        code = _lib.addrman_limiter_stat(c.byref(self._h), number, c.byref(out))
+        code = self._call("limiter_stat", _number("number", number), c.byref(out))
         if code == NONE:
             return None
         _check(code)
         return Limits(out.tenths, out.moment, out.processed, out.limited, out.asked != 0, out.unlimited != 0)
 
 
-class Save:
+class Save(_Object):
     """A save of tables, for callers that carry it out themselves, each request after the one before. After the last a
     crash leaves the new file, and until then the old one or the new one."""
+    _prefix = "save_"
 
-    def __init__(self, tables: AddrMan, most: int, chain: int = MAIN) -> None:
-        self._h, self._most = _Handle(), most
-        _check(_lib.addrman_save_begin(c.byref(self._h), c.byref(tables._h), chain, most))
-
-    def __del__(self) -> None:
-        _lib.addrman_save_close(c.byref(self._h))
+    def __init__(self, tables: AddrMan, chain: int, most: int) -> None:
+        super().__init__()
+        if not isinstance(tables, AddrMan):
+            raise TypeError(f"tables is an AddrMan, not {type(tables).__name__}")
+        with tables._lock:
+            _check(self._call("save_begin", c.byref(tables._h), _number("chain", chain), _number("most", most)))
 
     def next(self) -> Optional[tuple[str, bytes]]:
         """What to do next, one of REQUESTS, and the bytes to append. None: the file is saved."""
-        request, length, piece = _U32(), _SIZE(), (c.c_uint8 * self._most)()
-        code = _lib.addrman_save_next(c.byref(self._h), c.byref(request), piece, self._most, c.byref(length))
+        request, length, room = _U32(), _SIZE(), 1
+        with self._lock:
+            while True:
+                piece = (c.c_uint8 * room)()
+                code = self._call("save_next", c.byref(request), piece, room, c.byref(length))
+                if code != SHORT_BUFFER:
+                    break
+                room = length.value
         if code == NONE:
             return None
         _check(code)
@@ -535,4 +595,4 @@ class Save:
 
     def done(self, succeeded: bool = True) -> None:
         """It has succeeded, or has failed, which ends the save."""
-        _check(_lib.addrman_save_done(c.byref(self._h), succeeded))
+        _check(self._call("save_done", _flag("succeeded", succeeded)))

@@ -17,7 +17,7 @@ def main() -> int:
     now = int(time.time())
     with open(sys.argv[1], "rb") as file:
         try:
-            known = addrman.AddrMan.load(file.read(), (secrets.randbits(64), secrets.randbits(64)))
+            known = addrman.AddrMan.load(file.read(), addrman.MAIN, (secrets.randbits(64), secrets.randbits(64)))
         except addrman.Refused as fault:
             print(f"{sys.argv[1]}: {fault}", file=sys.stderr)
             return 1
@@ -27,7 +27,7 @@ def main() -> int:
         print("added %d of %d" % known.take_message(True, payload, "1.2.3.4", words(1), now))
         for attempt in range(1, 101):
             try:
-                picked = known.select(words(3000), now)
+                picked = known.select(False, addrman.ALL_NETS, words(3000), now)
             except addrman.Error as fault:
                 if fault.code != addrman.EXHAUSTED:
                     raise

@@ -1,0 +1,90 @@
+"""Arguments that the Python module refuses or takes, and four threads on one object. Prints how many were tried."""
+import threading
+
+import addrman
+
+KEY, SEED, NOW, PEER, SOURCE = bytes(32), (1, 2), 1_700_000_000, "8.8.8.8:8333", "1.2.3.4"
+tried = 0
+
+
+def refuses(error, call):
+    """The call raises just this error."""
+    global tried
+    tried += 1
+    try:
+        call()
+    except Exception as raised:
+        if type(raised) is error:
+            return
+        raise SystemExit(f"{tried}: {raised!r}, not {error.__name__}")
+    raise SystemExit(f"{tried}: nothing is raised, not {error.__name__}")
+
+
+def closed(call):
+    """The call finds a closed object."""
+    global tried
+    tried += 1
+    try:
+        call()
+    except addrman.Error as raised:
+        if raised.code == addrman.CLOSED:
+            return
+    raise SystemExit(f"{tried}: the object is not closed")
+
+
+def main():
+    refuses(TypeError, lambda: addrman.AddrMan("0" * 32, SEED))
+    refuses(ValueError, lambda: addrman.AddrMan(bytes(31), SEED))
+    refuses(TypeError, lambda: addrman.AddrMan(None, SEED))
+    for seed in (1, "12", b"12", (1.0, 2), (None, 1)):
+        refuses(TypeError, lambda: addrman.AddrMan(KEY, seed))
+    for seed in ((), (1,), (1, 2, 3), (1, 1 << 64), (-1, 2)):
+        refuses(ValueError, lambda: addrman.AddrMan(KEY, seed))
+    refuses(TypeError, lambda: addrman.AddrMan(KEY, SEED, "asmap"))
+    refuses(TypeError, lambda: addrman.AddrMan.load("peers", addrman.MAIN, SEED))
+    refuses(TypeError, lambda: addrman.Bans("{}"))
+    refuses(TypeError, lambda: addrman.Save(None, addrman.MAIN, 10))
+    for key in (bytearray(KEY), memoryview(KEY)):
+        with addrman.AddrMan(key, list(SEED), bytearray()) as am:
+            am.size()
+        closed(am.size)
+        am.close()
+    am = addrman.AddrMan(KEY, SEED)
+    for now in (-1, 1 << 32):
+        refuses(ValueError, lambda: am.add(PEER, SOURCE, NOW, 1, 0, 0, now))
+        refuses(ValueError, lambda: am.select(False, addrman.ALL_NETS, [1], now))
+    for now in (1.5, "1", True, None):
+        refuses(TypeError, lambda: am.add(PEER, SOURCE, NOW, 1, 0, 0, now))
+    refuses(ValueError, lambda: am.add(PEER, SOURCE, NOW, 1 << 64, 0, 0, NOW))
+    refuses(TypeError, lambda: am.add(b"8.8.8.8:8333", SOURCE, NOW, 1, 0, 0, NOW))
+    refuses(TypeError, lambda: am.good(PEER, NOW, True))
+    refuses(TypeError, lambda: am.take_message(1, b"\0", SOURCE, [], NOW))
+    refuses(TypeError, lambda: am.take_message(False, "00", SOURCE, [], NOW))
+    refuses(TypeError, lambda: am.select(False, addrman.ALL_NETS, b"12345678", NOW))
+    refuses(ValueError, lambda: am.select(False, addrman.ALL_NETS, [1 << 64], NOW))
+    refuses(ValueError, lambda: addrman.from_v1(bytes(15)))
+    accepted = [0] * 4
+
+    def work(number):
+        for i in range(500):
+            peer, source = f"{20 + number}.{i % 250}.1.{1 + i // 250}:8333", f"5.{i % 250}.1.1"
+            accepted[number] += am.add(peer, source, NOW, 1, 0, i, NOW)
+            am.good(peer, True, NOW)
+
+    threads = [threading.Thread(target=work, args=(number,)) for number in range(4)]
+    for thread in threads:
+        thread.start()
+    for thread in threads:
+        thread.join()
+    size = am.size()
+    if size.new + size.tried != len(am.records()) or sum(accepted) != size.new + size.tried:
+        raise SystemExit(f"four threads: {sum(accepted)} peers were accepted, and there are {size}")
+    am.close()
+    for call in (am.size, am.records, lambda: am.group(SOURCE), lambda: am.good(PEER, True, NOW)):
+        closed(call)
+    with addrman.Bans() as bans, addrman.Limiter():
+        bans.file()
+    print(f"Python: {tried} calls with wrong arguments or objects, and four threads on one object")
+
+
+main()
