@@ -94,16 +94,23 @@ lib:
 	cd crates/addrman_c && rt lib
 	$(MAKE) archive
 
+# The calls that close take NULL too, by bindings/close.c, which stands before the proved ones.
+CLOSES := addrman_close addrman_save_close addrman_bans_close addrman_limiter_close
+
 # One object, with the allocator in it and only addrman_* to be seen.
 archive:
 	mkdir -p bin/lib
-	ld -r -o bin/lib/addrman.o --whole-archive crates/addrman_c/out/libaddrman_c.a $(KIT)/c/liblibc_c.a
+	ld -r -o bin/lib/proved.o --whole-archive crates/addrman_c/out/libaddrman_c.a $(KIT)/c/liblibc_c.a
+	objcopy $(foreach it,$(CLOSES),--redefine-sym $(it)=open_$(it)) bin/lib/proved.o
+	gcc -std=c99 -O2 -fPIC -c -o bin/lib/close.o bindings/close.c
+	ld -r -o bin/lib/addrman.o bin/lib/proved.o bin/lib/close.o
 	objcopy --wildcard --keep-global-symbol='addrman_*' bin/lib/addrman.o
 	rm -f bin/lib/libaddrman.a
 	ar rcs bin/lib/libaddrman.a bin/lib/addrman.o
-	gcc -shared -o bin/lib/libaddrman.so.1 -Wl,-soname,libaddrman.so.1 -Wl,-z,defs bin/lib/addrman.o
+	gcc -shared -o bin/lib/libaddrman.so.1 -Wl,-soname,libaddrman.so.1 -Wl,-z,defs -Wl,-z,now \
+		-Wl,-z,relro -Wl,--version-script=bindings/addrman.map bin/lib/addrman.o
 	ln -sf libaddrman.so.1 bin/lib/libaddrman.so
-	rm bin/lib/addrman.o
+	rm bin/lib/addrman.o bin/lib/proved.o bin/lib/close.o
 
 lib-test: all lib
 	tools/lib_test
@@ -133,6 +140,7 @@ install: bin/addrman
 # #include <libaddrman/addrman.h>.
 install-lib:
 	install -d $(DESTDIR)$(INCLUDEDIR)/libaddrman $(DESTDIR)$(LIBDIR)/pkgconfig
+	install -d $(DESTDIR)$(LIBDIR)/cmake/addrman
 	install -m 644 bindings/addrman.h bindings/addrman.hpp $(DESTDIR)$(INCLUDEDIR)/libaddrman
 	install -m 644 bin/lib/libaddrman.a $(DESTDIR)$(LIBDIR)
 	install -m 755 bin/lib/libaddrman.so.1 $(DESTDIR)$(LIBDIR)
@@ -140,16 +148,18 @@ install-lib:
 	sed -e 's|@PREFIX@|$(PREFIX)|' -e 's|@LIBDIR@|$(LIBDIR)|' -e 's|@INCLUDEDIR@|$(INCLUDEDIR)|' \
 		-e 's|@VERSION@|$(VERSION)|' bindings/addrman.pc.in \
 		> $(DESTDIR)$(LIBDIR)/pkgconfig/addrman.pc
-	chmod 644 $(DESTDIR)$(LIBDIR)/pkgconfig/addrman.pc
+	sed -e 's|@LIBDIR@|$(LIBDIR)|' -e 's|@INCLUDEDIR@|$(INCLUDEDIR)|' -e 's|@VERSION@|$(VERSION)|' \
+		bindings/addrman-config.cmake.in > $(DESTDIR)$(LIBDIR)/cmake/addrman/addrman-config.cmake
+	chmod 644 $(addprefix $(DESTDIR)$(LIBDIR)/,pkgconfig/addrman.pc cmake/addrman/addrman-config.cmake)
 
 uninstall:
 	rm -f $(DESTDIR)$(BINDIR)/addrman $(DESTDIR)$(MANDIR)/man1/addrman.1
 	rm -f $(DESTDIR)$(COMPLETIONS)/addrman $(addprefix $(DESTDIR)$(DOCDIR)/,FORMATS.md LICENSE)
 	rm -f $(addprefix $(DESTDIR)$(INCLUDEDIR)/libaddrman/,addrman.h addrman.hpp)
 	rm -f $(addprefix $(DESTDIR)$(LIBDIR)/,libaddrman.a libaddrman.so.1 libaddrman.so)
-	rm -f $(DESTDIR)$(LIBDIR)/pkgconfig/addrman.pc
+	rm -f $(addprefix $(DESTDIR)$(LIBDIR)/,pkgconfig/addrman.pc cmake/addrman/addrman-config.cmake)
 	-rmdir --ignore-fail-on-non-empty $(wildcard $(DESTDIR)$(DOCDIR) \
-		$(DESTDIR)$(INCLUDEDIR)/libaddrman)
+		$(DESTDIR)$(INCLUDEDIR)/libaddrman $(DESTDIR)$(LIBDIR)/cmake/addrman)
 
 # What README.md names by a link is packed too, and what the packed documents name.
 PACKED := LICENSE README.md CHANGELOG.md CONTRIBUTING.md SECURITY.md docs examples bindings vectors \
