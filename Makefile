@@ -1,4 +1,9 @@
-# make            builds the proved program at bin/addrman
+# make            writes the proved sources as ordinary Rust (tools/plain), and builds bin/addrman of
+#                 them with cargo: a minute or two
+# make check      tests what make built
+# make proved     proves the program with the toolchain of Rattle, and builds bin/addrman: half an
+#                 hour on four cores
+# make plain-lib  builds the library for C with cargo, at bin/lib
 # make try        runs examples from the source, before anything is proved
 # make ci-try     runs those of diff and lookup alone
 # make demo       runs the built program on the files of examples/
@@ -35,13 +40,33 @@ DIST := addrman-$(VERSION)-x86_64-linux
 # Where the toolchain has its part of the C library: the allocator that the library calls.
 KIT = $(shell dirname "$$(dirname "$$(readlink -f "$$(command -v rt)")")")
 
-.PHONY: all try ci-try demo examples flood endings mistakes packed test figures lib lib-test ci-lib-test \
+.PHONY: all plain check proved plain-lib try ci-try demo examples flood endings mistakes packed test figures lib lib-test ci-lib-test \
 	ci-program-test archive install install-lib uninstall dist
 
-all:
+# Where cargo builds, below bin/.
+CARGO = cd bin/plain && cargo build --quiet --release --target-dir ../target
+
+all: plain
+	$(CARGO) -p addrman
+	cp bin/target/release/addrman bin/addrman
+
+plain:
+	tools/plain bin/plain > /dev/null
+
+check:
+	tools/check_plain
+
+proved:
 	mkdir -p bin
 	cd crates/addrman && rt run -- replay --key $(ZERO_KEY) < /dev/null
 	cp crates/addrman/out/addrman bin/addrman
+
+plain-lib: plain
+	$(CARGO) -p addrman_c
+	mkdir -p bin/lib
+	cp bin/target/release/libaddrman_c.a bin/lib/libaddrman.a
+	cp bin/target/release/libaddrman_c.so bin/lib/libaddrman.so.1
+	ln -sf libaddrman.so.1 bin/lib/libaddrman.so
 
 try:
 	tools/examples --try
@@ -49,7 +74,7 @@ try:
 ci-try:
 	tools/examples --try diff lookup
 
-demo: all
+demo: bin/addrman
 	cd examples && ../bin/addrman compile
 	cd examples && ../bin/addrman check
 	cd examples && ../bin/addrman decompile
@@ -67,13 +92,13 @@ demo: all
 	cd bin/saved && ../addrman replay --key $(ZERO_KEY) < ../../examples/saves.log
 	cd bin/saved && ../addrman show
 
-examples: all
+examples: bin/addrman
 	tools/examples
 
-flood: all
+flood: bin/addrman
 	tools/flood --still bin/flood.svg bin/addrman bin/flood.html
 
-endings: all
+endings: bin/addrman
 	tools/endings
 
 ci-program-test:
@@ -81,7 +106,7 @@ ci-program-test:
 	tools/mistakes crates/addrman/out/addrman
 	tools/examples crates/addrman/out/addrman
 
-packed: all
+packed: bin/addrman
 	tools/packed
 
 test:
@@ -112,7 +137,7 @@ archive:
 	ln -sf libaddrman.so.1 bin/lib/libaddrman.so
 	rm bin/lib/addrman.o bin/lib/proved.o bin/lib/close.o
 
-lib-test: all lib
+lib-test: bin/addrman lib
 	tools/lib_test
 
 # rt lib takes nothing that rt ci has built, and would prove all libraries once more.
@@ -121,9 +146,9 @@ ci-lib-test:
 	$(MAKE) archive
 	tools/lib_test --program crates/addrman/out/addrman
 
-# Whoever installs need not have the toolchain: the program is built before, by make.
+# The program that is there, whichever way it was built.
 bin/addrman:
-	@echo "bin/addrman is not built: run make first" && false
+	$(MAKE) all
 
 install: bin/addrman
 	install -d $(DESTDIR)$(BINDIR) $(DESTDIR)$(MANDIR)/man1 $(DESTDIR)$(COMPLETIONS)

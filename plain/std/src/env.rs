@@ -1,0 +1,70 @@
+//! The arguments of the program.
+
+use crate::io;
+use crate::rt::Env;
+use crate::string::String;
+use crate::vec::Vec;
+#[cfg(unix)]
+use std::ffi::{CStr, c_char, c_int};
+#[cfg(unix)]
+use std::sync::OnceLock;
+
+/// The arguments, with the program's name first. One that is not UTF-8 is an error.
+///
+/// # Errors
+///
+/// `InvalidData` for an argument that is not UTF-8, and `OutOfMemory`.
+pub fn args<R: Env>(rt: &R) -> io::Result<std::vec::IntoIter<String>> {
+    Ok(rt.all_args()?.into_iter())
+}
+
+/// The arguments as C's `main` got them.
+#[cfg(unix)]
+struct Words(*const *const c_char, usize);
+
+// SAFETY: the arguments are written before `main`, and never after.
+#[cfg(unix)]
+unsafe impl Send for Words {}
+// SAFETY: as above.
+#[cfg(unix)]
+unsafe impl Sync for Words {}
+
+#[cfg(unix)]
+static WORDS: OnceLock<Words> = OnceLock::new();
+
+/// Keeps the arguments that C's `main` got. Rust's start-up, which is not run, would.
+///
+/// # Safety
+///
+/// `words` points to `count` C strings that live as long as the process.
+#[cfg(unix)]
+pub unsafe fn keep(count: c_int, words: *const *const c_char) {
+    let _ = WORDS.set(Words(words, usize::try_from(count).unwrap_or(0)));
+}
+
+/// Copies the arguments.
+#[cfg(unix)]
+pub(crate) fn all() -> io::Result<Vec<String>> {
+    let mut all = Vec::new(crate::alloc::Global);
+    let Some(Words(words, count)) = WORDS.get() else {
+        return Ok(all);
+    };
+    for index in 0..*count {
+        // SAFETY: `keep` had `count` C strings.
+        let word = unsafe { CStr::from_ptr(*words.add(index)) };
+        let text = word.to_str().map_err(|_| io::ErrorKind::InvalidData)?;
+        all.push(String::from_str(crate::alloc::Global, text)?)?;
+    }
+    Ok(all)
+}
+
+/// Copies the arguments.
+#[cfg(not(unix))]
+pub(crate) fn all() -> io::Result<Vec<String>> {
+    let mut all = Vec::new(crate::alloc::Global);
+    for word in std::env::args_os() {
+        let text = word.into_string().map_err(|_| io::ErrorKind::InvalidData)?;
+        all.push(String(text))?;
+    }
+    Ok(all)
+}

@@ -1,0 +1,204 @@
+"""Writes the crates of a checkout as a Cargo workspace."""
+import os
+import re
+import shutil
+import subprocess
+import tempfile
+from collections import Counter
+
+from check import check_format, check_shapes, check_tokens
+from drops import drop_all
+from laws import drop_laws, drop_removed, drop_unread
+from ledger import drop_ledgers
+from rewrites import rewrite_all
+from source import Source
+from tokens import GHOST
+
+REGISTRY = '/usr/share/cargo/registry'
+HEAD = '''[package]
+name = "%s"
+version.workspace = true
+edition.workspace = true
+publish.workspace = true
+
+# Some parameters, fields and functions are there for contracts alone.
+[lints.rust]
+dead_code = "allow"
+unused_variables = "allow"
+'''
+
+FROM_PACKAGES = '''[source.crates-io]
+replace-with = "packages"
+
+[source.packages]
+directory = "%s"
+
+[net]
+offline = true
+''' % REGISTRY
+
+
+def read_crates(path):
+    """The crates of crates.txt: name, words after the name, dependencies."""
+    crates = {}
+    with open(path, encoding='utf-8') as lines:
+        for line in lines:
+            head, colon, deps = line.split('#')[0].partition(':')
+            if colon:
+                name, *words = head.split()
+                crates[name] = (words, deps.split())
+    return crates
+
+
+def read_sources(root, crates):
+    """The files of all crates."""
+    sources = []
+    for crate in crates:
+        folder = os.path.join(root, 'crates', crate, 'src')
+        for base, _, names in sorted(os.walk(folder)):
+            for name in sorted(names):
+                if name.endswith('.rt'):
+                    path = os.path.join(base, name)
+                    with open(path, encoding='utf-8') as file:
+                        text = file.read()
+                    sources.append(Source(crate, path, os.path.relpath(path, folder), text))
+    return sources
+
+
+def strip(sources):
+    """Takes the proofs out of all files, and writes what Rust says in another way."""
+    for source in sources:
+        drop_all(source)
+    removed = drop_laws(sources)
+    drop_removed(sources, removed)
+    drop_ledgers(sources)
+    drop_unread(sources)
+    for source in sources:
+        rewrite_all(source)
+        check_shapes(source)
+
+
+def versions_of(plain):
+    """The crates of the registry that plain/Cargo.toml names."""
+    with open(os.path.join(plain, 'Cargo.toml'), encoding='utf-8') as file:
+        text = file.read()
+    part = text.split('[workspace.dependencies]', 1)[1].split('\n[', 1)[0]
+    return text, re.findall(r'^([a-z0-9_-]+) *=', part, re.M)
+
+
+def has_packages(names):
+    """Whether Debian's packages of all these crates are there."""
+    if not os.path.isdir(REGISTRY):
+        return False
+    there = {entry.rsplit('-', 1)[0] for entry in os.listdir(REGISTRY)}
+    return all(name in there for name in names)
+
+
+def cargo_toml(crate, words, deps, left, plain, registry):
+    """The Cargo.toml of a crate."""
+    lines = [HEAD % crate]
+    if 'staticlib' in words:
+        lines.append('[lib]\ncrate-type = ["staticlib", "cdylib", "rlib"]\n')
+    lines.append('[dependencies]\nplain_std = { path = "../../plain/std" }')
+    for dep in deps:
+        if dep in left:
+            lines.append('%s = { path = "../%s" }' % (dep, dep))
+        elif os.path.isdir(os.path.join(plain, dep)):
+            lines.append('%s = { path = "../../plain/%s", package = "plain_%s" }' % (dep, dep, dep))
+        elif dep in registry:
+            lines.append('%s = { workspace = true }' % dep)
+    return '\n'.join(lines) + '\n'
+
+
+def write_files(out, files):
+    """Writes files below a folder, and removes what else is below crates/ and plain/.
+
+    A file that has its text already is left alone, since cargo builds what is newer.
+    """
+    for part in ('crates', 'plain'):
+        for base, _, names in os.walk(os.path.join(out, part)):
+            for name in names:
+                path = os.path.join(base, name)
+                if os.path.relpath(path, out) not in files:
+                    os.remove(path)
+    for rel, text in files.items():
+        path = os.path.join(out, rel)
+        os.makedirs(os.path.dirname(path), exist_ok=True)
+        if os.path.exists(path):
+            with open(path, encoding='utf-8') as file:
+                if file.read() == text:
+                    continue
+        with open(path, 'w', encoding='utf-8') as file:
+            file.write(text)
+
+
+def laid_out(files):
+    """The files as rustfmt lays them out, where it is there. Checks that it did no more."""
+    if not shutil.which('rustfmt'):
+        return files
+    with tempfile.TemporaryDirectory() as folder:
+        write_files(folder, files)
+        names = [name for name in files if name.endswith('.rs')]
+        for start in range(0, len(names), 100):
+            subprocess.run(['rustfmt', '--edition', '2024', *names[start:start + 100]],
+                           cwd=folder, check=True)
+        found = dict(files)
+        for name in names:
+            with open(os.path.join(folder, name), encoding='utf-8') as file:
+                found[name] = file.read()
+            check_format(name, files[name], found[name])
+        return found
+
+
+def plain_files(plain):
+    """The files of plain/ that are Rust, or are for cargo."""
+    found = {}
+    for base, _, names in os.walk(plain):
+        for name in names:
+            if name.endswith('.rs') or name == 'Cargo.toml':
+                path = os.path.join(base, name)
+                with open(path, encoding='utf-8') as file:
+                    found[os.path.join('plain', os.path.relpath(path, plain))] = file.read()
+    del found[os.path.join('plain', 'Cargo.toml')]
+    return found
+
+
+def counts_of(sources):
+    """How often each rule was used, and in how many crates."""
+    rules = {}
+    for source in sources:
+        found = Counter(source.rules)
+        found.update(token.gone for token in source.tokens if token.kind == GHOST)
+        for rule, times in found.items():
+            total, crates = rules.setdefault(rule, (0, set()))
+            rules[rule] = (total + times, crates | {source.crate})
+    return {rule: (times, len(crates)) for rule, (times, crates) in rules.items()}
+
+
+def write_workspace(root, out):
+    """Writes the workspace. Returns how often each rule was used."""
+    plain = os.path.join(root, 'plain')
+    crates = read_crates(os.path.join(root, 'crates.txt'))
+    sources = read_sources(root, crates)
+    everything = list(sources)
+    strip(sources)
+    workspace, registry = versions_of(plain)
+    left = {source.crate for source in sources if source.rel in ('lib.rt', 'main.rt')}
+    files = {}
+    for source in sources:
+        text = source.write()
+        check_tokens(source, source.path, text)
+        files['crates/%s/src/%s.rs' % (source.crate, source.rel[:-len('.rt')])] = text
+    files = laid_out(files)
+    for crate in left:
+        words, deps = crates[crate]
+        files['crates/%s/Cargo.toml' % crate] = cargo_toml(crate, words, deps, left, plain, registry)
+    files.update(plain_files(plain))
+    files['Cargo.toml'] = re.sub(r'^members = .*$', 'members = ["crates/*", "plain/*"]', workspace,
+                                 flags=re.M)
+    if has_packages(registry):
+        files['.cargo/config.toml'] = FROM_PACKAGES
+    elif os.path.exists(os.path.join(out, '.cargo', 'config.toml')):
+        os.remove(os.path.join(out, '.cargo', 'config.toml'))
+    write_files(out, files)
+    return counts_of(everything)
