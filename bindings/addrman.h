@@ -370,7 +370,8 @@ ADDRMAN_CALL addrman_result addrman_select(addrman *am, bool new_only,
  * records; 0 is no limit. `classes` is a set of networks, ADDRMAN_UNROUTABLE among them. *length is
  * how many peers the sample has. It needs a random word for each record (addrman_size tells how
  * many there are). The order of the records changes, which no other call shows. addrman_find has a
- * peer's time and services.
+ * peer's time and services. A node that answers each getaddr by a new sample gives its tables away:
+ * see "Answers to getaddr" in docs/NODE.md.
  *   ADDRMAN_ERR_ARGUMENT      `percent` is above 100, or there are 2^32 words or more
  *   ADDRMAN_ERR_SHORT_WORDS   nothing changes; *length is how many words are needed
  *   ADDRMAN_ERR_SHORT_BUFFER  nothing is written but *length. The order changes all the same
