@@ -116,11 +116,13 @@ def write_files(out, files):
     A file that has its text already is left alone, since cargo builds what is newer.
     """
     for part in ('crates', 'plain'):
-        for base, _, names in os.walk(os.path.join(out, part)):
+        for base, _, names in os.walk(os.path.join(out, part), topdown=False):
             for name in names:
                 path = os.path.join(base, name)
                 if os.path.relpath(path, out) not in files:
                     os.remove(path)
+            if not os.listdir(base):
+                os.rmdir(base)
     for rel, text in files.items():
         path = os.path.join(out, rel)
         os.makedirs(os.path.dirname(path), exist_ok=True)
