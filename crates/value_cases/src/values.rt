@@ -54,8 +54,8 @@ static CALLS: [(Subject, &str); 15] = [
     ),
     (
         Subject::Places,
-        "places group mapped-group asmap-sum key source-buckets group-buckets choice new-slot \
-next-port hash cheap",
+        "places group mapped-group asmap-sum core-sum key source-buckets group-buckets choice \
+new-slot next-port hash cheap",
     ),
     (
         Subject::Tables,
