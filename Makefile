@@ -10,6 +10,8 @@
 # make test       the gate: proves everything, tries wrong bodies, runs the tests
 # make examples   compares what README.md and docs/FORMATS.md show with what the built program prints
 # make flood      an attack on the tables, hour by hour, as the page bin/flood.html
+# make page       the page that reads a peers.dat, as bin/page.html and as the folder bin/page
+# make page-test  tries it in Chromium and Firefox, and its engine beside the built program
 # make endings    tries the exit codes of the built program and their texts
 # make mistakes   makes some hundred mistakes with it, and compares what standard error says
 # make lib        proves the library for C, and builds bin/lib/libaddrman.a and libaddrman.so.1
@@ -40,8 +42,9 @@ DIST := addrman-$(VERSION)-x86_64-linux
 # Where the toolchain has its part of the C library: the allocator that the library calls.
 KIT = $(shell dirname "$$(dirname "$$(readlink -f "$$(command -v rt)")")")
 
-.PHONY: all plain check proved plain-lib try ci-try demo examples flood endings mistakes packed test figures lib lib-test ci-lib-test \
-	ci-program-test archive install install-lib uninstall dist
+.PHONY: all plain check proved plain-lib try ci-try demo examples flood page page-test endings \
+	mistakes packed test figures lib lib-test ci-lib-test ci-program-test archive install install-lib \
+	uninstall dist
 
 # Where cargo builds, below bin/.
 CARGO = cd bin/plain && cargo build --quiet --release --target-dir ../target
@@ -97,6 +100,14 @@ examples: bin/addrman
 
 flood: bin/addrman
 	tools/flood --still bin/flood.svg bin/addrman bin/flood.html
+
+page:
+	page/build
+
+page-test:
+	page/colours
+	node page/test/same.mjs bin/page-work/addrman.wasm bin/addrman
+	page/test/test_page.py bin/addrman
 
 endings: bin/addrman
 	tools/endings

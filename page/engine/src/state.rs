@@ -1,0 +1,100 @@
+use crate::folder::{Files, Output};
+use crate::second::{Again, Facts, passed_over_by, second_lines};
+use addrman_run::{code, run, status_line};
+use arguments::help_text;
+use hints::{KeptReader, LastLines, Notes};
+use host_io::StdSource;
+use keyed_hasher::Keyed;
+use plain_std::alloc::{AllocError, Global};
+use plain_std::string::String as Text;
+use plain_std::vec::Vec as Items;
+
+/// The exit code of a run that there is no memory for.
+const MEMORY: u32 = 12;
+
+/// What one instance of the module has.
+pub struct State {
+    /// The key of the hash tables.
+    pub key: (u64, u64),
+    /// The arguments of the next run.
+    pub words: Vec<String>,
+    /// The log of the next run.
+    pub log: Vec<u8>,
+    /// What the last run wrote.
+    pub output: Vec<u8>,
+    /// The lines of the last run for standard error.
+    pub errors: Vec<u8>,
+    pub files: Files,
+}
+
+static mut STATE: State = State::new();
+
+/// Returns the state of this instance.
+pub fn state() -> &'static mut State {
+    // SAFETY: a module of wasm32 has one thread, and no export is called while another one runs.
+    unsafe { &mut *&raw mut STATE }
+}
+
+impl State {
+    const fn new() -> State {
+        State {
+            key: (0, 0),
+            words: Vec::new(),
+            log: Vec::new(),
+            output: Vec::new(),
+            errors: Vec::new(),
+            files: Files::new(),
+        }
+    }
+
+    /// Runs the program over the files, and returns its exit code.
+    pub fn run(&mut self) -> u32 {
+        self.output = Vec::new();
+        self.errors.clear();
+        match self.run_over() {
+            Ok(code) => code,
+            Err(AllocError) => {
+                self.errors = b"addrman: out of memory\n".to_vec();
+                MEMORY
+            }
+        }
+    }
+
+    fn run_over(&mut self) -> Result<u32, AllocError> {
+        let alloc = Global;
+        let log = std::mem::take(&mut self.log);
+        let mut words = Items::new(alloc);
+        for word in std::mem::take(&mut self.words) {
+            words.push(Text::from_str(alloc, &word)?)?;
+        }
+        let words = words.as_slice();
+        let mut lines = LastLines::make(alloc);
+        let notes = Notes::make(alloc, false);
+        let passed_over = passed_over_by(alloc, words, &mut self.files);
+        let status = {
+            let mut log = StdSource::make(KeptReader::make(log.as_slice(), &mut lines));
+            let mut output = Output { bytes: &mut self.output };
+            let hasher = Keyed::make(self.key.0, self.key.1);
+            run(alloc, hasher, words, &mut log, &mut self.files, &mut output)
+        };
+        let again = Again::read(alloc, &status, words, &mut self.files);
+        let facts = Facts {
+            words,
+            lines: &lines,
+            output: None,
+            notes: &notes,
+            again: &again,
+            passed_over,
+        };
+        let mut said = Items::new(alloc);
+        status_line(&status, &mut said).map_err(|_| AllocError)?;
+        let after = if words.is_empty() {
+            help_text(alloc, None).map_err(|_| AllocError)?
+        } else {
+            second_lines(alloc, &status, &facts).into_bytes()
+        };
+        self.errors.extend_from_slice(&said);
+        self.errors.extend_from_slice(&after);
+        Ok(code(&status).into())
+    }
+}

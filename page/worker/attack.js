@@ -1,0 +1,113 @@
+// An attack on an empty node: honest traffic, and from the fourth hour on an attacker who owns some
+// groups and announces made-up addresses. Each hour is a log that the program carries out over the
+// file that it saved in the hour before.
+const START = 1700000000, BEGINS = 3, ATTACKER_AS = 64666, KEY = "61".padEnd(64, "0");
+const HONEST_SOURCES = 400, PICKS = 1000;
+
+// Random numbers by xorshift, so that everybody sees the same attack.
+class Draws {
+  constructor(seed) { this.seed = seed; }
+
+  // A number below `count`.
+  below(count) {
+    this.seed ^= this.seed << 13;
+    this.seed ^= this.seed >>> 17;
+    this.seed ^= this.seed << 5;
+    return (this.seed >>> 0) % count;
+  }
+}
+
+const littleEndian = (value, count) => Array.from({ length: count }, (_, i) => Math.floor(value / 256 ** i) & 255);
+const sourceOf = number => [20 + number % 44, number * 29 & 255, 9, 9];
+
+class Attack {
+  constructor({ groups, hours, isLimited }) {
+    Object.assign(this, { groups, hours, isLimited, draws: new Draws(7) });
+    // Connections 0 to 399 are honest; the attacker has at least eight.
+    this.attackers = Math.max(8, groups);
+  }
+
+  honestPeer() {
+    const j = this.draws.below(9000);
+    return [20 + j % 44, j * 7 >> 2 & 255, 1 + (j >> 8) % 250, 1 + j % 250];
+  }
+
+  attackPeer() {
+    return [101 + this.draws.below(25), this.draws.below(256), this.draws.below(256), 1 + this.draws.below(250)];
+  }
+
+  addressOf(connection) {
+    if (connection < HONEST_SOURCES) return sourceOf(connection).join(".");
+    const i = connection - HONEST_SOURCES;
+    return `77.${i % this.groups}.${Math.floor(i / this.groups)}.1`;
+  }
+
+  // An addr message that a connection sends.
+  message(connection, entries) {
+    const bytes = entries.length < 253 ? [entries.length] : [253, ...littleEndian(entries.length, 2)];
+    for (const [time, peer] of entries)
+      bytes.push(...littleEndian(time, 4), ...littleEndian(9, 8), ...Array(10).fill(0), 255, 255, ...peer, 8333 >> 8, 8333 & 255);
+    const from = this.isLimited ? `from ${connection}` : `addr ${this.addressOf(connection)}`;
+    return `${from} ${hexOf(bytes)} @${this.draws.below(1 << 30)}:${entries.length}\n`;
+  }
+
+  // The lines of an hour but for those that end it, and how many there are.
+  hour(hour) {
+    const now = START + 3600 * hour, lines = [`now ${now}\n`];
+    const opened = count => { for (let i = 0; i < count[1]; i++) lines.push(`open ${count[0] + i} ${this.addressOf(count[0] + i)} limited\n`, `getaddr ${count[0] + i}\n`); };
+    if (this.isLimited && hour === 0) opened([0, HONEST_SOURCES]);
+    if (this.isLimited && hour === BEGINS) opened([HONEST_SOURCES, this.attackers]);
+    for (let i = 0; i < 60; i++)
+      lines.push(this.message(this.draws.below(HONEST_SOURCES), Array.from({ length: 60 }, () => [now - this.draws.below(86400), this.honestPeer()])));
+    for (let i = 0; hour >= BEGINS && i < 64; i++)
+      lines.push(this.message(HONEST_SOURCES + i % this.attackers, Array.from({ length: 250 }, () => [now - this.draws.below(600), this.attackPeer()])));
+    for (let i = 0; i < 120; i++) lines.push(`good ${this.honestPeer().join(".")}:8333 test\n`);
+    for (let i = 0; i < 60; i++) lines.push(`attempt ${this.honestPeer().join(".")}:8333 count\n`);
+    lines.push("resolve\n");
+    for (let i = 0; i < PICKS; i++) lines.push(`select any all @${this.draws.below(1 << 30)}:300\n`);
+    return lines;
+  }
+}
+
+// What a log of events leaves, with as many lines.
+function limited(engine, hours) {
+  const left = engine.text(["limit"], {}, hours.flat().join("")).split("\n");
+  let at = 0;
+  return hours.map(lines => left.slice(at, at += lines.length).map(line => line + "\n"));
+}
+
+// Counts what the replies of an hour say: the picks, and the slots and buckets of the attacker's groups.
+function countReplies(text) {
+  const found = { picks: 0, attackPicks: 0, newSlots: 0, attackSlots: 0, buckets: 0 }, buckets = new Set();
+  for (const line of text.split("\n")) {
+    const words = line.split(" ");
+    if (words[0] === "one") {
+      const first = parseInt(words[1], 10);
+      found.picks++;
+      if (first >= 101 && first < 126) found.attackPicks++;
+    } else if (words[0] === "peer" && words.at(-1) !== "tried") {
+      const list = words.at(-1).split(",");
+      found.newSlots += list.length;
+      if (!words[3].startsWith("77.")) continue;
+      found.attackSlots += list.length;
+      for (const bucket of list) buckets.add(bucket);
+    }
+  }
+  found.buckets = buckets.size;
+  return found;
+}
+
+function attack(asked, tell) {
+  const engine = new Engine(), made = new Attack(asked), rows = Array.from({ length: asked.groups }, (_, g) => `77.${g}.0.0/16`);
+  const asmap = asked.isOneAs ? compiled(engine, rows.map(row => `${row} AS${ATTACKER_AS}\n`).join("")) : null;
+  let hours = Array.from({ length: asked.hours }, (_, hour) => made.hour(hour)), peers = null;
+  if (asked.isLimited) hours = limited(engine, hours);
+  const saved = hours.map((lines, hour) => {
+    const log = lines.join("") + "save\ndump\n";
+    const replies = engine.text(["replay", "--key", KEY], { "peers.dat": peers, "asmap.dat": asmap }, log);
+    peers = engine.file("peers.dat");
+    tell({ hour: hour + 1, hours: asked.hours });
+    return { peers, time: START + 3600 * hour, ...countReplies(replies) };
+  });
+  return { saved, asmap, rows, begins: BEGINS };
+}
