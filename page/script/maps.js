@@ -32,14 +32,14 @@ function drawMaps() {
   const paints = classes.list.map(c => colour(c.paint)), empty = colour("--empty"), faded = colour("--faded"), lit = colour("--lit");
   const isChosen = !!highlight && $("mode").value !== "set" && $("mode").value !== "change";
   for (const table of TABLES) {
-    const size = sizeOf(table), image = new ImageData(size, size), data32 = image.data;
+    const size = sizeOf(table), image = new ImageData(size, size), bytes = image.data;
     for (let i = FIRST[table]; i < END[table]; i++) {
       const [x, y] = dotOf(table, i), c = classes.of[i], p = 4 * (y * size + x);
       const dot = c < 0 ? empty : !isLit(i) ? faded : isChosen ? lit : paints[c];
-      data32[p] = dot[0];
-      data32[p + 1] = dot[1];
-      data32[p + 2] = dot[2];
-      data32[p + 3] = 255;
+      bytes[p] = dot[0];
+      bytes[p + 1] = dot[1];
+      bytes[p + 2] = dot[2];
+      bytes[p + 3] = 255;
     }
     const bitmap = bitmaps[table] ||= document.createElement("canvas");
     bitmap.width = bitmap.height = size;

@@ -4,6 +4,7 @@ let firstPeer = 0;
 
 const peerText = r => `${data.name[r].includes(":") ? `[${data.name[r]}]` : data.name[r]}:${data.port[r]}`;
 const reachedText = r => !data.success || data.success[r] < 0 ? "not known" : data.success[r] ? when(data.success[r]) : "never";
+const groupText = g => data.names[g] ?? "not known yet";
 const triesText = r => !data.tries || data.tries[r] < 0 ? "not known" : String(data.tries[r]);
 
 // The buckets that a record is in, by rising number.
@@ -23,7 +24,7 @@ function showSlot() {
   if (r < 0) rows.push(["peer", "free"]);
   else {
     const buckets = bucketsOf(r);
-    rows.push(["peer", `<b>${escape(peerText(r))}</b>`], ["network", NETWORKS[data.network[r]]], ["group", escape(data.names[data.group[r]])],
+    rows.push(["peer", `<b>${escape(peerText(r))}</b>`], ["network", NETWORKS[data.network[r]]], ["group", escape(groupText(data.group[r]))],
       ["source", escape(data.source[r])], ["its group", escape(data.names[data.sourceGroup[r]])],
       ["seen", `${when(data.time[r])}, ${lengthText(data.newest - data.time[r])} before the newest`],
       ["services", escape(servicesText(data.services[r]))], ["failed tries", triesText(r)], ["reached", reachedText(r)]);
@@ -50,7 +51,7 @@ function showPeers() {
   $("peers-on").disabled = last >= all.length;
   const text = value => `<td class="text">${escape(value)}</td>`;
   $("peers").innerHTML = all.slice(firstPeer, firstPeer + PAGE).map(r => `<tr><th scope="row">${escape(peerText(r))}</th>${text(data.table[r] ? "tried" : "new")}${text(bucketsOf(r).join(", "))}` +
-    text(NETWORKS[data.network[r]]) + text(data.names[data.group[r]]) + text(data.source[r]) + text(data.names[data.sourceGroup[r]]) +
+    text(NETWORKS[data.network[r]]) + text(groupText(data.group[r])) + text(data.source[r]) + text(data.names[data.sourceGroup[r]]) +
     `${text(when(data.time[r]))}${text(reachedText(r))}<td>${triesText(r)}</td></tr>`).join("");
 }
 

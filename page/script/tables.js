@@ -2,6 +2,8 @@
 let at = 0, data = null, classes = null, highlight = null, cursor = null, matched = null, setMask = null;
 let wanted = 0;
 const KEPT_VIEWS = 12;
+// What can be shown before tries, successes and the groups of all peers are known.
+const EARLY_MODES = ["placed", "source", "network", "age"];
 
 // The view of a file with its columns, without the details.
 function viewFrom(told) {
@@ -16,19 +18,17 @@ function viewFrom(told) {
   return found;
 }
 
-// Asks for the view of a file. `tell` gets it once there are slots and groups; it is complete when the
-// promise is kept.
+// Asks for the view of a file. `tell` gets it once there are slots and the groups that their places
+// depend on; the rest is there when the promise is kept.
 async function readView(snap, tell) {
   let found = null;
   const details = await ask("view", { [snap.isJson ? "json" : "peers"]: snap.bytes, asmap: asmap && asmap.bytes }, told => {
     found = viewFrom(told);
     if (tell) tell(found);
   });
-  if (details) {
-    Object.assign(found, details, { services: details.services.split("\n") });
-    found.isComplete = true;
-    countShares(found);
-  }
+  Object.assign(found, details);
+  if (details.services !== undefined) found.services = details.services.split("\n");
+  countShares(found);
   return found;
 }
 
@@ -72,7 +72,7 @@ async function show(i) {
   showTime();
   try {
     const found = await viewOf(i, early => {
-      if (isOld() || needsBefore() || $("mode").value === "set") return;
+      if (isOld() || needsBefore() || !EARLY_MODES.includes($("mode").value)) return;
       data = early;
       showAll();
       setState("drawn");

@@ -1,5 +1,5 @@
 #!/usr/bin/env python3
-"""test_page.py [--only BROWSER] [--shots DIR] PROGRAM: tries bin/page.html in Chromium and Firefox.
+"""test_page.py [--only BROWSER] [--shots DIR] PROGRAM: tries bin/page.html, and bin/page from a server, in Chromium and Firefox.
 
 PROGRAM is the program whose output the numbers of the page are compared with. Files are dropped and
 chosen, keys are pressed, and what the page then shows is read. At the end of each browser's tests its
@@ -7,10 +7,13 @@ console has to be empty, and no request may have left the page. DIR gets picture
 chromium and firefox-esr, and Python alone.
 """
 import argparse
+import functools
+import http.server
 import json
 import os
 import sys
 import tempfile
+import threading
 import time
 import xml.etree.ElementTree as ElementTree
 
@@ -319,6 +322,18 @@ def stays_here(browser):
     assert browser.js(made_by) == "refused"
 
 
+class Quiet(http.server.SimpleHTTPRequestHandler):
+    def log_message(self, *_):
+        """Says nothing of the requests."""
+
+
+def served(folder):
+    """A server of the files of a folder on this machine."""
+    server = http.server.ThreadingHTTPServer(("127.0.0.1", 0), functools.partial(Quiet, directory=folder))
+    threading.Thread(target=server.serve_forever, daemon=True).start()
+    return server
+
+
 def try_browser(kind, program, shots, names):
     browser = kind()
     try:
@@ -338,17 +353,21 @@ def try_browser(kind, program, shots, names):
         assert all("example.org" in url for url in browser.asked())
     finally:
         browser.end()
-    dark = kind(dark=True)
+    dark, server = kind(dark=True), served(os.path.join(TOP, "bin", "page"))
     try:
         dark.look(1280, 1000)
-        dark.open(PAGE)
+        dark.open(f"http://127.0.0.1:{server.server_port}/index.html")
         dark.give(os.path.join(EXAMPLES, "node", "peers.dat"))
         assert dark.js("return colour('--ground')[0]") < 64
-        assert dark.said() == []
+        assert dark.js("return data.agrees") is True
+        assert dark.said() == [], dark.said()
+        own = f"http://127.0.0.1:{server.server_port}/"
+        assert sorted({url.removeprefix(own) for url in dark.asked()}) == ["engine.js", "index.html", "page.css", "page.js"], dark.asked()
         if shots:
             dark.shot(os.path.join(shots, f"{dark.name}-dark.png"))
     finally:
         dark.end()
+        server.shutdown()
     print(f"{browser.name}: no word on the console, no request")
 
 

@@ -80,29 +80,38 @@ function lookUp(engine, forms, asmap) {
   return found;
 }
 
-// Adds the groups of peers and sources, numbered in the order in which they come.
-function addGroups(engine, view, asmap) {
-  const all = [...new Set([...view.form, ...view.sourceForm])];
-  const found = all.length ? lookUp(engine, all, asmap || compiled(engine, NOTHING)) : [];
-  const names = [], numbers = new Map(), byForm = new Map();
-  all.forEach((form, i) => {
-    const { asn, group } = found[i];
-    let number = numbers.get(group);
-    if (number === undefined) {
-      numbers.set(group, number = names.length);
-      names.push(groupName(group, asmap ? asn : 0));
-    }
-    byForm.set(form, number);
-  });
-  view.names = names;
-  view.group = Int32Array.from(view.form, form => byForm.get(form));
-  view.sourceGroup = Int32Array.from(view.sourceForm, form => byForm.get(form));
+// The groups of addresses, numbered in the order in which they come.
+class Groups {
+  constructor(engine, asmap) {
+    Object.assign(this, { engine, asmap, names: [], numbers: new Map(), byForm: new Map() });
+  }
+
+  // Looks up these addresses, where they are new.
+  learn(forms) {
+    const all = [...new Set(forms)].filter(form => !this.byForm.has(form));
+    if (!all.length) return;
+    const found = lookUp(this.engine, all, this.asmap || compiled(this.engine, NOTHING));
+    all.forEach((form, i) => {
+      const { asn, group } = found[i];
+      let number = this.numbers.get(group);
+      if (number === undefined) {
+        this.numbers.set(group, number = this.names.length);
+        this.names.push(groupName(group, this.asmap ? asn : 0));
+      }
+      this.byForm.set(form, number);
+    });
+  }
+
+  // The number of each address's group; -1 where it was not looked up.
+  of(forms) {
+    return Int32Array.from(forms, form => this.byForm.get(form) ?? -1);
+  }
 }
 
 // The counts of each group, as `groups` has them: a slot of the new table counts for the group of the
 // source, a record of the tried table for its own.
-function countGroups(view) {
-  const rows = view.names.map(group => ({ group, new_slots: 0, new_buckets: 0, new_records: 0, tried_records: 0 }));
+function countGroups(view, names) {
+  const rows = names.map(group => ({ group, new_slots: 0, new_buckets: 0, new_records: 0, tried_records: 0 }));
   const last = new Int32Array(rows.length).fill(-1);
   for (let i = 0; i < NEW_SLOTS; i++) if (view.slots[i] >= 0) {
     const g = view.sourceGroup[view.slots[i]];
@@ -141,21 +150,26 @@ function detailsOf(engine, files, net, view, rows) {
   };
 }
 
-// Tells of the tables as soon as their slots and groups are known, and returns the details.
+// Tells of the tables as soon as slots and the groups that places depend on are known, and returns the
+// groups of all peers and the details.
 function view({ peers, json, asmap }, tell) {
   const engine = new Engine(), files = { "peers.dat": peers, "asmap.dat": asmap };
   const chain = json ? null : chainOf(peers), net = ["--net", chain];
   const found = columnsOf(json ? readRaw(json) : JSON.parse(engine.text(["raw", ...net], files)));
-  addGroups(engine, found, asmap);
-  const rows = countGroups(found);
-  const joined = list => list.join("\n");
+  const groups = new Groups(engine, asmap);
+  groups.learn([...found.sourceForm, ...found.form.filter((_, r) => found.table[r])]);
+  found.sourceGroup = groups.of(found.sourceForm);
+  found.group = groups.of(found.form);
+  const rows = countGroups(found, groups.names), joined = list => list.join("\n");
   tell({
-    chain, slots: found.slots, names: found.names, group: found.group, sourceGroup: found.sourceGroup, rows,
+    chain, slots: found.slots, names: groups.names, group: found.group, sourceGroup: found.sourceGroup, rows,
     name: joined(found.name), form: joined(found.form), source: joined(found.source), sourceForm: joined(found.sourceForm),
     services: joined(found.services), port: Uint16Array.from(found.port), network: Uint8Array.from(found.network),
     time: Float64Array.from(found.time), table: Uint8Array.from(found.table),
   });
-  return json ? null : detailsOf(engine, files, net, found, rows);
+  groups.learn(found.form);
+  found.group = groups.of(found.form);
+  return { group: found.group, names: groups.names, ...(json ? {} : detailsOf(engine, files, net, found, rows)) };
 }
 
 // Which of these addresses the rows of prefixes cover.
