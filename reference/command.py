@@ -237,10 +237,19 @@ class Run:
         """The tables with which a log begins."""
         asmap = self.asmap() or NO_ASMAP
         file = self.peers(chain)
-        if file is None:
-            if key is None:
-                raise Stop(11, "no peers.dat and no key")
-            return Tables(key, asmap)
+        if file is not None:
+            return self.restored(file, asmap)
+        if key is None:
+            raise Stop(11, "no peers.dat and no key")
+        return Tables(key, asmap)
+
+    def saved_tables(self, chain: str) -> Tables:
+        """The tables of the folder's file of peers."""
+        asmap = self.asmap() or NO_ASMAP
+        return self.restored(self.needed(self.peers(chain), "peers.dat"), asmap)
+
+    def restored(self, file: peers_file.PeersFile, asmap: Asmap) -> Tables:
+        """The tables of a file."""
         try:
             return peers_file.restored(file, asmap)
         except Fault as fault:
@@ -251,16 +260,16 @@ class Run:
             self.print(line)
 
     def picture(self, _key: None, chain: str):
-        self.print(picture(self.tables(None, chain)).removesuffix("\n"))
+        self.print(picture(self.saved_tables(chain)).removesuffix("\n"))
 
     def raw(self, _key: None, chain: str):
-        self.print(node_json.raw(self.tables(None, chain)))
+        self.print(node_json.raw(self.saved_tables(chain)))
 
     def info(self, _key: None, chain: str):
-        self.print(node_json.info(self.tables(None, chain)))
+        self.print(node_json.info(self.saved_tables(chain)))
 
     def groups(self, _key: None, chain: str):
-        self.print(node_json.groups(self.tables(None, chain)))
+        self.print(node_json.groups(self.saved_tables(chain)))
 
     def compile(self):
         rows = self.load("prefixes.txt", prefixes.MAXIMUM_BYTES, 6, prefixes.read_rows)

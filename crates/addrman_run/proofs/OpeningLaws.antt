@@ -12,6 +12,7 @@ use Rattle.table_machine.specs.Restoring.{duplicate}
 use Rattle.peers_file.specs.Layout.{IsFile, HasFileFault, HasOneMeaning}
 use Rattle.peers_file.specs.declared.chain.Chain.{Chain}
 use Rattle.peers_file.specs.declared.fault.FileFault.{FileFault}
+use Rattle.addrman_run.specs.Diff.{HaveTooMany, RefusesRecords}
 use Rattle.addrman_run.specs.Opening.{Opens, OpensOnce, RefusesTables, LacksKey, places_of, tables_of}
 use Rattle.addrman_run.specs.Opening.Opens.{from_file, from_key}
 use Rattle.addrman_run.specs.Peers.{IsSnapshotIn, RefusesPeers}
@@ -122,3 +123,19 @@ pub opens_once : (key : Option (List ℕ)) (chain : Chain) (past : Past) (map : 
     ((bytes : List ℕ) → All (λ b. b < 256) bytes → HasOneMeaning chain bytes) → OpensOnce key chain (Some past) map
 opens_once key chain past map None is fits law = without_file key chain past map is
 opens_once key chain past map (Some bytes) is fits law = with_file key chain past map bytes is (law bytes fits)
+
+-- ---- the records of a difference
+
+never_refused : (chain : Chain) (past : Past) (f : FileFault) (o : Option (List ℕ)) → file_of past ≡ o → IfSome o (All (λ b. b < 256)) →
+    ((bytes : List ℕ) → All (λ b. b < 256) bytes → HasOneMeaning chain bytes) → (snap : Snapshot) → IsSnapshotIn chain (Some past) snap → RefusesPeers chain (Some past) f → ⊥
+never_refused chain past f None is fits law snap file refused = none_or_some (file_of past) file.0 is file.1
+never_refused chain past f (Some bytes) is fits law snap file refused =
+    (law bytes fits).never_both snap f (has_snapshot chain past bytes snap is file) (has_fault chain past bytes f is refused)
+
+pub counted_last : (peers : Option Chain) (past : Past) (fault : PeersFault) → IfSome (file_of past) (All (λ b. b < 256)) →
+    ((chain : Chain) (bytes : List ℕ) → All (λ b. b < 256) bytes → HasOneMeaning chain bytes) → HaveTooMany peers (Some past) → RefusesRecords peers (Some past) fault → ⊥
+counted_last peers past (Duplicate i) fits law many refused = refused
+counted_last None past (File f) fits law many (chain, is, why) = none_or_some None chain refl is
+counted_last (Some chain) past (File f) fits law (old, new, maps, more, (records, (snap, file, text))) (other, is, why) =
+    let same : chain ≡ other = ap (λ o. unwrap_or o chain) is in
+    never_refused chain past f (file_of past) refl fits (law chain) snap file (subst (λ c. RefusesPeers c (Some past) f) (sym same) why)

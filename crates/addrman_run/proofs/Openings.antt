@@ -140,9 +140,9 @@ module _ (key : Option (List ℕ)) (chain : Chain) (past : Option Past) where
     no_peers status (inr (inr is)) = subst (IsUnopened key chain past) (sym is.1) (map, too_large chain past is.0 is.2)
 
 -- what holds of a result
-pub ok_so : {A E : Type 0} (P Q : A → Type 0) (r : Result A E) → ((x : A) → P x → Q x) → IfOk r P → IfOk r Q
-ok_so P Q (Ok x) f is = f x is
-ok_so P Q (Err e) f is = tt
+pub ok_both : {A E : Type 0} (P Q R : A → Type 0) (r : Result A E) → ((x : A) → P x → Q x → R x) → IfOk r P → IfOk r Q → IfOk r R
+ok_both P Q R (Ok x) f is and = f x is and
+ok_both P Q R (Err e) f is and = tt
 
 pub err_so : {A E : Type 0} (P Q : E → Type 0) (r : Result A E) → ((e : E) → P e → Q e) → IfErr r P → IfErr r Q
 err_so P Q (Ok x) f is = tt

@@ -4,20 +4,18 @@ use Rattle.std.specs.Prelude.{Option, None}
 use Rattle.host_io.specs.Past.{Past}
 use Rattle.peers_file.specs.declared.chain.Chain.{Chain}
 use Rattle.picture_laws.proofs.Trees.{tree-of}
-use Rattle.table_machine.specs.Sound.{IsSound}
 use Rattle.table_machine.specs.State.{State}
 use Rattle.table_picture.specs.Picture.{picture_of}
 use Rattle.addrman_run.proofs.TextOuts.{text_out}
 use Rattle.addrman_run.specs.Inside.{TextEnds}
-use Rattle.addrman_run.specs.Opening.{Opened, ReportsOpening}
+use Rattle.addrman_run.specs.Opening.{Opened, ReportsTables}
 use Rattle.addrman_run.specs.Picture.{IsPicture}
 use Rattle.addrman_run.specs.TextOut.{TextOut}
 use Rattle.addrman_run.specs.declared.status.Status.{Status}
 
 -- the text is made and written, or memory ran out
-pub made : (chain : Chain) (past : Option Past) (old new : Option (List ℕ)) (st : State) (status : Status) → Opened None chain past st → IsSound st
-    → TextEnds (picture_of st) old new status → TextOut (IsPicture chain) (ReportsOpening None chain) past old new status
-made chain past old new st status opened sound (inl none) = subst (TextOut (IsPicture chain) (ReportsOpening None chain) past old new) (sym none.0) none.1
-made chain past old new st status opened sound (inr written) =
-    text_out (IsPicture chain) (ReportsOpening None chain) past (picture_of st) old new status
-    (record { tables = st; opened = opened; is = refl; tree = tree-of st sound.records }) written
+pub made : (chain : Chain) (past : Option Past) (old new : Option (List ℕ)) (st : State) (status : Status) → Opened None chain past st → TextEnds (picture_of st) old new status → TextOut (IsPicture chain) (ReportsTables chain) past old new status
+made chain past old new st status opened (inl none) = subst (TextOut (IsPicture chain) (ReportsTables chain) past old new) (sym none.0) none.1
+made chain past old new st status opened (inr written) =
+    text_out (IsPicture chain) (ReportsTables chain) past (picture_of st) old new status
+    (record { tables = st; opened = opened; is = refl; tree = tree-of st opened.sound.records }) written

@@ -123,15 +123,15 @@ module _ {F : Type 0} (past : F → Option Past) (faults : F → ℕ) where
   later_rose n f g h le (inr (full, inr is)) = inr (full, inr is)
 
   replayed_from : (key : Option (List ℕ)) (chain : Chain) (tables : State) (old new : Outside) (w v : F) (how : LogEnd)
-      → Opened key chain old.past tables → IsSound tables → tables.next_number ≤ ALL_SLOTS → past w ≡ old.past → old.folder_faults ≤ faults w
+      → Opened key chain old.past tables → tables.next_number ≤ ALL_SLOTS → past w ≡ old.past → old.folder_faults ≤ faults w
       → new.past ≡ past v → new.folder_faults ≡ faults v
       → RanIn (SessionStep past faults) HasCommandFault (at_start chain tables, w) (streams_of old) (streams_of new) v how
       → Replayed key chain old new how
-  replayed_from key chain tables old new w v how opened sound few same_past earlier ends_past ends_faults r =
+  replayed_from key chain tables old new w v how opened few same_past earlier ends_past ends_faults r =
       let start = at_start chain tables in
       let map = opened.map in
       let opens = opened.opens in
-      let o = begun_with key chain old.past map tables opens sound few in
+      let o = begun_with key chain old.past map tables opens opened.sound few in
       let h = follow past faults r.ran.carried r.ran.replies start r.ran.now.0 w r.ran.now.1 [] (past w) (faults w) r.ran.runs
       (kept_start start (past w) (faults w) refl) in
       let k = h.kept in
@@ -158,13 +158,13 @@ module _ {F : Type 0} (past : F → Option Past) (faults : F → ℕ) where
       }
 
   pub replayed : (key : Option (List ℕ)) (chain : Chain) (tables : State) (start : session.SessionState) (old new : Outside) (w v : F) (how : LogEnd)
-      → Opened key chain old.past tables → start ≡ at_start chain tables → IsSound tables
+      → Opened key chain old.past tables → start ≡ at_start chain tables
       → tables.next_number ≤ ALL_SLOTS → past w ≡ old.past → old.folder_faults ≤ faults w
       → new.past ≡ past v → new.folder_faults ≡ faults v
       → RanIn (SessionStep past faults) HasCommandFault (start, w) (streams_of old) (streams_of new) v how
       → Replayed key chain old new how
-  replayed key chain tables start old new w v how opened begins sound few same_past earlier ends_past ends_faults r =
-      replayed_from key chain tables old new w v how opened sound few same_past earlier ends_past ends_faults
+  replayed key chain tables start old new w v how opened begins few same_past earlier ends_past ends_faults r =
+      replayed_from key chain tables old new w v how opened few same_past earlier ends_past ends_faults
       (subst (λ s. RanIn (SessionStep past faults) HasCommandFault (s, w) (streams_of old) (streams_of new) v how) begins r)
 
   rises_by : (lines : List (List ℕ)) (text : List ℕ) (s t : session.SessionState) (w v : F) → Run (both (SessionStep past faults)) (s, w) lines text (t, v) → faults w ≤ faults v

@@ -1,18 +1,18 @@
 -- How a command ends that writes a text about files of the folder.
 use Rattle.std.proofs.Common.{ℕ, List, refl, sym, subst, inl, inr}
-use Rattle.std.specs.Prelude.{Option, None}
+use Rattle.std.specs.Prelude.{Option}
 use Rattle.host_io.specs.Past.{Past}
 use Rattle.peers_file.specs.declared.chain.Chain.{Chain}
 use Rattle.addrman_run.specs.Asmaps.{ReportsAsmap}
-use Rattle.addrman_run.specs.Inside.{IsNoMap, LineEnds}
-use Rattle.addrman_run.specs.Opening.{IsUnopened, ReportsOpening}
+use Rattle.addrman_run.specs.Inside.{IsNoMap, IsNoTables, LineEnds}
+use Rattle.addrman_run.specs.Opening.{ReportsTables}
 use Rattle.addrman_run.specs.TextOut.{TextOut}
 use Rattle.addrman_run.specs.declared.status.Status.{Status}
 use Rattle.addrman_run.specs.declared.status.Status.TheVariants.{Done, WriteFault, DiskFault, Memory}
 
 -- no tables were opened
 pub unopened_out : (IsText : Option Past → List ℕ → Type 0) (chain : Chain) (past : Option Past) (written : Option (List ℕ)) (status : Status)
-    → IsUnopened None chain past status → TextOut IsText (ReportsOpening None chain) past written written status
+    → IsNoTables chain past status → TextOut IsText (ReportsTables chain) past written written status
 unopened_out IsText chain past written Done why = absurd why
 unopened_out IsText chain past written WriteFault why = absurd why
 unopened_out IsText chain past written DiskFault why = refl

@@ -23,7 +23,7 @@ use Rattle.addrman_run.specs.Decompile.{ReportsDecompile}
 use Rattle.addrman_run.specs.Diff.{ReportsDiff}
 use Rattle.addrman_run.specs.InFolder.{IsAbsent}
 use Rattle.addrman_run.specs.LookupLines.{IsPeerLine}
-use Rattle.addrman_run.specs.Opening.{ReportsOpening}
+use Rattle.addrman_run.specs.Opening.{ReportsOpening, ReportsTables}
 use Rattle.addrman_run.specs.Replay.{Replayed}
 use Rattle.addrman_run.specs.Show.{ReportsPeers}
 use Rattle.addrman_run.specs.Tables.{ReportsTable}
@@ -90,10 +90,10 @@ NothingIsWrong LookupLines at =
     IsGoodLog IsLookupLine at.left × IsUsable name.Asmap ReportsAsmap at.past
 NothingIsWrong (Address addr) at = NoRefusal (ReportsAsmap at.past)
 NothingIsWrong (Show chain) at = IsUsable name.Peers (ReportsPeers chain) at.past
-NothingIsWrong (Picture chain) at = NoRefusal (ReportsOpening None chain at.past)
-NothingIsWrong (Raw chain) at = NoRefusal (ReportsOpening None chain at.past)
-NothingIsWrong (Info chain) at = NoRefusal (ReportsOpening None chain at.past)
-NothingIsWrong (Groups chain) at = NoRefusal (ReportsOpening None chain at.past)
+NothingIsWrong (Picture chain) at = NoRefusal (ReportsTables chain at.past)
+NothingIsWrong (Raw chain) at = NoRefusal (ReportsTables chain at.past)
+NothingIsWrong (Info chain) at = NoRefusal (ReportsTables chain at.past)
+NothingIsWrong (Groups chain) at = NoRefusal (ReportsTables chain at.past)
 NothingIsWrong (Ban subnet now until) at = NoRefusal (ReportsBans at.past)
 NothingIsWrong (Unban subnet) at = NoRefusal (ReportsBans at.past)
 NothingIsWrong (Banned peer now) at = NoRefusal (ReportsBans at.past)

@@ -82,20 +82,21 @@ LacksFile peers past name.Asmap = HasOldMap past × IsAbsent name.Asmap past
 LacksFile peers past name.Peers = HasMaps past × AsksRecords peers × IsAbsent name.Peers past
 LacksFile peers past other = ⊥
 
--- the two asmaps have more changes than a table may have rows
-abbrev pub HaveTooMany : Option Past → Type 0
-HaveTooMany past =
+-- The two asmaps have more changes than a table may have rows. There are lines about the records.
+abbrev pub HaveTooMany : Option Chain → Option Past → Type 0
+HaveTooMany peers past =
     (old : Asmap) × (new : Asmap) × AreMapsIn past old new
     × (MAX_ROWS < length (changed_prefixes old.tree new.tree))
+    × ((records : List ℕ) × AreRecordLines peers old new past records)
 
 -- A status that says why there is no text. Files are looked at in this order: asmap.old, asmap.dat,
--- peers.dat.
+-- peers.dat. Changes are counted after that.
 abbrev pub ReportsDiff : Option Chain → Option Past → Status → Type 0
 ReportsDiff peers past (OldAsmapRefused fault) = RefusesMapAt name.AsmapOld past fault
 ReportsDiff peers past (AsmapRefused fault) = HasOldMap past × RefusesAsmap past fault
 ReportsDiff peers past (PeersRefused fault) = HasMaps past × RefusesRecords peers past fault
 ReportsDiff peers past (NoFile file) = LacksFile peers past file
-ReportsDiff peers past TooManyChanges = HaveTooMany past
+ReportsDiff peers past TooManyChanges = HaveTooMany peers past
 ReportsDiff peers past other = ⊥
 
 -- No log is read, and no file is changed. If asmap.old is absent, that is said.

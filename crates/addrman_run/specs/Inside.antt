@@ -28,7 +28,7 @@ use Rattle.addrman_run.specs.declared.input.Input.TheVariants as input
 use Rattle.addrman_run.specs.declared.tables_fault.TablesFault.{TablesFault}
 use Rattle.addrman_run.specs.declared.tables_fault.TablesFault.TheVariants.{Rows}
 use Rattle.addrman_run.specs.declared.peers_fault.PeersFault.TheVariants.{Duplicate, File}
-use Rattle.addrman_run.specs.Opening.{places_of, tables_of}
+use Rattle.addrman_run.specs.Opening.{ReportsTables, places_of, tables_of}
 use Rattle.log_run.specs.Run.{Run}
 use Rattle.log_run.specs.declared.end.LogEnd.{LogEnd}
 use Rattle.log_run.specs.declared.end.LogEnd.TheVariants as end
@@ -116,6 +116,12 @@ abbrev pub IsKeyless : Option (List ℕ) → Status → Type 0
 IsKeyless key NoKey = key ≡ None
 IsKeyless key Memory = ⊤
 IsKeyless key other = ⊥
+
+-- Why the tables of peers.dat are not opened, by the status. HasCause says why the folder fails.
+abbrev pub IsNoTables : Chain → Option Past → Status → Type 0
+IsNoTables chain past DiskFault = ⊤
+IsNoTables chain past Memory = ⊤
+IsNoTables chain past other = ReportsTables chain past other
 
 -- why no tables are opened, by the bytes of the file
 abbrev pub IsNotOpened : Option (List ℕ) → Chain → Option (List ℕ) → Status → Type 0

@@ -9,6 +9,7 @@ use Rattle.placing.specs.declared.sum.SumRule.TheVariants.{Bytes}
 use Rattle.peer_rec.specs.Snapshot.{Snapshot}
 use Rattle.table_machine.specs.State.{State, empty_state}
 use Rattle.table_machine.specs.Restoring.{restored, duplicate}
+use Rattle.table_machine.specs.Sound.{IsSound}
 use Rattle.peers_file.specs.declared.chain.Chain.{Chain}
 use Rattle.addrman_run.specs.Asmaps.{IsMapIn, RefusesAsmap}
 use Rattle.addrman_run.specs.InFolder.{IsAbsent}
@@ -41,12 +42,13 @@ abbrev pub file_in : {key : Option (List ℕ)} {chain : Chain} {past : Option Pa
 file_in (from_file snap is_in no_duplicate is) = Some snap
 file_in (from_key given absent is_key is) = None
 
--- The folder opened with these tables: its asmap is accepted, and they have it.
+-- The folder opened with these tables: its asmap is accepted, and they have it. They are sound.
 pub record Opened (key : Option (List ℕ)) (chain : Chain) (past : Option Past)
     (tables : State) : Type 0 where
   pub map : Option Asmap
   pub has_map : IsMapIn past map
   pub opens : Opens key chain past map tables
+  pub sound : IsSound tables
 
 -- why the folder's peers.dat does not open the tables: its first fault as a file, or the first of
 -- its valid records that has the peer of an earlier one
@@ -71,6 +73,13 @@ ReportsOpening key chain past (status.PeersRefused fault) =
     HasMap past × RefusesTables chain past fault
 ReportsOpening key chain past status.NoKey = HasMap past × LacksKey key past
 ReportsOpening key chain past other = ⊥
+
+-- A status that says why the tables of peers.dat are not opened, in the same order.
+abbrev pub ReportsTables : Chain → Option Past → Status → Type 0
+ReportsTables chain past (status.NoFile file) =
+    (file ≡ name.Peers) × HasMap past × IsAbsent name.Peers past
+ReportsTables chain past status.NoKey = ⊥
+ReportsTables chain past other = ReportsOpening None chain past other
 
 -- Why no tables are opened, by the status. HasCause says why the folder fails.
 abbrev pub IsUnopened : Option (List ℕ) → Chain → Option Past → Status → Type 0

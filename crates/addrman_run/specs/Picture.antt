@@ -6,18 +6,17 @@ use Rattle.peers_file.specs.declared.chain.Chain.{Chain}
 use Rattle.picture_text.specs.Markup.{IsTree}
 use Rattle.table_machine.specs.State.{State}
 use Rattle.table_picture.specs.Picture.{picture_of}
-use Rattle.addrman_run.specs.Opening.{Opened, ReportsOpening}
+use Rattle.addrman_run.specs.Opening.{Opened, ReportsTables}
 use Rattle.addrman_run.specs.TextOut.{TextEnds}
 use Rattle.addrman_run.specs.declared.status.Status.{Status}
 
--- the picture of the tables that a replay without a key begins with, the text of one tree of
--- elements
+-- the picture of the tables that the folder's peers.dat and asmap.dat open, the text of one tree
+-- of elements
 pub record IsPicture (chain : Chain) (past : Option Past) (text : List ℕ) : Type 0 where
   pub tables : State
   pub opened : Opened None chain past tables
   pub is : text ≡ picture_of tables
   pub tree : IsTree (codes "svg") text
 
--- files are refused as a replay without a key refuses them
 abbrev pub PictureEnds : Chain → Outside → Outside → Status → Type 0
-PictureEnds chain = TextEnds (IsPicture chain) (ReportsOpening None chain)
+PictureEnds chain = TextEnds (IsPicture chain) (ReportsTables chain)

@@ -9,7 +9,7 @@ use Rattle.node_json.specs.Raw.{raw_json}
 use Rattle.node_json.specs.Value.{IsJsonText}
 use Rattle.peers_file.specs.declared.chain.Chain.{Chain}
 use Rattle.table_machine.specs.State.{State}
-use Rattle.addrman_run.specs.Opening.{Opened, ReportsOpening}
+use Rattle.addrman_run.specs.Opening.{Opened, ReportsTables}
 use Rattle.addrman_run.specs.TextOut.{TextEnds}
 use Rattle.addrman_run.specs.declared.status.Status.{Status}
 use Rattle.addrman_run.specs.declared.tables_json.TablesJson.{TablesJson}
@@ -25,6 +25,5 @@ abbrev pub IsTablesText : TablesJson → Chain → Option Past → List ℕ → 
 IsTablesText which chain past text =
     (tables : State) × Opened None chain past tables × IsJsonText (json_of which tables) text
 
--- files are refused as a replay without a key refuses them
 abbrev pub TablesJsonEnds : TablesJson → Chain → Outside → Outside → Status → Type 0
-TablesJsonEnds which chain = TextEnds (IsTablesText which chain) (ReportsOpening None chain)
+TablesJsonEnds which chain = TextEnds (IsTablesText which chain) (ReportsTables chain)

@@ -5,7 +5,9 @@ ghost use Rattle.host_io.specs.PerName.{under};
 ghost use Rattle.host_io.specs.declared.name.Name.TheVariants as name;
 ghost use Rattle.asmap_vm.specs.Asmap.{Asmap};
 ghost use Rattle.peers_file.specs.declared.chain.Chain.{Chain};
+ghost use Rattle.addrman_run.specs.Diff.{HaveTooMany, RefusesRecords};
 ghost use Rattle.addrman_run.specs.Opening.{OpensOnce};
+ghost use Rattle.addrman_run.specs.declared.peers_fault.PeersFault.{PeersFault};
 
 use peers_file::files_have_one_meaning;
 
@@ -16,6 +18,16 @@ pub fn folders_open_once()
     ensures { (key : Option (List ℕ)) (chain : Chain) (past : Past) (map : Option Asmap) →
         IfSome (under (files_on past.now) name.Peers) (All (λ b. b < 256)) →
         OpensOnce key chain (Some past) map }
+{
+    files_have_one_meaning()
+}
+
+/// Whatever bytes peers.dat has, if there is such a file: two asmaps with too many changes are
+/// reported for that only if the file is not refused.
+pub fn changes_are_counted_last()
+    ensures { (peers : Option Chain) (past : Past) (fault : PeersFault) →
+        IfSome (under (files_on past.now) name.Peers) (All (λ b. b < 256)) →
+        HaveTooMany peers (Some past) → ¬ RefusesRecords peers (Some past) fault }
 {
     files_have_one_meaning()
 }

@@ -42,7 +42,7 @@ mod top;
 mod trial;
 mod trial_line;
 
-pub use law::folders_open_once;
+pub use law::{changes_are_counted_last, folders_open_once};
 pub use net_addr::Memory;
 pub use peers_fault::PeersFault;
 pub use report::{code, status_line};

@@ -8,14 +8,14 @@ ghost use Rattle.slot_grid.specs.declared.sizes.TheConstants.{ALL_SLOTS};
 ghost use Rattle.table_machine.specs.Restoring.{duplicate};
 ghost use Rattle.table_machine.specs.Sound.{IsSound};
 ghost use Rattle.addrman_run.specs.Asmaps.{IsMapIn};
-ghost use Rattle.addrman_run.specs.Inside.{IsKeyless, IsMapOf, IsNoMap, IsNoSnapshot, IsNotOpened, IsNotRestored, OpensWith};
+ghost use Rattle.addrman_run.specs.Inside.{IsKeyless, IsMapOf, IsNoMap, IsNoSnapshot, IsNoTables, IsNotOpened, IsNotRestored, OpensWith};
 ghost use Rattle.addrman_run.specs.Opening.{IsUnopened, Opened, tables_of};
 
 use crate::input::{Input, load_input};
 use crate::{PeersFault, Status};
 use asmap_vm::{CodeFault, Sane, check};
 use bit_code::MAX_ASMAP;
-use host_io::{Bytes, Folder};
+use host_io::{Bytes, Folder, Name};
 use peer_rec::Snapshot;
 use peers_file::{Chain, FileFault, read_file};
 use placing::Placer;
@@ -163,7 +163,6 @@ pub(crate) fn open_folder<'a, F: Folder, H: BuildHasher + Drop>(
 ) -> Result<Tables<'a, H>, Status>
     ensures found { IfOk result (Opened key chain (F.past folder.old)) }
     ensures small { IfOk result (λ tables. tables.next_number ≤ ALL_SLOTS) }
-    ensures sound { IfOk result (λ tables. IsSound tables) }
     ensures cause { IfErr result (IsUnopened key chain (F.past folder.old)) }
     ensures disk { IsCounted (Err Status.DiskFault)
         (F.faults folder.old) (F.faults folder.new) result }
@@ -178,4 +177,25 @@ pub(crate) fn open_folder<'a, F: Folder, H: BuildHasher + Drop>(
         Err(status) => return Err(status),
     };
     open_tables(alloc, hasher, key, chain, map, file)
+}
+
+/// Opens the tables of the folder's peers.dat, which have its asmap.
+pub(crate) fn open_peers<'a, F: Folder, H: BuildHasher + Drop>(
+    alloc: Global,
+    hasher: H,
+    chain: Chain,
+    asmap: &'a mut Option<Bytes>,
+    folder: &mut F,
+) -> Result<Tables<'a, H>, Status>
+    ensures found { IfOk result (Opened None chain (F.past folder.old)) }
+    ensures cause { IfErr result (IsNoTables chain (F.past folder.old)) }
+    ensures disk { IsCounted (Err Status.DiskFault)
+        (F.faults folder.old) (F.faults folder.new) result }
+    ensures same { F.past folder.new ≡ F.past folder.old }
+{
+    match open_folder(alloc, hasher, None, chain, asmap, folder) {
+        Ok(tables) => Ok(tables),
+        Err(Status::NoKey) => Err(Status::NoFile { name: Name::Peers }),
+        Err(status) => Err(status),
+    }
 }

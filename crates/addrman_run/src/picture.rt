@@ -1,12 +1,12 @@
-ghost use Rattle.std.specs.Prelude.{◌≡◌, ◌≢◌, IfOk, None};
+ghost use Rattle.std.specs.Prelude.{◌≡◌, ◌≢◌, IfOk};
 ghost use Rattle.log_run.specs.Counts.{IsCounted};
 ghost use Rattle.table_picture.specs.Picture.{picture_of};
 ghost use Rattle.addrman_run.specs.Inside.{TextEnds};
-ghost use Rattle.addrman_run.specs.Opening.{ReportsOpening};
+ghost use Rattle.addrman_run.specs.Opening.{ReportsTables};
 ghost use Rattle.addrman_run.specs.Picture.{IsPicture};
 ghost use Rattle.addrman_run.specs.TextOut.{TextOut};
 
-use crate::opening::open_folder;
+use crate::opening::open_peers;
 use crate::output::write_line;
 use crate::{Memory, Status};
 use group_counts::Lent;
@@ -20,7 +20,7 @@ use steps::Steps;
 use table_picture::put_picture;
 use tables::Tables;
 
-/// Writes the picture of the tables that a replay without a key begins with.
+/// Writes the picture of the tables of the folder's peers.dat under its asmap.
 pub(crate) fn picture<F: Folder, K: Sink, H: BuildHasher + Drop>(
     alloc: Global,
     hasher: H,
@@ -28,7 +28,7 @@ pub(crate) fn picture<F: Folder, K: Sink, H: BuildHasher + Drop>(
     folder: &mut F,
     out: &mut K,
 ) -> Status
-    ensures text { TextOut (IsPicture chain) (ReportsOpening None chain)
+    ensures text { TextOut (IsPicture chain) (ReportsTables chain)
         (F.past folder.old) (K.written out.old) (K.written out.new) result }
     ensures disk { IsCounted Status.DiskFault (F.faults folder.old) (F.faults folder.new) result }
     ensures write { IsCounted Status.WriteFault (K.faults out.old) (K.faults out.new) result }
@@ -47,13 +47,13 @@ fn draw<'a, F: Folder, K: Sink, H: BuildHasher + Drop>(
     folder: &mut F,
     out: &mut K,
 ) -> Status
-    ensures text { TextOut (IsPicture chain) (ReportsOpening None chain)
+    ensures text { TextOut (IsPicture chain) (ReportsTables chain)
         (F.past folder.old) (K.written out.old) (K.written out.new) result }
     ensures disk { IsCounted Status.DiskFault (F.faults folder.old) (F.faults folder.new) result }
     ensures write { IsCounted Status.WriteFault (K.faults out.old) (K.faults out.new) result }
     ensures same { F.past folder.new ≡ F.past folder.old }
 {
-    match open_folder(alloc, Lent::of(hasher), None, chain, asmap, folder) {
+    match open_peers(alloc, Lent::of(hasher), chain, asmap, folder) {
         Ok(tables) => write_picture(alloc, hasher, &tables, out),
         Err(status) => status,
     }

@@ -1,11 +1,11 @@
-ghost use Rattle.std.specs.Prelude.{◌≡◌, IfOk, None};
+ghost use Rattle.std.specs.Prelude.{◌≡◌, IfOk};
 ghost use Rattle.log_run.specs.Counts.{IsCounted};
 ghost use Rattle.node_json.specs.Value.{IsJsonText};
-ghost use Rattle.addrman_run.specs.Opening.{ReportsOpening};
+ghost use Rattle.addrman_run.specs.Opening.{ReportsTables};
 ghost use Rattle.addrman_run.specs.TablesJson.{IsTablesText, json_of};
 ghost use Rattle.addrman_run.specs.TextOut.{TextOut};
 
-use crate::opening::open_folder;
+use crate::opening::open_peers;
 use crate::output::write_line;
 use crate::{Memory, Status};
 use group_counts::Lent;
@@ -63,7 +63,7 @@ pub(crate) fn write_tables_json<F: Folder, K: Sink, H: BuildHasher + Drop>(
     folder: &mut F,
     out: &mut K,
 ) -> Status
-    ensures text { TextOut (IsTablesText which chain) (ReportsOpening None chain)
+    ensures text { TextOut (IsTablesText which chain) (ReportsTables chain)
         (F.past folder.old) (K.written out.old) (K.written out.new) result }
     ensures disk { IsCounted Status.DiskFault (F.faults folder.old) (F.faults folder.new) result }
     ensures write { IsCounted Status.WriteFault (K.faults out.old) (K.faults out.new) result }
@@ -83,13 +83,13 @@ fn write_opened<'a, F: Folder, K: Sink, H: BuildHasher + Drop>(
     folder: &mut F,
     out: &mut K,
 ) -> Status
-    ensures text { TextOut (IsTablesText which chain) (ReportsOpening None chain)
+    ensures text { TextOut (IsTablesText which chain) (ReportsTables chain)
         (F.past folder.old) (K.written out.old) (K.written out.new) result }
     ensures disk { IsCounted Status.DiskFault (F.faults folder.old) (F.faults folder.new) result }
     ensures write { IsCounted Status.WriteFault (K.faults out.old) (K.faults out.new) result }
     ensures same { F.past folder.new ≡ F.past folder.old }
 {
-    let tables = match open_folder(alloc, Lent::of(hasher), None, chain, asmap, folder) {
+    let tables = match open_peers(alloc, Lent::of(hasher), chain, asmap, folder) {
         Ok(tables) => tables,
         Err(status) => return status,
     };

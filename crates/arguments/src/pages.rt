@@ -76,8 +76,8 @@ Writes   one SVG: both tables, with the six source groups that have the most slo
          colours, and a list of them.
 CHAIN    main, test, signet or regtest; main if it is left out.
 Codes    0 done, 2 bad usage, 4 peers.dat is refused, 5 asmap.dat is refused,
-         8 the output cannot be written, 9 the folder failed, 11 peers.dat is missing,
-         12 out of memory.
+         8 the output cannot be written, 9 the folder failed, 12 out of memory,
+         14 peers.dat is missing.
 ",
 );
 
@@ -89,8 +89,8 @@ Reads    peers.dat; asmap.dat, if it is there.
 Writes   what Bitcoin Core's getrawaddrman returns.
 CHAIN    main, test, signet or regtest; main if it is left out.
 Codes    0 done, 2 bad usage, 4 peers.dat is refused, 5 asmap.dat is refused,
-         8 the output cannot be written, 9 the folder failed, 11 no peers.dat,
-         12 out of memory.
+         8 the output cannot be written, 9 the folder failed, 12 out of memory,
+         14 peers.dat is missing.
 ",
 );
 
@@ -102,8 +102,8 @@ Reads    peers.dat; asmap.dat, if it is there.
 Writes   what Bitcoin Core's getaddrmaninfo returns.
 CHAIN    main, test, signet or regtest; main if it is left out.
 Codes    0 done, 2 bad usage, 4 peers.dat is refused, 5 asmap.dat is refused,
-         8 the output cannot be written, 9 the folder failed, 11 no peers.dat,
-         12 out of memory.
+         8 the output cannot be written, 9 the folder failed, 12 out of memory,
+         14 peers.dat is missing.
 ",
 );
 
@@ -116,8 +116,8 @@ Writes   for each group its slots, buckets and records; their sums; how many AS 
          asmap.dat gives the records, and how many of these it gives none.
 CHAIN    main, test, signet or regtest; main if it is left out.
 Codes    0 done, 2 bad usage, 4 peers.dat is refused, 5 asmap.dat is refused,
-         8 the output cannot be written, 9 the folder failed, 11 no peers.dat,
-         12 out of memory.
+         8 the output cannot be written, 9 the folder failed, 12 out of memory,
+         14 peers.dat is missing.
 ",
 );
 

@@ -1,6 +1,7 @@
 use Rattle.std.proofs.Common.{Some, Err, ap, ◌∙◌, rules, subst}
 use Rattle.placing.specs.Inside.{asmap_of}
 use Rattle.addrman_run.specs.Asmaps.{IsMapIn, RefusesAsmap}
+use Rattle.addrman_run.specs.Diff.{AreRecordLines}
 use Rattle.addrman_run.specs.Inside.{IsNoRecords}
 use Rattle.addrman_run.proofs.Diffs.{no_new_map, no_records}
 use Rattle.addrman_run.proofs.diff.text_from.Goals as goal
@@ -23,5 +24,13 @@ returns-in-Err-records_text-clause-cause g c =
 
 pub returns-in-Err-TooMany-clause-cause : goal.returns-in-Err-TooMany-clause-cause
 returns-in-Err-TooMany-clause-cause g c =
-    let new : IsMapIn (g.F.Folder.past c.args.folder.now) (Some (asmap_of c.in-Ok-check.new)) = search rules in
-    (asmap_of c.args.old.now, asmap_of c.in-Ok-check.new, (c.requires, new), c.changes_text.ensures.cause (c.in-Err-TooMany.is ∙ ap Err c.in-Err-TooMany.field-0-is))
+    let past = g.F.Folder.past c.args.folder.now in
+    let new : IsMapIn past (Some (asmap_of c.in-Ok-check.new)) = search rules in
+    let records = subst (λ p. AreRecordLines c.args.peers (asmap_of c.args.old.now) (asmap_of c.in-Ok-check.new) p c.in-Ok-records_text.records.items)
+    c.load_present.ensures.same c.in-Ok-records_text.ensures.found in (
+      asmap_of c.args.old.now,
+      asmap_of c.in-Ok-check.new,
+      (c.requires, new),
+      c.changes_text.ensures.cause (c.in-Err-TooMany.is ∙ ap Err c.in-Err-TooMany.field-0-is),
+      (c.in-Ok-records_text.records.items, records),
+    )

@@ -3,7 +3,7 @@ use Rattle.placing.specs.Inside.{map_of}
 use Rattle.addrman_run.specs.Inside.{IsLoadFault}
 use Rattle.addrman_run.specs.Opening.{HasMap}
 use Rattle.addrman_run.specs.declared.input.Input.TheVariants as input
-use Rattle.addrman_run.proofs.Openings.{err_so, found_before, no_peers, not_opened, ok_so, opens}
+use Rattle.addrman_run.proofs.Openings.{err_so, found_before, no_peers, not_opened, ok_both, opens}
 use Rattle.addrman_run.proofs.opening.open_folder.Goals as goal
 
 pub returns-in-Err-load_input-clause-cause : goal.returns-in-Err-load_input-clause-cause
@@ -17,14 +17,15 @@ pub returns-clause-found : goal.returns-clause-found
 returns-clause-found g c =
     let past = g.F.Folder.past c.args.folder.now in
     let map = map_of c.in-Ok.map in
-    ok_so _ _ c.open_tables.result
-    (λ tables is. record {
+    ok_both _ _ _ c.open_tables.result
+    (λ tables is sound. record {
       map = map;
       has_map = c.in-Ok.ensures.found;
       opens = opens c.args.key c.args.chain past c.in-Ok-load_input.file map tables
           (found_before _ past c.in-Ok-load_input.file c.open_map.ensures.same c.in-Ok-load_input.ensures.found) is;
+      sound = sound;
     })
-    c.open_tables.ensures.found
+    c.open_tables.ensures.found c.open_tables.ensures.sound
 
 pub returns-clause-cause : goal.returns-clause-cause
 returns-clause-cause g c =

@@ -13,7 +13,7 @@ returns-clause-outcome g c =
     (by_status (Replayed c.args.key c.args.chain old new) (NotOpened c.args.key c.args.chain old new) c.run_log.result
     (replayed g.F.Folder.past g.F.Folder.faults c.args.key c.args.chain c.in-Ok.tables c.make-session.result old new c.open_folder.new.folder c.run_log.new.world c.run_log.result
     c.in-Ok.ensures.found (starts c.args.chain c.in-Ok.tables c.make-session.result c.open.result c.make-session.ensures c.open.ensures)
-    c.in-Ok.ensures.sound c.in-Ok.ensures.small c.open_folder.ensures.same c.open_folder.ensures.disk.0 refl refl c.run_log.ensures.ran))
+    c.in-Ok.ensures.small c.open_folder.ensures.same c.open_folder.ensures.disk.0 refl refl c.run_log.ensures.ran))
 
 pub returns-clause-read : goal.returns-clause-read
 returns-clause-read g c = read_counted c.run_log.result _ _ _ c.status_of.ensures c.run_log.ensures.read
