@@ -12,6 +12,7 @@ pub mod There
 pub mod Balance
 pub mod SomeOf
 pub mod Residues
+pub mod Prefixes
 pub mod SearchOf
 pub mod RoundsOf
 pub mod BoundOf

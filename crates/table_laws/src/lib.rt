@@ -18,4 +18,4 @@ pub use picks::{picks_are_counted, rounds_are_counted};
 pub use restarts::restarts_keep_records;
 pub use samples::{samples_are_shuffles, shuffles_are_fair};
 pub use searches::{rounds_are_of_three_kinds, searches_are_counted, searches_share_alike};
-pub use words::residues_decide;
+pub use words::{first_words_decide, residues_decide};

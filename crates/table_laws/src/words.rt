@@ -1,5 +1,6 @@
 ghost use Rattle.std.specs.List.{range_with_len};
-ghost use Rattle.std.specs.Prelude.{ℕ, Bool, List, ◌≡◌, ◌==◌, ◌<◌, ◌*◌, ◌%◌, ◌^◌, count_by, map};
+ghost use Rattle.std.specs.Prelude.{ℕ, Bool, List, ◌≡◌, ◌≢◌, ◌==◌, ◌<◌, ◌++◌, ◌*◌, ◌%◌, ◌^◌, count_by, map};
+ghost use Rattle.peer_rec.specs.declared.picked.Picked.TheVariants.{Exhausted};
 ghost use Rattle.peer_rec.specs.declared.rec.Rec.{Rec};
 ghost use Rattle.slot_grid.specs.declared.sizes.TheConstants.{SLOTS};
 ghost use Rattle.table_machine.specs.Picks.{bucket_count, candidate, is_accepted, select};
@@ -19,4 +20,11 @@ pub fn residues_decide()
         ≡ select st new_only nets words now }
     ensures even { (n residue times : ℕ) → residue < n →
         count_by (λ word. word % n == residue) (range_with_len 0 (times * n)) ≡ times }
+{}
+
+/// A pick that ends keeps its answer if more random words follow, so it depends on none of them.
+pub fn first_words_decide()
+    ensures { (st : State) (new_only : Bool) (nets words more : List ℕ) (now : ℕ) →
+        select st new_only nets words now ≢ Exhausted →
+        select st new_only nets (words ++ more) now ≡ select st new_only nets words now }
 {}
