@@ -1,10 +1,10 @@
 ghost use Rattle.std.specs.Prelude.{◌≡◌};
 ghost use Rattle.opener_lines.specs.Tries.{pick_of_feeler, pick_of_try};
 
-use random_words::Draws;
 use manager::Manager;
 use net_addr::{NetSet, Peer};
 use picking::{Picked, select_by};
+use random_words::Draws;
 use std::hash::BuildHasher;
 use std::sync::ledger::Ledger;
 use steps::Steps;

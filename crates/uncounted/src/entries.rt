@@ -3,7 +3,6 @@ ghost use Rattle.table_machine.specs.Entries.{add};
 ghost use Rattle.taking.specs.Taking.{IsAdded, IsMessageFault};
 
 use addr_codecs::Form;
-use taking::{Added, MessageFault};
 use net_addr::{Entry, NetAddr};
 use std::alloc::Global;
 use std::hash::BuildHasher;
@@ -11,6 +10,7 @@ use std::marker::Brand;
 use std::sync::ledger::{Blank, Ledger};
 use steps::Steps;
 use tables::{Memory, Tables};
+use taking::{Added, MessageFault};
 
 /// Adds an entry that `source` announced, with a penalty in seconds and a random word, at a time in
 /// seconds since 1970. Returns `true` if the entry's peer gets a slot. If memory runs out, nothing
