@@ -8,8 +8,8 @@ pub(crate) const HEAD: &str = "usage: addrman COMMAND [ARGUMENTS]
 
 /// What the list of the commands ends with.
 pub(crate) const TAIL: &str = "
-Files are in the current folder. Never run it in the folder of a running node: a save
-replaces peers.dat. `addrman help COMMAND` says more of a command.
+Files are in the current folder. In that of a running node use no replay, compile, ban or
+unban: they replace its files. `addrman help COMMAND` says more of a command.
 ";
 
 pub(crate) const REPLAY: Page = (
