@@ -14,10 +14,15 @@ class Source:
         self.rules = {}
         self.brought = set()
         self.tail = ''
+        self.place = {id(token): at for at, token in enumerate(self.tokens)}
+        self.changed = True
         self.settle()
 
     def settle(self):
         """Lists the tokens of the code that are left, and matches their brackets."""
+        if not self.changed:
+            return
+        self.changed = False
         self.code = [t for t in self.tokens if t.kind not in TRIVIA and not t.gone]
         self.mate = {}
         stack = []
@@ -33,7 +38,6 @@ class Source:
                 self.mate[self.mate[at]] = at
         if stack:
             raise Refused(self.path, self.code[stack[-1]].line, 'a bracket that does not close')
-        self.place = {id(token): at for at, token in enumerate(self.tokens)}
 
     def text(self, at):
         """The text of a token of the code, and nothing past the ends."""
@@ -60,6 +64,7 @@ class Source:
         for token in self.tokens[first:last + 1]:
             if not token.gone:
                 token.gone = rule
+        self.changed = True
         self.count(rule)
 
     def drop_item(self, start, end, rule):
