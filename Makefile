@@ -18,6 +18,7 @@
 # make lib-test   tries it from C, C++, Rust and Python, beside the built program
 # make ci-lib-test  the same with what rt ci has just proved and built in this clone
 # make ci-program-test  endings, mistakes and examples with what rt ci has just proved and built in this clone
+# make ci-plain-test  what make and make check do, and its program beside that which rt ci has just built
 # make packed     tries make install, make uninstall and make dist
 # make figures    prints lines, words and the like, and checks the names that docs/DEFINITIONS.md lists
 # make install    copies program, manual page, completion, docs/FORMATS.md, and the library for C if
@@ -116,6 +117,13 @@ ci-program-test:
 	tools/endings crates/addrman/out/addrman
 	tools/mistakes crates/addrman/out/addrman
 	tools/examples crates/addrman/out/addrman
+
+# The same sources, built by cargo from nothing, beside the program that rt ci has just built.
+ci-plain-test:
+	rm -rf bin/plain bin/target
+	$(MAKE) all
+	tools/check_plain --cases 500
+	tools/twins bin/addrman crates/addrman/out/addrman
 
 packed: bin/addrman
 	tools/packed

@@ -1,6 +1,7 @@
 """The texts of `help` and `version`, which stand in the source of the program."""
 
 import re
+import subprocess
 from pathlib import Path
 
 CRATES = Path(__file__).resolve().parent.parent / "crates"
@@ -23,6 +24,14 @@ def constants(path: Path, form: str) -> list[tuple[str, list[str]]]:
 PAGES = {name: texts for name, texts in constants(CRATES / "arguments/src/pages.rt", "Page")}
 OTHERS = dict(constants(CRATES / "arguments/src/pages.rt", "&str"))
 VERSION = dict(constants(CRATES / "addrman_run/src/help.rt", "&str"))["version"][0]
+
+
+def version_of(program: str) -> str:
+    """What `version` prints in a program: VERSION, or what tools/plain writes in its place."""
+    said = subprocess.run([program, "version"], stdout=subprocess.PIPE, text=True, check=True).stdout
+    built = re.sub(r"built with cargo at ([0-9a-f]{12}( and changes)?|an unknown commit), from sources for",
+                   "proved with", said)
+    return said if built == VERSION else VERSION
 
 
 def entry(name: str) -> str:

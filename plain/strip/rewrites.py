@@ -3,11 +3,12 @@
 Each rule is a difference between the two languages, and knows nothing of a crate here.
 """
 from names import items, mentions, starts_path, uses
-from tokens import IDENT
+from tokens import IDENT, STRING
 
 # The modules of std that Rust has as Rattle has them. The others are those of plain/std.
 SAME = {'array', 'cell', 'cmp', 'fmt', 'marker', 'mem', 'net', 'num', 'ops', 'ptr', 'str'}
 STD = 'plain_std'
+PROVED = 'proved with rattle-kit-'
 
 # Methods that take the allocator in Rattle, and nothing in Rust.
 WITH_ALLOCATOR = ('collect', 'to_string', 'to_vec')
@@ -170,6 +171,15 @@ def prelude(source):
     source.put_on_top(lines, 'prelude')
 
 
-def rewrite_all(source):
+def builder(source, commit):
+    """A text that names the toolchain which proved the program says who built this one, of what."""
+    for at, token in enumerate(source.code):
+        if token.kind == STRING and PROVED in token.text:
+            built = 'built with cargo at %s, from sources for rattle-kit-' % commit
+            source.replace(at, token.text.replace(PROVED, built), 'name of the toolchain')
+
+
+def rewrite_all(source, commit):
+    builder(source, commit)
     for rewrite in (paths_of_std, methods, plain_enums, c_functions, prelude, entry):
         rewrite(source)

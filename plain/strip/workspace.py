@@ -20,6 +20,7 @@ name = "%s"
 version.workspace = true
 edition.workspace = true
 publish.workspace = true
+rust-version.workspace = true
 
 # Some parameters, fields and functions are there for contracts alone.
 [lints.rust]
@@ -65,7 +66,21 @@ def read_sources(root, crates):
     return sources
 
 
-def strip(sources):
+def commit_of(root):
+    """The commit of a checkout, and whether files that the script reads differ from it."""
+    def git(*words):
+        done = subprocess.run(['git', '-C', root, *words], stdout=subprocess.PIPE,
+                              stderr=subprocess.DEVNULL, text=True, check=False)
+        return done.stdout.strip() if done.returncode == 0 else ''
+
+    commit = git('rev-parse', '--short=12', 'HEAD') if shutil.which('git') else ''
+    if not commit:
+        return 'an unknown commit'
+    changed = git('status', '--porcelain', '--', 'crates', 'crates.txt', 'plain')
+    return commit + (' and changes' if changed else '')
+
+
+def strip(sources, commit):
     """Takes the proofs out of all files, and writes what Rust says in another way."""
     for source in sources:
         drop_all(source)
@@ -74,7 +89,7 @@ def strip(sources):
     drop_ledgers(sources)
     drop_unread(sources)
     for source in sources:
-        rewrite_all(source)
+        rewrite_all(source, commit)
         check_shapes(source)
 
 
@@ -92,6 +107,19 @@ def has_packages(names):
         return False
     there = {entry.rsplit('-', 1)[0] for entry in os.listdir(REGISTRY)}
     return all(name in there for name in names)
+
+
+def why_not(root):
+    """Why the workspace cannot be built here without a network, or nothing if it can."""
+    workspace, registry = versions_of(os.path.join(root, 'plain'))
+    least = re.search(r'^rust-version = "([0-9.]+)"', workspace, re.M).group(1)
+    if not shutil.which('cargo') or not shutil.which('rustc'):
+        return 'cargo or rustc is not there'
+    said = subprocess.run(['rustc', '--version'], stdout=subprocess.PIPE, text=True, check=False)
+    found = re.match(r'rustc (\d+)\.(\d+)', said.stdout)
+    if not found or [int(n) for n in found.groups()] < [int(n) for n in least.split('.')]:
+        return 'rustc is older than %s' % least
+    return '' if has_packages(registry) else 'the packages of plain/README.md are not there'
 
 
 def cargo_toml(crate, words, deps, left, plain, registry):
@@ -183,7 +211,7 @@ def write_workspace(root, out):
     crates = read_crates(os.path.join(root, 'crates.txt'))
     sources = read_sources(root, crates)
     everything = list(sources)
-    strip(sources)
+    strip(sources, commit_of(root))
     workspace, registry = versions_of(plain)
     left = {source.crate for source in sources if source.rel in ('lib.rt', 'main.rt')}
     files = {}
