@@ -1,5 +1,8 @@
 // Which slots are alike: the classes of the chosen mode, with a name, a colour and a count each.
-const AGES = [["under a day", 1], ["1 to 3 days", 3], ["3 to 7 days", 7], ["1 to 4 weeks", 28], ["4 weeks or more", Infinity]];
+const AGES = [
+  ["under a day", 1], ["1 to 3 days", 3], ["3 to 7 days", 7], ["1 to 4 weeks", 28],
+  ["4 weeks or more", Infinity]
+];
 const LISTED = 6;
 const probe = document.createElement("i");
 probe.hidden = true;
@@ -11,7 +14,8 @@ function colour(name) {
   return getComputedStyle(probe).color.match(/[\d.]+/g).slice(0, 3).map(Number);
 }
 
-// The group that the place of a slot depends on: that of the source in the new table, its peer's in the tried one.
+// The group that the place of a slot depends on: that of the source in the new table, its peer's in
+// the tried one.
 const placedBy = i => (i < NEW_SLOTS ? data.sourceGroup : data.group)[data.slots[i]];
 const groupAt = i => data.names[placedBy(i)];
 const ageClass = (newest, time) => AGES.findIndex(([, days]) => newest - time < days * DAY);
@@ -22,19 +26,35 @@ function isAsBefore(i) {
   return then >= 0 && before.form[then] === data.form[now] && before.port[then] === data.port[now];
 }
 
+// The class of a slot by when its peer was reached last.
+function successClass(i) {
+  const time = data.success ? data.success[data.slots[i]] : -1;
+  return time < 0 ? AGES.length + 1 : time === 0 ? AGES.length : ageClass(data.newest, time);
+}
+
+// The class of a slot by the failed tries of its peer.
+function triesClass(i) {
+  const count = data.tries ? data.tries[data.slots[i]] : -1;
+  return count < 0 ? 4 : Math.min(3, count);
+}
+
+const OTHERS = [["never", "--other"], ["not known", "--other"]];
+const TRIES = [["none", "--a1"], ["1", "--a2"], ["2", "--a3"], ["3 or more", "--a4"], OTHERS[1]];
+const IN_SET = [["in my prefixes", "--lit"], ["others", "--rest"]];
+const CHANGES =
+  [["came since the file before", "--lit"], ["as before", "--rest"], ["free since", "--gone"]];
+const NETS = NETWORKS.map((name, k) => [name, k < LISTED ? `--c${k}` : "--other"]);
+const STEPS_OF_AGE = AGES.map(([name], k) => [name, `--a${k}`]);
+const SUCCESSES = [...STEPS_OF_AGE.map(([name, paint]) => [name + " ago", paint]), ...OTHERS];
+
+// Of each mode the classes, with name and colour, and which of them a slot in use is in.
 const MODES = {
-  network: () => [NETWORKS.map((name, k) => [name, k < LISTED ? `--c${k}` : "--other"]), i => data.network[data.slots[i]]],
-  age: () => [AGES.map(([name], k) => [name, `--a${k}`]), i => ageClass(data.newest, data.time[data.slots[i]])],
-  success: () => [[...AGES.map(([name], k) => [name + " ago", `--a${k}`]), ["never", "--other"], ["not known", "--other"]], i => {
-    const time = data.success ? data.success[data.slots[i]] : -1;
-    return time < 0 ? AGES.length + 1 : time === 0 ? AGES.length : ageClass(data.newest, time);
-  }],
-  tries: () => [[["none", "--a1"], ["1", "--a2"], ["2", "--a3"], ["3 or more", "--a4"], ["not known", "--other"]], i => {
-    const count = data.tries ? data.tries[data.slots[i]] : -1;
-    return count < 0 ? 4 : Math.min(3, count);
-  }],
-  set: () => [[["in my prefixes", "--lit"], ["others", "--rest"]], i => setMask && setMask[data.slots[i]] ? 0 : 1],
-  change: () => [[["came since the file before", "--lit"], ["as before", "--rest"], ["free since", "--gone"]], i => !data.before || isAsBefore(i) ? 1 : 0],
+  network: () => [NETS, i => data.network[data.slots[i]]],
+  age: () => [STEPS_OF_AGE, i => ageClass(data.newest, data.time[data.slots[i]])],
+  success: () => [SUCCESSES, successClass],
+  tries: () => [TRIES, triesClass],
+  set: () => [IN_SET, i => setMask && setMask[data.slots[i]] ? 0 : 1],
+  change: () => [CHANGES, i => !data.before || isAsBefore(i) ? 1 : 0],
   source: () => groupClasses(i => data.sourceGroup[data.slots[i]]),
   group: () => groupClasses(i => data.group[data.slots[i]]),
   placed: () => groupClasses(placedBy),
@@ -43,8 +63,12 @@ const MODES = {
 // The six groups with most slots, and all others.
 function groupClasses(pick) {
   const counts = new Map();
-  for (let i = 0; i < CELLS; i++) if (data.slots[i] >= 0) counts.set(pick(i), (counts.get(pick(i)) || 0) + 1);
-  const most = [...counts].sort((a, b) => b[1] - a[1] || (data.names[a[0]] < data.names[b[0]] ? -1 : 1)).slice(0, LISTED).map(([g]) => g);
+  for (let i = 0; i < CELLS; i++)
+    if (data.slots[i] >= 0) counts.set(pick(i), (counts.get(pick(i)) || 0) + 1);
+  const most = [...counts]
+                 .sort((a, b) => b[1] - a[1] || (data.names[a[0]] < data.names[b[0]] ? -1 : 1))
+                 .slice(0, LISTED)
+                 .map(([g]) => g);
   const rank = new Map(most.map((g, k) => [g, k])), rest = counts.size - most.length;
   const list = most.map((g, k) => [data.names[g], `--c${k}`]);
   if (rest) list.push([`${number(rest)} other group${rest === 1 ? "" : "s"}`, "--other"]);
@@ -57,20 +81,23 @@ function classify() {
     if (data.slots[i] >= 0) of[i] = pick(i);
     else if (mode === "change" && data.before && data.before.slots[i] >= 0) of[i] = 2;
   }
-  const found = list.map(([name, paint]) => ({ name, paint, count: 0, buckets: 0, share: 0 })), last = Array(list.length).fill(-1);
-  for (let i = 0; i < CELLS; i++) if (of[i] >= 0) {
-    const one = found[of[i]];
-    one.count++;
-    if (i < NEW_SLOTS && last[of[i]] !== i >> 6) one.buckets++;
-    last[of[i]] = i >> 6;
-  }
+  const found = list.map(([name, paint]) => ({ name, paint, count: 0, buckets: 0, share: 0 })),
+        last = Array(list.length).fill(-1);
+  for (let i = 0; i < CELLS; i++)
+    if (of[i] >= 0) {
+      const one = found[of[i]];
+      one.count++;
+      if (i < NEW_SLOTS && last[of[i]] !== i >> 6) one.buckets++;
+      last[of[i]] = i >> 6;
+    }
   const counted = new Uint8Array(data.name.length);
-  if (data.share) for (let i = 0; i < CELLS; i++) {
-    const rec = data.slots[i];
-    if (rec < 0 || counted[rec]) continue;
-    counted[rec] = 1;
-    found[of[i]].share += data.share[rec];
-  }
+  if (data.share)
+    for (let i = 0; i < CELLS; i++) {
+      const rec = data.slots[i];
+      if (rec < 0 || counted[rec]) continue;
+      counted[rec] = 1;
+      found[of[i]].share += data.share[rec];
+    }
   return { list: found, of };
 }
 
@@ -85,7 +112,8 @@ function isLit(i) {
 function showMode() {
   $("set-row").hidden = $("mode").value !== "set";
   classes = classify();
-  if (highlight && highlight.kind === "class" && highlight.index >= classes.list.length) highlight = null;
+  if (highlight && highlight.kind === "class" && highlight.index >= classes.list.length)
+    highlight = null;
   showKey();
   showGroups();
   showChanges();
@@ -94,10 +122,24 @@ function showMode() {
 }
 
 function showKey() {
-  const mode = $("mode").value, isPressed = k => !!highlight && highlight.kind === "class" && highlight.index === k;
-  const more = (c, k) => mode !== "set" || k ? "" : `, in ${number(c.buckets)} of the 1,024 new buckets${data.share ? ", " + shareText(c.share) + " of picks" : ""}`;
-  $("key").innerHTML = classes.list.map((c, k) => c.count || mode === "set" ?
-    `<li><button type="button" data-index="${k}" aria-pressed="${isPressed(k)}"><i class="dot" style="background:var(${c.paint})"></i>${escape(c.name)} <span class="dim">${number(c.count)}${more(c, k)}</span></button></li>` : "").join("") +
-    `<li><span class="dim free"><i class="dot" style="background:var(--empty)"></i>free ${number(CELLS - data.used.new - data.used.tried)}</span></li>`;
+  const mode = $("mode").value,
+        isPressed = k => !!highlight && highlight.kind === "class" && highlight.index === k;
+  const more = (c, k) => mode !== "set" || k ?
+    "" :
+    `, in ${number(c.buckets)} of the 1,024 new buckets${
+      data.share ? ", " + shareText(c.share) + " of picks" : ""}`;
+  $("key").innerHTML =
+    classes.list
+      .map(
+        (c, k) => c.count || mode === "set" ?
+          `<li><button type="button" data-index="${k}" aria-pressed="${
+            isPressed(k)}"><i class="dot" style="background:var(${c.paint})"></i>${
+            escape(c.name
+            )} <span class="dim">${number(c.count)}${more(c, k)}</span></button></li>` :
+          ""
+      )
+      .join("") +
+    `<li><span class="dim free"><i class="dot" style="background:var(--empty)"></i>free ${
+      number(CELLS - data.used.new - data.used.tried)}</span></li>`;
   $("clear").hidden = !highlight;
 }

@@ -20,7 +20,8 @@ function startEngine() {
     else job.fail(Object.assign(new Error(error), { isRefused }));
   };
   worker.onerror = event => {
-    for (const job of jobs.values()) job.fail(new Error(event.message || "the worker cannot be started"));
+    for (const job of jobs.values())
+      job.fail(new Error(event.message || "the worker cannot be started"));
     jobs.clear();
   };
   return inflated($("wasm").textContent).then(wasm => post("start", { wasm }));

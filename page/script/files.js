@@ -1,12 +1,13 @@
-// The files that were given: those with peers by their dates, an asmap and a list of bans. `attack` is
-// there while the files are those of a made attack.
+// The files that were given: those with peers by their dates, an asmap and a list of bans. `attack`
+// is there while the files are those of a made attack.
 let snaps = [], asmap = null, bans = null, attack = null;
 const MAGICS = ["f9beb4d9", "0b110907", "0a03cf40", "fabfb5da"];
 const MAX_SIZE = 256e6;
 
 // What a JSON text of a node is, by the first of its member names.
 function kindOfJson(bytes) {
-  const start = new TextDecoder().decode(bytes.subarray(0, 4096)), found = /"([a-z_]+)"\s*:/.exec(start);
+  const start = new TextDecoder().decode(bytes.subarray(0, 4096)),
+        found = /"([a-z_]+)"\s*:/.exec(start);
   return found && found[1] === "banned_nets" ? "bans" : "json";
 }
 
@@ -24,7 +25,8 @@ function kindOf(path, bytes) {
 
 // The date of a file in milliseconds: one in its path, or when it was changed.
 function dateOf(path, changed) {
-  const found = path.match(/(20\d\d)[-_.]?([01]\d)[-_.]?([0-3]\d)(?:[T_ -]?([0-2]\d)[-_.:h]?([0-5]\d))?/);
+  const found =
+    path.match(/(20\d\d)[-_.]?([01]\d)[-_.]?([0-3]\d)(?:[T_ -]?([0-2]\d)[-_.:h]?([0-5]\d))?/);
   if (!found) return changed;
   const [, year, month, day, hour = 0, minute = 0] = found.map(Number);
   const time = Date.UTC(year, month - 1, day, hour || 0, minute || 0);
@@ -33,7 +35,10 @@ function dateOf(path, changed) {
 
 // The files of a folder that was dropped.
 async function entriesOf(entry) {
-  if (entry.isFile) return [await new Promise((done, fail) => entry.file(file => done({ file, path: entry.fullPath }), fail))];
+  if (entry.isFile)
+    return [await new Promise(
+      (done, fail) => entry.file(file => done({ file, path: entry.fullPath }), fail)
+    )];
   const reader = entry.createReader(), all = [];
   for (;;) {
     const some = await new Promise((done, fail) => reader.readEntries(done, fail));
@@ -52,11 +57,24 @@ async function take(given) {
     const bytes = new Uint8Array(await file.arrayBuffer()), kind = kindOf(path, bytes);
     if (kind === "asmap") newAsmap = { name: path, bytes };
     else if (kind === "bans") newBans = { name: path, bytes };
-    else peers.push({ name: path.replace(/^\//, ""), bytes, isJson: kind === "json", date: dateOf(path, file.lastModified) });
+    else
+      peers.push({
+        name: path.replace(/^\//, ""),
+        bytes,
+        isJson: kind === "json",
+        date: dateOf(path, file.lastModified)
+      });
   }
   stop();
-  if (attack) { attack = null; snaps = []; asmap = bans = null; }
-  if (newAsmap) { asmap = newAsmap; for (const snap of snaps) snap.view = null; }
+  if (attack) {
+    attack = null;
+    snaps = [];
+    asmap = bans = null;
+  }
+  if (newAsmap) {
+    asmap = newAsmap;
+    for (const snap of snaps) snap.view = null;
+  }
   if (newBans) bans = newBans;
   if (peers.length) {
     snaps = peers.sort((a, b) => a.date - b.date || (a.name < b.name ? -1 : 1));
@@ -64,19 +82,23 @@ async function take(given) {
     highlight = cursor = matched = setMask = null;
   }
   if (snaps.length) return show(at);
-  status(`${asmap ? fileName(asmap.name) + " is kept. " : ""}${bans ? fileName(bans.name) + " is kept. " : ""}Now drop peers.dat.`);
+  status(`${asmap ? fileName(asmap.name) + " is kept. " : ""}${
+    bans ? fileName(bans.name) + " is kept. " : ""}Now drop peers.dat.`);
   setState("ready");
 }
 
 async function onDrop(event) {
   event.preventDefault();
   document.body.classList.remove("over");
-  const items = [...event.dataTransfer.items].map(item => item.webkitGetAsEntry && item.webkitGetAsEntry());
+  const items =
+    [...event.dataTransfer.items].map(item => item.webkitGetAsEntry && item.webkitGetAsEntry());
   const files = [...event.dataTransfer.files];
   try {
-    const given = items.some(item => item && item.isDirectory) ? (await Promise.all(items.filter(Boolean).map(entriesOf))).flat()
-      : files.map(file => ({ file, path: file.name }));
-    if (!given.length) return fail("There is no file of a node in it: peers.dat, asmap.dat or banlist.json.");
+    const given = items.some(item => item && item.isDirectory) ?
+      (await Promise.all(items.filter(Boolean).map(entriesOf))).flat() :
+      files.map(file => ({ file, path: file.name }));
+    if (!given.length)
+      return fail("There is no file of a node in it: peers.dat, asmap.dat or banlist.json.");
     await take(given);
   } catch (error) { fail(error.message); }
 }

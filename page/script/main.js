@@ -1,20 +1,32 @@
 // What each control does, and the start.
 const on = (id, event, work) => $(id).addEventListener(event, work);
 let typing = 0;
-const later = (work, wait) => { clearTimeout(typing); typing = setTimeout(work, wait); };
+const later = (work, wait) => {
+  clearTimeout(typing);
+  typing = setTimeout(work, wait);
+};
 
 on("choose", "click", () => $("files").click());
 on("files", "change", () => {
-  const given = [...$("files").files].map(file => ({ file, path: file.webkitRelativePath || file.name }));
+  const given =
+    [...$("files").files].map(file => ({ file, path: file.webkitRelativePath || file.name }));
   $("files").value = "";
   take(given).catch(error => fail(error.message));
 });
-document.addEventListener("dragover", event => { event.preventDefault(); document.body.classList.add("over"); });
-document.addEventListener("dragleave", event => { if (!event.relatedTarget) document.body.classList.remove("over"); });
+document.addEventListener("dragover", event => {
+  event.preventDefault();
+  document.body.classList.add("over");
+});
+document.addEventListener("dragleave", event => {
+  if (!event.relatedTarget) document.body.classList.remove("over");
+});
 document.addEventListener("drop", onDrop);
 on("try", "click", tryAttack);
 on("play", "click", play);
-on("time", "input", () => { stop(); show(Number($("time").value)); });
+on("time", "input", () => {
+  stop();
+  show(Number($("time").value));
+});
 on("mode", "change", () => {
   if (highlight && highlight.kind === "class") highlight = null;
   if (!data) return;
@@ -33,7 +45,10 @@ on("filter", "input", () => data && showGroups());
 on("set", "input", () => later(applySet, 500));
 on("set-of", "change", applySet);
 on("set-bans", "click", takeBans);
-on("clear", "click", () => { setHighlight(null); $("search").focus(); });
+on("clear", "click", () => {
+  setHighlight(null);
+  $("search").focus();
+});
 on("key", "click", event => {
   const button = event.target.closest("button[data-index]");
   if (!button) return;
@@ -57,21 +72,30 @@ for (const table of TABLES) {
 }
 document.addEventListener("keydown", event => {
   if (event.key === "Escape" && data && highlight) setHighlight(null);
-  if (event.key === "/" && !/INPUT|SELECT|TEXTAREA/.test(event.target.tagName) && data) { event.preventDefault(); $("search").focus(); }
+  if (event.key === "/" && !/INPUT|SELECT|TEXTAREA/.test(event.target.tagName) && data) {
+    event.preventDefault();
+    $("search").focus();
+  }
 });
-on("save-view", "click", () => data && download(stem() + "-view.svg", viewAsSvg(), "image/svg+xml"));
+on(
+  "save-view", "click", () => data && download(stem() + "-view.svg", viewAsSvg(), "image/svg+xml")
+);
 on("save-picture", "click", () => saveOutput("picture", stem() + ".svg", "image/svg+xml"));
 on("save-raw", "click", saveRaw);
 on("save-list", "click", saveList);
 on("picture-box", "toggle", showPicture);
 on("peers-box", "toggle", showPeers);
-on("change-box", "toggle", () => { if ($("change-box").open && data && !data.before) show(at); else if (data) showChanges(); });
+on("change-box", "toggle", () => {
+  if ($("change-box").open && data && !data.before) show(at);
+  else if (data) showChanges();
+});
 on("peers-back", "click", () => turnPeers(-1));
 on("peers-on", "click", () => turnPeers(1));
 matchMedia("(prefers-color-scheme: dark)").addEventListener("change", () => data && drawMaps());
 new ResizeObserver(fit).observe($("view"));
 engineReady = startEngine();
 engineReady.then(() => {
-  $("version").textContent = "The engine has @SIZE@ bytes, SHA-256 @HASH@; it is built from addrman @COMMIT@.";
+  $("version").textContent =
+    "The engine has @SIZE@ bytes, SHA-256 @HASH@; it is built from addrman @COMMIT@.";
   document.documentElement.dataset.engine = "1";
 }, error => fail("The engine cannot be started: " + error.message));

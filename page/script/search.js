@@ -1,17 +1,23 @@
 // Peers by what is typed: a part of an address, a prefix, or a list of prefixes and AS numbers.
 
 // The rows of prefixes.txt for these words; a single address is a prefix of its whole length.
-const rowsOf = words => [...new Set(words)].map(word => {
-  const text = word.replace(/[[\]]/g, "");
-  return (text.includes("/") ? text : text + (text.includes(":") ? "/128" : "/32")) + " AS1\n";
-}).join("");
+const rowsOf =
+  words => [...new Set(words)]
+             .map(word => {
+               const text = word.replace(/[[\]]/g, "");
+               return (text.includes("/") ? text : text + (text.includes(":") ? "/128" : "/32")) +
+                 " AS1\n";
+             })
+             .join("");
 
 // The program's words about a prefix, without those about the file that the page makes of it.
-const prefixFault = text => text.replaceAll("prefixes.txt refused", "prefixes refused").replaceAll(' AS1"', '"');
+const prefixFault = text =>
+  text.replaceAll("prefixes.txt refused", "prefixes refused").replaceAll(' AS1"', '"');
 
 // Which of these addresses the prefixes cover, as a map.
 async function coverage(forms, words) {
-  const all = [...new Set(forms)], found = await ask("covered", { forms: all, rows: rowsOf(words) });
+  const all = [...new Set(forms)],
+        found = await ask("covered", { forms: all, rows: rowsOf(words) });
   return new Map(all.map((form, k) => [form, !!found[k]]));
 }
 
@@ -22,10 +28,15 @@ async function findMatches() {
   if (!words || !view) return [];
   if (/\/\d+$/.test(words)) {
     const inside = await coverage(view.form, [words]);
-    view.form.forEach((form, r) => { if (inside.get(form)) matched.add(r); });
+    view.form.forEach((form, r) => {
+      if (inside.get(form)) matched.add(r);
+    });
   } else {
     const part = words.replace(/^\[|\]$/g, "").replace(/\](:\d+)$/, "$1");
-    const findBy = fits => { for (let r = 0; r < view.name.length; r++) if (fits(`${view.name[r]}:${view.port[r]}`) || fits(view.form[r])) matched.add(r); };
+    const findBy = fits => {
+      for (let r = 0; r < view.name.length; r++)
+        if (fits(`${view.name[r]}:${view.port[r]}`) || fits(view.form[r])) matched.add(r);
+    };
     findBy(text => text.startsWith(part));
     if (!matched.size) findBy(text => text.includes(part));
   }
@@ -40,8 +51,17 @@ async function search() {
     const hits = await findMatches();
     if (words !== $("search").value) return;
     $("error").hidden = true;
-    $("hits").innerHTML = hits.map(r => `<li><button type="button" data-rec="${r}">${escape(peerText(r))} <span class="dim">${data.table[r] ? "tried" : "new"}</span></button></li>`).join("") +
-      `<li class="dim">${matched.size ? number(matched.size) + (matched.size === 1 ? " peer" : " peers") : "no peer has this in its address"}</li>`;
+    $("hits").innerHTML =
+      hits
+        .map(
+          r =>
+            `<li><button type="button" data-rec="${r}">${escape(peerText(r))} <span class="dim">${
+              data.table[r] ? "tried" : "new"}</span></button></li>`
+        )
+        .join("") +
+      `<li class="dim">${
+        matched.size ? number(matched.size) + (matched.size === 1 ? " peer" : " peers") :
+                       "no peer has this in its address"}</li>`;
     setHighlight({ kind: "search" });
     setState("ready");
   } catch (error) {
@@ -57,15 +77,20 @@ function goTo(rec) {
 
 // Reads the typed set, and marks the records that it has.
 async function readSet() {
-  const view = data, words = $("set").value.split(/[\s,;]+/).filter(Boolean), isPeer = $("set-of").value === "peer";
-  const isAs = word => /^AS\d+$/i.test(word), numbers = new Set(words.filter(isAs).map(word => word.toUpperCase()));
-  const forms = isPeer ? view.form : view.sourceForm, of = isPeer ? view.group : view.sourceGroup, prefixes = words.filter(word => !isAs(word));
+  const view = data, words = $("set").value.split(/[\s,;]+/).filter(Boolean),
+        isPeer = $("set-of").value === "peer";
+  const isAs = word => /^AS\d+$/i.test(word),
+        numbers = new Set(words.filter(isAs).map(word => word.toUpperCase()));
+  const forms = isPeer ? view.form : view.sourceForm, of = isPeer ? view.group : view.sourceGroup,
+        prefixes = words.filter(word => !isAs(word));
   const mask = new Uint8Array(view.name.length);
   setMask = mask;
-  for (let r = 0; r < mask.length; r++) if (numbers.has(view.names[of[r]])) mask[r] = 1;
+  for (let r = 0; r < mask.length; r++)
+    if (numbers.has(view.names[of[r]])) mask[r] = 1;
   if (!prefixes.length) return;
   const inside = await coverage(forms, prefixes);
-  for (let r = 0; r < mask.length; r++) if (inside.get(forms[r])) mask[r] = 1;
+  for (let r = 0; r < mask.length; r++)
+    if (inside.get(forms[r])) mask[r] = 1;
 }
 
 async function applySet() {
@@ -88,12 +113,16 @@ async function applySet() {
 
 // The bans that are in force.
 async function bansNow() {
-  return JSON.parse(await ask("output", { words: ["bans", String(Math.floor(Date.now() / 1000))], files: { "banlist.json": bans.bytes } }));
+  return JSON.parse(await ask("output", {
+    words: ["bans", String(Math.floor(Date.now() / 1000))],
+    files: { "banlist.json": bans.bytes }
+  }));
 }
 
 async function takeBans() {
   try {
-    $("set").value = (await bansNow()).map(ban => ban.address).filter(address => address.includes("/")).join(" ");
+    $("set").value =
+      (await bansNow()).map(ban => ban.address).filter(address => address.includes("/")).join(" ");
     $("set-of").value = "peer";
     await applySet();
   } catch (error) { fail(error.message); }
@@ -104,7 +133,9 @@ async function showBans() {
   if (!bans) return;
   try {
     const list = await bansNow();
-    $("bans").textContent = list.length ? list.map(ban => `${ban.address} until ${when(ban.banned_until)}`).join("\n") : "No ban is in force.";
+    $("bans").textContent = list.length ?
+      list.map(ban => `${ban.address} until ${when(ban.banned_until)}`).join("\n") :
+      "No ban is in force.";
   } catch (error) {
     $("bans").textContent = error.message;
     fail(error.message);

@@ -1,9 +1,27 @@
 "use strict";
 // Constants, and values as texts.
 const NEW_SLOTS = 65536, CELLS = 81920, DAY = 86400;
-const TABLES = ["new", "tried"], SIDE = { new: 32, tried: 16 }, FIRST = { new: 0, tried: NEW_SLOTS }, END = { new: NEW_SLOTS, tried: CELLS };
+const TABLES = ["new", "tried"], SIDE = {
+  new: 32,
+  tried: 16
+},
+      FIRST = {
+        new: 0,
+        tried: NEW_SLOTS
+      },
+      END = {
+        new: NEW_SLOTS,
+        tried: CELLS
+      };
 const NETWORKS = ["ipv4", "ipv6", "onion", "i2p", "cjdns", "internal", "not publicly routable"];
-const SERVICES = { 0: "NETWORK", 2: "BLOOM", 3: "WITNESS", 6: "COMPACT_FILTERS", 10: "NETWORK_LIMITED", 11: "P2P_V2" };
+const SERVICES = {
+  0: "NETWORK",
+  2: "BLOOM",
+  3: "WITNESS",
+  6: "COMPACT_FILTERS",
+  10: "NETWORK_LIMITED",
+  11: "P2P_V2"
+};
 const $ = id => document.getElementById(id);
 const number = n => n.toLocaleString("en-US");
 const percent = (part, whole) => whole ? (100 * part / whole).toFixed(1) + " %" : "none";
@@ -14,16 +32,21 @@ const fileName = path => path.split("/").pop();
 
 // A length of time in words.
 function lengthText(seconds) {
-  const [count, unit] = seconds < 5400 ? [seconds / 60, "min"] : seconds < 2 * DAY ? [seconds / 3600, "hours"] : [seconds / DAY, "days"];
+  const [count, unit] = seconds < 5400 ? [seconds / 60, "min"] :
+    seconds < 2 * DAY                  ? [seconds / 3600, "hours"] :
+                                         [seconds / DAY, "days"];
   return `${Math.round(count)} ${unit}`;
 }
 
 // The services of a peer by their names.
 function servicesText(text) {
   let bits;
-  try { bits = BigInt(text); } catch { return text; }
+  try {
+    bits = BigInt(text);
+  } catch { return text; }
   const names = [];
-  for (let i = 0n; i < 64n; i++) if (bits >> i & 1n) names.push(SERVICES[i] || `bit ${i}`);
+  for (let i = 0n; i < 64n; i++)
+    if (bits >> i & 1n) names.push(SERVICES[i] || `bit ${i}`);
   return text + (names.length ? ` (${names.join(", ")})` : "");
 }
 
@@ -33,7 +56,9 @@ const status = (text, isQuiet) => {
 };
 
 // What the page is doing: `busy`, `drawn` once tables are to be seen, `ready`, or `error`.
-const setState = state => { document.documentElement.dataset.state = state; };
+const setState = state => {
+  document.documentElement.dataset.state = state;
+};
 
 function fail(text) {
   $("error").textContent = text;

@@ -40,23 +40,39 @@ def replayed(program, folder, log, chain="main"):
     return os.path.join(folder, "peers.dat")
 
 
+def dotted(octets):
+    return ".".join(map(str, octets))
+
+
+def entry_of(time, octets):
+    """An entry of an `addr` message, with the services 9 and port 8333."""
+    mapped = bytes(10) + b"\xff\xff" + bytes(octets)
+    return time.to_bytes(4, "little") + (9).to_bytes(8, "little") + mapped + b"\x20\x8d"
+
+
+def message_of(source, entries, seed):
+    count = len(entries)
+    size = bytes([count]) if count < 253 else b"\xfd" + count.to_bytes(2, "little")
+    return f"addr {dotted(source)} {(size + b''.join(entries)).hex()} @{seed}:{count}\n"
+
+
 def log_of(seed, messages, entries):
     """Announcements of random IPv4 peers, and some tries."""
     draw = random.Random(seed)
-    now, lines = 1_700_000_000, ["now 1700000000\n"]
+    now, told, tried = 1_700_000_000, [], []
     for _ in range(messages):
         source = [draw.randrange(20, 90), draw.randrange(256), 1, 1]
-        data = bytes([253]) + entries.to_bytes(2, "little")
+        found = []
         for _ in range(entries):
-            peer = bytes([draw.randrange(20, 120), draw.randrange(256), draw.randrange(256), draw.randrange(1, 250)])
-            time = now - draw.randrange(20 * 86400)
-            data += time.to_bytes(4, "little") + (9).to_bytes(8, "little") + bytes(10) + b"\xff\xff" + peer + b"\x20\x8d"
+            middle = draw.randrange(65536)
+            peer = [draw.randrange(20, 120), middle >> 8, middle & 255, draw.randrange(1, 250)]
+            found.append(entry_of(now - draw.randrange(20 * 86400), peer))
             if draw.random() < 0.03:
-                lines.append(f"good {'.'.join(map(str, peer))}:8333 test\n")
+                tried.append(f"good {dotted(peer)}:8333 test\n")
             elif draw.random() < 0.05:
-                lines += [f"attempt {'.'.join(map(str, peer))}:8333 count\n"] * draw.randrange(1, 10)
-        lines.insert(1, f"addr {'.'.join(map(str, source))} {data.hex()} @{draw.randrange(1 << 30)}:{entries}\n")
-    return "".join(lines).encode()
+                tried += [f"attempt {dotted(peer)}:8333 count\n"] * draw.randrange(1, 10)
+        told.append(message_of(source, found, draw.randrange(1 << 30)))
+    return "".join([f"now {now}\n", *told, *tried]).encode()
 
 
 def with_sum(body):
@@ -65,6 +81,7 @@ def with_sum(body):
 
 
 # --- the share of picks, in fractions, from what `raw` and `show` print
+
 
 def starts_of(slots):
     """From how many slots of its bucket a round comes to each of these, in one bucket."""
@@ -121,5 +138,8 @@ def text_of(rec):
 
 def said_of(program, folder):
     """What the program says of the files of a folder: raw, groups, show."""
-    return (json.loads(output(program, ["raw"], folder)), json.loads(output(program, ["groups"], folder)),
-            output(program, ["show"], folder).decode())
+    return (
+        json.loads(output(program, ["raw"], folder)),
+        json.loads(output(program, ["groups"], folder)),
+        output(program, ["show"], folder).decode(),
+    )

@@ -1,16 +1,19 @@
 // same.mjs ENGINE.wasm PROGRAM [COUNT]: whether the engine of the page does what the program does.
 //
-// Hands the same arguments, input and files to both: those of examples/, and COUNT generated logs with
-// the files that they leave, whole, changed and cut. Compares exit code, output, standard error and all
-// files that are left. Ends with status 1 at a difference.
+// Hands the same arguments, input and files to both: those of examples/, and COUNT generated logs
+// with the files that they leave, whole, changed and cut. Compares exit code, output, standard
+// error and all files that are left. Ends with status 1 at a difference.
+import {spawnSync} from "child_process";
 import fs from "fs";
 import os from "os";
 import path from "path";
-import { spawnSync } from "child_process";
-import { fileURLToPath } from "url";
+import {fileURLToPath} from "url";
 
 const TOP = path.join(path.dirname(fileURLToPath(import.meta.url)), "..", "..");
-const NAMES = ["peers.dat", "peers.tmp", "asmap.dat", "asmap.tmp", "asmap.old", "prefixes.txt", "banlist.json", "banlist.tmp"];
+const NAMES = [
+  "peers.dat", "peers.tmp", "asmap.dat", "asmap.tmp", "asmap.old", "prefixes.txt", "banlist.json",
+  "banlist.tmp"
+];
 const KEY = ["--key", "0".repeat(64)];
 const [wasm, program, count = "40"] = process.argv.slice(2);
 const module = await WebAssembly.compile(fs.readFileSync(wasm));
@@ -27,21 +30,34 @@ function byEngine(words, files, log) {
   };
   const bytesAt = (at, length) => Buffer.from(new Uint8Array(x.memory.buffer, at >>> 0, length));
   x.set_hash_key(12345678901234567n, 9876543210n);
-  for (const [name, bytes] of Object.entries(files)) x.set_file(NAMES.indexOf(name), ...give(bytes));
+  for (const [name, bytes] of Object.entries(files))
+    x.set_file(NAMES.indexOf(name), ...give(bytes));
   for (const word of words) x.add_argument(...give(Buffer.from(word)));
   x.set_log(...give(Buffer.from(log)));
   const status = x.run(), left = {};
-  NAMES.forEach((name, i) => { if (x.has_file(i)) left[name] = bytesAt(x.file_at(i), x.file_len(i)); });
+  NAMES.forEach((name, i) => {
+    if (x.has_file(i)) left[name] = bytesAt(x.file_at(i), x.file_len(i));
+  });
   most = Math.max(most, x.memory.buffer.byteLength);
-  return { status, output: bytesAt(x.output_at(), x.output_len()), errors: bytesAt(x.errors_at(), x.errors_len()), files: left };
+  return {
+    status,
+    output: bytesAt(x.output_at(), x.output_len()),
+    errors: bytesAt(x.errors_at(), x.errors_len()),
+    files: left
+  };
 }
 
 // Runs the program in a folder with these files.
 function byProgram(words, files, log) {
   for (const name of fs.readdirSync(folder)) fs.rmSync(path.join(folder, name));
-  for (const [name, bytes] of Object.entries(files)) fs.writeFileSync(path.join(folder, name), bytes);
-  const done = spawnSync(path.resolve(program), words, { cwd: folder, input: log, maxBuffer: 1 << 30 }), left = {};
-  for (const name of NAMES) if (fs.existsSync(path.join(folder, name))) left[name] = fs.readFileSync(path.join(folder, name));
+  for (const [name, bytes] of Object.entries(files))
+    fs.writeFileSync(path.join(folder, name), bytes);
+  const done =
+          spawnSync(path.resolve(program), words, { cwd: folder, input: log, maxBuffer: 1 << 30 }),
+        left = {};
+  for (const name of NAMES)
+    if (fs.existsSync(path.join(folder, name)))
+      left[name] = fs.readFileSync(path.join(folder, name));
   return { status: done.status, output: done.stdout, errors: done.stderr, files: left };
 }
 
@@ -49,14 +65,23 @@ function byProgram(words, files, log) {
 function same(words, files = {}, log = "") {
   const wanted = byProgram(words, files, log);
   let found;
-  try { found = byEngine(words, files, log); } catch (error) { found = { status: error.message, output: Buffer.alloc(0), errors: Buffer.alloc(0), files: {} }; }
+  try {
+    found = byEngine(words, files, log);
+  } catch (error) {
+    found = { status: error.message, output: Buffer.alloc(0), errors: Buffer.alloc(0), files: {} };
+  }
   const names = new Set([...Object.keys(wanted.files), ...Object.keys(found.files)]);
-  const isSame = found.status === wanted.status && found.output.equals(wanted.output) && found.errors.equals(wanted.errors) &&
-    [...names].every(name => found.files[name] && wanted.files[name] && found.files[name].equals(wanted.files[name]));
+  const isSame = found.status === wanted.status && found.output.equals(wanted.output) &&
+    found.errors.equals(wanted.errors) &&
+    [...names].every(
+      name =>
+        found.files[name] && wanted.files[name] && found.files[name].equals(wanted.files[name])
+    );
   runs++;
   if (!isSame) {
     different++;
-    console.log(`different: ${words.join(" ")}: ${found.status} and ${wanted.status}\n  engine: ${found.errors}\n  program: ${wanted.errors}`);
+    console.log(`different: ${words.join(" ")}: ${found.status} and ${wanted.status}\n  engine: ${
+      found.errors}\n  program: ${wanted.errors}`);
   }
   return found;
 }
@@ -64,7 +89,13 @@ function same(words, files = {}, log = "") {
 function examples() {
   const read = name => fs.readFileSync(path.join(TOP, "examples", name));
   const asmap = read("asmap.dat"), peers = read("node/peers.dat");
-  const files = { "asmap.dat": asmap, "asmap.old": read("asmap.old"), "prefixes.txt": read("prefixes.txt"), "peers.dat": peers, "banlist.json": read("node/banlist.json") };
+  const files = {
+    "asmap.dat": asmap,
+    "asmap.old": read("asmap.old"),
+    "prefixes.txt": read("prefixes.txt"),
+    "peers.dat": peers,
+    "banlist.json": read("node/banlist.json")
+  };
   for (const name of ["all-networks.log", "every-line.log", "one-address.log", "saves.log"]) {
     same(["replay", ...KEY], {}, read(name));
     same(["replay", ...KEY], { "asmap.dat": asmap }, read(name));
@@ -72,9 +103,12 @@ function examples() {
   }
   same(["opener", ...KEY], {}, read("opener.log"));
   same(["limit"], {}, read("events.log"));
-  for (const text of ["", "compile", "check", "decompile", "diff", "diff --peers", "lookup 1.2.3.4:8333", "lookup -", "lookup nothing", "address 8.8.8.8",
-    "ban 1.2.3.0/24 1700000000 1800000000", "unban 1.2.3.0/24", "banned 1.2.3.4:1 1700000000", "bans 1", "help", "help raw", "raw", "info", "groups",
-    "picture", "show", "raw --net test", "trial 7 20000", "gen 18446744073709551615 1000", "gen 1 0", "no such command"]) {
+  for (const text of
+         ["", "compile", "check", "decompile", "diff", "diff --peers", "lookup 1.2.3.4:8333",
+          "lookup -", "lookup nothing", "address 8.8.8.8", "ban 1.2.3.0/24 1700000000 1800000000",
+          "unban 1.2.3.0/24", "banned 1.2.3.4:1 1700000000", "bans 1", "help", "help raw", "raw",
+          "info", "groups", "picture", "show", "raw --net test", "trial 7 20000",
+          "gen 18446744073709551615 1000", "gen 1 0", "no such command"]) {
     const words = text.split(" ").filter(Boolean);
     same(words, files, "1.2.3.4:8333\n");
     same(words, {}, "1.2.3.4:8333\n");
@@ -83,10 +117,15 @@ function examples() {
 
 // A log of this seed, the file that it leaves, and that file changed and cut.
 function generated(seed) {
-  const log = Buffer.concat([same(["gen", String(seed), String(200 + seed * 37 % 3000)]).output, Buffer.from(`save\ndump\nsample 1000 23 all @${seed}:5000\n`)]);
-  const asmap = fs.readFileSync(path.join(TOP, "examples", "asmap.dat")), with_asmap = seed % 2 ? { "asmap.dat": asmap } : {};
+  const log = Buffer.concat([
+    same(["gen", String(seed), String(200 + seed * 37 % 3000)]).output,
+    Buffer.from(`save\ndump\nsample 1000 23 all @${seed}:5000\n`)
+  ]);
+  const asmap = fs.readFileSync(path.join(TOP, "examples", "asmap.dat")),
+        with_asmap = seed % 2 ? { "asmap.dat": asmap } : {};
   const peers = same(["replay", ...KEY], with_asmap, log).files["peers.dat"];
-  for (const command of ["raw", "picture", "groups", "info", "show"]) same([command], { "peers.dat": peers, ...with_asmap });
+  for (const command of ["raw", "picture", "groups", "info", "show"])
+    same([command], { "peers.dat": peers, ...with_asmap });
   for (let k = 0; k < 4; k++) {
     const at = (seed * 7919 + k * 104729) % peers.length, changed = Buffer.from(peers);
     changed[at] ^= 1 << k * 2;
@@ -102,5 +141,7 @@ const imports = WebAssembly.Module.imports(module).length;
 examples();
 for (let seed = 1; seed <= Number(count); seed++) generated(seed);
 fs.rmSync(folder, { recursive: true });
-console.log(`${runs} runs, ${different} different; ${imports} imports; at most ${Math.ceil(most / 1e6)} MB`);
+console.log(
+  `${runs} runs, ${different} different; ${imports} imports; at most ${Math.ceil(most / 1e6)} MB`
+);
 process.exit(different || imports ? 1 : 0);

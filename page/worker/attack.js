@@ -17,7 +17,8 @@ class Draws {
   }
 }
 
-const littleEndian = (value, count) => Array.from({ length: count }, (_, i) => Math.floor(value / 256 ** i) & 255);
+const littleEndian = (value, count) =>
+  Array.from({ length: count }, (_, i) => Math.floor(value / 256 ** i) & 255);
 const sourceOf = number => [20 + number % 44, number * 29 & 255, 9, 9];
 
 class Attack {
@@ -33,7 +34,10 @@ class Attack {
   }
 
   attackPeer() {
-    return [101 + this.draws.below(25), this.draws.below(256), this.draws.below(256), 1 + this.draws.below(250)];
+    return [
+      101 + this.draws.below(25), this.draws.below(256), this.draws.below(256),
+      1 + this.draws.below(250)
+    ];
   }
 
   addressOf(connection) {
@@ -44,9 +48,13 @@ class Attack {
 
   // An addr message that a connection sends.
   message(connection, entries) {
-    const bytes = entries.length < 253 ? [entries.length] : [253, ...littleEndian(entries.length, 2)];
+    const bytes =
+      entries.length < 253 ? [entries.length] : [253, ...littleEndian(entries.length, 2)];
     for (const [time, peer] of entries)
-      bytes.push(...littleEndian(time, 4), ...littleEndian(9, 8), ...Array(10).fill(0), 255, 255, ...peer, 8333 >> 8, 8333 & 255);
+      bytes.push(
+        ...littleEndian(time, 4), ...littleEndian(9, 8), ...Array(10).fill(0), 255, 255, ...peer,
+        8333 >> 8, 8333 & 255
+      );
     const from = this.isLimited ? `from ${connection}` : `addr ${this.addressOf(connection)}`;
     return `${from} ${hexOf(bytes)} @${this.draws.below(1 << 30)}:${entries.length}\n`;
   }
@@ -54,17 +62,30 @@ class Attack {
   // The lines of an hour but for those that end it, and how many there are.
   hour(hour) {
     const now = START + 3600 * hour, lines = [`now ${now}\n`];
-    const opened = count => { for (let i = 0; i < count[1]; i++) lines.push(`open ${count[0] + i} ${this.addressOf(count[0] + i)} limited\n`, `getaddr ${count[0] + i}\n`); };
+    const opened = count => {
+      for (let i = 0; i < count[1]; i++)
+        lines.push(
+          `open ${count[0] + i} ${this.addressOf(count[0] + i)} limited\n`,
+          `getaddr ${count[0] + i}\n`
+        );
+    };
     if (this.isLimited && hour === 0) opened([0, HONEST_SOURCES]);
     if (this.isLimited && hour === BEGINS) opened([HONEST_SOURCES, this.attackers]);
     for (let i = 0; i < 60; i++)
-      lines.push(this.message(this.draws.below(HONEST_SOURCES), Array.from({ length: 60 }, () => [now - this.draws.below(86400), this.honestPeer()])));
+      lines.push(this.message(
+        this.draws.below(HONEST_SOURCES),
+        Array.from({ length: 60 }, () => [now - this.draws.below(86400), this.honestPeer()])
+      ));
     for (let i = 0; hour >= BEGINS && i < 64; i++)
-      lines.push(this.message(HONEST_SOURCES + i % this.attackers, Array.from({ length: 250 }, () => [now - this.draws.below(600), this.attackPeer()])));
+      lines.push(this.message(
+        HONEST_SOURCES + i % this.attackers,
+        Array.from({ length: 250 }, () => [now - this.draws.below(600), this.attackPeer()])
+      ));
     for (let i = 0; i < 120; i++) lines.push(`good ${this.honestPeer().join(".")}:8333 test\n`);
     for (let i = 0; i < 60; i++) lines.push(`attempt ${this.honestPeer().join(".")}:8333 count\n`);
     lines.push("resolve\n");
-    for (let i = 0; i < PICKS; i++) lines.push(`select any all @${this.draws.below(1 << 30)}:300\n`);
+    for (let i = 0; i < PICKS; i++)
+      lines.push(`select any all @${this.draws.below(1 << 30)}:300\n`);
     return lines;
   }
 }
@@ -76,9 +97,11 @@ function limited(engine, hours) {
   return hours.map(lines => left.slice(at, at += lines.length).map(line => line + "\n"));
 }
 
-// Counts what the replies of an hour say: the picks, and the slots and buckets of the attacker's groups.
+// Counts what the replies of an hour say: the picks, and the slots and buckets of the attacker's
+// groups.
 function countReplies(text) {
-  const found = { picks: 0, attackPicks: 0, newSlots: 0, attackSlots: 0, buckets: 0 }, buckets = new Set();
+  const found = { picks: 0, attackPicks: 0, newSlots: 0, attackSlots: 0, buckets: 0 },
+        buckets = new Set();
   for (const line of text.split("\n")) {
     const words = line.split(" ");
     if (words[0] === "one") {
@@ -98,13 +121,16 @@ function countReplies(text) {
 }
 
 function attack(asked, tell) {
-  const engine = new Engine(), made = new Attack(asked), rows = Array.from({ length: asked.groups }, (_, g) => `77.${g}.0.0/16`);
-  const asmap = asked.isOneAs ? compiled(engine, rows.map(row => `${row} AS${ATTACKER_AS}\n`).join("")) : null;
+  const engine = new Engine(), made = new Attack(asked),
+        rows = Array.from({ length: asked.groups }, (_, g) => `77.${g}.0.0/16`);
+  const asmap =
+    asked.isOneAs ? compiled(engine, rows.map(row => `${row} AS${ATTACKER_AS}\n`).join("")) : null;
   let hours = Array.from({ length: asked.hours }, (_, hour) => made.hour(hour)), peers = null;
   if (asked.isLimited) hours = limited(engine, hours);
   const saved = hours.map((lines, hour) => {
     const log = lines.join("") + "save\ndump\n";
-    const replies = engine.text(["replay", "--key", KEY], { "peers.dat": peers, "asmap.dat": asmap }, log);
+    const replies =
+      engine.text(["replay", "--key", KEY], { "peers.dat": peers, "asmap.dat": asmap }, log);
     peers = engine.file("peers.dat");
     tell({ hour: hour + 1, hours: asked.hours });
     return { peers, time: START + 3600 * hour, ...countReplies(replies) };

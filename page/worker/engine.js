@@ -1,13 +1,23 @@
 // The engine: the program as a module of WebAssembly without an import. Every job has a fresh
 // instance, so none leaves memory behind, and one that stops takes nothing with it.
 "use strict";
-const NUMBERS = { "peers.dat": 0, "asmap.dat": 2, "asmap.old": 4, "prefixes.txt": 5, "banlist.json": 6 };
+const NUMBERS = {
+  "peers.dat": 0,
+  "asmap.dat": 2,
+  "asmap.old": 4,
+  "prefixes.txt": 5,
+  "banlist.json": 6
+};
 const encoder = new TextEncoder(), decoder = new TextDecoder();
 let wasm = null;
 
-// The program has refused its files, arguments or log. The message is what it says on standard error.
+// The program has refused its files, arguments or log. The message is what it says on standard
+// error.
 class Refused extends Error {
-  constructor(status, text) { super(text); this.status = status; }
+  constructor(status, text) {
+    super(text);
+    this.status = status;
+  }
 }
 
 class Engine {
@@ -25,15 +35,14 @@ class Engine {
     return [at, bytes.length];
   }
 
-  bytesAt(at, length) {
-    return new Uint8Array(this.exports.memory.buffer, at >>> 0, length);
-  }
+  bytesAt(at, length) { return new Uint8Array(this.exports.memory.buffer, at >>> 0, length); }
 
   // Runs the program over these files, and returns its exit code and its lines for standard error.
   run(words, files, log) {
     const x = this.exports;
     x.clear_files();
-    for (const [name, bytes] of Object.entries(files || {})) if (bytes) x.set_file(NUMBERS[name], ...this.give(bytes));
+    for (const [name, bytes] of Object.entries(files || {}))
+      if (bytes) x.set_file(NUMBERS[name], ...this.give(bytes));
     for (const word of words) x.add_argument(...this.give(encoder.encode(word)));
     if (log) x.set_log(...this.give(typeof log === "string" ? encoder.encode(log) : log));
     const status = x.run();

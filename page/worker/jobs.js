@@ -1,5 +1,11 @@
 // The jobs that the page asks for, one after another.
-const JOBS = { view, covered, output, outputOfPeers, attack };
+const JOBS = {
+  view,
+  covered,
+  output,
+  outputOfPeers,
+  attack
+};
 
 onmessage = async ({ data }) => {
   const { id, job } = data;
@@ -12,7 +18,9 @@ onmessage = async ({ data }) => {
     }
   } catch (error) {
     const isStopped = error instanceof WebAssembly.RuntimeError || error instanceof RangeError;
-    const text = error instanceof Refused ? error.message : isStopped ? "The engine stopped: " + error.message : String(error);
+    const text = error instanceof Refused ? error.message :
+      isStopped                           ? "The engine stopped: " + error.message :
+                                            String(error);
     postMessage({ id, error: text, isRefused: error instanceof Refused });
   }
 };

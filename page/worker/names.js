@@ -1,4 +1,5 @@
-// Texts of addresses and groups: a log's from those that `raw` prints, and names as `groups` has them.
+// Texts of addresses and groups: a log's from those that `raw` prints, and names as `groups` has
+// them.
 const LETTERS = "abcdefghijklmnopqrstuvwxyz234567";
 const hexOf = bytes => Array.from(bytes, b => b.toString(16).padStart(2, "0")).join("");
 
@@ -9,7 +10,11 @@ function base32(text, count) {
   for (const letter of text.toLowerCase()) {
     bits = bits << 5 | LETTERS.indexOf(letter);
     have += 5;
-    if (have >= 8) { have -= 8; out.push(bits >> have & 255); bits &= (1 << have) - 1; }
+    if (have >= 8) {
+      have -= 8;
+      out.push(bits >> have & 255);
+      bits &= (1 << have) - 1;
+    }
   }
   return hexOf(out.slice(0, count));
 }
@@ -18,7 +23,9 @@ function base32(text, count) {
 function ipv6Hex(text) {
   const [head, tail] = text.split("::"), parts = part => part ? part.split(":") : [];
   const first = parts(head), rest = tail === undefined ? [] : parts(tail);
-  const all = tail === undefined ? first : [...first, ...Array(Math.max(0, 8 - first.length - rest.length)).fill("0"), ...rest];
+  const all = tail === undefined ?
+    first :
+    [...first, ...Array(Math.max(0, 8 - first.length - rest.length)).fill("0"), ...rest];
   return all.map(group => group.padStart(4, "0")).join("");
 }
 
@@ -32,7 +39,8 @@ function logForm(name, network) {
   return name.includes(":") ? `[${name}]` : name;
 }
 
-// The shortest text of an IPv6 prefix whose bytes in hexadecimal are given without the zeros at its end.
+// The shortest text of an IPv6 prefix whose bytes in hexadecimal are given without the zeros at its
+// end.
 function prefixText(hex, length) {
   const full = hex.padEnd(32, "0"), groups = [];
   for (let i = 0; i < 32; i += 4) groups.push(parseInt(full.slice(i, i + 4), 16).toString(16));
@@ -43,17 +51,27 @@ function prefixText(hex, length) {
 // The name of a group, as `groups` gives it, from its bytes in hexadecimal.
 function groupName(hex, asn) {
   const rest = hex.slice(2), byte = i => parseInt(rest.slice(2 * i, 2 * i + 2), 16);
-  const letters = () => { const n = byte(0) >> 4; return `${LETTERS[2 * n]} or ${LETTERS[2 * n + 1]}`; };
+  const letters = () => {
+    const n = byte(0) >> 4;
+    return `${LETTERS[2 * n]} or ${LETTERS[2 * n + 1]}`;
+  };
   switch (hex.slice(0, 2)) {
-    case "00": return "not routable";
-    case "01": return `${byte(0)}.${byte(1)}.0.0/16`;
+    case "00":
+      return "not routable";
+    case "01":
+      return `${byte(0)}.${byte(1)}.0.0/16`;
     case "02":
       if (asn && rest.length === 8) return `AS${asn}`;
       return rest.length > 8 ? prefixText(rest.slice(0, 9), 36) : prefixText(rest, 32);
-    case "03": return `Tor v3 ${letters()}`;
-    case "04": return `I2P ${letters()}`;
-    case "05": return prefixText(rest.slice(0, 3), 12);
-    case "06": return `internal ${rest.slice(0, 8)}..`;
-    default: return hex;
+    case "03":
+      return `Tor v3 ${letters()}`;
+    case "04":
+      return `I2P ${letters()}`;
+    case "05":
+      return prefixText(rest.slice(0, 3), 12);
+    case "06":
+      return `internal ${rest.slice(0, 8)}..`;
+    default:
+      return hex;
   }
 }

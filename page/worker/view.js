@@ -1,32 +1,48 @@
-// Both tables of a file as columns: which record is in which slot, and what is known of each record.
-const CHAINS = { f9beb4d9: "main", "0b110907": "test", "0a03cf40": "signet", fabfb5da: "regtest" };
+// Both tables of a file as columns: which record is in which slot, and what is known of each
+// record.
+const CHAINS = {
+  f9beb4d9: "main",
+  "0b110907": "test",
+  "0a03cf40": "signet",
+  fabfb5da: "regtest"
+};
 const NETWORKS = ["ipv4", "ipv6", "onion", "i2p", "cjdns", "internal", "not_publicly_routable"];
 const NEW_SLOTS = 65536, CELLS = 81920;
-const BASES = { new: 0, tried: NEW_SLOTS };
-// Nothing belongs to this prefix: `lookup` wants an asmap, and where that has no number for an address
-// the group is that of the address itself.
+const BASES = {
+  new: 0,
+  tried: NEW_SLOTS
+};
+// Nothing belongs to this prefix: `lookup` wants an asmap, and where that has no number for an
+// address the group is that of the address itself.
 const NOTHING = "2001:db8:ffff:ffff:ffff:ffff:ffff:ffff/128 AS1\n";
 
-// The chain that the first bytes of peers.dat name; main if they name none, so that the program refuses
-// the file by its own words.
+// The chain that the first bytes of peers.dat name; main if they name none, so that the program
+// refuses the file by its own words.
 const chainOf = peers => CHAINS[hexOf(peers.subarray(0, 4))] || "main";
 
 function isRecord(rec) {
-  return rec !== null && typeof rec === "object" && typeof rec.address === "string" && typeof rec.source === "string" &&
-    Number.isInteger(rec.port) && rec.port >= 0 && rec.port < 65536 && Number.isInteger(rec.time) && rec.time >= 0 &&
+  return rec !== null && typeof rec === "object" && typeof rec.address === "string" &&
+    typeof rec.source === "string" && Number.isInteger(rec.port) && rec.port >= 0 &&
+    rec.port < 65536 && Number.isInteger(rec.time) && rec.time >= 0 &&
     NETWORKS.includes(rec.network) && NETWORKS.includes(rec.source_network);
 }
 
 // What `getrawaddrman` of a node printed. Refuses what is not of its form.
 function readRaw(bytes) {
-  const refuse = text => { throw new Refused(0, "not what getrawaddrman prints: " + text); };
+  const refuse = text => {
+    throw new Refused(0, "not what getrawaddrman prints: " + text);
+  };
   let raw;
-  try { raw = JSON.parse(decoder.decode(bytes)); } catch (error) { refuse(error.message); }
+  try {
+    raw = JSON.parse(decoder.decode(bytes));
+  } catch (error) { refuse(error.message); }
   for (const table in BASES) {
-    if (raw === null || typeof raw[table] !== "object" || raw[table] === null) refuse(`there is no member "${table}"`);
+    if (raw === null || typeof raw[table] !== "object" || raw[table] === null)
+      refuse(`there is no member "${table}"`);
     for (const place in raw[table]) {
       const found = /^(\d{1,4})\/(\d{1,2})$/.exec(place);
-      if (!found || found[1] >= (table === "new" ? 1024 : 256) || found[2] >= 64) refuse(`"${place}" is no place of the ${table} table`);
+      if (!found || found[1] >= (table === "new" ? 1024 : 256) || found[2] >= 64)
+        refuse(`"${place}" is no place of the ${table} table`);
       if (!isRecord(raw[table][place])) refuse(`${place} of the ${table} table is no record`);
     }
   }
@@ -36,12 +52,22 @@ function readRaw(bytes) {
 // The columns of what `raw` prints.
 function columnsOf(raw) {
   const view = {
-    slots: new Int32Array(CELLS).fill(-1), name: [], port: [], form: [], network: [], source: [], sourceForm: [],
-    time: [], services: [], table: [], keys: new Map(),
+    slots: new Int32Array(CELLS).fill(-1),
+    name: [],
+    port: [],
+    form: [],
+    network: [],
+    source: [],
+    sourceForm: [],
+    time: [],
+    services: [],
+    table: [],
+    keys: new Map(),
   };
   for (const which in BASES) {
     for (const place in raw[which]) {
-      const rec = raw[which][place], slash = place.indexOf("/"), form = logForm(rec.address, rec.network), key = form + ":" + rec.port;
+      const rec = raw[which][place], slash = place.indexOf("/"),
+            form = logForm(rec.address, rec.network), key = form + ":" + rec.port;
       let at = view.keys.get(key);
       if (at === undefined) {
         view.keys.set(key, at = view.name.length);
@@ -55,7 +81,9 @@ function columnsOf(raw) {
         view.services.push(rec.services);
         view.table.push(which === "tried" ? 1 : 0);
       }
-      view.slots[BASES[which] + 64 * Number(place.slice(0, slash)) + Number(place.slice(slash + 1))] = at;
+      view
+        .slots[BASES[which] + 64 * Number(place.slice(0, slash)) + Number(place.slice(slash + 1))] =
+        at;
     }
   }
   return view;
@@ -68,11 +96,13 @@ function lookUp(engine, forms, asmap) {
     text = engine.text(["lookup", "-"], { "asmap.dat": asmap }, forms.join(":0\n") + ":0\n");
   } catch (error) {
     const line = /line (\d+)/.exec(error.message);
-    throw line && error instanceof Refused ? new Refused(error.status, `${forms[line[1] - 1]} is no address`) : error;
+    throw line && error instanceof Refused ?
+      new Refused(error.status, `${forms[line[1] - 1]} is no address`) :
+      error;
   }
   const found = [];
   let from = 0;
-  for (let i = 0; i < forms.length; i++) { // asn NUMBER group HEX
+  for (let i = 0; i < forms.length; i++) {  // asn NUMBER group HEX
     const end = text.indexOf("\n", from), middle = text.indexOf(" ", from + 4);
     found.push({ asn: Number(text.slice(from + 4, middle)), group: text.slice(middle + 7, end) });
     from = end + 1;
@@ -103,39 +133,45 @@ class Groups {
   }
 
   // The number of each address's group; -1 where it was not looked up.
-  of(forms) {
-    return Int32Array.from(forms, form => this.byForm.get(form) ?? -1);
-  }
+  of(forms) { return Int32Array.from(forms, form => this.byForm.get(form) ?? -1); }
 }
 
-// The counts of each group, as `groups` has them: a slot of the new table counts for the group of the
-// source, a record of the tried table for its own.
+// The counts of each group, as `groups` has them: a slot of the new table counts for the group of
+// the source, a record of the tried table for its own.
 function countGroups(view, names) {
-  const rows = names.map(group => ({ group, new_slots: 0, new_buckets: 0, new_records: 0, tried_records: 0 }));
+  const rows =
+    names.map(group => ({ group, new_slots: 0, new_buckets: 0, new_records: 0, tried_records: 0 }));
   const last = new Int32Array(rows.length).fill(-1);
-  for (let i = 0; i < NEW_SLOTS; i++) if (view.slots[i] >= 0) {
-    const g = view.sourceGroup[view.slots[i]];
-    rows[g].new_slots++;
-    if (last[g] !== i >> 6) rows[g].new_buckets++;
-    last[g] = i >> 6;
-  }
-  view.table.forEach((tried, r) => { if (tried) rows[view.group[r]].tried_records++; else rows[view.sourceGroup[r]].new_records++; });
+  for (let i = 0; i < NEW_SLOTS; i++)
+    if (view.slots[i] >= 0) {
+      const g = view.sourceGroup[view.slots[i]];
+      rows[g].new_slots++;
+      if (last[g] !== i >> 6) rows[g].new_buckets++;
+      last[g] = i >> 6;
+    }
+  view.table.forEach((tried, r) => {
+    if (tried) rows[view.group[r]].tried_records++;
+    else rows[view.sourceGroup[r]].new_records++;
+  });
   return rows;
 }
 
 // Whether `groups` of the program has the same rows with the same counts, in whatever order.
 function isSameCounts(rows, printed) {
-  const textOf = row => [row.group, row.new_slots, row.new_buckets, row.new_records, row.tried_records].join();
+  const textOf =
+    row => [row.group, row.new_slots, row.new_buckets, row.new_records, row.tried_records].join();
   const mine = rows.filter(row => row.new_slots + row.tried_records).map(textOf).sort();
   const theirs = printed.map(textOf).sort();
   return mine.length === theirs.length && mine.every((text, i) => text === theirs[i]);
 }
 
 // What `show` knows besides: tries, the last success, and services without a loss.
-const LINE = /^(?:new|tried) \d+ (\S+) source \S+ time \d+ services (\d+) success (\d+) attempts (\d+)$/;
+const LINE =
+  /^(?:new|tried) \d+ (\S+) source \S+ time \d+ services (\d+) success (\d+) attempts (\d+)$/;
 function detailsOf(engine, files, net, view, rows) {
   const count = view.name.length, lines = engine.text(["show", ...net], files).split("\n");
-  const tries = new Int32Array(count).fill(-1), success = new Float64Array(count).fill(-1), services = Array(count).fill("");
+  const tries = new Int32Array(count).fill(-1), success = new Float64Array(count).fill(-1),
+        services = Array(count).fill("");
   for (const line of lines) {
     const found = LINE.exec(line), r = found ? view.keys.get(found[1]) : undefined;
     if (r === undefined) continue;
@@ -145,13 +181,17 @@ function detailsOf(engine, files, net, view, rows) {
   }
   const head = lines[0].split(" "), printed = JSON.parse(engine.text(["groups", ...net], files));
   return {
-    tries, success, services: services.join("\n"), share: sharesOf(view, tries),
-    agrees: isSameCounts(rows, printed.groups), hasAsmap: !/^0*$/.test(head[10] || ""),
+    tries,
+    success,
+    services: services.join("\n"),
+    share: sharesOf(view, tries),
+    agrees: isSameCounts(rows, printed.groups),
+    hasAsmap: !/^0*$/.test(head[10] || ""),
   };
 }
 
-// Tells of the tables as soon as slots and the groups that places depend on are known, and returns the
-// groups of all peers and the details.
+// Tells of the tables as soon as slots and the groups that places depend on are known, and returns
+// the groups of all peers and the details.
 function view({ peers, json, asmap }, tell) {
   const engine = new Engine(), files = { "peers.dat": peers, "asmap.dat": asmap };
   const chain = json ? null : chainOf(peers), net = ["--net", chain];
@@ -162,24 +202,41 @@ function view({ peers, json, asmap }, tell) {
   found.group = groups.of(found.form);
   const rows = countGroups(found, groups.names), joined = list => list.join("\n");
   tell({
-    chain, slots: found.slots, names: groups.names, group: found.group, sourceGroup: found.sourceGroup, rows,
-    name: joined(found.name), form: joined(found.form), source: joined(found.source), sourceForm: joined(found.sourceForm),
-    services: joined(found.services), port: Uint16Array.from(found.port), network: Uint8Array.from(found.network),
-    time: Float64Array.from(found.time), table: Uint8Array.from(found.table),
+    chain,
+    slots: found.slots,
+    names: groups.names,
+    group: found.group,
+    sourceGroup: found.sourceGroup,
+    rows,
+    name: joined(found.name),
+    form: joined(found.form),
+    source: joined(found.source),
+    sourceForm: joined(found.sourceForm),
+    services: joined(found.services),
+    port: Uint16Array.from(found.port),
+    network: Uint8Array.from(found.network),
+    time: Float64Array.from(found.time),
+    table: Uint8Array.from(found.table),
   });
   groups.learn(found.form);
   found.group = groups.of(found.form);
-  return { group: found.group, names: groups.names, ...(json ? {} : detailsOf(engine, files, net, found, rows)) };
+  return {
+    group: found.group,
+    names: groups.names,
+    ...(json ? {} : detailsOf(engine, files, net, found, rows))
+  };
 }
 
 // Which of these addresses the rows of prefixes cover.
 function covered({ forms, rows }) {
   const engine = new Engine(), asmap = compiled(engine, rows);
-  return forms.length ? Uint8Array.from(lookUp(engine, forms, asmap), found => found.asn ? 1 : 0) : new Uint8Array(0);
+  return forms.length ? Uint8Array.from(lookUp(engine, forms, asmap), found => found.asn ? 1 : 0) :
+                        new Uint8Array(0);
 }
 
 // One output of the program as text.
 const output = ({ words, files }) => new Engine().text(words, files);
 
 // The same of a command that takes a chain, with that of peers.dat.
-const outputOfPeers = ({ command, files }) => new Engine().text([command, "--net", chainOf(files["peers.dat"])], files);
+const outputOfPeers = ({ command, files }) =>
+  new Engine().text([command, "--net", chainOf(files["peers.dat"])], files);

@@ -3,12 +3,12 @@
 //!
 //! The module has no import, so it can reach neither a file nor the network. A caller takes room
 //! with `room`, writes bytes there, and gives them away by `add_argument`, `set_log` or `set_file`.
-//! `run` uses up the arguments and the log, and changes the files as the program would. The calls of
-//! one instance are made one after another.
+//! `run` uses up the arguments and the log, and changes the files as the program would. The calls
+//! of one instance are made one after another.
 
 mod folder;
-// The program's own lines for standard error; the build puts the file there. What is in it of output
-// that nobody reads any more is of no use here.
+// The program's own lines for standard error; the build puts the file there. What is in it of
+// output that nobody reads any more is of no use here.
 #[allow(dead_code)]
 #[path = "../second.rs"]
 mod second;
