@@ -14,8 +14,10 @@ ghost use Rattle.log_run.specs.Counts.{IsCounted};
 
 use crate::input::{Input, load_input};
 use crate::output::{save_then_write, write_line};
-use crate::{Memory, Status};
-use ban_list::{Ban, BanFault, BanReply, Bans, Subnet, put_subnet, read_bans, write_bans};
+use crate::{Learned, Memory, Status};
+use ban_list::{
+    Ban, BanFault, BanReply, Bans, Subnet, passed_over, put_subnet, read_bans, write_bans,
+};
 use host_io::{Bytes, Folder, Name, Sink};
 use net_addr::{NetAddr, Peer, put_number};
 use node_json::bans_text;
@@ -29,19 +31,29 @@ pub(crate) struct Answer {
 }
 
 /// Reads the bytes of banlist.json.
-fn read_list(alloc: Global, bytes: &[u8]) -> Result<Bans, Status>
-    ensures found { IfOk result (IsBanFile bytes.now) }
-    ensures cause { IfErr result (IsNoList bytes.now) }
+fn read_list(alloc: Global, bytes: Bytes, learned: &mut Learned) -> Result<Bans, Status>
+    ensures found { IfOk result (IsBanFile bytes) }
+    ensures cause { IfErr result (IsNoList bytes) }
 {
-    match read_bans(alloc, bytes) {
-        Ok(bans) => Ok(bans),
+    match read_bans(alloc, bytes.items()) {
+        Ok(bans) => {
+            learned.passed_over = passed_over(alloc, bytes.items()).unwrap_or(0);
+            Ok(bans)
+        }
         Err(BanFault::Memory) => Err(Status::Memory),
-        Err(fault) => Err(Status::BansRefused(fault)),
+        Err(fault) => {
+            learned.text = Some(bytes);
+            Err(Status::BansRefused(fault))
+        }
     }
 }
 
 /// Loads the list of the folder's banlist.json, which is empty if there is no such file.
-fn load_bans<F: Folder>(alloc: Global, folder: &mut F) -> Result<Bans, Status>
+fn load_bans<F: Folder>(
+    alloc: Global,
+    folder: &mut F,
+    learned: &mut Learned,
+) -> Result<Bans, Status>
     ensures found { IfOk result (AreBansIn (F.past folder.old)) }
     ensures cause { IfErr result (IsNoBans (F.past folder.old)) }
     ensures disk { IsCounted (Err Status.DiskFault)
@@ -49,7 +61,7 @@ fn load_bans<F: Folder>(alloc: Global, folder: &mut F) -> Result<Bans, Status>
     ensures same { F.past folder.new ≡ F.past folder.old }
 {
     match load_input(alloc, Input::Bans, folder) {
-        Ok(Some(bytes)) => read_list(alloc, bytes.items()),
+        Ok(Some(bytes)) => read_list(alloc, bytes, learned),
         Ok(None) => Ok(Bans::make(alloc)),
         Err(status) => Err(status),
     }
@@ -204,6 +216,7 @@ pub(crate) fn change_bans<F: Folder, K: Sink, C: BanCommand>(
     command: &C,
     folder: &mut F,
     out: &mut K,
+    learned: &mut Learned,
 ) -> Status
     requires { C.is_proper command.now }
     ensures text { BansText (C.change command.now) (F.past folder.old) (F.past folder.new)
@@ -213,7 +226,7 @@ pub(crate) fn change_bans<F: Folder, K: Sink, C: BanCommand>(
     ensures disk { IsCounted Status.DiskFault (F.faults folder.old) (F.faults folder.new) result }
     ensures write { IsCounted Status.WriteFault (K.faults out.old) (K.faults out.new) result }
 {
-    let mut bans = match load_bans(alloc, folder) {
+    let mut bans = match load_bans(alloc, folder, learned) {
         Ok(bans) => bans,
         Err(status) => return status,
     };
@@ -229,6 +242,7 @@ pub(crate) fn list_bans<F: Folder, K: Sink>(
     now: u32,
     folder: &mut F,
     out: &mut K,
+    learned: &mut Learned,
 ) -> Status
     ensures text { TextOut (IsBansText now) ReportsBans
         (F.past folder.old) (K.written out.old) (K.written out.new) result }
@@ -236,7 +250,7 @@ pub(crate) fn list_bans<F: Folder, K: Sink>(
     ensures write { IsCounted Status.WriteFault (K.faults out.old) (K.faults out.new) result }
     ensures same { F.past folder.new ≡ F.past folder.old }
 {
-    let bans = match load_bans(alloc, folder) {
+    let bans = match load_bans(alloc, folder, learned) {
         Ok(bans) => bans,
         Err(status) => return status,
     };

@@ -13,7 +13,7 @@ ghost use Rattle.addrman_run.specs.declared.input.Input.TheVariants as input;
 
 use crate::input::{Input, load_present};
 use crate::output::save_then_write;
-use crate::{Status, TablesFault};
+use crate::{Learned, Status, TablesFault};
 use asmap_compile::{CompileFault, Compiled, compile_in_place};
 use host_io::{Bytes, Folder, Name, Sink};
 use net_addr::{Memory, put_number, put_text};
@@ -51,7 +51,7 @@ fn compile_line(alloc: Global, rows: usize, file: &Compiled) -> Result<Vec<u8>, 
 }
 
 /// Compiles the table in the text of prefixes.txt. The text is dropped before the compilation.
-fn new_asmap(alloc: Global, text: Bytes) -> Result<NewAsmap, Status>
+fn new_asmap(alloc: Global, text: Bytes, learned: &mut Learned) -> Result<NewAsmap, Status>
     requires { length text ≤ MAX_TEXT }
     ensures found { IfOk result (λ made. (past : Option Past) →
         IsLoaded input.Prefixes past text →
@@ -61,7 +61,10 @@ fn new_asmap(alloc: Global, text: Bytes) -> Result<NewAsmap, Status>
     let table = match read_table(alloc, text.items()) {
         Ok(table) => table,
         Err(TableFault::Memory) => return Err(Status::Memory),
-        Err(fault) => return Err(Status::TableRefused(TablesFault::Rows(fault))),
+        Err(fault) => {
+            learned.text = Some(text);
+            return Err(Status::TableRefused(TablesFault::Rows(fault)));
+        }
     };
     drop(text);
     let rows = table.rows().len();
@@ -81,6 +84,7 @@ pub(crate) fn compile_table<F: Folder, K: Sink>(
     alloc: Global,
     folder: &mut F,
     out: &mut K,
+    learned: &mut Learned,
 ) -> Status
     ensures text { CompileText (F.past folder.old) (F.past folder.new) (K.written out.old)
         (K.written out.new) result }
@@ -94,7 +98,7 @@ pub(crate) fn compile_table<F: Folder, K: Sink>(
         Ok(text) => text,
         Err(status) => return status,
     };
-    match new_asmap(alloc, text) {
+    match new_asmap(alloc, text, learned) {
         Ok(made) => {
             let (file, line) = (made.file.code(), made.line.as_slice());
             save_then_write(Name::AsmapTemp, Name::Asmap, file, line, folder, out)

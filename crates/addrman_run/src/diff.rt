@@ -13,11 +13,11 @@ ghost use Rattle.addrman_run.specs.InFolder.{ReportsAbsence};
 ghost use Rattle.addrman_run.specs.Inside.{IsNoDifference, IsNoRecords};
 ghost use Rattle.addrman_run.specs.TextOut.{TextOut};
 
-use crate::Status;
 use crate::group_changes::group_changes;
 use crate::input::{Input, load_present};
 use crate::opening::read_peers;
 use crate::output::write_line;
+use crate::{Learned, Status};
 use asmap_vm::{Sane, check};
 use host_io::{Folder, Sink};
 use map_diff::{DiffFault, changes_are_the_differences, difference, put_difference};
@@ -31,6 +31,7 @@ pub(crate) fn diff<F: Folder, K: Sink>(
     peers: Option<Chain>,
     folder: &mut F,
     out: &mut K,
+    learned: &mut Learned,
 ) -> Status
     ensures text { TextOut (IsDifference peers) (ReportsDiff peers) (F.past folder.old)
         (K.written out.old) (K.written out.new) result }
@@ -39,7 +40,7 @@ pub(crate) fn diff<F: Folder, K: Sink>(
     ensures write { IsCounted Status.WriteFault (K.faults out.old) (K.faults out.new) result }
     ensures same { F.past folder.new ≡ F.past folder.old }
 {
-    match text_of(alloc, peers, folder) {
+    match text_of(alloc, peers, folder, learned) {
         Ok(text) => write_line(text.as_slice(), out),
         Err(status) => status,
     }
@@ -50,6 +51,7 @@ fn text_of<F: Folder>(
     alloc: Global,
     peers: Option<Chain>,
     folder: &mut F,
+    learned: &mut Learned,
 ) -> Result<Vec<u8>, Status>
     ensures found { IfOk result (λ text. IsDifference peers (F.past folder.old) text.items) }
     ensures absent { IfSome (files_of (F.past folder.old)) (λ files.
@@ -68,7 +70,7 @@ fn text_of<F: Folder>(
         Ok(old) => old,
         Err(fault) => return Err(Status::OldAsmapRefused(fault)),
     };
-    text_from(alloc, peers, &old, folder)
+    text_from(alloc, peers, &old, folder, learned)
 }
 
 /// Returns the text about the files of the folder, whose asmap.old is accepted.
@@ -77,6 +79,7 @@ fn text_from<F: Folder>(
     peers: Option<Chain>,
     old: &Sane<'_>,
     folder: &mut F,
+    learned: &mut Learned,
 ) -> Result<Vec<u8>, Status>
     requires { IsMapAt name.AsmapOld (F.past folder.old) (asmap_of old.now) }
     ensures found { IfOk result (λ text. IsDifference peers (F.past folder.old) text.items) }
@@ -93,7 +96,7 @@ fn text_from<F: Folder>(
         Ok(new) => new,
         Err(fault) => return Err(Status::AsmapRefused(fault)),
     };
-    let records = match records_text(alloc, peers, old, &new, folder) {
+    let records = match records_text(alloc, peers, old, &new, folder, learned) {
         Ok(records) => records,
         Err(status) => return Err(status),
     };
@@ -131,6 +134,7 @@ fn records_text<F: Folder>(
     old: &Sane<'_>,
     new: &Sane<'_>,
     folder: &mut F,
+    learned: &mut Learned,
 ) -> Result<Vec<u8>, Status>
     ensures found { IfOk result (λ text. AreRecordLines peers (asmap_of old.now)
         (asmap_of new.now) (F.past folder.old) text.items) }
@@ -146,7 +150,7 @@ fn records_text<F: Folder>(
         Ok(bytes) => bytes,
         Err(status) => return Err(status),
     };
-    let snap = match read_peers(alloc, bytes, chain) {
+    let snap = match read_peers(alloc, bytes, chain, learned) {
         Ok(snap) => snap,
         Err(status) => return Err(status),
     };

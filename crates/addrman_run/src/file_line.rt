@@ -11,7 +11,7 @@ ghost use Rattle.addrman_run.specs.declared.status.Status.{Status};
 
 use crate::input::{Input, load_present};
 use crate::output::write_line;
-use crate::{PeersFault, Status};
+use crate::{Learned, PeersFault, Status};
 use asmap_vm::CodeFault;
 use host_io::{Folder, Sink};
 use std::alloc::Global;
@@ -64,6 +64,7 @@ pub(crate) fn write_file_line<F: Folder, K: Sink, C: FileLine>(
     command: &C,
     folder: &mut F,
     out: &mut K,
+    learned: &mut Learned,
 ) -> Status
     ensures text { FileLineText (name_of (C.file command.now)) (C.is_line command.now)
         (C.refuses command.now) (F.past folder.old) (K.written out.old) (K.written out.new)
@@ -77,6 +78,7 @@ pub(crate) fn write_file_line<F: Folder, K: Sink, C: FileLine>(
         Ok(bytes) => bytes,
         Err(status) => return status,
     };
+    learned.keep_head(bytes.items());
     match command.line_of(alloc, bytes.items()) {
         Ok(line) => write_line(line.as_slice(), out),
         Err(Refusal::Asmap(fault)) => Status::AsmapRefused(fault),

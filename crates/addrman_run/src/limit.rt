@@ -4,8 +4,8 @@ ghost use Rattle.log_run.specs.declared.limits.TheConstants.{MAX_LOG};
 ghost use Rattle.addrman_run.specs.Limit.{LimitOutcome};
 ghost use Rattle.log_run.specs.Counts.{IsCounted};
 
-use crate::Status;
 use crate::status::status_of;
+use crate::{Learned, Status};
 use addr_limit::{LimitLog, connections_are_apart};
 use host_io::{Sink, Source};
 use log_run::run_log;
@@ -19,6 +19,7 @@ pub(crate) fn limit<L: Source, K: Sink, H: BuildHasher + Drop>(
     hasher: H,
     log: &mut L,
     out: &mut K,
+    learned: &mut Learned,
 ) -> Status
     ensures outcome { LimitOutcome
         (record { left = L.left log.old; written = K.written out.old })
@@ -31,5 +32,5 @@ pub(crate) fn limit<L: Source, K: Sink, H: BuildHasher + Drop>(
     connections_are_apart();
     let mut lines = LimitLog::make(alloc, hasher);
     let mut world = ();
-    status_of(run_log(alloc, log, &mut lines, &mut world, out))
+    status_of(run_log(alloc, log, &mut lines, &mut world, out, &mut learned.line))
 }

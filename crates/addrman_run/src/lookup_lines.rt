@@ -7,10 +7,10 @@ ghost use Rattle.addrman_run.specs.InFolder.{ReportsAbsence};
 ghost use Rattle.addrman_run.specs.LookupLines.{LookupLinesOutcome};
 ghost use Rattle.log_run.specs.Counts.{IsCounted};
 
-use crate::Status;
 use crate::input::{Input, load_present};
 use crate::lookup::put_lookup;
 use crate::status::status_of;
+use crate::{Learned, Status};
 use asmap_vm::{Sane, check};
 use grammar::{OnePeer, read_fields};
 use host_io::{Folder, Sink, Source, is_passed_over};
@@ -65,6 +65,7 @@ pub(crate) fn lookup_lines<L: Source, F: Folder, K: Sink>(
     log: &mut L,
     folder: &mut F,
     out: &mut K,
+    learned: &mut Learned,
 ) -> Status
     ensures outcome { LookupLinesOutcome
         (outside L.Source F.Folder K.Sink log.old folder.old out.old)
@@ -86,5 +87,5 @@ pub(crate) fn lookup_lines<L: Source, F: Folder, K: Sink>(
     };
     let mut lines = LookupLines { asmap };
     let mut world = ();
-    status_of(run_log(alloc, log, &mut lines, &mut world, out))
+    status_of(run_log(alloc, log, &mut lines, &mut world, out, &mut learned.line))
 }

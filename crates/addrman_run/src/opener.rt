@@ -5,9 +5,9 @@ ghost use Rattle.log_run.specs.declared.limits.TheConstants.{MAX_LOG};
 ghost use Rattle.addrman_run.specs.Opener.{OpenerOutcome};
 ghost use Rattle.log_run.specs.Counts.{IsCounted};
 
-use crate::Status;
 use crate::opening::open_folder;
 use crate::status::status_of;
+use crate::{Learned, Status};
 use host_io::{Folder, Sink, Source};
 use log_run::run_log;
 use manager::Manager;
@@ -26,6 +26,7 @@ pub(crate) fn opener<L: Source, F: Folder, K: Sink, H: BuildHasher + Drop>(
     log: &mut L,
     folder: &mut F,
     out: &mut K,
+    learned: &mut Learned,
 ) -> Status
     ensures outcome { OpenerOutcome key chain
         (outside L.Source F.Folder K.Sink log.old folder.old out.old)
@@ -39,11 +40,11 @@ pub(crate) fn opener<L: Source, F: Folder, K: Sink, H: BuildHasher + Drop>(
     groups_stay_apart();
     tries_are_fair();
     let mut asmap = None;
-    let tables = match open_folder(alloc, hasher, key, chain, &mut asmap, folder) {
+    let tables = match open_folder(alloc, hasher, key, chain, &mut asmap, folder, learned) {
         Ok(tables) => tables,
         Err(status) => return status,
     };
     let mut lines = OpenerLog::make(Manager::open(tables));
     let mut world = ();
-    status_of(run_log(alloc, log, &mut lines, &mut world, out))
+    status_of(run_log(alloc, log, &mut lines, &mut world, out, &mut learned.line))
 }

@@ -12,7 +12,7 @@ ghost use Rattle.addrman_run.specs.Inside.{IsKeyless, IsMapOf, IsNoMap, IsNoSnap
 ghost use Rattle.addrman_run.specs.Opening.{IsUnopened, Opened, tables_of};
 
 use crate::input::{Input, load_input};
-use crate::{PeersFault, Status};
+use crate::{Learned, PeersFault, Status};
 use asmap_vm::{CodeFault, Sane, check};
 use bit_code::MAX_ASMAP;
 use host_io::{Bytes, Folder, Name};
@@ -27,14 +27,28 @@ use steps::Steps;
 use tables::{RestoreFault, Tables};
 
 /// Reads the bytes of peers.dat, and drops them.
-pub(crate) fn read_peers(alloc: Global, bytes: Bytes, chain: Chain) -> Result<Snapshot, Status>
+pub(crate) fn read_peers(
+    alloc: Global,
+    bytes: Bytes,
+    chain: Chain,
+    learned: &mut Learned,
+) -> Result<Snapshot, Status>
     ensures found { IfOk result (IsFile chain bytes) }
     ensures cause { IfErr result (IsNoSnapshot chain bytes) }
 {
+    learned.keep_head(bytes.items());
     match read_file(alloc, bytes.items(), chain) {
         Ok(snap) => Ok(snap),
         Err(FileFault::Memory) => Err(Status::Memory),
         Err(fault) => Err(Status::PeersRefused(PeersFault::File(fault))),
+    }
+}
+
+/// Returns whether there is a key, and it is another one than that of peers.dat.
+fn is_unused(key: Option<[u8; 32]>, own: [u8; 32]) -> bool {
+    match key {
+        Some(key) => key != own,
+        None => false,
     }
 }
 
@@ -95,6 +109,7 @@ fn open_tables<'a, H: BuildHasher + Drop>(
     chain: Chain,
     map: Option<Sane<'a>>,
     file: Option<Bytes>,
+    learned: &mut Learned,
 ) -> Result<Tables<'a, H>, Status>
     ensures found { IfOk result (OpensWith key chain file (map_of map.entry)) }
     ensures small { IfOk result (λ tables. tables.next_number ≤ ALL_SLOTS) }
@@ -105,10 +120,11 @@ fn open_tables<'a, H: BuildHasher + Drop>(
         Some(bytes) => bytes,
         None => return empty_tables(alloc, hasher, key, map),
     };
-    let snap = match read_peers(alloc, bytes, chain) {
+    let snap = match read_peers(alloc, bytes, chain, learned) {
         Ok(snap) => snap,
         Err(status) => return Err(status),
     };
+    learned.is_key_unused = is_unused(key, snap.key());
     restore_tables::<Brand, H>(alloc, hasher, &snap, map, Blank::new(1))
 }
 
@@ -160,6 +176,7 @@ pub(crate) fn open_folder<'a, F: Folder, H: BuildHasher + Drop>(
     chain: Chain,
     asmap: &'a mut Option<Bytes>,
     folder: &mut F,
+    learned: &mut Learned,
 ) -> Result<Tables<'a, H>, Status>
     ensures found { IfOk result (Opened key chain (F.past folder.old)) }
     ensures small { IfOk result (λ tables. tables.next_number ≤ ALL_SLOTS) }
@@ -176,7 +193,7 @@ pub(crate) fn open_folder<'a, F: Folder, H: BuildHasher + Drop>(
         Ok(file) => file,
         Err(status) => return Err(status),
     };
-    open_tables(alloc, hasher, key, chain, map, file)
+    open_tables(alloc, hasher, key, chain, map, file, learned)
 }
 
 /// Opens the tables of the folder's peers.dat, which have its asmap.
@@ -186,6 +203,7 @@ pub(crate) fn open_peers<'a, F: Folder, H: BuildHasher + Drop>(
     chain: Chain,
     asmap: &'a mut Option<Bytes>,
     folder: &mut F,
+    learned: &mut Learned,
 ) -> Result<Tables<'a, H>, Status>
     ensures found { IfOk result (Opened None chain (F.past folder.old)) }
     ensures cause { IfErr result (IsNoTables chain (F.past folder.old)) }
@@ -193,7 +211,7 @@ pub(crate) fn open_peers<'a, F: Folder, H: BuildHasher + Drop>(
         (F.faults folder.old) (F.faults folder.new) result }
     ensures same { F.past folder.new ≡ F.past folder.old }
 {
-    match open_folder(alloc, hasher, None, chain, asmap, folder) {
+    match open_folder(alloc, hasher, None, chain, asmap, folder, learned) {
         Ok(tables) => Ok(tables),
         Err(Status::NoKey) => Err(Status::NoFile { name: Name::Peers }),
         Err(status) => Err(status),

@@ -8,7 +8,7 @@ ghost use Rattle.addrman_run.specs.TextOut.{TextOut};
 
 use crate::opening::open_peers;
 use crate::output::write_line;
-use crate::{Memory, Status};
+use crate::{Learned, Memory, Status};
 use group_counts::Lent;
 use host_io::{Bytes, Folder, Sink};
 use peers_file::Chain;
@@ -27,6 +27,7 @@ pub(crate) fn picture<F: Folder, K: Sink, H: BuildHasher + Drop>(
     chain: Chain,
     folder: &mut F,
     out: &mut K,
+    learned: &mut Learned,
 ) -> Status
     ensures text { TextOut (IsPicture chain) (ReportsTables chain)
         (F.past folder.old) (K.written out.old) (K.written out.new) result }
@@ -35,7 +36,7 @@ pub(crate) fn picture<F: Folder, K: Sink, H: BuildHasher + Drop>(
     ensures same { F.past folder.new ≡ F.past folder.old }
 {
     let mut asmap = None;
-    draw(alloc, &hasher, chain, &mut asmap, folder, out)
+    draw(alloc, &hasher, chain, &mut asmap, folder, out, learned)
 }
 
 /// Opens the tables of the folder, whose asmap's bytes stay in `asmap`, and writes their picture.
@@ -46,6 +47,7 @@ fn draw<'a, F: Folder, K: Sink, H: BuildHasher + Drop>(
     asmap: &'a mut Option<Bytes>,
     folder: &mut F,
     out: &mut K,
+    learned: &mut Learned,
 ) -> Status
     ensures text { TextOut (IsPicture chain) (ReportsTables chain)
         (F.past folder.old) (K.written out.old) (K.written out.new) result }
@@ -53,7 +55,7 @@ fn draw<'a, F: Folder, K: Sink, H: BuildHasher + Drop>(
     ensures write { IsCounted Status.WriteFault (K.faults out.old) (K.faults out.new) result }
     ensures same { F.past folder.new ≡ F.past folder.old }
 {
-    match open_peers(alloc, Lent::of(hasher), chain, asmap, folder) {
+    match open_peers(alloc, Lent::of(hasher), chain, asmap, folder, learned) {
         Ok(tables) => write_picture(alloc, hasher, &tables, out),
         Err(status) => status,
     }

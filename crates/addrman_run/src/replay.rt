@@ -5,9 +5,9 @@ ghost use Rattle.log_run.specs.declared.limits.TheConstants.{MAX_LOG};
 ghost use Rattle.log_run.specs.Counts.{IsCounted};
 ghost use Rattle.addrman_run.specs.Replay.{ReplayOutcome};
 
-use crate::Status;
 use crate::opening::open_folder;
 use crate::status::status_of;
+use crate::{Learned, Status};
 use host_io::{Folder, Sink, Source};
 use log_run::run_log;
 use manager::Manager;
@@ -26,6 +26,7 @@ pub(crate) fn replay<L: Source, F: Folder, K: Sink, H: BuildHasher + Drop>(
     log: &mut L,
     folder: &mut F,
     out: &mut K,
+    learned: &mut Learned,
 ) -> Status
     ensures outcome { ReplayOutcome key chain
         (outside L.Source F.Folder K.Sink log.old folder.old out.old)
@@ -36,10 +37,10 @@ pub(crate) fn replay<L: Source, F: Folder, K: Sink, H: BuildHasher + Drop>(
     ensures disk { IsCounted Status.DiskFault (F.faults folder.old) (F.faults folder.new) result }
 {
     let mut asmap = None;
-    let tables = match open_folder(alloc, hasher, key, chain, &mut asmap, folder) {
+    let tables = match open_folder(alloc, hasher, key, chain, &mut asmap, folder, learned) {
         Ok(tables) => tables,
         Err(status) => return status,
     };
     let mut session = Session::make(Manager::open(tables), chain);
-    status_of(run_log(alloc, log, &mut session, folder, out))
+    status_of(run_log(alloc, log, &mut session, folder, out, &mut learned.line))
 }

@@ -7,7 +7,7 @@ ghost use Rattle.addrman_run.specs.TextOut.{TextOut};
 
 use crate::opening::open_peers;
 use crate::output::write_line;
-use crate::{Memory, Status};
+use crate::{Learned, Memory, Status};
 use group_counts::Lent;
 use host_io::{Bytes, Folder, Sink};
 use node_json::{groups_text, info_text, raw_text};
@@ -62,6 +62,7 @@ pub(crate) fn write_tables_json<F: Folder, K: Sink, H: BuildHasher + Drop>(
     chain: Chain,
     folder: &mut F,
     out: &mut K,
+    learned: &mut Learned,
 ) -> Status
     ensures text { TextOut (IsTablesText which chain) (ReportsTables chain)
         (F.past folder.old) (K.written out.old) (K.written out.new) result }
@@ -70,7 +71,9 @@ pub(crate) fn write_tables_json<F: Folder, K: Sink, H: BuildHasher + Drop>(
     ensures same { F.past folder.new ≡ F.past folder.old }
 {
     let mut asmap = None;
-    write_opened(alloc, &hasher, which, chain, &mut asmap, folder, out)
+    write_opened(
+        alloc, &hasher, which, chain, &mut asmap, folder, out, learned,
+    )
 }
 
 /// Opens the tables, whose asmap's bytes stay in `asmap`, and writes the text of them.
@@ -82,6 +85,7 @@ fn write_opened<'a, F: Folder, K: Sink, H: BuildHasher + Drop>(
     asmap: &'a mut Option<Bytes>,
     folder: &mut F,
     out: &mut K,
+    learned: &mut Learned,
 ) -> Status
     ensures text { TextOut (IsTablesText which chain) (ReportsTables chain)
         (F.past folder.old) (K.written out.old) (K.written out.new) result }
@@ -89,7 +93,7 @@ fn write_opened<'a, F: Folder, K: Sink, H: BuildHasher + Drop>(
     ensures write { IsCounted Status.WriteFault (K.faults out.old) (K.faults out.new) result }
     ensures same { F.past folder.new ≡ F.past folder.old }
 {
-    let tables = match open_peers(alloc, Lent::of(hasher), chain, asmap, folder) {
+    let tables = match open_peers(alloc, Lent::of(hasher), chain, asmap, folder, learned) {
         Ok(tables) => tables,
         Err(status) => return status,
     };

@@ -6,7 +6,6 @@ ghost use Rattle.addrman_run.specs.Complete.{IsComplete};
 ghost use Rattle.addrman_run.specs.Outcome.{Ends, HasCause};
 ghost use Rattle.arguments.specs.declared.request.Request.{Request};
 
-use crate::Status;
 use crate::address::write_address;
 use crate::bans::{BanSubnet, FindBan, UnbanSubnet, change_bans, list_bans};
 use crate::check::Check;
@@ -25,6 +24,7 @@ use crate::replay::replay;
 use crate::show::Show;
 use crate::tables_json::{TablesJson, write_tables_json};
 use crate::trial::trial;
+use crate::{Learned, Status};
 use arguments::{Request, read_request};
 use host_io::{Folder, Sink, Source};
 use std::alloc::Global;
@@ -70,10 +70,36 @@ pub fn run<L: Source, F: Folder, K: Sink, H: BuildHasher + Drop>(
         IsComplete request (outside L.Source F.Folder K.Sink log.old folder.old out.old)
         (outside L.Source F.Folder K.Sink log.new folder.new out.new) result }
 {
+    let mut learned = Learned::make(alloc);
+    run_learning(alloc, hasher, words, log, folder, out, &mut learned)
+}
+
+/// Runs the program as `run` does, and fills `learned` with what messages to people are made of.
+pub fn run_learning<L: Source, F: Folder, K: Sink, H: BuildHasher + Drop>(
+    alloc: Global,
+    hasher: H,
+    words: &[String],
+    log: &mut L,
+    folder: &mut F,
+    out: &mut K,
+    learned: &mut Learned,
+) -> Status
+    ensures arguments { TellsUsage (map string_bytes words.now) result }
+    ensures untouched { LeavesRest (map string_bytes words.now) result
+        log.old log.new folder.old folder.new out.old out.new }
+    ensures cause { HasCause (outside L.Source F.Folder K.Sink log.old folder.old out.old)
+        (outside L.Source F.Folder K.Sink log.new folder.new out.new) result }
+    ensures outcome { (request : Request) → Asks (map string_bytes words.now) request →
+        Ends request (outside L.Source F.Folder K.Sink log.old folder.old out.old)
+        (outside L.Source F.Folder K.Sink log.new folder.new out.new) result }
+    ensures complete { (request : Request) → Asks (map string_bytes words.now) request →
+        IsComplete request (outside L.Source F.Folder K.Sink log.old folder.old out.old)
+        (outside L.Source F.Folder K.Sink log.new folder.new out.new) result }
+{
     let Some(request) = read_request(alloc, words) else {
         return Status::Usage;
     };
-    carry_out(alloc, hasher, request, log, folder, out)
+    carry_out(alloc, hasher, request, log, folder, out, learned)
 }
 
 /// Carries out what the arguments ask for.
@@ -84,6 +110,7 @@ fn carry_out<L: Source, F: Folder, K: Sink, H: BuildHasher + Drop>(
     log: &mut L,
     folder: &mut F,
     out: &mut K,
+    learned: &mut Learned,
 ) -> Status
     requires { IsProperRequest request }
     ensures asked { result ≢ Status.Usage }
@@ -95,33 +122,63 @@ fn carry_out<L: Source, F: Folder, K: Sink, H: BuildHasher + Drop>(
         (outside L.Source F.Folder K.Sink log.new folder.new out.new) result }
 {
     match request {
-        Request::Replay { key, chain } => replay(alloc, hasher, key, chain, log, folder, out),
-        Request::Opener { key, chain } => opener(alloc, hasher, key, chain, log, folder, out),
-        Request::Compile => compile_table(alloc, folder, out),
-        Request::Check => write_file_line(alloc, &Check, folder, out),
+        Request::Replay { key, chain } => replay(
+            alloc, hasher, key, chain, log, folder, out, learned,
+        ),
+        Request::Opener { key, chain } => opener(
+            alloc, hasher, key, chain, log, folder, out, learned,
+        ),
+        Request::Compile => compile_table(alloc, folder, out, learned),
+        Request::Check => write_file_line(alloc, &Check, folder, out, learned),
         Request::Decompile => decompile(alloc, folder, out),
-        Request::Diff { peers } => diff(alloc, peers, folder, out),
-        Request::Limit => limit(alloc, hasher, log, out),
-        Request::Lookup { peer } => write_file_line(alloc, &Lookup { peer }, folder, out),
-        Request::LookupLines => lookup_lines(alloc, log, folder, out),
+        Request::Diff { peers } => diff(alloc, peers, folder, out, learned),
+        Request::Limit => limit(alloc, hasher, log, out, learned),
+        Request::Lookup { peer } => write_file_line(alloc, &Lookup { peer }, folder, out, learned),
+        Request::LookupLines => lookup_lines(alloc, log, folder, out, learned),
         Request::Address { addr } => write_address(alloc, &addr, folder, out),
-        Request::Show { chain } => write_file_line(alloc, &Show { chain }, folder, out),
-        Request::Picture { chain } => picture(alloc, hasher, chain, folder, out),
+        Request::Show { chain } => write_file_line(alloc, &Show { chain }, folder, out, learned),
+        Request::Picture { chain } => picture(alloc, hasher, chain, folder, out, learned),
         Request::Raw { chain } => {
-            write_tables_json(alloc, hasher, TablesJson::Raw, chain, folder, out)
+            write_tables_json(alloc, hasher, TablesJson::Raw, chain, folder, out, learned)
         }
         Request::Info { chain } => {
-            write_tables_json(alloc, hasher, TablesJson::Info, chain, folder, out)
+            write_tables_json(alloc, hasher, TablesJson::Info, chain, folder, out, learned)
         }
         Request::Groups { chain } => {
-            write_tables_json(alloc, hasher, TablesJson::Groups, chain, folder, out)
+            write_tables_json(
+                alloc,
+                hasher,
+                TablesJson::Groups,
+                chain,
+                folder,
+                out,
+                learned,
+            )
         }
         Request::Ban { subnet, now, until } => {
-            change_bans(alloc, &BanSubnet { subnet, now, until }, folder, out)
+            change_bans(
+                alloc,
+                &BanSubnet { subnet, now, until },
+                folder,
+                out,
+                learned,
+            )
         }
-        Request::Unban { subnet } => change_bans(alloc, &UnbanSubnet { subnet }, folder, out),
-        Request::Banned { peer, now } => change_bans(alloc, &FindBan { peer, now }, folder, out),
-        Request::Bans { now } => list_bans(alloc, now, folder, out),
+        Request::Unban { subnet } => change_bans(
+            alloc,
+            &UnbanSubnet { subnet },
+            folder,
+            out,
+            learned,
+        ),
+        Request::Banned { peer, now } => change_bans(
+            alloc,
+            &FindBan { peer, now },
+            folder,
+            out,
+            learned,
+        ),
+        Request::Bans { now } => list_bans(alloc, now, folder, out, learned),
         Request::Gen { start, lines } => generate(alloc, start, lines, out),
         Request::Trial { start, lines } => trial(alloc, hasher, start, lines, out),
         Request::Help { command } => help(alloc, command, out),

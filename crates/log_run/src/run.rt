@@ -25,14 +25,23 @@ fn end_at(stop: Stop, line: u64) -> LogEnd
     }
 }
 
+/// Keeps a line that is not carried out, if there is memory for it.
+fn keep(line: &[u8], refused: &mut Vec<u8>) {
+    refused.clear();
+    // Nobody but a reader of messages misses it.
+    let _ = refused.extend_from_slice(line);
+}
+
 /// Carries out the lines of a log in order, each as soon as it was read, and writes the reply to
-/// each before the next line is read.
+/// each before the next line is read. `refused` gets the bytes of the line that is not carried out,
+/// if there is one, for a message about it.
 pub fn run_log<W, S: LineSteps<W>, L: Source, K: Sink>(
     alloc: Global,
     log: &mut L,
     state: &mut S,
     world: &mut W,
     out: &mut K,
+    refused: &mut Vec<u8>,
 ) -> LogEnd
     requires room { S.has_room state.old MAX_LOG }
     requires ready { S.ready state.old world.old }
@@ -59,7 +68,10 @@ pub fn run_log<W, S: LineSteps<W>, L: Source, K: Sink>(
         text.clear();
         match state.carry_out(alloc, reader.line(count), world, &mut text) {
             Ok(()) => {}
-            Err(stop) => return end_at(stop, line),
+            Err(stop) => {
+                keep(reader.line(count), refused);
+                return end_at(stop, line);
+            }
         }
         match write_all(out, text.as_slice()) {
             Ok(()) => {}

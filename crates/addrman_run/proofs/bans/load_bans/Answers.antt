@@ -1,4 +1,4 @@
-use Rattle.std.proofs.Common.{subst, sym}
+use Rattle.std.proofs.Common.{subst}
 use Rattle.std.specs.Prelude.{MatchOption}
 use Rattle.host_io.specs.declared.name.Name.TheVariants as name
 use Rattle.addrman_run.specs.InFolder.{IsAbsent}
@@ -11,13 +11,13 @@ pub returns-in-Ok-Some-clause-found : goal.returns-in-Ok-Some-clause-found
 returns-in-Ok-Some-clause-found g c =
     let old = g.F.Folder.past c.args.folder.now in
     let loaded = subst (λ o. MatchOption o (IsAbsent name.Bans old) (IsLoaded input.Bans old)) c.in-Ok-Some.field-0-is c.in-Ok-Some.ensures.found in
-    read_in old _ c.read_list.result (subst (IsLoaded input.Bans old) (sym c.items.ensures) loaded) c.read_list.ensures.found
+    read_in old _ c.read_list.result loaded c.read_list.ensures.found
 
 pub returns-in-Ok-Some-clause-cause : goal.returns-in-Ok-Some-clause-cause
 returns-in-Ok-Some-clause-cause g c =
     let old = g.F.Folder.past c.args.folder.now in
     let loaded = subst (λ o. MatchOption o (IsAbsent name.Bans old) (IsLoaded input.Bans old)) c.in-Ok-Some.field-0-is c.in-Ok-Some.ensures.found in
-    not_read old _ c.read_list.result (subst (IsLoaded input.Bans old) (sym c.items.ensures) loaded) c.read_list.ensures.cause
+    not_read old _ c.read_list.result loaded c.read_list.ensures.cause
 
 pub returns-in-Ok-Some-clause-disk : goal.returns-in-Ok-Some-clause-disk
 returns-in-Ok-Some-clause-disk g c =

@@ -4,7 +4,7 @@ use Rattle.addrman_run.specs.Outcome.{Ends}
 use Rattle.addrman_run.specs.Untouched.{AsksNoFolder, ReadsNoLog}
 use Rattle.addrman_run.proofs.Asked.{asks_something, not_read, same_request}
 use Rattle.addrman_run.proofs.Completing.{complete}
-use Rattle.addrman_run.proofs.top.run.Goals as goal
+use Rattle.addrman_run.proofs.top.run_learning.Goals as goal
 
 pub returns-in_default-clause-arguments : goal.returns-in_default-clause-arguments
 returns-in_default-clause-arguments g c = λ request asks. not_read c.read_request.result request (search rules) (c.read_request.ensures.only request asks)

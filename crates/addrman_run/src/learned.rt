@@ -1,0 +1,67 @@
+use host_io::Bytes;
+use std::alloc::Global;
+
+/// How many bytes of peers.dat end with its key.
+const HEAD: usize = 38;
+
+/// What a run learned besides its status, for messages to people. No contract speaks of it: what
+/// there was no memory for is missing, and so is what the run did not come to.
+#[derive(Drop)]
+pub struct Learned {
+    /// The line of the log that is not carried out.
+    pub(crate) line: Vec<u8>,
+    head: Vec<u8>,
+    /// The bytes of the text file that is refused.
+    pub(crate) text: Option<Bytes>,
+    pub(crate) passed_over: usize,
+    pub(crate) is_key_unused: bool,
+}
+
+impl Learned {
+    /// Makes what is known before a run: nothing.
+    pub fn make(alloc: Global) -> Learned {
+        Learned {
+            line: Vec::new(alloc),
+            head: Vec::new(alloc),
+            text: None,
+            passed_over: 0,
+            is_key_unused: false,
+        }
+    }
+
+    /// Returns the line of the log that is not carried out, without its line feed.
+    pub fn line(&self) -> &[u8] {
+        self.line.as_slice()
+    }
+
+    /// Returns the first bytes of the peers.dat or the asmap that was read: of peers.dat those up to
+    /// the end of its key.
+    pub fn head(&self) -> &[u8] {
+        self.head.as_slice()
+    }
+
+    /// Returns the bytes of prefixes.txt or banlist.json, if it is refused.
+    pub fn text(&self) -> &[u8] {
+        match &self.text {
+            Some(bytes) => bytes.items(),
+            None => b"",
+        }
+    }
+
+    /// Returns how many elements of banlist.json were passed over.
+    pub fn passed_over(&self) -> usize {
+        self.passed_over
+    }
+
+    /// Returns whether the arguments have a key and peers.dat another one, which is the tables'.
+    pub fn is_key_unused(&self) -> bool {
+        self.is_key_unused
+    }
+
+    /// Keeps the first bytes of a file.
+    pub(crate) fn keep_head(&mut self, bytes: &[u8]) {
+        self.head.clear();
+        let count = bytes.len().min(HEAD);
+        let _ = self.head.extend_from_slice(&bytes[..count]);
+    }
+}
