@@ -9,14 +9,16 @@
 #![tactic(auto)]
 
 mod ended;
+mod given;
 mod second;
 
-use crate::second::{Again, Facts, passed_over_by, second_lines};
-use addrman_run::{Status, run, status_line};
+use crate::given::{Given, folder_of};
+use crate::second::{Facts, second_lines};
+use addrman_run::{Learned, Status, run_learning, status_line};
 use arguments::help_text;
 pub use ended::Ended;
-use hints::{KeptReader, LastLines, NotedFiles, NotedWriter, Notes};
-use host_io::{DirFolder, Lock, StdSink, StdSource};
+use hints::NotedFolder;
+use host_io::{StdSink, StdSource};
 use std::alloc::Global;
 use std::fs::File;
 use std::hash::RandomState;
@@ -57,11 +59,7 @@ fn lines_of(alloc: Global, status: &Status, facts: &Facts<'_>) -> String {
     if *status == Status::WriteFault && facts.is_reader_gone() {
         return String::new(alloc);
     }
-    let mut line = Vec::new(alloc);
-    if status_line(status, &mut line).is_err() {
-        return String::new(alloc);
-    }
-    let mut text = String::from_utf8(line).unwrap_or(String::new(alloc));
+    let mut text = line_of(alloc, status);
     let after = if facts.words.is_empty() {
         list_of_commands(alloc)
     } else {
@@ -72,8 +70,27 @@ fn lines_of(alloc: Global, status: &Status, facts: &Facts<'_>) -> String {
     text
 }
 
+/// Returns the line of a status, or nothing if there is no memory for it.
+fn line_of(alloc: Global, status: &Status) -> String {
+    let mut line = Vec::new(alloc);
+    match status_line(status, &mut line) {
+        Ok(()) => String::from_utf8(line).unwrap_or(String::new(alloc)),
+        Err(_) => String::new(alloc),
+    }
+}
+
+/// Returns how the program ends if it cannot go to a folder.
+fn without_folder(alloc: Global, folder: &str, error: io::Error) -> Ended {
+    let status = Status::DiskFault;
+    let mut text = line_of(alloc, &status);
+    if let Ok(line) = format!(in alloc; "addrman: {folder} cannot be entered: {error}\n") {
+        let _ = text.push_str(line.as_str());
+    }
+    Ended::with(&status, text)
+}
+
 /// Runs the program, which reads standard input and writes standard output, and returns how it
-/// ended.
+/// ended. `-C DIR` or `--dir=DIR` before the command is the folder of its files.
 pub fn run_program(rt: &HostRuntime) -> Ended {
     let Ok(_streams) = open_closed_streams(rt) else {
         return Ended::before_the_run("addrman: the standard streams cannot be opened\n");
@@ -84,49 +101,53 @@ pub fn run_program(rt: &HostRuntime) -> Ended {
     let Ok(hasher) = RandomState::new(rt) else {
         return Ended::before_the_run("addrman: the system gives no random numbers\n");
     };
-    let tells_saves = words.first().is_some_and(|word| word.as_str() == "replay");
-    let notes = Notes::make(rt.alloc(), tells_saves);
-    run_over(
-        rt.alloc(),
-        hasher,
-        words.as_slice(),
-        &notes,
-        &NotedFiles::make(rt, &notes),
-        rt.reader(),
-        io::writer(rt),
-    )
+    let mut rest = words.as_slice();
+    if let Some((folder, count)) = folder_of(rest) {
+        if let Err(error) = env::set_current_dir(rt, folder) {
+            return without_folder(rt.alloc(), folder, error);
+        }
+        rest = rest.get(count..).unwrap_or(&[]);
+    }
+    match Given::of(rt.alloc(), rt, rest) {
+        Ok(given) => run_over(rt, hasher, &given, rt.reader(), io::writer(rt)),
+        Err(_) => Ended::before_the_run("addrman: the arguments cannot be read\n"),
+    }
 }
 
-/// Runs the program over these files, with a log and an output, and returns how it ended.
-fn run_over<F: Files + Alloc, I: Read + Drop, O: Write + Drop>(
-    alloc: Global,
+/// Runs the program with these arguments over the current folder, a log and an output, and returns
+/// how it ended.
+fn run_over<I: Read + Drop, O: Write + Drop>(
+    rt: &HostRuntime,
     hasher: RandomState,
-    words: &[String],
-    notes: &Notes,
-    files: &F,
+    given: &Given,
     input: I,
     output: O,
-) -> Ended
-where
-    F::File: Lock,
-{
-    let mut lines = LastLines::make(alloc);
-    let mut error = None;
-    let mut folder = DirFolder::make(files);
-    let passed_over = passed_over_by(alloc, words, &mut folder);
-    let status = {
-        let mut log = StdSource::make(KeptReader::make(input, &mut lines));
-        let mut out = StdSink::make(NotedWriter::make(output, &mut error));
-        run(alloc, hasher, words, &mut log, &mut folder, &mut out)
-    };
-    let again = Again::read(alloc, &status, words, &mut folder);
+) -> Ended {
+    let alloc = rt.alloc();
+    let words = given.words.as_slice();
+    let tells_saves = words.first().is_some_and(|word| word.as_str() == "replay");
+    let mut folder = NotedFolder::make(rt, tells_saves);
+    let mut log = StdSource::make(input);
+    let mut out = StdSink::make(output);
+    let mut learned = Learned::make(alloc);
+    let status = run_learning(
+        alloc,
+        hasher,
+        words,
+        &mut log,
+        &mut folder,
+        &mut out,
+        &mut learned,
+    );
+    let failure = folder.failure_text().unwrap_or(String::new(alloc));
     let facts = Facts {
         words,
-        lines: &lines,
-        output: error,
-        notes,
-        again: &again,
-        passed_over,
+        hint: given.hint.as_str(),
+        learned: &learned,
+        input: log.error(),
+        output: out.error(),
+        failure: failure.as_str(),
+        saves: folder.saves(),
     };
     let said = lines_of(alloc, &status, &facts);
     Ended::with(&status, said)

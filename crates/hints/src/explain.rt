@@ -4,6 +4,9 @@ use crate::shown::quoted;
 use crate::wanted::find_wanted;
 use std::alloc::{AllocError, Global};
 
+/// What is said of a text that `lookup` does not read.
+pub(crate) const LOOKUP: &str = "; addrman address reads addresses without a port, and names";
+
 /// What is wrong with texts, and which of them it is in.
 #[derive(Drop)]
 pub(crate) struct Wrong {
@@ -33,65 +36,88 @@ pub(crate) fn explain(
         }
     }
     let more = if form.ends_with("UNTIL") {
-        ", and UNTIL is after NOW"
+        ", with UNTIL after NOW"
     } else {
         ""
     };
-    let text = format!(in alloc; "the form is \"{form}\"{more}")?;
+    let text = format!(in alloc; "expected \"{form}\"{more}")?;
     Ok(Wrong { text, index: 0 })
 }
 
-/// Says what is wanted in the place of a field, or returns `None` if the field is right.
+/// Says what is expected in the place of a field, or returns `None` if the field is right.
 fn explain_field(
     alloc: Global,
     form: &'static str,
     name: &'static str,
     field: &[u8],
 ) -> Result<Option<String>, AllocError> {
-    let keyword = keyword_of(form);
-    let shown = quoted(alloc, field)?;
-    let shown = shown.as_str();
     if let Some((first, second)) = name.split_once('|') {
         if field == first.as_bytes() || field == second.as_bytes() {
             return Ok(None);
         }
-        let text = format!(in alloc; "{keyword} wants {first} or {second}; {shown} is none")?;
-        return Ok(Some(text));
+        let mut expected = String::from_str(alloc, first)?;
+        expected.push_str(" or ")?;
+        expected.push_str(second)?;
+        return Ok(Some(expected_text(alloc, expected.as_str(), field, "")?));
     }
     match find_wanted(name) {
         Some(wanted) if !wanted.has(alloc, field) => {
-            let text = format!(in alloc; "{keyword} wants {}; {shown} is none", wanted.text)?;
+            let usual = wanted.usual_error(field).unwrap_or("");
+            let mut text = expected_text(alloc, wanted.text, field, usual)?;
+            if keyword_of(form) == "lookup" {
+                text.push_str(LOOKUP)?;
+            }
             Ok(Some(text))
         }
         _ => Ok(None),
     }
 }
 
-/// Says how many fields there are, and how many the form has.
+/// Says what is expected, what there is, and which usual error it has, if it has one.
+pub fn expected_text(
+    alloc: Global,
+    expected: &str,
+    field: &[u8],
+    usual: &str,
+) -> Result<String, AllocError> {
+    let shown = quoted(alloc, field)?;
+    let colon = if usual.is_empty() { "" } else { ": " };
+    format!(in alloc; "expected {expected}; got {}{colon}{usual}", shown.as_str())
+}
+
+/// Says how many fields there are, and which the form has.
 fn other_count(
     alloc: Global,
     reader: Reader,
     form: &'static str,
     fields: &[&[u8]],
 ) -> Result<String, AllocError> {
-    let keyword = keyword_of(form);
-    let count = form.split(' ').skip(1).count();
-    let have = fields.len();
+    if keyword_of(form) == "limit" {
+        return String::from_str(alloc, "limit reads its log from standard input, as < FILE");
+    }
+    if has_empty(fields) {
+        return format!(in alloc; "expected one space before each field, as in \"{form}\"");
+    }
     let what = if reader == Reader::Arguments {
         "arguments"
     } else {
         "fields"
     };
-    if keyword == "limit" {
-        return String::from_str(alloc, "limit reads its log from standard input, as < FILE");
+    format!(in alloc;
+        "expected \"{form}\"; {what} after {}: {}",
+        keyword_of(form),
+        fields.len()
+    )
+}
+
+/// Returns whether a field is empty.
+fn has_empty(fields: &[&[u8]]) -> bool {
+    for field in fields {
+        if field.is_empty() {
+            return true;
+        }
     }
-    if count == 0 {
-        return format!(in alloc; "{keyword} has no {what}");
-    }
-    if fields.iter().any(|field| field.is_empty()) {
-        return format!(in alloc; "one space is before each field, as in \"{form}\"");
-    }
-    format!(in alloc; "{what} after {keyword}: {count}, as in \"{form}\", not {have}")
+    false
 }
 
 /// Says which command reads lines that begin with this keyword, or which keyword is the nearest.
@@ -100,21 +126,39 @@ pub(crate) fn unknown_keyword(
     reader: Reader,
     keyword: &[u8],
 ) -> Result<String, AllocError> {
-    let shown = quoted(alloc, keyword)?;
-    let shown = shown.as_str();
-    if reader == Reader::Arguments {
-        return match nearest(alloc, reader.forms(), keyword)? {
-            Some(name) => format!(in alloc; "{shown} is no command; the nearest is {name}"),
-            None => format!(in alloc; "{shown} is no command; addrman help names all"),
-        };
-    }
-    if let Some(other) = Reader::that_knows(keyword) {
+    if let Some(other) = reader.that_knows(keyword) {
         // The keyword is one of a table, so it is short and has no other byte.
         let name = str::from_utf8(keyword).unwrap_or("");
         return format!(in alloc; "{name} is a line of {}", other.command());
     }
-    match nearest(alloc, reader.forms(), keyword)? {
-        Some(name) => format!(in alloc; "{shown} is no keyword; the nearest is {name}"),
-        None => format!(in alloc; "{shown} is no keyword"),
+    let shown = quoted(alloc, keyword)?;
+    let what = reader.keyword_name();
+    let mut text = format!(in alloc; "{} is no {what}", shown.as_str())?;
+    if let Some(name) = in_lower_case(alloc, reader, keyword)? {
+        text.push_str("; it is written in lower case: ")?;
+        text.push_str(name)?;
+    } else if let Some(name) = nearest(alloc, reader.forms(), keyword)? {
+        text.push_str("; did you mean ")?;
+        text.push_str(name)?;
+        text.push_str("?")?;
+    } else if reader == Reader::Arguments {
+        text.push_str("; addrman help lists them")?;
+    }
+    Ok(text)
+}
+
+/// Returns the keyword that a text is in lower case, if it has a capital letter.
+fn in_lower_case(
+    alloc: Global,
+    reader: Reader,
+    text: &[u8],
+) -> Result<Option<&'static str>, AllocError> {
+    let mut lower = Vec::new(alloc);
+    for byte in text {
+        lower.push(byte.to_ascii_lowercase())?;
+    }
+    match reader.find_form(lower.as_slice()) {
+        Some(form) => Ok(Some(keyword_of(form))),
+        None => Ok(None),
     }
 }

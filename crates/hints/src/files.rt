@@ -1,12 +1,17 @@
+use crate::shown::{MARKED, PACKED, is_marked, is_packed};
 use asmap_compile::{CompileFault, MAX_BITS};
 use asmap_vm::CodeFault;
 use ban_list::{BanFault, MAX_BANS, MAX_FILE};
 use bit_code::MAX_ASMAP;
 use host_io::Name;
+use serde_json::Value;
 use std::alloc::{AllocError, Global};
 
-/// Says why asmap.dat is refused.
-pub fn asmap_hint(alloc: Global, fault: &CodeFault) -> Result<String, AllocError> {
+/// Says why an asmap is refused, which begins with these bytes.
+pub fn asmap_hint(alloc: Global, fault: &CodeFault, head: &[u8]) -> Result<String, AllocError> {
+    if is_packed(head) {
+        return String::from_str(alloc, PACKED);
+    }
     match fault {
         CodeFault::TooLarge { size } => {
             format!(in alloc; "an asmap has at most {MAX_ASMAP} bytes, not {size}")
@@ -31,13 +36,10 @@ pub fn compile_hint(alloc: Global, fault: &CompileFault) -> Result<String, Alloc
     }
 }
 
-/// Says why banlist.json is refused.
-pub fn bans_hint(alloc: Global, fault: &BanFault) -> Result<String, AllocError> {
+/// Says why banlist.json is refused, which has this text.
+pub fn bans_hint(alloc: Global, fault: &BanFault, text: &[u8]) -> Result<String, AllocError> {
     match fault {
-        BanFault::Json => String::from_str(
-            alloc,
-            "it is no JSON text: an empty list is {\"banned_nets\":[]}",
-        ),
+        BanFault::Json => json_hint(alloc, text),
         BanFault::Form => {
             String::from_str(alloc, "it is no object with an array under banned_nets")
         }
@@ -46,6 +48,25 @@ pub fn bans_hint(alloc: Global, fault: &BanFault) -> Result<String, AllocError> 
             format!(in alloc; "there are at most {MAX_FILE} bytes, not {size}")
         }
         BanFault::Memory => Ok(String::new(alloc)),
+    }
+}
+
+/// Says why a text is no JSON.
+fn json_hint(alloc: Global, text: &[u8]) -> Result<String, AllocError> {
+    if is_packed(text) {
+        return String::from_str(alloc, PACKED);
+    }
+    if is_marked(text) {
+        return String::from_str(alloc, MARKED);
+    }
+    match Value::from_slice(alloc, text) {
+        Err(error) => {
+            let (line, column) = (error.line(), error.column());
+            format!(in alloc;
+                "line {line}, column {column}: no JSON; an empty list is {{\"banned_nets\":[]}}"
+            )
+        }
+        Ok(_) => Ok(String::new(alloc)),
     }
 }
 

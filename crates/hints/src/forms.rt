@@ -1,16 +1,16 @@
 /// The forms of the command line, one a command.
 static COMMANDS: [&str; 22] = [
-    "replay --key HEX64 --net CHAIN",
-    "opener --key HEX64 --net CHAIN",
+    "replay [--key HEX64] [--net CHAIN]",
+    "opener [--key HEX64] [--net CHAIN]",
     "limit",
-    "show --net CHAIN",
-    "picture --net CHAIN",
-    "raw --net CHAIN",
-    "info --net CHAIN",
-    "groups --net CHAIN",
+    "show [--net CHAIN]",
+    "picture [--net CHAIN]",
+    "raw [--net CHAIN]",
+    "info [--net CHAIN]",
+    "groups [--net CHAIN]",
     "compile",
     "decompile",
-    "diff --peers --net CHAIN",
+    "diff [--peers [--net CHAIN]]",
     "check",
     "lookup PEER",
     "address TEXT",
@@ -20,7 +20,7 @@ static COMMANDS: [&str; 22] = [
     "bans NOW",
     "gen START LINES",
     "trial START LINES",
-    "help COMMAND",
+    "help [COMMAND]",
     "version",
 ];
 
@@ -85,16 +85,33 @@ static LOGS: [Reader; 3] = [Reader::Replay, Reader::Opener, Reader::Limit];
 impl Reader {
     /// Returns the reader of the log of a command.
     pub(crate) fn of_log(command: &[u8]) -> Option<Reader> {
-        LOGS.iter()
-            .copied()
-            .find(|reader| reader.command().as_bytes() == command)
+        for reader in LOGS {
+            if reader.command().as_bytes() == command {
+                return Some(reader);
+            }
+        }
+        None
     }
 
-    /// Returns a reader of logs that knows this keyword.
-    pub(crate) fn that_knows(keyword: &[u8]) -> Option<Reader> {
-        LOGS.iter()
-            .copied()
-            .find(|reader| reader.find_form(keyword).is_some())
+    /// Returns another reader of logs, which knows this keyword. The command line has none.
+    pub(crate) fn that_knows(self, keyword: &[u8]) -> Option<Reader> {
+        if self == Reader::Arguments {
+            return None;
+        }
+        for reader in LOGS {
+            if reader.find_form(keyword).is_some() {
+                return Some(reader);
+            }
+        }
+        None
+    }
+
+    /// Returns what a keyword is called.
+    pub(crate) fn keyword_name(self) -> &'static str {
+        match self {
+            Reader::Arguments => "command",
+            _ => "keyword",
+        }
     }
 
     /// Returns the command that reads a log in this way.
@@ -119,10 +136,12 @@ impl Reader {
 
     /// Returns the form that begins with this keyword.
     pub(crate) fn find_form(self, keyword: &[u8]) -> Option<&'static str> {
-        self.forms()
-            .iter()
-            .copied()
-            .find(|form| keyword_of(form).as_bytes() == keyword)
+        for form in self.forms() {
+            if keyword_of(*form).as_bytes() == keyword {
+                return Some(*form);
+            }
+        }
+        None
     }
 }
 

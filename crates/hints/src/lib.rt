@@ -6,28 +6,25 @@
 #![tactic(auto)]
 
 mod explain;
+mod failure;
 mod files;
 mod forms;
-mod last_lines;
 mod line;
 mod nearest;
-mod noted_files;
-mod noted_writer;
-mod notes;
+mod noted_folder;
 mod options;
 mod peers;
 mod row;
 mod shown;
 mod stream;
 mod usage;
+mod usual;
 mod wanted;
 
+pub use explain::expected_text;
 pub use files::{asmap_hint, bans_hint, compile_hint, missing_hint};
-pub use last_lines::{KeptReader, LastLines};
 pub use line::line_hint;
-pub use noted_files::NotedFiles;
-pub use noted_writer::NotedWriter;
-pub use notes::Notes;
+pub use noted_folder::{NotedFolder, Saves};
 pub use peers::{duplicate_hint, peers_hint};
 pub use row::table_hint;
 pub use stream::stream_hint;

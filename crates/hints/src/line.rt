@@ -1,6 +1,6 @@
 use crate::explain::explain;
 use crate::forms::Reader;
-use crate::shown::{is_marked, quoted};
+use crate::shown::{MARKED, is_marked};
 use std::alloc::{AllocError, Global};
 
 /// Says what is wrong with a line of a log, which the command of this name refuses, and in which
@@ -10,36 +10,33 @@ pub fn line_hint(
     command: &[u8],
     number: u64,
     line: &[u8],
-) -> Result<Option<String>, AllocError> {
+) -> Result<String, AllocError> {
+    if line.is_empty() {
+        return Ok(String::new(alloc));
+    }
     if number == 1 && is_marked(line) {
-        let text = String::from_str(alloc, "the file begins with a byte order mark")?;
-        return Ok(Some(text));
+        return String::from_str(alloc, MARKED);
     }
     if line.last() == Some(&b'\r') {
-        let text = String::from_str(alloc, "the line ends with a carriage return")?;
-        return Ok(Some(text));
+        return String::from_str(alloc, "the line ends with a carriage return");
     }
     if line.first() == Some(&b' ') {
-        let text = String::from_str(alloc, "column 1: the line begins with a space")?;
-        return Ok(Some(text));
+        return String::from_str(alloc, "column 1: the line begins with a space");
     }
     if command == b"lookup".as_slice() {
-        let shown = quoted(alloc, line)?;
-        let shown = shown.as_str();
-        let text = format!(in alloc; "a line is an address with a port; {shown} is none")?;
-        return Ok(Some(text));
+        let wrong = explain(alloc, Reader::Arguments, command, &[line])?;
+        return Ok(wrong.text);
     }
     let Some(reader) = Reader::of_log(command) else {
-        return Ok(None);
+        return Ok(String::new(alloc));
     };
     let fields = fields_of(alloc, line)?;
     let Some((keyword, rest)) = fields.as_slice().split_first() else {
-        return Ok(None);
+        return Ok(String::new(alloc));
     };
     let wrong = explain(alloc, reader, *keyword, rest)?;
     let column = column_of(fields.as_slice(), wrong.index);
-    let text = format!(in alloc; "column {column}: {}", wrong.text.as_str())?;
-    Ok(Some(text))
+    format!(in alloc; "column {column}: {}", wrong.text.as_str())
 }
 
 /// Returns the texts between the spaces of a line.

@@ -1,3 +1,4 @@
+use crate::explain::expected_text;
 use crate::forms::keyword_of;
 use crate::peers::CHAINS;
 use crate::shown::quoted;
@@ -67,8 +68,8 @@ pub(crate) fn explain_options(
         };
     }
     match pending {
-        Some(name) => format!(in alloc; "{} wants {}", name.text(), name.wanted()),
-        None => format!(in alloc; "the form is \"{form}\""),
+        Some(name) => format!(in alloc; "{}: expected {}", name.text(), name.wanted()),
+        None => format!(in alloc; "expected \"{form}\""),
     }
 }
 
@@ -116,34 +117,50 @@ fn explain_given(alloc: Global, given: Given<'_>) -> Result<Option<String>, Allo
     }
 }
 
-/// Says what is wrong with the name of a chain, or returns `None` if nothing is.
-fn explain_chain(alloc: Global, value: &str) -> Result<Option<String>, AllocError> {
-    if CHAINS.iter().any(|(_, name)| *name == value) {
+/// Says what is wrong with a key, or returns `None` if nothing is. The key is not shown.
+fn explain_key(alloc: Global, digits: &str) -> Result<Option<String>, AllocError> {
+    let Some(error) = key_error(digits) else {
         return Ok(None);
-    }
-    let shown = quoted(alloc, value.as_bytes())?;
-    let wanted = Name::Net.wanted();
-    let text = format!(in alloc; "--net wants {wanted}; {} is none", shown.as_str())?;
+    };
+    let count = digits.len();
+    let wanted = Name::Key.wanted();
+    let text = format!(in alloc; "--key: expected {wanted}; got {count} characters{error}")?;
     Ok(Some(text))
 }
 
-/// Says what is wrong with a key, or returns `None` if nothing is.
-fn explain_key(alloc: Global, digits: &str) -> Result<Option<String>, AllocError> {
-    let count = digits.len();
-    if count != KEY_DIGITS {
-        let text = format!(in alloc;
-            "a key has {KEY_DIGITS} hexadecimal digits, this has {count}"
-        )?;
-        return Ok(Some(text));
+/// Says what is wrong with the name of a chain, or returns `None` if nothing is.
+fn explain_chain(alloc: Global, value: &str) -> Result<Option<String>, AllocError> {
+    if is_chain(value) {
+        return Ok(None);
     }
-    for (i, byte) in digits.as_bytes().iter().enumerate() {
-        if !byte.is_ascii_hexdigit() {
-            let shown = quoted(alloc, digits.as_bytes().get(i..).unwrap_or(b""))?;
-            let text = format!(in alloc; "a key has hexadecimal digits, not {}", shown.as_str())?;
-            return Ok(Some(text));
+    let said = expected_text(alloc, Name::Net.wanted(), value.as_bytes(), "")?;
+    Ok(Some(format!(in alloc; "--net: {}", said.as_str())?))
+}
+
+/// Returns whether a text is the name of a chain.
+fn is_chain(value: &str) -> bool {
+    for (_, name) in &CHAINS {
+        if *name == value {
+            return true;
         }
     }
-    Ok(None)
+    false
+}
+
+/// Returns what is wrong with a key besides its length.
+fn key_error(digits: &str) -> Option<&'static str> {
+    if digits.starts_with("0x") {
+        return Some(", and a key has no 0x");
+    }
+    for byte in digits.as_bytes() {
+        if !byte.is_ascii_hexdigit() {
+            return Some(", and not all are such digits");
+        }
+    }
+    if digits.len() != KEY_DIGITS {
+        return Some("");
+    }
+    None
 }
 
 /// Says that the form has no such option.
@@ -152,7 +169,7 @@ fn no_option(alloc: Global, form: &'static str, word: &str) -> Result<String, Al
     let shown = quoted(alloc, word.as_bytes())?;
     let shown = shown.as_str();
     if word.starts_with("-") || !(command == "replay" || command == "opener") {
-        return format!(in alloc; "{shown} is no option of {command}; the form is \"{form}\"");
+        return format!(in alloc; "{shown} is no option of {command}; expected \"{form}\"");
     }
     format!(in alloc;
         "{shown} is no option: {command} reads its log from standard input, as < FILE"

@@ -1,3 +1,5 @@
+use crate::shown::{PACKED, is_packed};
+use net_addr::put_hex;
 use peer_rec::{MAX_BUCKETS, MAX_NEW, MAX_TRIED};
 use peers_file::{FileFault, MAX_FILE, RecordCause, Which};
 use std::alloc::{AllocError, Global};
@@ -14,6 +16,9 @@ pub(crate) static CHAINS: [([u8; 4], &str); 4] = [
 /// Says what is wrong with peers.dat, which begins with these bytes: which chain and which format
 /// it has, and the fault.
 pub fn peers_hint(alloc: Global, fault: &FileFault, head: &[u8]) -> Result<String, AllocError> {
+    if is_packed(head) {
+        return String::from_str(alloc, PACKED);
+    }
     let mut text = head_text(alloc, head)?;
     text.push_str(fault_text(alloc, fault, head)?.as_str())?;
     Ok(text)
@@ -54,9 +59,9 @@ fn fault_text(alloc: Global, fault: &FileFault, head: &[u8]) -> Result<String, A
         FileFault::BadMagic => magic_text(alloc, head),
         FileFault::BadSum => String::from_str(alloc, "it was cut off or changed: copy it again"),
         FileFault::Compat { byte } => {
-            format!(in alloc; "the compat byte is from 32 to 36, not {byte}")
+            format_text(alloc, "the compat byte is from 32 to 36", *byte, 36)
         }
-        FileFault::Version { byte } => format!(in alloc; "formats 1 to 4 are read, not {byte}"),
+        FileFault::Version { byte } => format_text(alloc, "formats 1 to 4 are read", *byte, 4),
         FileFault::Count { which, value } => count_text(alloc, *which, *value),
         FileFault::Record { index, cause } => record_text(alloc, *index, *cause),
         FileFault::Buckets { value } => {
@@ -81,8 +86,25 @@ fn fault_text(alloc: Global, fault: &FileFault, head: &[u8]) -> Result<String, A
 fn magic_text(alloc: Global, head: &[u8]) -> Result<String, AllocError> {
     match chain_of(head) {
         Some(chain) => format!(in alloc; "another chain was asked for; --net {chain} reads it"),
-        None => String::from_str(alloc, "its first four bytes are those of no chain"),
+        None => {
+            let mut text = Vec::new(alloc);
+            let first = head.get(..4).unwrap_or(head);
+            if put_hex(b"no chain has its first four bytes, ", first, &mut text).is_err() {
+                return Err(AllocError);
+            }
+            Ok(String::from_utf8(text).unwrap_or(String::new(alloc)))
+        }
     }
+}
+
+/// Says which numbers are read in the place of a byte, and who writes larger ones.
+fn format_text(alloc: Global, read: &str, byte: u8, max: u8) -> Result<String, AllocError> {
+    let newer = if byte > max {
+        ": a newer Bitcoin Core wrote it"
+    } else {
+        ""
+    };
+    format!(in alloc; "{read}, not {byte}{newer}")
 }
 
 /// Says how many records of a table there are.

@@ -1,4 +1,6 @@
-use crate::shown::{is_marked, quoted};
+use crate::explain::expected_text;
+use crate::shown::{MARKED, PACKED, is_marked, is_packed, quoted};
+use crate::usual::usual_error;
 use ban_list::{parse_subnet, put_subnet};
 use host_io::split_line;
 use prefix_table::{MAX_ASN, MAX_ROWS, MAX_TEXT, TableFault, read_table};
@@ -9,6 +11,9 @@ const MAX_ROW: usize = 1000;
 
 /// Says what is wrong with prefixes.txt, which has this text and this fault.
 pub fn table_hint(alloc: Global, fault: &TableFault, text: &[u8]) -> Result<String, AllocError> {
+    if is_packed(text) {
+        return String::from_str(alloc, PACKED);
+    }
     match fault {
         TableFault::Form { line } | TableFault::Number { line } => {
             row_hint(alloc, *line, line_at(text, *line))
@@ -32,14 +37,13 @@ fn line_at(text: &[u8], number: u32) -> &[u8] {
 /// Says what is wrong with the form or the numbers of a row.
 fn row_hint(alloc: Global, number: u32, row: &[u8]) -> Result<String, AllocError> {
     if number == 1 && is_marked(row) {
-        return String::from_str(alloc, "the file begins with a byte order mark");
+        return String::from_str(alloc, MARKED);
     }
     if row.last() == Some(&b'\r') {
         return String::from_str(alloc, "the line ends with a carriage return");
     }
     let Some(space) = row.iter().position(|byte| *byte == b' ') else {
-        let shown = quoted(alloc, row)?;
-        return format!(in alloc; "a row is as 1.2.0.0/16 AS6; {} is none", shown.as_str());
+        return expected_text(alloc, "a row, as 1.2.0.0/16 AS6", row, "");
     };
     let (prefix, asn) = row.split_at(space);
     if is_row(alloc, prefix, b" AS1")? {
@@ -53,9 +57,10 @@ fn prefix_hint(alloc: Global, prefix: &[u8]) -> Result<String, AllocError> {
     if prefix.is_empty() {
         return String::from_str(alloc, "column 1: the line begins with a space");
     }
-    let shown = quoted(alloc, prefix)?;
-    let shown = shown.as_str();
-    format!(in alloc; "column 1: a prefix is as 1.2.0.0/16 or 2001:470::/32; {shown} is none")
+    let usual = usual_error("S", prefix).unwrap_or("");
+    let expected = "a prefix, as 1.2.0.0/16 or 2001:470::/32";
+    let said = expected_text(alloc, expected, prefix, usual)?;
+    format!(in alloc; "column 1: {}", said.as_str())
 }
 
 /// Says what is wrong with the AS number of a row, which comes after the space at an index.
@@ -63,7 +68,7 @@ fn asn_hint(alloc: Global, space: usize, asn: &[u8]) -> Result<String, AllocErro
     let column = space.saturating_add(2);
     let shown = quoted(alloc, asn.get(1..).unwrap_or(b""))?;
     let shown = shown.as_str();
-    format!(in alloc; "column {column}: AS1 to AS{MAX_ASN} are wanted; {shown} is none of them")
+    format!(in alloc; "column {column}: expected AS1 to AS{MAX_ASN}; got {shown}")
 }
 
 /// Returns whether two texts together are a row, or have bits after their prefix.

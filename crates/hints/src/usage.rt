@@ -17,13 +17,13 @@ pub fn usage_hint(alloc: Global, words: &[String]) -> Result<String, AllocError>
     let Some((command, rest)) = words.split_first() else {
         return String::from_str(
             alloc,
-            "a command is wanted, as in addrman lookup 1.2.3.4:8333",
+            "expected a command, as in addrman lookup 1.2.3.4:8333",
         );
     };
-    if command.as_str().starts_with("--") {
+    if command.as_str().starts_with("-") {
         return String::from_str(
             alloc,
-            "the command comes first, as in addrman show --net CHAIN",
+            "expected [-C DIR] COMMAND before other options, as in addrman show --net CHAIN",
         );
     }
     if let Some(form) = Reader::Arguments.find_form(command.as_bytes())

@@ -1,3 +1,4 @@
+use crate::usual::usual_error;
 use ban_list::parse_subnet;
 use gen_load::MAX_LINES;
 use grammar::{AddrClasses, Field, Networks, Payload, Random};
@@ -40,7 +41,7 @@ static NAMES: [Wanted; 19] = [
     Wanted {
         name: "ADDR",
         kind: Kind::Addr,
-        text: "an address without a port, as 1.2.3.4 or [2001:470::1]",
+        text: "ADDR, as 1.2.3.4 or [2001:470::1]",
     },
     Wanted {
         name: "BYTES",
@@ -90,7 +91,7 @@ static NAMES: [Wanted; 19] = [
     Wanted {
         name: "PEER",
         kind: Kind::Peer,
-        text: "an address with a port, as 1.2.3.4:8333",
+        text: "ADDR:PORT, as 1.2.3.4:8333 or [2001:470::1]:8333",
     },
     Wanted {
         name: "PERCENT",
@@ -120,7 +121,7 @@ static NAMES: [Wanted; 19] = [
     Wanted {
         name: "TEXT",
         kind: Kind::Text,
-        text: "an address or a name, with or without a port, as 1.2.3.4 or NAME.onion",
+        text: "an address or a name, as 1.2.3.4, 2001:470::1 or NAME.onion",
     },
     Wanted {
         name: "UNTIL",
@@ -136,7 +137,12 @@ static NAMES: [Wanted; 19] = [
 
 /// Returns what a name in a form stands for.
 pub(crate) fn find_wanted(name: &str) -> Option<&'static Wanted> {
-    NAMES.iter().find(|wanted| wanted.name == name)
+    for wanted in &NAMES {
+        if wanted.name == name {
+            return Some(wanted);
+        }
+    }
+    None
 }
 
 impl Wanted {
@@ -151,9 +157,22 @@ impl Wanted {
             Kind::Words => Random::read(alloc, text).is_ok(),
             Kind::Networks => Networks::read(alloc, text).is_ok(),
             Kind::Classes => AddrClasses::read(alloc, text).is_ok(),
-            Kind::Number(least, most) => {
-                parse_number(text, most).is_some_and(|number| number >= least)
-            }
+            Kind::Number(least, most) => match parse_number(text, most) {
+                Some(number) => number >= least,
+                None => false,
+            },
         }
+    }
+
+    /// Returns which usual error a text has that is none of those.
+    pub(crate) fn usual_error(&self, text: &[u8]) -> Option<&'static str> {
+        let kind = match self.kind {
+            Kind::Addr => "A",
+            Kind::Peer => "P",
+            Kind::Subnet => "S",
+            Kind::Text => "T",
+            _ => return None,
+        };
+        usual_error(kind, text)
     }
 }

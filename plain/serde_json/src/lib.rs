@@ -32,13 +32,34 @@ pub enum Error {
     /// Memory ran out.
     Memory,
     /// The text is not JSON.
-    Text,
+    Text {
+        /// The line of the error, counted from 1.
+        line: usize,
+        /// Its column in bytes.
+        column: usize,
+    },
 }
 
 impl Error {
     /// Returns whether memory ran out.
     pub fn is_memory(&self) -> bool {
         *self == Error::Memory
+    }
+
+    /// Returns the line of the error, counted from 1; 0 if memory ran out.
+    pub fn line(&self) -> usize {
+        match self {
+            Error::Memory => 0,
+            Error::Text { line, .. } => *line,
+        }
+    }
+
+    /// Returns the column of the error in bytes; 0 if memory ran out.
+    pub fn column(&self) -> usize {
+        match self {
+            Error::Memory => 0,
+            Error::Text { column, .. } => *column,
+        }
     }
 }
 
@@ -174,6 +195,10 @@ mod tests {
         Value::from_slice(Global, text.as_bytes())
     }
 
+    fn is_text(read: Result<Value, Error>) -> bool {
+        matches!(read, Err(Error::Text { line: 1, .. }))
+    }
+
     #[test]
     fn members_are_found_and_the_last_of_a_name_holds() {
         let value = read(r#"{"b": [1, -2, "x\u00e9"], "a": 7, "a": true, "c": null}"#).unwrap();
@@ -188,7 +213,7 @@ mod tests {
     #[test]
     fn floats_are_read_up_to_the_greatest() {
         assert!(read("1.7976931348623158e308").is_ok());
-        assert_eq!(read("1e999").err(), Some(Error::Text));
+        assert!(is_text(read("1e999")));
         assert_eq!(read("18446744073709551615").unwrap().as_u64(), Some(u64::MAX));
         assert_eq!(read("18446744073709551616").unwrap().as_u64(), None);
         assert_eq!(read("-0").unwrap().as_i64(), None);
@@ -197,9 +222,9 @@ mod tests {
     #[test]
     fn other_text_is_refused() {
         for text in ["", "{", "[1,]", "tru", "\"\\ud800\"", "1 2", "\"\n\"", "01"] {
-            assert_eq!(read(text).err(), Some(Error::Text), "{text}");
+            assert!(is_text(read(text)), "{text}");
         }
-        assert_eq!(read(&"[".repeat(128)).err(), Some(Error::Text));
+        assert!(is_text(read(&"[".repeat(128))));
     }
 
     #[test]

@@ -16,7 +16,10 @@ pub(crate) fn value_of(text: &[u8]) -> Result<Value, Error> {
     match value.and_then(|value| reader.end().map(|()| value)) {
         Ok(value) => Ok(value),
         Err(_) if no_memory.get() => Err(Error::Memory),
-        Err(_) => Err(Error::Text),
+        Err(error) => Err(Error::Text {
+            line: error.line(),
+            column: error.column(),
+        }),
     }
 }
 

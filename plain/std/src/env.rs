@@ -18,6 +18,15 @@ pub fn args<R: Env>(rt: &R) -> io::Result<std::vec::IntoIter<String>> {
     Ok(rt.all_args()?.into_iter())
 }
 
+/// Changes the current folder of the process.
+///
+/// # Errors
+///
+/// Those of the system, if the folder cannot be entered.
+pub fn set_current_dir<R: Env>(_rt: &R, path: &str) -> io::Result<()> {
+    Ok(std::env::set_current_dir(path)?)
+}
+
 /// The arguments as C's `main` got them.
 #[cfg(unix)]
 struct Words(*const *const c_char, usize);

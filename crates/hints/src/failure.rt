@@ -1,0 +1,41 @@
+use host_io::{Failure, Tried};
+use std::alloc::{AllocError, Global};
+use std::io::ErrorKind;
+
+/// Says which call on a file or on the folder failed, and why.
+pub fn failure_hint(
+    alloc: Global,
+    failure: &Failure,
+    is_in_use: bool,
+) -> Result<String, AllocError> {
+    if is_in_use {
+        return String::from_str(
+            alloc,
+            "the folder is in use: another program is saving there",
+        );
+    }
+    let name = match failure.name {
+        Some(name) => name.file_name(),
+        None => "the folder",
+    };
+    if failure.error.kind() == ErrorKind::InvalidInput {
+        return format!(in alloc; "{name} is no regular file");
+    }
+    format!(in alloc;
+        "{name} cannot be {}: {}",
+        past_of(failure.tried),
+        failure.error
+    )
+}
+
+/// Returns the participle of what was tried.
+fn past_of(tried: Tried) -> &'static str {
+    match tried {
+        Tried::Lock => "locked",
+        Tried::Read => "read",
+        Tried::Create => "created",
+        Tried::Write => "written",
+        Tried::Sync => "synced",
+        Tried::Rename => "renamed",
+    }
+}

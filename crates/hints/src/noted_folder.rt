@@ -1,0 +1,134 @@
+ghost use Rattle.std.specs.Prelude.{◌≡◌, ◌≢◌, ◌<◌, length};
+
+use crate::failure::failure_hint;
+use host_io::{DirFolder, Failed, Folder, Lock, Name};
+use std::alloc::{AllocError, Global};
+use std::marker::Model;
+use std::rt::Files;
+
+/// How many saves of a run were done, and how many failed.
+#[derive(Clone, Copy)]
+pub struct Saves {
+    pub done: u64,
+    pub failed: u64,
+    /// Whether the last one failed.
+    pub is_unsaved: bool,
+}
+
+/// The current folder, with the saves counted. A save that fails is reported at once, if the run
+/// goes on after it.
+#[derive(Drop)]
+pub struct NotedFolder<'a, R: Files> {
+    folder: DirFolder<'a, R>,
+    rt: &'a R,
+    tells_saves: bool,
+    saves: Saves,
+}
+
+impl<'a, R: Files> Model for NotedFolder<'a, R> {
+    ghost use Rattle.std.specs.Prelude.{ℕ};
+
+    ghost Value = { ℕ };
+
+    ghost view = { λ f. f.folder };
+}
+
+impl<'a, R: Files + AllocGlobal + Eprint> NotedFolder<'a, R> {
+    /// Returns the current folder, as `rt` reaches it. If the run goes on after a save that failed,
+    /// `tells_saves` says so.
+    pub fn make(rt: &'a R, tells_saves: bool) -> NotedFolder<'a, R> {
+        NotedFolder {
+            folder: DirFolder::make(rt),
+            rt,
+            tells_saves,
+            saves: Saves {
+                done: 0,
+                failed: 0,
+                is_unsaved: false,
+            },
+        }
+    }
+
+    /// Returns how many saves were done, and how many failed.
+    pub fn saves(&self) -> Saves {
+        self.saves
+    }
+
+    /// Returns the text for the last call that failed, or an empty one.
+    pub fn failure_text(&self) -> Result<String, AllocError> {
+        match self.folder.last_failure() {
+            Some(failure) => failure_hint(self.rt.alloc(), &failure, self.folder.is_in_use()),
+            None => Ok(String::new(self.rt.alloc())),
+        }
+    }
+
+    /// Counts a save that failed, and says so, if the run goes on.
+    fn note(&mut self, outcome: &Result<(), Failed>)
+        ensures same { self.new ≡ self.old }
+    {
+        if outcome.is_ok() || !self.tells_saves {
+            return;
+        }
+        self.saves.failed = self.saves.failed.saturating_add(1);
+        self.saves.is_unsaved = true;
+        if let Ok(text) = self.failure_text() {
+            let _ = eprintln!(self.rt; "addrman: not saved: {}", text.as_str());
+        }
+    }
+}
+
+impl<'a, R: Files + AllocGlobal + Eprint> Folder for NotedFolder<'a, R>
+where
+    R::File: Lock,
+{
+    ghost past = { λ _. None };
+
+    ghost faults = { λ f. f };
+
+    fn size(&mut self, name: Name) -> Result<Option<u64>, Failed> {
+        self.folder.size(name)
+    }
+
+    fn read(&mut self, name: Name, at: u64, buf: &mut [u8]) -> Result<usize, Failed>
+        requires { 0 < length buf.old }
+    {
+        self.folder.read(name, at, buf)
+    }
+
+    fn create(&mut self, name: Name) -> Result<(), Failed> {
+        let created = self.folder.create(name);
+        self.note(&created);
+        created
+    }
+
+    fn append(&mut self, name: Name, bytes: &[u8]) -> Result<(), Failed> {
+        let appended = self.folder.append(name, bytes);
+        self.note(&appended);
+        appended
+    }
+
+    fn sync(&mut self, name: Name) -> Result<(), Failed> {
+        let synced = self.folder.sync(name);
+        self.note(&synced);
+        synced
+    }
+
+    fn rename(&mut self, from: Name, to: Name) -> Result<(), Failed>
+        requires { from ≢ to }
+    {
+        let renamed = self.folder.rename(from, to);
+        self.note(&renamed);
+        renamed
+    }
+
+    /// A save ends with the sync of the folder.
+    fn sync_dir(&mut self) -> Result<(), Failed> {
+        let synced = self.folder.sync_dir();
+        self.note(&synced);
+        if synced.is_ok() {
+            self.saves.done = self.saves.done.saturating_add(1);
+            self.saves.is_unsaved = false;
+        }
+        synced
+    }
+}
