@@ -5,7 +5,8 @@ import sys
 
 import command
 import help_texts
-from folder import MAXIMUM_PIECE, Folder
+from folder import MAXIMUM_PIECE, Folder, Stop
+from given import changed_folder, plain_words
 
 
 def write_all(descriptor: int, data: bytes):
@@ -33,12 +34,16 @@ def main() -> int:
             raise
 
     said: list[str] = []
-    code, text = command.run(sys.argv[1:], lambda: os.read(0, MAXIMUM_PIECE), write, Folder(), said)
+    try:
+        words = changed_folder(sys.argv[1:])
+        code, text = command.run(plain_words(words), lambda: os.read(0, MAXIMUM_PIECE), write, Folder(), said)
+    except Stop as stop:
+        words, code, text = sys.argv[1:], stop.code, stop.text
     lines = [line for line in (text, *said) if line]
     if lines and not is_unread:
         try:
             write_all(2, "".join(f"addrman: {line}\n" for line in lines).encode())
-            if not sys.argv[1:]:
+            if not words:
                 write_all(2, help_texts.list_of_commands().encode())
         except OSError:
             pass

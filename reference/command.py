@@ -361,6 +361,7 @@ def run(arguments: list[str], read, write, folder: Folder, said: list[str] | Non
         return stop.code, stop.text
     except MemoryError:
         return 12, "out of memory"
-    if said is not None and arguments[0] in ("ban", "unban") and carried_out.passed_over:
-        said.append(f"elements of banlist.json passed over: {carried_out.passed_over}")
+    if said is not None and carried_out.passed_over:
+        said.append(f"elements of banlist.json passed over, which a save leaves out: {carried_out.passed_over}; "
+                    "a ban has version 1, a subnet and two times")
     return 0, ""

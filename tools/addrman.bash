@@ -4,7 +4,15 @@ _addrman() {
     local word=${COMP_WORDS[COMP_CWORD]} before=${COMP_WORDS[COMP_CWORD - 1]}
     local commands="replay opener limit show picture raw info groups compile decompile diff check lookup address ban unban banned bans gen trial help version"
     local chains="main test signet regtest"
-    if ((COMP_CWORD == 1)); then
+    local at=1
+    if [[ ${COMP_WORDS[1]} == -C || ${COMP_WORDS[1]} == --dir ]]; then
+        at=3
+    fi
+    if ((COMP_CWORD == at - 1)); then
+        mapfile -t COMPREPLY < <(compgen -d -- "$word")
+        return
+    fi
+    if ((COMP_CWORD == at)); then
         mapfile -t COMPREPLY < <(compgen -W "$commands" -- "$word")
         return
     fi
@@ -18,8 +26,12 @@ _addrman() {
         mapfile -t COMPREPLY < <(compgen -W "$chains" -- "$word")
         return
     fi
-    case ${COMP_WORDS[1]} in
-        replay | opener) mapfile -t COMPREPLY < <(compgen -W "--key --net" -- "$word") ;;
+    if [[ $before == --key-file ]]; then
+        mapfile -t COMPREPLY < <(compgen -f -- "$word")
+        return
+    fi
+    case ${COMP_WORDS[at]} in
+        replay | opener) mapfile -t COMPREPLY < <(compgen -W "--key --key-file --net" -- "$word") ;;
         show | picture | raw | info | groups) mapfile -t COMPREPLY < <(compgen -W "--net" -- "$word") ;;
         diff) mapfile -t COMPREPLY < <(compgen -W "--peers --net" -- "$word") ;;
         help | --help | -h) mapfile -t COMPREPLY < <(compgen -W "$commands" -- "$word") ;;
