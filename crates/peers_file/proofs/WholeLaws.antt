@@ -21,7 +21,7 @@ use Rattle.placing.specs.Places.{double_sha256}
 use Rattle.peer_rec.specs.declared.file_rec.FileRec.{FileRec}
 use Rattle.peer_rec.specs.Snapshot.{Snapshot, IsFileRec}
 use Rattle.peers_file.specs.declared.chain.Chain.{Chain}
-use Rattle.peers_file.specs.declared.chain.Chain.TheVariants.{Main, Test, Signet, Regtest}
+use Rattle.peers_file.specs.declared.chain.Chain.TheVariants.{Main}
 use Rattle.peers_file.specs.declared.fault.FileFault.{FileFault}
 use Rattle.peers_file.specs.declared.fault.FileFault.TheVariants.{Trailing}
 use Rattle.peers_file.specs.Layout.{magic_of, body, between, whole_fault, IsFile, HasFileFault}
@@ -37,9 +37,7 @@ length-sum bytes = length-sha256 (sha256 bytes)
 
 length-magic : (chain : Chain) → length (magic_of chain) ≡ 4
 length-magic Main = refl
-length-magic Test = refl
-length-magic Signet = refl
-length-magic Regtest = refl
+length-magic other = refl
 
 -- the parts of a written file
 abbrev before_sum : Chain → Snapshot → List ℕ

@@ -3,7 +3,7 @@
 -- `CAddress` in protocol.h of Bitcoin Core).
 use Rattle.std.specs.Prelude.{◌≡◌, ℕ, ◌-◌, ◌/◌, ◌^◌, List, [], ◌∷◌, length, take, drop, replicate, Bool, true, false, not, ◌&&◌, ◌==◌, nat_lt, nat_le, bytes_eq, Option, Some, None, unwrap_or, filter, map, if◌then◌else◌, ◌⊎◌}
 use Rattle.std.specs.List.{flat_map}
-use Rattle.std.specs.Int.{w16, w32, w64, cast_signed}
+use Rattle.std.specs.Int.{w16, w32, w64, cast_signed, to_be_bytes}
 use Rattle.std.specs.Int.Bits.{bit_xor}
 use Rattle.net_addr.specs.Address.{Address}
 use Rattle.net_addr.specs.OldForm.{address, from_v1}
@@ -19,7 +19,7 @@ use Rattle.peer_rec.specs.Snapshot.{Snapshot, snapshot}
 use Rattle.peers_file.specs.Faults.{of_field, of_number, of_address}
 use Rattle.peers_file.specs.declared.head.Head.{Head}
 use Rattle.peers_file.specs.declared.chain.Chain.{Chain}
-use Rattle.peers_file.specs.declared.chain.Chain.TheVariants.{Main, Test, Signet, Regtest}
+use Rattle.peers_file.specs.declared.chain.Chain.TheVariants.{Main, Test, Testnet4, Signet, Regtest, Other}
 use Rattle.peers_file.specs.declared.fault.Which.{Which}
 use Rattle.peers_file.specs.declared.fault.Which.TheVariants as which
 use Rattle.peers_file.specs.declared.fault.RecordCause.TheVariants as cause
@@ -30,8 +30,10 @@ use Rattle.peers_file.specs.declared.fault.FileFault.TheVariants.{Truncated, Bad
 abbrev pub magic_of : Chain → List ℕ
 magic_of Main = 0xf9 ∷ 0xbe ∷ 0xb4 ∷ 0xd9 ∷ []
 magic_of Test = 0x0b ∷ 0x11 ∷ 0x09 ∷ 0x07 ∷ []
+magic_of Testnet4 = 0x1c ∷ 0x16 ∷ 0x3f ∷ 0x28 ∷ []
 magic_of Signet = 0x0a ∷ 0x03 ∷ 0xcf ∷ 0x40 ∷ []
 magic_of Regtest = 0xfa ∷ 0xbf ∷ 0xb5 ∷ 0xda ∷ []
+magic_of (Other magic) = to_be_bytes w32 magic
 
 abbrev pub field : {A : Type 0} → Format WireFault A → Format FileFault A
 field p = map_fault of_field p

@@ -1,6 +1,6 @@
 -- The text that lists what a file has, a line each. Key and checksum are in the order of
 -- the file's bytes.
-use Rattle.std.specs.Prelude.{ℕ, List, ◌++◌, length, codes, decimal}
+use Rattle.std.specs.Prelude.{ℕ, Bool, true, false, List, [], ◌++◌, length, codes, decimal}
 use Rattle.std.specs.List.{flat_map, enumerate_from}
 use Rattle.hex.specs.Hex.{encode_lower}
 use Rattle.net_addr.specs.Text.{addr_text, peer_text}
@@ -33,13 +33,18 @@ totals_text snap =
     codes "file new " ++ decimal (length snap.new_recs) ++ codes " tried "
     ++ decimal (length snap.tried_recs) ++ codes " buckets " ++ decimal snap.bucket_count
 
--- the first line
-abbrev pub summary_line : Snapshot → List ℕ
-summary_line snap =
-    totals_text snap ++ codes " key " ++ encode_lower snap.key ++ codes " sum "
-    ++ encode_lower snap.sum ++ codes "\n"
+-- the key, if it is listed
+abbrev pub key_text : Bool → Snapshot → List ℕ
+key_text true snap = codes " key " ++ encode_lower snap.key
+key_text false snap = []
 
-unfoldable pub snapshot_text : Snapshot → List ℕ
-snapshot_text snap =
-    summary_line snap ++ record_lines (codes "new ") snap.new_recs
+-- the first line
+abbrev pub summary_line : Bool → Snapshot → List ℕ
+summary_line keyed snap =
+    totals_text snap ++ key_text keyed snap ++ codes " sum " ++ encode_lower snap.sum ++ codes "\n"
+
+-- the whole text, with the key or without it
+unfoldable pub snapshot_text : Bool → Snapshot → List ℕ
+snapshot_text keyed snap =
+    summary_line keyed snap ++ record_lines (codes "new ") snap.new_recs
     ++ record_lines (codes "tried ") snap.tried_recs

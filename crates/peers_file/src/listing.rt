@@ -1,5 +1,5 @@
 ghost use Rattle.std.specs.Prelude.{◌≡◌, ◌++◌, IfOk, OnOk};
-ghost use Rattle.peers_file.specs.Listing.{totals_text, summary_line, origin_text, history_text, record_line, record_lines, snapshot_text};
+ghost use Rattle.peers_file.specs.Listing.{totals_text, key_text, summary_line, origin_text, history_text, record_line, record_lines, snapshot_text};
 
 use net_addr::{Memory, put_addr, put_hex, put_number, put_peer, put_text};
 use peer_rec::{FileRec, Snapshot};
@@ -8,31 +8,42 @@ use std::alloc::Global;
 /// Room for a line in bytes: those of IPv4 peers have less, and the text grows if others need more.
 const LINE_ROOM: usize = 120;
 
-/// Returns the text that lists a snapshot: a line with its counts, key and checksum, then one for
-/// each record. The new records come first; each table counts its own from 0.
+/// Returns the text that lists a snapshot: a line with its counts, its key if that is listed, and
+/// its checksum, then one for each record. The new records come first; each table counts its own
+/// from 0.
 ///
 /// Key and checksum are in hexadecimal, in the order of the file's bytes. Bitcoin Core prints such
 /// numbers with the last byte first.
 #[tactic(auto, unfolding(crate::specs::Listing::snapshot_text))]
-pub fn snapshot_text(alloc: Global, snap: &Snapshot) -> Result<Vec<u8>, Memory>
-    ensures { IfOk result (λ text. text.items ≡ snapshot_text snap.now) }
+pub fn snapshot_text(alloc: Global, keyed: bool, snap: &Snapshot) -> Result<Vec<u8>, Memory>
+    ensures { IfOk result (λ text. text.items ≡ snapshot_text keyed snap.now) }
 {
     let lines = 2 + snap.new_recs().len() + snap.tried_recs().len();
     let mut text = Vec::with_capacity(alloc, LINE_ROOM * lines)?;
-    put_summary(snap, &mut text)?;
+    put_summary(keyed, snap, &mut text)?;
     put_lines(b"new ", snap.new_recs(), &mut text)?;
     put_lines(b"tried ", snap.tried_recs(), &mut text)?;
     Ok(text)
 }
 
-/// Appends the first line: the counts, the key and the checksum.
-fn put_summary(snap: &Snapshot, out: &mut Vec<u8>) -> Result<(), Memory>
-    ensures { OnOk result (out.new.items ≡ out.old.items ++ summary_line snap.now) }
+/// Appends the first line: the counts, the key if it is listed, and the checksum.
+fn put_summary(keyed: bool, snap: &Snapshot, out: &mut Vec<u8>) -> Result<(), Memory>
+    ensures { OnOk result (out.new.items ≡ out.old.items ++ summary_line keyed snap.now) }
 {
     put_totals(snap, out)?;
-    put_hex(b" key ", &snap.key(), out)?;
+    put_key(keyed, snap, out)?;
     put_hex(b" sum ", &snap.sum(), out)?;
     put_text(b"\n", out)
+}
+
+/// Appends the key, if it is listed.
+fn put_key(keyed: bool, snap: &Snapshot, out: &mut Vec<u8>) -> Result<(), Memory>
+    ensures { OnOk result (out.new.items ≡ out.old.items ++ key_text keyed snap.now) }
+{
+    if !keyed {
+        return Ok(());
+    }
+    put_hex(b" key ", &snap.key(), out)
 }
 
 /// Appends the numbers of records and of buckets.

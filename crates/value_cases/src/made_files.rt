@@ -105,7 +105,7 @@ pub(crate) fn listing(alloc: Global, bytes: &[u8]) -> Result<String, Unread> {
 
 /// Returns the size and the sum of the list.
 fn sum_of_list(alloc: Global, snap: &Snapshot) -> Result<String, Unread> {
-    match snapshot_text(alloc, snap) {
+    match snapshot_text(alloc, true, snap) {
         Ok(text) => size_and_sum(alloc, text.as_slice()),
         Err(_) => Err(Unread::Memory),
     }

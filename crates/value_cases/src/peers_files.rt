@@ -123,7 +123,7 @@ fn line_of(
     let Ok(snap) = read else {
         return Err(Unread::Unmet);
     };
-    let Ok(text) = snapshot_text(alloc, snap) else {
+    let Ok(text) = snapshot_text(alloc, true, snap) else {
         return Err(Unread::Memory);
     };
     let Ok(text) = str::from_utf8(text.as_slice()) else {
