@@ -21,14 +21,14 @@ use Rattle.net_addr.specs.Address.{Address as NetAddress}
 use Rattle.net_addr.specs.Text.{IsPeerText}
 use Rattle.net_addr.specs.declared.peer.Peer.{Peer}
 use Rattle.peers_file.specs.declared.chain.Chain.{Chain}
-use Rattle.arguments.specs.Options.{IsNet, IsOpeningOptions, IsPeersOption}
-use Rattle.arguments.specs.Table.{Asks, Fields, Form, HasNoValues, IsProperRequest, Network, OfAddress, OfCommand, OfSubnet, Opening, PeerOrLines, Period, Reads, Records, TheAddress, TheChain, TheCommand, TheFields, TheOpening, ThePeriod, TheRecords, TheSubnet, Values, form_of, name_of, plain_word, request_values, command_word}
+use Rattle.arguments.specs.Options.{IsListingOptions, IsNet, IsOpeningOptions, IsPeersOption}
+use Rattle.arguments.specs.Table.{AddressOrLines, Asks, Fields, Form, HasNoValues, IsAddressIn, IsProperRequest, Listing, Network, OfCommand, OfSubnet, Opening, PeerOrLines, Period, Reads, Records, TheAddress, TheChain, TheCommand, TheFields, TheListing, TheOpening, ThePeriod, TheRecords, TheSubnet, Values, form_of, name_of, plain_word, request_values, command_word}
 use Rattle.arguments.specs.declared.name.CommandName.{CommandName}
 use Rattle.arguments.specs.declared.name.CommandName.TheVariants as name
 use Rattle.arguments.specs.declared.name.TheConstants.{NAMES}
 use Rattle.arguments.specs.declared.request.Request.{Request}
-use Rattle.arguments.specs.declared.request.Request.TheVariants.{Replay, Opener, Compile, Check, Decompile, Diff, Limit, Lookup, LookupLines, Address, Show, Picture, Raw, Info, Groups, Ban, Unban, Banned, Bans, Gen, Trial, Help, Version}
-use Rattle.arguments.proofs.Choosing.{one_net, one_opening, one_peers}
+use Rattle.arguments.specs.declared.request.Request.TheVariants.{Replay, Opener, Compile, Check, Decompile, Diff, Limit, Lookup, LookupLines, Address, AddressLines, Show, Picture, Raw, Info, Groups, Ban, Unban, Banned, Bans, Gen, Trial, Help, Version}
+use Rattle.arguments.proofs.Choosing.{one_listing, one_net, one_opening, one_peers}
 use Rattle.arguments.proofs.Names.{name_found, one_command}
 
 -- THE VALUES
@@ -53,6 +53,15 @@ one_lookup texts v w (inl h) (inr k) = absurd (dash_or_peer texts k.0 h.1 k.2)
 one_lookup texts v w (inr h) (inl k) = absurd (dash_or_peer texts h.0 k.1 h.2)
 one_lookup texts v w (inr h) (inr k) = h.1 ∙ ap TheFields (one_list (OfPeer ∷ []) texts (ThePeer h.0 ∷ []) (ThePeer k.0 ∷ []) refl h.2 k.2) ∙ sym k.1
 
+one_address : (texts : List (List ℕ)) (a b : NetAddress) → IsAddressIn texts a → IsAddressIn texts b → a ≡ b
+one_address texts a b h k = one_text k.0 a b (subst (λ t. IsTextOf t a) (ap (λ ts. get_or ts 0 []) (sym h.1 ∙ k.1)) h.2) k.2
+
+one_addresses : (texts : List (List ℕ)) (v w : Values) → Reads AddressOrLines texts v → Reads AddressOrLines texts w → v ≡ w
+one_addresses texts v w (inl h) (inl k) = h.1 ∙ sym k.1
+one_addresses texts v w (inl h) (inr k) = absurd (k.0 h.0)
+one_addresses texts v w (inr h) (inl k) = absurd (h.0 k.0)
+one_addresses texts v w (inr (h, (a, is, in_texts))) (inr (k, (b, same, other))) = is ∙ ap TheAddress (one_address texts a b in_texts other) ∙ sym same
+
 -- the fields of the form are definite, as a test
 abbrev definite_form : Form → Bool
 definite_form (Fields kinds) = all_definite kinds
@@ -72,15 +81,16 @@ one_values Opening texts v w is h k =
     let same = one_opening texts h.0 k.0 h.1 k.1 h.3 k.3 in
     h.2 ∙ (λ i. TheOpening (same.0 i) (same.1 i)) ∙ sym k.2
 one_values Network texts v w is h k = h.1 ∙ ap TheChain (one_net texts h.0 k.0 h.2 k.2) ∙ sym k.1
+one_values Listing texts v w is h k =
+    let same = one_listing texts h.0 k.0 h.1 k.1 h.3 k.3 in
+    h.2 ∙ (λ i. TheListing (same.0 i) (same.1 i)) ∙ sym k.2
 one_values Records texts v w is h k = h.1 ∙ ap TheRecords (one_peers texts h.0 k.0 h.2 k.2) ∙ sym k.1
 one_values OfSubnet texts v w is h k =
     let same = ap (λ ts. get_or ts 0 []) (sym h.3 ∙ k.3) in
     h.2 ∙ ap TheSubnet (one_subnet k.0 h.1 k.1 (subst (λ t. IsSubnetText t h.1) same h.4) k.4) ∙ sym k.2
 one_values Period texts v w is h k = one_period texts v w h k
 one_values PeerOrLines texts v w is h k = one_lookup texts v w h k
-one_values OfAddress texts v w is h k =
-    let same = ap (λ ts. get_or ts 0 []) (sym h.3 ∙ k.3) in
-    h.2 ∙ ap TheAddress (one_text k.0 h.1 k.1 (subst (λ t. IsTextOf t h.1) same h.4) k.4) ∙ sym k.2
+one_values AddressOrLines texts v w is h k = one_addresses texts v w h k
 one_values OfCommand texts v w is h k = h.1 ∙ ap TheCommand (one_command texts h.0 k.0 h.2 k.2) ∙ sym k.1
 
 definite_name : (n : CommandName) → definite_form (form_of n) ≡ true
@@ -99,7 +109,8 @@ request_by name.Limit values = Limit
 request_by name.Lookup (TheFields (ThePeer peer ∷ [])) = Lookup peer
 request_by name.Lookup (TheFields []) = LookupLines
 request_by name.Address (TheAddress addr) = Address addr
-request_by name.Show (TheChain chain) = Show chain
+request_by name.Address (TheFields []) = AddressLines
+request_by name.Show (TheListing keyed chain) = Show keyed chain
 request_by name.Picture (TheChain chain) = Picture chain
 request_by name.Raw (TheChain chain) = Raw chain
 request_by name.Info (TheChain chain) = Info chain
@@ -246,19 +257,23 @@ pub found_subnet : (texts : List (List ℕ)) (word : List ℕ) (r : Option Subne
 found_subnet texts word None is found = tt
 found_subnet texts word (Some s) is found = (word, s, refl, is, found)
 
-pub no_address : (texts : List (List ℕ)) (word : List ℕ) (r : Option NetAddress) → texts ≡ word ∷ [] → ((a : NetAddress) → IsTextOf word a → r ≡ Some a) → IfNone r (HasNoValues OfAddress texts)
-unfolding HasNoValues
-no_address texts word None is only = λ v reads.
-    none-some reads.1 (only reads.1 (subst (λ t. IsTextOf t reads.1) (ap (λ ts. get_or ts 0 []) (sym reads.3 ∙ is)) reads.4))
-no_address texts word (Some a) is only = tt
-
-pub no_text : (texts : List (List ℕ)) → ((word : List ℕ) → texts ≡ word ∷ [] → ⊥) → HasNoValues OfAddress texts
-unfolding HasNoValues
-no_text texts none v reads = none reads.0 reads.3
-
-pub found_address : (texts : List (List ℕ)) (word : List ℕ) (r : Option NetAddress) → texts ≡ word ∷ [] → IfSome r (IsTextOf word) → IfSome r (λ a. Reads OfAddress texts (TheAddress a))
+pub found_address : (texts : List (List ℕ)) (word : List ℕ) (r : Option NetAddress) → texts ≡ word ∷ [] → IfSome r (IsTextOf word) → IfSome r (IsAddressIn texts)
 found_address texts word None is found = tt
-found_address texts word (Some a) is found = (word, a, refl, is, found)
+found_address texts word (Some a) is found = (word, is, found)
+
+pub only_address : (texts : List (List ℕ)) (word : List ℕ) (r : Option NetAddress) → texts ≡ word ∷ [] → ((a : NetAddress) → IsTextOf word a → r ≡ Some a) →
+    (a : NetAddress) → IsAddressIn texts a → r ≡ Some a
+only_address texts word r is only a (text, one, means) = only a (subst (λ t. IsTextOf t a) (ap (λ ts. get_or ts 0 []) (sym one ∙ is)) means)
+
+pub found_addresses : (texts : List (List ℕ)) (is_dash : Bool) (a : NetAddress) → (IsTrue is_dash ↔ (texts ≡ codes "-" ∷ [])) → is_dash ≡ false → IsAddressIn texts a →
+    Reads AddressOrLines texts (TheAddress a)
+found_addresses texts is_dash a iff not_it is = inr (iff_false iff not_it, (a, refl, is))
+
+pub no_addresses : (texts : List (List ℕ)) (is_dash : Bool) (r : Option NetAddress) → (IsTrue is_dash ↔ (texts ≡ codes "-" ∷ [])) → is_dash ≡ false →
+    ((a : NetAddress) → IsAddressIn texts a → r ≡ Some a) → r ≡ None → HasNoValues AddressOrLines texts
+unfolding HasNoValues
+no_addresses texts is_dash r iff not_it only none v (inl dash) = iff_false iff not_it dash.0
+no_addresses texts is_dash r iff not_it only none v (inr (other, (a, is, in_texts))) = none-some a (sym none ∙ only a in_texts)
 
 pub no_period : (texts : List (List ℕ)) (a b d : List ℕ) (r : Option (Subnet × ℕ × ℕ)) → texts ≡ a ∷ b ∷ d ∷ [] →
     ((s : Subnet) (n u : ℕ) → IsSubnetText a s → b ≡ decimal n → d ≡ decimal u → n < u → u ≤ max_time → r ≢ None) → IfNone r (HasNoValues Period texts)
@@ -286,6 +301,11 @@ pub no_net : (texts : List (List ℕ)) (r : Option Chain) → ((chain : Chain) �
 unfolding HasNoValues
 no_net texts None only = λ v reads. none-some reads.0 (only reads.0 reads.2)
 no_net texts (Some c) only = tt
+
+pub no_listing : (texts : List (List ℕ)) (r : Option (Bool × Chain)) → ((keyed : Bool) (chain : Chain) → IsListingOptions texts keyed chain → r ≡ Some (keyed, chain)) → IfNone r (HasNoValues Listing texts)
+unfolding HasNoValues
+no_listing texts None only = λ v reads. none-some (reads.0, reads.1) (only reads.0 reads.1 reads.3)
+no_listing texts (Some o) only = tt
 
 pub no_records : (texts : List (List ℕ)) (r : Option Chain) → (texts ≡ [] → ⊥) → ((chain : Chain) → IsPeersOption texts (Some chain) → r ≡ Some chain) → r ≡ None → HasNoValues Records texts
 unfolding HasNoValues

@@ -1,3 +1,4 @@
 pub mod Help
+pub mod Inside
 pub mod Options
 pub mod Table

@@ -1,8 +1,11 @@
--- The options that say how tables are opened.
-use Rattle.std.specs.Prelude.{◌≡◌, ◌⊎◌, ℕ, List, [], ◌∷◌, ◌++◌, length, Option, Some, None, Ok, codes}
+-- The options that say how tables are opened, and what is listed.
+use Rattle.std.specs.Prelude.{◌≡◌, ◌⊎◌, ℕ, ◌<◌, ◌^◌, List, [], ◌∷◌, ◌++◌, length, Bool, true, false, Option, Some, None, Ok, codes}
+use Rattle.std.specs.Int.{w32, to_be_bytes}
 use Rattle.hex.specs.Hex.{decode_of}
 use Rattle.peers_file.specs.declared.chain.Chain.{Chain}
-use Rattle.peers_file.specs.declared.chain.Chain.TheVariants.{Main, Test, Signet, Regtest}
+use Rattle.peers_file.specs.declared.chain.Chain.TheVariants.{Main, Test, Testnet4, Signet, Regtest, Other}
+use Rattle.arguments.specs.declared.chain_option.ChainOption.{ChainOption}
+use Rattle.arguments.specs.declared.chain_option.ChainOption.TheVariants.{Net, Magic}
 
 -- a key of 32 bytes, as 64 hexadecimal digits in either case
 abbrev pub IsKey : List ℕ → List ℕ → Type 0
@@ -14,22 +17,51 @@ IsOption name value words =
     (words ≡ name ∷ value ∷ []) ⊎ (words ≡ (name ++ codes "=" ++ value) ∷ [])
 
 -- the name of a chain
-abbrev pub chain_name : Chain → List ℕ
-chain_name Main = codes "main"
-chain_name Test = codes "test"
-chain_name Signet = codes "signet"
-chain_name Regtest = codes "regtest"
+abbrev pub IsName : List ℕ → Chain → Type 0
+IsName name Main = name ≡ codes "main"
+IsName name Test = name ≡ codes "test"
+IsName name Testnet4 = name ≡ codes "testnet4"
+IsName name Signet = name ≡ codes "signet"
+IsName name Regtest = name ≡ codes "regtest"
+IsName name (Other magic) = ⊥
+
+-- the four bytes that begin the files of a chain, as 8 hexadecimal digits in either case
+abbrev pub IsMagic : List ℕ → Chain → Type 0
+IsMagic digits (Other magic) = (decode_of digits ≡ Ok (to_be_bytes w32 magic)) × (magic < 2 ^ 32)
+IsMagic digits other = ⊥
+
+-- the options that choose a chain: one by its name, the other by its first bytes
+abbrev pub chain_option : ChainOption → List ℕ
+chain_option Net = codes "--net"
+chain_option Magic = codes "--magic"
+
+abbrev pub IsChainValue : ChainOption → List ℕ → Chain → Type 0
+IsChainValue Net value chain = IsName value chain
+IsChainValue Magic value chain = IsMagic value chain
 
 -- the arguments choose a chain: main if there are none
 abbrev pub IsNet : List (List ℕ) → Chain → Type 0
 IsNet options chain =
-    ((options ≡ []) × (chain ≡ Main)) ⊎ IsOption (codes "--net") (chain_name chain) options
+    ((options ≡ []) × (chain ≡ Main))
+    ⊎ ((by : ChainOption) × (value : List ℕ) × IsChainValue by value chain
+    × IsOption (chain_option by) value options)
 
 -- the arguments ask for the records of a file of this chain, or for none
 abbrev pub IsPeersOption : List (List ℕ) → Option Chain → Type 0
 IsPeersOption options None = options ≡ []
 IsPeersOption options (Some chain) =
     (rest : List (List ℕ)) × (options ≡ codes "--peers" ∷ rest) × IsNet rest chain
+
+-- these arguments, and `--no-key` before or after them
+abbrev pub HasNoKey : List (List ℕ) → List (List ℕ) → Type 0
+HasNoKey rest options =
+    (options ≡ codes "--no-key" ∷ rest) ⊎ (options ≡ rest ++ codes "--no-key" ∷ [])
+
+-- the arguments choose a chain, and whether the key is listed
+abbrev pub IsListingOptions : List (List ℕ) → Bool → Chain → Type 0
+IsListingOptions options true chain = IsNet options chain
+IsListingOptions options false chain =
+    (rest : List (List ℕ)) × HasNoKey rest options × IsNet rest chain
 
 -- the arguments choose a key, or none
 abbrev pub IsKeyOption : List (List ℕ) → Option (List ℕ) → Type 0

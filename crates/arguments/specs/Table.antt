@@ -1,5 +1,5 @@
 -- The table of the commands, and what arguments ask for.
-use Rattle.std.specs.Prelude.{◌≡◌, ◌⊎◌, ◌<◌, ◌≤◌, ℕ, List, [], ◌∷◌, Option, Some, None, codes, decimal, bytes_eq, if◌then◌else◌, ⊤}
+use Rattle.std.specs.Prelude.{◌≡◌, ◌≢◌, ◌⊎◌, ◌<◌, ◌≤◌, ℕ, Bool, List, [], ◌∷◌, Option, Some, None, codes, decimal, bytes_eq, if◌then◌else◌, ⊤}
 use Rattle.ban_list.specs.BanFile.{max_time}
 use Rattle.ban_list.specs.Subnet.{IsProper}
 use Rattle.ban_list.specs.SubnetText.{IsSubnetText}
@@ -10,11 +10,11 @@ use Rattle.names.specs.Text.{IsTextOf}
 use Rattle.net_addr.specs.Address.{Address as NetAddress}
 use Rattle.net_addr.specs.declared.peer.Peer.{Peer}
 use Rattle.peers_file.specs.declared.chain.Chain.{Chain}
-use Rattle.arguments.specs.Options.{IsNet, IsOpeningOptions, IsPeersOption}
+use Rattle.arguments.specs.Options.{IsListingOptions, IsNet, IsOpeningOptions, IsPeersOption}
 use Rattle.arguments.specs.declared.name.CommandName.{CommandName}
 use Rattle.arguments.specs.declared.name.CommandName.TheVariants as name
 use Rattle.arguments.specs.declared.request.Request.{Request}
-use Rattle.arguments.specs.declared.request.Request.TheVariants.{Replay, Opener, Compile, Check, Decompile, Diff, Limit, Lookup, LookupLines, Address, Show, Picture, Raw, Info, Groups, Ban, Unban, Banned, Bans, Gen, Trial, Help, Version}
+use Rattle.arguments.specs.declared.request.Request.TheVariants.{Replay, Opener, Compile, Check, Decompile, Diff, Limit, Lookup, LookupLines, Address, AddressLines, Show, Picture, Raw, Info, Groups, Ban, Unban, Banned, Bans, Gen, Trial, Help, Version}
 
 -- THE NAME
 
@@ -60,29 +60,36 @@ NameCommand texts None = texts ≡ []
 NameCommand texts (Some name) = texts ≡ command_word name ∷ []
 
 -- What comes after the name of a command: fields of these kinds; the options `--key` and `--net`;
--- only `--net`; `--peers` and `--net`, or nothing; a subnet; a subnet and two times, the earlier
--- one first; the name of a command or nothing; a peer or `-`; or what people write for an address.
+-- only `--net`; `--net` and `--no-key`; `--peers` and `--net`, or nothing; a subnet; a subnet and
+-- two times, the earlier one first; the name of a command or nothing; `-` or a peer; or `-`, or
+-- else what people write for an address. `--magic` with digits may be in the place of `--net`.
 pub data Form : Type 0 where
   Fields : List Kind → Form
   Opening : Form
   Network : Form
+  Listing : Form
   Records : Form
   OfSubnet : Form
   Period : Form
   OfCommand : Form
   PeerOrLines : Form
-  OfAddress : Form
+  AddressOrLines : Form
 
 -- the values of the arguments after a name
 pub data Values : Type 0 where
   TheFields : List Value → Values
   TheOpening : Option (List ℕ) → Chain → Values
   TheChain : Chain → Values
+  TheListing : Bool → Chain → Values
   TheRecords : Option Chain → Values
   TheSubnet : Subnet → Values
   ThePeriod : Subnet → ℕ → ℕ → Values
   TheCommand : Option CommandName → Values
   TheAddress : NetAddress → Values
+
+-- the only text is what people write for this address
+abbrev pub IsAddressIn : List (List ℕ) → NetAddress → Type 0
+IsAddressIn texts addr = (text : List ℕ) × (texts ≡ text ∷ []) × IsTextOf text addr
 
 -- the arguments after a name are of the form and have these values
 abbrev pub Reads : Form → List (List ℕ) → Values → Type 0
@@ -92,6 +99,9 @@ Reads Opening texts v =
     (key : Option (List ℕ)) × (chain : Chain) × (v ≡ TheOpening key chain)
     × IsOpeningOptions texts key chain
 Reads Network texts v = (chain : Chain) × (v ≡ TheChain chain) × IsNet texts chain
+Reads Listing texts v =
+    (keyed : Bool) × (chain : Chain) × (v ≡ TheListing keyed chain)
+    × IsListingOptions texts keyed chain
 Reads Records texts v = (peers : Option Chain) × (v ≡ TheRecords peers) × IsPeersOption texts peers
 Reads OfSubnet texts v =
     (text : List ℕ) × (subnet : Subnet) × (v ≡ TheSubnet subnet)
@@ -104,9 +114,10 @@ Reads PeerOrLines texts v =
     ((v ≡ TheFields []) × (texts ≡ codes "-" ∷ []))
     ⊎ ((peer : Peer) × (v ≡ TheFields (ThePeer peer ∷ []))
     × AllMean (OfPeer ∷ []) texts (ThePeer peer ∷ []))
-Reads OfAddress texts v =
-    (text : List ℕ) × (addr : NetAddress) × (v ≡ TheAddress addr)
-    × (texts ≡ text ∷ []) × IsTextOf text addr
+Reads AddressOrLines texts v =
+    ((texts ≡ codes "-" ∷ []) × (v ≡ TheFields []))
+    ⊎ ((texts ≢ codes "-" ∷ []) × ((addr : NetAddress) × (v ≡ TheAddress addr)
+    × IsAddressIn texts addr))
 Reads OfCommand texts v =
     (command : Option CommandName) × (v ≡ TheCommand command) × NameCommand texts command
 
@@ -120,8 +131,8 @@ abbrev pub form_of : CommandName → Form
 form_of name.Replay = Opening
 form_of name.Opener = Opening
 form_of name.Lookup = PeerOrLines
-form_of name.Address = OfAddress
-form_of name.Show = Network
+form_of name.Address = AddressOrLines
+form_of name.Show = Listing
 form_of name.Picture = Network
 form_of name.Raw = Network
 form_of name.Info = Network
@@ -148,7 +159,8 @@ name_of Limit = name.Limit
 name_of (Lookup peer) = name.Lookup
 name_of LookupLines = name.Lookup
 name_of (Address addr) = name.Address
-name_of (Show chain) = name.Show
+name_of AddressLines = name.Address
+name_of (Show keyed chain) = name.Show
 name_of (Picture chain) = name.Picture
 name_of (Raw chain) = name.Raw
 name_of (Info chain) = name.Info
@@ -168,7 +180,7 @@ request_values (Replay key chain) = TheOpening key chain
 request_values (Opener key chain) = TheOpening key chain
 request_values (Lookup peer) = TheFields (ThePeer peer ∷ [])
 request_values (Address addr) = TheAddress addr
-request_values (Show chain) = TheChain chain
+request_values (Show keyed chain) = TheListing keyed chain
 request_values (Picture chain) = TheChain chain
 request_values (Raw chain) = TheChain chain
 request_values (Info chain) = TheChain chain

@@ -11,6 +11,7 @@
 
 mod address;
 mod bans;
+mod chain_option;
 mod commands;
 mod help;
 mod name;

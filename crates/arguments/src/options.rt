@@ -1,14 +1,17 @@
-ghost use Rattle.std.specs.Prelude.{◌≡◌, ◌⊎◌, ℕ, List, [], ◌∷◌, ◌++◌, codes, map, string_bytes, Option, Some, IfSome, IfNone};
+ghost use Rattle.std.specs.Prelude.{◌≡◌, ◌≢◌, ℕ, List, [], ◌∷◌, ◌++◌, Bool, false, codes, map, string_bytes, Option, Some, IfSome, IfNone};
 ghost use Rattle.std.specs.Option.{option_map};
-ghost use Rattle.arguments.specs.Options.{IsKey, IsKeyOption, IsNet, IsOpeningOptions, IsOption, IsPeersOption, chain_name};
-ghost use Rattle.arguments.specs.Table.{HasNoValues, Network, Opening, Records};
+ghost use Rattle.arguments.specs.Inside.{Begins};
+ghost use Rattle.arguments.specs.Options.{HasNoKey, IsChainValue, IsKey, IsKeyOption, IsListingOptions, IsNet, IsOpeningOptions, IsOption, IsPeersOption, chain_option};
+ghost use Rattle.arguments.specs.Table.{HasNoValues, Listing, Network, Opening, Records};
+ghost use Rattle.arguments.specs.declared.chain_option.ChainOption.{ChainOption};
 ghost use Rattle.peers_file.specs.declared.chain.Chain.{Chain};
 
+use crate::chain_option::{ChainOption, read_chain};
 use hex::FromHex;
 use peers_file::Chain;
 
-/// Reads the arguments that say how tables are opened: `--key` with a key and `--net` with a chain,
-/// each at most once.
+/// Reads the arguments that say how tables are opened: `--key` with a key, and `--net` or `--magic`
+/// with a chain, each at most once.
 pub(crate) fn read_opening(words: &[String]) -> Option<(Option<[u8; 32]>, Chain)>
     ensures found { IfSome result (λ o. IsOpeningOptions (map string_bytes words.now) o.0 o.1) }
     ensures only { (key : Option (List ℕ)) (chain : Chain) →
@@ -21,8 +24,10 @@ pub(crate) fn read_opening(words: &[String]) -> Option<(Option<[u8; 32]>, Chain)
     if let Some((digits, rest)) = cut_option(words, b"--key") {
         return read_key_then_net(digits, rest);
     }
-    let (name, rest) = cut_option(words, b"--net")?;
-    read_net_then_key(name, rest)
+    let Some((by, value, rest)) = cut_chain(words) else {
+        return None;
+    };
+    read_net_then_key(by, value, rest)
 }
 
 /// Reads the digits of a key, and then the arguments that choose a chain.
@@ -37,14 +42,18 @@ fn read_key_then_net(digits: &[u8], words: &[String]) -> Option<(Option<[u8; 32]
     Some((Some(key), chain))
 }
 
-/// Reads the name of a chain, and then the arguments that choose a key.
-fn read_net_then_key(name: &[u8], words: &[String]) -> Option<(Option<[u8; 32]>, Chain)>
-    ensures found { IfSome result (λ o. (name.now ≡ chain_name o.1)
+/// Reads the value that chooses a chain, and then the arguments that choose a key.
+fn read_net_then_key(
+    by: ChainOption,
+    value: &[u8],
+    words: &[String],
+) -> Option<(Option<[u8; 32]>, Chain)>
+    ensures found { IfSome result (λ o. IsChainValue by value.now o.1
         × IsKeyOption (map string_bytes words.now) o.0) }
-    ensures only { (key : Option (List ℕ)) (chain : Chain) → name.now ≡ chain_name chain →
+    ensures only { (key : Option (List ℕ)) (chain : Chain) → IsChainValue by value.now chain →
         IsKeyOption (map string_bytes words.now) key → result ≡ Some (key, chain) }
 {
-    let chain = read_chain(name)?;
+    let chain = read_chain(by, value)?;
     let key = read_key_option(words)?;
     Some((key, chain))
 }
@@ -62,8 +71,7 @@ fn read_key_option(words: &[String]) -> Option<Option<[u8; 32]>>
     Some(Some(key))
 }
 
-/// Reads the arguments that are `--net` with a chain, or none for main.
-#[tactic(auto, unfolding(crate::specs::Table::HasNoValues))]
+/// Reads the arguments that are `--net` or `--magic` with a chain, or none for main.
 pub(crate) fn read_net(words: &[String]) -> Option<Chain>
     ensures found { IfSome result (λ chain. IsNet (map string_bytes words.now) chain) }
     ensures only { (chain : Chain) → IsNet (map string_bytes words.now) chain →
@@ -73,7 +81,88 @@ pub(crate) fn read_net(words: &[String]) -> Option<Chain>
     if words.is_empty() {
         return Some(Chain::Main);
     }
-    read_chain(option_value(words, b"--net")?)
+    let Some((by, value, rest)) = cut_chain(words) else {
+        return None;
+    };
+    if !rest.is_empty() {
+        return None;
+    }
+    read_chain(by, value)
+}
+
+/// Reads the arguments after `show`: those that choose a chain, and `--no-key` before or after them
+/// if the key is left out.
+pub(crate) fn read_listing(words: &[String]) -> Option<(bool, Chain)>
+    ensures found { IfSome result (λ o. IsListingOptions (map string_bytes words.now) o.0 o.1) }
+    ensures only { (keyed : Bool) (chain : Chain) →
+        IsListingOptions (map string_bytes words.now) keyed chain → result ≡ Some (keyed, chain) }
+    ensures none { IfNone result (HasNoValues Listing (map string_bytes words.now)) }
+{
+    match without_no_key(words) {
+        Some(rest) => listing_of(false, rest),
+        None => listing_of(true, words),
+    }
+}
+
+/// Reads the arguments that choose a chain, for a listing with the key or without it.
+fn listing_of(keyed: bool, words: &[String]) -> Option<(bool, Chain)>
+    ensures found { IfSome result (λ o. (o.0 ≡ keyed) × IsNet (map string_bytes words.now) o.1) }
+    ensures only { (chain : Chain) → IsNet (map string_bytes words.now) chain →
+        result ≡ Some (keyed, chain) }
+{
+    match read_net(words) {
+        Some(chain) => Some((keyed, chain)),
+        None => None,
+    }
+}
+
+/// Returns the arguments beside `--no-key`, if it is the first or the last of them.
+fn without_no_key(words: &[String]) -> Option<&[String]>
+    ensures found { IfSome result (λ rest.
+        HasNoKey (map string_bytes rest.now) (map string_bytes words.now)) }
+    ensures none { IfNone result ((rest : List (List ℕ)) →
+        ¬ HasNoKey rest (map string_bytes words.now)) }
+{
+    if let Some(rest) = after_no_key(words) {
+        return Some(rest);
+    }
+    match before_no_key(words) {
+        Some(rest) => Some(rest),
+        None => None,
+    }
+}
+
+/// Returns the arguments after `--no-key`, if it is the first.
+fn after_no_key(words: &[String]) -> Option<&[String]>
+    ensures found { IfSome result (λ rest.
+        map string_bytes words.now ≡ codes "--no-key" ∷ map string_bytes rest.now) }
+    ensures none { IfNone result ((rest : List (List ℕ)) →
+        map string_bytes words.now ≢ codes "--no-key" ∷ rest) }
+{
+    let Some((first, rest)) = first_word(words) else {
+        return None;
+    };
+    if first == b"--no-key".as_slice() {
+        return Some(rest);
+    }
+    None
+}
+
+/// Returns the arguments before `--no-key`, if it is the last.
+#[tactic(auto, using(crate::proofs::Choosing::not_last, crate::proofs::Choosing::none_last))]
+fn before_no_key(words: &[String]) -> Option<&[String]>
+    ensures found { IfSome result (λ rest.
+        map string_bytes words.now ≡ map string_bytes rest.now ++ codes "--no-key" ∷ []) }
+    ensures none { IfNone result ((rest : List (List ℕ)) →
+        map string_bytes words.now ≢ rest ++ codes "--no-key" ∷ []) }
+{
+    let Some((last, rest)) = last_word(words) else {
+        return None;
+    };
+    if last == b"--no-key".as_slice() {
+        return Some(rest);
+    }
+    None
 }
 
 /// Reads the arguments that are `--peers` and after it those that choose a chain, or none.
@@ -102,33 +191,29 @@ fn read_after_peers(words: &[String]) -> Option<Chain>
     None
 }
 
-/// Reads the name of a chain.
-fn read_chain(name: &[u8]) -> Option<Chain>
-    ensures found { IfSome result (λ chain. name.now ≡ chain_name chain) }
-    ensures only { (chain : Chain) → name.now ≡ chain_name chain → result ≡ Some chain }
+/// Cuts the option that chooses a chain off the arguments that begin with it, and returns it, its
+/// value and the rest.
+fn cut_chain<'a>(words: &'a [String]) -> Option<(ChainOption, &'a [u8], &'a [String])>
+    ensures found { IfSome result (λ parts. Begins (chain_option parts.0) parts.1.now
+        (map string_bytes parts.2.now) (map string_bytes words.now)) }
+    ensures none { IfNone result ((by : ChainOption) (value : List ℕ) (rest : List (List ℕ)) →
+        ¬ Begins (chain_option by) value rest (map string_bytes words.now)) }
 {
-    if name == b"main".as_slice() {
-        Some(Chain::Main)
-    } else if name == b"test".as_slice() {
-        Some(Chain::Test)
-    } else if name == b"signet".as_slice() {
-        Some(Chain::Signet)
-    } else if name == b"regtest".as_slice() {
-        Some(Chain::Regtest)
-    } else {
-        None
+    if let Some((value, rest)) = cut_option(words, b"--net") {
+        return Some((ChainOption::Net, value, rest));
+    }
+    match cut_option(words, b"--magic") {
+        Some((value, rest)) => Some((ChainOption::Magic, value, rest)),
+        None => None,
     }
 }
 
 /// Cuts the option `name` off the arguments that begin with it, and returns its value and the rest.
 fn cut_option<'a>(words: &'a [String], name: &[u8]) -> Option<(&'a [u8], &'a [String])>
-    ensures found { IfSome result (λ parts.
-        (map string_bytes words.now ≡ name.now ∷ parts.0.now ∷ map string_bytes parts.1.now)
-        ⊎ (map string_bytes words.now
-        ≡ (name.now ++ codes "=" ++ parts.0.now) ∷ map string_bytes parts.1.now)) }
+    ensures found { IfSome result (λ parts. Begins name.now parts.0.now
+        (map string_bytes parts.1.now) (map string_bytes words.now)) }
     ensures none { IfNone result ((value : List ℕ) (rest : List (List ℕ)) →
-        (map string_bytes words.now ≡ name.now ∷ value ∷ rest)
-        ⊎ (map string_bytes words.now ≡ (name.now ++ codes "=" ++ value) ∷ rest) → ⊥) }
+        ¬ Begins name.now value rest (map string_bytes words.now)) }
 {
     let (first, rest) = first_word(words)?;
     if first == name {
@@ -197,4 +282,15 @@ pub(crate) fn first_word(words: &[String]) -> Option<(&[u8], &[String])>
 {
     let (first, rest) = words.split_first()?;
     Some((first.as_bytes(), rest))
+}
+
+/// Returns the last argument and those before it.
+#[tactic(auto, using(std::proofs::lemmas::List::map_push))]
+fn last_word(words: &[String]) -> Option<(&[u8], &[String])>
+    ensures some { IfSome result (λ parts.
+        map string_bytes words.now ≡ map string_bytes parts.1.now ++ parts.0.now ∷ []) }
+    ensures none { IfNone result (map string_bytes words.now ≡ []) }
+{
+    let (last, rest) = words.split_last()?;
+    Some((last.as_bytes(), rest))
 }

@@ -19,7 +19,8 @@ pub(crate) const REPLAY: Page = (
 Reads    standard input, a log; asmap.dat and peers.dat, if they are there.
 Writes   the reply to each line; peers.dat, by way of peers.tmp, when a line saves.
 HEX64    the node's key, 64 hexadecimal digits, needed if there is no peers.dat.
-CHAIN    main, test, signet or regtest; main if it is left out.
+CHAIN    main, test, testnet4, signet or regtest; main if it is left out. In place of
+         --net may be --magic and the 8 hexadecimal digits that its files begin with.
 Codes    0 done, 2 bad usage, 3 a line has an error, 4 peers.dat is refused,
          5 asmap.dat is refused, 7 the log cannot be read, 8 the output cannot be
          written, 9 the folder failed, 10 the log is too long, 11 no peers.dat and
@@ -34,7 +35,8 @@ pub(crate) const OPENER: Page = (
 Reads    standard input, a log; asmap.dat and peers.dat, if they are there.
 Writes   the reply to each line.
 HEX64    the node's key, 64 hexadecimal digits, needed if there is no peers.dat.
-CHAIN    main, test, signet or regtest; main if it is left out.
+CHAIN    main, test, testnet4, signet or regtest; main if it is left out. In place of
+         --net may be --magic and the 8 hexadecimal digits that its files begin with.
 Codes    0 done, 2 bad usage, 3 a line has an error, 4 peers.dat is refused,
          5 asmap.dat is refused, 7 the log cannot be read, 8 the output cannot be
          written, 9 the folder failed, 10 the log is too long, 11 no peers.dat and
@@ -56,12 +58,14 @@ Codes    0 done, 2 bad usage, 3 a line has an error, 7 the log cannot be read,
 );
 
 pub(crate) const SHOW: Page = (
-    "show [--net CHAIN]",
+    "show [--net CHAIN] [--no-key]",
     "lists the key and the records of peers.dat",
     "\
 Reads    peers.dat.
-Writes   a line for the file, and one for each record.
-CHAIN    main, test, signet or regtest; main if it is left out.
+Writes   a line for the file, with its key unless --no-key is given, and one for each
+         record.
+CHAIN    main, test, testnet4, signet or regtest; main if it is left out. In place of
+         --net may be --magic and the 8 hexadecimal digits that its files begin with.
 Codes    0 done, 2 bad usage, 4 peers.dat is refused, 8 the output cannot be written,
          9 the folder failed, 12 out of memory, 14 peers.dat is missing.
 ",
@@ -74,7 +78,8 @@ pub(crate) const PICTURE: Page = (
 Reads    asmap.dat, if it is there, and peers.dat.
 Writes   one SVG: both tables, with the six source groups that have the most slots in
          colours, and a list of them.
-CHAIN    main, test, signet or regtest; main if it is left out.
+CHAIN    main, test, testnet4, signet or regtest; main if it is left out. In place of
+         --net may be --magic and the 8 hexadecimal digits that its files begin with.
 Codes    0 done, 2 bad usage, 4 peers.dat is refused, 5 asmap.dat is refused,
          8 the output cannot be written, 9 the folder failed, 12 out of memory,
          14 peers.dat is missing.
@@ -87,7 +92,8 @@ pub(crate) const RAW: Page = (
     "\
 Reads    peers.dat; asmap.dat, if it is there.
 Writes   what Bitcoin Core's getrawaddrman returns.
-CHAIN    main, test, signet or regtest; main if it is left out.
+CHAIN    main, test, testnet4, signet or regtest; main if it is left out. In place of
+         --net may be --magic and the 8 hexadecimal digits that its files begin with.
 Codes    0 done, 2 bad usage, 4 peers.dat is refused, 5 asmap.dat is refused,
          8 the output cannot be written, 9 the folder failed, 12 out of memory,
          14 peers.dat is missing.
@@ -100,7 +106,8 @@ pub(crate) const INFO: Page = (
     "\
 Reads    peers.dat; asmap.dat, if it is there.
 Writes   what Bitcoin Core's getaddrmaninfo returns.
-CHAIN    main, test, signet or regtest; main if it is left out.
+CHAIN    main, test, testnet4, signet or regtest; main if it is left out. In place of
+         --net may be --magic and the 8 hexadecimal digits that its files begin with.
 Codes    0 done, 2 bad usage, 4 peers.dat is refused, 5 asmap.dat is refused,
          8 the output cannot be written, 9 the folder failed, 12 out of memory,
          14 peers.dat is missing.
@@ -114,7 +121,8 @@ pub(crate) const GROUPS: Page = (
 Reads    peers.dat; asmap.dat, if it is there.
 Writes   for each group its slots, buckets and records; their sums; how many AS numbers
          asmap.dat gives the records, and how many of these it gives none.
-CHAIN    main, test, signet or regtest; main if it is left out.
+CHAIN    main, test, testnet4, signet or regtest; main if it is left out. In place of
+         --net may be --magic and the 8 hexadecimal digits that its files begin with.
 Codes    0 done, 2 bad usage, 4 peers.dat is refused, 5 asmap.dat is refused,
          8 the output cannot be written, 9 the folder failed, 12 out of memory,
          14 peers.dat is missing.
@@ -152,7 +160,8 @@ Reads    asmap.old and asmap.dat; with --peers also peers.dat.
 Writes   what diff of Bitcoin Core's asmap-tool.py prints, but for its powers of two;
          with --peers after it a line for each record whose group differs, and how many
          these are.
-CHAIN    main, test, signet or regtest; main if it is left out.
+CHAIN    main, test, testnet4, signet or regtest; main if it is left out. In place of
+         --net may be --magic and the 8 hexadecimal digits that its files begin with.
 Codes    0 done, 2 bad usage, 4 peers.dat is refused, 5 asmap.dat is refused,
          8 the output cannot be written, 9 the folder failed, 12 out of memory,
          14 a file is missing, 18 asmap.old is refused, 19 more than 2,000,000
@@ -187,16 +196,18 @@ Codes    0 done, 2 bad usage, 3 a line has an error, 5 asmap.dat is refused, 7 t
 );
 
 pub(crate) const ADDRESS: Page = (
-    "address TEXT",
-    "prints what is known of an address",
+    "address TEXT|-",
+    "prints what is known of an address, or of each on standard input",
     "\
-Reads    asmap.dat, if it is there.
+Reads    asmap.dat, if it is there; with - also standard input, a log with a TEXT in
+         each line.
 Writes   a line each: network, address, name, class, whether it is routable, AS number,
          left out if asmap.dat gives none, and group in hexadecimal.
 TEXT     a name, as pg6m..ryd.onion or 2001:470::1, or an address as in a log, as
          [2001:470::1], with or without a port.
-Codes    0 done, 2 bad usage, 5 asmap.dat is refused, 8 the output cannot be written,
-         9 the folder failed, 12 out of memory.
+Codes    0 done, 2 bad usage, 3 a line has an error, 5 asmap.dat is refused, 7 the log
+         cannot be read, 8 the output cannot be written, 9 the folder failed, 10 the
+         log is too long, 12 out of memory, 13 a line is too long.
 ",
 );
 

@@ -1,5 +1,5 @@
 ghost use Rattle.std.specs.Prelude.{◌≡◌, ◌↔◌, [], ◌∷◌, codes, map, string_bytes, Some, IfSome, IfNone, IsTrue};
-ghost use Rattle.arguments.specs.Table.{Asks, Fields, HasNoValues, IsProperRequest, PeerOrLines, Reads, TheFields, form_of, name_of, request_values};
+ghost use Rattle.arguments.specs.Table.{AddressOrLines, Asks, Fields, HasNoValues, IsProperRequest, PeerOrLines, Reads, TheFields, form_of, name_of, request_values};
 ghost use Rattle.arguments.specs.declared.name.CommandName.TheVariants as name;
 ghost use Rattle.arguments.specs.declared.request.Request.{Request};
 
@@ -8,7 +8,7 @@ use crate::address::read_address;
 use crate::bans::{read_period, read_subnet};
 use crate::commands::{plain_word, read_command};
 use crate::name::{CommandName, NAMES};
-use crate::options::{first_word, only_word, read_net, read_opening, read_peers};
+use crate::options::{first_word, only_word, read_listing, read_net, read_opening, read_peers};
 use ban_list::texts_have_one_meaning;
 use gen_load::MAX_LINES;
 use grammar::{Between, Fields, LongBetween, OnePeer, find_keyword, read_fields};
@@ -70,12 +70,11 @@ fn read_after(alloc: Global, name: CommandName, rest: &[String]) -> Option<Reque
         }),
         CommandName::Limit => only_name(rest, Request::Limit),
         CommandName::Lookup => read_lookup(alloc, rest),
-        CommandName::Address => Some(Request::Address {
-            addr: read_address(rest)?,
-        }),
-        CommandName::Show => Some(Request::Show {
-            chain: read_net(rest)?,
-        }),
+        CommandName::Address => read_addresses(rest),
+        CommandName::Show => {
+            let (keyed, chain) = read_listing(rest)?;
+            Some(Request::Show { keyed, chain })
+        }
         CommandName::Picture => Some(Request::Picture {
             chain: read_net(rest)?,
         }),
@@ -130,6 +129,21 @@ fn read_lookup(alloc: Global, rest: &[String]) -> Option<Request>
     }
     match read_values::<(OnePeer, ())>(alloc, rest) {
         Some((peer, ())) => Some(Request::Lookup { peer }),
+        None => None,
+    }
+}
+
+/// Reads the argument after `address`, `-` or else the text of an address.
+fn read_addresses(rest: &[String]) -> Option<Request>
+    ensures found { IfSome result (λ request. (name_of request ≡ name.Address)
+        × Reads AddressOrLines (map string_bytes rest.now) (request_values request)) }
+    ensures none { IfNone result (HasNoValues AddressOrLines (map string_bytes rest.now)) }
+{
+    if is_dash(rest) {
+        return Some(Request::AddressLines);
+    }
+    match read_address(rest) {
+        Some(addr) => Some(Request::Address { addr }),
         None => None,
     }
 }

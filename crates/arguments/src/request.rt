@@ -42,8 +42,12 @@ pub enum Request {
     Address {
         addr: NetAddr,
     },
+    /// `address -`: say the same of the address of each line of the log.
+    AddressLines,
     /// `show --net CHAIN`: list what peers.dat has, a file of this chain; of main without `--net`.
+    /// With `--no-key` the key is left out.
     Show {
+        keyed: bool,
         chain: Chain,
     },
     /// `picture --net CHAIN`: write a picture of the tables that peers.dat, a file of this chain,

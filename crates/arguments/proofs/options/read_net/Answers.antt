@@ -1,26 +1,30 @@
-use Rattle.std.proofs.Common.{◌≡◌, ◌≢◌, ℕ, List, [], length, string_bytes, ap, codes, Option, Some, None, Bor, inl, inr, sym, ◌∙◌, arith}
-use Rattle.std.specs.Option.{option_map}
+use Rattle.std.proofs.Common.{◌≡◌, [], length, string_bytes, ap, sym, ◌∙◌, arith, map, List, ℕ}
 use Rattle.std.proofs.lemmas.Bool.{eqb-false}
 use Rattle.std.proofs.lemmas.List.{length-map}
-use Rattle.std.proofs.lemmas.Option.{none-some}
-use Rattle.peers_file.specs.declared.chain.Chain.{Chain}
-use Rattle.arguments.specs.Options.{IsOption, IsNet, chain_name}
 use Rattle.arguments.proofs.Asking.{no_net}
+use Rattle.arguments.proofs.Choosing.{more_words, no_option, only_net}
 use Rattle.arguments.proofs.options.read_net.Goals as goal
 
--- words that are neither none nor an option with a value choose no chain
-none_chosen : (words : List (List ℕ)) → words ≢ [] → ((value : List ℕ) → IsOption (codes "--net") value words → ⊥) → (chain : Chain) → IsNet words chain → ⊥
-none_chosen words some h chain net = elim net [
-  | inl none ↦ some none.0
-  | inr option ↦ h (chain_name chain) option
-]
+pub returns-in_default-clause-only : goal.returns-in_default-clause-only
+returns-in_default-clause-only c = λ chain net.
+    absurd (no_option _
+    (λ none. omega (arith, eqb-false (length c.args.words.now) 0 (sym c.is_empty.ensures ∙ c.if-is_empty.false), ap length none, length-map c.args.words.now string_bytes))
+    c.in_default.ensures.none chain net)
 
-none_told : (r : Option (Bor (List ℕ))) (value : List ℕ) → r ≡ None → option_map (λ x. x.now) r ≡ Some value → ⊥
-none_told r value is told = none-some value (sym (ap (option_map (λ x. x.now)) is) ∙ told)
+pub returns-in_default-clause-none : goal.returns-in_default-clause-none
+returns-in_default-clause-none c = no_net _ _ (returns-in_default-clause-only c)
 
-pub returns-in_err-option_value-clause-only : goal.returns-in_err-option_value-clause-only
-returns-in_err-option_value-clause-only c = λ chain net.
-    absurd (none_chosen _ (λ none. omega (arith, eqb-false (length c.args.words.now) 0 (sym c.is_empty.ensures ∙ c.if-is_empty.false), ap length none, length-map c.args.words.now string_bytes)) (λ value is. none_told c.option_value.result value (cc) (c.option_value.ensures.only value is)) chain net)
+pub returns-then-not-is_empty-clause-only : goal.returns-then-not-is_empty-clause-only
+returns-then-not-is_empty-clause-only c = λ chain net.
+    absurd (more_words _ _ _ _ c.in-Some.ensures.found
+    (λ none. omega (arith, eqb-false (length c.in-Some.rest.now) 0 (sym c.is_empty-2.ensures ∙ c.if-not-is_empty.true), ap length none, length-map c.in-Some.rest.now string_bytes))
+    chain net)
 
-pub returns-in_err-option_value-clause-none : goal.returns-in_err-option_value-clause-none
-returns-in_err-option_value-clause-none c = no_net _ _ (returns-in_err-option_value-clause-only c)
+pub returns-then-not-is_empty-clause-none : goal.returns-then-not-is_empty-clause-none
+returns-then-not-is_empty-clause-none c = no_net _ _ (returns-then-not-is_empty-clause-only c)
+
+pub returns-clause-only : goal.returns-clause-only
+returns-clause-only c = only_net _ _ _ _ _ c.in-Some.ensures.found c.read_chain.ensures.only
+
+pub returns-clause-none : goal.returns-clause-none
+returns-clause-none c = no_net _ _ (returns-clause-only c)

@@ -11,23 +11,23 @@ returns-in-Some-clause-found c = found_by_key _ _ _ _ c.in-Some.ensures.found c.
 pub returns-in-Some-clause-only : goal.returns-in-Some-clause-only
 returns-in-Some-clause-only c = only_by_key _ _ _ _ c.in-Some.ensures.found c.read_key_then_net.ensures.only
 
-pub returns-in_err-name-clause-only : goal.returns-in_err-name-clause-only
-returns-in_err-name-clause-only c = λ key chain asks.
+pub returns-in_default-cut_chain-clause-only : goal.returns-in_default-cut_chain-clause-only
+returns-in_default-cut_chain-clause-only c = λ key chain asks.
     absurd (no_options _ key chain
     (λ none. omega (arith, eqb-false (length c.args.words.now) 0 (sym c.is_empty.ensures ∙ c.if-is_empty.false), ap length none, length-map c.args.words.now string_bytes))
-    c.in_default.ensures.none c.in_err-name.ensures.none asks)
+    c.in_default.ensures.none c.in_default-cut_chain.ensures.none asks)
 
 pub returns-clause-found : goal.returns-clause-found
-returns-clause-found c = found_by_net _ _ _ _ c.in_ok-name.ensures.found c.read_net_then_key.ensures.found
+returns-clause-found c = found_by_net _ _ _ _ _ c.in-Some-cut_chain.ensures.found c.read_net_then_key.ensures.found
 
 pub returns-clause-only : goal.returns-clause-only
-returns-clause-only c = only_by_net _ _ _ _ c.in_ok-name.ensures.found c.read_net_then_key.ensures.only
+returns-clause-only c = only_by_net _ _ _ _ _ c.in-Some-cut_chain.ensures.found c.read_net_then_key.ensures.only
 
 pub returns-in-Some-clause-none : goal.returns-in-Some-clause-none
 returns-in-Some-clause-none c = no_opening _ _ (returns-in-Some-clause-only c)
 
-pub returns-in_err-name-clause-none : goal.returns-in_err-name-clause-none
-returns-in_err-name-clause-none c = no_opening _ _ (returns-in_err-name-clause-only c)
+pub returns-in_default-cut_chain-clause-none : goal.returns-in_default-cut_chain-clause-none
+returns-in_default-cut_chain-clause-none c = no_opening _ _ (returns-in_default-cut_chain-clause-only c)
 
 pub returns-clause-none : goal.returns-clause-none
 returns-clause-none c = no_opening _ _ (returns-clause-only c)
