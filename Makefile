@@ -43,7 +43,7 @@ DIST := addrman-$(VERSION)-x86_64-linux
 # Where the toolchain has its part of the C library: the allocator that the library calls.
 KIT = $(shell dirname "$$(dirname "$$(readlink -f "$$(command -v rt)")")")
 
-.PHONY: all plain check proved plain-lib try ci-try demo examples flood page page-test endings \
+.PHONY: all plain check proved plain-lib plain-archive try ci-try demo examples flood page page-test endings \
 	mistakes packed test figures lib lib-test ci-lib-test ci-program-test archive install install-lib \
 	uninstall dist
 
@@ -67,10 +67,13 @@ proved:
 
 plain-lib: plain
 	$(CARGO) -p addrman_c
-	mkdir -p bin/lib
-	cp bin/target/release/libaddrman_c.a bin/lib/libaddrman.a
-	cp bin/target/release/libaddrman_c.so bin/lib/libaddrman.so.1
-	ln -sf libaddrman.so.1 bin/lib/libaddrman.so
+	$(MAKE) plain-archive
+
+# Of Rust's std only what the calls reach is packed.
+CARGO_LIBRARY := bin/target/release/libaddrman_c.a
+plain-archive:
+	$(MAKE) archive OBJECTS="--gc-sections --force-group-allocation $(CARGO_LIBRARY) $$(readelf -sW $(CARGO_LIBRARY) \
+		| sed -n 's/.* FUNC  *GLOBAL .* \(addrman_[a-z_0-9]*\)$$/-u \1/p' | tr '\n' ' ')"
 
 try:
 	tools/examples --try
@@ -142,10 +145,13 @@ lib:
 CLOSES := addrman_close addrman_save_close addrman_bans_close addrman_limiter_close
 
 # One object, with the allocator in it and only addrman_* to be seen.
+OBJECTS ?= --whole-archive crates/addrman_c/out/libaddrman_c.a $(KIT)/c/liblibc_c.a
+
 archive:
 	mkdir -p bin/lib
-	ld -r -o bin/lib/proved.o --whole-archive crates/addrman_c/out/libaddrman_c.a $(KIT)/c/liblibc_c.a
-	objcopy $(foreach it,$(CLOSES),--redefine-sym $(it)=open_$(it)) bin/lib/proved.o
+	ld -r -o bin/lib/proved.o $(OBJECTS)
+	objcopy --strip-unneeded --remove-section=.llvmbc --remove-section=.llvmcmd \
+		$(foreach it,$(CLOSES),--redefine-sym $(it)=open_$(it)) bin/lib/proved.o
 	gcc -std=c99 -O2 -fPIC -c -o bin/lib/close.o bindings/close.c
 	ld -r -o bin/lib/addrman.o bin/lib/proved.o bin/lib/close.o
 	objcopy --wildcard --keep-global-symbol='addrman_*' bin/lib/addrman.o

@@ -22,9 +22,11 @@ edition.workspace = true
 publish.workspace = true
 rust-version.workspace = true
 
-# Some parameters, fields and functions are there for contracts alone.
+# Some parameters, fields and functions are there for contracts alone, and a bound that is gone
+# leaves its parentheses.
 [lints.rust]
 dead_code = "allow"
+unused_parens = "allow"
 unused_variables = "allow"
 '''
 
