@@ -7,6 +7,7 @@ const later = (work, wait) => {
 };
 
 on("choose", "click", () => $("files").click());
+on("again", "click", () => location.reload());
 on("files", "change", () => {
   const given =
     [...$("files").files].map(file => ({ file, path: file.webkitRelativePath || file.name }));

@@ -135,6 +135,7 @@ function showAll() {
   $("error").hidden = true;
   $("view").hidden = false;
   document.body.classList.add("loaded");
+  $("again").hidden = false;
   const others = [asmap, bans].filter(Boolean).map(file => fileName(file.name));
   $("drop-words").innerHTML = attack ?
     "<strong>A made attack.</strong> Drop your own <code>peers.dat</code> here." :

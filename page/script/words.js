@@ -27,7 +27,14 @@ const number = n => n.toLocaleString("en-US");
 const percent = (part, whole) => whole ? (100 * part / whole).toFixed(1) + " %" : "none";
 const shareText = share => (100 * share).toFixed(4) + " %";
 const escape = text => String(text).replace(/[&<>"]/g, c => `&#${c.charCodeAt(0)};`);
-const when = time => new Date(time * 1000).toISOString().slice(0, 16).replace("T", " ") + " UTC";
+const MAX_DATE = 8.64e12;
+
+// A time in seconds since 1970 as a date; as a number if no date is so late.
+function when(time) {
+  if (time > MAX_DATE) return String(time);
+  return new Date(1000 * time).toISOString().slice(0, 16).replace("T", " ") + " UTC";
+}
+
 const fileName = path => path.split("/").pop();
 
 // A length of time in words.

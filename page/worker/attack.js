@@ -85,7 +85,7 @@ class Attack {
     for (let i = 0; i < 60; i++) lines.push(`attempt ${this.honestPeer().join(".")}:8333 count\n`);
     lines.push("resolve\n");
     for (let i = 0; i < PICKS; i++)
-      lines.push(`select any all @${this.draws.below(1 << 30)}:300\n`);
+      lines.push(`select any all @${this.draws.below(1 << 30)}:3000\n`);
     return lines;
   }
 }

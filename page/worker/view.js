@@ -24,6 +24,7 @@ function isRecord(rec) {
   return rec !== null && typeof rec === "object" && typeof rec.address === "string" &&
     typeof rec.source === "string" && Number.isInteger(rec.port) && rec.port >= 0 &&
     rec.port < 65536 && Number.isInteger(rec.time) && rec.time >= 0 &&
+    rec.time < 2 ** 32 && typeof rec.services === "number" &&
     NETWORKS.includes(rec.network) && NETWORKS.includes(rec.source_network);
 }
 

@@ -8,7 +8,9 @@ pub struct Files {
 impl Files {
     /// Makes an empty folder.
     pub const fn new() -> Files {
-        Files { files: [const { None }; NAMES.len()] }
+        Files {
+            files: [const { None }; NAMES.len()],
+        }
     }
 
     /// Puts a file under the name with this position in `NAMES`. Returns whether there is one.
@@ -57,7 +59,10 @@ impl Folder for Files {
 
     fn read(&mut self, name: Name, at: u64, buf: &mut [u8]) -> Result<usize, Failed> {
         let file = self.file(name).as_deref().unwrap_or(&[]);
-        let rest = usize::try_from(at).ok().and_then(|at| file.get(at..)).unwrap_or(&[]);
+        let rest = usize::try_from(at)
+            .ok()
+            .and_then(|at| file.get(at..))
+            .unwrap_or(&[]);
         let count = rest.len().min(buf.len());
         buf[..count].copy_from_slice(&rest[..count]);
         Ok(count)

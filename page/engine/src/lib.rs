@@ -7,6 +7,7 @@
 //! of one instance are made one after another.
 
 mod folder;
+mod keyed;
 // The program's own lines for standard error; the build puts the file there. What is in it of
 // output that nobody reads any more is of no use here.
 #[allow(dead_code)]
@@ -14,6 +15,7 @@ mod folder;
 mod second;
 mod state;
 
+use crate::keyed::Keyed;
 use crate::state::state;
 
 /// Takes room for `len` bytes. Returns 0 if there is no memory.
@@ -41,7 +43,7 @@ unsafe fn taken(at: *mut u8, len: usize) -> Vec<u8> {
 /// Sets the two words of the key of the hash tables. They should be random.
 #[unsafe(no_mangle)]
 pub extern "C" fn set_hash_key(first: u64, second: u64) {
-    state().key = (first, second);
+    state().key = Keyed { first, second };
 }
 
 /// Adds an argument. Returns whether it is UTF-8.

@@ -1,10 +1,10 @@
 use crate::folder::{Files, Output};
+use crate::keyed::Keyed;
 use crate::second::{Again, Facts, passed_over_by, second_lines};
 use addrman_run::{code, run, status_line};
 use arguments::help_text;
 use hints::{KeptReader, LastLines, Notes};
 use host_io::StdSource;
-use keyed_hasher::Keyed;
 use plain_std::alloc::{AllocError, Global};
 use plain_std::string::String as Text;
 use plain_std::vec::Vec as Items;
@@ -15,7 +15,7 @@ const MEMORY: u32 = 12;
 /// What one instance of the module has.
 pub struct State {
     /// The key of the hash tables.
-    pub key: (u64, u64),
+    pub key: Keyed,
     /// The arguments of the next run.
     pub words: Vec<String>,
     /// The log of the next run.
@@ -38,7 +38,10 @@ pub fn state() -> &'static mut State {
 impl State {
     const fn new() -> State {
         State {
-            key: (0, 0),
+            key: Keyed {
+                first: 0,
+                second: 0,
+            },
             words: Vec::new(),
             log: Vec::new(),
             output: Vec::new(),
@@ -73,9 +76,17 @@ impl State {
         let passed_over = passed_over_by(alloc, words, &mut self.files);
         let status = {
             let mut log = StdSource::make(KeptReader::make(log.as_slice(), &mut lines));
-            let mut output = Output { bytes: &mut self.output };
-            let hasher = Keyed::make(self.key.0, self.key.1);
-            run(alloc, hasher, words, &mut log, &mut self.files, &mut output)
+            let mut output = Output {
+                bytes: &mut self.output,
+            };
+            run(
+                alloc,
+                self.key,
+                words,
+                &mut log,
+                &mut self.files,
+                &mut output,
+            )
         };
         let again = Again::read(alloc, &status, words, &mut self.files);
         let facts = Facts {
