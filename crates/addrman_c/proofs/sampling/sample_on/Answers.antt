@@ -1,0 +1,14 @@
+use Rattle.std.proofs.Common.{◌≤◌, ◌<◌, ◌^◌, ◌∙◌, List, length, inr, arith, subst}
+use Rattle.net_addr.specs.declared.peer.Peer.{Peer}
+use Rattle.c_values.specs.Records.{PeersPut}
+use Rattle.addrman_c.proofs.sampling.sample_on.Goals as goal
+
+pub returns-in-Ok-clause-call : goal.returns-in-Ok-clause-call
+returns-in-Ok-clause-call c =
+    let few : c.args.percent ≤ 100 = omega (arith, c.if-percent-gt100.false) in
+    let short : length c.args.words.now < 2 ^ 32 = omega (arith, c.if-words-gt4294967295.false) in
+    let new = c.put_peers.new in
+    let put =
+    subst (λ (peers : List Peer). PeersPut peers c.put_peers.result c.args.out.now new.out new.length)
+    (c.items.ensures ∙ c.in-Ok.ensures.peers) c.put_peers.ensures.call in
+    inr (few, short, inr (inr (c.in-Ok.ensures.enough, c.in-Ok.ensures.state, put)))
