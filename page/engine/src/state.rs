@@ -3,6 +3,7 @@ use crate::keyed::Keyed;
 use crate::second::{Again, Facts, passed_over_by, second_lines};
 use addrman_run::{code, run, status_line};
 use arguments::help_text;
+use c_handles::Keyed;
 use hints::{KeptReader, LastLines, Notes};
 use host_io::StdSource;
 use plain_std::alloc::{AllocError, Global};
