@@ -122,11 +122,11 @@ records_of st bans times now word words =
     let time = time_for_all times now word in
     let same = same_records st told_nets now 0 (sample_limit (length st.order) 1000 23) words in
     all_told found.state bans time now (IsAnnounced st told_nets now) (IsTold st bans times now word)
-    (λ peer e announced is. record {
-      said = (is.0, subst (λ rs. Contains rs is.0) same is.1, is.2);
-      announced = subst (IsAnnounced st told_nets now) (sym is.3) announced;
-      free = is.4;
-    }) found.answer (sampled st 1000 23 told_nets words now)
+    (λ peer e announced is. (
+      (is.0, subst (λ rs. Contains rs is.0) same is.1, is.2),
+      subst (IsAnnounced st told_nets now) (sym is.3) announced,
+      is.4,
+    )) found.answer (sampled st 1000 23 told_nets words now)
 
 pub one_time : (st : State) (bans : List Ban) (now word : ℕ) (words : List ℕ)
     → AllByRecursion (λ e. e.time ≡ told_time now word) (fresh st bans Hidden now word words)

@@ -1,5 +1,5 @@
--- A new answer to `getaddr` (`CConnman::GetAddressesUnsafe` in net.cpp of Bitcoin Core): a sample of
--- the tables without banned addresses.
+-- A new answer to `getaddr` (`CConnman::GetAddressesUnsafe` in net.cpp of Bitcoin Core): a sample
+-- of the tables without banned addresses.
 use Rattle.std.specs.Prelude.{◌≡◌, ℕ, List, length, Contains, false, find, is_some, flat_map, option_to_list, option_map, Option, Some, None, if◌then◌else◌}
 use Rattle.net_addr.specs.NetSet.{none, with_net}
 use Rattle.net_addr.specs.declared.entry.Entry.{Entry}
@@ -50,12 +50,14 @@ sample_of st now words = sample st MAX_TOLD MAX_PERCENT told_nets words now
 abbrev pub order_after : State → ℕ → List ℕ → List ℕ
 order_after st now words = (sample_of st now words).state.order
 
--- the entries of a new answer
-abbrev pub fresh : State → List Ban → Times → ℕ → ℕ → List ℕ → List Entry
-fresh st bans times now word words =
+-- the entries of a new answer, with this time if there is one
+abbrev pub entries_by : State → List Ban → Option ℕ → ℕ → List ℕ → List Entry
+entries_by st bans time now words =
     let found = sample_of st now words in
-    flat_map (λ peer. option_to_list
-    (entry_of found.state bans (time_for_all times now word) now peer)) found.answer
+    flat_map (λ peer. option_to_list (entry_of found.state bans time now peer)) found.answer
+
+abbrev pub fresh : State → List Ban → Times → ℕ → ℕ → List ℕ → List Entry
+fresh st bans times now word words = entries_by st bans (time_for_all times now word) now words
 
 -- the request
 abbrev pub ask_of : State → List Ban → Times → ℕ → ℕ → ℕ → List ℕ → Ask
@@ -74,7 +76,8 @@ tables_after kept ask st words =
 
 -- The entry says what a record of the tables says, perhaps with the time of all entries. The peer
 -- may be announced, and its address is not banned.
-pub record IsTold (st : State) (bans : List Ban) (times : Times) (now word : ℕ) (e : Entry) : Type 0 where
-  pub said : (r : Rec) × Contains st.records r × (entry (time_for_all times now word) r ≡ e)
-  pub announced : IsAnnounced st told_nets now e.peer
-  pub free : is_some (find (stops e.peer.addr now) bans) ≡ false
+abbrev pub IsTold : State → List Ban → Times → ℕ → ℕ → Entry → Type 0
+IsTold st bans times now word e =
+    ((r : Rec) × Contains st.records r × (entry (time_for_all times now word) r ≡ e))
+    × IsAnnounced st told_nets now e.peer
+    × (is_some (find (stops e.peer.addr now) bans) ≡ false)

@@ -1,16 +1,18 @@
-ghost use Rattle.std.specs.Prelude.{◌≡◌, ◌≤◌, OnOk, OnErr};
+ghost use Rattle.std.specs.Prelude.{◌≡◌, ◌≤◌, IfOk, OnOk, OnErr, length};
 ghost use Rattle.addr_answers.specs.Runs.{after_ask};
-ghost use Rattle.getaddr.specs.Fresh.{told_nets, ask_of, tables_after};
+ghost use Rattle.addr_answers.specs.declared.answers.TheConstants.{MAX_TOLD};
+ghost use Rattle.getaddr.specs.Fresh.{told_nets, sample_of, entries_by, ask_of, tables_after};
 
 use crate::Times;
 use crate::entries::entries_of;
 use addr_answers::{Answers, MAX_TOLD};
 use ban_list::Bans;
-use net_addr::{Memory, Net, NetSet};
+use net_addr::{Entry, Memory, Net, NetSet};
 use random_words::Draws;
 use std::alloc::Global;
 use std::hash::BuildHasher;
-use std::sync::ledger::Ledger;
+use std::marker::Brand;
+use std::sync::ledger::{Blank, Ledger};
 use steps::Steps;
 use tables::Tables;
 
@@ -36,8 +38,9 @@ fn told_nets() -> NetSet
 /// answers. The first random word selects how long a new answer is kept and the time that hides
 /// those of the records; the others select the peers (`picking::sample_by`). If an answer is kept,
 /// no words are drawn and the tables stay as they are. After an error the answers are unchanged,
-/// and of the tables at most the order has changed.
-pub fn prepare<H: BuildHasher, L: Ledger>(
+/// and of the tables at most the order has changed. The call counts its steps on a counter of its
+/// own.
+pub fn prepare<H: BuildHasher>(
     alloc: Global,
     answers: &mut Answers,
     tables: &mut Tables<'_, H>,
@@ -47,7 +50,6 @@ pub fn prepare<H: BuildHasher, L: Ledger>(
     now: u32,
     word: u64,
     words: Draws<'_>,
-    steps: &mut Steps<L>,
 ) -> Result<(), Memory>
     ensures kept { OnOk result (answers.new ≡ after_ask answers.old
         (ask_of tables.old bans.now times key now word words.entry)) }
@@ -60,6 +62,34 @@ pub fn prepare<H: BuildHasher, L: Ledger>(
         return Ok(());
     }
     let records = tables.len();
+    let time = times.for_all(now, word);
+    let blank = Blank::new(1);
+    let entries = new_entries::<H, Brand>(alloc, tables, bans, time, now, words, blank)?;
+    answers.put(key, now, records, word, entries)?;
+    Ok(())
+}
+
+/// Returns the entries of a new answer, with this time if there is one. The steps are counted on
+/// the counter that the token makes.
+fn new_entries<H: BuildHasher, L: Ledger>(
+    alloc: Global,
+    tables: &mut Tables<'_, H>,
+    bans: &Bans,
+    time: Option<u32>,
+    now: u32,
+    words: Draws<'_>,
+    blank: Blank,
+) -> Result<Vec<Entry>, Memory>
+    requires name { blank.name ≡ L.name }
+    requires parts { blank.parts ≡ L.parts }
+    requires one { blank.parts ≡ 1 }
+    ensures found { IfOk result (λ es. es.items
+        ≡ entries_by tables.old bans.now time now words.entry) }
+    ensures few { IfOk result (λ es. length es.items ≤ MAX_TOLD) }
+    ensures state { OnOk result (tables.new ≡ (sample_of tables.old now words.entry).state) }
+    ensures order { tables.new ≡ record tables.old { order = tables.new.order } }
+{
+    let mut steps = Steps::<L>::none(blank);
     let peers = picking::sample_by(
         alloc,
         tables,
@@ -68,10 +98,7 @@ pub fn prepare<H: BuildHasher, L: Ledger>(
         told_nets(),
         words,
         now,
-        steps,
+        &mut steps,
     )?;
-    let time = times.for_all(now, word);
-    let entries = entries_of(alloc, tables, bans, peers.items(), time, now, steps)?;
-    answers.put(key, now, records, word, entries)?;
-    Ok(())
+    Ok(entries_of(alloc, tables, bans, peers.items(), time, now, &mut steps)?)
 }
