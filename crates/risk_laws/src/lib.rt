@@ -1,0 +1,11 @@
+//! Which part of the lists of random words selects a peer of a set: a recursion that gives it
+//! exactly, and bounds in integers. There is no program here, only definitions and laws.
+#![tactic(auto)]
+
+mod bounds;
+mod picks;
+mod words;
+
+pub use bounds::shares_are_enclosed;
+pub use picks::picks_are_enclosed;
+pub use words::lists_are_counted;
