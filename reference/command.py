@@ -26,9 +26,10 @@ from text import MASK, Fault, read_digits, read_number
 MAXIMUM_GENERATED_LINES = 100_000
 COMMANDS = "replay opener limit show picture raw info groups compile decompile diff check lookup address ban unban banned bans gen trial help version"
 IN_PLACE = {b"--help": b"help", b"-h": b"help", b"--version": b"version"}
-OPTIONS = {"replay": ("--key", "--net"), "opener": ("--key", "--net"), "show": ("--net",),
-           "picture": ("--net",), "raw": ("--net",), "info": ("--net",),
-           "groups": ("--net",)}
+CHAIN = ("--net", "--magic")
+OPTIONS = {"replay": ("--key", *CHAIN), "opener": ("--key", *CHAIN), "picture": CHAIN, "raw": CHAIN,
+           "info": CHAIN, "groups": CHAIN}
+NO_KEY = b"--no-key"
 
 
 def usage(value=None):
@@ -64,20 +65,38 @@ def read_options(arguments: list[bytes], names: tuple[str, ...]) -> dict[str, by
     return options
 
 
-def key_and_chain(options: dict[str, bytes]) -> tuple[bytes | None, str]:
-    """The key, if there is one, and the chain of the options."""
-    chains = {chain.encode(): chain for chain in peers_file.CHAINS}
+def key_and_chain(options: dict[str, bytes]) -> tuple[bytes | None, bytes]:
+    """The key, if there is one, and the first bytes of the files of the chain of the options."""
     key = usage(read_digits(options["--key"], 32)) if "--key" in options else None
-    return key, usage(chains.get(options.get("--net", b"main")))
+    if "--magic" not in options:
+        chains = {chain.encode(): start for chain, start in peers_file.CHAINS.items()}
+        return key, usage(chains.get(options.get("--net", b"main")))
+    if "--net" in options:
+        usage()
+    return key, usage(read_digits(options["--magic"], 4))
 
 
-def peers_option(arguments: list[bytes]) -> str | None:
-    """The chain of the file of peers that `--peers` asks for, None without it."""
+def chain_option(arguments: list[bytes]) -> bytes:
+    """The first bytes of the files of the chain that arguments choose."""
+    return key_and_chain(read_options(arguments, CHAIN))[1]
+
+
+def listing_options(arguments: list[bytes]) -> tuple[bytes, bool]:
+    """The same of the arguments of `show`, and whether it lists the key."""
+    if arguments[:1] == [NO_KEY]:
+        return chain_option(arguments[1:]), False
+    if arguments[-1:] == [NO_KEY]:
+        return chain_option(arguments[:-1]), False
+    return chain_option(arguments), True
+
+
+def peers_option(arguments: list[bytes]) -> bytes | None:
+    """The same of the file of peers that `--peers` asks for, None without it."""
     if not arguments:
         return None
     if arguments[0] != b"--peers":
         usage()
-    return key_and_chain(read_options(arguments[1:], ("--net",)))[1]
+    return chain_option(arguments[1:])
 
 
 def looked_up(peer: Peer, asmap: Asmap) -> str:
@@ -109,6 +128,16 @@ def looked_up_line(line: bytes, asmap: Asmap) -> str | None:
     if peer is None:
         raise Fault("peer")
     return looked_up(peer, asmap)
+
+
+def described_line(line: bytes, asmap: Asmap) -> str | None:
+    """What `address -` prints of a line, None if it is passed over; raises Fault."""
+    if not line or line.startswith(b"#"):
+        return None
+    address = read_text(line)
+    if address is None:
+        raise Fault("peer")
+    return "\n".join(described(address, asmap))
 
 
 class Run:
@@ -145,6 +174,9 @@ class Run:
         if name == "diff":
             self.diff(peers_option(arguments[1:]))
             return
+        if name == "show":
+            self.show(*listing_options(arguments[1:]))
+            return
         if name in OPTIONS:
             method(*key_and_chain(read_options(arguments[1:], OPTIONS[name])))
             return
@@ -162,10 +194,10 @@ class Run:
             if output is not None:
                 self.print(output)
 
-    def replay(self, key: bytes | None, chain: str):
+    def replay(self, key: bytes | None, chain: bytes):
         self.each_line(ReplayLog(self.tables(key, chain), chain, self.folder).answer)
 
-    def opener(self, key: bytes | None, chain: str):
+    def opener(self, key: bytes | None, chain: bytes):
         self.each_line(OpenerLog(self.tables(key, chain)).answer)
 
     def limit(self):
@@ -228,12 +260,12 @@ class Run:
         """The asmap of the folder, if there is one."""
         return self.load(name, MAXIMUM_ASMAP, code, Asmap)
 
-    def peers(self, chain: str) -> peers_file.PeersFile | None:
+    def peers(self, chain: bytes) -> peers_file.PeersFile | None:
         """What the folder's file of peers has, if there is one."""
         maximum = peers_file.MAXIMUM_BYTES
         return self.load("peers.dat", maximum, 4, lambda data: peers_file.read_peers(data, chain))
 
-    def tables(self, key: bytes | None, chain: str) -> Tables:
+    def tables(self, key: bytes | None, chain: bytes) -> Tables:
         """The tables with which a log begins."""
         asmap = self.asmap() or NO_ASMAP
         file = self.peers(chain)
@@ -243,7 +275,7 @@ class Run:
             raise Stop(11, "no peers.dat and no key")
         return Tables(key, asmap)
 
-    def saved_tables(self, chain: str) -> Tables:
+    def saved_tables(self, chain: bytes) -> Tables:
         """The tables of the folder's file of peers."""
         asmap = self.asmap() or NO_ASMAP
         return self.restored(self.needed(self.peers(chain), "peers.dat"), asmap)
@@ -255,20 +287,20 @@ class Run:
         except Fault as fault:
             raise Stop(4, f"peers.dat refused: {fault}")
 
-    def show(self, _key: None, chain: str):
-        for line in peers_file.shown(self.needed(self.peers(chain), "peers.dat")):
+    def show(self, chain: bytes, keyed: bool):
+        for line in peers_file.shown(self.needed(self.peers(chain), "peers.dat"), keyed):
             self.print(line)
 
-    def picture(self, _key: None, chain: str):
+    def picture(self, _key: None, chain: bytes):
         self.print(picture(self.saved_tables(chain)).removesuffix("\n"))
 
-    def raw(self, _key: None, chain: str):
+    def raw(self, _key: None, chain: bytes):
         self.print(node_json.raw(self.saved_tables(chain)))
 
-    def info(self, _key: None, chain: str):
+    def info(self, _key: None, chain: bytes):
         self.print(node_json.info(self.saved_tables(chain)))
 
-    def groups(self, _key: None, chain: str):
+    def groups(self, _key: None, chain: bytes):
         self.print(node_json.groups(self.saved_tables(chain)))
 
     def compile(self):
@@ -290,7 +322,7 @@ class Run:
         if rows:
             self.print("\n".join(prefixes.row_text(row) for row in rows))
 
-    def diff(self, chain: str | None):
+    def diff(self, chain: bytes | None):
         old = self.needed(self.asmap("asmap.old", 18), "asmap.old")
         new = self.needed(self.asmap(), "asmap.dat")
         file = None if chain is None else self.needed(self.peers(chain), "peers.dat")
@@ -311,6 +343,10 @@ class Run:
         self.print(looked_up(peer, self.needed(self.asmap(), "asmap.dat")))
 
     def address(self, argument: bytes):
+        if argument == b"-":
+            asmap = self.asmap() or NO_ASMAP
+            self.each_line(lambda line: described_line(line, asmap))
+            return
         address = usage(read_text(argument))
         asmap = self.asmap() or NO_ASMAP
         for line in described(address, asmap):

@@ -144,7 +144,7 @@ class ReplayLog(TableLog):
 
     kinds = TABLE_LINES | SAVE_LINES
 
-    def __init__(self, tables: Tables, chain: str, folder: Folder):
+    def __init__(self, tables: Tables, chain: bytes, folder: Folder):
         super().__init__(tables)
         self.chain, self.folder = chain, folder
         self.left: bytes | None = None

@@ -13,7 +13,8 @@ from tables import Record, Tables
 from text import Fault
 
 MAXIMUM_BYTES = 33_554_432
-STARTS = {"main": "f9beb4d9", "test": "0b110907", "signet": "0a03cf40", "regtest": "fabfb5da"}
+STARTS = {"main": "f9beb4d9", "test": "0b110907", "testnet4": "1c163f28", "signet": "0a03cf40",
+          "regtest": "fabfb5da"}
 CHAINS = {chain: bytes.fromhex(start) for chain, start in STARTS.items()}
 WRITTEN_FORMAT = 4
 LEAST_COMPATIBLE, LARGEST_COMPATIBLE = 32, 36
@@ -68,11 +69,11 @@ def read_bucket(reader: Reader, new_count: int) -> list[int]:
     return [index for index in indices if index < new_count]
 
 
-def read_peers(data: bytes, chain: str) -> PeersFile:
-    """What a file of a chain has; raises Fault."""
+def read_peers(data: bytes, start: bytes) -> PeersFile:
+    """What a file has of the chain whose files begin so; raises Fault."""
     if len(data) < 36:
         raise Fault("truncated")
-    if data[:4] != CHAINS[chain]:
+    if data[:4] != start:
         raise Fault("bad-magic")
     if places.double_sha256(data[:-32]) != data[-32:]:
         raise Fault("bad-sum")
@@ -143,13 +144,13 @@ def written_record(record: Record) -> bytes:
     ))
 
 
-def written_file(tables: Tables, chain: str) -> bytes:
+def written_file(tables: Tables, start: bytes) -> bytes:
     """The file of the tables, in format 4."""
     records = [tables.records[number] for number in sorted(tables.records)]
     new = [record for record in records if not record.tried]
     tried = [record for record in records if record.tried]
     index = {record.number: at for at, record in enumerate(new)}
-    parts = [CHAINS[chain], bytes([WRITTEN_FORMAT, LARGEST_COMPATIBLE]), tables.key]
+    parts = [start, bytes([WRITTEN_FORMAT, LARGEST_COMPATIBLE]), tables.key]
     for count in (len(new), len(tried), places.NEW_BUCKETS ^ FLIPPED_BIT):
         parts.append(count.to_bytes(4, "little"))
     parts += [written_record(record) for record in new + tried]
@@ -161,11 +162,12 @@ def written_file(tables: Tables, chain: str) -> bytes:
     return data + places.double_sha256(data)
 
 
-def shown(file: PeersFile) -> list[str]:
-    """The lines of `show`."""
+def shown(file: PeersFile, keyed: bool) -> list[str]:
+    """The lines of `show`, with the key or without it."""
+    key = f" key {file.key.hex()}" if keyed else ""
     lines = [
         f"file new {len(file.new)} tried {len(file.tried)} buckets {len(file.buckets)}"
-        f" key {file.key.hex()} sum {file.sum.hex()}"
+        f"{key} sum {file.sum.hex()}"
     ]
     for table, records in (("new", file.new), ("tried", file.tried)):
         for index, record in enumerate(records):

@@ -3,7 +3,7 @@
 _addrman() {
     local word=${COMP_WORDS[COMP_CWORD]} before=${COMP_WORDS[COMP_CWORD - 1]}
     local commands="replay opener limit show picture raw info groups compile decompile diff check lookup address ban unban banned bans gen trial help version"
-    local chains="main test signet regtest"
+    local chains="main test testnet4 signet regtest"
     local at=1
     if [[ ${COMP_WORDS[1]} == -C || ${COMP_WORDS[1]} == --dir ]]; then
         at=3
@@ -31,9 +31,10 @@ _addrman() {
         return
     fi
     case ${COMP_WORDS[at]} in
-        replay | opener) mapfile -t COMPREPLY < <(compgen -W "--key --key-file --net" -- "$word") ;;
-        show | picture | raw | info | groups) mapfile -t COMPREPLY < <(compgen -W "--net" -- "$word") ;;
-        diff) mapfile -t COMPREPLY < <(compgen -W "--peers --net" -- "$word") ;;
+        replay | opener) mapfile -t COMPREPLY < <(compgen -W "--key --key-file --net --magic" -- "$word") ;;
+        show) mapfile -t COMPREPLY < <(compgen -W "--net --magic --no-key" -- "$word") ;;
+        picture | raw | info | groups) mapfile -t COMPREPLY < <(compgen -W "--net --magic" -- "$word") ;;
+        diff) mapfile -t COMPREPLY < <(compgen -W "--peers --net --magic" -- "$word") ;;
         help | --help | -h) mapfile -t COMPREPLY < <(compgen -W "$commands" -- "$word") ;;
     esac
 }

@@ -14,7 +14,7 @@ use Rattle.asmap_vm.specs.declared.fault.CodeFault.TheVariants.{Insane}
 use Rattle.placing.specs.Inside.{asmap_of}
 use Rattle.addrman_run.specs.Asmaps.{IsMapAt, IsMapIn, RefusesAsmap}
 use Rattle.addrman_run.specs.InFolder.{IsAbsent, IsFileIn}
-use Rattle.addrman_run.specs.Inside.{IsMapOf, IsLoaded, IsNoMap}
+use Rattle.addrman_run.specs.Inside.{IsMapOf, IsLoaded}
 use Rattle.addrman_run.specs.Opening.{IsUnopened}
 use Rattle.addrman_run.specs.declared.status.Status.{Status}
 use Rattle.addrman_run.specs.declared.status.Status.TheVariants.{AsmapRefused, DiskFault, Memory}

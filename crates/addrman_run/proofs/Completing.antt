@@ -28,7 +28,7 @@ use Rattle.opener_lines.specs.Grammar.{HasRequestFault}
 use Rattle.peers_file.specs.declared.chain.Chain.{Chain}
 use Rattle.addrman_run.specs.Bans.{BansEnds, Change, ReportsBans}
 use Rattle.addrman_run.specs.Compile.{CompileEnds}
-use Rattle.addrman_run.specs.Complete.{IsComplete, IsGoodLog, IsLimitLine, IsLookupLine, IsOpenerLine, IsReplayLine, IsUsable, NoRefusal, NoSaveFails, NothingFails, NothingIsWrong}
+use Rattle.addrman_run.specs.Complete.{IsAddressLine, IsComplete, IsGoodLog, IsLimitLine, IsLookupLine, IsOpenerLine, IsReplayLine, IsUsable, NoRefusal, NoSaveFails, NothingFails, NothingIsWrong}
 use Rattle.addrman_run.specs.Opening.{ReportsOpening}
 use Rattle.addrman_run.specs.FileLine.{FileLineEnds}
 use Rattle.addrman_run.specs.Generate.{GenText}
@@ -39,7 +39,8 @@ use Rattle.addrman_run.specs.Opener.{OpenerEnds, OpenerRan}
 use Rattle.addrman_run.specs.Outcome.{Ends, HasCause}
 use Rattle.addrman_run.specs.LookupLines.{HasPeerFault, LacksMap, LookedUp, LookupLinesEnds}
 use Rattle.addrman_run.specs.Replay.{IsUntouched, NotOpened, ReplayEnds, Replayed}
-use Rattle.addrman_run.specs.Asmaps.{ReportsAsmap}
+use Rattle.addrman_run.specs.AddressLines.{AddressLinesEnds, Described, HasAddressFault}
+use Rattle.addrman_run.specs.Asmaps.{IsNoMap, ReportsAsmap}
 use Rattle.addrman_run.specs.Tables.{ReportsTable}
 use Rattle.addrman_run.specs.TextOut.{TextEnds}
 use Rattle.arguments.specs.declared.request.Request.TheVariants as request
@@ -130,6 +131,10 @@ lookup_line : (line : List ℕ) (fault : LineFault) → IsLookupLine line → Ha
 lookup_line line fault (inl passed) why = why.0 passed
 lookup_line line fault (inr (peer, is)) why = no_fault_after (Some (OfPeer ∷ [])) (fields_of line) (ThePeer peer ∷ []) fault is why.1
 
+address_line : (line : List ℕ) (fault : LineFault) → IsAddressLine line → HasAddressFault line fault → ⊥
+address_line line fault (inl passed) why = why.0 passed
+address_line line fault (inr (a, is)) why = why.2 a is
+
 -- the folder did not fail if the log is as it was
 no_disk_fault : (old new : Outside) → HasCause old new DiskFault → NothingFails old new → new.left ≡ old.left → ⊥
 no_disk_fault old new cause calm same = calm.folder same (cause.folder.1 refl)
@@ -201,10 +206,26 @@ lookup_lines_done : (old new : Outside) (answer : Status) → LookupLinesEnds ol
     → IsGoodLog IsLookupLine old.left × IsUsable name.Asmap ReportsAsmap old.past → NothingFails old new → IsDone answer
 lookup_lines_done old new answer ends cause fine calm =
     log_done (LookedUp old.past (streams_of old) (streams_of new)) (λ other. LacksMap old.past other × IsUntouched old new) old new answer ends.outcome cause calm
-    (λ n fault run. no_fault _ _ _ IsLookupLine lookup_line _ _ fine.0 n fault run.ran)
-    (λ n run. no_long_line _ _ _ IsLookupLine lookup_line _ _ fine.0 n run.ran)
-    (λ run. no_long_log _ _ _ IsLookupLine lookup_line _ _ fine.0 run.ran)
+    (λ n fault run. no_fault _ _ _ IsLookupLine lookup_line _ _ fine.0 n fault run.answered.ran)
+    (λ n run. no_long_line _ _ _ IsLookupLine lookup_line _ _ fine.0 n run.answered.ran)
+    (λ run. no_long_log _ _ _ IsLookupLine lookup_line _ _ fine.0 run.answered.ran)
     (no_map_done old new answer fine.1 calm)
+
+-- why the asmap is not read under which addresses are described
+bad_map_done : (old new : Outside) (answer : Status) → NoRefusal (ReportsAsmap old.past) → NothingFails old new → HasCause old new answer
+    → IsNoMap old.past answer × IsUntouched old new → IsDone answer
+bad_map_done old new Memory fine calm cause is = inr refl
+bad_map_done old new DiskFault fine calm cause is = absurd (no_disk_fault old new cause calm is.1.log.0)
+bad_map_done old new other fine calm cause is = absurd (fine other is.0)
+
+address_lines_done : (old new : Outside) (answer : Status) → AddressLinesEnds old new answer → HasCause old new answer
+    → IsGoodLog IsAddressLine old.left × NoRefusal (ReportsAsmap old.past) → NothingFails old new → IsDone answer
+address_lines_done old new answer ends cause fine calm =
+    log_done (Described old.past (streams_of old) (streams_of new)) (λ other. IsNoMap old.past other × IsUntouched old new) old new answer ends.outcome cause calm
+    (λ n fault run. no_fault _ _ _ IsAddressLine address_line _ _ fine.0 n fault run.answered.ran)
+    (λ n run. no_long_line _ _ _ IsAddressLine address_line _ _ fine.0 n run.answered.ran)
+    (λ run. no_long_log _ _ _ IsAddressLine address_line _ _ fine.0 run.answered.ran)
+    (bad_map_done old new answer fine.1 calm)
 
 -- a command that loads one file and writes a line about it
 file_line_done : (name : Name) (IsLine : Option Past → List ℕ → Type 0) (Refuses : Option Past → Status → Type 0) (old new : Outside) (answer : Status)
@@ -276,7 +297,8 @@ done request.Limit old new answer ends cause fine calm = limit_done old new answ
 done (request.Lookup peer) old new answer ends cause fine calm = file_line_done _ _ _ old new answer ends cause fine calm
 done request.LookupLines old new answer ends cause fine calm = lookup_lines_done old new answer ends cause fine calm
 done (request.Address addr) old new answer ends cause fine calm = text_done _ _ old new answer ends cause fine calm
-done (request.Show chain) old new answer ends cause fine calm = file_line_done _ _ _ old new answer ends cause fine calm
+done request.AddressLines old new answer ends cause fine calm = address_lines_done old new answer ends cause fine calm
+done (request.Show keyed chain) old new answer ends cause fine calm = file_line_done _ _ _ old new answer ends cause fine calm
 done (request.Picture chain) old new answer ends cause fine calm = text_done _ _ old new answer ends cause fine calm
 done (request.Raw chain) old new answer ends cause fine calm = text_done _ _ old new answer ends cause fine calm
 done (request.Info chain) old new answer ends cause fine calm = text_done _ _ old new answer ends cause fine calm

@@ -3,8 +3,8 @@ use Rattle.std.proofs.Common.{ℕ, List, refl, sym, subst, inl, inr}
 use Rattle.std.specs.Prelude.{Option}
 use Rattle.host_io.specs.Past.{Past}
 use Rattle.peers_file.specs.declared.chain.Chain.{Chain}
-use Rattle.addrman_run.specs.Asmaps.{ReportsAsmap}
-use Rattle.addrman_run.specs.Inside.{IsNoMap, IsNoTables, LineEnds}
+use Rattle.addrman_run.specs.Asmaps.{IsNoMap, ReportsAsmap}
+use Rattle.addrman_run.specs.Inside.{IsNoTables, LineEnds}
 use Rattle.addrman_run.specs.Opening.{ReportsTables}
 use Rattle.addrman_run.specs.TextOut.{TextOut}
 use Rattle.addrman_run.specs.declared.status.Status.{Status}

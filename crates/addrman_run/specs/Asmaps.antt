@@ -1,5 +1,5 @@
 -- The asmaps of the folder.
-use Rattle.std.specs.Prelude.{◌≡◌, ℕ, List, Option, Some, None}
+use Rattle.std.specs.Prelude.{◌≡◌, ℕ, List, Option, Some, None, ⊤}
 use Rattle.host_io.specs.Past.{Past}
 use Rattle.host_io.specs.declared.name.Name.{Name}
 use Rattle.host_io.specs.declared.name.Name.TheVariants as name
@@ -10,7 +10,7 @@ use Rattle.asmap_vm.specs.declared.fault.CodeFault.{CodeFault}
 use Rattle.asmap_vm.specs.declared.fault.CodeFault.TheVariants.{TooLarge, Insane}
 use Rattle.addrman_run.specs.InFolder.{IsFileIn, IsAbsent, IsTooLarge}
 use Rattle.addrman_run.specs.declared.status.Status.{Status}
-use Rattle.addrman_run.specs.declared.status.Status.TheVariants.{AsmapRefused}
+use Rattle.addrman_run.specs.declared.status.Status.TheVariants.{AsmapRefused, DiskFault, Memory}
 
 -- the asmap in a file of the folder
 abbrev pub IsMapAt : Name → Option Past → Asmap → Type 0
@@ -39,3 +39,10 @@ IsAsmapLine line_of past line = (m : Asmap) × IsMapIn past (Some m) × (line �
 abbrev pub ReportsAsmap : Option Past → Status → Type 0
 ReportsAsmap past (AsmapRefused fault) = RefusesAsmap past fault
 ReportsAsmap past other = ⊥
+
+-- why there is no asmap, though it may be absent: the folder failed, memory ran out, or it is
+-- refused
+abbrev pub IsNoMap : Option Past → Status → Type 0
+IsNoMap past DiskFault = ⊤
+IsNoMap past Memory = ⊤
+IsNoMap past other = ReportsAsmap past other

@@ -13,6 +13,8 @@ use Rattle.log_lines.specs.Spelling.{SpellsCommand}
 use Rattle.log_lines.specs.declared.command.Command.{Command}
 use Rattle.log_run.specs.declared.end.LogEnd.{LogEnd}
 use Rattle.log_run.specs.declared.limits.TheConstants.{MAX_LINE, MAX_LOG}
+use Rattle.names.specs.Text.{IsTextOf}
+use Rattle.net_addr.specs.Address as net
 use Rattle.net_addr.specs.declared.peer.Peer.{Peer}
 use Rattle.opener_lines.specs.Grammar.{LineAsks}
 use Rattle.opener_lines.specs.declared.request.Request as opener
@@ -29,7 +31,7 @@ use Rattle.addrman_run.specs.Show.{ReportsPeers}
 use Rattle.addrman_run.specs.Tables.{ReportsTable}
 use Rattle.arguments.specs.declared.request.Request.{Request}
 use Rattle.arguments.specs.declared.request.Request.TheVariants.{Show, Picture, Raw, Info, Groups}
-use Rattle.arguments.specs.declared.request.Request.TheVariants.{Replay, Opener, Compile, Check, Lookup, LookupLines, Address}
+use Rattle.arguments.specs.declared.request.Request.TheVariants.{Replay, Opener, Compile, Check, Lookup, LookupLines, Address, AddressLines}
 use Rattle.arguments.specs.declared.request.Request.TheVariants.{Decompile, Diff, Limit}
 use Rattle.arguments.specs.declared.request.Request.TheVariants.{Ban, Unban, Banned, Bans}
 use Rattle.addrman_run.specs.declared.status.Status.{Status}
@@ -52,6 +54,10 @@ IsLimitLine line = (event : Event) × SaysEvent line event
 -- a line that a lookup of each line carries out
 abbrev pub IsLookupLine : List ℕ → Type 0
 IsLookupLine line = IsPassedOver line ⊎ ((peer : Peer) × IsPeerLine line peer)
+
+-- a line that `address -` carries out
+abbrev pub IsAddressLine : List ℕ → Type 0
+IsAddressLine line = IsPassedOver line ⊎ ((a : net.Address) × IsTextOf line a)
 
 -- Contracts know the log. It is within its limit, each of its lines is within the limit of a line,
 -- and each is one that the command carries out.
@@ -89,7 +95,9 @@ NothingIsWrong (Lookup peer) at = IsUsable name.Asmap ReportsAsmap at.past
 NothingIsWrong LookupLines at =
     IsGoodLog IsLookupLine at.left × IsUsable name.Asmap ReportsAsmap at.past
 NothingIsWrong (Address addr) at = NoRefusal (ReportsAsmap at.past)
-NothingIsWrong (Show chain) at = IsUsable name.Peers (ReportsPeers chain) at.past
+NothingIsWrong AddressLines at =
+    IsGoodLog IsAddressLine at.left × NoRefusal (ReportsAsmap at.past)
+NothingIsWrong (Show keyed chain) at = IsUsable name.Peers (ReportsPeers chain) at.past
 NothingIsWrong (Picture chain) at = NoRefusal (ReportsTables chain at.past)
 NothingIsWrong (Raw chain) at = NoRefusal (ReportsTables chain at.past)
 NothingIsWrong (Info chain) at = NoRefusal (ReportsTables chain at.past)

@@ -174,13 +174,6 @@ IsMapOf (Some bytes) (Some m) = (m.file ≡ bytes) × IsAsmap m
 IsMapOf None (Some m) = ⊥
 IsMapOf (Some bytes) None = ⊥
 
--- why there is no asmap, though it may be absent: the folder failed, memory ran out, or it is
--- refused
-abbrev pub IsNoMap : Option Past → Status → Type 0
-IsNoMap past DiskFault = ⊤
-IsNoMap past Memory = ⊤
-IsNoMap past other = ReportsAsmap past other
-
 -- Why there are no lines about two asmaps, by the status. HasCause says why the folder fails.
 abbrev pub IsNoDifference : Option Chain → Option Past → Status → Type 0
 IsNoDifference peers past DiskFault = ⊤

@@ -11,8 +11,10 @@ pub mod OneText
 pub mod Help
 pub mod FileLine
 pub mod Lookup
+pub mod EachLine
 pub mod LookupLines
 pub mod Address
+pub mod AddressLines
 pub mod Check
 pub mod Decompile
 pub mod Diff

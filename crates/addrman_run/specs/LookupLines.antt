@@ -1,6 +1,5 @@
 -- What looking up each peer of a log writes, and how it ends.
-use Rattle.std.specs.Prelude.{◌≡◌, ◌⊎◌, ℕ, ◌+◌, List, [], ◌∷◌, Option, Some, ⊤}
-use Rattle.std.specs.List.{flat_map}
+use Rattle.std.specs.Prelude.{◌≡◌, ℕ, ◌+◌, List, [], ◌∷◌, Option, Some, ⊤}
 use Rattle.asmap_vm.specs.Asmap.{Asmap}
 use Rattle.grammar.specs.Fields.{AllMean, AreAtFault, OfPeer, ThePeer}
 use Rattle.grammar.specs.Words.{fields_of}
@@ -10,11 +9,12 @@ use Rattle.host_io.specs.Outside.{Outside}
 use Rattle.host_io.specs.Past.{Past}
 use Rattle.host_io.specs.Reading.{TakesAtMost}
 use Rattle.host_io.specs.declared.name.Name.TheVariants as name
-use Rattle.log_run.specs.Run.{Ran, Steps, Streams}
+use Rattle.log_run.specs.Run.{Streams}
 use Rattle.log_run.specs.declared.end.LogEnd.{LogEnd}
 use Rattle.log_run.specs.declared.limits.TheConstants.{MAX_LOG}
 use Rattle.net_addr.specs.declared.peer.Peer.{Peer}
 use Rattle.addrman_run.specs.Asmaps.{IsMapIn, ReportsAsmap}
+use Rattle.addrman_run.specs.EachLine.{Answered}
 use Rattle.addrman_run.specs.InFolder.{IsAbsent, ReportsAbsence}
 use Rattle.addrman_run.specs.Log.{LogOutcome, streams_of}
 use Rattle.addrman_run.specs.Lookup.{lookup_text}
@@ -30,30 +30,15 @@ IsPeerLine line peer = AllMean (OfPeer ∷ []) (fields_of line) (ThePeer peer �
 abbrev pub HasPeerFault : List ℕ → LineFault → Type 0
 HasPeerFault line fault = ¬ IsPassedOver line × AreAtFault (OfPeer ∷ []) (fields_of line) fault
 
--- A line is passed over, or its peer is looked up in the asmap.
-abbrev pub LookupStep : Steps Asmap
-LookupStep old line text new =
-    (new ≡ old)
-    × ((IsPassedOver line × (text ≡ []))
-    ⊎ ((peer : Peer) × IsPeerLine line peer × (text ≡ lookup_text old peer.addr)))
+-- what a lookup of a peer writes under an asmap
+abbrev pub peer_answer : Asmap → Peer → List ℕ
+peer_answer map peer = lookup_text map peer.addr
 
--- the peers of some lines, in order; lines that are passed over have none
-abbrev pub ArePeerLines : List (List ℕ) → List Peer → Type 0
-ArePeerLines [] peers = peers ≡ []
-ArePeerLines (line ∷ lines) peers =
-    (IsPassedOver line × ArePeerLines lines peers)
-    ⊎ ((peer : Peer) × (rest : List Peer) × (peers ≡ peer ∷ rest)
-    × IsPeerLine line peer × ArePeerLines lines rest)
-
--- A run over the log under the folder's asmap, by its end. Line n of the output is the lookup of
--- the n-th peer.
+-- A run over the log under the folder's asmap, by its end, in which each peer is looked up.
 pub record LookedUp (past : Option Past) (old new : Streams) (how : LogEnd) : Type 0 where
   pub map : Asmap
   pub has_map : IsMapIn past (Some map)
-  pub ran : Ran LookupStep HasPeerFault map old new how
-  pub peers : List Peer
-  pub each : ArePeerLines ran.carried peers
-  pub whole : ran.replies ≡ flat_map (λ peer. lookup_text map peer.addr) peers
+  pub answered : Answered IsPeerLine peer_answer HasPeerFault map old new how
 
 -- why there is no asmap to look addresses up in
 abbrev pub LacksMap : Option Past → Status → Type 0

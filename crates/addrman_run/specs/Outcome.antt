@@ -6,6 +6,7 @@ use Rattle.addrman_run.specs.Replay.{ReplayEnds}
 use Rattle.addrman_run.specs.Lookup.{LookupEnds}
 use Rattle.addrman_run.specs.LookupLines.{LookupLinesEnds}
 use Rattle.addrman_run.specs.Address.{AddressEnds}
+use Rattle.addrman_run.specs.AddressLines.{AddressLinesEnds}
 use Rattle.addrman_run.specs.Check.{CheckEnds}
 use Rattle.addrman_run.specs.Decompile.{DecompileEnds}
 use Rattle.addrman_run.specs.Diff.{DiffEnds}
@@ -22,7 +23,7 @@ use Rattle.addrman_run.specs.Trial.{TrialEnds}
 use Rattle.addrman_run.specs.Bans.{BansEnds, ListEnds, ban_change, unban_change, banned_change}
 use Rattle.arguments.specs.declared.request.Request.{Request}
 use Rattle.arguments.specs.declared.request.Request.TheVariants.{Show, Picture, Raw, Info, Groups}
-use Rattle.arguments.specs.declared.request.Request.TheVariants.{Replay, Opener, Compile, Check, Lookup, LookupLines, Address}
+use Rattle.arguments.specs.declared.request.Request.TheVariants.{Replay, Opener, Compile, Check, Lookup, LookupLines, Address, AddressLines}
 use Rattle.arguments.specs.declared.request.Request.TheVariants.{Decompile, Diff, Limit}
 use Rattle.arguments.specs.declared.request.Request.TheVariants.{Ban, Unban, Banned, Bans}
 use Rattle.arguments.specs.declared.request.Request.TheVariants.{Gen, Trial, Help, Version}
@@ -41,7 +42,8 @@ Ends Limit old new answer = LimitEnds old new answer
 Ends (Lookup peer) old new answer = LookupEnds peer old new answer
 Ends LookupLines old new answer = LookupLinesEnds old new answer
 Ends (Address addr) old new answer = AddressEnds addr old new answer
-Ends (Show chain) old new answer = ShowEnds chain old new answer
+Ends AddressLines old new answer = AddressLinesEnds old new answer
+Ends (Show keyed chain) old new answer = ShowEnds keyed chain old new answer
 Ends (Picture chain) old new answer = PictureEnds chain old new answer
 Ends (Raw chain) old new answer = TablesJsonEnds json.Raw chain old new answer
 Ends (Info chain) old new answer = TablesJsonEnds json.Info chain old new answer

@@ -1,5 +1,5 @@
 -- What a listing of peers.dat writes, several lines as one text, and how it ends.
-use Rattle.std.specs.Prelude.{◌≡◌, ℕ, List, Option}
+use Rattle.std.specs.Prelude.{◌≡◌, ℕ, Bool, List, Option}
 use Rattle.host_io.specs.Past.{Past}
 use Rattle.host_io.specs.Outside.{Outside}
 use Rattle.host_io.specs.declared.name.Name.TheVariants as name
@@ -12,10 +12,10 @@ use Rattle.addrman_run.specs.declared.peers_fault.PeersFault.TheVariants.{File}
 use Rattle.addrman_run.specs.declared.status.Status.{Status}
 use Rattle.addrman_run.specs.declared.status.Status.TheVariants.{PeersRefused}
 
--- the lines about the folder's peers.dat
-abbrev pub IsShowText : Chain → Option Past → List ℕ → Type 0
-IsShowText chain past text =
-    (snap : Snapshot) × IsSnapshotIn chain past snap × (text ≡ snapshot_text snap)
+-- the lines about the folder's peers.dat, with the key or without it
+abbrev pub IsShowText : Bool → Chain → Option Past → List ℕ → Type 0
+IsShowText keyed chain past text =
+    (snap : Snapshot) × IsSnapshotIn chain past snap × (text ≡ snapshot_text keyed snap)
 
 -- a status that says that peers.dat is refused, with the reason; never that two records have the
 -- same peer
@@ -23,5 +23,5 @@ abbrev pub ReportsPeers : Chain → Option Past → Status → Type 0
 ReportsPeers chain past (PeersRefused (File fault)) = RefusesPeers chain past fault
 ReportsPeers chain past other = ⊥
 
-abbrev pub ShowEnds : Chain → Outside → Outside → Status → Type 0
-ShowEnds chain = FileLineEnds name.Peers (IsShowText chain) (ReportsPeers chain)
+abbrev pub ShowEnds : Bool → Chain → Outside → Outside → Status → Type 0
+ShowEnds keyed chain = FileLineEnds name.Peers (IsShowText keyed chain) (ReportsPeers chain)

@@ -2,7 +2,7 @@
 use Rattle.std.specs.Prelude.{◌≡◌, ℕ, List, ⊤}
 use Rattle.arguments.specs.Table.{Asks}
 use Rattle.arguments.specs.declared.request.Request.{Request}
-use Rattle.arguments.specs.declared.request.Request.TheVariants.{Replay, Opener, Limit, LookupLines, Gen, Trial, Help, Version}
+use Rattle.arguments.specs.declared.request.Request.TheVariants.{Replay, Opener, Limit, LookupLines, AddressLines, Gen, Trial, Help, Version}
 use Rattle.addrman_run.specs.declared.status.Status.{Status}
 use Rattle.addrman_run.specs.declared.status.Status.TheVariants.{Usage}
 
@@ -12,6 +12,7 @@ ReadsNoLog (Replay key chain) = ⊥
 ReadsNoLog (Opener key chain) = ⊥
 ReadsNoLog Limit = ⊥
 ReadsNoLog LookupLines = ⊥
+ReadsNoLog AddressLines = ⊥
 ReadsNoLog other = ⊤
 
 -- the commands that ask the folder for nothing

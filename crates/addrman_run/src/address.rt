@@ -1,4 +1,4 @@
-ghost use Rattle.std.specs.Prelude.{◌≡◌, ◌++◌, IfOk, OnOk};
+ghost use Rattle.std.specs.Prelude.{◌≡◌, ◌++◌, OnOk};
 ghost use Rattle.log_run.specs.Counts.{IsCounted};
 ghost use Rattle.placing.specs.Inside.{map_of};
 ghost use Rattle.placing.specs.Places.{asn};
@@ -89,16 +89,21 @@ fn number_in(map: Option<Sane<'_>>, addr: &NetAddr) -> u32
     }
 }
 
-/// Returns the text about an address under an asmap.
+/// Appends what is known of an address under an asmap. After `Memory` the list may end in a part of
+/// it.
 #[tactic(auto, unfolding(crate::specs::Address::address_text))]
-fn address_text(alloc: Global, map: Option<Sane<'_>>, addr: &NetAddr) -> Result<Vec<u8>, Memory>
-    ensures { IfOk result (λ text. text.items ≡ address_text (map_of map.entry) addr.now) }
+pub(crate) fn put_address(
+    alloc: Global,
+    map: Option<Sane<'_>>,
+    addr: &NetAddr,
+    out: &mut Vec<u8>,
+) -> Result<(), Memory>
+    ensures { OnOk result (out.new.items
+        ≡ out.old.items ++ address_text (map_of map.entry) addr.now) }
 {
-    let mut text = Vec::new(alloc);
-    put_names(alloc, addr, &mut text)?;
-    put_class(addr, &mut text)?;
-    put_group(addr, number_in(map, addr), &mut text)?;
-    Ok(text)
+    put_names(alloc, addr, out)?;
+    put_class(addr, out)?;
+    put_group(addr, number_in(map, addr), out)
 }
 
 /// Writes what is known of an address under the folder's asmap, if there is one.
@@ -119,8 +124,9 @@ pub(crate) fn write_address<F: Folder, K: Sink>(
         Ok(map) => map,
         Err(status) => return status,
     };
-    match address_text(alloc, map, addr) {
-        Ok(text) => write_line(text.as_slice(), out),
+    let mut text = Vec::new(alloc);
+    match put_address(alloc, map, addr, &mut text) {
+        Ok(()) => write_line(text.as_slice(), out),
         Err(_) => Status::Memory,
     }
 }

@@ -13,6 +13,7 @@
 #![tactic(auto)]
 
 mod address;
+mod address_lines;
 mod bans;
 mod check;
 mod compile;

@@ -27,10 +27,11 @@ struct LookupLines<'a> {
 impl<'a> LineSteps<()> for LookupLines<'a> {
     ghost use Rattle.std.specs.Prelude.{⊤};
     ghost use Rattle.placing.specs.Inside.{asmap_of};
-    ghost use Rattle.addrman_run.specs.LookupLines.{HasPeerFault, LookupStep};
+    ghost use Rattle.addrman_run.specs.EachLine.{EachStep};
+    ghost use Rattle.addrman_run.specs.LookupLines.{HasPeerFault, IsPeerLine, peer_answer};
 
     ghost step = { λ old before line text new after.
-        LookupStep (asmap_of old.asmap) line text (asmap_of new.asmap) };
+        EachStep IsPeerLine peer_answer (asmap_of old.asmap) line text (asmap_of new.asmap) };
 
     ghost has_fault = { HasPeerFault };
 

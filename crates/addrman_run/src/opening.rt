@@ -7,8 +7,8 @@ ghost use Rattle.peers_file.specs.Layout.{IsFile};
 ghost use Rattle.slot_grid.specs.declared.sizes.TheConstants.{ALL_SLOTS};
 ghost use Rattle.table_machine.specs.Restoring.{duplicate};
 ghost use Rattle.table_machine.specs.Sound.{IsSound};
-ghost use Rattle.addrman_run.specs.Asmaps.{IsMapIn};
-ghost use Rattle.addrman_run.specs.Inside.{IsKeyless, IsMapOf, IsNoMap, IsNoSnapshot, IsNoTables, IsNotOpened, IsNotRestored, OpensWith};
+ghost use Rattle.addrman_run.specs.Asmaps.{IsMapIn, IsNoMap};
+ghost use Rattle.addrman_run.specs.Inside.{IsKeyless, IsMapOf, IsNoSnapshot, IsNoTables, IsNotOpened, IsNotRestored, OpensWith};
 ghost use Rattle.addrman_run.specs.Opening.{IsUnopened, Opened, tables_of};
 
 use crate::input::{Input, load_input};

@@ -11,6 +11,8 @@ use std::alloc::Global;
 /// have the same peer.
 #[derive(Drop)]
 pub(crate) struct Show {
+    /// Whether the key is listed.
+    pub(crate) keyed: bool,
     /// The chain that the file has to be of.
     pub(crate) chain: Chain,
 }
@@ -18,7 +20,7 @@ pub(crate) struct Show {
 impl FileLine for Show {
     ghost file = { λ _. input.Peers };
 
-    ghost is_line = { λ show. IsShowText show.chain };
+    ghost is_line = { λ show. IsShowText show.keyed show.chain };
 
     ghost refuses = { λ show. ReportsPeers show.chain };
 
@@ -32,7 +34,7 @@ impl FileLine for Show {
             Err(FileFault::Memory) => return Err(Refusal::Memory),
             Err(fault) => return Err(Refusal::Peers(PeersFault::File(fault))),
         };
-        match snapshot_text(alloc, &snap) {
+        match snapshot_text(alloc, self.keyed, &snap) {
             Ok(text) => Ok(text),
             Err(_) => Err(Refusal::Memory),
         }

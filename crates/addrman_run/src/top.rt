@@ -7,6 +7,7 @@ ghost use Rattle.addrman_run.specs.Outcome.{Ends, HasCause};
 ghost use Rattle.arguments.specs.declared.request.Request.{Request};
 
 use crate::address::write_address;
+use crate::address_lines::address_lines;
 use crate::bans::{BanSubnet, FindBan, UnbanSubnet, change_bans, list_bans};
 use crate::check::Check;
 use crate::compile::compile_table;
@@ -39,7 +40,8 @@ use std::hash::BuildHasher;
 /// no file. `compile` compiles the folder's prefixes.txt into asmap.dat, `check` checks asmap.dat,
 /// `decompile` writes the table of prefixes that it encodes, and `lookup PEER` writes the AS number
 /// and the group that it gives the peer's address, `lookup -` those of each peer of the log.
-/// `address TEXT` writes what is known of an address. `diff` writes the prefixes whose number
+/// `address TEXT` writes what is known of an address, `address -` that of each address of the log.
+/// `diff` writes the prefixes whose number
 /// differs between asmap.old and asmap.dat, and `diff --peers --net CHAIN` also which records of
 /// peers.dat change their group. `limit` carries out the lines of the log under the limit on
 /// received addresses, and writes the log that is left. `show --net CHAIN` lists what peers.dat
@@ -136,7 +138,10 @@ fn carry_out<L: Source, F: Folder, K: Sink, H: BuildHasher + Drop>(
         Request::Lookup { peer } => write_file_line(alloc, &Lookup { peer }, folder, out, learned),
         Request::LookupLines => lookup_lines(alloc, log, folder, out, learned),
         Request::Address { addr } => write_address(alloc, &addr, folder, out),
-        Request::Show { chain } => write_file_line(alloc, &Show { chain }, folder, out, learned),
+        Request::AddressLines => address_lines(alloc, log, folder, out, learned),
+        Request::Show { keyed, chain } => {
+            write_file_line(alloc, &Show { keyed, chain }, folder, out, learned)
+        }
         Request::Picture { chain } => picture(alloc, hasher, chain, folder, out, learned),
         Request::Raw { chain } => {
             write_tables_json(alloc, hasher, TablesJson::Raw, chain, folder, out, learned)
