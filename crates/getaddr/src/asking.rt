@@ -63,8 +63,7 @@ pub fn prepare<H: BuildHasher>(
     }
     let records = tables.len();
     let time = times.for_all(now, word);
-    let blank = Blank::new(1);
-    let entries = new_entries::<H, Brand>(alloc, tables, bans, time, now, words, blank)?;
+    let entries = new_entries::<H, Brand>(alloc, tables, bans, time, now, words, Blank::new(1))?;
     answers.put(key, now, records, word, entries)?;
     Ok(())
 }
