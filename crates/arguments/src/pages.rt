@@ -197,7 +197,7 @@ Codes    0 done, 2 bad usage, 3 a line has an error, 5 asmap.dat is refused, 7 t
 
 pub(crate) const ADDRESS: Page = (
     "address TEXT|-",
-    "prints what is known of an address, or of each on standard input",
+    "prints what is known of an address",
     "\
 Reads    asmap.dat, if it is there; with - also standard input, a log with a TEXT in
          each line.
