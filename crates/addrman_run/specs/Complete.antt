@@ -1,6 +1,6 @@
 -- When a run has to do what it is asked for: nothing is wrong with the log and the files, and
 -- nothing fails.
-use Rattle.std.specs.Prelude.{◌≡◌, ◌⊎◌, ◌≤◌, ℕ, List, All, length, Option, Some, None, ⊤}
+use Rattle.std.specs.Prelude.{◌≡◌, ◌⊎◌, ◌≤◌, ℕ, List, All, length, Option, Some, ⊤}
 use Rattle.addr_limit.specs.Lines.{SaysEvent}
 use Rattle.addr_limit.specs.declared.event.Event.{Event}
 use Rattle.host_io.specs.Faults.{Rose}

@@ -1,5 +1,5 @@
 -- What the arguments that open tables begin with, and what they choose then.
-use Rattle.std.proofs.Common.{◌≡◌, ◌⊎◌, ℕ, ◌≤◌, cond, Bool, true, false, List, [], ◌∷◌, ◌++◌, drop, get_or, length, codes, Option, Some, None, inl, inr, ap, sym, subst, arith, ◌∙◌, append_assoc, refl}
+use Rattle.std.proofs.Common.{◌≡◌, ℕ, ◌≤◌, cond, Bool, true, false, List, [], ◌∷◌, ◌++◌, drop, get_or, length, codes, Option, Some, None, inl, inr, ap, sym, subst, arith, ◌∙◌, append_assoc, refl}
 use Rattle.std.specs.Prelude.{IfSome, ◌==◌, unwrap_or, Result, Ok}
 use Rattle.std.specs.Int.{w32, from_be_bytes, to_be_bytes}
 use Rattle.std.specs.Result.{result_ok}

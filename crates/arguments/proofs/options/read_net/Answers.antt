@@ -1,4 +1,4 @@
-use Rattle.std.proofs.Common.{◌≡◌, [], length, string_bytes, ap, sym, ◌∙◌, arith, map, List, ℕ}
+use Rattle.std.proofs.Common.{length, string_bytes, ap, sym, ◌∙◌, arith}
 use Rattle.std.proofs.lemmas.Bool.{eqb-false}
 use Rattle.std.proofs.lemmas.List.{length-map}
 use Rattle.arguments.proofs.Asking.{no_net}

@@ -1,4 +1,4 @@
-use Rattle.std.proofs.Common.{◌≡◌, None, Result, Ok, Err, ap, refl, sym, ◌∙◌, rules}
+use Rattle.std.proofs.Common.{◌≡◌, None, Result, Err, ap, refl, sym, ◌∙◌, rules}
 use Rattle.std.proofs.lemmas.Bool.{iff_false}
 use Rattle.std.proofs.lemmas.Option.{none-some}
 use Rattle.grammar.specs.declared.fault.LineFault.{LineFault}
