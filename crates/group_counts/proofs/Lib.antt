@@ -1,3 +1,5 @@
 pub mod Counts
+pub mod FromEnd
 pub mod Ranks
 pub mod Rows
+pub mod Sorted

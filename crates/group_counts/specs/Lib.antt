@@ -1,3 +1,4 @@
 pub mod Tally
 pub mod Ranks
 pub mod Buckets
+pub mod Firsts
