@@ -94,26 +94,26 @@ impl Given {
             return self.add(alloc, "--key-file");
         }
         match read_key(alloc, rt, path) {
-            Ok(key) if is_key(key.as_slice()) => {
-                let mut word = String::from_str(alloc, "--key=")?;
-                word.push_str(
-                    String::from_utf8(key)
-                        .unwrap_or(String::new(alloc))
-                        .as_str(),
-                )?;
-                self.words.push(word)?;
-                Ok(())
-            }
-            Ok(_) => {
-                let expected = "a file of 64 hexadecimal digits";
-                self.hint = expected_text(alloc, expected, path.as_bytes(), "")?;
-                self.add(alloc, "--key-file")
-            }
+            Ok(text) => self.add_digits(alloc, path, text),
             Err(error) => {
                 self.hint = format!(in alloc; "{path} cannot be read: {error}")?;
                 self.add(alloc, "--key-file")
             }
         }
+    }
+
+    /// Adds the key of these digits, or what is said if they are none.
+    fn add_digits(&mut self, alloc: Global, path: &str, text: Vec<u8>) -> Result<(), AllocError> {
+        if !is_key(text.as_slice()) {
+            let expected = "a file of 64 hexadecimal digits";
+            self.hint = expected_text(alloc, expected, path.as_bytes(), "")?;
+            return self.add(alloc, "--key-file");
+        }
+        let digits = String::from_utf8(text).unwrap_or(String::new(alloc));
+        let mut word = String::from_str(alloc, "--key=")?;
+        word.push_str(digits.as_str())?;
+        self.words.push(word)?;
+        Ok(())
     }
 }
 

@@ -106,7 +106,9 @@ pub fn run_program(rt: &HostRuntime) -> Ended {
         if let Err(error) = env::set_current_dir(rt, folder) {
             return without_folder(rt.alloc(), folder, error);
         }
-        rest = rest.get(count..).unwrap_or(&[]);
+        if let Some(after) = rest.get(count..) {
+            rest = after;
+        }
     }
     match Given::of(rt.alloc(), rt, rest) {
         Ok(given) => run_over(rt, hasher, &given, rt.reader(), io::writer(rt)),

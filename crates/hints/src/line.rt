@@ -23,14 +23,14 @@ pub fn line_hint(
     if line.first() == Some(&b' ') {
         return String::from_str(alloc, "column 1: the line begins with a space");
     }
+    let fields = fields_of(alloc, line)?;
     if command == b"lookup".as_slice() {
-        let wrong = explain(alloc, Reader::Arguments, command, &[line])?;
+        let wrong = explain(alloc, Reader::Arguments, command, fields.as_slice())?;
         return Ok(wrong.text);
     }
     let Some(reader) = Reader::of_log(command) else {
         return Ok(String::new(alloc));
     };
-    let fields = fields_of(alloc, line)?;
     let Some((keyword, rest)) = fields.as_slice().split_first() else {
         return Ok(String::new(alloc));
     };
