@@ -36,7 +36,10 @@ fn value_of(digit: u8, index: usize) -> Result<u8, FromHexError> {
         b'0'..=b'9' => Ok(digit - b'0'),
         b'a'..=b'f' => Ok(digit - b'a' + 10),
         b'A'..=b'F' => Ok(digit - b'A' + 10),
-        _ => Err(FromHexError::InvalidHexCharacter { c: char::from(digit), index }),
+        _ => Err(FromHexError::InvalidHexCharacter {
+            c: char::from(digit),
+            index,
+        }),
     }
 }
 

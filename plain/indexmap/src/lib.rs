@@ -40,7 +40,11 @@ impl<K: Hash + Eq, V> IndexMap<K, V> {
 impl<K: Hash + Eq, V, S: BuildHasher> IndexMap<K, V, S> {
     /// Returns an empty map that hashes keys so.
     pub fn with_hasher(alloc: Global, hasher: S) -> Self {
-        IndexMap { positions: RawTable::new(), entries: Vec::new(alloc), hasher }
+        IndexMap {
+            positions: RawTable::new(),
+            entries: Vec::new(alloc),
+            hasher,
+        }
     }
 
     /// Returns an empty map with room for `capacity` entries, which hashes keys so.
@@ -58,7 +62,9 @@ impl<K: Hash + Eq, V, S: BuildHasher> IndexMap<K, V, S> {
     pub fn reserve(&mut self, additional: usize) -> Result<(), AllocError> {
         let entries = &self.entries;
         let hash_at = |at: &usize| entries[*at].hash;
-        self.positions.try_reserve(additional, hash_at).map_err(|_| AllocError)?;
+        self.positions
+            .try_reserve(additional, hash_at)
+            .map_err(|_| AllocError)?;
         self.entries.reserve(additional)
     }
 
@@ -69,11 +75,14 @@ impl<K: Hash + Eq, V, S: BuildHasher> IndexMap<K, V, S> {
             return Ok(Some(std::mem::replace(&mut self.entries[at].value, value)));
         }
         if self.reserve(1).is_err() {
-            return Err(AllocFailed { value: (key, value) });
+            return Err(AllocFailed {
+                value: (key, value),
+            });
         }
         let hash = self.hasher.hash_one(&key);
         let entries = &self.entries;
-        self.positions.insert(hash, entries.len(), |at| entries[*at].hash);
+        self.positions
+            .insert(hash, entries.len(), |at| entries[*at].hash);
         self.entries.push_reserved(Entry { hash, key, value });
         Ok(None)
     }
@@ -84,7 +93,9 @@ impl<K: Hash + Eq, V, S: BuildHasher> IndexMap<K, V, S> {
         K: Borrow<Q>,
     {
         let is_key = |at: &usize| self.entries[*at].key.borrow() == key;
-        self.positions.get(self.hasher.hash_one(key), is_key).copied()
+        self.positions
+            .get(self.hasher.hash_one(key), is_key)
+            .copied()
     }
 
     /// Returns the value of a key.
@@ -119,7 +130,8 @@ impl<K: Hash + Eq, V, S: BuildHasher> IndexMap<K, V, S> {
     {
         let at = self.get_index_of(key)?;
         let last = self.entries.len() - 1;
-        self.positions.remove_entry(self.entries[at].hash, |other| *other == at);
+        self.positions
+            .remove_entry(self.entries[at].hash, |other| *other == at);
         if at < last {
             *self.position_mut(last) = at;
         }
@@ -143,7 +155,9 @@ impl<K: Hash + Eq, V, S: BuildHasher> IndexMap<K, V, S> {
 
     /// Returns where the table has the position of the entry at `at`.
     fn position_mut(&mut self, at: usize) -> &mut usize {
-        let found = self.positions.get_mut(self.entries[at].hash, |other| *other == at);
+        let found = self
+            .positions
+            .get_mut(self.entries[at].hash, |other| *other == at);
         found.expect("each entry has a position")
     }
 
@@ -172,7 +186,9 @@ impl<K, V, S> IndexMap<K, V, S> {
 
     /// Returns the entry at a position.
     pub fn get_index(&self, index: usize) -> Option<(&K, &V)> {
-        self.entries.get(index).map(|entry| (&entry.key, &entry.value))
+        self.entries
+            .get(index)
+            .map(|entry| (&entry.key, &entry.value))
     }
 
     /// Returns the value at a position.
@@ -237,7 +253,10 @@ mod tests {
         map.swap_indices(0, 2);
         map.swap_indices(1, 1);
         assert_eq!(pairs(&map), [(3, 30), (2, 20), (1, 10)]);
-        assert_eq!((map.get_index_of(&3), map.get_index_of(&1)), (Some(0), Some(2)));
+        assert_eq!(
+            (map.get_index_of(&3), map.get_index_of(&1)),
+            (Some(0), Some(2))
+        );
     }
 
     #[test]

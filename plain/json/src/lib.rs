@@ -45,7 +45,11 @@ pub struct Pretty {
 impl Pretty {
     /// Begins.
     pub fn new(alloc: Global) -> Pretty {
-        Pretty { out: Vec::new(alloc), before: Before::Nothing, depth: 0 }
+        Pretty {
+            out: Vec::new(alloc),
+            before: Before::Nothing,
+            depth: 0,
+        }
     }
 
     /// Returns the text.
@@ -107,7 +111,8 @@ impl Pretty {
                 0..=31 => {
                     let digit = |value: u8| b"0123456789abcdef"[usize::from(value)];
                     self.put("\\u00")?;
-                    self.out.extend_from_slice(&[digit(byte >> 4), digit(byte & 15)])?;
+                    self.out
+                        .extend_from_slice(&[digit(byte >> 4), digit(byte & 15)])?;
                 }
                 _ => self.out.push(byte)?,
             }

@@ -1,7 +1,10 @@
-//! A JSON value whose texts and lists are those of `plain_std`, read by the crate `serde_json`.
+//! JSON as the crate `serde_json` has it, where memory may run out: that crate ends the process then.
+//! The tests compare both. The place of an error is that which Rattle's crate of this name gives: the
+//! start of the token that is refused, or of the next one after a token in a wrong place.
 
 mod print;
 mod read;
+mod tokens;
 
 use plain_std::alloc::{AllocError, Global};
 use plain_std::string::String;
@@ -14,13 +17,25 @@ pub enum Value {
     /// `true` or `false`.
     Bool(bool),
     /// A number.
-    Number(serde_json::Number),
+    Number(Number),
     /// A text.
     String(String),
     /// A list.
     Array(Vec<Value>),
     /// The members of an object.
     Object(Map),
+}
+
+/// A number. One written with a point or an exponent is a float, and so is one that fits no whole
+/// number, and `-0`.
+#[derive(Clone, Copy, Debug, PartialEq)]
+pub enum Number {
+    /// 0 or more.
+    Positive(u64),
+    /// Less than 0.
+    Negative(i64),
+    /// A finite one.
+    Float(f64),
 }
 
 /// The members of an object, by name, in the order of the names.
@@ -41,6 +56,19 @@ pub enum Error {
 }
 
 impl Error {
+    /// Returns the error that a text is not JSON from this offset on.
+    fn at(text: &[u8], offset: usize) -> Error {
+        let before = &text[..offset];
+        let line_start = before
+            .iter()
+            .rposition(|byte| *byte == b'\n')
+            .map_or(0, |at| at + 1);
+        Error::Text {
+            line: 1 + before.iter().filter(|byte| **byte == b'\n').count(),
+            column: offset - line_start + usize::from(offset < text.len()),
+        }
+    }
+
     /// Returns whether memory ran out.
     pub fn is_memory(&self) -> bool {
         *self == Error::Memory
@@ -75,9 +103,23 @@ impl Map {
         Map(Vec::new(alloc))
     }
 
+    /// Returns the members by name, of each name the last. Each has how many were before it.
+    fn of_last(mut members: Vec<(String, usize, Value)>) -> Result<Map, AllocError> {
+        members.sort_unstable_by(|a, b| (&a.0, b.1).cmp(&(&b.0, a.1)));
+        members.dedup_by(|later, first| later.0 == first.0);
+        let mut map = Map(Vec::with_capacity(Global, members.len())?);
+        for (name, _, value) in members {
+            map.0.push((name, value))?;
+        }
+        Ok(map)
+    }
+
     /// Puts a member in, in the place of one of this name.
     pub fn insert(&mut self, name: String, value: Value) -> Result<(), AllocError> {
-        match self.0.binary_search_by(|member| member.0.as_str().cmp(&name)) {
+        match self
+            .0
+            .binary_search_by(|member| member.0.as_str().cmp(&name))
+        {
             Ok(at) => self.0[at].1 = value,
             Err(at) => self.0.insert(at, (name, value))?,
         }
@@ -86,7 +128,10 @@ impl Map {
 
     /// Returns the member of this name.
     pub fn get(&self, name: &str) -> Option<&Value> {
-        let at = self.0.binary_search_by(|member| member.0.as_str().cmp(name)).ok()?;
+        let at = self
+            .0
+            .binary_search_by(|member| member.0.as_str().cmp(name))
+            .ok()?;
         Some(&self.0[at].1)
     }
 }
@@ -124,7 +169,7 @@ impl Value {
     /// Returns the number, if this is a whole one of 0 or more, written without a point.
     pub fn as_u64(&self) -> Option<u64> {
         match self {
-            Value::Number(number) => number.as_u64(),
+            Value::Number(Number::Positive(number)) => Some(*number),
             _ => None,
         }
     }
@@ -132,7 +177,8 @@ impl Value {
     /// Returns the number, if this is a whole one, written without a point.
     pub fn as_i64(&self) -> Option<i64> {
         match self {
-            Value::Number(number) => number.as_i64(),
+            Value::Number(Number::Positive(number)) => i64::try_from(*number).ok(),
+            Value::Number(Number::Negative(number)) => Some(*number),
             _ => None,
         }
     }
@@ -146,13 +192,13 @@ impl From<String> for Value {
 
 impl From<u32> for Value {
     fn from(number: u32) -> Value {
-        Value::Number(number.into())
+        Value::Number(Number::Positive(number.into()))
     }
 }
 
 impl From<u64> for Value {
     fn from(number: u64) -> Value {
-        Value::Number(number.into())
+        Value::Number(Number::Positive(number))
     }
 }
 
@@ -184,52 +230,4 @@ pub fn object<const N: usize>(
         put(&mut map, alloc, name, value)?;
     }
     Ok(Value::Object(map))
-}
-
-#[cfg(test)]
-mod tests {
-    use super::{Error, Value};
-    use plain_std::alloc::Global;
-
-    fn read(text: &str) -> Result<Value, Error> {
-        Value::from_slice(Global, text.as_bytes())
-    }
-
-    fn is_text(read: Result<Value, Error>) -> bool {
-        matches!(read, Err(Error::Text { line: 1, .. }))
-    }
-
-    #[test]
-    fn members_are_found_and_the_last_of_a_name_holds() {
-        let value = read(r#"{"b": [1, -2, "x\u00e9"], "a": 7, "a": true, "c": null}"#).unwrap();
-        let items = value.get("b").and_then(Value::as_array).unwrap();
-        assert_eq!((items[0].as_u64(), items[1].as_u64()), (Some(1), None));
-        assert_eq!((items[1].as_i64(), items[2].as_str()), (Some(-2), Some("xé")));
-        assert!(matches!(value.get("a"), Some(Value::Bool(true))));
-        let printed = value.to_string();
-        assert_eq!(printed, r#"{"a":true,"b":[1,-2,"xé"],"c":null}"#);
-    }
-
-    #[test]
-    fn floats_are_read_up_to_the_greatest() {
-        assert!(read("1.7976931348623158e308").is_ok());
-        assert!(is_text(read("1e999")));
-        assert_eq!(read("18446744073709551615").unwrap().as_u64(), Some(u64::MAX));
-        assert_eq!(read("18446744073709551616").unwrap().as_u64(), None);
-        assert_eq!(read("-0").unwrap().as_i64(), None);
-    }
-
-    #[test]
-    fn other_text_is_refused() {
-        for text in ["", "{", "[1,]", "tru", "\"\\ud800\"", "1 2", "\"\n\"", "01"] {
-            assert!(is_text(read(text)), "{text}");
-        }
-        assert!(is_text(read(&"[".repeat(128))));
-    }
-
-    #[test]
-    fn texts_are_escaped() {
-        let value = read(r#""\"\\\/\b\f\n\r\t\u0001é""#).unwrap();
-        assert_eq!(value.to_string(), r#""\"\\/\b\f\n\r\t\u0001é""#);
-    }
 }

@@ -1,6 +1,6 @@
 //! Printing, without spaces.
 
-use crate::{Map, Value};
+use crate::{Map, Number, Value};
 use std::fmt::{Display, Formatter, Result, Write};
 
 impl Display for Value {
@@ -8,7 +8,9 @@ impl Display for Value {
         match self {
             Value::Null => f.write_str("null"),
             Value::Bool(value) => value.fmt(f),
-            Value::Number(number) => number.fmt(f),
+            Value::Number(Number::Positive(number)) => number.fmt(f),
+            Value::Number(Number::Negative(number)) => number.fmt(f),
+            Value::Number(Number::Float(number)) => write!(f, "{number:?}"),
             Value::String(text) => write_text(f, text),
             Value::Array(items) => write_items(f, items),
             Value::Object(map) => write_members(f, map),

@@ -56,6 +56,12 @@ mod tests {
     fn the_hash_of_abc() {
         let hash = Sha256::digest("abc");
         assert_eq!(hash[..4], [0xba, 0x78, 0x16, 0xbf]);
-        assert_eq!(Sha256::new().chain_update("a").chain_update("bc").finalize(), hash);
+        assert_eq!(
+            Sha256::new()
+                .chain_update("a")
+                .chain_update("bc")
+                .finalize(),
+            hash
+        );
     }
 }

@@ -22,13 +22,18 @@ enum Entry<T> {
 impl<T> Slab<T> {
     /// Returns one without values, which takes no memory.
     pub fn new(alloc: Global) -> Slab<T> {
-        Slab { entries: Vec::new(alloc), len: 0, next: 0 }
+        Slab {
+            entries: Vec::new(alloc),
+            len: 0,
+            next: 0,
+        }
     }
 
     /// Makes room for more values, and for no others.
     pub fn reserve_exact(&mut self, additional: usize) -> Result<(), AllocError> {
         let vacant = self.entries.len() - self.len;
-        self.entries.reserve_exact(additional.saturating_sub(vacant))
+        self.entries
+            .reserve_exact(additional.saturating_sub(vacant))
     }
 
     /// Puts a value in, and returns its key. If memory runs out, the value is given back.

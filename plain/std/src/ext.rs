@@ -165,7 +165,10 @@ mod tests {
 
     #[test]
     fn an_address_is_all_of_its_text() {
-        assert_eq!(Ipv4Addr::from_ascii(b"1.2.3.4"), Ok(Ipv4Addr::new(1, 2, 3, 4)));
+        assert_eq!(
+            Ipv4Addr::from_ascii(b"1.2.3.4"),
+            Ok(Ipv4Addr::new(1, 2, 3, 4))
+        );
         for text in [&b"1.2.3.4 "[..], b"1.2.3", b"01.2.3.4", b"\xff"] {
             assert!(Ipv4Addr::from_ascii(text).is_err());
         }
@@ -173,8 +176,19 @@ mod tests {
 
     #[test]
     fn groups_are_those_of_std_unless_it_prints_dots() {
-        let texts = ["::", "::1", "1::", "1:2::", "1:0:0:2::3", "1:2:3:4:5:6:7:8", "0:1:0:1:0:1:0:1"];
-        for text in texts.into_iter().chain(["fc00::", "1:0:2:3:4:5:6:7", "2001:db8::ff00:42:8329"]) {
+        let texts = [
+            "::",
+            "::1",
+            "1::",
+            "1:2::",
+            "1:0:0:2::3",
+            "1:2:3:4:5:6:7:8",
+            "0:1:0:1:0:1:0:1",
+        ];
+        for text in texts
+            .into_iter()
+            .chain(["fc00::", "1:0:2:3:4:5:6:7", "2001:db8::ff00:42:8329"])
+        {
             let address: Ipv6Addr = text.parse().unwrap();
             assert_eq!(address.hex_groups().to_string(), address.to_string());
         }

@@ -20,7 +20,11 @@ pub struct Metadata {
 impl Metadata {
     /// Returns what would be known of a regular file of `len` bytes.
     pub fn of_file(len: u64) -> Metadata {
-        Metadata { is_file: true, is_dir: false, len }
+        Metadata {
+            is_file: true,
+            is_dir: false,
+            len,
+        }
     }
 
     /// Returns whether it is a regular file.
@@ -42,7 +46,11 @@ impl Metadata {
 
 impl From<std::fs::Metadata> for Metadata {
     fn from(found: std::fs::Metadata) -> Metadata {
-        Metadata { is_file: found.is_file(), is_dir: found.is_dir(), len: found.len() }
+        Metadata {
+            is_file: found.is_file(),
+            is_dir: found.is_dir(),
+            len: found.len(),
+        }
     }
 }
 
@@ -175,7 +183,9 @@ impl OpenOptions {
     pub(crate) fn of_std(&self) -> std::fs::OpenOptions {
         let mut how = std::fs::OpenOptions::new();
         how.read(self.read).write(self.write).append(self.append);
-        how.truncate(self.truncate).create(self.create).create_new(self.create_new);
+        how.truncate(self.truncate)
+            .create(self.create)
+            .create_new(self.create_new);
         #[cfg(unix)]
         std::os::unix::fs::OpenOptionsExt::mode(&mut how, self.mode);
         how

@@ -108,7 +108,11 @@ impl DefaultHasher {
         if before + count >= 8 {
             let word = self.tail;
             self.word(word);
-            self.tail = if before == 0 { 0 } else { value >> (8 * (8 - before)) };
+            self.tail = if before == 0 {
+                0
+            } else {
+                value >> (8 * (8 - before))
+            };
         }
     }
 }

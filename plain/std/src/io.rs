@@ -246,8 +246,14 @@ mod tests {
     #[test]
     fn an_error_of_the_system_keeps_its_number() {
         let error = Error::from(std::io::Error::from_raw_os_error(2));
-        assert_eq!((error.raw_os_error(), error.kind()), (Some(2), ErrorKind::NotFound));
+        assert_eq!(
+            (error.raw_os_error(), error.kind()),
+            (Some(2), ErrorKind::NotFound)
+        );
         let error = Error::from(ErrorKind::WriteZero);
-        assert_eq!((error.raw_os_error(), error.kind()), (None, ErrorKind::WriteZero));
+        assert_eq!(
+            (error.raw_os_error(), error.kind()),
+            (None, ErrorKind::WriteZero)
+        );
     }
 }

@@ -63,7 +63,10 @@ macro_rules! entry {
     ($program:path) => {
         #[cfg(unix)]
         #[unsafe(no_mangle)]
-        extern "C" fn main(count: ::std::ffi::c_int, words: *const *const ::std::ffi::c_char) -> ::std::ffi::c_int {
+        extern "C" fn main(
+            count: ::std::ffi::c_int,
+            words: *const *const ::std::ffi::c_char,
+        ) -> ::std::ffi::c_int {
             // SAFETY: these are the arguments that C gives its `main`.
             unsafe { $crate::env::keep(count, words) };
             $crate::process::run($program)

@@ -93,7 +93,10 @@ pub trait Eprint {
 impl Eprint for HostRuntime {
     fn eprint<D: Display>(&self, text: D) -> io::Result<()> {
         let text = whole(format_args!("{text}"))?;
-        Ok(std::io::Write::write_all(&mut std::io::stderr(), text.as_bytes())?)
+        Ok(std::io::Write::write_all(
+            &mut std::io::stderr(),
+            text.as_bytes(),
+        )?)
     }
 }
 

@@ -37,7 +37,6 @@ impl String {
     }
 
     /// Copies a text.
-    #[expect(clippy::should_implement_trait, reason = "it takes the allocator")]
     pub fn from_str(alloc: Global, text: &str) -> Result<String, AllocError> {
         let mut copy = String::with_capacity(alloc, text.len())?;
         copy.0.push_str(text);
@@ -67,7 +66,9 @@ impl String {
 
     /// Appends a format.
     pub fn write_fmt(&mut self, format: fmt::Arguments<'_>) -> Result<(), AllocError> {
-        Writer(&mut self.0).write_fmt(format).map_err(|_| AllocError)
+        Writer(&mut self.0)
+            .write_fmt(format)
+            .map_err(|_| AllocError)
     }
 
     /// Returns the text.

@@ -273,7 +273,10 @@ mod tests {
 
     #[test]
     fn more_room_than_there_is_memory_is_an_error() {
-        assert_eq!(Vec::<u64>::with_capacity(Global, usize::MAX / 16).err(), Some(AllocError));
+        assert_eq!(
+            Vec::<u64>::with_capacity(Global, usize::MAX / 16).err(),
+            Some(AllocError)
+        );
         let mut list = Vec::from_array(Global, [1u8, 2]).unwrap();
         assert_eq!(list.reserve(usize::MAX), Err(AllocError));
         assert_eq!(list.as_slice(), [1, 2]);
@@ -285,7 +288,10 @@ mod tests {
         list.push(8).unwrap();
         list.insert(1, 9).unwrap();
         assert_eq!(list.as_slice(), [7, 9, 7, 7, 8]);
-        assert_eq!((list.remove(1), list.swap_remove(0), list.pop()), (9, 7, Some(7)));
+        assert_eq!(
+            (list.remove(1), list.swap_remove(0), list.pop()),
+            (9, 7, Some(7))
+        );
         assert_eq!(list.as_slice(), [8, 7]);
         list.resize(4, 1).unwrap();
         list.slice_mut(..2).fill(0);

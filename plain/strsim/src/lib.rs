@@ -30,7 +30,12 @@ mod tests {
 
     #[test]
     fn distances_are_those_of_the_literature() {
-        let cases = [("kitten", "sitting", 3), ("", "abc", 3), ("flaw", "lawn", 2), ("é", "e", 1)];
+        let cases = [
+            ("kitten", "sitting", 3),
+            ("", "abc", 3),
+            ("flaw", "lawn", 2),
+            ("é", "e", 1),
+        ];
         for (a, b, distance) in cases {
             assert_eq!(levenshtein(Global, a, b), Ok(distance));
             assert_eq!(levenshtein(Global, b, a), Ok(distance));
