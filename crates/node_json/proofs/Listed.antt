@@ -1,6 +1,6 @@
 -- The tokens, the texts and the depth of the groups.
 use Rattle.std.proofs.Common.{◌≡◌, ℕ, ◌+◌, ◌<◌, ◌≤◌, ◌&&◌, not, nat_le, ◌==◌, ◌||◌, Bool, true, false, cond, filter, List, [], ◌∷◌, ◌++◌, length, get_or, take, map, codes, refl, ap, sym, ◌∙◌, arith, append_assoc}
-use Rattle.std.specs.Prelude.{Option, Some, None}
+use Rattle.std.specs.Prelude.{Option, Some, None, slice_get}
 use Rattle.std.specs.List.{flat_map, list_all}
 use Rattle.std.specs.Str.{IsAscii}
 use Rattle.std.proofs.Math.Nat.{max-le}
@@ -8,6 +8,7 @@ use Rattle.std.proofs.lemmas.Bool.{and_parts, leb-true}
 use Rattle.std.proofs.lemmas.List.{append-nil, length-map, take_more}
 use Rattle.std.proofs.lemmas.List.Concat.{flat_map-append}
 use Rattle.std.proofs.lemmas.Str.Ascii.{IsAscii-cons, IsAscii-nil}
+use Rattle.group_counts.specs.Firsts.{AreFirsts, first_at}
 use Rattle.json.specs.Json.{Json, string}
 use Rattle.json.specs.Token.{Token}
 use Rattle.json.specs.Tree.{depth, items_depth, json_tokens}
@@ -25,6 +26,11 @@ use Rattle.node_json.specs.Inside.{items_tokens_of, tokens_of}
 use Rattle.node_json.specs.Value.{array_of, items_of, json_number, unless_zero}
 use Rattle.node_json.proofs.Items.{array_value, items-append}
 use Rattle.node_json.proofs.Tokens.{AreShallow, shallow-append, shallow_object, shallow_unless}
+
+-- the record at the first place that has a key
+pub first-is : (es : List (ℕ × ℕ)) (keys : List ℕ) (recs : List Rec) (key : ℕ) → length keys ≡ length recs → AreFirsts es keys
+    → slice_get recs (first_at es (length recs) key) ≡ first_in keys recs key
+first-is es keys recs key long are = ap (slice_get recs) (ap (λ (n : ℕ). first_at es n key) (sym long) ∙ are key)
 
 -- ---- texts
 

@@ -1,13 +1,14 @@
-ghost use Rattle.std.specs.Prelude.{◌≡◌, ◌≤◌, ◌-◌, ◌+◌, [], ◌∷◌, ◌++◌, IfOk, OnOk, codes, filter, length, map, option_map};
+ghost use Rattle.std.specs.Prelude.{◌≡◌, ◌≤◌, ◌-◌, ◌+◌, [], ◌∷◌, ◌++◌, IfOk, OnOk, codes, filter, length, map, option_map, slice_get};
 ghost use Rattle.std.specs.List.{flat_map};
 ghost use Rattle.json.specs.Json.{string};
 ghost use Rattle.json.specs.Tree.{json_tokens};
+ghost use Rattle.group_counts.specs.Firsts.{AreFirsts, first_at};
 ghost use Rattle.group_counts.specs.Ranks.{groups_of, in_order};
 ghost use Rattle.picture_text.specs.Markup.{IsPlain};
 ghost use Rattle.picture_text.specs.Names.{name_of};
 ghost use Rattle.picture_text.specs.Picture.{in_new};
 ghost use Rattle.placing.specs.Places.{asn};
-ghost use Rattle.node_json.specs.Groups.{first_in, group_members, groups_json, groups_members, health_members, is_clearnet, is_clearnet_class, items_by, number_members, part_key, row_items, rows_of, totals_by};
+ghost use Rattle.node_json.specs.Groups.{group_members, groups_json, groups_members, health_members, is_clearnet, is_clearnet_class, items_by, number_members, part_key, row_items, rows_of, totals_by};
 ghost use Rattle.node_json.specs.Inside.{items_tokens_of, rows_tokens, tokens_of};
 ghost use Rattle.node_json.specs.Value.{IsJsonText, array_of, object_of};
 ghost use Rattle.node_json.specs.declared.part.Part.TheVariants.{Both};
@@ -19,7 +20,7 @@ use crate::Memory;
 use crate::numbers::{Numbers, Row, count_rows};
 use crate::part::{Part, counted_address, record_keys};
 use crate::put::{put_begin, put_number, put_string, put_unless_zero, with_end};
-use group_counts::{Counted, count_groups, in_order, occurrences};
+use group_counts::{Counted, Firsts, count_groups, find_firsts, first_of, in_order, occurrences};
 use json::{Pretty, Token};
 use net_addr::{Net, NetAddr};
 use peer_rec::Rec;
@@ -31,7 +32,7 @@ use std::alloc::{AllocError, Global};
 use std::hash::BuildHasher;
 use std::sync::ledger::Ledger;
 use steps::Steps;
-use table_picture::{first_slot, slot_keys};
+use table_picture::slot_keys;
 use tables::Tables;
 
 /// Appends the numbers of a group.
@@ -108,48 +109,55 @@ fn put_found(
     }
 }
 
-/// Returns the first of the records with these keys that has the key, if there is one.
-fn first_in<'a>(keys: &[u128], recs: &'a [Rec], key: u128) -> Option<&'a Rec>
-    ensures { option_map (λ r. r.now) result ≡ first_in keys.now recs.now key }
+/// Returns the first of the records that has the key, if there is one.
+fn first_in<'a, H: BuildHasher>(
+    firsts: &Firsts<'_, H>,
+    recs: &'a [Rec],
+    key: u128,
+) -> Option<&'a Rec>
+    ensures { option_map (λ r. r.now) result
+        ≡ slice_get recs.now (first_at firsts.now.entries (length recs.now) key) }
 {
-    recs.get(first_slot(keys, key))
+    recs.get(first_of(firsts, key, recs.len()))
 }
 
-/// Appends the object of a row, for which the records have these keys.
-fn put_row(
+/// Appends the object of a row, for which the first records have these places.
+fn put_row<H: BuildHasher>(
     alloc: Global,
     json: &mut Pretty,
     placer: &Placer<'_>,
-    keys: &[u128],
+    firsts: &Firsts<'_, H>,
     recs: &[Rec],
     row: &Row,
 ) -> Result<(), Memory>
-    ensures { OnOk result (json.new ≡ json.old
-        ++ items_tokens_of (row_items placer.now keys.now recs.now row.now)) }
+    requires { AreFirsts firsts.now.entries (map (part_key placer.now Both) recs.now) }
+    ensures { OnOk result (json.new ≡ json.old ++ items_tokens_of (row_items placer.now
+        (map (part_key placer.now Both) recs.now) recs.now row.now)) }
 {
     put_found(
         alloc,
         json,
         placer,
         row.numbers,
-        first_in(keys, recs, row.key),
+        first_in(firsts, recs, row.key),
     )
 }
 
 /// Appends the objects of some rows.
-fn put_rows(
+fn put_rows<H: BuildHasher>(
     alloc: Global,
     json: &mut Pretty,
     placer: &Placer<'_>,
-    keys: &[u128],
+    firsts: &Firsts<'_, H>,
     recs: &[Rec],
     rows: &[Row],
 ) -> Result<(), Memory>
-    ensures { OnOk result (json.new ≡ json.old
-        ++ rows_tokens placer.now keys.now recs.now rows.now) }
+    requires { AreFirsts firsts.now.entries (map (part_key placer.now Both) recs.now) }
+    ensures { OnOk result (json.new ≡ json.old ++ rows_tokens placer.now
+        (map (part_key placer.now Both) recs.now) recs.now rows.now) }
 {
     for row in rows {
-        put_row(alloc, json, placer, keys, recs, row)?;
+        put_row(alloc, json, placer, firsts, recs, row)?;
     }
     Ok(())
 }
@@ -267,8 +275,9 @@ fn put_totals(
 }
 
 /// Appends the member with the groups.
-fn put_array(
+fn put_array<H: BuildHasher>(
     alloc: Global,
+    hasher: &H,
     json: &mut Pretty,
     placer: &Placer<'_>,
     recs: &[Rec],
@@ -282,9 +291,10 @@ fn put_array(
     ) ∷ [])) }
 {
     let keys = record_keys(alloc, placer, recs, Part::Both)?;
+    let firsts = find_firsts(alloc, hasher, keys.as_slice())?;
     json.token(Token::Key("groups"))?;
     json.token(Token::BeginArray)?;
-    put_rows(alloc, json, placer, keys.as_slice(), recs, rows)?;
+    put_rows(alloc, json, placer, &firsts, recs, rows)?;
     json.token(Token::EndArray)?;
     Ok(())
 }
@@ -362,7 +372,7 @@ fn put_members<H: BuildHasher, G: BuildHasher>(
     let counts = tables.counts();
     let rows = rows_of(alloc, hasher, tables, slots, recs)?;
     let numbers = clearnet_numbers(alloc, tables.placer(), recs)?;
-    put_array(alloc, json, tables.placer(), recs, rows.as_slice())?;
+    put_array(alloc, hasher, json, tables.placer(), recs, rows.as_slice())?;
     put_totals(
         json,
         rows.len() as u64,

@@ -5,5 +5,5 @@ mod keys;
 mod picture;
 
 pub use keys::{group_key, slot_keys};
-pub use picture::{first_slot, put_picture};
+pub use picture::put_picture;
 pub use picture_text::Memory;

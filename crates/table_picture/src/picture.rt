@@ -16,7 +16,7 @@ use steps::Steps;
 use tables::Tables;
 
 /// Returns the index of the first slot that has the key, and their number if none has.
-pub fn first_slot(keys: &[u128], key: u128) -> usize
+fn first_slot(keys: &[u128], key: u128) -> usize
     ensures { result ≡ position_or_len (λ j. j == key) keys.now }
 {
     let mut rest = keys;
