@@ -3,7 +3,7 @@ static COMMANDS: [&str; 22] = [
     "replay [--key HEX64] [--net CHAIN]",
     "opener [--key HEX64] [--net CHAIN]",
     "limit",
-    "show [--net CHAIN]",
+    "show [--net CHAIN] [--no-key]",
     "picture [--net CHAIN]",
     "raw [--net CHAIN]",
     "info [--net CHAIN]",

@@ -24,7 +24,7 @@ pub fn line_hint(
         return String::from_str(alloc, "column 1: the line begins with a space");
     }
     let fields = fields_of(alloc, line)?;
-    if command == b"lookup".as_slice() {
+    if command == b"lookup".as_slice() || command == b"address".as_slice() {
         let wrong = explain(alloc, Reader::Arguments, command, fields.as_slice())?;
         return Ok(wrong.text);
     }

@@ -7,11 +7,15 @@ use std::alloc::{AllocError, Global};
 /// How many hexadecimal digits a key has.
 const KEY_DIGITS: usize = 64;
 
+/// How many hexadecimal digits the magic of a chain has.
+const MAGIC_DIGITS: usize = 8;
+
 /// An option.
 #[derive(Clone, Copy, PartialEq, Eq)]
 enum Name {
     Key,
     Net,
+    Magic,
 }
 
 /// An option, and the value that an argument has after `=`.
@@ -27,6 +31,15 @@ impl Name {
         match self {
             Name::Key => "--key",
             Name::Net => "--net",
+            Name::Magic => "--magic",
+        }
+    }
+
+    /// Returns the name in the forms that have the option.
+    fn in_form(self) -> &'static str {
+        match self {
+            Name::Key => "--key",
+            _ => "--net",
         }
     }
 
@@ -34,7 +47,8 @@ impl Name {
     fn wanted(self) -> &'static str {
         match self {
             Name::Key => "64 hexadecimal digits",
-            Name::Net => "main, test, signet or regtest",
+            Name::Net => "main, test, testnet4, signet or regtest",
+            Name::Magic => "8 hexadecimal digits",
         }
     }
 }
@@ -86,8 +100,8 @@ fn given_by<'a>(form: &'static str, pending: Option<Name>, word: &'a str) -> Opt
 
 /// Returns the option of the form that an argument begins with.
 fn option_of<'a>(form: &'static str, word: &'a str) -> Option<Given<'a>> {
-    for name in [Name::Key, Name::Net] {
-        if !form.contains(name.text()) {
+    for name in [Name::Key, Name::Net, Name::Magic] {
+        if !form.contains(name.in_form()) {
             continue;
         }
         if word == name.text() {
@@ -113,7 +127,7 @@ fn explain_given(alloc: Global, given: Given<'_>) -> Result<Option<String>, Allo
     };
     match given.name {
         Name::Key => explain_key(alloc, value),
-        Name::Net => explain_chain(alloc, value),
+        other => explain_chain(alloc, other, value),
     }
 }
 
@@ -128,13 +142,17 @@ fn explain_key(alloc: Global, digits: &str) -> Result<Option<String>, AllocError
     Ok(Some(text))
 }
 
-/// Says what is wrong with the name of a chain, or returns `None` if nothing is.
-fn explain_chain(alloc: Global, value: &str) -> Result<Option<String>, AllocError> {
-    if is_chain(value) {
+/// Says what is wrong with the name of a chain or its magic, or returns `None` if nothing is.
+fn explain_chain(alloc: Global, name: Name, value: &str) -> Result<Option<String>, AllocError> {
+    let is_right = match name {
+        Name::Magic => value.len() == MAGIC_DIGITS && is_hex(value),
+        _ => is_chain(value),
+    };
+    if is_right {
         return Ok(None);
     }
-    let said = expected_text(alloc, Name::Net.wanted(), value.as_bytes(), "")?;
-    Ok(Some(format!(in alloc; "--net: {}", said.as_str())?))
+    let said = expected_text(alloc, name.wanted(), value.as_bytes(), "")?;
+    Ok(Some(format!(in alloc; "{}: {}", name.text(), said.as_str())?))
 }
 
 /// Returns whether a text is the name of a chain.
@@ -147,15 +165,23 @@ fn is_chain(value: &str) -> bool {
     false
 }
 
+/// Returns whether all of a text is hexadecimal digits.
+fn is_hex(text: &str) -> bool {
+    for byte in text.as_bytes() {
+        if !byte.is_ascii_hexdigit() {
+            return false;
+        }
+    }
+    true
+}
+
 /// Returns what is wrong with a key besides its length.
 fn key_error(digits: &str) -> Option<&'static str> {
     if digits.starts_with("0x") {
         return Some(", and a key has no 0x");
     }
-    for byte in digits.as_bytes() {
-        if !byte.is_ascii_hexdigit() {
-            return Some(", and not all are such digits");
-        }
+    if !is_hex(digits) {
+        return Some(", and not all are such digits");
     }
     if digits.len() != KEY_DIGITS {
         return Some("");
@@ -168,6 +194,9 @@ fn no_option(alloc: Global, form: &'static str, word: &str) -> Result<String, Al
     let command = keyword_of(form);
     let shown = quoted(alloc, word.as_bytes())?;
     let shown = shown.as_str();
+    if word.starts_with("--") && form.contains(word) {
+        return format!(in alloc; "{shown} comes once, and not here; expected \"{form}\"");
+    }
     if word.starts_with("-") || !(command == "replay" || command == "opener") {
         return format!(in alloc; "{shown} is no option of {command}; expected \"{form}\"");
     }

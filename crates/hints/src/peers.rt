@@ -6,9 +6,10 @@ use std::alloc::{AllocError, Global};
 
 /// The first bytes of the files of the chains (`pchMessageStart` in kernel/chainparams.cpp of
 /// Bitcoin Core).
-pub(crate) static CHAINS: [([u8; 4], &str); 4] = [
+pub(crate) static CHAINS: [([u8; 4], &str); 5] = [
     ([0xf9, 0xbe, 0xb4, 0xd9], "main"),
     ([0x0b, 0x11, 0x09, 0x07], "test"),
+    ([0x1c, 0x16, 0x3f, 0x28], "testnet4"),
     ([0x0a, 0x03, 0xcf, 0x40], "signet"),
     ([0xfa, 0xbf, 0xb5, 0xda], "regtest"),
 ];
@@ -89,9 +90,10 @@ fn magic_text(alloc: Global, head: &[u8]) -> Result<String, AllocError> {
         None => {
             let mut text = Vec::new(alloc);
             let first = head.get(..4).unwrap_or(head);
-            if put_hex(b"no chain has its first four bytes, ", first, &mut text).is_err() {
+            if put_hex(b"no chain has its first bytes: --magic ", first, &mut text).is_err() {
                 return Err(AllocError);
             }
+            text.extend_from_slice(b" reads it")?;
             Ok(String::from_utf8(text).unwrap_or(String::new(alloc)))
         }
     }

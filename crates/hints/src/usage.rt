@@ -3,12 +3,19 @@ use crate::forms::Reader;
 use crate::options::explain_options;
 use std::alloc::{AllocError, Global};
 
-/// Returns the arguments after `--peers`, if they begin with it and the form has it.
+/// Returns the arguments after `--peers` or `--no-key`, if they begin with it and the form has it.
+/// `--no-key` may come last, too.
 fn after_flag<'a>(form: &str, words: &'a [String]) -> &'a [String] {
     match words {
-        [first, rest @ ..] if first.as_str() == "--peers" && form.contains("--peers") => rest,
+        [first, rest @ ..] if is_flag(form, first.as_str()) => rest,
+        [rest @ .., last] if last.as_str() == "--no-key" && form.contains("--no-key") => rest,
         _ => words,
     }
+}
+
+/// Returns whether an argument is an option of the form without a value.
+fn is_flag(form: &str, word: &str) -> bool {
+    (word == "--peers" || word == "--no-key") && form.contains(word)
 }
 
 /// Says which argument is wrong, and what is wanted there. The arguments are not those of a
