@@ -3,9 +3,13 @@
 #![tactic(auto)]
 
 mod bounds;
+mod kinds;
 mod picks;
+mod risks;
 mod words;
 
 pub use bounds::shares_are_enclosed;
+pub use kinds::kinds_are_enough;
 pub use picks::picks_are_enclosed;
+pub use risks::risks_are_bounded;
 pub use words::lists_are_counted;
