@@ -216,8 +216,10 @@ typedef struct addrman {
 ADDRMAN_SIZE(addrman, 16);
 #define ADDRMAN_INIT { 0, false }
 
+/* The chain of a file. A signet of one's own is the four bytes with which its files begin as a
+ * number above 255, the first byte highest: 0x0a03cf40 is the default signet's. */
 typedef uint32_t addrman_chain;
-enum { ADDRMAN_MAIN, ADDRMAN_TEST, ADDRMAN_SIGNET, ADDRMAN_REGTEST };
+enum { ADDRMAN_MAIN, ADDRMAN_TEST, ADDRMAN_SIGNET, ADDRMAN_REGTEST, ADDRMAN_TESTNET4 };
 
 /* Opens empty tables. `key` is the node's secret: 32 random bytes. `seed` is fresh random numbers,
  * which only spread an index in memory. `asmap` is the bytes of an asmap file, or none (length 0);

@@ -79,6 +79,7 @@ pub enum Chain {
     Test = 1,
     Signet = 2,
     Regtest = 3,
+    Testnet4 = 4,
 }
 
 fn checked(code: u32, fault: Fault, need: usize) -> Result<(), Error> {

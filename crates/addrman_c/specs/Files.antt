@@ -1,5 +1,5 @@
 -- What the calls that open, load and write tables do.
-use Rattle.std.specs.Prelude.{◌≡◌, ◌⊎◌, ℕ, ◌<◌, ◌≤◌, List, [], length, Option, Some, None, ◌==◌, if◌then◌else◌}
+use Rattle.std.specs.Prelude.{◌≡◌, ◌⊎◌, ℕ, ◌<◌, ◌≤◌, List, [], length, Option, Some, None, ◌==◌, nat_lt, if◌then◌else◌}
 use Rattle.bit_code.specs.declared.bits.TheConstants.{MAX_ASMAP}
 use Rattle.asmap_vm.specs.Code.{Tree, IsSaneFile}
 use Rattle.asmap_vm.specs.Asmap.{Asmap}
@@ -8,7 +8,7 @@ use Rattle.table_machine.specs.State.{State, empty_state}
 use Rattle.table_machine.specs.Snapshot.{snapshot_of}
 use Rattle.peers_file.specs.Texts.{file_text}
 use Rattle.peers_file.specs.declared.chain.Chain.{Chain}
-use Rattle.peers_file.specs.declared.chain.Chain.TheVariants.{Main, Test, Signet, Regtest}
+use Rattle.peers_file.specs.declared.chain.Chain.TheVariants.{Main, Test, Testnet4, Signet, Regtest, Other}
 use Rattle.c_values.specs.declared.code.TheConstants.{OK, MEMORY, ARGUMENT, REFUSED}
 use Rattle.c_handles.specs.declared.handle.Kept.{Kept}
 use Rattle.c_values.specs.Values.{IsPut}
@@ -41,14 +41,17 @@ OpenCall key asmap code None =
 OpenCall key asmap code (Some kept) =
     (code ≡ OK) × ((map : Option Asmap) × IsMapOf asmap map × IsOpened key map kept)
 
--- the chain of a number of the header
+-- the chain of a number of the header: one by name, or one by the four bytes with which its files
+-- begin, the first one highest
 abbrev pub chain_of : ℕ → Option Chain
 chain_of number =
     if number == 0 then Some Main
     else if number == 1 then Some Test
     else if number == 2 then Some Signet
     else if number == 3 then Some Regtest
-    else None
+    else if number == 4 then Some Testnet4
+    else if nat_lt number 256 then None
+    else Some (Other number)
 
 -- The bytes of the file that keeps the tables; None is no chain. If memory runs out or there is
 -- no such chain, the output is as it was.
