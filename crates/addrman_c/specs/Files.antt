@@ -37,7 +37,8 @@ IsOpened key map kept =
 -- tables are opened, or the handle is closed
 abbrev pub OpenCall : List ℕ → List ℕ → ℕ → Option Kept → Type 0
 OpenCall key asmap code None =
-    (code ≡ MEMORY) ⊎ ((code ≡ REFUSED) × IsNoMap asmap)
+    ((code ≡ REFUSED) × IsNoMap asmap)
+    ⊎ ((code ≡ MEMORY) × ((map : Option Asmap) × IsMapOf asmap map))
 OpenCall key asmap code (Some kept) =
     (code ≡ OK) × ((map : Option Asmap) × IsMapOf asmap map × IsOpened key map kept)
 
