@@ -1,5 +1,6 @@
 -- Why a record is in a bucket of the new table, and which buckets the sources of some groups reach.
 use Rattle.std.specs.Prelude.{◌≡◌, ◌⊎◌, ℕ, ◌*◌, List, [], ◌∷◌, length, flat_map, true, Contains, Option, Some, None}
+use Rattle.slot_grid.specs.declared.sizes.TheConstants.{NEW_BUCKETS}
 use Rattle.net_addr.specs.Address.{Address}
 use Rattle.net_addr.specs.declared.peer.Peer.{Peer}
 use Rattle.placing.specs.Places.{Places, group, group_buckets, new_bucket, source_buckets, sum_of, tried_bucket}

@@ -1,4 +1,5 @@
-ghost use Rattle.std.specs.Prelude.{◌≡◌, ◌≢◌, ◌<◌, length, None};
+ghost use Rattle.std.specs.Prelude.{◌≡◌, ◌≢◌, ◌<◌, ◌≤◌, length, IfOk, OnErr, None};
+ghost use Rattle.host_io.specs.Faults.{Rose};
 
 use crate::failure::failure_hint;
 use host_io::{DirFolder, Failed, Folder, Lock, Name};
@@ -91,6 +92,9 @@ where
 
     fn read(&mut self, name: Name, at: u64, buf: &mut [u8]) -> Result<usize, Failed>
         requires { 0 < length buf.old }
+        ensures within { IfOk result (λ n. n ≤ length buf.old) }
+        ensures cause { OnErr result (Rose self.old self.new) }
+        ensures never_falls { self.old ≤ self.new }
     {
         self.folder.read(name, at, buf)
     }
@@ -115,6 +119,8 @@ where
 
     fn rename(&mut self, from: Name, to: Name) -> Result<(), Failed>
         requires { from ≢ to }
+        ensures cause { OnErr result (Rose self.old self.new) }
+        ensures never_falls { self.old ≤ self.new }
     {
         let renamed = self.folder.rename(from, to);
         self.note(&renamed);
