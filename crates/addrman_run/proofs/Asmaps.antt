@@ -12,7 +12,7 @@ use Rattle.asmap_vm.specs.declared.sane.Sane.{Sane}
 use Rattle.asmap_vm.specs.declared.fault.CodeFault.{CodeFault}
 use Rattle.asmap_vm.specs.declared.fault.CodeFault.TheVariants.{Insane}
 use Rattle.placing.specs.Inside.{asmap_of}
-use Rattle.addrman_run.specs.Asmaps.{IsMapAt, IsMapIn, RefusesAsmap}
+use Rattle.addrman_run.specs.Asmaps.{IsMapAt, IsMapIn, IsNoMap, RefusesAsmap}
 use Rattle.addrman_run.specs.InFolder.{IsAbsent, IsFileIn}
 use Rattle.addrman_run.specs.Inside.{IsMapOf, IsLoaded}
 use Rattle.addrman_run.specs.Opening.{IsUnopened}

@@ -1,6 +1,6 @@
 -- Worked examples of how a replay opens: the arguments, and the folder.
 use Rattle.std.specs.Prelude.{◌≡◌, ℕ, List, [], ◌∷◌, ◌++◌, replicate, codes, Option, Some, None, refl}
-use Rattle.std.proofs.Common.{inl, inr}
+use Rattle.std.proofs.Common.{inl}
 use Rattle.hex.proofs.OnLiterals.{hex_on_literals}
 use Rattle.host_io.specs.Disk.{safe}
 use Rattle.host_io.specs.Past.{Past}
@@ -8,7 +8,7 @@ use Rattle.table_machine.specs.State.{empty_state}
 use Rattle.table_machine.specs.Restoring.{duplicate}
 use Rattle.peer_rec.specs.Snapshot.{Snapshot}
 use Rattle.peers_file.specs.Layout.{IsFile, whole_fault}
-use Rattle.peers_file.specs.declared.chain.Chain.TheVariants.{Main, Test, Signet}
+use Rattle.peers_file.specs.declared.chain.Chain.TheVariants.{Main, Test}
 use Rattle.peers_file.specs.declared.fault.FileFault.TheVariants.{Truncated, BadMagic, Memory}
 use Rattle.arguments.specs.Options.{IsOpeningOptions}
 use Rattle.addrman_run.specs.Opening.{Opens, RefusesTables, LacksKey, places_of, tables_of}
@@ -27,14 +27,6 @@ no_options = ([], [], refl, inl (refl, inl (refl, refl)))
 only_a_key : IsOpeningOptions (codes "--key" ∷ digits ∷ []) (Some key) Main
 unfolding hex_on_literals
 only_a_key = (codes "--key" ∷ digits ∷ [], [], refl, inl ((digits, (refl, refl), inl refl), inl (refl, refl)))
-
-key_and_chain : IsOpeningOptions (codes "--key" ∷ digits ∷ codes "--net" ∷ codes "test" ∷ []) (Some key) Test
-unfolding hex_on_literals
-key_and_chain = (codes "--key" ∷ digits ∷ [], codes "--net" ∷ codes "test" ∷ [], refl, inl ((digits, (refl, refl), inl refl), inr (inl refl)))
-
-chain_and_key : IsOpeningOptions (codes "--net=signet" ∷ (codes "--key=" ++ digits) ∷ []) (Some key) Signet
-unfolding hex_on_literals
-chain_and_key = (codes "--net=signet" ∷ [], (codes "--key=" ++ digits) ∷ [], refl, inr (inr (inr refl), (digits, (refl, refl), inr refl)))
 
 -- a folder with these bytes in peers.dat, or without the file, and no other file
 abbrev pub folder : Option (List ℕ) → Option Past

@@ -7,6 +7,7 @@ use Rattle.sha2.specs.Sha256.{sha256}
 use Rattle.asmap_vm.specs.Asmap.{Asmap}
 use Rattle.placing.specs.Places.{double_sha256, sum_input, sum_by}
 use Rattle.placing.specs.declared.sum.SumRule.{SumRule}
+use Rattle.placing.specs.declared.sum.SumRule.TheVariants.{Bytes}
 use Rattle.peer_rec.specs.Snapshot.{Snapshot}
 use Rattle.peers_file.specs.Inside.{IsWritten}
 use Rattle.peers_file.specs.Layout.{IsFile, between}
@@ -17,6 +18,7 @@ use Rattle.peers_file.proofs.FileLaws.{Reads-body}
 use Rattle.peers_file.proofs.WholeLaws.{is_file}
 use Rattle.session.specs.State.{file_of}
 use Rattle.table_machine.specs.Restart.{restart}
+use Rattle.table_machine.specs.Restoring.{restored}
 use Rattle.table_machine.specs.Snapshot.{snapshot_of}
 use Rattle.table_machine.specs.Sound.{IsSound}
 use Rattle.table_machine.specs.State.{State}
@@ -76,11 +78,14 @@ same_bytes : (a b : List ℕ) → Some a ≡ Some b → a ≡ b
 unfolding bytes_of
 same_bytes a b is = ap bytes_of is
 
-pub reopens : (chain : Chain) (map : Option Asmap) (st : State) → IsSound st → st.places.map ≡ map → ReopensAs chain map st
-reopens chain map st sound same past key has =
+pub reopens : (chain : Chain) (map : Option Asmap) (st : State) → IsSound st → st.places.map ≡ map → st.places.rule ≡ Bytes → ReopensAs chain map st
+reopens chain map st sound same rule past key has =
     let saved = snapshot_of st in
     let its_file = is_file chain saved (written st sound) in
-    let law : tables_of saved map ≡ restart st = ap (λ m. tables_of saved m) (sym same) ∙ restart_law st sound in
+    let law : tables_of saved map ≡ restart st =
+    ap (λ m. tables_of saved m) (sym same)
+    ∙ ap (λ r. restored saved (record { key = st.places.key; map = st.places.map; rule = r })) (sym rule)
+    ∙ restart_law st sound in
     (from_file saved (file_of chain st, has, its_file) (no_duplicate st sound) (sym law), λ found opens. by found opens law its_file)
   where
     by : (found : State) → Opens key chain (Some past) map found → tables_of (snapshot_of st) map ≡ restart st

@@ -33,6 +33,7 @@ use Rattle.table_laws.proofs.OpeningOf.{keeps_at_opening}
 use Rattle.laws.proofs.RunsOf.{keeps_losses}
 use Rattle.laws.proofs.SharesOf.{keeps_shares}
 use Rattle.placing.specs.Places.{Places}
+use Rattle.placing.specs.declared.sum.SumRule.TheVariants.{Bytes}
 use Rattle.table_machine.specs.Sound.{IsSound}
 use Rattle.manager.specs.Machine.{Machine}
 use Rattle.addrman_run.specs.Log.{streams_of}
@@ -79,6 +80,7 @@ record Begun {key : Option (List ℕ)} {chain : Chain} {past : Option Past} {map
   places : Places
   opening : IsOpening (file_in opens) places (at_start chain st)
   with_map : places.map ≡ map
+  with_rule : places.rule ≡ Bytes
 
 begun_with : (key : Option (List ℕ)) (chain : Chain) (past : Option Past) (map : Option Asmap) (st : State) (opens : Opens key chain past map st) → IsSound st
     → st.next_number ≤ ALL_SLOTS → Begun opens
@@ -86,11 +88,13 @@ begun_with key chain past map st (from_file snap is_in no_duplicate is) sound fe
   places = places_of snap.key map;
   opening = record { tables = is; sound = sound; clock = omega arith; numbers = omega (arith, few) };
   with_map = refl;
+  with_rule = refl;
 }
 begun_with key chain past map st (from_key given absent is_key is) sound few = record {
   places = places_of given map;
   opening = record { tables = is; sound = sound; clock = omega arith; numbers = omega (arith, few) };
   with_map = refl;
+  with_rule = refl;
 }
 
 module _ (key : Option (List ℕ)) (chain : Chain) (past : Option Past) (map : Option Asmap) (st : State) (opens : Opens key chain past map st) (b : Begun opens) where
@@ -154,7 +158,8 @@ module _ {F : Type 0} (past : F → Option Past) (faults : F → ℕ) where
         opening = opening_of key chain old.past map tables tables.places opens;
         reopens = λ before h after.
             let k = keeps key chain old.past map tables opens o (lines_of r.ran.log) in
-            reopens chain map h.now.machine.tables (k.sound before h after) (ap (λ p. p.map) (k.same_places before h after ∙ same_places key chain old.past map tables opens o) ∙ o.with_map);
+            let same = k.same_places before h after ∙ same_places key chain old.past map tables opens o in
+            reopens chain map h.now.machine.tables (k.sound before h after) (ap (λ p. p.map) same ∙ o.with_map) (ap (λ p. p.rule) same ∙ o.with_rule);
       }
 
   pub replayed : (key : Option (List ℕ)) (chain : Chain) (tables : State) (start : session.SessionState) (old new : Outside) (w v : F) (how : LogEnd)
