@@ -18,9 +18,6 @@ PRELUDE = {'Box': 'boxed::Box', 'String': 'string::String', 'Vec': 'vec::Vec',
            'Alloc': 'alloc::Alloc', 'AllocGlobal': 'alloc::AllocGlobal', 'Abort': 'rt::Abort',
            'Eprint': 'rt::Eprint', 'HostRuntime': 'rt::HostRuntime', 'Input': 'rt::Input',
            'Print': 'rt::Print'}
-# The traits of the prelude whose methods a handle has.
-OF_HANDLES = {'Alloc': ('alloc',), 'Print': ('print', 'println'), 'Eprint': ('eprint', 'eprintln'),
-              'Input': ('reader',)}
 OF_EXTENSIONS = {'CollectWith': 'collect_with', 'ToStringWith': 'to_string_with',
                  'ToVecWith': 'to_vec_with', 'TryClone': 'try_clone', 'FromAscii': 'from_ascii',
                  'HexGroups': 'hex_groups'}
@@ -154,14 +151,11 @@ def prelude(source):
     texts = {(source.text(at - 1), source.text(at), source.text(at + 1))
              for at in range(len(source.code)) if source.code[at].kind == IDENT}
     paths = [name for name in MACROS if any(t[1] == name and t[2] == '!' for t in texts)]
-    handles = 'HostRuntime' in counts
     for name, path in PRELUDE.items():
         if name in brought:
             continue
         if any(t[1] == name and t[0] not in ('::', '.') for t in texts):
             paths.append(path)
-        elif handles and any(t[0] == '.' and t[1] in OF_HANDLES.get(name, ()) for t in texts):
-            paths.append(path + ' as _')
     for name, method in OF_EXTENSIONS.items():
         if method in counts:
             paths.append('ext::%s as _' % name)

@@ -28,6 +28,37 @@ rust-version.workspace = true
 dead_code = "allow"
 unused_parens = "allow"
 unused_variables = "allow"
+
+# A loop or a match is proved where a closure or a method would want a proof of its own, an index is
+# what a contract speaks of, and C passes pointers to functions that are not marked unsafe.
+[lints.clippy]
+collapsible_if = "allow"
+collapsible_match = "allow"
+explicit_auto_deref = "allow"
+explicit_counter_loop = "allow"
+if_same_then_else = "allow"
+len_without_is_empty = "allow"
+manual_div_ceil = "allow"
+manual_filter = "allow"
+manual_find = "allow"
+manual_is_multiple_of = "allow"
+manual_map = "allow"
+manual_ok_err = "allow"
+manual_range_contains = "allow"
+manual_unwrap_or = "allow"
+manual_unwrap_or_default = "allow"
+match_like_matches_macro = "allow"
+needless_lifetimes = "allow"
+needless_match = "allow"
+needless_question_mark = "allow"
+needless_range_loop = "allow"
+not_unsafe_ptr_arg_deref = "allow"
+question_mark = "allow"
+redundant_closure = "allow"
+redundant_pattern_matching = "allow"
+should_implement_trait = "allow"
+too_many_arguments = "allow"
+type_complexity = "allow"
 '''
 
 FROM_PACKAGES = '''[source.crates-io]

@@ -15,6 +15,29 @@ use std::fmt::{self, Display};
 #[derive(Clone, Copy, Debug)]
 pub struct HostRuntime;
 
+/// What Rattle's prelude has by its traits, which are not imported where a handle has this type.
+impl HostRuntime {
+    /// Returns the allocator.
+    pub fn alloc(&self) -> Global {
+        Global
+    }
+
+    /// Returns what reads standard input, without a buffer.
+    pub fn reader(&self) -> io::Stdin {
+        io::Stdin::new()
+    }
+
+    /// Writes what is displayed to standard output, as one text.
+    pub fn print<D: Display>(&self, text: D) -> io::Result<()> {
+        Print::print(self, text)
+    }
+
+    /// Writes what is displayed to standard error, as one text.
+    pub fn eprint<D: Display>(&self, text: D) -> io::Result<()> {
+        Eprint::eprint(self, text)
+    }
+}
+
 impl Alloc for HostRuntime {
     type A = Global;
 
