@@ -42,7 +42,7 @@ const OTHERS = [["never", "--other"], ["not known", "--other"]];
 const TRIES = [["none", "--a1"], ["1", "--a2"], ["2", "--a3"], ["3 or more", "--a4"], OTHERS[1]];
 const IN_SET = [["in my prefixes", "--lit"], ["others", "--rest"]];
 const CHANGES =
-  [["came since the file before", "--lit"], ["as before", "--rest"], ["free since", "--gone"]];
+  [["came since", "--lit"], ["as before", "--rest"], ["free since", "--gone"]];
 const NETS = NETWORKS.map((name, k) => [name, k < LISTED ? `--c${k}` : "--other"]);
 const STEPS_OF_AGE = AGES.map(([name], k) => [name, `--a${k}`]);
 const SUCCESSES = [...STEPS_OF_AGE.map(([name, paint]) => [name + " ago", paint]), ...OTHERS];
@@ -109,6 +109,9 @@ function isLit(i) {
   return highlight.kind === "group" ? groupAt(i) === highlight.name : matched.has(data.slots[i]);
 }
 
+// Whether lit slots have one colour, since their own may be too like that of the others.
+const isOneColour = () => !!highlight && !["set", "change"].includes($("mode").value);
+
 function showMode() {
   $("set-row").hidden = $("mode").value !== "set";
   classes = classify();
@@ -121,25 +124,26 @@ function showMode() {
   drawMaps();
 }
 
+// A square in a colour of the style sheet.
+const dot = paint => `<i class="dot" style="background:var(${paint})"></i>`;
+
+// What is said of the typed set beside its number of slots.
+function setText(one) {
+  const buckets = `, in ${number(one.buckets)} of the 1,024 new buckets`;
+  return buckets + (data.share ? `, ${shareText(one.share)} of picks` : "");
+}
+
 function showKey() {
-  const mode = $("mode").value,
-        isPressed = k => !!highlight && highlight.kind === "class" && highlight.index === k;
-  const more = (c, k) => mode !== "set" || k ?
-    "" :
-    `, in ${number(c.buckets)} of the 1,024 new buckets${
-      data.share ? ", " + shareText(c.share) + " of picks" : ""}`;
-  $("key").innerHTML =
-    classes.list
-      .map(
-        (c, k) => c.count || mode === "set" ?
-          `<li><button type="button" data-index="${k}" aria-pressed="${
-            isPressed(k)}"><i class="dot" style="background:var(${c.paint})"></i>${
-            escape(c.name
-            )} <span class="dim">${number(c.count)}${more(c, k)}</span></button></li>` :
-          ""
-      )
-      .join("") +
-    `<li><span class="dim free"><i class="dot" style="background:var(--empty)"></i>free ${
-      number(CELLS - data.used.new - data.used.tried)}</span></li>`;
+  const isSet = $("mode").value === "set";
+  const chosen = highlight && highlight.kind === "class" ? highlight.index : -1;
+  const items = classes.list.map((one, k) => {
+    if (!one.count && !isSet) return "";
+    const more = number(one.count) + (isSet && k === 0 ? setText(one) : "");
+    const words = `${dot(one.paint)}${escape(one.name)} <span class="dim">${more}</span>`;
+    const state = `data-index="${k}" aria-pressed="${k === chosen}"`;
+    return `<li><button type="button" ${state}>${words}</button></li>`;
+  });
+  const free = `${dot("--empty")}free ${number(CELLS - data.used.new - data.used.tried)}`;
+  $("key").innerHTML = items.join("") + `<li><span class="dim free">${free}</span></li>`;
   $("clear").hidden = !highlight;
 }

@@ -6,8 +6,8 @@ const MAX_SIZE = 256e6;
 
 // What a JSON text of a node is, by the first of its member names.
 function kindOfJson(bytes) {
-  const start = new TextDecoder().decode(bytes.subarray(0, 4096)),
-        found = /"([a-z_]+)"\s*:/.exec(start);
+  const start = new TextDecoder().decode(bytes.subarray(0, 4096));
+  const found = /"([a-z_]+)"\s*:/.exec(start);
   return found && found[1] === "banned_nets" ? "bans" : "json";
 }
 
@@ -23,10 +23,11 @@ function kindOf(path, bytes) {
   return MAGICS.includes(magic) || !name.endsWith(".json") ? "peers" : "json";
 }
 
+const DATE = /(20\d\d)[-_.]?([01]\d)[-_.]?([0-3]\d)(?:[T_ -]?([0-2]\d)[-_.:h]?([0-5]\d))?/;
+
 // The date of a file in milliseconds: one in its path, or when it was changed.
 function dateOf(path, changed) {
-  const found =
-    path.match(/(20\d\d)[-_.]?([01]\d)[-_.]?([0-3]\d)(?:[T_ -]?([0-2]\d)[-_.:h]?([0-5]\d))?/);
+  const found = path.match(DATE);
   if (!found) return changed;
   const [, year, month, day, hour = 0, minute = 0] = found.map(Number);
   const time = Date.UTC(year, month - 1, day, hour || 0, minute || 0);
@@ -35,10 +36,10 @@ function dateOf(path, changed) {
 
 // The files of a folder that was dropped.
 async function entriesOf(entry) {
-  if (entry.isFile)
-    return [await new Promise(
-      (done, fail) => entry.file(file => done({ file, path: entry.fullPath }), fail)
-    )];
+  if (entry.isFile) {
+    const file = await new Promise((done, fail) => entry.file(done, fail));
+    return [{ file, path: entry.fullPath }];
+  }
   const reader = entry.createReader(), all = [];
   for (;;) {
     const some = await new Promise((done, fail) => reader.readEntries(done, fail));
@@ -48,57 +49,56 @@ async function entriesOf(entry) {
   return all.filter(({ path }) => /peers|asmap|banlist|rawaddrman/i.test(fileName(path)));
 }
 
-async function take(given) {
-  const peers = [];
-  let newAsmap = null, newBans = null;
-  setState("busy");
+// Reads the files, and tells those of peers from an asmap and a list of bans.
+async function sorted(given) {
+  const found = { peers: [], asmap: null, bans: null };
   for (const { file, path } of given) {
-    if (file.size > MAX_SIZE) return fail(`${path}: too large for a file of a node`);
     const bytes = new Uint8Array(await file.arrayBuffer()), kind = kindOf(path, bytes);
-    if (kind === "asmap") newAsmap = { name: path, bytes };
-    else if (kind === "bans") newBans = { name: path, bytes };
-    else
-      peers.push({
-        name: path.replace(/^\//, ""),
-        bytes,
-        isJson: kind === "json",
-        date: dateOf(path, file.lastModified)
-      });
+    const isJson = kind === "json", date = dateOf(path, file.lastModified);
+    const one = { name: path.replace(/^\//, ""), bytes, isJson, date };
+    if (kind === "asmap" || kind === "bans") found[kind] = one;
+    else found.peers.push(one);
   }
+  found.peers.sort((a, b) => a.date - b.date || (a.name < b.name ? -1 : 1));
+  return found;
+}
+
+// Takes the files, and shows the newest one with peers.
+async function take(given) {
+  const large = given.find(({ file }) => file.size > MAX_SIZE);
+  if (large) return fail(`${large.path}: too large for a file of a node`);
+  setState("busy");
+  const found = await sorted(given);
   stop();
   if (attack) {
     attack = null;
     snaps = [];
     asmap = bans = null;
   }
-  if (newAsmap) {
-    asmap = newAsmap;
-    for (const snap of snaps) snap.view = null;
-  }
-  if (newBans) bans = newBans;
-  if (peers.length) {
-    snaps = peers.sort((a, b) => a.date - b.date || (a.name < b.name ? -1 : 1));
+  asmap = found.asmap || asmap;
+  bans = found.bans || bans;
+  if (found.asmap) for (const snap of snaps) snap.view = null;
+  if (found.peers.length) {
+    snaps = found.peers;
     at = snaps.length - 1;
     highlight = cursor = matched = setMask = null;
   }
   if (snaps.length) return show(at);
-  status(`${asmap ? fileName(asmap.name) + " is kept. " : ""}${
-    bans ? fileName(bans.name) + " is kept. " : ""}Now drop peers.dat.`);
+  const kept = joined([asmap, bans].filter(Boolean), file => `${fileName(file.name)} is kept. `);
+  status(kept + "Now drop peers.dat.");
   setState("ready");
 }
 
 async function onDrop(event) {
   event.preventDefault();
   document.body.classList.remove("over");
-  const items =
-    [...event.dataTransfer.items].map(item => item.webkitGetAsEntry && item.webkitGetAsEntry());
-  const files = [...event.dataTransfer.files];
+  const { items, files } = event.dataTransfer;
+  const entries = [...items].map(item => item.webkitGetAsEntry?.()).filter(Boolean);
+  let given = [...files].map(file => ({ file, path: file.name }));
   try {
-    const given = items.some(item => item && item.isDirectory) ?
-      (await Promise.all(items.filter(Boolean).map(entriesOf))).flat() :
-      files.map(file => ({ file, path: file.name }));
-    if (!given.length)
-      return fail("There is no file of a node in it: peers.dat, asmap.dat or banlist.json.");
-    await take(given);
+    if (entries.some(entry => entry.isDirectory))
+      given = (await Promise.all(entries.map(entriesOf))).flat();
+    if (given.length) await take(given);
+    else fail("There is no file of a node in it: peers.dat, asmap.dat or banlist.json.");
   } catch (error) { fail(error.message); }
 }

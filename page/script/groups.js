@@ -1,36 +1,36 @@
-// Groups: their list, what is chosen among them, and what changed of them since the file before.
+// Groups: their list, what is chosen among them, and what changed of them between two files.
 const MAX_ROWS = 200;
 
+const isChosenGroup = name => !!highlight && highlight.kind === "group" && highlight.name === name;
+
+// The row of a group. Its bar has the colour that the group has in the maps.
+function groupRow(row, most, paint) {
+  const isOn = isChosenGroup(row.group), name = escape(row.group), slots = slotsOf(row);
+  const wide = (60 * slots / most).toFixed(1), whole = data.used.new + data.used.tried;
+  const bar = `<i class="share" style="width:${wide}px;background:var(${paint})"></i>`;
+  return [
+    `<tr class="${isOn ? "on" : ""}"><th scope="row">`,
+    `<button type="button" data-group="${name}" aria-pressed="${isOn}">${name}</button></th>`,
+    data.share ? numberCell(shareText(row.share)) : "",
+    `<td>${bar}${percent(slots, whole)}</td>`,
+    ...[row.new_slots, row.new_buckets, row.new_records, row.tried_records].map(numberCell),
+    "</tr>",
+  ].join("");
+}
+
 function showGroups() {
-  const part = $("filter").value.trim().toLowerCase(),
-        all = data.rows.filter(row => row.group.toLowerCase().includes(part));
-  const whole = data.used.new + data.used.tried, shown = all.slice(0, MAX_ROWS),
-        slotsOf = row => row.new_slots + row.tried_records;
+  const part = $("filter").value.trim().toLowerCase();
+  const all = data.rows.filter(row => row.group.toLowerCase().includes(part));
   const most = data.rows.reduce((max, row) => Math.max(max, slotsOf(row)), 1);
-  const paints = new Map(
-    ["placed", "source", "group"].includes($("mode").value) ?
-      classes.list.map(c => [c.name, c.paint]) :
-      []
-  );
+  const isByGroup = ["placed", "source", "group"].includes($("mode").value);
+  const paints = new Map(isByGroup ? classes.list.map(c => [c.name, c.paint]) : []);
+  const shown = all.slice(0, MAX_ROWS), left = all.length - shown.length;
   $("picks-head").hidden = !data.share;
   $("groups").innerHTML =
-    shown
-      .map(row => {
-        const isOn = !!highlight && highlight.kind === "group" && highlight.name === row.group;
-        return `<tr class="${isOn ? "on" : ""}"><th scope="row"><button type="button" data-group="${
-                 escape(row.group)}" aria-pressed="${isOn}">${escape(row.group)}</button></th>` +
-          (data.share ? `<td>${shareText(row.share)}</td>` : "") +
-          `<td><i class="share" style="width:${
-                 (60 * slotsOf(row) / most).toFixed(1)}px;background:var(${
-                 paints.get(row.group) || "--other"})"></i>${percent(slotsOf(row), whole)}</td>` +
-          `<td>${number(row.new_slots)}</td><td>${number(row.new_buckets)}</td><td>${
-                 number(row.new_records)}</td><td>${number(row.tried_records)}</td></tr>`;
-      })
-      .join("");
-  $("more").textContent = all.length > shown.length ?
-    `${number(all.length - shown.length)} more groups: type a part of a name above.` :
-    all.length ? "" :
-                 "No group has this in its name.";
+    joined(shown, row => groupRow(row, most, paints.get(row.group) || "--other"));
+  $("more").textContent = "";
+  if (left) $("more").textContent = `${number(left)} more groups: type a part of a name above.`;
+  if (!all.length) $("more").textContent = "No group has this in its name.";
 }
 
 // Chooses what is lit: a class of the colours, a group, or what a search found. The same again
@@ -46,8 +46,7 @@ function setHighlight(next) {
   }
   showKey();
   for (const button of $("groups").querySelectorAll("button")) {
-    const isOn =
-      !!highlight && highlight.kind === "group" && highlight.name === button.dataset.group;
+    const isOn = isChosenGroup(button.dataset.group);
     button.setAttribute("aria-pressed", isOn);
     button.closest("tr").classList.toggle("on", isOn);
   }
@@ -87,17 +86,13 @@ function showChanges() {
     $("changes").innerHTML = "";
     return;
   }
-  const rows = changesOf(data.before, data),
-        sum = what => number(rows.reduce((total, row) => total + row[what], 0));
-  $("change-words").textContent =
-    `${sum("came")} peers came, ${sum("went")} went, ${
-      sum("toTried")} moved to the tried table and ${sum("toNew")} back to the new one.` +
+  const rows = changesOf(data.before, data), shown = rows.slice(0, MAX_ROWS);
+  const sum = what => number(rows.reduce((total, row) => total + row[what], 0));
+  $("change-words").textContent = `${sum("came")} peers came, ${sum("went")} went, ` +
+    `${sum("toTried")} moved to the tried table and ${sum("toNew")} back to the new one.` +
     (rows.length > MAX_ROWS ? ` Below are the ${MAX_ROWS} groups with most changes.` : "");
-  $("changes").innerHTML =
-    rows.slice(0, MAX_ROWS)
-      .map(
-        row => `<tr><th scope="row">${escape(row.group)}</th><td>${number(row.came)}</td><td>${
-          number(row.went)}</td><td>${number(row.toTried)}</td><td>${number(row.toNew)}</td></tr>`
-      )
-      .join("");
+  $("changes").innerHTML = joined(shown, row => {
+    const cells = joined([row.came, row.went, row.toTried, row.toNew], numberCell);
+    return `<tr>${headCell(row.group)}${cells}</tr>`;
+  });
 }

@@ -86,6 +86,7 @@ on("save-raw", "click", saveRaw);
 on("save-list", "click", saveList);
 on("picture-box", "toggle", showPicture);
 on("peers-box", "toggle", showPeers);
+on("since", "change", () => data && show(at));
 on("change-box", "toggle", () => {
   if ($("change-box").open && data && !data.before) show(at);
   else if (data) showChanges();

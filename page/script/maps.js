@@ -1,18 +1,10 @@
 // The two maps: a tile is a bucket, its 8 x 8 dots are the slots, row by row.
-const bitmaps = {}, scale = {
-  new: 1,
-  tried: 1
-};
+const bitmaps = {}, scale = { new: 1, tried: 1 };
 // The bucket of each tile, and the tile of each bucket.
-const order = {
-  new: null,
-  tried: null
-},
-      tileOf = {
-        new: null,
-        tried: null
-      };
+const order = {}, tileOf = {};
 const sizeOf = table => 9 * SIDE[table] - 1;
+// How much room is left beside the maps, by the columns of the layout.
+const BESIDE = { 3: 320, 2: 20 };
 
 // Puts the buckets in their order, or those first that have most of what is chosen.
 function sortBuckets() {
@@ -26,13 +18,10 @@ function sortBuckets() {
         if (!highlight) one[1] += 1 / (1 + c);
       }
     order[table] = Int32Array.from({ length: count }, (_, bucket) => bucket);
-    order[table].sort(
-      (a, b) => counts[b][0] - counts[a][0] || counts[b][1] - counts[a][1] || a - b
-    );
+    const byCounts = ([a, b], [c, d]) => c - a || d - b;
+    order[table].sort((a, b) => byCounts(counts[a], counts[b]) || a - b);
     tileOf[table] = new Int32Array(count);
-    order[table].forEach((bucket, tile) => {
-      tileOf[table][bucket] = tile;
-    });
+    for (let tile = 0; tile < count; tile++) tileOf[table][order[table][tile]] = tile;
   }
 }
 
@@ -44,17 +33,16 @@ function dotOf(table, i) {
 
 function drawMaps() {
   sortBuckets();
-  const paints = classes.list.map(c => colour(c.paint)), empty = colour("--empty"),
-        faded = colour("--faded"), lit = colour("--lit");
-  const isChosen = !!highlight && $("mode").value !== "set" && $("mode").value !== "change";
+  const paints = classes.list.map(c => colour(isOneColour() ? "--lit" : c.paint));
+  const empty = colour("--empty"), faded = colour("--faded");
   for (const table of TABLES) {
     const size = sizeOf(table), image = new ImageData(size, size), bytes = image.data;
     for (let i = FIRST[table]; i < END[table]; i++) {
       const [x, y] = dotOf(table, i), c = classes.of[i], p = 4 * (y * size + x);
-      const dot = c < 0 ? empty : !isLit(i) ? faded : isChosen ? lit : paints[c];
-      bytes[p] = dot[0];
-      bytes[p + 1] = dot[1];
-      bytes[p + 2] = dot[2];
+      const [red, green, blue] = c < 0 ? empty : isLit(i) ? paints[c] : faded;
+      bytes[p] = red;
+      bytes[p + 1] = green;
+      bytes[p + 2] = blue;
       bytes[p + 3] = 255;
     }
     const bitmap = bitmaps[table] ||= document.createElement("canvas");
@@ -72,21 +60,16 @@ function fit() {
   const ratio = window.devicePixelRatio || 1, width = $("maps").clientWidth;
   const columns = getComputedStyle($("maps")).gridTemplateColumns.split(" ").length;
   const both = sizeOf("new") + sizeOf("tried");
-  const most = columns === 3 ? (width - 320) / both :
-    columns === 2            ? (width - 20) / both :
-                               width / sizeOf("new");
+  const wide = (width - (BESIDE[columns] || 0)) / both;
   for (const table of TABLES) {
     const canvas = $(table), size = sizeOf(table);
-    const k = Math.max(
-      1,
-      Math.floor((columns === 1 && table === "tried" ? Math.min(width, both) / size : most) * ratio)
-    );
+    const alone = Math.min(width, table === "new" ? width : both) / size;
+    const k = Math.max(1, Math.floor((columns === 1 ? alone : wide) * ratio));
     scale[table] = k / ratio;
     canvas.width = canvas.height = k * size;
     canvas.style.width = canvas.style.height = k * size / ratio + "px";
-    canvas.setAttribute(
-      "aria-label", `${$(table + "-title").textContent}. Arrows go through slots.`
-    );
+    const label = `${$(table + "-title").textContent}. Arrows go through slots.`;
+    canvas.setAttribute("aria-label", label);
     paint(table);
   }
 }
@@ -110,13 +93,10 @@ function paint(table) {
     for (let i = first; i < end; i++)
       if (data.slots[i] === rec && i !== cursor) frame(i, 2);
   if (cursor < first || cursor >= end) return;
-  const tile = tileOf[table][(cursor - first) >> 6];
+  const [left, top] = dotOf(table, first + (cursor - first & ~63));
   context.strokeStyle = `rgb(${colour("--dim")})`;
   context.lineWidth = Math.max(1, k / 3);
-  context.strokeRect(
-    (9 * (tile % SIDE[table]) - 0.5) * k, (9 * Math.floor(tile / SIDE[table]) - 0.5) * k, 9 * k,
-    9 * k
-  );
+  context.strokeRect((left - 0.5) * k, (top - 0.5) * k, 9 * k, 9 * k);
   frame(cursor, 3);
 }
 
@@ -129,8 +109,8 @@ function slotOfDot(table, x, y) {
 // The slot under the pointer, or null.
 function slotUnder(table, event) {
   const box = $(table).getBoundingClientRect(), size = sizeOf(table);
-  const x = Math.floor((event.clientX - box.left) / scale[table]),
-        y = Math.floor((event.clientY - box.top) / scale[table]);
+  const x = Math.floor((event.clientX - box.left) / scale[table]);
+  const y = Math.floor((event.clientY - box.top) / scale[table]);
   if (x < 0 || y < 0 || x >= size || y >= size || x % 9 === 8 || y % 9 === 8) return null;
   return slotOfDot(table, x - Math.floor(x / 9), y - Math.floor(y / 9));
 }
@@ -153,36 +133,41 @@ const STEPS = {
 
 // The next lit slot in use, by tiles as they are shown.
 function nextUsed(table, from, way) {
-  const count = END[table] - FIRST[table],
-        place = i => 64 * tileOf[table][(i - FIRST[table]) >> 6] + (i & 63);
+  const first = FIRST[table], count = END[table] - first;
+  const place = i => 64 * tileOf[table][(i - first) >> 6] + (i & 63);
   const start = from === null ? (way > 0 ? count - 1 : 0) : place(from);
   for (let k = 1; k <= count; k++) {
-    const next = (start + way * k + count) % count,
-          i = FIRST[table] + 64 * order[table][next >> 6] + (next & 63);
+    const next = (start + way * k + count) % count;
+    const i = first + 64 * order[table][next >> 6] + (next & 63);
     if (data.slots[i] >= 0 && isLit(i)) return i;
   }
   return from;
 }
 
+// The slot that is a step away from this one, around the edges of the map.
+function stepFrom(table, i, [dx, dy]) {
+  const wide = 8 * SIDE[table], tile = tileOf[table][(i - FIRST[table]) >> 6];
+  const x = 8 * (tile % SIDE[table]) + (i & 7) + dx;
+  const y = 8 * Math.floor(tile / SIDE[table]) + ((i & 63) >> 3) + dy;
+  return slotOfDot(table, (x + wide) % wide, (y + wide) % wide);
+}
+
+// The slot that a key of a map leads to; null for another key.
+function slotOfKey(table, from, key) {
+  const end = 8 * SIDE[table] - 1;
+  if (key === "n" || key === "p") return nextUsed(table, from, key === "n" ? 1 : -1);
+  if (key === "Home" || STEPS[key] && from === null) return slotOfDot(table, 0, 0);
+  if (key === "End") return slotOfDot(table, end, end);
+  return STEPS[key] ? stepFrom(table, from, STEPS[key]) : null;
+}
+
 function onMapKey(table, event) {
   if (event.ctrlKey || event.metaKey || event.altKey) return;
-  const wide = 8 * SIDE[table], first = FIRST[table], key = event.key;
-  const from = cursor !== null && cursor >= first && cursor < END[table] ? cursor : null;
-  if (key === "n" || key === "p") {
-    const next = nextUsed(table, from, key === "n" ? 1 : -1);
-    if (next !== null) moveTo(next);
-  } else if (key === "Home") moveTo(slotOfDot(table, 0, 0));
-  else if (key === "End") moveTo(slotOfDot(table, wide - 1, wide - 1));
-  else if (key === "Enter" || key === " ") chooseGroup();
-  else if (STEPS[key]) {
-    if (from === null) moveTo(slotOfDot(table, 0, 0));
-    else {
-      const tile = tileOf[table][(from - first) >> 6], slot = from & 63, [dx, dy] = STEPS[key];
-      const x = 8 * (tile % SIDE[table]) + (slot & 7) + dx,
-            y = 8 * Math.floor(tile / SIDE[table]) + (slot >> 3) + dy;
-      moveTo(slotOfDot(table, (x + wide) % wide, (y + wide) % wide));
-    }
-  } else return;
+  const isHere = cursor !== null && cursor >= FIRST[table] && cursor < END[table];
+  const next = slotOfKey(table, isHere ? cursor : null, event.key);
+  if (next !== null) moveTo(next);
+  else if (event.key === "Enter" || event.key === " ") chooseGroup();
+  else return;
   event.preventDefault();
 }
 

@@ -18,33 +18,36 @@ function bucketsOf(r) {
   return found;
 }
 
+// What is known of a peer, as names and values.
+function peerFacts(r) {
+  const buckets = bucketsOf(r), age = lengthText(data.newest - data.time[r]);
+  const facts = [
+    ["peer", peerText(r)],
+    ["network", NETWORKS[data.network[r]]],
+    ["group", groupText(data.group[r])],
+    ["source", data.source[r]],
+    ["its group", data.names[data.sourceGroup[r]]],
+    ["seen", `${when(data.time[r])}, ${age} before the newest`],
+    ["services", servicesText(data.services[r])],
+    ["failed tries", triesText(r)],
+    ["reached", reachedText(r)],
+  ];
+  if (buckets.length > 1) facts.push(["buckets", buckets.join(", ")]);
+  if (data.share) facts.push(["picks", shareText(data.share[r])]);
+  return facts;
+}
+
 function showSlot() {
+  const none = '<p class="dim small">Point at a slot, or go there with the arrow keys.</p>';
   if (cursor === null || !data) {
-    $("slot").innerHTML =
-      `<p class="dim small">Point at a slot, or go there with the arrow keys.</p>`;
+    $("slot").innerHTML = none;
     return;
   }
-  const table = cursor < NEW_SLOTS ? "new" : "tried", k = cursor - FIRST[table],
-        r = data.slots[cursor];
-  const rows = [["slot", `${table} table, bucket ${k >> 6}, slot ${k & 63}`]];
-  if (r < 0) rows.push(["peer", "free"]);
-  else {
-    const buckets = bucketsOf(r);
-    rows.push(
-      ["peer", `<b>${escape(peerText(r))}</b>`], ["network", NETWORKS[data.network[r]]],
-      ["group", escape(groupText(data.group[r]))], ["source", escape(data.source[r])],
-      ["its group", escape(data.names[data.sourceGroup[r]])],
-      [
-        "seen", `${when(data.time[r])}, ${lengthText(data.newest - data.time[r])} before the newest`
-      ],
-      ["services", escape(servicesText(data.services[r]))], ["failed tries", triesText(r)],
-      ["reached", reachedText(r)]
-    );
-    if (buckets.length > 1) rows.push(["buckets", buckets.join(", ")]);
-    if (data.share) rows.push(["picks", shareText(data.share[r])]);
-  }
-  $("slot").innerHTML =
-    "<dl>" + rows.map(([name, value]) => `<dt>${name}</dt><dd>${value}</dd>`).join("") + "</dl>";
+  const table = cursor < NEW_SLOTS ? "new" : "tried", k = cursor - FIRST[table];
+  const r = data.slots[cursor], where = `${table} table, bucket ${k >> 6}, slot ${k & 63}`;
+  const facts = [["slot", where], ...(r < 0 ? [["peer", "free"]] : peerFacts(r))];
+  const rows = joined(facts, ([name, value]) => `<dt>${name}</dt><dd>${escape(value)}</dd>`);
+  $("slot").innerHTML = `<dl>${rows}</dl>`;
 }
 
 // The records that have a lit slot, in the order of their first slots.
@@ -55,28 +58,28 @@ function litPeers() {
   return [...found];
 }
 
+// The row of a peer.
+function peerRow(r) {
+  const table = data.table[r] ? "tried" : "new", network = NETWORKS[data.network[r]];
+  const group = groupText(data.group[r]), sourceGroup = data.names[data.sourceGroup[r]];
+  const texts = [
+    table, bucketsOf(r).join(", "), network, group, data.source[r], sourceGroup,
+    when(data.time[r]), reachedText(r)
+  ];
+  return `<tr>${headCell(peerText(r))}${joined(texts, textCell)}${numberCell(triesText(r))}</tr>`;
+}
+
 // The lit peers as a table, fifty at a time.
 function showPeers() {
   if (!$("peers-box").open || !data) return;
-  const all = litPeers(), last = Math.min(all.length, firstPeer + PAGE);
+  const all = litPeers();
   if (firstPeer >= all.length) firstPeer = 0;
-  $("peers-words").textContent = all.length ?
-    `${number(firstPeer + 1)} to ${number(last)} of ${number(all.length)} peers${
-      highlight ? " that are lit" : ""}` :
-    "No peer.";
+  const last = Math.min(all.length, firstPeer + PAGE), lit = highlight ? " that are lit" : "";
+  const words = `${number(firstPeer + 1)} to ${number(last)} of ${number(all.length)} peers${lit}`;
+  $("peers-words").textContent = all.length ? words : "No peer.";
   $("peers-back").disabled = firstPeer === 0;
   $("peers-on").disabled = last >= all.length;
-  const text = value => `<td class="text">${escape(value)}</td>`;
-  $("peers").innerHTML =
-    all.slice(firstPeer, firstPeer + PAGE)
-      .map(
-        r => `<tr><th scope="row">${escape(peerText(r))}</th>${
-               text(data.table[r] ? "tried" : "new")}${text(bucketsOf(r).join(", "))}` +
-          text(NETWORKS[data.network[r]]) + text(groupText(data.group[r])) + text(data.source[r]) +
-          text(data.names[data.sourceGroup[r]]) +
-          `${text(when(data.time[r]))}${text(reachedText(r))}<td>${triesText(r)}</td></tr>`
-      )
-      .join("");
+  $("peers").innerHTML = joined(all.slice(firstPeer, last), peerRow);
 }
 
 function turnPeers(way) {

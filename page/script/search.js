@@ -1,14 +1,10 @@
 // Peers by what is typed: a part of an address, a prefix, or a list of prefixes and AS numbers.
 
-// The rows of prefixes.txt for these words; a single address is a prefix of its whole length.
-const rowsOf =
-  words => [...new Set(words)]
-             .map(word => {
-               const text = word.replace(/[[\]]/g, "");
-               return (text.includes("/") ? text : text + (text.includes(":") ? "/128" : "/32")) +
-                 " AS1\n";
-             })
-             .join("");
+// The row of prefixes.txt for a word; a single address is a prefix of its whole length.
+function rowOf(word) {
+  const text = word.replace(/[[\]]/g, ""), whole = text.includes(":") ? "/128" : "/32";
+  return `${text}${text.includes("/") ? "" : whole} AS1\n`;
+}
 
 // The program's words about a prefix, without those about the file that the page makes of it.
 const prefixFault = text =>
@@ -16,8 +12,8 @@ const prefixFault = text =>
 
 // Which of these addresses the prefixes cover, as a map.
 async function coverage(forms, words) {
-  const all = [...new Set(forms)],
-        found = await ask("covered", { forms: all, rows: rowsOf(words) });
+  const all = [...new Set(forms)], rows = joined([...new Set(words)], rowOf);
+  const found = await ask("covered", { forms: all, rows });
   return new Map(all.map((form, k) => [form, !!found[k]]));
 }
 
@@ -43,6 +39,12 @@ async function findMatches() {
   return [...matched].slice(0, 12);
 }
 
+// A peer that was found, to go to.
+function hitItem(r) {
+  const table = `<span class="dim">${data.table[r] ? "tried" : "new"}</span>`;
+  return `<li><button type="button" data-rec="${r}">${escape(peerText(r))} ${table}</button></li>`;
+}
+
 async function search() {
   if (!data) return;
   const words = $("search").value;
@@ -51,17 +53,9 @@ async function search() {
     const hits = await findMatches();
     if (words !== $("search").value) return;
     $("error").hidden = true;
-    $("hits").innerHTML =
-      hits
-        .map(
-          r =>
-            `<li><button type="button" data-rec="${r}">${escape(peerText(r))} <span class="dim">${
-              data.table[r] ? "tried" : "new"}</span></button></li>`
-        )
-        .join("") +
-      `<li class="dim">${
-        matched.size ? number(matched.size) + (matched.size === 1 ? " peer" : " peers") :
-                       "no peer has this in its address"}</li>`;
+    const count = `${number(matched.size)} ${matched.size === 1 ? "peer" : "peers"}`;
+    const said = matched.size ? count : "no peer has this in its address";
+    $("hits").innerHTML = joined(hits, hitItem) + `<li class="dim">${said}</li>`;
     setHighlight({ kind: "search" });
     setState("ready");
   } catch (error) {

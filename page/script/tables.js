@@ -1,10 +1,16 @@
 // The tables of one file: which is shown, and what is said of them as a whole.
-let at = 0, data = null, classes = null, highlight = null, cursor = null, matched = null,
-    setMask = null;
+let at = 0, data = null, classes = null, cursor = null;
+// What is lit, the records that a search found, and those that the typed set has.
+let highlight = null, matched = null, setMask = null;
+// How often something was asked for: an answer is dropped if something else was meanwhile.
 let wanted = 0;
 const KEPT_VIEWS = 12;
 // What can be shown before tries, successes and the groups of all peers are known.
 const EARLY_MODES = ["placed", "source", "network", "age"];
+
+// The slots and records that count for a group, and the order by their number.
+const slotsOf = row => row.new_slots + row.tried_records;
+const bySlots = (a, b) => slotsOf(b) - slotsOf(a) || (a.group < b.group ? -1 : 1);
 
 // The view of a file with its columns, without the details.
 function viewFrom(told) {
@@ -23,11 +29,8 @@ function viewFrom(told) {
   for (const table of TABLES)
     for (let i = FIRST[table]; i < END[table]; i++)
       if (found.slots[i] >= 0) found.used[table]++;
-  found.rows.sort(
-    (a, b) =>
-      b.new_slots + b.tried_records - a.new_slots - a.tried_records || (a.group < b.group ? -1 : 1)
-  );
-  found.rows = found.rows.filter(row => row.new_slots + row.tried_records);
+  found.rows.sort(bySlots);
+  found.rows = found.rows.filter(row => slotsOf(row));
   return found;
 }
 
@@ -58,10 +61,7 @@ function countShares(view) {
   const byName = new Map();
   view.names.forEach((name, g) => byName.set(name, (byName.get(name) || 0) + shares[g]));
   for (const row of view.rows) row.share = byName.get(row.group);
-  view.rows.sort(
-    (a, b) => b.share - a.share || b.new_slots + b.tried_records - a.new_slots - a.tried_records ||
-      (a.group < b.group ? -1 : 1)
-  );
+  view.rows.sort((a, b) => b.share - a.share || bySlots(a, b));
 }
 
 async function viewOf(i, tell) {
@@ -76,13 +76,17 @@ async function viewOf(i, tell) {
   return snap.view;
 }
 
-// The view of the last file before this one that can be read.
+// The view of the file that changes are counted from: of those before this one that can be read the
+// last, or the first if that is chosen.
 async function viewBefore(i) {
-  for (let k = i - 1; k >= 0; k--) try {
+  const others = Array.from({ length: i }, (_, k) => $("since").value === "first" ? k : i - 1 - k);
+  for (const k of others) {
+    try {
       return await viewOf(k);
     } catch (error) {
       if (!error.isRefused) throw error;
     }
+  }
   return null;
 }
 
@@ -120,31 +124,36 @@ async function show(i) {
   }
 }
 
-// Whether what is shown speaks of the file before, too.
+// Whether what is shown speaks of another file, too.
 const needsBefore = () =>
   snaps.length > 1 && ($("mode").value === "change" || $("change-box").open);
 
 function showTime() {
   const snap = snaps[at];
-  $("time-name").textContent = snap.label ||
-    `${fileName(snap.name)}, ${new Date(snap.date).toISOString().slice(0, 16).replace("T", " ")}`;
+  const date = new Date(snap.date).toISOString().slice(0, 16).replace("T", " ");
+  $("time-name").textContent = snap.label || `${fileName(snap.name)}, ${date}`;
   $("time").setAttribute("aria-valuetext", $("time-name").textContent);
 }
 
+// What was given, in words.
+function givenWords() {
+  const own = "Drop your own <code>peers.dat</code> here.";
+  if (attack) return `<strong>A made attack.</strong> ${own}`;
+  const others = [asmap, bans].filter(Boolean).map(file => fileName(file.name)).join(", ");
+  const name = snaps.length > 1 ? `${snaps.length} files` : snaps[0].name;
+  const more = others && ` with ${escape(others)}`;
+  return `<strong>${escape(name)}</strong>${more}. Drop other files here at any time.`;
+}
+
 function showAll() {
+  const change = $("mode").querySelector("[value=change]");
   $("error").hidden = true;
   $("view").hidden = false;
   document.body.classList.add("loaded");
   $("again").hidden = false;
-  const others = [asmap, bans].filter(Boolean).map(file => fileName(file.name));
-  $("drop-words").innerHTML = attack ?
-    "<strong>A made attack.</strong> Drop your own <code>peers.dat</code> here." :
-    `<strong>${escape(snaps.length > 1 ? snaps.length + " files" : snaps[0].name)}</strong>${
-      others.length ? " with " + escape(others.join(", ")) :
-                      ""}. Drop other files here at any time.`;
+  $("drop-words").innerHTML = givenWords();
   $("where").hidden = true;
-  $("mode").querySelector("[value=change]").hidden =
-    $("mode").querySelector("[value=change]").disabled = snaps.length < 2;
+  change.hidden = change.disabled = snaps.length < 2;
   $("set-bans").hidden = !bans;
   for (const id of ["save-picture", "save-list", "picture-box"]) $(id).hidden = !data.chain;
   showFacts();
@@ -154,84 +163,4 @@ function showAll() {
   showBans();
   showHours();
   showPicture();
-}
-
-function showFacts() {
-  const { used, chain } = data, total = data.name.length, counts = NETWORKS.map(() => 0);
-  let newPeers = 0;
-  data.network.forEach((net, r) => {
-    counts[net]++;
-    newPeers += 1 - data.table[r];
-  });
-  const nets = NETWORKS.map((name, i) => counts[i] ? `${name} ${number(counts[i])}` : "")
-                 .filter(Boolean)
-                 .join(", ");
-  const fact = (value, words) => `<li><b>${escape(value)}</b>${escape(words)}</li>`,
-        snap = snaps[at], top = data.rows[0];
-  const facts = [
-    fact(
-      number(total),
-      `peers${!chain || chain === "main" ? "" : " of " + chain}: ${nets || "of no network"}`
-    ),
-    fact(
-      percent(used.new, NEW_SLOTS),
-      `of the new table in use: ${number(used.new)} slots for ${number(newPeers)} peers`
-    ),
-    fact(
-      percent(used.tried, CELLS - NEW_SLOTS),
-      `of the tried table in use: ${number(used.tried)} slots`
-    ),
-  ];
-  if (attack) {
-    facts[0] = fact(
-      number(snap.buckets),
-      `of the 1,024 buckets of the new table have the attacker's peers; the bound is ${
-        number(attack.bound)}`
-    );
-    facts.push(fact(
-      percent(snap.attackPicks, snap.picks),
-      `of the peers picked in this hour are the attacker's: ${number(snap.attackPicks)} of ${
-        number(snap.picks)}`
-    ));
-  } else if (top && top.share !== undefined)
-    facts.push(fact(
-      shareText(top.share),
-      `of the picks are peers that ${top.group} placed, first of ${number(data.rows.length)} groups`
-    ));
-  else
-    facts.push(
-      top ? fact(
-              percent(top.new_slots + top.tried_records, used.new + used.tried),
-              `of all slots are of ${top.group}, the largest of ${number(data.rows.length)} groups`
-            ) :
-            fact("none", "no group")
-    );
-  $("facts").innerHTML = facts.join("");
-  status(
-    `${snap.label || snap.name}: ${number(used.new)} slots of the new table and ${
-      number(used.tried)} of the tried one are in use.`,
-    true
-  );
-}
-
-const NOTES = {
-  differs: "The counts of this page differ from those that the program prints. Please report this.",
-  noAsmap: "The file was saved with an asmap, which is not here: peers are placed anew, by the " +
-    "group of their first source. Drop that asmap.dat to see the tables as they were.",
-  asmap: "The file was saved with an asmap. If that was another than this one, or if Bitcoin " +
-    "Core saved it, peers are placed anew, by the group of their first source.",
-  json: "What getrawaddrman prints has no tries and no last success, so there are no shares of " +
-    "picks. Slots are those of the node; groups are those of the asmap, if one is here.",
-  tries: "Of some peers the tries are not known here.",
-};
-
-function showNote() {
-  const notes = [];
-  if (data.agrees === false) notes.push(NOTES.differs);
-  if (data.hasAsmap && !asmap) notes.push(NOTES.noAsmap);
-  else if (data.hasAsmap && !attack) notes.push(NOTES.asmap);
-  if (!data.chain) notes.push(NOTES.json);
-  if (data.tries && data.tries.some(count => count < 0)) notes.push(NOTES.tries);
-  $("note").textContent = notes.join(" ");
-  $("note").hidden = !notes.length;
 }

@@ -57,6 +57,14 @@ function servicesText(text) {
   return text + (names.length ? ` (${names.join(", ")})` : "");
 }
 
+// The texts that are made of the elements of a list, one after another.
+const joined = (list, textOf) => list.map(textOf).join("");
+
+// Cells of a table: the head of a row, a number, and a text.
+const headCell = text => `<th scope="row">${escape(text)}</th>`;
+const numberCell = value => `<td>${escape(typeof value === "number" ? number(value) : value)}</td>`;
+const textCell = value => `<td class="text">${escape(value)}</td>`;
+
 const status = (text, isQuiet) => {
   $("status").textContent = text;
   $("status").classList.toggle("quiet", !!isQuiet);

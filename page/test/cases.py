@@ -128,7 +128,7 @@ class Cases:
         wanted = sum(rec["source"].startswith(("20.", "21.0.")) for rec in all_records)
         b.wait(f"classes.list[0].count === {wanted}")
         assert f"{wanted:,}" in b.text("key")
-        faults = (("1.2.3.4/16", 'meant is "1.2.0.0/16"'), ("hello", '"hello/32" is none'))
+        faults = (("1.2.3.4/16", 'meant is "1.2.0.0/16"'), ("hello", 'got "hello/32"'))
         for words, said in faults:
             b.choose("set", words, "input")
             b.wait(f"!$('error').hidden && $('error').textContent.includes({json.dumps(said)})")
@@ -223,6 +223,9 @@ class Cases:
         )
         assert b.js("return classes.list[0].count") == put
         self.shot("days")
+        b.begin("$('since').value = 'first'; $('since').dispatchEvent(new Event('change'))")
+        rows = b.js("return changesOf(data.before, data)")
+        assert [sum(row[name] for row in rows) for name in names] == moves(raws[0], raws[2])
         b.js("$('change-box').open = false")
         b.choose("mode", "placed")
 
@@ -316,7 +319,7 @@ class Cases:
             self.shot(f"attack-{groups}{option}")
         b.begin("$('time').value = 0; $('time').dispatchEvent(new Event('input'))")
         assert "before the attack" in b.text("time-name")
-        b.js("$('hours-box').open = true")
+        b.js("$('hours-box').open = true; $('hours-box').scrollIntoView()")
         assert b.js("return $('hours').rows.length") == 6
         self.shot("hours")
         b.js("$('hours-box').open = false; $('play').click()")

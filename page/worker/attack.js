@@ -59,33 +59,36 @@ class Attack {
     return `${from} ${hexOf(bytes)} @${this.draws.below(1 << 30)}:${entries.length}\n`;
   }
 
-  // The lines of an hour but for those that end it, and how many there are.
+  // The lines that open these connections and ask each for addresses.
+  opened(first, count) {
+    return Array.from({ length: count }, (_, i) => first + i).flatMap(connection => [
+      `open ${connection} ${this.addressOf(connection)} limited\n`,
+      `getaddr ${connection}\n`,
+    ]);
+  }
+
+  // A message of so many peers, each seen at most `age` seconds before.
+  announced(connection, count, now, age, peerOf) {
+    const entries = Array.from({ length: count }, () => [now - this.draws.below(age), peerOf()]);
+    return this.message(connection, entries);
+  }
+
+  // The lines of an hour but for those that end it.
   hour(hour) {
     const now = START + 3600 * hour, lines = [`now ${now}\n`];
-    const opened = count => {
-      for (let i = 0; i < count[1]; i++)
-        lines.push(
-          `open ${count[0] + i} ${this.addressOf(count[0] + i)} limited\n`,
-          `getaddr ${count[0] + i}\n`
-        );
-    };
-    if (this.isLimited && hour === 0) opened([0, HONEST_SOURCES]);
-    if (this.isLimited && hour === BEGINS) opened([HONEST_SOURCES, this.attackers]);
-    for (let i = 0; i < 60; i++)
-      lines.push(this.message(
-        this.draws.below(HONEST_SOURCES),
-        Array.from({ length: 60 }, () => [now - this.draws.below(86400), this.honestPeer()])
-      ));
-    for (let i = 0; hour >= BEGINS && i < 64; i++)
-      lines.push(this.message(
-        HONEST_SOURCES + i % this.attackers,
-        Array.from({ length: 250 }, () => [now - this.draws.below(600), this.attackPeer()])
-      ));
-    for (let i = 0; i < 120; i++) lines.push(`good ${this.honestPeer().join(".")}:8333 test\n`);
-    for (let i = 0; i < 60; i++) lines.push(`attempt ${this.honestPeer().join(".")}:8333 count\n`);
+    const add = (count, lineOf) => { for (let i = 0; i < count; i++) lines.push(lineOf(i)); };
+    const honest = () => this.honestPeer(), made = () => this.attackPeer();
+    const target = () => `${honest().join(".")}:8333`;
+    const opened = (first, count) => this.isLimited ? this.opened(first, count) : [];
+    if (hour === 0) lines.push(...opened(0, HONEST_SOURCES));
+    if (hour === BEGINS) lines.push(...opened(HONEST_SOURCES, this.attackers));
+    add(60, () => this.announced(this.draws.below(HONEST_SOURCES), 60, now, 86400, honest));
+    add(hour < BEGINS ? 0 : 64, i =>
+      this.announced(HONEST_SOURCES + i % this.attackers, 250, now, 600, made));
+    add(120, () => `good ${target()} test\n`);
+    add(60, () => `attempt ${target()} count\n`);
     lines.push("resolve\n");
-    for (let i = 0; i < PICKS; i++)
-      lines.push(`select any all @${this.draws.below(1 << 30)}:3000\n`);
+    add(PICKS, () => `select any all @${this.draws.below(1 << 30)}:3000\n`);
     return lines;
   }
 }
@@ -100,8 +103,8 @@ function limited(engine, hours) {
 // Counts what the replies of an hour say: the picks, and the slots and buckets of the attacker's
 // groups.
 function countReplies(text) {
-  const found = { picks: 0, attackPicks: 0, newSlots: 0, attackSlots: 0, buckets: 0 },
-        buckets = new Set();
+  const found = { picks: 0, attackPicks: 0, newSlots: 0, attackSlots: 0, buckets: 0 };
+  const buckets = new Set();
   for (const line of text.split("\n")) {
     const words = line.split(" ");
     if (words[0] === "one") {
@@ -120,17 +123,18 @@ function countReplies(text) {
   return found;
 }
 
+// Carries out an attack, and tells of each hour that is done. Returns the file, the time and the
+// counts of each hour, the asmap if there is one, and the attacker's groups as prefixes.
 function attack(asked, tell) {
-  const engine = new Engine(), made = new Attack(asked),
-        rows = Array.from({ length: asked.groups }, (_, g) => `77.${g}.0.0/16`);
-  const asmap =
-    asked.isOneAs ? compiled(engine, rows.map(row => `${row} AS${ATTACKER_AS}\n`).join("")) : null;
+  const engine = new Engine(), made = new Attack(asked);
+  const rows = Array.from({ length: asked.groups }, (_, g) => `77.${g}.0.0/16`);
+  const table = rows.map(row => `${row} AS${ATTACKER_AS}\n`).join("");
+  const asmap = asked.isOneAs ? compiled(engine, table) : null;
   let hours = Array.from({ length: asked.hours }, (_, hour) => made.hour(hour)), peers = null;
   if (asked.isLimited) hours = limited(engine, hours);
   const saved = hours.map((lines, hour) => {
-    const log = lines.join("") + "save\ndump\n";
-    const replies =
-      engine.text(["replay", "--key", KEY], { "peers.dat": peers, "asmap.dat": asmap }, log);
+    const files = { "peers.dat": peers, "asmap.dat": asmap };
+    const replies = engine.text(["replay", "--key", KEY], files, lines.join("") + "save\ndump\n");
     peers = engine.file("peers.dat");
     tell({ hour: hour + 1, hours: asked.hours });
     return { peers, time: START + 3600 * hour, ...countReplies(replies) };

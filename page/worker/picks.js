@@ -28,46 +28,43 @@ function startsOf(view, first, end) {
   return starts;
 }
 
-// By number of tries, the part of the searches that end at a record, for each of its starts.
+// The part of 1 by which a record of a chance is taken, when chances are raised by a factor.
+function acceptedAt(chance, factor) {
+  const part = (chance * factor + ONE - 1n) / ONE;
+  return part < ONE ? Number(part) / Number(ONE) : 1;
+}
+
+// By number of tries, the part of the searches that end at a record, for each of its starts; null
+// if the table is empty.
 function weightsOf(starts, tries) {
-  const sums = Array(9).fill(0), chances = sums.map((_, power) => chanceOf(power)),
-        weights = sums.map(() => 0);
-  starts.forEach((count, r) => {
-    sums[Math.min(tries[r], 8)] += count;
-  });
+  const sums = Array(9).fill(0), weights = Array(9).fill(0);
+  const chances = sums.map((_, power) => chanceOf(power));
+  starts.forEach((count, r) => { sums[Math.min(tries[r], 8)] += count; });
   const total = sums.reduce((a, b) => a + b, 0);
-  if (!total) return null;
-  for (let factor = ONE, left = 1; left > 0;
-       factor = factor + factor / 5n < TOP ? factor + factor / 5n : TOP) {
-    const accepted = chances.map(chance => {
-      const part = (chance * factor + ONE - 1n) / ONE;
-      return Number(part < ONE ? part : ONE) / Number(ONE);
-    });
-    accepted.forEach((part, power) => {
-      weights[power] += left * part / total;
-    });
-    left *=
-      sums.reduce((refused, count, power) => refused + count * (1 - accepted[power]), 0) / total;
+  let factor = ONE, left = total ? 1 : 0;
+  while (left > 0) {
+    let refused = 0;
+    for (let power = 0; power < 9; power++) {
+      const accepted = acceptedAt(chances[power], factor);
+      weights[power] += left * accepted / total;
+      refused += sums[power] * (1 - accepted);
+    }
+    left *= refused / total;
+    factor = factor + factor / 5n < TOP ? factor + factor / 5n : TOP;
   }
-  return weights;
+  return total ? weights : null;
 }
 
 // The share of the picks that each record has; null if the tries of one are not known.
 function sharesOf(view, tries) {
   if (tries.some(count => count < 0)) return null;
-  const parts = [[0, NEW_SLOTS], [NEW_SLOTS, CELLS]]
-                  .map(([first, end]) => {
-                    const starts = startsOf(view, first, end);
-                    return { starts, weights: weightsOf(starts, tries) };
-                  })
-                  .filter(part => part.weights);
-  return tries.length ?
-    Float64Array.from(
-      tries,
-      (count, r) => parts.reduce(
-                      (sum, { starts, weights }) => sum + starts[r] * weights[Math.min(count, 8)], 0
-                    ) /
-        parts.length
-    ) :
-    new Float64Array(0);
+  const shares = new Float64Array(tries.length), parts = [];
+  for (const [first, end] of [[0, NEW_SLOTS], [NEW_SLOTS, CELLS]]) {
+    const starts = startsOf(view, first, end), weights = weightsOf(starts, tries);
+    if (weights) parts.push({ starts, weights });
+  }
+  for (const { starts, weights } of parts)
+    for (let r = 0; r < shares.length; r++)
+      shares[r] += starts[r] * weights[Math.min(tries[r], 8)] / parts.length;
+  return shares;
 }

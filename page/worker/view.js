@@ -20,12 +20,14 @@ const NOTHING = "2001:db8:ffff:ffff:ffff:ffff:ffff:ffff/128 AS1\n";
 // refuses the file by its own words.
 const chainOf = peers => CHAINS[hexOf(peers.subarray(0, 4))] || "main";
 
+const isBelow = (value, end) => Number.isInteger(value) && value >= 0 && value < end;
+
 function isRecord(rec) {
-  return rec !== null && typeof rec === "object" && typeof rec.address === "string" &&
-    typeof rec.source === "string" && Number.isInteger(rec.port) && rec.port >= 0 &&
-    rec.port < 65536 && Number.isInteger(rec.time) && rec.time >= 0 &&
-    rec.time < 2 ** 32 && typeof rec.services === "number" &&
-    NETWORKS.includes(rec.network) && NETWORKS.includes(rec.source_network);
+  if (rec === null || typeof rec !== "object") return false;
+  const texts = [rec.address, rec.source], networks = [rec.network, rec.source_network];
+  return texts.every(text => typeof text === "string") &&
+    networks.every(name => NETWORKS.includes(name)) && isBelow(rec.port, 65536) &&
+    isBelow(rec.time, 2 ** 32) && typeof rec.services === "number";
 }
 
 // What `getrawaddrman` of a node printed. Refuses what is not of its form.
@@ -67,8 +69,8 @@ function columnsOf(raw) {
   };
   for (const which in BASES) {
     for (const place in raw[which]) {
-      const rec = raw[which][place], slash = place.indexOf("/"),
-            form = logForm(rec.address, rec.network), key = form + ":" + rec.port;
+      const rec = raw[which][place], form = logForm(rec.address, rec.network);
+      const key = form + ":" + rec.port, slash = place.indexOf("/");
       let at = view.keys.get(key);
       if (at === undefined) {
         view.keys.set(key, at = view.name.length);
@@ -82,9 +84,8 @@ function columnsOf(raw) {
         view.services.push(rec.services);
         view.table.push(which === "tried" ? 1 : 0);
       }
-      view
-        .slots[BASES[which] + 64 * Number(place.slice(0, slash)) + Number(place.slice(slash + 1))] =
-        at;
+      const bucket = Number(place.slice(0, slash)), slot = Number(place.slice(slash + 1));
+      view.slots[BASES[which] + 64 * bucket + slot] = at;
     }
   }
   return view;
@@ -97,9 +98,8 @@ function lookUp(engine, forms, asmap) {
     text = engine.text(["lookup", "-"], { "asmap.dat": asmap }, forms.join(":0\n") + ":0\n");
   } catch (error) {
     const line = /line (\d+)/.exec(error.message);
-    throw line && error instanceof Refused ?
-      new Refused(error.status, `${forms[line[1] - 1]} is no address`) :
-      error;
+    if (!line || !(error instanceof Refused)) throw error;
+    throw new Refused(error.status, `${forms[line[1] - 1]} is no address`);
   }
   const found = [];
   let from = 0;
@@ -159,8 +159,8 @@ function countGroups(view, names) {
 
 // Whether `groups` of the program has the same rows with the same counts, in whatever order.
 function isSameCounts(rows, printed) {
-  const textOf =
-    row => [row.group, row.new_slots, row.new_buckets, row.new_records, row.tried_records].join();
+  const names = ["group", "new_slots", "new_buckets", "new_records", "tried_records"];
+  const textOf = row => names.map(name => row[name]).join();
   const mine = rows.filter(row => row.new_slots + row.tried_records).map(textOf).sort();
   const theirs = printed.map(textOf).sort();
   return mine.length === theirs.length && mine.every((text, i) => text === theirs[i]);
@@ -171,8 +171,8 @@ const LINE =
   /^(?:new|tried) \d+ (\S+) source \S+ time \d+ services (\d+) success (\d+) attempts (\d+)$/;
 function detailsOf(engine, files, net, view, rows) {
   const count = view.name.length, lines = engine.text(["show", ...net], files).split("\n");
-  const tries = new Int32Array(count).fill(-1), success = new Float64Array(count).fill(-1),
-        services = Array(count).fill("");
+  const tries = new Int32Array(count).fill(-1), success = new Float64Array(count).fill(-1);
+  const services = Array(count).fill("");
   for (const line of lines) {
     const found = LINE.exec(line), r = found ? view.keys.get(found[1]) : undefined;
     if (r === undefined) continue;
@@ -231,8 +231,8 @@ function view({ peers, json, asmap }, tell) {
 // Which of these addresses the rows of prefixes cover.
 function covered({ forms, rows }) {
   const engine = new Engine(), asmap = compiled(engine, rows);
-  return forms.length ? Uint8Array.from(lookUp(engine, forms, asmap), found => found.asn ? 1 : 0) :
-                        new Uint8Array(0);
+  const found = forms.length ? lookUp(engine, forms, asmap) : [];
+  return Uint8Array.from(found, ({ asn }) => asn ? 1 : 0);
 }
 
 // One output of the program as text.

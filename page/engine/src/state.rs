@@ -1,14 +1,20 @@
 use crate::folder::{Files, Output};
 use crate::keyed::Keyed;
-use crate::second::{Again, Facts, passed_over_by, second_lines};
-use addrman_run::{code, run, status_line};
+use crate::second::{Facts, second_lines};
+use addrman_run::{Learned, code, run_learning, status_line};
 use arguments::help_text;
-use c_handles::Keyed;
-use hints::{KeptReader, LastLines, Notes};
+use hints::Saves;
 use host_io::StdSource;
 use plain_std::alloc::{AllocError, Global};
 use plain_std::string::String as Text;
 use plain_std::vec::Vec as Items;
+
+/// No save fails in memory.
+const NO_SAVES: Saves = Saves {
+    done: 0,
+    failed: 0,
+    is_unsaved: false,
+};
 
 /// The exit code of a run that there is no memory for.
 const MEMORY: u32 = 12;
@@ -72,31 +78,28 @@ impl State {
             words.push(Text::from_str(alloc, &word)?)?;
         }
         let words = words.as_slice();
-        let mut lines = LastLines::make(alloc);
-        let notes = Notes::make(alloc, false);
-        let passed_over = passed_over_by(alloc, words, &mut self.files);
-        let status = {
-            let mut log = StdSource::make(KeptReader::make(log.as_slice(), &mut lines));
-            let mut output = Output {
-                bytes: &mut self.output,
-            };
-            run(
-                alloc,
-                self.key,
-                words,
-                &mut log,
-                &mut self.files,
-                &mut output,
-            )
+        let mut source = StdSource::make(log.as_slice());
+        let mut sink = Output {
+            bytes: &mut self.output,
         };
-        let again = Again::read(alloc, &status, words, &mut self.files);
+        let mut learned = Learned::make(alloc);
+        let status = run_learning(
+            alloc,
+            self.key,
+            words,
+            &mut source,
+            &mut self.files,
+            &mut sink,
+            &mut learned,
+        );
         let facts = Facts {
             words,
-            lines: &lines,
+            hint: "",
+            learned: &learned,
+            input: None,
             output: None,
-            notes: &notes,
-            again: &again,
-            passed_over,
+            failure: "",
+            saves: NO_SAVES,
         };
         let mut said = Items::new(alloc);
         status_line(&status, &mut said).map_err(|_| AllocError)?;
