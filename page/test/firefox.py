@@ -38,6 +38,8 @@ QUIET = {
     "services.settings.server": "data:,",
     "toolkit.telemetry.enabled": False,
 }
+# How many seconds a start may take before another is tried.
+START = 60
 DARK = "layout.css.prefers-color-scheme.content-override"
 
 
@@ -45,7 +47,7 @@ class WebSocket:
     """The client's end of a web socket (RFC 6455)."""
 
     def __init__(self, port, path):
-        self.socket = socket.create_connection(("127.0.0.1", port), timeout=LIMIT)
+        self.socket = socket.create_connection(("127.0.0.1", port), timeout=START)
         key = base64.b64encode(os.urandom(16)).decode()
         head = [
             f"GET {path} HTTP/1.1",
@@ -62,6 +64,7 @@ class WebSocket:
         answer, self.rest = self.rest.split(b"\r\n\r\n", 1)
         if b" 101 " not in answer.split(b"\r\n")[0]:
             raise Ended(answer.decode())
+        self.socket.settimeout(LIMIT)
 
     def more(self):
         piece = self.socket.recv(1 << 20)
@@ -115,11 +118,22 @@ class Firefox(Browser):
     name = "firefox"
 
     def __init__(self, dark=False):
-        self.folder, port = tempfile.mkdtemp(prefix="page-firefox-"), free_port()
+        self.folder = tempfile.mkdtemp(prefix="page-firefox-")
         with open(os.path.join(self.folder, "user.js"), "w", encoding="utf-8") as file:
             for name, value in {**QUIET, DARK: 0 if dark else 1}.items():
                 file.write(f"user_pref({json.dumps(name)}, {json.dumps(value)});\n")
-        program = shutil.which("firefox-esr") or "firefox"
+        self.number, self.messages, self.requests = 0, [], []
+        self.socket = self.start() or self.start() or self.start()
+        if not self.socket:
+            raise Ended("firefox does not start")
+        self.call("session.new", capabilities={})
+        self.context = self.call("browsingContext.getTree")["contexts"][0]["context"]
+        events = ["log.entryAdded", "network.beforeRequestSent"]
+        self.call("session.subscribe", events=events)
+
+    def start(self):
+        """Starts the program, and returns the socket by which it is driven, or None."""
+        program, port = shutil.which("firefox-esr") or "firefox", free_port()
         options = ["--headless", "--no-remote", "--remote-debugging-port", str(port)]
         self.process = subprocess.Popen(
             [program, *options, "--profile", self.folder],
@@ -127,22 +141,15 @@ class Firefox(Browser):
             stderr=subprocess.DEVNULL,
             env={**os.environ, "HOME": self.folder},
         )
-        self.number, self.messages, self.requests = 0, [], []
-        self.socket = self.connected(port)
-        self.call("session.new", capabilities={})
-        self.context = self.call("browsingContext.getTree")["contexts"][0]["context"]
-        events = ["log.entryAdded", "network.beforeRequestSent"]
-        self.call("session.subscribe", events=events)
-
-    def connected(self, port):
-        end = time.time() + LIMIT
-        while True:
+        end = time.time() + START
+        while time.time() < end and self.process.poll() is None:
             try:
                 return WebSocket(port, "/session")
-            except OSError:
-                if time.time() > end or self.process.poll() is not None:
-                    raise Ended("firefox does not start") from None
+            except (OSError, Ended):
                 time.sleep(0.2)
+        self.process.kill()
+        self.process.wait()
+        return None
 
     def call(self, method, **values):
         self.number += 1
