@@ -29,7 +29,8 @@ function isAsBefore(i) {
 // The class of a slot by when its peer was reached last.
 function successClass(i) {
   const time = data.success ? data.success[data.slots[i]] : -1;
-  return time < 0 ? AGES.length + 1 : time === 0 ? AGES.length : ageClass(data.newest, time);
+  if (time < 0) return AGES.length + 1;
+  return time ? ageClass(data.newest, time) : AGES.length;
 }
 
 // The class of a slot by the failed tries of its peer.

@@ -1,7 +1,7 @@
 // The files that were given: those with peers by their dates, an asmap and a list of bans. `attack`
 // is there while the files are those of a made attack.
 let snaps = [], asmap = null, bans = null, attack = null;
-const MAGICS = ["f9beb4d9", "0b110907", "0a03cf40", "fabfb5da"];
+const MAGICS = ["f9beb4d9", "0b110907", "1c163f28", "0a03cf40", "fabfb5da"];
 const MAX_SIZE = 256e6;
 
 // What a JSON text of a node is, by the first of its member names.

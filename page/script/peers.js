@@ -2,13 +2,20 @@
 const PAGE = 50;
 let firstPeer = 0;
 
-const peerText = r =>
-  `${data.name[r].includes(":") ? `[${data.name[r]}]` : data.name[r]}:${data.port[r]}`;
-const reachedText = r => !data.success || data.success[r] < 0 ? "not known" :
-  data.success[r]                                             ? when(data.success[r]) :
-                                                                "never";
+const isKnown = (list, r) => !!list && list[r] >= 0;
+
+function peerText(r) {
+  const name = data.name[r];
+  return `${name.includes(":") ? `[${name}]` : name}:${data.port[r]}`;
+}
+
+function reachedText(r) {
+  if (!isKnown(data.success, r)) return "not known";
+  return data.success[r] ? when(data.success[r]) : "never";
+}
+
+const triesText = r => isKnown(data.tries, r) ? String(data.tries[r]) : "not known";
 const groupText = g => data.names[g] ?? "not known yet";
-const triesText = r => !data.tries || data.tries[r] < 0 ? "not known" : String(data.tries[r]);
 
 // The buckets that a record is in, by rising number.
 function bucketsOf(r) {

@@ -11,17 +11,17 @@ function download(name, text, type) {
 const peersFiles = () => ({ "peers.dat": snaps[at].bytes, "asmap.dat": asmap && asmap.bytes });
 const stem = () => (fileName(snaps[at].name) || "peers").replace(/\.(dat|json)$/, "");
 
-async function saveOutput(command, name, type, change) {
+async function saveOutput(command, name, type, more) {
   try {
-    const text = await ask("outputOfPeers", { command, files: peersFiles() });
-    download(name, change ? change(text) : text, type);
+    const text = await ask("outputOfPeers", { command, files: peersFiles(), more });
+    download(name, text, type);
   } catch (error) { fail(error.message); }
 }
 
-const saveList = () => saveOutput(
-  "show", stem() + "-list.txt", "text/plain",
-  text => $("with-key").checked ? text : text.replace(/ key [0-9a-f]{64}/, " key hidden")
-);
+function saveList() {
+  const more = $("with-key").checked ? [] : ["--no-key"];
+  return saveOutput("show", stem() + "-list.txt", "text/plain", more);
+}
 
 function saveRaw() {
   if (snaps[at].isJson) download(stem() + "-slots.json", snaps[at].bytes, "application/json");

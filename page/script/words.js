@@ -1,18 +1,9 @@
 "use strict";
 // Constants, and values as texts.
 const NEW_SLOTS = 65536, CELLS = 81920, DAY = 86400;
-const TABLES = ["new", "tried"], SIDE = {
-  new: 32,
-  tried: 16
-},
-      FIRST = {
-        new: 0,
-        tried: NEW_SLOTS
-      },
-      END = {
-        new: NEW_SLOTS,
-        tried: CELLS
-      };
+const TABLES = ["new", "tried"], SIDE = { new: 32, tried: 16 };
+// Where the slots of each table begin and end among all slots.
+const FIRST = { new: 0, tried: NEW_SLOTS }, END = { new: NEW_SLOTS, tried: CELLS };
 const NETWORKS = ["ipv4", "ipv6", "onion", "i2p", "cjdns", "internal", "not publicly routable"];
 const SERVICES = {
   0: "NETWORK",
@@ -27,6 +18,8 @@ const number = n => n.toLocaleString("en-US");
 const percent = (part, whole) => whole ? (100 * part / whole).toFixed(1) + " %" : "none";
 const shareText = share => (100 * share).toFixed(4) + " %";
 const escape = text => String(text).replace(/[&<>"]/g, c => `&#${c.charCodeAt(0)};`);
+const fileName = path => path.split("/").pop();
+// The last time in seconds that is a date (ECMA-262, "Time Values and Time Range").
 const MAX_DATE = 8.64e12;
 
 // A time in seconds since 1970 as a date; as a number if no date is so late.
@@ -35,14 +28,11 @@ function when(time) {
   return new Date(1000 * time).toISOString().slice(0, 16).replace("T", " ") + " UTC";
 }
 
-const fileName = path => path.split("/").pop();
-
 // A length of time in words.
 function lengthText(seconds) {
-  const [count, unit] = seconds < 5400 ? [seconds / 60, "min"] :
-    seconds < 2 * DAY                  ? [seconds / 3600, "hours"] :
-                                         [seconds / DAY, "days"];
-  return `${Math.round(count)} ${unit}`;
+  if (seconds < 5400) return `${Math.round(seconds / 60)} min`;
+  if (seconds < 2 * DAY) return `${Math.round(seconds / 3600)} hours`;
+  return `${Math.round(seconds / DAY)} days`;
 }
 
 // The services of a peer by their names.

@@ -10,7 +10,6 @@ TOP = os.path.dirname(os.path.dirname(os.path.dirname(os.path.abspath(__file__))
 EXAMPLES = os.path.join(TOP, "examples")
 COUNTS = ("new_slots", "new_buckets", "new_records", "tried_records")
 SVG = "{http://www.w3.org/2000/svg}"
-KEY_WORDS = b" key " + made.KEY.encode()
 NO_RAW = [
     (b'{"new": {}}', 'there is no member "tried"'),
     (b'{"new": {"1024/0": {}}, "tried": {}}', '"1024/0" is no place of the new table'),
@@ -255,9 +254,10 @@ class Cases:
             native = made.run(self.program, ["show"], folder).stderr.decode().strip()
             assert b.text("error").strip() == native, (b.text("error"), native)
             assert b.js("return $('view').hidden")
-        made.replayed(self.program, os.path.join(folder, "test"), made.log_of(5, 2, 50), "test")
-        b.drop(os.path.join(folder, "test", "peers.dat"))
-        assert "of test" in b.text("facts") and b.js("return data.agrees") is True
+        for option, chain in (("--net", "testnet4"), ("--magic", "01020304")):
+            words, log = (option, chain), made.log_of(5, 2, 50)
+            b.drop(made.replayed(self.program, os.path.join(folder, chain), log, words))
+            assert f"of {chain}" in b.text("facts") and b.js("return data.agrees") is True
         bad = made.write(folder, "asmap.dat", b"\xff" * 40)
         path = made.write(folder, "peers.dat", good)
         b.drop(path, bad, state="error")
@@ -279,7 +279,7 @@ class Cases:
         assert saved("save-raw") == made.output(self.program, ["raw"], folder)
         assert saved("save-picture") == made.output(self.program, ["picture"], folder)
         shown = made.output(self.program, ["show"], folder)
-        assert saved("save-list") == shown.replace(KEY_WORDS, b" key hidden")
+        assert saved("save-list") == made.output(self.program, ["show", "--no-key"], folder)
         b.js("$('with-key').click()")
         assert saved("save-list") == shown
         b.js("$('with-key').click()")

@@ -33,10 +33,10 @@ def read(path):
         return file.read()
 
 
-def replayed(program, folder, log, chain="main"):
+def replayed(program, folder, log, chain=("--net", "main")):
     """A folder whose peers.dat a log has left that ends with `save`."""
     os.makedirs(folder, exist_ok=True)
-    output(program, ["replay", "--key", KEY, "--net", chain], folder, log + b"save\n")
+    output(program, ["replay", "--key", KEY, *chain], folder, log + b"save\n")
     return os.path.join(folder, "peers.dat")
 
 

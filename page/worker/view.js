@@ -3,22 +3,25 @@
 const CHAINS = {
   f9beb4d9: "main",
   "0b110907": "test",
+  "1c163f28": "testnet4",
   "0a03cf40": "signet",
-  fabfb5da: "regtest"
+  fabfb5da: "regtest",
 };
 const NETWORKS = ["ipv4", "ipv6", "onion", "i2p", "cjdns", "internal", "not_publicly_routable"];
 const NEW_SLOTS = 65536, CELLS = 81920;
-const BASES = {
-  new: 0,
-  tried: NEW_SLOTS
-};
+const BASES = { new: 0, tried: NEW_SLOTS };
 // Nothing belongs to this prefix: `lookup` wants an asmap, and where that has no number for an
 // address the group is that of the address itself.
 const NOTHING = "2001:db8:ffff:ffff:ffff:ffff:ffff:ffff/128 AS1\n";
 
-// The chain that the first bytes of peers.dat name; main if they name none, so that the program
-// refuses the file by its own words.
-const chainOf = peers => CHAINS[hexOf(peers.subarray(0, 4))] || "main";
+// The option for the chain of peers.dat, by its first bytes. A signet of one's own has others; of
+// what cannot be read either way the program speaks as of a file of the main chain.
+function chainOf(engine, peers) {
+  const magic = hexOf(peers.subarray(0, 4)), own = ["--magic", magic];
+  if (CHAINS[magic]) return ["--net", CHAINS[magic]];
+  const isOwn = engine.run(["show", ...own], { "peers.dat": peers }).status === 0;
+  return isOwn ? own : ["--net", "main"];
+}
 
 const isBelow = (value, end) => Number.isInteger(value) && value >= 0 && value < end;
 
@@ -169,8 +172,8 @@ function isSameCounts(rows, printed) {
 // What `show` knows besides: tries, the last success, and services without a loss.
 const LINE =
   /^(?:new|tried) \d+ (\S+) source \S+ time \d+ services (\d+) success (\d+) attempts (\d+)$/;
-function detailsOf(engine, files, net, view, rows) {
-  const count = view.name.length, lines = engine.text(["show", ...net], files).split("\n");
+function detailsOf(engine, files, chain, view, rows) {
+  const count = view.name.length, lines = engine.text(["show", ...chain], files).split("\n");
   const tries = new Int32Array(count).fill(-1), success = new Float64Array(count).fill(-1);
   const services = Array(count).fill("");
   for (const line of lines) {
@@ -180,7 +183,7 @@ function detailsOf(engine, files, net, view, rows) {
     success[r] = Number(found[3]);
     tries[r] = Number(found[4]);
   }
-  const head = lines[0].split(" "), printed = JSON.parse(engine.text(["groups", ...net], files));
+  const head = lines[0].split(" "), printed = JSON.parse(engine.text(["groups", ...chain], files));
   return {
     tries,
     success,
@@ -195,15 +198,15 @@ function detailsOf(engine, files, net, view, rows) {
 // the groups of all peers and the details.
 function view({ peers, json, asmap }, tell) {
   const engine = new Engine(), files = { "peers.dat": peers, "asmap.dat": asmap };
-  const chain = json ? null : chainOf(peers), net = ["--net", chain];
-  const found = columnsOf(json ? readRaw(json) : JSON.parse(engine.text(["raw", ...net], files)));
+  const chain = json ? null : chainOf(engine, peers);
+  const found = columnsOf(json ? readRaw(json) : JSON.parse(engine.text(["raw", ...chain], files)));
   const groups = new Groups(engine, asmap);
   groups.learn([...found.sourceForm, ...found.form.filter((_, r) => found.table[r])]);
   found.sourceGroup = groups.of(found.sourceForm);
   found.group = groups.of(found.form);
   const rows = countGroups(found, groups.names), joined = list => list.join("\n");
   tell({
-    chain,
+    chain: chain && chain[1],
     slots: found.slots,
     names: groups.names,
     group: found.group,
@@ -224,7 +227,7 @@ function view({ peers, json, asmap }, tell) {
   return {
     group: found.group,
     names: groups.names,
-    ...(json ? {} : detailsOf(engine, files, net, found, rows))
+    ...(json ? {} : detailsOf(engine, files, chain, found, rows))
   };
 }
 
@@ -238,6 +241,8 @@ function covered({ forms, rows }) {
 // One output of the program as text.
 const output = ({ words, files }) => new Engine().text(words, files);
 
-// The same of a command that takes a chain, with that of peers.dat.
-const outputOfPeers = ({ command, files }) =>
-  new Engine().text([command, "--net", chainOf(files["peers.dat"])], files);
+// The same of a command that takes a chain, with that of peers.dat, and other arguments after it.
+function outputOfPeers({ command, files, more }) {
+  const engine = new Engine(), chain = chainOf(engine, files["peers.dat"]);
+  return engine.text([command, ...chain, ...(more || [])], files);
+}
