@@ -62,8 +62,10 @@ pub record IsBounded (Accepted : Peer → Address → Type 0) (st : State) : Typ
   pub new_groups : (groups : List (List ℕ)) (r : Rec) → Contains st.records r → (bucket : ℕ)
       → Contains (buckets_of r) bucket
       → IsBy Accepted st.places groups r bucket → Contains (reach st.places groups) bucket
-  pub new_count : (groups : List (List ℕ)) → length (reach st.places groups) ≡ SOURCE_BUCKETS * length groups
+  pub new_count : (groups : List (List ℕ)) →
+      length (reach st.places groups) ≡ SOURCE_BUCKETS * length groups
   pub tried_group : (r : Rec) → Contains st.records r → is_tried r ≡ true
       → Contains (group_buckets st.places (group st.places r.peer.addr))
       (tried_bucket st.places r.peer)
-  pub tried_count : (peer_group : List ℕ) → length (group_buckets st.places peer_group) ≡ GROUP_BUCKETS
+  pub tried_count : (peer_group : List ℕ) →
+      length (group_buckets st.places peer_group) ≡ GROUP_BUCKETS

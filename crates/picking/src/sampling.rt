@@ -143,6 +143,8 @@ pub fn sample<H: BuildHasher, L: Ledger>(
     ensures enough { OnOk result (length tables.old.order ≤ length words.now) }
     ensures short { (need have : ℕ) → result ≡ Err (SampleFault.ShortWords need have) →
         (need ≡ length tables.old.order) × ((have ≡ length words.now) × (have < need)) }
+    ensures memory { result ≡ Err SampleFault.Memory →
+        length tables.old.order ≤ length words.now }
     ensures sound { IsSound tables.new }
     ensures err { OnErr result (tables.new ≡ tables.old) }
 {

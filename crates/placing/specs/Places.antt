@@ -107,7 +107,8 @@ source_bucket places source_group i =
     hash_of (places.key ∷ sized source_group ∷ to_le_bytes w64 i ∷ []) % NEW_BUCKETS
 
 abbrev pub source_buckets : Places → List ℕ → List ℕ
-source_buckets places source_group = map (source_bucket places source_group) (range_with_len 0 SOURCE_BUCKETS)
+source_buckets places source_group =
+    map (source_bucket places source_group) (range_with_len 0 SOURCE_BUCKETS)
 
 -- the buckets of the tried table for peers of one group
 abbrev pub group_bucket : Places → List ℕ → ℕ → ℕ
@@ -115,7 +116,8 @@ group_bucket places peer_group i =
     hash_of (places.key ∷ sized peer_group ∷ to_le_bytes w64 i ∷ []) % TRIED_BUCKETS
 
 abbrev pub group_buckets : Places → List ℕ → List ℕ
-group_buckets places peer_group = map (group_bucket places peer_group) (range_with_len 0 GROUP_BUCKETS)
+group_buckets places peer_group =
+    map (group_bucket places peer_group) (range_with_len 0 GROUP_BUCKETS)
 
 -- the index, among the source group's buckets, of the bucket for peers of `peer_group`
 abbrev pub source_choice : Places → List ℕ → List ℕ → ℕ

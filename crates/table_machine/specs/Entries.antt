@@ -103,7 +103,8 @@ abbrev pub add_known : State → ℕ → Rec → Entry → Address → ℕ → �
 add_known st now r entry source penalty word =
     let known = refresh r entry penalty now in
     let kept = with_record st known in
-    if nat_le entry.time known.time || is_tried known || length (buckets_of known) == MAX_LISTS then no kept
+    if nat_le entry.time known.time || is_tried known || length (buckets_of known) == MAX_LISTS
+    then no kept
     else if word % 2 ^ length (buckets_of known) == 0 then enter_bucket kept now known false source
     else no kept
 

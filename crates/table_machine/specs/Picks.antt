@@ -142,8 +142,9 @@ sample_from st classes now i left (word ∷ words) =
     with_peers peers (sample_from next classes now (i + 1) (left - length peers) words))
     else outcome [] st
 
--- Some of the peers of a set of classes, selected by random words (`GetAddr_`). It is used only
--- with at least as many words as records. The order stays as the exchanges leave it.
+-- Some of the peers of a set of classes, selected by random words (`GetAddr_`), one word for each
+-- position of the order. With fewer words than records there may be fewer peers. The order stays as
+-- the exchanges leave it.
 abbrev pub sample : State → ℕ → ℕ → List ℕ → List ℕ → ℕ → After (List Peer)
 sample st most percent classes words now =
     sample_from st classes now 0 (sample_limit (length st.order) most percent) words

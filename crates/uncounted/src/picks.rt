@@ -64,6 +64,8 @@ pub fn sample<H: BuildHasher>(
     ensures enough { OnOk result (length tables.old.order ≤ length words.now) }
     ensures short { (need have : ℕ) → result ≡ Err (SampleFault.ShortWords need have) →
         (need ≡ length tables.old.order) × ((have ≡ length words.now) × (have < need)) }
+    ensures memory { result ≡ Err SampleFault.Memory →
+        length tables.old.order ≤ length words.now }
     ensures err { OnErr result (tables.new ≡ tables.old) }
 {
     count_sample::<H, Brand>(alloc, tables, max, pct, classes, words, now, Blank::new(1))
@@ -92,6 +94,8 @@ fn count_sample<H: BuildHasher, L: Ledger>(
     ensures enough { OnOk result (length tables.old.order ≤ length words.now) }
     ensures short { (need have : ℕ) → result ≡ Err (SampleFault.ShortWords need have) →
         (need ≡ length tables.old.order) × ((have ≡ length words.now) × (have < need)) }
+    ensures memory { result ≡ Err SampleFault.Memory →
+        length tables.old.order ≤ length words.now }
     ensures err { OnErr result (tables.new ≡ tables.old) }
 {
     let mut steps = Steps::<L>::none(blank);
