@@ -9,7 +9,7 @@
 # make demo       runs the built program on the files of examples/
 # make test       the gate: proves everything, tries wrong bodies, runs the tests
 # make examples   compares what README.md and docs/FORMATS.md show with what the built program prints
-# make flood      an attack on the tables, hour by hour, as the page bin/flood.html
+# make flood      the page with an attack on the tables, hour by hour, as bin/flood.html
 # make page       the page that reads a peers.dat, as bin/page.html and as the folder bin/page
 # make page-test  tries it in Chromium and Firefox, and its engine beside the built program
 # make endings    tries the exit codes of the built program and their texts
@@ -102,11 +102,15 @@ demo: bin/addrman
 examples: bin/addrman
 	tools/examples
 
-flood: bin/addrman
+flood: bin/addrman bin/page.html
 	tools/flood --still bin/flood.svg bin/addrman bin/flood.html
 
 page:
 	page/build
+
+# The page that is there.
+bin/page.html:
+	$(MAKE) page
 
 page-test:
 	page/colours

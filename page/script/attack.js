@@ -19,7 +19,7 @@ function attackerSet(asked, rows) {
 // Takes the hours of an attack as the files to show.
 function takeAttack(asked, found) {
   const bound = asked.isOneAs ? 64 : Math.min(1024, 64 * asked.groups);
-  attack = { ...asked, begins: found.begins, bound };
+  attack = { ...asked, begins: found.begins, bound, logs: null };
   asmap = asked.isOneAs ? { name: "an asmap", bytes: found.asmap } : null;
   bans = null;
   snaps = found.saved.map((saved, hour) => {
@@ -36,8 +36,8 @@ function takeAttack(asked, found) {
   $("sort").checked = true;
 }
 
-async function tryAttack() {
-  const asked = askedAttack();
+// Has the engine carry out an attack, and shows its last hour.
+async function carryOut(asked) {
   const tell = told =>
     status(`The engine carries out hour ${told.hour} of ${told.hours} of the attack …`);
   stop();
@@ -51,14 +51,44 @@ async function tryAttack() {
   $("try").disabled = false;
 }
 
-// The attack by hours, as a chart and as a table.
+// Carries out the log that tools/flood wrote into the page, if there is one.
+async function carryOutOwn() {
+  const log = $("log").textContent;
+  if (log) await carryOut(JSON.parse(new TextDecoder().decode(await inflated(log))));
+}
+
+// A line of the chart of shares: the part of some slots or picks that is the attacker's, by hour.
+function shareLine(name, stroke, dash, partOf) {
+  const values = snaps.map(snap => {
+    const [part, whole] = partOf(snap);
+    return whole ? 100 * part / whole : 0;
+  });
+  return { name, stroke, dash, values };
+}
+
+function showCharts() {
+  const { bound } = attack, buckets = snaps.map(snap => snap.buckets);
+  const reached = { name: "buckets", stroke: "--lit", dash: "", values: buckets };
+  $("chart").innerHTML = chartOf([reached], bound <= 256 ? 256 : 1024, "", bound);
+  const shares = [
+    shareLine("of new slots", "--lit", "", snap => [snap.attackSlots, snap.newSlots]),
+    shareLine("of picks", "--ink", "1 3", snap => [snap.attackPicks, snap.picks]),
+    shareLine("of tried slots", "--rest", "7 3", snap => [snap.attackTried, snap.triedSlots]),
+  ];
+  $("shares").innerHTML = chartOf(shares, 100, " %", null);
+}
+
+// The attack by hours, as charts and as a table.
 function showHours() {
   $("hours-box").hidden = !attack;
   if (!attack) return;
-  $("chart").innerHTML = chartOf(snaps.map(snap => snap.buckets), attack, at);
+  showCharts();
   $("hours").innerHTML = joined(snaps, (snap, hour) => {
-    const { buckets, newSlots, attackSlots, picks, attackPicks } = snap;
-    const cells = joined([buckets, newSlots, attackSlots, picks, attackPicks], numberCell);
+    const counts = [
+      snap.newSlots, snap.attackSlots, snap.buckets, snap.triedSlots, snap.attackTried,
+      snap.picks, snap.attackPicks
+    ];
+    const cells = joined(counts, numberCell);
     return `<tr class="${hour === at ? "on" : ""}">${headCell(hour)}${cells}</tr>`;
   });
 }

@@ -33,20 +33,24 @@ function topFact() {
   return fact(share, `of all slots are of ${top.group}, the largest of ${count} groups`);
 }
 
-// How far the attacker came: buckets and picks.
-function attackFacts({ buckets, picks, attackPicks }) {
+// A share of the attacker's, with its counts.
+const shareFact = (part, whole, words) =>
+  fact(percent(part, whole), `${words}: ${number(part)} of ${number(whole)}`);
+
+// How far the attacker came: buckets, slots and picks.
+function attackFacts(snap) {
   const reached = "of the 1,024 buckets of the new table have the attacker's peers";
-  const counts = `${number(attackPicks)} of ${number(picks)}`;
   return [
-    fact(number(buckets), `${reached}; the bound is ${number(attack.bound)}`),
-    fact(percent(attackPicks, picks), `of this hour's picks are the attacker's peers: ${counts}`),
+    fact(number(snap.buckets), `${reached}; the bound is ${number(attack.bound)}`),
+    shareFact(snap.attackSlots, snap.newSlots, "of the new slots in use are the attacker's"),
+    shareFact(snap.attackTried, snap.triedSlots, "of the tried slots in use are the attacker's"),
+    shareFact(snap.attackPicks, snap.picks, "of this hour's picks are the attacker's peers"),
   ];
 }
 
 function showFacts() {
   const snap = snaps[at], name = snap.label || snap.name, usage = usageFacts();
-  const [first, last] = attack ? attackFacts(snap) : [usage[0], topFact()];
-  $("facts").innerHTML = [first, usage[1], usage[2], last].join("");
+  $("facts").innerHTML = (attack ? attackFacts(snap) : [...usage, topFact()]).join("");
   const words = `${number(data.used.new)} slots of the new table and ${number(data.used.tried)} ` +
     "of the tried one are in use.";
   status(`${name}: ${words}`, true);

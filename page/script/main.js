@@ -22,7 +22,7 @@ document.addEventListener("dragleave", event => {
   if (!event.relatedTarget) document.body.classList.remove("over");
 });
 document.addEventListener("drop", onDrop);
-on("try", "click", tryAttack);
+on("try", "click", () => carryOut(askedAttack()));
 on("play", "click", play);
 on("time", "input", () => {
   stop();
@@ -100,4 +100,5 @@ engineReady.then(() => {
   $("version").textContent =
     "The engine has @SIZE@ bytes, SHA-256 @HASH@; it is built from addrman @COMMIT@.";
   document.documentElement.dataset.engine = "1";
+  return carryOutOwn();
 }, error => fail("The engine cannot be started: " + error.message));

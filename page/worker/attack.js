@@ -100,10 +100,17 @@ function limited(engine, hours) {
   return hours.map(lines => left.slice(at, at += lines.length).map(line => line + "\n"));
 }
 
-// Counts what the replies of an hour say: the picks, and the slots and buckets of the attacker's
-// groups.
+// Counts what the replies of an hour say: the picks, the slots of both tables, how many of these are
+// of the attacker's groups, and the buckets of the new table that such slots are in.
 function countReplies(text) {
-  const found = { picks: 0, attackPicks: 0, newSlots: 0, attackSlots: 0, buckets: 0 };
+  const found = {
+    picks: 0,
+    attackPicks: 0,
+    newSlots: 0,
+    attackSlots: 0,
+    triedSlots: 0,
+    attackTried: 0,
+  };
   const buckets = new Set();
   for (const line of text.split("\n")) {
     const words = line.split(" ");
@@ -111,33 +118,40 @@ function countReplies(text) {
       const first = parseInt(words[1], 10);
       found.picks++;
       if (first >= 101 && first < 126) found.attackPicks++;
-    } else if (words[0] === "peer" && words.at(-1) !== "tried") {
-      const list = words.at(-1).split(",");
-      found.newSlots += list.length;
-      if (!words[3].startsWith("77.")) continue;
-      found.attackSlots += list.length;
-      for (const bucket of list) buckets.add(bucket);
+    } else if (words[0] === "peer") {
+      const where = words.at(-1), isAttacker = words[3].startsWith("77.");
+      const isTried = where === "tried", list = where.split(",");
+      found[isTried ? "triedSlots" : "newSlots"] += list.length;
+      if (!isAttacker) continue;
+      found[isTried ? "attackTried" : "attackSlots"] += list.length;
+      if (!isTried) for (const bucket of list) buckets.add(bucket);
     }
   }
-  found.buckets = buckets.size;
-  return found;
+  return { ...found, buckets: buckets.size };
+}
+
+// The logs of the hours: those that are given, or made ones.
+function logsOf(engine, asked) {
+  if (asked.logs) return asked.logs;
+  const made = new Attack(asked);
+  const hours = Array.from({ length: asked.hours }, (_, hour) => made.hour(hour));
+  return (asked.isLimited ? limited(engine, hours) : hours).map(lines => lines.join(""));
 }
 
 // Carries out an attack, and tells of each hour that is done. Returns the file, the time and the
 // counts of each hour, the asmap if there is one, and the attacker's groups as prefixes.
 function attack(asked, tell) {
-  const engine = new Engine(), made = new Attack(asked);
+  const engine = new Engine(), key = asked.key || KEY, begins = asked.begins ?? BEGINS;
   const rows = Array.from({ length: asked.groups }, (_, g) => `77.${g}.0.0/16`);
   const table = rows.map(row => `${row} AS${ATTACKER_AS}\n`).join("");
   const asmap = asked.isOneAs ? compiled(engine, table) : null;
-  let hours = Array.from({ length: asked.hours }, (_, hour) => made.hour(hour)), peers = null;
-  if (asked.isLimited) hours = limited(engine, hours);
-  const saved = hours.map((lines, hour) => {
+  let peers = null;
+  const saved = logsOf(engine, asked).map((log, hour) => {
     const files = { "peers.dat": peers, "asmap.dat": asmap };
-    const replies = engine.text(["replay", "--key", KEY], files, lines.join("") + "save\ndump\n");
+    const replies = engine.text(["replay", "--key", key], files, log + "save\ndump\n");
     peers = engine.file("peers.dat");
     tell({ hour: hour + 1, hours: asked.hours });
     return { peers, time: START + 3600 * hour, ...countReplies(replies) };
   });
-  return { saved, asmap, rows, begins: BEGINS };
+  return { saved, asmap, rows, begins };
 }
