@@ -3,6 +3,7 @@ use Rattle.std.specs.Prelude.{◌≡◌, ◌⊎◌, ℕ, ◌<◌, ◌≤◌, Lis
 use Rattle.host_io.specs.Past.{Past, files_of}
 use Rattle.host_io.specs.PerName.{under}
 use Rattle.host_io.specs.declared.name.Name.{Name}
+use Rattle.host_io.specs.declared.name.Name.TheVariants as name
 use Rattle.addrman_run.specs.declared.status.Status.{Status}
 use Rattle.addrman_run.specs.declared.status.Status.TheVariants.{DiskFault, NoFile}
 
@@ -29,3 +30,14 @@ abbrev pub ReportsAbsence : Name → Option Past → Status → Type 0
 ReportsAbsence name past status =
     IfSome (files_of past) (λ fs.
     under fs name ≡ None → (status ≡ NoFile name) ⊎ (status ≡ DiskFault))
+
+-- in a folder with neither asmap.dat nor peers.dat, this holds
+abbrev pub InBareFolder : Option Past → Type 0 → Type 0
+InBareFolder past Holds =
+    IfSome (files_of past) (λ fs.
+    under fs name.Asmap ≡ None → under fs name.Peers ≡ None → Holds)
+
+-- an absent peers.dat is reported if there is no asmap.dat either, unless the folder fails
+abbrev pub ReportsNoPeers : Option Past → Status → Type 0
+ReportsNoPeers past status =
+    InBareFolder past ((status ≡ NoFile name.Peers) ⊎ (status ≡ DiskFault))

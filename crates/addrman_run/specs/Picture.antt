@@ -6,8 +6,8 @@ use Rattle.peers_file.specs.declared.chain.Chain.{Chain}
 use Rattle.picture_text.specs.Markup.{IsTree}
 use Rattle.table_machine.specs.State.{State}
 use Rattle.table_picture.specs.Picture.{picture_of}
-use Rattle.addrman_run.specs.Opening.{Opened, ReportsTables}
-use Rattle.addrman_run.specs.TextOut.{TextEnds}
+use Rattle.addrman_run.specs.Opening.{Opened}
+use Rattle.addrman_run.specs.TextOut.{TablesTextEnds}
 use Rattle.addrman_run.specs.declared.status.Status.{Status}
 
 -- the picture of the tables that the folder's peers.dat and asmap.dat open, the text of one tree
@@ -19,4 +19,4 @@ pub record IsPicture (chain : Chain) (past : Option Past) (text : List ℕ) : Ty
   pub tree : IsTree (codes "svg") text
 
 abbrev pub PictureEnds : Chain → Outside → Outside → Status → Type 0
-PictureEnds chain = TextEnds (IsPicture chain) (ReportsTables chain)
+PictureEnds chain = TablesTextEnds (IsPicture chain) chain

@@ -9,8 +9,8 @@ use Rattle.node_json.specs.Raw.{raw_json}
 use Rattle.node_json.specs.Value.{IsJsonText}
 use Rattle.peers_file.specs.declared.chain.Chain.{Chain}
 use Rattle.table_machine.specs.State.{State}
-use Rattle.addrman_run.specs.Opening.{Opened, ReportsTables}
-use Rattle.addrman_run.specs.TextOut.{TextEnds}
+use Rattle.addrman_run.specs.Opening.{Opened}
+use Rattle.addrman_run.specs.TextOut.{TablesTextEnds}
 use Rattle.addrman_run.specs.declared.status.Status.{Status}
 use Rattle.addrman_run.specs.declared.tables_json.TablesJson.{TablesJson}
 use Rattle.addrman_run.specs.declared.tables_json.TablesJson.TheVariants.{Raw, Info, Groups}
@@ -26,4 +26,4 @@ IsTablesText which chain past text =
     (tables : State) × Opened None chain past tables × IsJsonText (json_of which tables) text
 
 abbrev pub TablesJsonEnds : TablesJson → Chain → Outside → Outside → Status → Type 0
-TablesJsonEnds which chain = TextEnds (IsTablesText which chain) (ReportsTables chain)
+TablesJsonEnds which chain = TablesTextEnds (IsTablesText which chain) chain

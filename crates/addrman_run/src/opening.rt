@@ -1,6 +1,9 @@
-ghost use Rattle.std.specs.Prelude.{◌≡◌, ◌≤◌, ℕ, List, None, Some, Err, IfOk, IfErr, IfSome, length};
+ghost use Rattle.std.specs.Prelude.{◌≡◌, ◌⊎◌, ◌≤◌, ℕ, List, None, Some, Ok, Err, IfOk, IfErr, IfSome, length};
 ghost use Rattle.asmap_vm.specs.Code.{Tree, IsSaneFile};
 ghost use Rattle.asmap_vm.specs.declared.fault.CodeFault.{CodeFault};
+ghost use Rattle.host_io.specs.Past.{files_of};
+ghost use Rattle.host_io.specs.PerName.{under};
+ghost use Rattle.host_io.specs.declared.name.Name.TheVariants as name;
 ghost use Rattle.log_run.specs.Counts.{IsCounted};
 ghost use Rattle.placing.specs.Inside.{map_of};
 ghost use Rattle.peers_file.specs.Layout.{IsFile};
@@ -8,6 +11,7 @@ ghost use Rattle.slot_grid.specs.declared.sizes.TheConstants.{ALL_SLOTS};
 ghost use Rattle.table_machine.specs.Restoring.{duplicate};
 ghost use Rattle.table_machine.specs.Sound.{IsSound};
 ghost use Rattle.addrman_run.specs.Asmaps.{IsMapIn, IsNoMap};
+ghost use Rattle.addrman_run.specs.InFolder.{InBareFolder};
 ghost use Rattle.addrman_run.specs.Inside.{IsKeyless, IsMapOf, IsNoSnapshot, IsNoTables, IsNotOpened, IsNotRestored, OpensWith};
 ghost use Rattle.addrman_run.specs.Opening.{IsUnopened, Opened, tables_of};
 
@@ -90,6 +94,7 @@ fn empty_tables<'a, H: BuildHasher + Drop>(
     ensures found { IfOk result (OpensWith key Chain.Main None (map_of map.entry)) }
     ensures small { IfOk result (λ tables. tables.next_number ≤ ALL_SLOTS) }
     ensures sound { IfOk result (λ tables. IsSound tables) }
+    ensures keyless { key ≡ None → result ≡ Err Status.NoKey }
     ensures cause { IfErr result (IsKeyless key) }
 {
     let Some(key) = key else {
@@ -114,6 +119,7 @@ fn open_tables<'a, H: BuildHasher + Drop>(
     ensures found { IfOk result (OpensWith key chain file (map_of map.entry)) }
     ensures small { IfOk result (λ tables. tables.next_number ≤ ALL_SLOTS) }
     ensures sound { IfOk result (λ tables. IsSound tables) }
+    ensures keyless { key ≡ None → file ≡ None → result ≡ Err Status.NoKey }
     ensures cause { IfErr result (IsNotOpened key chain file) }
 {
     let bytes = match file {
@@ -132,6 +138,7 @@ fn open_tables<'a, H: BuildHasher + Drop>(
 fn check_map(bytes: &Option<Bytes>) -> Result<Option<Sane<'_>>, CodeFault>
     requires { IfSome bytes.now (λ b. length b ≤ MAX_ASMAP) }
     ensures found { IfOk result (λ map. IsMapOf bytes.now (map_of map)) }
+    ensures none { bytes.now ≡ None → result ≡ Ok None }
     ensures cause { (fault : CodeFault) → result ≡ Err fault → (fault ≡ CodeFault.Insane)
         × ((b : List ℕ) × (bytes.now ≡ Some b) × ((t : Tree) → ¬ IsSaneFile t b)) }
 {
@@ -151,6 +158,8 @@ pub(crate) fn open_map<'a, F: Folder>(
     folder: &mut F,
 ) -> Result<Option<Sane<'a>>, Status>
     ensures found { IfOk result (λ map. IsMapIn (F.past folder.old) (map_of map)) }
+    ensures absent { IfSome (files_of (F.past folder.old)) (λ files.
+        under files name.Asmap ≡ None → (result ≡ Ok None) ⊎ (result ≡ Err Status.DiskFault)) }
     ensures cause { IfErr result (IsNoMap (F.past folder.old)) }
     ensures disk { IsCounted (Err Status.DiskFault)
         (F.faults folder.old) (F.faults folder.new) result }
@@ -180,6 +189,8 @@ pub(crate) fn open_folder<'a, F: Folder, H: BuildHasher + Drop>(
 ) -> Result<Tables<'a, H>, Status>
     ensures found { IfOk result (Opened key chain (F.past folder.old)) }
     ensures small { IfOk result (λ tables. tables.next_number ≤ ALL_SLOTS) }
+    ensures absent { key ≡ None → InBareFolder (F.past folder.old)
+        ((result ≡ Err Status.NoKey) ⊎ (result ≡ Err Status.DiskFault)) }
     ensures cause { IfErr result (IsUnopened key chain (F.past folder.old)) }
     ensures disk { IsCounted (Err Status.DiskFault)
         (F.faults folder.old) (F.faults folder.new) result }
@@ -206,6 +217,8 @@ pub(crate) fn open_peers<'a, F: Folder, H: BuildHasher + Drop>(
     learned: &mut Learned,
 ) -> Result<Tables<'a, H>, Status>
     ensures found { IfOk result (Opened None chain (F.past folder.old)) }
+    ensures absent { InBareFolder (F.past folder.old)
+        ((result ≡ Err (Status.NoFile name.Peers)) ⊎ (result ≡ Err Status.DiskFault)) }
     ensures cause { IfErr result (IsNoTables chain (F.past folder.old)) }
     ensures disk { IsCounted (Err Status.DiskFault)
         (F.faults folder.old) (F.faults folder.new) result }

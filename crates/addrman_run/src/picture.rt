@@ -1,6 +1,7 @@
 ghost use Rattle.std.specs.Prelude.{◌≡◌, ◌≢◌, IfOk};
 ghost use Rattle.log_run.specs.Counts.{IsCounted};
 ghost use Rattle.table_picture.specs.Picture.{picture_of};
+ghost use Rattle.addrman_run.specs.InFolder.{ReportsNoPeers};
 ghost use Rattle.addrman_run.specs.Inside.{TextEnds};
 ghost use Rattle.addrman_run.specs.Opening.{ReportsTables};
 ghost use Rattle.addrman_run.specs.Picture.{IsPicture};
@@ -31,6 +32,7 @@ pub(crate) fn picture<F: Folder, K: Sink, H: BuildHasher + Drop>(
 ) -> Status
     ensures text { TextOut (IsPicture chain) (ReportsTables chain)
         (F.past folder.old) (K.written out.old) (K.written out.new) result }
+    ensures absent { ReportsNoPeers (F.past folder.old) result }
     ensures disk { IsCounted Status.DiskFault (F.faults folder.old) (F.faults folder.new) result }
     ensures write { IsCounted Status.WriteFault (K.faults out.old) (K.faults out.new) result }
     ensures same { F.past folder.new ≡ F.past folder.old }
@@ -51,6 +53,7 @@ fn draw<'a, F: Folder, K: Sink, H: BuildHasher + Drop>(
 ) -> Status
     ensures text { TextOut (IsPicture chain) (ReportsTables chain)
         (F.past folder.old) (K.written out.old) (K.written out.new) result }
+    ensures absent { ReportsNoPeers (F.past folder.old) result }
     ensures disk { IsCounted Status.DiskFault (F.faults folder.old) (F.faults folder.new) result }
     ensures write { IsCounted Status.WriteFault (K.faults out.old) (K.faults out.new) result }
     ensures same { F.past folder.new ≡ F.past folder.old }

@@ -1,6 +1,7 @@
 ghost use Rattle.std.specs.Prelude.{◌≡◌, IfOk};
 ghost use Rattle.log_run.specs.Counts.{IsCounted};
 ghost use Rattle.node_json.specs.Value.{IsJsonText};
+ghost use Rattle.addrman_run.specs.InFolder.{ReportsNoPeers};
 ghost use Rattle.addrman_run.specs.Opening.{ReportsTables};
 ghost use Rattle.addrman_run.specs.TablesJson.{IsTablesText, json_of};
 ghost use Rattle.addrman_run.specs.TextOut.{TextOut};
@@ -66,6 +67,7 @@ pub(crate) fn write_tables_json<F: Folder, K: Sink, H: BuildHasher + Drop>(
 ) -> Status
     ensures text { TextOut (IsTablesText which chain) (ReportsTables chain)
         (F.past folder.old) (K.written out.old) (K.written out.new) result }
+    ensures absent { ReportsNoPeers (F.past folder.old) result }
     ensures disk { IsCounted Status.DiskFault (F.faults folder.old) (F.faults folder.new) result }
     ensures write { IsCounted Status.WriteFault (K.faults out.old) (K.faults out.new) result }
     ensures same { F.past folder.new ≡ F.past folder.old }
@@ -89,6 +91,7 @@ fn write_opened<'a, F: Folder, K: Sink, H: BuildHasher + Drop>(
 ) -> Status
     ensures text { TextOut (IsTablesText which chain) (ReportsTables chain)
         (F.past folder.old) (K.written out.old) (K.written out.new) result }
+    ensures absent { ReportsNoPeers (F.past folder.old) result }
     ensures disk { IsCounted Status.DiskFault (F.faults folder.old) (F.faults folder.new) result }
     ensures write { IsCounted Status.WriteFault (K.faults out.old) (K.faults out.new) result }
     ensures same { F.past folder.new ≡ F.past folder.old }
