@@ -11,6 +11,11 @@ const KEY_DIGITS: usize = 64;
 /// How many bytes of a file with a key are read at once: more than it may have.
 const PIECE: usize = 80;
 
+/// The commands that read peers.dat.
+static PEERS_COMMANDS: [&str; 8] = [
+    "replay", "opener", "show", "picture", "raw", "info", "groups", "diff",
+];
+
 /// The arguments of a run: those of the command line, but for what the program does around `run`.
 #[derive(Drop)]
 pub(crate) struct Given {
@@ -36,6 +41,7 @@ pub(crate) fn folder_of(words: &[String]) -> Option<(&str, usize)> {
 impl Given {
     /// Makes the arguments of a run: `help COMMAND` if an option asks for it, `version` for `-V`,
     /// and for `--key-file FILE` the key in the file, so that the list of processes doesn't have it.
+    /// `--core` comes first among the options, wherever it was.
     pub(crate) fn of<R: Files>(
         alloc: Global,
         rt: &R,
@@ -57,9 +63,15 @@ impl Given {
         given.add(alloc, if command == "-V" { "version" } else { command })?;
         let has_key = command == "replay" || command == "opener";
         let mut is_file = false;
+        let mut is_core = reads_peers(command) && has_core(rest);
+        if is_core {
+            given.add(alloc, "--core")?;
+        }
         for word in rest {
             let word = word.as_str();
-            if is_file {
+            if is_core && word == "--core" {
+                is_core = false;
+            } else if is_file {
                 given.add_key(alloc, rt, word)?;
                 is_file = false;
             } else if has_key && word == "--key-file" {
@@ -115,6 +127,26 @@ impl Given {
         self.words.push(word)?;
         Ok(())
     }
+}
+
+/// Returns whether a command reads peers.dat.
+fn reads_peers(command: &str) -> bool {
+    for name in PEERS_COMMANDS {
+        if name == command {
+            return true;
+        }
+    }
+    false
+}
+
+/// Returns whether one of the arguments is `--core`.
+fn has_core(words: &[String]) -> bool {
+    for word in words {
+        if word.as_str() == "--core" {
+            return true;
+        }
+    }
+    false
 }
 
 /// Returns whether an option asks for the page of the command.

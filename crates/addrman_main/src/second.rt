@@ -1,4 +1,4 @@
-use addrman_run::{Learned, PeersFault, Status, TablesFault};
+use addrman_run::{Learned, PeersFault, Status, SumFit, TablesFault};
 use hints::{
     Saves, asmap_hint, bans_hint, compile_hint, duplicate_hint, line_hint, missing_hint,
     peers_hint, stream_hint, table_hint, usage_hint,
@@ -53,11 +53,14 @@ fn put_lines(
 ) -> Result<(), AllocError> {
     let hint = hint_of(alloc, status, facts)?;
     put_line(hint.as_str(), text)?;
-    if facts.learned.is_key_unused() && !matches!(status, Status::PeersRefused(_)) {
-        put_line(
-            "the key of the arguments is not used: peers.dat has its own",
-            text,
-        )?;
+    if !matches!(status, Status::PeersRefused(_)) {
+        if facts.learned.is_key_unused() {
+            put_line(
+                "the key of the arguments is not used: peers.dat has its own",
+                text,
+            )?;
+        }
+        put_line(sum_hint(facts.learned.sum_fit()), text)?;
     }
     if *status == Status::Done {
         let hint = passed_over_hint(alloc, facts.learned.passed_over())?;
@@ -135,6 +138,24 @@ fn refused_hint(alloc: Global, fault: &PeersFault, head: &[u8]) -> Result<String
     match fault {
         PeersFault::File(fault) => peers_hint(alloc, fault, head),
         PeersFault::Duplicate { index } => duplicate_hint(alloc, *index, head),
+    }
+}
+
+/// Returns what is said of the checksum of an asmap in peers.dat, if it is not that of the asmap in
+/// use.
+fn sum_hint(fit: SumFit) -> &'static str {
+    match fit {
+        SumFit::Same => "",
+        SumFit::Core =>
+            "peers.dat was written by Bitcoin Core under this asmap: use --core, else its new records are placed anew",
+        SumFit::Own =>
+            "peers.dat was written by addrman under this asmap: leave out --core, else its new records are placed anew",
+        SumFit::NoneThen =>
+            "peers.dat was written without an asmap: its new records are placed anew",
+        SumFit::NoneNow =>
+            "peers.dat was written under an asmap, and asmap.dat is missing: its new records are placed anew",
+        SumFit::Other =>
+            "peers.dat was written under another asmap: its new records are placed anew",
     }
 }
 

@@ -26,6 +26,7 @@ use Rattle.log_run.specs.declared.limits.TheConstants.{MAX_LINE, MAX_LOG}
 use Rattle.opener_lines.proofs.OneMeaning.{asked_no_fault}
 use Rattle.opener_lines.specs.Grammar.{HasRequestFault}
 use Rattle.peers_file.specs.declared.chain.Chain.{Chain}
+use Rattle.arguments.specs.declared.file_kind.FileKind.{FileKind}
 use Rattle.addrman_run.specs.Bans.{BansEnds, Change, ReportsBans}
 use Rattle.addrman_run.specs.Compile.{CompileEnds}
 use Rattle.addrman_run.specs.Complete.{IsAddressLine, IsComplete, IsGoodLog, IsLimitLine, IsLookupLine, IsOpenerLine, IsReplayLine, IsUsable, NoRefusal, NoSaveFails, NothingFails, NothingIsWrong}
@@ -168,23 +169,23 @@ unopened_done key chain old new (PeersRefused fault) fine calm cause is = absurd
 unopened_done key chain old new NoKey fine calm cause is = absurd (fine NoKey is.0)
 unopened_done key chain old new other fine calm cause is = absurd is.0
 
-replay_done : (key : Option (List ℕ)) (chain : Chain) (old new : Outside) (answer : Status) → ReplayEnds key chain old new answer → HasCause old new answer
-    → IsGoodLog IsReplayLine old.left × NoRefusal (ReportsOpening key chain old.past) → NothingFails old new → IsDone answer
-replay_done key chain old new answer ends cause fine calm =
-    log_done (Replayed key chain old new) (NotOpened key chain old new) old new answer ends.outcome cause calm
+replay_done : (key : Option (List ℕ)) (kind : FileKind) (old new : Outside) (answer : Status) → ReplayEnds key kind old new answer → HasCause old new answer
+    → IsGoodLog IsReplayLine old.left × NoRefusal (ReportsOpening key kind.chain old.past) → NothingFails old new → IsDone answer
+replay_done key kind old new answer ends cause fine calm =
+    log_done (Replayed key kind old new) (NotOpened key kind.chain old new) old new answer ends.outcome cause calm
     (λ n fault run. no_fault _ _ _ IsReplayLine replay_line _ _ fine.0 n fault run.ran)
     (λ n run. no_long_line _ _ _ IsReplayLine replay_line _ _ fine.0 n run.ran)
     (λ run. no_long_log _ _ _ IsReplayLine replay_line _ _ fine.0 run.ran)
-    (unopened_done key chain old new answer fine.1 calm)
+    (unopened_done key kind.chain old new answer fine.1 calm)
 
-opener_done : (key : Option (List ℕ)) (chain : Chain) (old new : Outside) (answer : Status) → OpenerEnds key chain old new answer → HasCause old new answer
-    → IsGoodLog IsOpenerLine old.left × NoRefusal (ReportsOpening key chain old.past) → NothingFails old new → IsDone answer
-opener_done key chain old new answer ends cause fine calm =
-    log_done (OpenerRan key chain old new) (NotOpened key chain old new) old new answer ends.outcome cause calm
+opener_done : (key : Option (List ℕ)) (kind : FileKind) (old new : Outside) (answer : Status) → OpenerEnds key kind old new answer → HasCause old new answer
+    → IsGoodLog IsOpenerLine old.left × NoRefusal (ReportsOpening key kind.chain old.past) → NothingFails old new → IsDone answer
+opener_done key kind old new answer ends cause fine calm =
+    log_done (OpenerRan key kind old new) (NotOpened key kind.chain old new) old new answer ends.outcome cause calm
     (λ n fault run. no_fault _ _ _ IsOpenerLine opener_line _ _ fine.0 n fault run.ran)
     (λ n run. no_long_line _ _ _ IsOpenerLine opener_line _ _ fine.0 n run.ran)
     (λ run. no_long_log _ _ _ IsOpenerLine opener_line _ _ fine.0 run.ran)
-    (unopened_done key chain old new answer fine.1 calm)
+    (unopened_done key kind.chain old new answer fine.1 calm)
 
 limit_done : (old new : Outside) (answer : Status) → LimitEnds old new answer → HasCause old new answer → IsGoodLog IsLimitLine old.left → NothingFails old new → IsDone answer
 limit_done old new answer ends cause fine calm =
@@ -281,14 +282,14 @@ none_failed (suc n) before after still (inl rose) = absurd (still (inl (omega (a
 none_failed (suc n) before after still (inr rose) = absurd (still rose.1)
 
 no_save_fails : (request : Request) (old new : Outside) → NoSaveFails request old new
-no_save_fails (request.Replay key chain) old new = λ still how run. none_failed _ old.folder_faults new.folder_faults still run.failed_saves
+no_save_fails (request.Replay key kind) old new = λ still how run. none_failed _ old.folder_faults new.folder_faults still run.failed_saves
 no_save_fails other old new = tt
 
 -- ---- any request
 
 done : (request : Request) (old new : Outside) (answer : Status) → Ends request old new answer → HasCause old new answer → NothingIsWrong request old → NothingFails old new → IsDone answer
-done (request.Replay key chain) old new answer ends cause fine calm = replay_done key chain old new answer ends cause fine calm
-done (request.Opener key chain) old new answer ends cause fine calm = opener_done key chain old new answer ends cause fine calm
+done (request.Replay key kind) old new answer ends cause fine calm = replay_done key kind old new answer ends cause fine calm
+done (request.Opener key kind) old new answer ends cause fine calm = opener_done key kind old new answer ends cause fine calm
 done request.Compile old new answer ends cause fine calm = compile_done old new answer ends cause fine calm
 done request.Check old new answer ends cause fine calm = file_line_done _ _ _ old new answer ends cause fine calm
 done request.Decompile old new answer ends cause fine calm = file_line_done _ _ _ old new answer ends cause fine calm
@@ -298,11 +299,11 @@ done (request.Lookup peer) old new answer ends cause fine calm = file_line_done 
 done request.LookupLines old new answer ends cause fine calm = lookup_lines_done old new answer ends cause fine calm
 done (request.Address addr) old new answer ends cause fine calm = text_done _ _ old new answer ends cause fine calm
 done request.AddressLines old new answer ends cause fine calm = address_lines_done old new answer ends cause fine calm
-done (request.Show keyed chain) old new answer ends cause fine calm = file_line_done _ _ _ old new answer ends cause fine calm
-done (request.Picture chain) old new answer ends cause fine calm = text_done _ _ old new answer ends.ends cause fine calm
-done (request.Raw chain) old new answer ends cause fine calm = text_done _ _ old new answer ends.ends cause fine calm
-done (request.Info chain) old new answer ends cause fine calm = text_done _ _ old new answer ends.ends cause fine calm
-done (request.Groups chain) old new answer ends cause fine calm = text_done _ _ old new answer ends.ends cause fine calm
+done (request.Show keyed kind) old new answer ends cause fine calm = file_line_done _ _ _ old new answer ends cause fine calm
+done (request.Picture kind) old new answer ends cause fine calm = text_done _ _ old new answer ends.ends cause fine calm
+done (request.Raw kind) old new answer ends cause fine calm = text_done _ _ old new answer ends.ends cause fine calm
+done (request.Info kind) old new answer ends cause fine calm = text_done _ _ old new answer ends.ends cause fine calm
+done (request.Groups kind) old new answer ends cause fine calm = text_done _ _ old new answer ends.ends cause fine calm
 done (request.Ban subnet now until) old new answer ends cause fine calm = bans_done _ old new answer ends cause fine calm
 done (request.Unban subnet) old new answer ends cause fine calm = bans_done _ old new answer ends cause fine calm
 done (request.Banned peer now) old new answer ends cause fine calm = bans_done _ old new answer ends cause fine calm

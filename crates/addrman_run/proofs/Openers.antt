@@ -19,7 +19,7 @@ use Rattle.opener_lines.specs.declared.request.Request.{Request}
 use Rattle.opener_lines.specs.declared.request.Request.TheVariants as request
 use Rattle.peer_open.specs.Groups.{AreApart, Outbound, outbound}
 use Rattle.peer_open.specs.declared.opener.TheConstants.{MAX_OUTBOUND}
-use Rattle.peers_file.specs.declared.chain.Chain.{Chain}
+use Rattle.arguments.specs.declared.file_kind.FileKind.{FileKind}
 use Rattle.placing.specs.Places.{Places, group}
 use Rattle.table_machine.specs.State as tables
 use Rattle.addrman_run.specs.Opening.{Opened}
@@ -69,13 +69,13 @@ none_open : AreApart []
 none_open i j d le lt = absurd (omega (arith, lt))
 
 -- what an opener has done, from its run beside a world
-pub ran_by : {W : Type 0} (key : Option (List ℕ)) (chain : Chain) (st : tables.State) (start : opener.OpenerState) (w : W) (old new : Outside) (how : LogEnd)
-    → Opened key chain old.past st → start ≡ opener_start st
+pub ran_by : {W : Type 0} (key : Option (List ℕ)) (kind : FileKind) (st : tables.State) (start : opener.OpenerState) (w : W) (old new : Outside) (how : LogEnd)
+    → Opened key kind old.past st → start ≡ opener_start st
     → ((old new : opener.OpenerState) (line text : List ℕ) → LineStep old line text new → AreApart old.open_peers → AreApart new.open_peers)
     → ((old new : opener.OpenerState) (asked : Request) (answer : Answer) → RequestStep old asked answer new → IsFair old asked answer)
     → Ran (Seen {S = opener.OpenerState × W} (λ p. p.0) LineStep HasRequestFault) HasRequestFault (start, w) (streams_of old) (streams_of new) how
-    → OpenerRan key chain old new how
-ran_by {W = W} key chain st start w old new how opened begins apart fair r = record {
+    → OpenerRan key kind old new how
+ran_by {W = W} key kind st start w old new how opened begins apart fair r = record {
   tables = st;
   opened = opened;
   ran = subst (λ s. Ran LineStep HasRequestFault s (streams_of old) (streams_of new) how) begins

@@ -10,7 +10,9 @@ use Rattle.peer_rec.specs.Snapshot.{Snapshot}
 use Rattle.peers_file.specs.Layout.{IsFile, whole_fault}
 use Rattle.peers_file.specs.declared.chain.Chain.TheVariants.{Main, Test}
 use Rattle.peers_file.specs.declared.fault.FileFault.TheVariants.{Truncated, BadMagic, Memory}
+use Rattle.placing.specs.declared.sum.SumRule.{SumRule}
 use Rattle.arguments.specs.Options.{IsOpeningOptions}
+use Rattle.arguments.specs.declared.file_kind.FileKind.{FileKind}
 use Rattle.addrman_run.specs.Opening.{Opens, RefusesTables, LacksKey, places_of, tables_of}
 use Rattle.addrman_run.specs.Opening.Opens.{from_file, from_key}
 use Rattle.addrman_run.specs.declared.peers_fault.PeersFault.TheVariants.{File, Duplicate}
@@ -21,10 +23,14 @@ digits = codes "00000000000000000000000000000000000000000000000000000000000000ff
 abbrev key : List ℕ
 key = replicate 31 0 ++ 255 ∷ []
 
-no_options : IsOpeningOptions [] None Main
+-- a file of main, by a rule
+abbrev of_main : SumRule → FileKind
+of_main rule = record { chain = Main; rule = rule }
+
+no_options : IsOpeningOptions None [] Main
 no_options = ([], [], refl, inl (refl, inl (refl, refl)))
 
-only_a_key : IsOpeningOptions (codes "--key" ∷ digits ∷ []) (Some key) Main
+only_a_key : IsOpeningOptions (Some key) (codes "--key" ∷ digits ∷ []) Main
 unfolding hex_on_literals
 only_a_key = (codes "--key" ∷ digits ∷ [], [], refl, inl ((digits, (refl, refl), inl refl), inl (refl, refl)))
 
@@ -44,15 +50,16 @@ folder bytes = Some (record {
   before = [];
 })
 
-no_file_but_a_key : Opens (Some key) Main (folder None) None (empty_state (places_of key None))
-no_file_but_a_key = from_key key refl refl refl
+no_file_but_a_key : (rule : SumRule) → Opens (Some key) (of_main rule) (folder None) None (empty_state (places_of rule key None))
+no_file_but_a_key rule = from_key key refl refl refl
 
 neither_file_nor_key : LacksKey None (folder None)
 neither_file_nor_key = (refl, refl)
 
 -- the key of the arguments does not count beside a file
-file_and_key : (bytes : List ℕ) (snap : Snapshot) → IsFile Main bytes snap → duplicate snap ≡ None → Opens (Some key) Main (folder (Some bytes)) None (tables_of snap None)
-file_and_key bytes snap is none = from_file snap (bytes, refl, is) none refl
+file_and_key : (rule : SumRule) (bytes : List ℕ) (snap : Snapshot) → IsFile Main bytes snap → duplicate snap ≡ None
+    → Opens (Some key) (of_main rule) (folder (Some bytes)) None (tables_of rule snap None)
+file_and_key rule bytes snap is none = from_file snap (bytes, refl, is) none refl
 
 -- a fault of bytes is not a lack of memory
 truncated_is_not_memory : Truncated ≡ Memory → ⊥

@@ -13,6 +13,7 @@ use Rattle.peer_rec.specs.declared.rec.Rec.{Rec}
 use Rattle.peer_rec.specs.declared.file_rec.FileRec.{FileRec}
 use Rattle.peers_file.specs.Layout.{IsFile}
 use Rattle.peers_file.specs.declared.chain.Chain.{Chain}
+use Rattle.arguments.specs.declared.file_kind.FileKind.{FileKind}
 use Rattle.table_machine.specs.State.{State, by_number, empty_state, new_rec_at, tried_occupant}
 use Rattle.table_machine.specs.Entries.{with_last}
 use Rattle.table_machine.specs.Restoring.{drop_all, drop_record, give_if_empty, give_or, place_all, place_pair, place_record, record_of, restored, uses_buckets, with_all_new, with_all_tried, with_new, with_tried}
@@ -94,10 +95,10 @@ restored_next snap places =
 
 -- ---- what the folder's file opens
 
-pub opens : (key : Option (List ℕ)) (chain : Chain) (past : Option Past) (file : Option (List ℕ)) (map : Option Asmap) (st : State)
-    → MatchOption file (IsAbsent name.Peers past) (IsLoaded input.Peers past) → OpensWith key chain file map st → Opens key chain past map st
-opens key chain past None map st found with_key = from_key with_key.0 found with_key.1 with_key.2
-opens key chain past (Some bytes) map st found with_file =
+pub opens : (key : Option (List ℕ)) (kind : FileKind) (past : Option Past) (file : Option (List ℕ)) (map : Option Asmap) (st : State)
+    → MatchOption file (IsAbsent name.Peers past) (IsLoaded input.Peers past) → OpensWith key kind file map st → Opens key kind past map st
+opens key kind past None map st found with_key = from_key with_key.0 found with_key.1 with_key.2
+opens key kind past (Some bytes) map st found with_file =
     from_file with_file.0 (bytes, found.1, with_file.1) with_file.2 with_file.3
 
 -- ---- why the folder opens no tables

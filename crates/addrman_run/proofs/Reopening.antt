@@ -7,18 +7,17 @@ use Rattle.sha2.specs.Sha256.{sha256}
 use Rattle.asmap_vm.specs.Asmap.{Asmap}
 use Rattle.placing.specs.Places.{double_sha256, sum_input, sum_by}
 use Rattle.placing.specs.declared.sum.SumRule.{SumRule}
-use Rattle.placing.specs.declared.sum.SumRule.TheVariants.{Bytes}
 use Rattle.peer_rec.specs.Snapshot.{Snapshot}
 use Rattle.peers_file.specs.Inside.{IsWritten}
 use Rattle.peers_file.specs.Layout.{IsFile, between}
 use Rattle.peers_file.specs.Readings.{body_at}
 use Rattle.peers_file.specs.declared.chain.Chain.{Chain}
+use Rattle.arguments.specs.declared.file_kind.FileKind.{FileKind}
 use Rattle.peers_file.specs.declared.fault.FileFault.{FileFault}
 use Rattle.peers_file.proofs.FileLaws.{Reads-body}
 use Rattle.peers_file.proofs.WholeLaws.{is_file}
 use Rattle.session.specs.State.{file_of}
 use Rattle.table_machine.specs.Restart.{restart}
-use Rattle.table_machine.specs.Restoring.{restored}
 use Rattle.table_machine.specs.Snapshot.{snapshot_of}
 use Rattle.table_machine.specs.Sound.{IsSound}
 use Rattle.table_machine.specs.State.{State}
@@ -78,19 +77,19 @@ same_bytes : (a b : List ℕ) → Some a ≡ Some b → a ≡ b
 unfolding bytes_of
 same_bytes a b is = ap bytes_of is
 
-pub reopens : (chain : Chain) (map : Option Asmap) (st : State) → IsSound st → st.places.map ≡ map → st.places.rule ≡ Bytes → ReopensAs chain map st
-reopens chain map st sound same rule past key has =
+pub reopens : (kind : FileKind) (map : Option Asmap) (st : State) → IsSound st → st.places.map ≡ map → st.places.rule ≡ kind.rule → ReopensAs kind map st
+reopens kind map st sound same rule past key has =
     let saved = snapshot_of st in
-    let its_file = is_file chain saved (written st sound) in
-    let law : tables_of saved map ≡ restart st =
-    ap (λ m. tables_of saved m) (sym same)
-    ∙ ap (λ r. restored saved (record { key = st.places.key; map = st.places.map; rule = r })) (sym rule)
+    let its_file = is_file kind.chain saved (written st sound) in
+    let law : tables_of kind.rule saved map ≡ restart st =
+    ap (λ m. tables_of kind.rule saved m) (sym same)
+    ∙ ap (λ r. tables_of r saved st.places.map) (sym rule)
     ∙ restart_law st sound in
-    (from_file saved (file_of chain st, has, its_file) (no_duplicate st sound) (sym law), λ found opens. by found opens law its_file)
+    (from_file saved (file_of kind.chain st, has, its_file) (no_duplicate st sound) (sym law), λ found opens. by found opens law its_file)
   where
-    by : (found : State) → Opens key chain (Some past) map found → tables_of (snapshot_of st) map ≡ restart st
-        → IsFile chain (file_of chain st) (snapshot_of st) → found ≡ restart st
+    by : (found : State) → Opens key kind (Some past) map found → tables_of kind.rule (snapshot_of st) map ≡ restart st
+        → IsFile kind.chain (file_of kind.chain st) (snapshot_of st) → found ≡ restart st
     by found (from_file snap (bytes, is_there, file) apart is) law its_file =
-        is ∙ ap (λ s. tables_of s map) (one_snapshot chain (file_of chain st) snap (snapshot_of st)
-        (subst (λ b. IsFile chain b snap) (same_bytes bytes (file_of chain st) (sym is_there ∙ has)) file) its_file) ∙ law
+        is ∙ ap (λ s. tables_of kind.rule s map) (one_snapshot kind.chain (file_of kind.chain st) snap (snapshot_of st)
+        (subst (λ b. IsFile kind.chain b snap) (same_bytes bytes (file_of kind.chain st) (sym is_there ∙ has)) file) its_file) ∙ law
     by found (from_key given absent is_key is) law its_file = absurd (cc (has, absent))

@@ -12,6 +12,7 @@ use Rattle.log_run.specs.Run.{Run, Streams, last_reply}
 use Rattle.log_run.specs.Worlds.{RanIn, both}
 use Rattle.log_run.specs.declared.end.LogEnd.{LogEnd}
 use Rattle.peers_file.specs.declared.chain.Chain.{Chain}
+use Rattle.arguments.specs.declared.file_kind.FileKind.{FileKind}
 use Rattle.session.specs.Events.{Ended}
 use Rattle.session.specs.Folders.{IsOpen, SessionStep}
 use Rattle.session.specs.History.{AtExit, Now, SinceEntry, HistoryStep, failed, fresh, onto}
@@ -33,7 +34,6 @@ use Rattle.table_laws.proofs.OpeningOf.{keeps_at_opening}
 use Rattle.laws.proofs.RunsOf.{keeps_losses}
 use Rattle.laws.proofs.SharesOf.{keeps_shares}
 use Rattle.placing.specs.Places.{Places}
-use Rattle.placing.specs.declared.sum.SumRule.TheVariants.{Bytes}
 use Rattle.table_machine.specs.Sound.{IsSound}
 use Rattle.manager.specs.Machine.{Machine}
 use Rattle.addrman_run.specs.Log.{streams_of}
@@ -76,49 +76,49 @@ module _ {F : Type 0} (past : F → Option Past) (faults : F → ℕ) where
       }
 
 -- the opening, as the law on causes wants it
-record Begun {key : Option (List ℕ)} {chain : Chain} {past : Option Past} {map : Option Asmap} {st : State} (opens : Opens key chain past map st) : Type 0 where
+record Begun {key : Option (List ℕ)} {kind : FileKind} {past : Option Past} {map : Option Asmap} {st : State} (opens : Opens key kind past map st) : Type 0 where
   places : Places
-  opening : IsOpening (file_in opens) places (at_start chain st)
+  opening : IsOpening (file_in opens) places (at_start kind.chain st)
   with_map : places.map ≡ map
-  with_rule : places.rule ≡ Bytes
+  with_rule : places.rule ≡ kind.rule
 
-begun_with : (key : Option (List ℕ)) (chain : Chain) (past : Option Past) (map : Option Asmap) (st : State) (opens : Opens key chain past map st) → IsSound st
+begun_with : (key : Option (List ℕ)) (kind : FileKind) (past : Option Past) (map : Option Asmap) (st : State) (opens : Opens key kind past map st) → IsSound st
     → st.next_number ≤ ALL_SLOTS → Begun opens
-begun_with key chain past map st (from_file snap is_in no_duplicate is) sound few = record {
-  places = places_of snap.key map;
+begun_with key kind past map st (from_file snap is_in no_duplicate is) sound few = record {
+  places = places_of kind.rule snap.key map;
   opening = record { tables = is; sound = sound; clock = omega arith; numbers = omega (arith, few) };
   with_map = refl;
   with_rule = refl;
 }
-begun_with key chain past map st (from_key given absent is_key is) sound few = record {
-  places = places_of given map;
+begun_with key kind past map st (from_key given absent is_key is) sound few = record {
+  places = places_of kind.rule given map;
   opening = record { tables = is; sound = sound; clock = omega arith; numbers = omega (arith, few) };
   with_map = refl;
   with_rule = refl;
 }
 
-module _ (key : Option (List ℕ)) (chain : Chain) (past : Option Past) (map : Option Asmap) (st : State) (opens : Opens key chain past map st) (b : Begun opens) where
+module _ (key : Option (List ℕ)) (kind : FileKind) (past : Option Past) (map : Option Asmap) (st : State) (opens : Opens key kind past map st) (b : Begun opens) where
   same_places : st.places ≡ b.places
   same_places =
-      (keeps_causes (file_in opens) b.places (at_start chain st) b.opening []).same_places [] (fresh (at_start chain st))
+      (keeps_causes (file_in opens) b.places (at_start kind.chain st) b.opening []).same_places [] (fresh (at_start kind.chain st))
       (record { after = []; cut = refl; few = omega arith; text = []; run = (refl, refl) })
 
   -- what a run from it keeps
-  keeps : (lines : List (List ℕ)) → KeepsCauses (file_in opens) st.places (at_start chain st) lines
+  keeps : (lines : List (List ℕ)) → KeepsCauses (file_in opens) st.places (at_start kind.chain st) lines
   keeps lines =
-      subst (λ p. KeepsCauses (file_in opens) p (at_start chain st) lines) (sym same_places) (keeps_causes (file_in opens) b.places (at_start chain st) b.opening lines)
+      subst (λ p. KeepsCauses (file_in opens) p (at_start kind.chain st) lines) (sym same_places) (keeps_causes (file_in opens) b.places (at_start kind.chain st) b.opening lines)
 
-  shares_of : (lines : List (List ℕ)) → KeepsShares (file_in opens) st.places (at_start chain st) lines
+  shares_of : (lines : List (List ℕ)) → KeepsShares (file_in opens) st.places (at_start kind.chain st) lines
   shares_of lines =
-      subst (λ p. KeepsShares (file_in opens) p (at_start chain st) lines) (sym same_places) (keeps_shares (file_in opens) b.places (at_start chain st) lines b.opening)
+      subst (λ p. KeepsShares (file_in opens) p (at_start kind.chain st) lines) (sym same_places) (keeps_shares (file_in opens) b.places (at_start kind.chain st) lines b.opening)
 
-  losses_of : (lines : List (List ℕ)) → KeepsLosses (at_start chain st) lines
-  losses_of lines = keeps_losses (file_in opens) b.places (at_start chain st) b.opening lines
+  losses_of : (lines : List (List ℕ)) → KeepsLosses (at_start kind.chain st) lines
+  losses_of lines = keeps_losses (file_in opens) b.places (at_start kind.chain st) b.opening lines
 
 -- what the opening loses of a file has a cause
-opening_of : (key : Option (List ℕ)) (chain : Chain) (past : Option Past) (map : Option Asmap) (st : State) (places : Places) (opens : Opens key chain past map st) → KeepsOpened (file_in opens) places
-opening_of key chain past map st places (from_file snap is_in no_duplicate is) = keeps_at_opening snap places (file-below chain is_in.0 snap is_in.2)
-opening_of key chain past map st places (from_key given absent is_key is) = tt
+opening_of : (key : Option (List ℕ)) (kind : FileKind) (past : Option Past) (map : Option Asmap) (st : State) (places : Places) (opens : Opens key kind past map st) → KeepsOpened (file_in opens) places
+opening_of key kind past map st places (from_file snap is_in no_duplicate is) = keeps_at_opening snap places (file-below kind.chain is_in.0 snap is_in.2)
+opening_of key kind past map st places (from_key given absent is_key is) = tt
 
 module _ {F : Type 0} (past : F → Option Past) (faults : F → ℕ) where
   later_rose : (n f g h : ℕ) → f ≤ g → RoseBy n g h → RoseBy n f h
@@ -126,16 +126,16 @@ module _ {F : Type 0} (past : F → Option Past) (faults : F → ℕ) where
   later_rose n f g h le (inr (full, inl rose)) = inr (full, inl (omega (arith, le, rose)))
   later_rose n f g h le (inr (full, inr is)) = inr (full, inr is)
 
-  replayed_from : (key : Option (List ℕ)) (chain : Chain) (tables : State) (old new : Outside) (w v : F) (how : LogEnd)
-      → Opened key chain old.past tables → tables.next_number ≤ ALL_SLOTS → past w ≡ old.past → old.folder_faults ≤ faults w
+  replayed_from : (key : Option (List ℕ)) (kind : FileKind) (tables : State) (old new : Outside) (w v : F) (how : LogEnd)
+      → Opened key kind old.past tables → tables.next_number ≤ ALL_SLOTS → past w ≡ old.past → old.folder_faults ≤ faults w
       → new.past ≡ past v → new.folder_faults ≡ faults v
-      → RanIn (SessionStep past faults) HasCommandFault (at_start chain tables, w) (streams_of old) (streams_of new) v how
-      → Replayed key chain old new how
-  replayed_from key chain tables old new w v how opened few same_past earlier ends_past ends_faults r =
-      let start = at_start chain tables in
+      → RanIn (SessionStep past faults) HasCommandFault (at_start kind.chain tables, w) (streams_of old) (streams_of new) v how
+      → Replayed key kind old new how
+  replayed_from key kind tables old new w v how opened few same_past earlier ends_past ends_faults r =
+      let start = at_start kind.chain tables in
       let map = opened.map in
       let opens = opened.opens in
-      let o = begun_with key chain old.past map tables opens opened.sound few in
+      let o = begun_with key kind old.past map tables opens opened.sound few in
       let h = follow past faults r.ran.carried r.ran.replies start r.ran.now.0 w r.ran.now.1 [] (past w) (faults w) r.ran.runs
       (kept_start start (past w) (faults w) refl) in
       let k = h.kept in
@@ -152,24 +152,24 @@ module _ {F : Type 0} (past : F → Option Past) (faults : F → ℕ) where
         failed_saves = subst (RoseBy (failed h.ended) old.folder_faults) (sym now_faults)
             (later_rose (failed h.ended) old.folder_faults (faults w) (faults r.ran.now.1) earlier k.failures);
         pieces = subst (IsOpen r.ran.now.0.job) (sym now_past) k.is_open;
-        causes = keeps key chain old.past map tables opens o (lines_of r.ran.log);
-        shares = shares_of key chain old.past map tables opens o (lines_of r.ran.log);
-        losses = losses_of key chain old.past map tables opens o (lines_of r.ran.log);
-        opening = opening_of key chain old.past map tables tables.places opens;
+        causes = keeps key kind old.past map tables opens o (lines_of r.ran.log);
+        shares = shares_of key kind old.past map tables opens o (lines_of r.ran.log);
+        losses = losses_of key kind old.past map tables opens o (lines_of r.ran.log);
+        opening = opening_of key kind old.past map tables tables.places opens;
         reopens = λ before h after.
-            let k = keeps key chain old.past map tables opens o (lines_of r.ran.log) in
-            let same = k.same_places before h after ∙ same_places key chain old.past map tables opens o in
-            reopens chain map h.now.machine.tables (k.sound before h after) (ap (λ p. p.map) same ∙ o.with_map) (ap (λ p. p.rule) same ∙ o.with_rule);
+            let k = keeps key kind old.past map tables opens o (lines_of r.ran.log) in
+            let same = k.same_places before h after ∙ same_places key kind old.past map tables opens o in
+            reopens kind map h.now.machine.tables (k.sound before h after) (ap (λ p. p.map) same ∙ o.with_map) (ap (λ p. p.rule) same ∙ o.with_rule);
       }
 
-  pub replayed : (key : Option (List ℕ)) (chain : Chain) (tables : State) (start : session.SessionState) (old new : Outside) (w v : F) (how : LogEnd)
-      → Opened key chain old.past tables → start ≡ at_start chain tables
+  pub replayed : (key : Option (List ℕ)) (kind : FileKind) (tables : State) (start : session.SessionState) (old new : Outside) (w v : F) (how : LogEnd)
+      → Opened key kind old.past tables → start ≡ at_start kind.chain tables
       → tables.next_number ≤ ALL_SLOTS → past w ≡ old.past → old.folder_faults ≤ faults w
       → new.past ≡ past v → new.folder_faults ≡ faults v
       → RanIn (SessionStep past faults) HasCommandFault (start, w) (streams_of old) (streams_of new) v how
-      → Replayed key chain old new how
-  replayed key chain tables start old new w v how opened begins few same_past earlier ends_past ends_faults r =
-      replayed_from key chain tables old new w v how opened few same_past earlier ends_past ends_faults
+      → Replayed key kind old new how
+  replayed key kind tables start old new w v how opened begins few same_past earlier ends_past ends_faults r =
+      replayed_from key kind tables old new w v how opened few same_past earlier ends_past ends_faults
       (subst (λ s. RanIn (SessionStep past faults) HasCommandFault (s, w) (streams_of old) (streams_of new) v how) begins r)
 
   rises_by : (lines : List (List ℕ)) (text : List ℕ) (s t : session.SessionState) (w v : F) → Run (both (SessionStep past faults)) (s, w) lines text (t, v) → faults w ≤ faults v

@@ -6,6 +6,7 @@ use Rattle.host_io.specs.Lines.{lines_of}
 use Rattle.manager.specs.Machine.{Machine}
 use Rattle.manager.specs.Step.{counts_of}
 use Rattle.peers_file.specs.declared.chain.Chain.TheVariants.{Main}
+use Rattle.placing.specs.declared.sum.SumRule.TheVariants.{Bytes}
 use Rattle.placing.specs.Places.{Places}
 use Rattle.peer_rec.specs.Rec.{is_tried}
 use Rattle.peer_rec.specs.declared.counts.Counts.{Counts}
@@ -124,7 +125,7 @@ is_trial start lines bytes sum line made first last tables c begins is_made (tex
 
 -- the session at the start
 pub begins : (first : session.SessionState) (machine : Machine) (tables : State) (places : Places) → first ≡ session.state Main machine None → machine ≡ record { tables = tables; clock = 0 }
-    → tables ≡ empty_state places → places ≡ places_of (replicate 32 0) None → first ≡ trial_start
+    → tables ≡ empty_state places → places ≡ places_of Bytes (replicate 32 0) None → first ≡ trial_start
 begins first machine tables places f m t p = f ∙ ap (λ x. session.state Main x None) m ∙ ap (at_start Main) (t ∙ ap empty_state p)
 
 pub ok_weaker : {A E : Type 0} (r : Result A E) (P Q : A → Type 0) → ((x : A) → P x → Q x) → IfOk r P → IfOk r Q

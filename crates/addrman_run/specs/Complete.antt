@@ -1,6 +1,6 @@
 -- When a run has to do what it is asked for: nothing is wrong with the log and the files, and
 -- nothing fails.
-use Rattle.std.specs.Prelude.{◌≡◌, ◌⊎◌, ◌≤◌, ℕ, List, All, length, Option, Some, ⊤}
+use Rattle.std.specs.Prelude.{◌≡◌, ◌⊎◌, ◌≤◌, ℕ, List, All, length, Option, Some, ⊤, option_map}
 use Rattle.addr_limit.specs.Lines.{SaysEvent}
 use Rattle.addr_limit.specs.declared.event.Event.{Event}
 use Rattle.host_io.specs.Faults.{Rose}
@@ -82,14 +82,15 @@ IsUsable name Reports past = ¬ IsAbsent name past × NoRefusal (Reports past)
 
 -- Nothing is wrong with what the request reads: the log, if it reads one, and its files.
 abbrev pub NothingIsWrong : Request → Outside → Type 0
-NothingIsWrong (Replay key chain) at =
-    IsGoodLog IsReplayLine at.left × NoRefusal (ReportsOpening key chain at.past)
-NothingIsWrong (Opener key chain) at =
-    IsGoodLog IsOpenerLine at.left × NoRefusal (ReportsOpening key chain at.past)
+NothingIsWrong (Replay key kind) at =
+    IsGoodLog IsReplayLine at.left × NoRefusal (ReportsOpening key kind.chain at.past)
+NothingIsWrong (Opener key kind) at =
+    IsGoodLog IsOpenerLine at.left × NoRefusal (ReportsOpening key kind.chain at.past)
 NothingIsWrong Compile at = IsUsable name.Prefixes ReportsTable at.past
 NothingIsWrong Check at = IsUsable name.Asmap ReportsAsmap at.past
 NothingIsWrong Decompile at = IsUsable name.Asmap ReportsDecompile at.past
-NothingIsWrong (Diff peers) at = NoRefusal (ReportsDiff peers at.past)
+NothingIsWrong (Diff peers) at =
+    NoRefusal (ReportsDiff (option_map (λ kind. kind.chain) peers) at.past)
 NothingIsWrong Limit at = IsGoodLog IsLimitLine at.left
 NothingIsWrong (Lookup peer) at = IsUsable name.Asmap ReportsAsmap at.past
 NothingIsWrong LookupLines at =
@@ -97,11 +98,11 @@ NothingIsWrong LookupLines at =
 NothingIsWrong (Address addr) at = NoRefusal (ReportsAsmap at.past)
 NothingIsWrong AddressLines at =
     IsGoodLog IsAddressLine at.left × NoRefusal (ReportsAsmap at.past)
-NothingIsWrong (Show keyed chain) at = IsUsable name.Peers (ReportsPeers chain) at.past
-NothingIsWrong (Picture chain) at = NoRefusal (ReportsTables chain at.past)
-NothingIsWrong (Raw chain) at = NoRefusal (ReportsTables chain at.past)
-NothingIsWrong (Info chain) at = NoRefusal (ReportsTables chain at.past)
-NothingIsWrong (Groups chain) at = NoRefusal (ReportsTables chain at.past)
+NothingIsWrong (Show keyed kind) at = IsUsable name.Peers (ReportsPeers kind.chain) at.past
+NothingIsWrong (Picture kind) at = NoRefusal (ReportsTables kind.chain at.past)
+NothingIsWrong (Raw kind) at = NoRefusal (ReportsTables kind.chain at.past)
+NothingIsWrong (Info kind) at = NoRefusal (ReportsTables kind.chain at.past)
+NothingIsWrong (Groups kind) at = NoRefusal (ReportsTables kind.chain at.past)
 NothingIsWrong (Ban subnet now until) at = NoRefusal (ReportsBans at.past)
 NothingIsWrong (Unban subnet) at = NoRefusal (ReportsBans at.past)
 NothingIsWrong (Banned peer now) at = NoRefusal (ReportsBans at.past)
@@ -116,9 +117,9 @@ pub record NothingFails (old new : Outside) : Type 0 where
 
 -- No save of a replay failed, unless the folder's count rose.
 abbrev pub NoSaveFails : Request → Outside → Outside → Type 0
-NoSaveFails (Replay key chain) old new =
+NoSaveFails (Replay key kind) old new =
     ¬ Rose old.folder_faults new.folder_faults →
-    (how : LogEnd) (run : Replayed key chain old new how) → failed run.ran.now.ended ≡ 0
+    (how : LogEnd) (run : Replayed key kind old new how) → failed run.ran.now.ended ≡ 0
 NoSaveFails other old new = ⊤
 
 -- If nothing is wrong and nothing fails, the run is done, or memory ran out.

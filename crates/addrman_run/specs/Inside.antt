@@ -39,6 +39,7 @@ use Rattle.sha2.specs.Sha256.{sha256}
 use Rattle.peer_rec.specs.Snapshot.{Snapshot}
 use Rattle.peers_file.specs.Layout.{IsFile, HasFileFault}
 use Rattle.peers_file.specs.declared.chain.Chain.{Chain}
+use Rattle.arguments.specs.declared.file_kind.FileKind.{FileKind}
 use Rattle.table_machine.specs.State.{State, empty_state}
 use Rattle.table_machine.specs.Restoring.{duplicate}
 use Rattle.addrman_run.specs.declared.status.Status.{Status}
@@ -90,12 +91,12 @@ IsNotLoaded input past status =
     ⊎ IsLoadFault input past status
 
 -- the tables that the bytes of a file open, or the key if there is no file
-abbrev pub OpensWith : Option (List ℕ) → Chain → Option (List ℕ) → Option Asmap → State → Type 0
-OpensWith key chain None map st =
-    (given : List ℕ) × (key ≡ Some given) × (st ≡ empty_state (places_of given map))
-OpensWith key chain (Some bytes) map st =
-    (snap : Snapshot) × IsFile chain bytes snap
-    × (duplicate snap ≡ None) × (st ≡ tables_of snap map)
+abbrev pub OpensWith : Option (List ℕ) → FileKind → Option (List ℕ) → Option Asmap → State → Type 0
+OpensWith key kind None map st =
+    (given : List ℕ) × (key ≡ Some given) × (st ≡ empty_state (places_of kind.rule given map))
+OpensWith key kind (Some bytes) map st =
+    (snap : Snapshot) × IsFile kind.chain bytes snap
+    × (duplicate snap ≡ None) × (st ≡ tables_of kind.rule snap map)
 
 -- why the bytes of a file are no snapshot
 abbrev pub IsNoSnapshot : Chain → List ℕ → Status → Type 0

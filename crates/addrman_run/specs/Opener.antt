@@ -13,7 +13,7 @@ use Rattle.opener_lines.specs.Lines.{LineStep}
 use Rattle.opener_lines.specs.State as opener
 use Rattle.opener_lines.specs.State.{Answer, RequestStep}
 use Rattle.opener_lines.specs.declared.request.Request.{Request}
-use Rattle.peers_file.specs.declared.chain.Chain.{Chain}
+use Rattle.arguments.specs.declared.file_kind.FileKind.{FileKind}
 use Rattle.table_machine.specs.State as tables
 use Rattle.addrman_run.specs.Log.{LogOutcome, streams_of}
 use Rattle.addrman_run.specs.Opening.{Opened}
@@ -37,21 +37,21 @@ pub record KeepsRules (start : opener.OpenerState) : Type 0 where
       → RequestStep now asked answer next → IsFair now asked answer
 
 -- An opener that got past its opening, by the end of its run over the log.
-pub record OpenerRan (key : Option (List ℕ)) (chain : Chain)
+pub record OpenerRan (key : Option (List ℕ)) (kind : FileKind)
     (old new : Outside) (how : LogEnd) : Type 0 where
   pub tables : tables.State
-  pub opened : Opened key chain old.past tables
+  pub opened : Opened key kind old.past tables
   pub ran : Ran LineStep HasRequestFault (opener_start tables) (streams_of old) (streams_of new) how
   pub rules : KeepsRules (opener_start tables)
 
 -- how an opener ends, by its status
-abbrev pub OpenerOutcome : Option (List ℕ) → Chain → Outside → Outside → Status → Type 0
-OpenerOutcome key chain old new =
-    LogOutcome (OpenerRan key chain old new) (NotOpened key chain old new)
+abbrev pub OpenerOutcome : Option (List ℕ) → FileKind → Outside → Outside → Status → Type 0
+OpenerOutcome key kind old new =
+    LogOutcome (OpenerRan key kind old new) (NotOpened key kind.chain old new)
 
 -- No file is changed, and at most one byte more than a log may have was read.
-pub record OpenerEnds (key : Option (List ℕ)) (chain : Chain)
+pub record OpenerEnds (key : Option (List ℕ)) (kind : FileKind)
     (old new : Outside) (answer : Status) : Type 0 where
-  pub outcome : OpenerOutcome key chain old new answer
+  pub outcome : OpenerOutcome key kind old new answer
   pub taken : TakesAtMost old.left new.left (MAX_LOG + 1)
   pub past : new.past ≡ old.past

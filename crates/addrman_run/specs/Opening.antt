@@ -5,12 +5,13 @@ use Rattle.host_io.specs.Past.{Past}
 use Rattle.host_io.specs.declared.name.Name.TheVariants as name
 use Rattle.asmap_vm.specs.Asmap.{Asmap}
 use Rattle.placing.specs.Places.{Places}
-use Rattle.placing.specs.declared.sum.SumRule.TheVariants.{Bytes}
+use Rattle.placing.specs.declared.sum.SumRule.{SumRule}
 use Rattle.peer_rec.specs.Snapshot.{Snapshot}
 use Rattle.table_machine.specs.State.{State, empty_state}
 use Rattle.table_machine.specs.Restoring.{restored, duplicate}
 use Rattle.table_machine.specs.Sound.{IsSound}
 use Rattle.peers_file.specs.declared.chain.Chain.{Chain}
+use Rattle.arguments.specs.declared.file_kind.FileKind.{FileKind}
 use Rattle.addrman_run.specs.Asmaps.{IsMapIn, RefusesAsmap}
 use Rattle.addrman_run.specs.InFolder.{IsAbsent}
 use Rattle.addrman_run.specs.Peers.{IsSnapshotIn, RefusesPeers}
@@ -19,35 +20,36 @@ use Rattle.addrman_run.specs.declared.peers_fault.PeersFault.TheVariants.{File, 
 use Rattle.addrman_run.specs.declared.status.Status.{Status}
 use Rattle.addrman_run.specs.declared.status.Status.TheVariants as status
 
--- what buckets and slots depend on, under a key and the folder's asmap
-abbrev pub places_of : List ℕ → Option Asmap → Places
-places_of key map = record { key = key; map = map; rule = Bytes }
+-- what buckets and slots depend on, under a key and the folder's asmap, and what that asmap's
+-- checksum in the file is taken of
+abbrev pub places_of : SumRule → List ℕ → Option Asmap → Places
+places_of rule key map = record { key = key; map = map; rule = rule }
 
 -- the tables of a file, under its own key
-abbrev pub tables_of : Snapshot → Option Asmap → State
-tables_of snap map = restored snap (places_of snap.key map)
+abbrev pub tables_of : SumRule → Snapshot → Option Asmap → State
+tables_of rule snap map = restored snap (places_of rule snap.key map)
 
 -- The tables that a replay begins with: those of the folder's peers.dat, no two valid records of
 -- which have one peer, or if there is no such file, empty ones under the key of the arguments.
-pub data Opens (key : Option (List ℕ)) (chain : Chain) (past : Option Past)
+pub data Opens (key : Option (List ℕ)) (kind : FileKind) (past : Option Past)
     (map : Option Asmap) (st : State) : Type 0 where
-  from_file : (snap : Snapshot) → IsSnapshotIn chain past snap → duplicate snap ≡ None →
-      st ≡ tables_of snap map → Opens key chain past map st
+  from_file : (snap : Snapshot) → IsSnapshotIn kind.chain past snap → duplicate snap ≡ None →
+      st ≡ tables_of kind.rule snap map → Opens key kind past map st
   from_key : (given : List ℕ) → IsAbsent name.Peers past → key ≡ Some given →
-      st ≡ empty_state (places_of given map) → Opens key chain past map st
+      st ≡ empty_state (places_of kind.rule given map) → Opens key kind past map st
 
 -- the snapshot of the file that the tables were opened from, none for empty ones
-abbrev pub file_in : {key : Option (List ℕ)} {chain : Chain} {past : Option Past}
-    {map : Option Asmap} {st : State} → Opens key chain past map st → Option Snapshot
+abbrev pub file_in : {key : Option (List ℕ)} {kind : FileKind} {past : Option Past}
+    {map : Option Asmap} {st : State} → Opens key kind past map st → Option Snapshot
 file_in (from_file snap is_in no_duplicate is) = Some snap
 file_in (from_key given absent is_key is) = None
 
 -- The folder opened with these tables: its asmap is accepted, and they have it. They are sound.
-pub record Opened (key : Option (List ℕ)) (chain : Chain) (past : Option Past)
+pub record Opened (key : Option (List ℕ)) (kind : FileKind) (past : Option Past)
     (tables : State) : Type 0 where
   pub map : Option Asmap
   pub has_map : IsMapIn past map
-  pub opens : Opens key chain past map tables
+  pub opens : Opens key kind past map tables
   pub sound : IsSound tables
 
 -- why the folder's peers.dat does not open the tables: its first fault as a file, or the first of
@@ -89,14 +91,14 @@ IsUnopened key chain past other = ReportsOpening key chain past other
 
 -- A folder opens in one way: with some tables, or not, since its peers.dat is refused or a key is
 -- missing.
-pub record OpensOnce (key : Option (List ℕ)) (chain : Chain) (past : Option Past)
+pub record OpensOnce (key : Option (List ℕ)) (kind : FileKind) (past : Option Past)
     (map : Option Asmap) : Type 0 where
-  pub some : ((st : State) × Opens key chain past map st)
-      ⊎ (((fault : PeersFault) × RefusesTables chain past fault) ⊎ LacksKey key past)
-  pub one_state : (a b : State) → Opens key chain past map a → Opens key chain past map b → a ≡ b
+  pub some : ((st : State) × Opens key kind past map st)
+      ⊎ (((fault : PeersFault) × RefusesTables kind.chain past fault) ⊎ LacksKey key past)
+  pub one_state : (a b : State) → Opens key kind past map a → Opens key kind past map b → a ≡ b
   pub one_fault : (f g : PeersFault) →
-      RefusesTables chain past f → RefusesTables chain past g → f ≡ g
+      RefusesTables kind.chain past f → RefusesTables kind.chain past g → f ≡ g
   pub not_refused : (a : State) (f : PeersFault) →
-      Opens key chain past map a → RefusesTables chain past f → ⊥
-  pub no_lack : (a : State) → Opens key chain past map a → LacksKey key past → ⊥
-  pub no_file_lacks : (f : PeersFault) → RefusesTables chain past f → LacksKey key past → ⊥
+      Opens key kind past map a → RefusesTables kind.chain past f → ⊥
+  pub no_lack : (a : State) → Opens key kind past map a → LacksKey key past → ⊥
+  pub no_file_lacks : (f : PeersFault) → RefusesTables kind.chain past f → LacksKey key past → ⊥

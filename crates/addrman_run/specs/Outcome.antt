@@ -1,4 +1,5 @@
 -- How a request ends: what it writes, why its status comes, and what it leaves.
+use Rattle.std.specs.Prelude.{option_map}
 use Rattle.ban_list.specs.Bans.{ban_of}
 use Rattle.host_io.specs.Outside.{Outside}
 use Rattle.log_run.specs.Counts.{IsCounted}
@@ -32,22 +33,22 @@ use Rattle.addrman_run.specs.declared.status.Status.TheVariants as status
 
 -- how a request ends, from the outside before and after the run and the status
 abbrev pub Ends : Request → Outside → Outside → Status → Type 0
-Ends (Replay key chain) old new answer = ReplayEnds key chain old new answer
-Ends (Opener key chain) old new answer = OpenerEnds key chain old new answer
+Ends (Replay key kind) old new answer = ReplayEnds key kind old new answer
+Ends (Opener key kind) old new answer = OpenerEnds key kind old new answer
 Ends Compile old new answer = CompileEnds old new answer
 Ends Check old new answer = CheckEnds old new answer
 Ends Decompile old new answer = DecompileEnds old new answer
-Ends (Diff peers) old new answer = DiffEnds peers old new answer
+Ends (Diff peers) old new answer = DiffEnds (option_map (λ kind. kind.chain) peers) old new answer
 Ends Limit old new answer = LimitEnds old new answer
 Ends (Lookup peer) old new answer = LookupEnds peer old new answer
 Ends LookupLines old new answer = LookupLinesEnds old new answer
 Ends (Address addr) old new answer = AddressEnds addr old new answer
 Ends AddressLines old new answer = AddressLinesEnds old new answer
-Ends (Show keyed chain) old new answer = ShowEnds keyed chain old new answer
-Ends (Picture chain) old new answer = PictureEnds chain old new answer
-Ends (Raw chain) old new answer = TablesJsonEnds json.Raw chain old new answer
-Ends (Info chain) old new answer = TablesJsonEnds json.Info chain old new answer
-Ends (Groups chain) old new answer = TablesJsonEnds json.Groups chain old new answer
+Ends (Show keyed kind) old new answer = ShowEnds keyed kind.chain old new answer
+Ends (Picture kind) old new answer = PictureEnds kind old new answer
+Ends (Raw kind) old new answer = TablesJsonEnds json.Raw kind old new answer
+Ends (Info kind) old new answer = TablesJsonEnds json.Info kind old new answer
+Ends (Groups kind) old new answer = TablesJsonEnds json.Groups kind old new answer
 Ends (Ban subnet now until) old new answer =
     BansEnds (ban_change (ban_of subnet now until)) old new answer
 Ends (Unban subnet) old new answer = BansEnds (unban_change subnet) old new answer

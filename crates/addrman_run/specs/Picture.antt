@@ -2,7 +2,7 @@
 use Rattle.std.specs.Prelude.{◌≡◌, ℕ, List, Option, None, codes}
 use Rattle.host_io.specs.Outside.{Outside}
 use Rattle.host_io.specs.Past.{Past}
-use Rattle.peers_file.specs.declared.chain.Chain.{Chain}
+use Rattle.arguments.specs.declared.file_kind.FileKind.{FileKind}
 use Rattle.picture_text.specs.Markup.{IsTree}
 use Rattle.table_machine.specs.State.{State}
 use Rattle.table_picture.specs.Picture.{picture_of}
@@ -12,11 +12,11 @@ use Rattle.addrman_run.specs.declared.status.Status.{Status}
 
 -- the picture of the tables that the folder's peers.dat and asmap.dat open, the text of one tree
 -- of elements
-pub record IsPicture (chain : Chain) (past : Option Past) (text : List ℕ) : Type 0 where
+pub record IsPicture (kind : FileKind) (past : Option Past) (text : List ℕ) : Type 0 where
   pub tables : State
-  pub opened : Opened None chain past tables
+  pub opened : Opened None kind past tables
   pub is : text ≡ picture_of tables
   pub tree : IsTree (codes "svg") text
 
-abbrev pub PictureEnds : Chain → Outside → Outside → Status → Type 0
-PictureEnds chain = TablesTextEnds (IsPicture chain) chain
+abbrev pub PictureEnds : FileKind → Outside → Outside → Status → Type 0
+PictureEnds kind = TablesTextEnds (IsPicture kind) kind.chain

@@ -18,6 +18,7 @@ use Rattle.log_run.specs.Run.{Ran, Run}
 use Rattle.log_run.specs.declared.end.LogEnd.{LogEnd}
 use Rattle.log_run.specs.declared.limits.TheConstants.{MAX_LOG}
 use Rattle.peers_file.specs.declared.chain.Chain.{Chain}
+use Rattle.arguments.specs.declared.file_kind.FileKind.{FileKind}
 use Rattle.session.specs.Folders.{IsOpen}
 use Rattle.session.specs.History.{AtExit, History, Now, SinceEntry, HistoryStep, failed, fresh}
 use Rattle.session.specs.State as session
@@ -32,12 +33,12 @@ abbrev pub at_start : Chain → State → session.SessionState
 at_start chain tables = session.state chain (record { tables = tables; clock = 0 }) None
 
 -- If peers.dat has the file of these tables, it opens, and only as they are after a restart.
-abbrev pub ReopensAs : Chain → Option Asmap → State → Type 0
-ReopensAs chain map st =
+abbrev pub ReopensAs : FileKind → Option Asmap → State → Type 0
+ReopensAs kind map st =
     (past : Past) (key : Option (List ℕ))
-    → under (files_on past.now) name.Peers ≡ Some (session.file_of chain st)
-    → Opens key chain (Some past) map (restart st)
-    × ((found : State) → Opens key chain (Some past) map found → found ≡ restart st)
+    → under (files_on past.now) name.Peers ≡ Some (session.file_of kind.chain st)
+    → Opens key kind (Some past) map (restart st)
+    × ((found : State) → Opens key kind (Some past) map found → found ≡ restart st)
 
 -- lines and their replies fix the history
 abbrev pub HasOneHistory : History → Type 0
@@ -56,26 +57,26 @@ HasOneHistory start =
 -- that sources of some groups put there. Over the next lines each record stays, or is lost in one
 -- of them with a cause; so it is with the records of the file that was opened. The file of the
 -- tables after any line opens again, with the same asmap, as these tables after a restart.
-pub record Replayed (key : Option (List ℕ)) (chain : Chain)
+pub record Replayed (key : Option (List ℕ)) (kind : FileKind)
     (old new : Outside) (how : LogEnd) : Type 0 where
   pub tables : State
-  pub opened : Opened key chain old.past tables
-  pub ran : Ran HistoryStep HasCommandFault (fresh (at_start chain tables))
+  pub opened : Opened key kind old.past tables
+  pub ran : Ran HistoryStep HasCommandFault (fresh (at_start kind.chain tables))
       (streams_of old) (streams_of new) how
-  pub fixed : HasOneHistory (fresh (at_start chain tables))
+  pub fixed : HasOneHistory (fresh (at_start kind.chain tables))
   pub at_exit : Now (AtExit ran.now) old.past new.past
   pub since_entry : Always old.past new.past (SinceEntry ran.now)
   pub failed_saves : RoseBy (failed ran.now.ended) old.folder_faults new.folder_faults
   pub pieces : IsOpen ran.now.now.job new.past
   pub causes : KeepsCauses (file_in opened.opens) tables.places
-      (at_start chain tables) (lines_of ran.log)
+      (at_start kind.chain tables) (lines_of ran.log)
   pub shares : KeepsShares (file_in opened.opens) tables.places
-      (at_start chain tables) (lines_of ran.log)
-  pub losses : KeepsLosses (at_start chain tables) (lines_of ran.log)
+      (at_start kind.chain tables) (lines_of ran.log)
+  pub losses : KeepsLosses (at_start kind.chain tables) (lines_of ran.log)
   pub opening : KeepsOpened (file_in opened.opens) tables.places
   pub reopens : (before : List (List ℕ)) (h : History)
-      → IsAfter (at_start chain tables) (lines_of ran.log) before h
-      → ReopensAs chain opened.map h.now.machine.tables
+      → IsAfter (at_start kind.chain tables) (lines_of ran.log) before h
+      → ReopensAs kind opened.map h.now.machine.tables
 
 -- nothing was written, and log and folder are as they were
 pub record IsUntouched (old new : Outside) : Type 0 where
@@ -88,11 +89,11 @@ abbrev pub NotOpened : Option (List ℕ) → Chain → Outside → Outside → S
 NotOpened key chain old new answer = IsUnopened key chain old.past answer × IsUntouched old new
 
 -- how a replay ends, by its status
-abbrev pub ReplayOutcome : Option (List ℕ) → Chain → Outside → Outside → Status → Type 0
-ReplayOutcome key chain old new =
-    LogOutcome (Replayed key chain old new) (NotOpened key chain old new)
+abbrev pub ReplayOutcome : Option (List ℕ) → FileKind → Outside → Outside → Status → Type 0
+ReplayOutcome key kind old new =
+    LogOutcome (Replayed key kind old new) (NotOpened key kind.chain old new)
 
-pub record ReplayEnds (key : Option (List ℕ)) (chain : Chain)
+pub record ReplayEnds (key : Option (List ℕ)) (kind : FileKind)
     (old new : Outside) (answer : Status) : Type 0 where
-  pub outcome : ReplayOutcome key chain old new answer
+  pub outcome : ReplayOutcome key kind old new answer
   pub taken : TakesAtMost old.left new.left (MAX_LOG + 1)

@@ -7,7 +7,7 @@ use Rattle.node_json.specs.Groups.{groups_json}
 use Rattle.node_json.specs.Info.{info_json}
 use Rattle.node_json.specs.Raw.{raw_json}
 use Rattle.node_json.specs.Value.{IsJsonText}
-use Rattle.peers_file.specs.declared.chain.Chain.{Chain}
+use Rattle.arguments.specs.declared.file_kind.FileKind.{FileKind}
 use Rattle.table_machine.specs.State.{State}
 use Rattle.addrman_run.specs.Opening.{Opened}
 use Rattle.addrman_run.specs.TextOut.{TablesTextEnds}
@@ -21,9 +21,9 @@ json_of Info st = info_json st
 json_of Groups st = groups_json st
 
 -- a text of the tables that the folder's peers.dat and asmap.dat open
-abbrev pub IsTablesText : TablesJson → Chain → Option Past → List ℕ → Type 0
-IsTablesText which chain past text =
-    (tables : State) × Opened None chain past tables × IsJsonText (json_of which tables) text
+abbrev pub IsTablesText : TablesJson → FileKind → Option Past → List ℕ → Type 0
+IsTablesText which kind past text =
+    (tables : State) × Opened None kind past tables × IsJsonText (json_of which tables) text
 
-abbrev pub TablesJsonEnds : TablesJson → Chain → Outside → Outside → Status → Type 0
-TablesJsonEnds which chain = TablesTextEnds (IsTablesText which chain) chain
+abbrev pub TablesJsonEnds : TablesJson → FileKind → Outside → Outside → Status → Type 0
+TablesJsonEnds which kind = TablesTextEnds (IsTablesText which kind) kind.chain

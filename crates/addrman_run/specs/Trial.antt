@@ -10,6 +10,7 @@ use Rattle.log_run.specs.Run.{Run}
 use Rattle.manager.specs.Step.{counts_of}
 use Rattle.peer_rec.specs.declared.counts.Counts.{Counts}
 use Rattle.peers_file.specs.declared.chain.Chain.TheVariants.{Main}
+use Rattle.placing.specs.declared.sum.SumRule.TheVariants.{Bytes}
 use Rattle.session.specs.History.{History, HistoryStep, fresh}
 use Rattle.session.specs.State as session
 use Rattle.table_machine.specs.State.{empty_state}
@@ -20,7 +21,7 @@ use Rattle.addrman_run.specs.declared.status.Status.{Status}
 
 -- the session that a trial begins with: empty tables under a key of 32 zero bytes, with no asmap
 abbrev pub trial_start : session.SessionState
-trial_start = at_start Main (empty_state (places_of (replicate 32 0) None))
+trial_start = at_start Main (empty_state (places_of Bytes (replicate 32 0) None))
 
 -- the parts of the line about a trial
 abbrev pub sizes_text : ℕ → ℕ → List ℕ

@@ -8,8 +8,8 @@ use Rattle.addrman_run.specs.declared.status.Status.TheVariants.{Usage}
 
 -- the commands that read no log
 abbrev pub ReadsNoLog : Request → Type 0
-ReadsNoLog (Replay key chain) = ⊥
-ReadsNoLog (Opener key chain) = ⊥
+ReadsNoLog (Replay key kind) = ⊥
+ReadsNoLog (Opener key kind) = ⊥
 ReadsNoLog Limit = ⊥
 ReadsNoLog LookupLines = ⊥
 ReadsNoLog AddressLines = ⊥

@@ -1,4 +1,4 @@
-ghost use Rattle.std.specs.Prelude.{◌≡◌, ◌⊎◌, ◌<◌, length, None, IfOk, IfErr, IfSome, Err};
+ghost use Rattle.std.specs.Prelude.{◌≡◌, ◌⊎◌, ◌<◌, length, None, IfOk, IfErr, IfSome, Err, option_map};
 ghost use Rattle.asmap_vm.specs.Held.{tree_held};
 ghost use Rattle.host_io.specs.Past.{files_of};
 ghost use Rattle.host_io.specs.PerName.{under};
@@ -18,11 +18,22 @@ use crate::input::{Input, load_present};
 use crate::opening::read_peers;
 use crate::output::write_line;
 use crate::{Learned, Status};
+use arguments::FileKind;
 use asmap_vm::{Sane, check};
 use host_io::{Folder, Sink};
 use map_diff::{DiffFault, changes_are_the_differences, difference, put_difference};
 use peers_file::Chain;
 use std::alloc::Global;
+
+/// Returns the chain of the file whose records are asked for, if they are.
+pub(crate) fn chain_of(peers: Option<FileKind>) -> Option<Chain>
+    ensures { result ≡ option_map (λ kind. kind.chain) peers }
+{
+    match peers {
+        Some(kind) => Some(kind.chain),
+        None => None,
+    }
+}
 
 /// Writes the prefixes whose number differs between asmap.old and asmap.dat, and if a chain is
 /// given, which records of peers.dat have another group.

@@ -4,6 +4,7 @@ ghost use Rattle.host_io.specs.Past.{Past};
 ghost use Rattle.host_io.specs.PerName.{under};
 ghost use Rattle.host_io.specs.declared.name.Name.TheVariants as name;
 ghost use Rattle.asmap_vm.specs.Asmap.{Asmap};
+ghost use Rattle.arguments.specs.declared.file_kind.FileKind.{FileKind};
 ghost use Rattle.peers_file.specs.declared.chain.Chain.{Chain};
 ghost use Rattle.addrman_run.specs.Diff.{HaveTooMany, RefusesRecords};
 ghost use Rattle.addrman_run.specs.Opening.{OpensOnce};
@@ -11,13 +12,13 @@ ghost use Rattle.addrman_run.specs.declared.peers_fault.PeersFault.{PeersFault};
 
 use peers_file::files_have_one_meaning;
 
-/// Whatever key and chain the arguments give, and whatever bytes peers.dat has, if there is such a
+/// Whatever key and kind of file the arguments give, and whatever bytes peers.dat has, if there is such a
 /// file: exactly one of three things holds. The tables open, and only in one state; the file is
 /// refused, for one reason; or there is neither a file nor a key.
 pub fn folders_open_once()
-    ensures { (key : Option (List ℕ)) (chain : Chain) (past : Past) (map : Option Asmap) →
+    ensures { (key : Option (List ℕ)) (kind : FileKind) (past : Past) (map : Option Asmap) →
         IfSome (under (files_on past.now) name.Peers) (All (λ b. b < 256)) →
-        OpensOnce key chain (Some past) map }
+        OpensOnce key kind (Some past) map }
 {
     files_have_one_meaning()
 }

@@ -4,6 +4,23 @@ use std::alloc::Global;
 /// How many bytes of peers.dat end with its key.
 const HEAD: usize = 38;
 
+/// How the checksum of an asmap in peers.dat fits the asmap in use.
+#[derive(Clone, Copy, PartialEq, Eq)]
+pub enum SumFit {
+    /// It is that of the asmap, or none was compared.
+    Same,
+    /// It is the one that Bitcoin Core takes of the asmap, and the tables have the other one.
+    Core,
+    /// It is the one that this program takes of the asmap, and the tables have Bitcoin Core's.
+    Own,
+    /// It says that there was no asmap.
+    NoneThen,
+    /// It is that of some asmap, and there is none now.
+    NoneNow,
+    /// It is that of another asmap.
+    Other,
+}
+
 /// What a run learned besides its status, for messages to people. No contract speaks of it: what
 /// there was no memory for is missing, and so is what the run did not come to.
 #[derive(Drop)]
@@ -15,6 +32,7 @@ pub struct Learned {
     pub(crate) text: Option<Bytes>,
     pub(crate) passed_over: usize,
     pub(crate) is_key_unused: bool,
+    pub(crate) sum_fit: SumFit,
 }
 
 impl Learned {
@@ -26,6 +44,7 @@ impl Learned {
             text: None,
             passed_over: 0,
             is_key_unused: false,
+            sum_fit: SumFit::Same,
         }
     }
 
@@ -56,6 +75,12 @@ impl Learned {
     /// Returns whether the arguments have a key and peers.dat another one, which is the tables'.
     pub fn is_key_unused(&self) -> bool {
         self.is_key_unused
+    }
+
+    /// Returns how the checksum of an asmap in peers.dat fits the asmap in use. Unless it is the
+    /// same, the new records are placed anew.
+    pub fn sum_fit(&self) -> SumFit {
+        self.sum_fit
     }
 
     /// Keeps the first bytes of a file.

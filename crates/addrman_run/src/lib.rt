@@ -45,7 +45,7 @@ mod trial;
 mod trial_line;
 
 pub use law::{changes_are_counted_last, folders_open_once};
-pub use learned::Learned;
+pub use learned::{Learned, SumFit};
 pub use net_addr::Memory;
 pub use peers_fault::PeersFault;
 pub use report::{code, status_line};

@@ -8,11 +8,11 @@ ghost use Rattle.log_run.specs.Counts.{IsCounted};
 use crate::opening::open_folder;
 use crate::status::status_of;
 use crate::{Learned, Status};
+use arguments::FileKind;
 use host_io::{Folder, Sink, Source};
 use log_run::run_log;
 use manager::Manager;
 use opener_lines::{OpenerLog, groups_stay_apart, tries_are_fair};
-use peers_file::Chain;
 use std::alloc::Global;
 use std::hash::BuildHasher;
 
@@ -22,13 +22,13 @@ pub(crate) fn opener<L: Source, F: Folder, K: Sink, H: BuildHasher + Drop>(
     alloc: Global,
     hasher: H,
     key: Option<[u8; 32]>,
-    chain: Chain,
+    kind: FileKind,
     log: &mut L,
     folder: &mut F,
     out: &mut K,
     learned: &mut Learned,
 ) -> Status
-    ensures outcome { OpenerOutcome key chain
+    ensures outcome { OpenerOutcome key kind
         (outside L.Source F.Folder K.Sink log.old folder.old out.old)
         (outside L.Source F.Folder K.Sink log.new folder.new out.new) result }
     ensures taken { TakesAtMost (L.left log.old) (L.left log.new) (MAX_LOG + 1) }
@@ -40,7 +40,7 @@ pub(crate) fn opener<L: Source, F: Folder, K: Sink, H: BuildHasher + Drop>(
     groups_stay_apart();
     tries_are_fair();
     let mut asmap = None;
-    let tables = match open_folder(alloc, hasher, key, chain, &mut asmap, folder, learned) {
+    let tables = match open_folder(alloc, hasher, key, kind, &mut asmap, folder, learned) {
         Ok(tables) => tables,
         Err(status) => return status,
     };

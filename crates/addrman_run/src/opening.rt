@@ -16,13 +16,14 @@ ghost use Rattle.addrman_run.specs.Inside.{IsKeyless, IsMapOf, IsNoSnapshot, IsN
 ghost use Rattle.addrman_run.specs.Opening.{IsUnopened, Opened, tables_of};
 
 use crate::input::{Input, load_input};
-use crate::{Learned, PeersFault, Status};
+use crate::{Learned, PeersFault, Status, SumFit};
+use arguments::FileKind;
 use asmap_vm::{CodeFault, Sane, check};
 use bit_code::MAX_ASMAP;
 use host_io::{Bytes, Folder, Name};
 use peer_rec::Snapshot;
 use peers_file::{Chain, FileFault, read_file};
-use placing::Placer;
+use placing::{Placer, SumRule, sum_by};
 use std::alloc::Global;
 use std::hash::BuildHasher;
 use std::marker::Brand;
@@ -56,24 +57,49 @@ fn is_unused(key: Option<[u8; 32]>, own: [u8; 32]) -> bool {
     }
 }
 
+/// Returns how the checksum of an asmap in a snapshot fits an asmap, of which the tables have the
+/// checksum by a rule. Nothing is compared without new records.
+fn fit_of(snap: &Snapshot, rule: SumRule, map: Option<Sane<'_>>) -> SumFit {
+    let sum = snap.sum();
+    if snap.new_recs().is_empty() || sum == sum_by(rule, map) {
+        return SumFit::Same;
+    }
+    if map.is_none() {
+        return SumFit::NoneNow;
+    }
+    if sum == [0; 32] {
+        return SumFit::NoneThen;
+    }
+    let (other, fit) = match rule {
+        SumRule::Bytes => (SumRule::Bits, SumFit::Core),
+        SumRule::Bits => (SumRule::Bytes, SumFit::Own),
+    };
+    if sum == sum_by(other, map) {
+        fit
+    } else {
+        SumFit::Other
+    }
+}
+
 /// Restores the tables of a snapshot. The steps are counted, and nobody reads how many.
 fn restore_tables<'a, L: Ledger, H: BuildHasher + Drop>(
     alloc: Global,
     hasher: H,
     snap: &Snapshot,
     map: Option<Sane<'a>>,
+    rule: SumRule,
     blank: Blank,
 ) -> Result<Tables<'a, H>, Status>
     requires name { blank.name ≡ L.name }
     requires parts { blank.parts ≡ L.parts }
     requires one { blank.parts ≡ 1 }
     ensures found { IfOk result (λ tables. (duplicate snap.now ≡ None)
-        × (tables ≡ tables_of snap.now (map_of map.entry))) }
+        × (tables ≡ tables_of rule snap.now (map_of map.entry))) }
     ensures small { IfOk result (λ tables. tables.next_number ≤ ALL_SLOTS) }
     ensures sound { IfOk result (λ tables. IsSound tables) }
     ensures cause { IfErr result (IsNotRestored snap.now) }
 {
-    let placer = Placer::make(snap.key(), map);
+    let placer = Placer::make(snap.key(), map).with_rule(rule);
     let mut steps = Steps::<L>::none(blank);
     match Tables::restore(alloc, snap, placer, hasher, &mut steps) {
         Ok(tables) => Ok(tables),
@@ -89,9 +115,10 @@ fn empty_tables<'a, H: BuildHasher + Drop>(
     alloc: Global,
     hasher: H,
     key: Option<[u8; 32]>,
+    kind: FileKind,
     map: Option<Sane<'a>>,
 ) -> Result<Tables<'a, H>, Status>
-    ensures found { IfOk result (OpensWith key Chain.Main None (map_of map.entry)) }
+    ensures found { IfOk result (OpensWith key kind None (map_of map.entry)) }
     ensures small { IfOk result (λ tables. tables.next_number ≤ ALL_SLOTS) }
     ensures sound { IfOk result (λ tables. IsSound tables) }
     ensures keyless { key ≡ None → result ≡ Err Status.NoKey }
@@ -100,7 +127,8 @@ fn empty_tables<'a, H: BuildHasher + Drop>(
     let Some(key) = key else {
         return Err(Status::NoKey);
     };
-    match Tables::open(alloc, Placer::make(key, map), hasher) {
+    let placer = Placer::make(key, map).with_rule(kind.rule);
+    match Tables::open(alloc, placer, hasher) {
         Ok(tables) => Ok(tables),
         Err(_) => Err(Status::Memory),
     }
@@ -111,27 +139,28 @@ fn open_tables<'a, H: BuildHasher + Drop>(
     alloc: Global,
     hasher: H,
     key: Option<[u8; 32]>,
-    chain: Chain,
+    kind: FileKind,
     map: Option<Sane<'a>>,
     file: Option<Bytes>,
     learned: &mut Learned,
 ) -> Result<Tables<'a, H>, Status>
-    ensures found { IfOk result (OpensWith key chain file (map_of map.entry)) }
+    ensures found { IfOk result (OpensWith key kind file (map_of map.entry)) }
     ensures small { IfOk result (λ tables. tables.next_number ≤ ALL_SLOTS) }
     ensures sound { IfOk result (λ tables. IsSound tables) }
     ensures keyless { key ≡ None → file ≡ None → result ≡ Err Status.NoKey }
-    ensures cause { IfErr result (IsNotOpened key chain file) }
+    ensures cause { IfErr result (IsNotOpened key kind.chain file) }
 {
     let bytes = match file {
         Some(bytes) => bytes,
-        None => return empty_tables(alloc, hasher, key, map),
+        None => return empty_tables(alloc, hasher, key, kind, map),
     };
-    let snap = match read_peers(alloc, bytes, chain, learned) {
+    let snap = match read_peers(alloc, bytes, kind.chain, learned) {
         Ok(snap) => snap,
         Err(status) => return Err(status),
     };
     learned.is_key_unused = is_unused(key, snap.key());
-    restore_tables::<Brand, H>(alloc, hasher, &snap, map, Blank::new(1))
+    learned.sum_fit = fit_of(&snap, kind.rule, map);
+    restore_tables::<Brand, H>(alloc, hasher, &snap, map, kind.rule, Blank::new(1))
 }
 
 /// Checks the asmap in these bytes, if there are any.
@@ -182,16 +211,16 @@ pub(crate) fn open_folder<'a, F: Folder, H: BuildHasher + Drop>(
     alloc: Global,
     hasher: H,
     key: Option<[u8; 32]>,
-    chain: Chain,
+    kind: FileKind,
     asmap: &'a mut Option<Bytes>,
     folder: &mut F,
     learned: &mut Learned,
 ) -> Result<Tables<'a, H>, Status>
-    ensures found { IfOk result (Opened key chain (F.past folder.old)) }
+    ensures found { IfOk result (Opened key kind (F.past folder.old)) }
     ensures small { IfOk result (λ tables. tables.next_number ≤ ALL_SLOTS) }
     ensures absent { key ≡ None → InBareFolder (F.past folder.old)
         ((result ≡ Err Status.NoKey) ⊎ (result ≡ Err Status.DiskFault)) }
-    ensures cause { IfErr result (IsUnopened key chain (F.past folder.old)) }
+    ensures cause { IfErr result (IsUnopened key kind.chain (F.past folder.old)) }
     ensures disk { IsCounted (Err Status.DiskFault)
         (F.faults folder.old) (F.faults folder.new) result }
     ensures same { F.past folder.new ≡ F.past folder.old }
@@ -204,27 +233,27 @@ pub(crate) fn open_folder<'a, F: Folder, H: BuildHasher + Drop>(
         Ok(file) => file,
         Err(status) => return Err(status),
     };
-    open_tables(alloc, hasher, key, chain, map, file, learned)
+    open_tables(alloc, hasher, key, kind, map, file, learned)
 }
 
 /// Opens the tables of the folder's peers.dat, which have its asmap.
 pub(crate) fn open_peers<'a, F: Folder, H: BuildHasher + Drop>(
     alloc: Global,
     hasher: H,
-    chain: Chain,
+    kind: FileKind,
     asmap: &'a mut Option<Bytes>,
     folder: &mut F,
     learned: &mut Learned,
 ) -> Result<Tables<'a, H>, Status>
-    ensures found { IfOk result (Opened None chain (F.past folder.old)) }
+    ensures found { IfOk result (Opened None kind (F.past folder.old)) }
     ensures absent { InBareFolder (F.past folder.old)
         ((result ≡ Err (Status.NoFile name.Peers)) ⊎ (result ≡ Err Status.DiskFault)) }
-    ensures cause { IfErr result (IsNoTables chain (F.past folder.old)) }
+    ensures cause { IfErr result (IsNoTables kind.chain (F.past folder.old)) }
     ensures disk { IsCounted (Err Status.DiskFault)
         (F.faults folder.old) (F.faults folder.new) result }
     ensures same { F.past folder.new ≡ F.past folder.old }
 {
-    match open_folder(alloc, hasher, None, chain, asmap, folder, learned) {
+    match open_folder(alloc, hasher, None, kind, asmap, folder, learned) {
         Ok(tables) => Ok(tables),
         Err(Status::NoKey) => Err(Status::NoFile { name: Name::Peers }),
         Err(status) => Err(status),

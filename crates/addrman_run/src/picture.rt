@@ -10,9 +10,9 @@ ghost use Rattle.addrman_run.specs.TextOut.{TextOut};
 use crate::opening::open_peers;
 use crate::output::write_line;
 use crate::{Learned, Memory, Status};
+use arguments::FileKind;
 use group_counts::Lent;
 use host_io::{Bytes, Folder, Sink};
-use peers_file::Chain;
 use std::alloc::Global;
 use std::hash::BuildHasher;
 use std::marker::Brand;
@@ -25,12 +25,12 @@ use tables::Tables;
 pub(crate) fn picture<F: Folder, K: Sink, H: BuildHasher + Drop>(
     alloc: Global,
     hasher: H,
-    chain: Chain,
+    kind: FileKind,
     folder: &mut F,
     out: &mut K,
     learned: &mut Learned,
 ) -> Status
-    ensures text { TextOut (IsPicture chain) (ReportsTables chain)
+    ensures text { TextOut (IsPicture kind) (ReportsTables kind.chain)
         (F.past folder.old) (K.written out.old) (K.written out.new) result }
     ensures absent { ReportsNoPeers (F.past folder.old) result }
     ensures disk { IsCounted Status.DiskFault (F.faults folder.old) (F.faults folder.new) result }
@@ -38,27 +38,27 @@ pub(crate) fn picture<F: Folder, K: Sink, H: BuildHasher + Drop>(
     ensures same { F.past folder.new ≡ F.past folder.old }
 {
     let mut asmap = None;
-    draw(alloc, &hasher, chain, &mut asmap, folder, out, learned)
+    draw(alloc, &hasher, kind, &mut asmap, folder, out, learned)
 }
 
 /// Opens the tables of the folder, whose asmap's bytes stay in `asmap`, and writes their picture.
 fn draw<'a, F: Folder, K: Sink, H: BuildHasher + Drop>(
     alloc: Global,
     hasher: &'a H,
-    chain: Chain,
+    kind: FileKind,
     asmap: &'a mut Option<Bytes>,
     folder: &mut F,
     out: &mut K,
     learned: &mut Learned,
 ) -> Status
-    ensures text { TextOut (IsPicture chain) (ReportsTables chain)
+    ensures text { TextOut (IsPicture kind) (ReportsTables kind.chain)
         (F.past folder.old) (K.written out.old) (K.written out.new) result }
     ensures absent { ReportsNoPeers (F.past folder.old) result }
     ensures disk { IsCounted Status.DiskFault (F.faults folder.old) (F.faults folder.new) result }
     ensures write { IsCounted Status.WriteFault (K.faults out.old) (K.faults out.new) result }
     ensures same { F.past folder.new ≡ F.past folder.old }
 {
-    match open_peers(alloc, Lent::of(hasher), chain, asmap, folder, learned) {
+    match open_peers(alloc, Lent::of(hasher), kind, asmap, folder, learned) {
         Ok(tables) => write_picture(alloc, hasher, &tables, out),
         Err(status) => status,
     }

@@ -8,10 +8,10 @@ ghost use Rattle.addrman_run.specs.Replay.{ReplayOutcome};
 use crate::opening::open_folder;
 use crate::status::status_of;
 use crate::{Learned, Status};
+use arguments::FileKind;
 use host_io::{Folder, Sink, Source};
 use log_run::run_log;
 use manager::Manager;
-use peers_file::Chain;
 use session::Session;
 use std::alloc::Global;
 use std::hash::BuildHasher;
@@ -22,13 +22,13 @@ pub(crate) fn replay<L: Source, F: Folder, K: Sink, H: BuildHasher + Drop>(
     alloc: Global,
     hasher: H,
     key: Option<[u8; 32]>,
-    chain: Chain,
+    kind: FileKind,
     log: &mut L,
     folder: &mut F,
     out: &mut K,
     learned: &mut Learned,
 ) -> Status
-    ensures outcome { ReplayOutcome key chain
+    ensures outcome { ReplayOutcome key kind
         (outside L.Source F.Folder K.Sink log.old folder.old out.old)
         (outside L.Source F.Folder K.Sink log.new folder.new out.new) result }
     ensures taken { TakesAtMost (L.left log.old) (L.left log.new) (MAX_LOG + 1) }
@@ -37,10 +37,10 @@ pub(crate) fn replay<L: Source, F: Folder, K: Sink, H: BuildHasher + Drop>(
     ensures disk { IsCounted Status.DiskFault (F.faults folder.old) (F.faults folder.new) result }
 {
     let mut asmap = None;
-    let tables = match open_folder(alloc, hasher, key, chain, &mut asmap, folder, learned) {
+    let tables = match open_folder(alloc, hasher, key, kind, &mut asmap, folder, learned) {
         Ok(tables) => tables,
         Err(status) => return status,
     };
-    let mut session = Session::make(Manager::open(tables), chain);
+    let mut session = Session::make(Manager::open(tables), kind.chain);
     status_of(run_log(alloc, log, &mut session, folder, out, &mut learned.line))
 }

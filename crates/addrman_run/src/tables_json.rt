@@ -9,10 +9,10 @@ ghost use Rattle.addrman_run.specs.TextOut.{TextOut};
 use crate::opening::open_peers;
 use crate::output::write_line;
 use crate::{Learned, Memory, Status};
+use arguments::FileKind;
 use group_counts::Lent;
 use host_io::{Bytes, Folder, Sink};
 use node_json::{groups_text, info_text, raw_text};
-use peers_file::Chain;
 use std::alloc::Global;
 use std::hash::BuildHasher;
 use std::marker::Brand;
@@ -60,12 +60,12 @@ pub(crate) fn write_tables_json<F: Folder, K: Sink, H: BuildHasher + Drop>(
     alloc: Global,
     hasher: H,
     which: TablesJson,
-    chain: Chain,
+    kind: FileKind,
     folder: &mut F,
     out: &mut K,
     learned: &mut Learned,
 ) -> Status
-    ensures text { TextOut (IsTablesText which chain) (ReportsTables chain)
+    ensures text { TextOut (IsTablesText which kind) (ReportsTables kind.chain)
         (F.past folder.old) (K.written out.old) (K.written out.new) result }
     ensures absent { ReportsNoPeers (F.past folder.old) result }
     ensures disk { IsCounted Status.DiskFault (F.faults folder.old) (F.faults folder.new) result }
@@ -74,7 +74,7 @@ pub(crate) fn write_tables_json<F: Folder, K: Sink, H: BuildHasher + Drop>(
 {
     let mut asmap = None;
     write_opened(
-        alloc, &hasher, which, chain, &mut asmap, folder, out, learned,
+        alloc, &hasher, which, kind, &mut asmap, folder, out, learned,
     )
 }
 
@@ -83,20 +83,20 @@ fn write_opened<'a, F: Folder, K: Sink, H: BuildHasher + Drop>(
     alloc: Global,
     hasher: &'a H,
     which: TablesJson,
-    chain: Chain,
+    kind: FileKind,
     asmap: &'a mut Option<Bytes>,
     folder: &mut F,
     out: &mut K,
     learned: &mut Learned,
 ) -> Status
-    ensures text { TextOut (IsTablesText which chain) (ReportsTables chain)
+    ensures text { TextOut (IsTablesText which kind) (ReportsTables kind.chain)
         (F.past folder.old) (K.written out.old) (K.written out.new) result }
     ensures absent { ReportsNoPeers (F.past folder.old) result }
     ensures disk { IsCounted Status.DiskFault (F.faults folder.old) (F.faults folder.new) result }
     ensures write { IsCounted Status.WriteFault (K.faults out.old) (K.faults out.new) result }
     ensures same { F.past folder.new ≡ F.past folder.old }
 {
-    let tables = match open_peers(alloc, Lent::of(hasher), chain, asmap, folder, learned) {
+    let tables = match open_peers(alloc, Lent::of(hasher), kind, asmap, folder, learned) {
         Ok(tables) => tables,
         Err(status) => return status,
     };

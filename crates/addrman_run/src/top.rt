@@ -12,7 +12,7 @@ use crate::bans::{BanSubnet, FindBan, UnbanSubnet, change_bans, list_bans};
 use crate::check::Check;
 use crate::compile::compile_table;
 use crate::decompile::decompile;
-use crate::diff::diff;
+use crate::diff::{chain_of, diff};
 use crate::file_line::write_file_line;
 use crate::generate::generate;
 use crate::help::{help, version};
@@ -124,37 +124,38 @@ fn carry_out<L: Source, F: Folder, K: Sink, H: BuildHasher + Drop>(
         (outside L.Source F.Folder K.Sink log.new folder.new out.new) result }
 {
     match request {
-        Request::Replay { key, chain } => replay(
-            alloc, hasher, key, chain, log, folder, out, learned,
+        Request::Replay { key, kind } => replay(
+            alloc, hasher, key, kind, log, folder, out, learned,
         ),
-        Request::Opener { key, chain } => opener(
-            alloc, hasher, key, chain, log, folder, out, learned,
+        Request::Opener { key, kind } => opener(
+            alloc, hasher, key, kind, log, folder, out, learned,
         ),
         Request::Compile => compile_table(alloc, folder, out, learned),
         Request::Check => write_file_line(alloc, &Check, folder, out, learned),
         Request::Decompile => decompile(alloc, folder, out),
-        Request::Diff { peers } => diff(alloc, peers, folder, out, learned),
+        Request::Diff { peers } => diff(alloc, chain_of(peers), folder, out, learned),
         Request::Limit => limit(alloc, hasher, log, out, learned),
         Request::Lookup { peer } => write_file_line(alloc, &Lookup { peer }, folder, out, learned),
         Request::LookupLines => lookup_lines(alloc, log, folder, out, learned),
         Request::Address { addr } => write_address(alloc, &addr, folder, out),
         Request::AddressLines => address_lines(alloc, log, folder, out, learned),
-        Request::Show { keyed, chain } => {
+        Request::Show { keyed, kind } => {
+            let chain = kind.chain;
             write_file_line(alloc, &Show { keyed, chain }, folder, out, learned)
         }
-        Request::Picture { chain } => picture(alloc, hasher, chain, folder, out, learned),
-        Request::Raw { chain } => {
-            write_tables_json(alloc, hasher, TablesJson::Raw, chain, folder, out, learned)
+        Request::Picture { kind } => picture(alloc, hasher, kind, folder, out, learned),
+        Request::Raw { kind } => {
+            write_tables_json(alloc, hasher, TablesJson::Raw, kind, folder, out, learned)
         }
-        Request::Info { chain } => {
-            write_tables_json(alloc, hasher, TablesJson::Info, chain, folder, out, learned)
+        Request::Info { kind } => {
+            write_tables_json(alloc, hasher, TablesJson::Info, kind, folder, out, learned)
         }
-        Request::Groups { chain } => {
+        Request::Groups { kind } => {
             write_tables_json(
                 alloc,
                 hasher,
                 TablesJson::Groups,
-                chain,
+                kind,
                 folder,
                 out,
                 learned,

@@ -21,14 +21,16 @@ use Rattle.net_addr.specs.Address.{Address as NetAddress}
 use Rattle.net_addr.specs.Text.{IsPeerText}
 use Rattle.net_addr.specs.declared.peer.Peer.{Peer}
 use Rattle.peers_file.specs.declared.chain.Chain.{Chain}
-use Rattle.arguments.specs.Options.{IsListingOptions, IsNet, IsOpeningOptions, IsPeersOption}
-use Rattle.arguments.specs.Table.{AddressOrLines, Asks, Fields, Form, HasNoValues, IsAddressIn, IsProperRequest, Listing, Network, OfCommand, OfSubnet, Opening, PeerOrLines, Period, Reads, Records, TheAddress, TheChain, TheCommand, TheFields, TheListing, TheOpening, ThePeriod, TheRecords, TheSubnet, Values, form_of, name_of, plain_word, request_values, command_word}
+use Rattle.placing.specs.declared.sum.SumRule.{SumRule}
+use Rattle.placing.specs.declared.sum.SumRule.TheVariants.{Bytes}
+use Rattle.arguments.specs.Options.{HasRule, IsAfterPeers, IsListingOptions, IsNet, IsOpeningOptions}
+use Rattle.arguments.specs.Table.{AddressOrLines, Asks, Fields, Form, HasNoValues, IsAddressIn, IsProperRequest, Listing, Network, OfCommand, OfSubnet, Opening, PeerOrLines, Period, Reads, Records, TheAddress, TheKind, TheCommand, TheFields, TheListing, TheOpening, ThePeriod, TheRecords, TheSubnet, Values, form_of, name_of, plain_word, request_values, command_word}
 use Rattle.arguments.specs.declared.name.CommandName.{CommandName}
 use Rattle.arguments.specs.declared.name.CommandName.TheVariants as name
 use Rattle.arguments.specs.declared.name.TheConstants.{NAMES}
 use Rattle.arguments.specs.declared.request.Request.{Request}
 use Rattle.arguments.specs.declared.request.Request.TheVariants.{Replay, Opener, Compile, Check, Decompile, Diff, Limit, Lookup, LookupLines, Address, AddressLines, Show, Picture, Raw, Info, Groups, Ban, Unban, Banned, Bans, Gen, Trial, Help, Version}
-use Rattle.arguments.proofs.Choosing.{one_listing, one_net, one_opening, one_peers}
+use Rattle.arguments.proofs.WithCore.{no_file_kind, no_listing_kind, no_opening_kind, no_peers, one_file_kind, one_listing_kind, one_opening_kind, one_peers}
 use Rattle.arguments.proofs.Names.{name_found, one_command}
 
 -- THE VALUES
@@ -78,11 +80,11 @@ one_period texts v w h k =
 one_values : (form : Form) (texts : List (List ℕ)) (v w : Values) → definite_form form ≡ true → Reads form texts v → Reads form texts w → v ≡ w
 one_values (Fields kinds) texts v w is h k = h.1 ∙ ap TheFields (one_list kinds texts h.0 k.0 is h.2 k.2) ∙ sym k.1
 one_values Opening texts v w is h k =
-    let same = one_opening texts h.0 k.0 h.1 k.1 h.3 k.3 in
+    let same = one_opening_kind texts h.0 k.0 h.1 k.1 h.3 k.3 in
     h.2 ∙ (λ i. TheOpening (same.0 i) (same.1 i)) ∙ sym k.2
-one_values Network texts v w is h k = h.1 ∙ ap TheChain (one_net texts h.0 k.0 h.2 k.2) ∙ sym k.1
+one_values Network texts v w is h k = h.1 ∙ ap TheKind (one_file_kind texts h.0 k.0 h.2 k.2) ∙ sym k.1
 one_values Listing texts v w is h k =
-    let same = one_listing texts h.0 k.0 h.1 k.1 h.3 k.3 in
+    let same = one_listing_kind texts h.0 k.0 h.1 k.1 h.3 k.3 in
     h.2 ∙ (λ i. TheListing (same.0 i) (same.1 i)) ∙ sym k.2
 one_values Records texts v w is h k = h.1 ∙ ap TheRecords (one_peers texts h.0 k.0 h.2 k.2) ∙ sym k.1
 one_values OfSubnet texts v w is h k =
@@ -100,8 +102,8 @@ definite_name other = refl
 -- THE REQUEST
 
 request_by : CommandName → Values → Request
-request_by name.Replay (TheOpening key chain) = Replay key chain
-request_by name.Opener (TheOpening key chain) = Opener key chain
+request_by name.Replay (TheOpening key kind) = Replay key kind
+request_by name.Opener (TheOpening key kind) = Opener key kind
 request_by name.Check values = Check
 request_by name.Decompile values = Decompile
 request_by name.Diff (TheRecords peers) = Diff peers
@@ -110,11 +112,11 @@ request_by name.Lookup (TheFields (ThePeer peer ∷ [])) = Lookup peer
 request_by name.Lookup (TheFields []) = LookupLines
 request_by name.Address (TheAddress addr) = Address addr
 request_by name.Address (TheFields []) = AddressLines
-request_by name.Show (TheListing keyed chain) = Show keyed chain
-request_by name.Picture (TheChain chain) = Picture chain
-request_by name.Raw (TheChain chain) = Raw chain
-request_by name.Info (TheChain chain) = Info chain
-request_by name.Groups (TheChain chain) = Groups chain
+request_by name.Show (TheListing keyed kind) = Show keyed kind
+request_by name.Picture (TheKind kind) = Picture kind
+request_by name.Raw (TheKind kind) = Raw kind
+request_by name.Info (TheKind kind) = Info kind
+request_by name.Groups (TheKind kind) = Groups kind
 request_by name.Ban (ThePeriod subnet now until) = Ban subnet now until
 request_by name.Unban (TheSubnet subnet) = Unban subnet
 request_by name.Banned (TheFields (ThePeer peer ∷ TheNumber now ∷ [])) = Banned peer now
@@ -292,29 +294,24 @@ pub found_period : (texts : List (List ℕ)) (a b d : List ℕ) (r : Option (Sub
 found_period texts a b d None is found = tt
 found_period texts a b d (Some ban) is found = (a, ban.0, ban.1, ban.2, refl, is ∙ (λ i. a ∷ found.1 i ∷ found.2 i ∷ []), found.0, found.3, found.4)
 
-pub no_opening : (texts : List (List ℕ)) (r : Option (Option (List ℕ) × Chain)) → ((key : Option (List ℕ)) (chain : Chain) → IsOpeningOptions texts key chain → r ≡ Some (key, chain)) → IfNone r (HasNoValues Opening texts)
-unfolding HasNoValues
-no_opening texts None only = λ v reads. none-some (reads.0, reads.1) (only reads.0 reads.1 reads.3)
-no_opening texts (Some o) only = tt
+-- what `--core` leaves to be read
+module _ (texts rest : List (List ℕ)) (rule : SumRule) (has : HasRule rule rest texts) (none : rule ≡ Bytes → (tail : List (List ℕ)) → texts ≡ codes "--core" ∷ tail → ⊥) where
+  pub no_opening : (r : Option (Option (List ℕ) × Chain)) → r ≡ None → ((key : Option (List ℕ)) (chain : Chain) → IsOpeningOptions key rest chain → r ≡ Some (key, chain)) → HasNoValues Opening texts
+  unfolding HasNoValues
+  no_opening r is only v reads = no_opening_kind texts rest rule has none (λ key chain chosen. none-some (key, chain) (sym is ∙ only key chain chosen)) reads.0 reads.1 reads.3
 
-pub no_net : (texts : List (List ℕ)) (r : Option Chain) → ((chain : Chain) → IsNet texts chain → r ≡ Some chain) → IfNone r (HasNoValues Network texts)
-unfolding HasNoValues
-no_net texts None only = λ v reads. none-some reads.0 (only reads.0 reads.2)
-no_net texts (Some c) only = tt
+  pub no_net : (r : Option Chain) → r ≡ None → ((chain : Chain) → IsNet rest chain → r ≡ Some chain) → HasNoValues Network texts
+  unfolding HasNoValues
+  no_net r is only v reads = no_file_kind texts rest rule has none (λ chain chosen. none-some chain (sym is ∙ only chain chosen)) reads.0 reads.2
 
-pub no_listing : (texts : List (List ℕ)) (r : Option (Bool × Chain)) → ((keyed : Bool) (chain : Chain) → IsListingOptions texts keyed chain → r ≡ Some (keyed, chain)) → IfNone r (HasNoValues Listing texts)
-unfolding HasNoValues
-no_listing texts None only = λ v reads. none-some (reads.0, reads.1) (only reads.0 reads.1 reads.3)
-no_listing texts (Some o) only = tt
+  pub no_listing : (r : Option (Bool × Chain)) → r ≡ None → ((keyed : Bool) (chain : Chain) → IsListingOptions keyed rest chain → r ≡ Some (keyed, chain)) → HasNoValues Listing texts
+  unfolding HasNoValues
+  no_listing r is only v reads = no_listing_kind texts rest rule has none (λ keyed chain chosen. none-some (keyed, chain) (sym is ∙ only keyed chain chosen)) reads.0 reads.1 reads.3
 
-pub no_records : (texts : List (List ℕ)) (r : Option Chain) → (texts ≡ [] → ⊥) → ((chain : Chain) → IsPeersOption texts (Some chain) → r ≡ Some chain) → r ≡ None → HasNoValues Records texts
-unfolding HasNoValues
-no_records texts r some only none v reads = by reads.0 reads.2
-  where
-    by : (peers : Option Chain) → IsPeersOption texts peers → ⊥
-    by None is = some is
-    by (Some chain) is = none-some chain (sym none ∙ only chain is)
+  pub no_records : (r : Option Chain) → (texts ≡ [] → ⊥) → r ≡ None → ((chain : Chain) → IsAfterPeers rest chain → r ≡ Some chain) → HasNoValues Records texts
+  unfolding HasNoValues
+  no_records r some is only v reads = no_peers texts rest rule some has none (λ chain chosen. none-some chain (sym is ∙ only chain chosen)) reads.0 reads.2
 
 pub only_after_peers : (texts : List (List ℕ)) (word : List ℕ) (rest : List (List ℕ)) (r : Option Chain) → texts ≡ word ∷ rest → ((chain : Chain) → IsNet rest chain → r ≡ Some chain) →
-    (chain : Chain) → IsPeersOption texts (Some chain) → r ≡ Some chain
+    (chain : Chain) → IsAfterPeers texts chain → r ≡ Some chain
 only_after_peers texts word rest r is only chain asks = only chain (subst (λ ts. IsNet ts chain) (ap (drop 1) (sym asks.1 ∙ is)) asks.2)

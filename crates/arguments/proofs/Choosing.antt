@@ -12,12 +12,12 @@ use Rattle.hex.specs.declared.error.FromHexError.{FromHexError}
 use Rattle.peers_file.specs.declared.chain.Chain.{Chain}
 use Rattle.peers_file.specs.declared.chain.Chain.TheVariants.{Main, Test, Testnet4, Signet, Regtest, Other}
 use Rattle.arguments.specs.Inside.{Begins}
-use Rattle.arguments.specs.Options.{HasNoKey, IsChainValue, IsKey, IsKeyOption, IsListingOptions, IsMagic, IsName, IsNet, IsOpeningOptions, IsOption, IsPeersOption, chain_option}
+use Rattle.arguments.specs.Options.{HasNoKey, IsChainValue, IsKey, IsKeyOption, IsListingOptions, IsMagic, IsName, IsNet, IsOpeningOptions, IsOption, chain_option}
 use Rattle.arguments.specs.declared.chain_option.ChainOption.{ChainOption}
 use Rattle.arguments.specs.declared.chain_option.ChainOption.TheVariants.{Net, Magic}
 
 -- words choose a key and a chain: by no option, by a key first, or by a chain first
-data Chooses (words : List (List ℕ)) (key : Option (List ℕ)) (chain : Chain) : Type 0 where
+pub data Chooses (words : List (List ℕ)) (key : Option (List ℕ)) (chain : Chain) : Type 0 where
   neither : words ≡ [] → key ≡ None → chain ≡ Main → Chooses words key chain
   key_first : (digits : List ℕ) (rest : List (List ℕ)) (k : List ℕ) → key ≡ Some k → IsKey digits k → Begins (codes "--key") digits rest words → IsNet rest chain → Chooses words key chain
   net_first : (by : ChainOption) (value : List ℕ) (rest : List (List ℕ)) → IsChainValue by value chain → Begins (chain_option by) value rest words → IsKeyOption rest key
@@ -42,7 +42,7 @@ chosen_from_net first second words None chain is (inl net) none = neither (is �
 chosen_from_net first second words (Some key) chain is (inl net) (digits, read, option) =
     key_first digits [] key refl read (subst (λ ws. Begins (codes "--key") digits [] ws) (sym (is ∙ ap (λ ws. ws ++ second) net.0)) option) (inl (refl, net.1))
 
-chosen : (words : List (List ℕ)) (key : Option (List ℕ)) (chain : Chain) → IsOpeningOptions words key chain → Chooses words key chain
+pub chosen : (words : List (List ℕ)) (key : Option (List ℕ)) (chain : Chain) → IsOpeningOptions key words chain → Chooses words key chain
 chosen words key chain (first, second, is, inl (keys, net)) = chosen_from_key first second words key chain is keys net
 chosen words key chain (first, second, is, inr (net, keys)) = chosen_from_net first second words key chain is net keys
 
@@ -52,14 +52,14 @@ option_of name value rest words (inr one) = ((name ++ codes "=" ++ value) ∷ []
 
 -- words that begin with a key, and then choose a chain
 chosen_by_key : (words rest : List (List ℕ)) (digits key : List ℕ) (chain : Chain) → Begins (codes "--key") digits rest words → IsKey digits key → IsNet rest chain
-    → IsOpeningOptions words (Some key) chain
+    → IsOpeningOptions (Some key) words chain
 chosen_by_key words rest digits key chain b read net =
     let own = option_of (codes "--key") digits rest words b in
     (own.0, rest, own.2, inl ((digits, read, own.1), net))
 
 -- words that begin with a chain, and then choose a key
 chosen_by_net : (words rest : List (List ℕ)) (by : ChainOption) (value : List ℕ) (key : Option (List ℕ)) (chain : Chain) → Begins (chain_option by) value rest words
-    → IsChainValue by value chain → IsKeyOption rest key → IsOpeningOptions words key chain
+    → IsChainValue by value chain → IsKeyOption rest key → IsOpeningOptions key words chain
 chosen_by_net words rest by value key chain b means keys =
     let own = option_of (chain_option by) value rest words b in
     (own.0, rest, own.2, inr (inr (by, value, means, own.1), keys))
@@ -94,7 +94,7 @@ third_is Net value rest words (inr is) = ap (λ ws. get_or (get_or ws 0 []) 2 0)
 third_is Magic value rest words (inl is) = ap (λ ws. get_or (get_or ws 0 []) 2 0) is
 third_is Magic value rest words (inr is) = ap (λ ws. get_or (get_or ws 0 []) 2 0) is
 
-third_of_net : (by : ChainOption) (value : List ℕ) (rest words : List (List ℕ)) → Begins (chain_option by) value rest words → 109 ≤ get_or (get_or words 0 []) 2 0
+pub third_of_net : (by : ChainOption) (value : List ℕ) (rest words : List (List ℕ)) → Begins (chain_option by) value rest words → 109 ≤ get_or (get_or words 0 []) 2 0
 unfolding third
 third_of_net Net value rest words b = omega (arith, third_is Net value rest words b)
 third_of_net Magic value rest words b = omega (arith, third_is Magic value rest words b)
@@ -116,7 +116,7 @@ same_chain by other value next rest left words a b =
     let same = same_start (chain_option other) value next rest left words (subst (λ o. Begins (chain_option o) value rest words) option a) b in
     (option, same.0, same.1)
 
-third_of_none : (words : List (List ℕ)) → words ≡ [] → get_or (get_or words 0 []) 2 0 ≡ 0
+pub third_of_none : (words : List (List ℕ)) → words ≡ [] → get_or (get_or words 0 []) 2 0 ≡ 0
 third_of_none words is = ap (λ ws. get_or (get_or ws 0 []) 2 0) is
 
 -- what was read
@@ -135,7 +135,7 @@ key_only words rest digits r b only key chain (key_first other left k e read a n
 -- the reading after a key is that of all words
 pub only_by_key : (words rest : List (List ℕ)) (digits : List ℕ) (r : Read) → Begins (codes "--key") digits rest words →
     ((key : List ℕ) (chain : Chain) → IsKey digits key → IsNet rest chain → r ≡ Some (Some key, chain)) →
-    (key : Option (List ℕ)) (chain : Chain) → IsOpeningOptions words key chain → r ≡ Some (key, chain)
+    (key : Option (List ℕ)) (chain : Chain) → IsOpeningOptions key words chain → r ≡ Some (key, chain)
 only_by_key words rest digits r b only key chain opening = key_only words rest digits r b only key chain (chosen words key chain opening)
 
 net_only : (words rest : List (List ℕ)) (by : ChainOption) (value : List ℕ) (r : Read) → Begins (chain_option by) value rest words →
@@ -150,7 +150,7 @@ net_only words rest by value r b only key chain (net_first other next left means
 -- the reading after a chain is that of all words
 pub only_by_net : (words rest : List (List ℕ)) (by : ChainOption) (value : List ℕ) (r : Read) → Begins (chain_option by) value rest words →
     ((key : Option (List ℕ)) (chain : Chain) → IsChainValue by value chain → IsKeyOption rest key → r ≡ Some (key, chain)) →
-    (key : Option (List ℕ)) (chain : Chain) → IsOpeningOptions words key chain → r ≡ Some (key, chain)
+    (key : Option (List ℕ)) (chain : Chain) → IsOpeningOptions key words chain → r ≡ Some (key, chain)
 only_by_net words rest by value r b only key chain opening = net_only words rest by value r b only key chain (chosen words key chain opening)
 
 none_chosen : (words : List (List ℕ)) (key : Option (List ℕ)) (chain : Chain) → (words ≡ [] → ⊥) →
@@ -163,14 +163,14 @@ none_chosen words key chain some key_off net_off (net_first by value rest means 
 -- words that begin with none of the options are no options
 pub no_options : (words : List (List ℕ)) (key : Option (List ℕ)) (chain : Chain) → (words ≡ [] → ⊥) →
     ((value : List ℕ) (rest : List (List ℕ)) → Begins (codes "--key") value rest words → ⊥) →
-    ((by : ChainOption) (value : List ℕ) (rest : List (List ℕ)) → Begins (chain_option by) value rest words → ⊥) → IsOpeningOptions words key chain → ⊥
+    ((by : ChainOption) (value : List ℕ) (rest : List (List ℕ)) → Begins (chain_option by) value rest words → ⊥) → IsOpeningOptions key words chain → ⊥
 no_options words key chain some key_off net_off opening = none_chosen words key chain some key_off net_off (chosen words key chain opening)
 
 -- no words choose no key, and main
-pub none_is : (words : List (List ℕ)) → words ≡ [] → IsOpeningOptions words None Main
+pub none_is : (words : List (List ℕ)) → words ≡ [] → IsOpeningOptions None words Main
 none_is words is = ([], [], is, inl (refl, inl (refl, refl)))
 
-pub none_only : (words : List (List ℕ)) → words ≡ [] → (key : Option (List ℕ)) (chain : Chain) → IsOpeningOptions words key chain → ◌≡◌ {A = Read} (Some (None, Main)) (Some (key, chain))
+pub none_only : (words : List (List ℕ)) → words ≡ [] → (key : Option (List ℕ)) (chain : Chain) → IsOpeningOptions key words chain → ◌≡◌ {A = Read} (Some (None, Main)) (Some (key, chain))
 none_only words is key chain opening = by (chosen words key chain opening)
   where
     by : Chooses words key chain → ◌≡◌ {A = Read} (Some (None, Main)) (Some (key, chain))
@@ -181,14 +181,14 @@ none_only words is key chain opening = by (chosen words key chain opening)
 -- what was read after a key is chosen
 pub found_by_key : (words rest : List (List ℕ)) (digits : List ℕ) (r : Read) → Begins (codes "--key") digits rest words →
     IfSome r (λ o. (key : List ℕ) × (o.0 ≡ Some key) × IsKey digits key × IsNet rest o.1) →
-    IfSome r (λ o. IsOpeningOptions words o.0 o.1)
+    IfSome r (λ o. IsOpeningOptions o.0 words o.1)
 found_by_key words rest digits None b found = tt
 found_by_key words rest digits (Some o) b (key, is, read, net) =
-    subst (λ k. IsOpeningOptions words k o.1) (sym is) (chosen_by_key words rest digits key o.1 b read net)
+    subst (λ k. IsOpeningOptions k words o.1) (sym is) (chosen_by_key words rest digits key o.1 b read net)
 
 -- what was read after a chain is chosen
 pub found_by_net : (words rest : List (List ℕ)) (by : ChainOption) (value : List ℕ) (r : Read) → Begins (chain_option by) value rest words →
-    IfSome r (λ o. IsChainValue by value o.1 × IsKeyOption rest o.0) → IfSome r (λ o. IsOpeningOptions words o.0 o.1)
+    IfSome r (λ o. IsChainValue by value o.1 × IsKeyOption rest o.0) → IfSome r (λ o. IsOpeningOptions o.0 words o.1)
 found_by_net words rest by value None b found = tt
 found_by_net words rest by value (Some o) b (means, keys) = chosen_by_net words rest by value o.0 o.1 b means keys
 
@@ -261,13 +261,6 @@ one_net texts a b (inl h) (inr (by, value, means, option)) = absurd (omega (arit
 one_net texts a b (inr (by, value, means, option)) (inl k) = absurd (omega (arith, third_of_none texts k.0, third_of_net by value [] texts option))
 one_net texts a b (inr (by, value, means, option)) (inr (other, next, is, start)) = same_choice by other value next [] [] texts a b option start means is
 
--- or the records of one file, or none
-pub one_peers : (texts : List (List ℕ)) (a b : Option Chain) → IsPeersOption texts a → IsPeersOption texts b → a ≡ b
-one_peers texts None None h k = refl
-one_peers texts None (Some b) h k = absurd (omega (arith, ap length (sym h ∙ k.1)))
-one_peers texts (Some a) None h k = absurd (omega (arith, ap length (sym k ∙ h.1)))
-one_peers texts (Some a) (Some b) h k = ap Some (one_net k.0 a b (subst (λ ts. IsNet ts a) (ap (drop 1) (sym h.1 ∙ k.1)) h.2) k.2)
-
 -- or one key
 one_key_option : (texts : List (List ℕ)) (k l : Option (List ℕ)) → IsKeyOption texts k → IsKeyOption texts l → k ≡ l
 one_key_option texts None None h j = refl
@@ -294,7 +287,7 @@ one_choice texts k l a b (net_first by value rest means begin keys) (net_first o
     (one_key_option left k l (subst (λ ts. IsKeyOption ts k) same.2 keys) others, same_choice by other value next rest left texts a b begin start means is)
 
 -- texts choose one key, or none, and one chain
-pub one_opening : (texts : List (List ℕ)) (k l : Option (List ℕ)) (a b : Chain) → IsOpeningOptions texts k a → IsOpeningOptions texts l b → (k ≡ l) × (a ≡ b)
+pub one_opening : (texts : List (List ℕ)) (k l : Option (List ℕ)) (a b : Chain) → IsOpeningOptions k texts a → IsOpeningOptions l texts b → (k ≡ l) × (a ≡ b)
 one_opening texts k l a b h j = one_choice texts k l a b (chosen texts k a h) (chosen texts l b j)
 
 -- THE KEY IN A LISTING
@@ -355,7 +348,7 @@ same_rest rest left texts chain (inr a) (inl b) net = last_or_first rest left te
 same_rest rest left texts chain (inr a) (inr b) net = append_cancel_right rest left (codes "--no-key" ∷ []) (sym a ∙ b)
 
 -- texts choose one chain, and whether the key is listed
-pub one_listing : (texts : List (List ℕ)) (k l : Bool) (a b : Chain) → IsListingOptions texts k a → IsListingOptions texts l b → (k ≡ l) × (a ≡ b)
+pub one_listing : (texts : List (List ℕ)) (k l : Bool) (a b : Chain) → IsListingOptions k texts a → IsListingOptions l texts b → (k ≡ l) × (a ≡ b)
 one_listing texts true true a b h j = (refl, one_net texts a b h j)
 one_listing texts true false a b h (rest, has, net) = absurd (no_key_apart rest texts a has h)
 one_listing texts false true a b (rest, has, net) j = absurd (no_key_apart rest texts b has j)
@@ -363,17 +356,17 @@ one_listing texts false false a b (rest, has, net) (left, is, other) =
     (refl, one_net left a b (subst (λ ts. IsNet ts a) (same_rest rest left texts a has is net) net) other)
 
 -- what was read of the arguments beside `--no-key`, or of all
-pub found_without : (texts rest : List (List ℕ)) (r : Option (Bool × Chain)) → HasNoKey rest texts → IfSome r (λ o. (o.0 ≡ false) × IsNet rest o.1) → IfSome r (λ o. IsListingOptions texts o.0 o.1)
+pub found_without : (texts rest : List (List ℕ)) (r : Option (Bool × Chain)) → HasNoKey rest texts → IfSome r (λ o. (o.0 ≡ false) × IsNet rest o.1) → IfSome r (λ o. IsListingOptions o.0 texts o.1)
 found_without texts rest None has found = tt
-found_without texts rest (Some o) has (is, net) = subst (λ k. IsListingOptions texts k o.1) (sym is) (rest, has, net)
+found_without texts rest (Some o) has (is, net) = subst (λ k. IsListingOptions k texts o.1) (sym is) (rest, has, net)
 
 pub only_without : (texts rest : List (List ℕ)) (r : Option (Bool × Chain)) → HasNoKey rest texts → ((chain : Chain) → IsNet rest chain → r ≡ Some (false, chain))
-    → (keyed : Bool) (chain : Chain) → IsListingOptions texts keyed chain → r ≡ Some (keyed, chain)
+    → (keyed : Bool) (chain : Chain) → IsListingOptions keyed texts chain → r ≡ Some (keyed, chain)
 only_without texts rest r has only true chain net = absurd (no_key_apart rest texts chain has net)
 only_without texts rest r has only false chain (left, is, net) = only chain (subst (λ ts. IsNet ts chain) (same_rest left rest texts chain is has net) net)
 
 pub only_with : (texts : List (List ℕ)) (r : Option (Bool × Chain)) → ((rest : List (List ℕ)) → HasNoKey rest texts → ⊥) → ((chain : Chain) → IsNet texts chain → r ≡ Some (true, chain))
-    → (keyed : Bool) (chain : Chain) → IsListingOptions texts keyed chain → r ≡ Some (keyed, chain)
+    → (keyed : Bool) (chain : Chain) → IsListingOptions keyed texts chain → r ≡ Some (keyed, chain)
 only_with texts r none only true chain net = only chain net
 only_with texts r none only false chain (rest, has, net) = absurd (none rest has)
 

@@ -1,3 +1,4 @@
 pub mod Choosing
+pub mod WithCore
 pub mod Asking
 pub mod Names

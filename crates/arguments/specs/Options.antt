@@ -3,9 +3,12 @@ use Rattle.std.specs.Prelude.{◌≡◌, ◌⊎◌, ℕ, ◌<◌, ◌^◌, List,
 use Rattle.std.specs.Int.{w32, to_be_bytes}
 use Rattle.hex.specs.Hex.{decode_of}
 use Rattle.peers_file.specs.declared.chain.Chain.{Chain}
+use Rattle.placing.specs.declared.sum.SumRule.{SumRule}
+use Rattle.placing.specs.declared.sum.SumRule.TheVariants.{Bytes, Bits}
 use Rattle.peers_file.specs.declared.chain.Chain.TheVariants.{Main, Test, Testnet4, Signet, Regtest, Other}
 use Rattle.arguments.specs.declared.chain_option.ChainOption.{ChainOption}
 use Rattle.arguments.specs.declared.chain_option.ChainOption.TheVariants.{Net, Magic}
+use Rattle.arguments.specs.declared.file_kind.FileKind.{FileKind}
 
 -- a key of 32 bytes, as 64 hexadecimal digits in either case
 abbrev pub IsKey : List ℕ → List ℕ → Type 0
@@ -46,21 +49,15 @@ IsNet options chain =
     ⊎ ((by : ChainOption) × (value : List ℕ) × IsChainValue by value chain
     × IsOption (chain_option by) value options)
 
--- the arguments ask for the records of a file of this chain, or for none
-abbrev pub IsPeersOption : List (List ℕ) → Option Chain → Type 0
-IsPeersOption options None = options ≡ []
-IsPeersOption options (Some chain) =
-    (rest : List (List ℕ)) × (options ≡ codes "--peers" ∷ rest) × IsNet rest chain
-
 -- these arguments, and `--no-key` before or after them
 abbrev pub HasNoKey : List (List ℕ) → List (List ℕ) → Type 0
 HasNoKey rest options =
     (options ≡ codes "--no-key" ∷ rest) ⊎ (options ≡ rest ++ codes "--no-key" ∷ [])
 
 -- the arguments choose a chain, and whether the key is listed
-abbrev pub IsListingOptions : List (List ℕ) → Bool → Chain → Type 0
-IsListingOptions options true chain = IsNet options chain
-IsListingOptions options false chain =
+abbrev pub IsListingOptions : Bool → List (List ℕ) → Chain → Type 0
+IsListingOptions true options chain = IsNet options chain
+IsListingOptions false options chain =
     (rest : List (List ℕ)) × HasNoKey rest options × IsNet rest chain
 
 -- the arguments choose a key, or none
@@ -70,7 +67,28 @@ IsKeyOption options (Some key) =
     (digits : List ℕ) × IsKey digits key × IsOption (codes "--key") digits options
 
 -- the arguments choose a key, or none, and a chain, in either order
-abbrev pub IsOpeningOptions : List (List ℕ) → Option (List ℕ) → Chain → Type 0
-IsOpeningOptions options key chain =
+abbrev pub IsOpeningOptions : Option (List ℕ) → List (List ℕ) → Chain → Type 0
+IsOpeningOptions key options chain =
     (first : List (List ℕ)) × (second : List (List ℕ)) × (options ≡ first ++ second) ×
     ((IsKeyOption first key × IsNet second chain) ⊎ (IsNet first chain × IsKeyOption second key))
+
+-- the arguments ask for the records of a file of this chain
+abbrev pub IsAfterPeers : List (List ℕ) → Chain → Type 0
+IsAfterPeers options chain =
+    (rest : List (List ℕ)) × (options ≡ codes "--peers" ∷ rest) × IsNet rest chain
+
+-- the arguments begin with `--core`, which chooses Bitcoin Core's checksum of an asmap, or do not;
+-- the others are the rest
+abbrev pub HasRule : SumRule → List (List ℕ) → List (List ℕ) → Type 0
+HasRule Bytes rest options = options ≡ rest
+HasRule Bits rest options = options ≡ codes "--core" ∷ rest
+
+-- the arguments choose a rule, and the others a chain among other things
+abbrev pub IsFileOptions : (List (List ℕ) → Chain → Type 0) → List (List ℕ) → FileKind → Type 0
+IsFileOptions IsChosen options kind =
+    (rest : List (List ℕ)) × HasRule kind.rule rest options × IsChosen rest kind.chain
+
+-- the arguments ask for the records of a file of this kind, or for none
+abbrev pub IsPeersOption : List (List ℕ) → Option FileKind → Type 0
+IsPeersOption options None = options ≡ []
+IsPeersOption options (Some kind) = IsFileOptions IsAfterPeers options kind

@@ -9,8 +9,8 @@ use Rattle.grammar.specs.Fields.{AllMean, Kind, Number, OfPeer, Value, TheNumber
 use Rattle.names.specs.Text.{IsTextOf}
 use Rattle.net_addr.specs.Address.{Address as NetAddress}
 use Rattle.net_addr.specs.declared.peer.Peer.{Peer}
-use Rattle.peers_file.specs.declared.chain.Chain.{Chain}
-use Rattle.arguments.specs.Options.{IsListingOptions, IsNet, IsOpeningOptions, IsPeersOption}
+use Rattle.arguments.specs.Options.{IsFileOptions, IsListingOptions, IsNet, IsOpeningOptions, IsPeersOption}
+use Rattle.arguments.specs.declared.file_kind.FileKind.{FileKind}
 use Rattle.arguments.specs.declared.name.CommandName.{CommandName}
 use Rattle.arguments.specs.declared.name.CommandName.TheVariants as name
 use Rattle.arguments.specs.declared.request.Request.{Request}
@@ -62,7 +62,8 @@ NameCommand texts (Some name) = texts ≡ command_word name ∷ []
 -- What comes after the name of a command: fields of these kinds; the options `--key` and `--net`;
 -- only `--net`; `--net` and `--no-key`; `--peers` and `--net`, or nothing; a subnet; a subnet and
 -- two times, the earlier one first; the name of a command or nothing; `-` or a peer; or `-`, or
--- else what people write for an address. `--magic` with digits may be in the place of `--net`.
+-- else what people write for an address. `--magic` with digits may be in the place of `--net`, and
+-- `--core` before all options.
 pub data Form : Type 0 where
   Fields : List Kind → Form
   Opening : Form
@@ -78,10 +79,10 @@ pub data Form : Type 0 where
 -- the values of the arguments after a name
 pub data Values : Type 0 where
   TheFields : List Value → Values
-  TheOpening : Option (List ℕ) → Chain → Values
-  TheChain : Chain → Values
-  TheListing : Bool → Chain → Values
-  TheRecords : Option Chain → Values
+  TheOpening : Option (List ℕ) → FileKind → Values
+  TheKind : FileKind → Values
+  TheListing : Bool → FileKind → Values
+  TheRecords : Option FileKind → Values
   TheSubnet : Subnet → Values
   ThePeriod : Subnet → ℕ → ℕ → Values
   TheCommand : Option CommandName → Values
@@ -96,13 +97,14 @@ abbrev pub Reads : Form → List (List ℕ) → Values → Type 0
 Reads (Fields kinds) texts v =
     (values : List Value) × (v ≡ TheFields values) × AllMean kinds texts values
 Reads Opening texts v =
-    (key : Option (List ℕ)) × (chain : Chain) × (v ≡ TheOpening key chain)
-    × IsOpeningOptions texts key chain
-Reads Network texts v = (chain : Chain) × (v ≡ TheChain chain) × IsNet texts chain
+    (key : Option (List ℕ)) × (kind : FileKind) × (v ≡ TheOpening key kind)
+    × IsFileOptions (IsOpeningOptions key) texts kind
+Reads Network texts v = (kind : FileKind) × (v ≡ TheKind kind) × IsFileOptions IsNet texts kind
 Reads Listing texts v =
-    (keyed : Bool) × (chain : Chain) × (v ≡ TheListing keyed chain)
-    × IsListingOptions texts keyed chain
-Reads Records texts v = (peers : Option Chain) × (v ≡ TheRecords peers) × IsPeersOption texts peers
+    (keyed : Bool) × (kind : FileKind) × (v ≡ TheListing keyed kind)
+    × IsFileOptions (IsListingOptions keyed) texts kind
+Reads Records texts v =
+    (peers : Option FileKind) × (v ≡ TheRecords peers) × IsPeersOption texts peers
 Reads OfSubnet texts v =
     (text : List ℕ) × (subnet : Subnet) × (v ≡ TheSubnet subnet)
     × (texts ≡ text ∷ []) × IsSubnetText text subnet
@@ -149,8 +151,8 @@ form_of other = Fields []
 
 -- the name of a request's command
 abbrev pub name_of : Request → CommandName
-name_of (Replay key chain) = name.Replay
-name_of (Opener key chain) = name.Opener
+name_of (Replay key kind) = name.Replay
+name_of (Opener key kind) = name.Opener
 name_of Compile = name.Compile
 name_of Check = name.Check
 name_of Decompile = name.Decompile
@@ -160,11 +162,11 @@ name_of (Lookup peer) = name.Lookup
 name_of LookupLines = name.Lookup
 name_of (Address addr) = name.Address
 name_of AddressLines = name.Address
-name_of (Show keyed chain) = name.Show
-name_of (Picture chain) = name.Picture
-name_of (Raw chain) = name.Raw
-name_of (Info chain) = name.Info
-name_of (Groups chain) = name.Groups
+name_of (Show keyed kind) = name.Show
+name_of (Picture kind) = name.Picture
+name_of (Raw kind) = name.Raw
+name_of (Info kind) = name.Info
+name_of (Groups kind) = name.Groups
 name_of (Ban subnet now until) = name.Ban
 name_of (Unban subnet) = name.Unban
 name_of (Banned peer now) = name.Banned
@@ -176,15 +178,15 @@ name_of Version = name.Version
 
 -- the values of its arguments
 abbrev pub request_values : Request → Values
-request_values (Replay key chain) = TheOpening key chain
-request_values (Opener key chain) = TheOpening key chain
+request_values (Replay key kind) = TheOpening key kind
+request_values (Opener key kind) = TheOpening key kind
 request_values (Lookup peer) = TheFields (ThePeer peer ∷ [])
 request_values (Address addr) = TheAddress addr
-request_values (Show keyed chain) = TheListing keyed chain
-request_values (Picture chain) = TheChain chain
-request_values (Raw chain) = TheChain chain
-request_values (Info chain) = TheChain chain
-request_values (Groups chain) = TheChain chain
+request_values (Show keyed kind) = TheListing keyed kind
+request_values (Picture kind) = TheKind kind
+request_values (Raw kind) = TheKind kind
+request_values (Info kind) = TheKind kind
+request_values (Groups kind) = TheKind kind
 request_values (Diff peers) = TheRecords peers
 request_values (Ban subnet now until) = ThePeriod subnet now until
 request_values (Unban subnet) = TheSubnet subnet

@@ -13,6 +13,7 @@ mod address;
 mod bans;
 mod chain_option;
 mod commands;
+mod file_kind;
 mod help;
 mod name;
 mod options;
@@ -20,6 +21,7 @@ mod pages;
 mod read;
 mod request;
 
+pub use file_kind::FileKind;
 pub use help::help_text;
 pub use name::CommandName;
 pub use read::read_request;

@@ -1,8 +1,7 @@
 ghost use Rattle.std.specs.Prelude.{◌≡◌, ◌≢◌, ℕ, List, [], ◌∷◌, ◌++◌, Bool, false, codes, map, string_bytes, Option, Some, IfSome, IfNone};
 ghost use Rattle.std.specs.Option.{option_map};
 ghost use Rattle.arguments.specs.Inside.{Begins};
-ghost use Rattle.arguments.specs.Options.{HasNoKey, IsChainValue, IsKey, IsKeyOption, IsListingOptions, IsNet, IsOpeningOptions, IsOption, IsPeersOption, chain_option};
-ghost use Rattle.arguments.specs.Table.{HasNoValues, Listing, Network, Opening, Records};
+ghost use Rattle.arguments.specs.Options.{HasNoKey, IsAfterPeers, IsChainValue, IsKey, IsKeyOption, IsListingOptions, IsNet, IsOpeningOptions, IsOption, chain_option};
 ghost use Rattle.arguments.specs.declared.chain_option.ChainOption.{ChainOption};
 ghost use Rattle.peers_file.specs.declared.chain.Chain.{Chain};
 
@@ -13,10 +12,9 @@ use peers_file::Chain;
 /// Reads the arguments that say how tables are opened: `--key` with a key, and `--net` or `--magic`
 /// with a chain, each at most once.
 pub(crate) fn read_opening(words: &[String]) -> Option<(Option<[u8; 32]>, Chain)>
-    ensures found { IfSome result (λ o. IsOpeningOptions (map string_bytes words.now) o.0 o.1) }
+    ensures found { IfSome result (λ o. IsOpeningOptions o.0 (map string_bytes words.now) o.1) }
     ensures only { (key : Option (List ℕ)) (chain : Chain) →
-        IsOpeningOptions (map string_bytes words.now) key chain → result ≡ Some (key, chain) }
-    ensures none { IfNone result (HasNoValues Opening (map string_bytes words.now)) }
+        IsOpeningOptions key (map string_bytes words.now) chain → result ≡ Some (key, chain) }
 {
     if words.is_empty() {
         return Some((None, Chain::Main));
@@ -76,7 +74,6 @@ pub(crate) fn read_net(words: &[String]) -> Option<Chain>
     ensures found { IfSome result (λ chain. IsNet (map string_bytes words.now) chain) }
     ensures only { (chain : Chain) → IsNet (map string_bytes words.now) chain →
         result ≡ Some chain }
-    ensures none { IfNone result (HasNoValues Network (map string_bytes words.now)) }
 {
     if words.is_empty() {
         return Some(Chain::Main);
@@ -90,13 +87,12 @@ pub(crate) fn read_net(words: &[String]) -> Option<Chain>
     read_chain(by, value)
 }
 
-/// Reads the arguments after `show`: those that choose a chain, and `--no-key` before or after them
-/// if the key is left out.
+/// Reads the arguments that choose a chain, and `--no-key` before or after them if the key is not
+/// listed.
 pub(crate) fn read_listing(words: &[String]) -> Option<(bool, Chain)>
-    ensures found { IfSome result (λ o. IsListingOptions (map string_bytes words.now) o.0 o.1) }
+    ensures found { IfSome result (λ o. IsListingOptions o.0 (map string_bytes words.now) o.1) }
     ensures only { (keyed : Bool) (chain : Chain) →
-        IsListingOptions (map string_bytes words.now) keyed chain → result ≡ Some (keyed, chain) }
-    ensures none { IfNone result (HasNoValues Listing (map string_bytes words.now)) }
+        IsListingOptions keyed (map string_bytes words.now) chain → result ≡ Some (keyed, chain) }
 {
     match without_no_key(words) {
         Some(rest) => listing_of(false, rest),
@@ -123,7 +119,7 @@ fn without_no_key(words: &[String]) -> Option<&[String]>
     ensures none { IfNone result ((rest : List (List ℕ)) →
         ¬ HasNoKey rest (map string_bytes words.now)) }
 {
-    if let Some(rest) = after_no_key(words) {
+    if let Some(rest) = after_flag(words, b"--no-key") {
         return Some(rest);
     }
     match before_no_key(words) {
@@ -132,17 +128,17 @@ fn without_no_key(words: &[String]) -> Option<&[String]>
     }
 }
 
-/// Returns the arguments after `--no-key`, if it is the first.
-fn after_no_key(words: &[String]) -> Option<&[String]>
+/// Returns the arguments after the option `flag`, which has no value, if it is the first.
+pub(crate) fn after_flag<'a>(words: &'a [String], flag: &[u8]) -> Option<&'a [String]>
     ensures found { IfSome result (λ rest.
-        map string_bytes words.now ≡ codes "--no-key" ∷ map string_bytes rest.now) }
+        map string_bytes words.now ≡ flag.now ∷ map string_bytes rest.now) }
     ensures none { IfNone result ((rest : List (List ℕ)) →
-        map string_bytes words.now ≢ codes "--no-key" ∷ rest) }
+        map string_bytes words.now ≢ flag.now ∷ rest) }
 {
     let Some((first, rest)) = first_word(words) else {
         return None;
     };
-    if first == b"--no-key".as_slice() {
+    if first == flag {
         return Some(rest);
     }
     None
@@ -165,23 +161,10 @@ fn before_no_key(words: &[String]) -> Option<&[String]>
     None
 }
 
-/// Reads the arguments that are `--peers` and after it those that choose a chain, or none.
-pub(crate) fn read_peers(words: &[String]) -> Option<Option<Chain>>
-    ensures found { IfSome result (IsPeersOption (map string_bytes words.now)) }
-    ensures none { IfNone result (HasNoValues Records (map string_bytes words.now)) }
-{
-    if words.is_empty() {
-        return Some(None);
-    }
-    let chain = read_after_peers(words)?;
-    Some(Some(chain))
-}
-
 /// Reads `--peers` and after it the arguments that choose a chain.
-fn read_after_peers(words: &[String]) -> Option<Chain>
-    ensures found { IfSome result (λ chain.
-        IsPeersOption (map string_bytes words.now) (Some chain)) }
-    ensures only { (chain : Chain) → IsPeersOption (map string_bytes words.now) (Some chain) →
+pub(crate) fn read_after_peers(words: &[String]) -> Option<Chain>
+    ensures found { IfSome result (IsAfterPeers (map string_bytes words.now)) }
+    ensures only { (chain : Chain) → IsAfterPeers (map string_bytes words.now) chain →
         result ≡ Some chain }
 {
     let (first, rest) = first_word(words)?;

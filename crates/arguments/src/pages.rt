@@ -13,7 +13,7 @@ unban: they replace its files. `addrman help COMMAND` says more of a command.
 ";
 
 pub(crate) const REPLAY: Page = (
-    "replay [--key HEX64] [--net CHAIN]",
+    "replay [--key HEX64] [--net CHAIN] [--core]",
     "carries out the log on standard input, over the tables of peers.dat",
     "\
 Reads    standard input, a log; asmap.dat and peers.dat, if they are there.
@@ -21,6 +21,7 @@ Writes   the reply to each line; peers.dat, by way of peers.tmp, when a line sav
 HEX64    the node's key, 64 hexadecimal digits, needed if there is no peers.dat.
 CHAIN    main, test, testnet4, signet or regtest; main if it is left out. In place of
          --net may be --magic and the 8 hexadecimal digits that its files begin with.
+--core   takes the checksum of asmap.dat in peers.dat as Bitcoin Core 24 to 30 does.
 Codes    0 done, 2 bad usage, 3 a line has an error, 4 peers.dat is refused,
          5 asmap.dat is refused, 7 the log cannot be read, 8 the output cannot be
          written, 9 the folder failed, 10 the log is too long, 11 no peers.dat and
@@ -29,7 +30,7 @@ Codes    0 done, 2 bad usage, 3 a line has an error, 4 peers.dat is refused,
 );
 
 pub(crate) const OPENER: Page = (
-    "opener [--key HEX64] [--net CHAIN]",
+    "opener [--key HEX64] [--net CHAIN] [--core]",
     "carries out a log without saving, and decides to whom to connect",
     "\
 Reads    standard input, a log; asmap.dat and peers.dat, if they are there.
@@ -37,6 +38,7 @@ Writes   the reply to each line.
 HEX64    the node's key, 64 hexadecimal digits, needed if there is no peers.dat.
 CHAIN    main, test, testnet4, signet or regtest; main if it is left out. In place of
          --net may be --magic and the 8 hexadecimal digits that its files begin with.
+--core   takes the checksum of asmap.dat in peers.dat as Bitcoin Core 24 to 30 does.
 Codes    0 done, 2 bad usage, 3 a line has an error, 4 peers.dat is refused,
          5 asmap.dat is refused, 7 the log cannot be read, 8 the output cannot be
          written, 9 the folder failed, 10 the log is too long, 11 no peers.dat and
@@ -58,7 +60,7 @@ Codes    0 done, 2 bad usage, 3 a line has an error, 7 the log cannot be read,
 );
 
 pub(crate) const SHOW: Page = (
-    "show [--net CHAIN] [--no-key]",
+    "show [--net CHAIN] [--no-key] [--core]",
     "lists the key and the records of peers.dat",
     "\
 Reads    peers.dat.
@@ -66,13 +68,14 @@ Writes   a line for the file, with its key unless --no-key is given, and one for
          record.
 CHAIN    main, test, testnet4, signet or regtest; main if it is left out. In place of
          --net may be --magic and the 8 hexadecimal digits that its files begin with.
+--core   changes nothing here: no checksum of asmap.dat is compared.
 Codes    0 done, 2 bad usage, 4 peers.dat is refused, 8 the output cannot be written,
          9 the folder failed, 12 out of memory, 14 peers.dat is missing.
 ",
 );
 
 pub(crate) const PICTURE: Page = (
-    "picture [--net CHAIN]",
+    "picture [--net CHAIN] [--core]",
     "draws the tables of peers.dat, an SVG",
     "\
 Reads    asmap.dat, if it is there, and peers.dat.
@@ -80,6 +83,7 @@ Writes   one SVG: both tables, with the six source groups that have the most slo
          colours, and a list of them.
 CHAIN    main, test, testnet4, signet or regtest; main if it is left out. In place of
          --net may be --magic and the 8 hexadecimal digits that its files begin with.
+--core   takes the checksum of asmap.dat in peers.dat as Bitcoin Core 24 to 30 does.
 Codes    0 done, 2 bad usage, 4 peers.dat is refused, 5 asmap.dat is refused,
          8 the output cannot be written, 9 the folder failed, 12 out of memory,
          14 peers.dat is missing.
@@ -87,13 +91,14 @@ Codes    0 done, 2 bad usage, 4 peers.dat is refused, 5 asmap.dat is refused,
 );
 
 pub(crate) const RAW: Page = (
-    "raw [--net CHAIN]",
+    "raw [--net CHAIN] [--core]",
     "prints the records of peers.dat by the slots that they are in, as JSON",
     "\
 Reads    peers.dat; asmap.dat, if it is there.
 Writes   what Bitcoin Core's getrawaddrman returns.
 CHAIN    main, test, testnet4, signet or regtest; main if it is left out. In place of
          --net may be --magic and the 8 hexadecimal digits that its files begin with.
+--core   takes the checksum of asmap.dat in peers.dat as Bitcoin Core 24 to 30 does.
 Codes    0 done, 2 bad usage, 4 peers.dat is refused, 5 asmap.dat is refused,
          8 the output cannot be written, 9 the folder failed, 12 out of memory,
          14 peers.dat is missing.
@@ -101,13 +106,14 @@ Codes    0 done, 2 bad usage, 4 peers.dat is refused, 5 asmap.dat is refused,
 );
 
 pub(crate) const INFO: Page = (
-    "info [--net CHAIN]",
+    "info [--net CHAIN] [--core]",
     "prints how many records of peers.dat each network has, as JSON",
     "\
 Reads    peers.dat; asmap.dat, if it is there.
 Writes   what Bitcoin Core's getaddrmaninfo returns.
 CHAIN    main, test, testnet4, signet or regtest; main if it is left out. In place of
          --net may be --magic and the 8 hexadecimal digits that its files begin with.
+--core   takes the checksum of asmap.dat in peers.dat as Bitcoin Core 24 to 30 does.
 Codes    0 done, 2 bad usage, 4 peers.dat is refused, 5 asmap.dat is refused,
          8 the output cannot be written, 9 the folder failed, 12 out of memory,
          14 peers.dat is missing.
@@ -115,7 +121,7 @@ Codes    0 done, 2 bad usage, 4 peers.dat is refused, 5 asmap.dat is refused,
 );
 
 pub(crate) const GROUPS: Page = (
-    "groups [--net CHAIN]",
+    "groups [--net CHAIN] [--core]",
     "prints how much of peers.dat each group has, as JSON",
     "\
 Reads    peers.dat; asmap.dat, if it is there.
@@ -123,6 +129,7 @@ Writes   for each group its slots, buckets and records; their sums; how many AS 
          asmap.dat gives the records, and how many of these it gives none.
 CHAIN    main, test, testnet4, signet or regtest; main if it is left out. In place of
          --net may be --magic and the 8 hexadecimal digits that its files begin with.
+--core   takes the checksum of asmap.dat in peers.dat as Bitcoin Core 24 to 30 does.
 Codes    0 done, 2 bad usage, 4 peers.dat is refused, 5 asmap.dat is refused,
          8 the output cannot be written, 9 the folder failed, 12 out of memory,
          14 peers.dat is missing.
@@ -153,7 +160,7 @@ Codes    0 done, 2 bad usage, 5 asmap.dat is refused, 8 the output cannot be wri
 );
 
 pub(crate) const DIFF: Page = (
-    "diff [--peers [--net CHAIN]]",
+    "diff [--peers [--net CHAIN] [--core]]",
     "prints the prefixes whose AS number differs between asmap.old and asmap.dat",
     "\
 Reads    asmap.old and asmap.dat; with --peers also peers.dat.
@@ -162,6 +169,7 @@ Writes   what diff of Bitcoin Core's asmap-tool.py prints, but for its powers of
          these are.
 CHAIN    main, test, testnet4, signet or regtest; main if it is left out. In place of
          --net may be --magic and the 8 hexadecimal digits that its files begin with.
+--core   changes nothing here: no checksum of asmap.dat is compared.
 Codes    0 done, 2 bad usage, 4 peers.dat is refused, 5 asmap.dat is refused,
          8 the output cannot be written, 9 the folder failed, 12 out of memory,
          14 a file is missing, 18 asmap.old is refused, 19 more than 2,000,000

@@ -7,8 +7,9 @@ use crate::Request;
 use crate::address::read_address;
 use crate::bans::{read_period, read_subnet};
 use crate::commands::{plain_word, read_command};
+use crate::file_kind::{read_file_kind, read_listing_kind, read_opening_kind, read_records};
 use crate::name::{CommandName, NAMES};
-use crate::options::{first_word, only_word, read_listing, read_net, read_opening, read_peers};
+use crate::options::{first_word, only_word};
 use ban_list::texts_have_one_meaning;
 use gen_load::MAX_LINES;
 use grammar::{Between, Fields, LongBetween, OnePeer, find_keyword, read_fields};
@@ -55,37 +56,37 @@ fn read_after(alloc: Global, name: CommandName, rest: &[String]) -> Option<Reque
 {
     match name {
         CommandName::Replay => {
-            let (key, chain) = read_opening(rest)?;
-            Some(Request::Replay { key, chain })
+            let (key, kind) = read_opening_kind(rest)?;
+            Some(Request::Replay { key, kind })
         }
         CommandName::Opener => {
-            let (key, chain) = read_opening(rest)?;
-            Some(Request::Opener { key, chain })
+            let (key, kind) = read_opening_kind(rest)?;
+            Some(Request::Opener { key, kind })
         }
         CommandName::Compile => only_name(rest, Request::Compile),
         CommandName::Check => only_name(rest, Request::Check),
         CommandName::Decompile => only_name(rest, Request::Decompile),
         CommandName::Diff => Some(Request::Diff {
-            peers: read_peers(rest)?,
+            peers: read_records(rest)?,
         }),
         CommandName::Limit => only_name(rest, Request::Limit),
         CommandName::Lookup => read_lookup(alloc, rest),
         CommandName::Address => read_addresses(rest),
         CommandName::Show => {
-            let (keyed, chain) = read_listing(rest)?;
-            Some(Request::Show { keyed, chain })
+            let (keyed, kind) = read_listing_kind(rest)?;
+            Some(Request::Show { keyed, kind })
         }
         CommandName::Picture => Some(Request::Picture {
-            chain: read_net(rest)?,
+            kind: read_file_kind(rest)?,
         }),
         CommandName::Raw => Some(Request::Raw {
-            chain: read_net(rest)?,
+            kind: read_file_kind(rest)?,
         }),
         CommandName::Info => Some(Request::Info {
-            chain: read_net(rest)?,
+            kind: read_file_kind(rest)?,
         }),
         CommandName::Groups => Some(Request::Groups {
-            chain: read_net(rest)?,
+            kind: read_file_kind(rest)?,
         }),
         CommandName::Ban => {
             let (subnet, now, until) = read_period(rest)?;

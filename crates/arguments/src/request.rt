@@ -1,23 +1,22 @@
-use crate::CommandName;
+use crate::{CommandName, FileKind};
 use ban_list::Subnet;
 use net_addr::{NetAddr, Peer};
-use peers_file::Chain;
 
 /// What the arguments ask for.
-#[derive(Clone, Copy, Debug)]
+#[derive(Clone, Copy)]
 pub enum Request {
     /// `replay --key HEX64 --net CHAIN`: carry out the lines of the log, from the tables of
     /// peers.dat, a file of this chain (of main without `--net`), or if it is absent, from empty
     /// tables with this key.
     Replay {
         key: Option<[u8; 32]>,
-        chain: Chain,
+        kind: FileKind,
     },
     /// `opener --key HEX64 --net CHAIN`: carry out the lines of a log that also opens, tests and
     /// closes outbound connections, from the tables that a replay with these options begins with.
     Opener {
         key: Option<[u8; 32]>,
-        chain: Chain,
+        kind: FileKind,
     },
     /// `compile`: compile prefixes.txt into asmap.dat, and say how large it is.
     Compile,
@@ -28,7 +27,7 @@ pub enum Request {
     /// `diff`: write the prefixes whose number differs between asmap.old and asmap.dat; with
     /// `--peers --net CHAIN` also the records of peers.dat, a file of this chain, whose group does.
     Diff {
-        peers: Option<Chain>,
+        peers: Option<FileKind>,
     },
     /// `limit`: limit the addresses that each connection may send, and write the log that is left.
     Limit,
@@ -48,27 +47,27 @@ pub enum Request {
     /// With `--no-key` the key is left out.
     Show {
         keyed: bool,
-        chain: Chain,
+        kind: FileKind,
     },
     /// `picture --net CHAIN`: write a picture of the tables that peers.dat, a file of this chain,
     /// opens with asmap.dat.
     Picture {
-        chain: Chain,
+        kind: FileKind,
     },
     /// `raw --net CHAIN`: print the records of peers.dat, a file of this chain, by the slots that
     /// they are in, as JSON.
     Raw {
-        chain: Chain,
+        kind: FileKind,
     },
     /// `info --net CHAIN`: print how many records of peers.dat, a file of this chain, each network
     /// has, as JSON.
     Info {
-        chain: Chain,
+        kind: FileKind,
     },
     /// `groups --net CHAIN`: print how many slots, buckets and records of peers.dat, a file of this
     /// chain, each group has, as JSON.
     Groups {
-        chain: Chain,
+        kind: FileKind,
     },
     /// `ban SUBNET NOW UNTIL`: drop the bans of banlist.json that are over, and ban the subnet
     /// until a later time, unless it is banned until then or later already, or the list is full.

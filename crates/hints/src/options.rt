@@ -16,6 +16,7 @@ enum Name {
     Key,
     Net,
     Magic,
+    Core,
 }
 
 /// An option, and the value that an argument has after `=`.
@@ -32,6 +33,7 @@ impl Name {
             Name::Key => "--key",
             Name::Net => "--net",
             Name::Magic => "--magic",
+            Name::Core => "--core",
         }
     }
 
@@ -39,7 +41,8 @@ impl Name {
     fn in_form(self) -> &'static str {
         match self {
             Name::Key => "--key",
-            _ => "--net",
+            Name::Core => "--core",
+            Name::Net | Name::Magic => "--net",
         }
     }
 
@@ -49,7 +52,13 @@ impl Name {
             Name::Key => "64 hexadecimal digits",
             Name::Net => "main, test, testnet4, signet or regtest",
             Name::Magic => "8 hexadecimal digits",
+            Name::Core => "",
         }
+    }
+
+    /// Returns whether a value comes after it.
+    fn has_value(self) -> bool {
+        self != Name::Core
     }
 }
 
@@ -77,8 +86,8 @@ pub(crate) fn explain_options(
             return Ok(text);
         }
         pending = match given.value {
-            Some(_) => None,
-            None => Some(name),
+            None if name.has_value() => Some(name),
+            _ => None,
         };
     }
     match pending {
@@ -100,7 +109,7 @@ fn given_by<'a>(form: &'static str, pending: Option<Name>, word: &'a str) -> Opt
 
 /// Returns the option of the form that an argument begins with.
 fn option_of<'a>(form: &'static str, word: &'a str) -> Option<Given<'a>> {
-    for name in [Name::Key, Name::Net, Name::Magic] {
+    for name in [Name::Key, Name::Net, Name::Magic, Name::Core] {
         if !form.contains(name.in_form()) {
             continue;
         }
@@ -108,7 +117,7 @@ fn option_of<'a>(form: &'static str, word: &'a str) -> Option<Given<'a>> {
             return Some(Given { name, value: None });
         }
         let value = after_equals(word, name.text());
-        if value.is_some() {
+        if name.has_value() && value.is_some() {
             return Some(Given { name, value });
         }
     }

@@ -10,7 +10,7 @@ pub returns-in-Err-load_input-clause-cause : goal.returns-in-Err-load_input-clau
 returns-in-Err-load_input-clause-cause g c =
     let past = g.F.Folder.past c.args.folder.now in
     let map : HasMap past = (map_of c.in-Ok.map, c.in-Ok.ensures.found) in
-    no_peers c.args.key c.args.chain past map c.in-Err-load_input.status
+    no_peers c.args.key c.args.kind.chain past map c.in-Err-load_input.status
     (subst (λ p. IsLoadFault input.Peers p c.in-Err-load_input.status) c.open_map.ensures.same c.in-Err-load_input.ensures.cause)
 
 pub returns-clause-found : goal.returns-clause-found
@@ -21,7 +21,7 @@ returns-clause-found g c =
     (λ tables is sound. record {
       map = map;
       has_map = c.in-Ok.ensures.found;
-      opens = opens c.args.key c.args.chain past c.in-Ok-load_input.file map tables
+      opens = opens c.args.key c.args.kind past c.in-Ok-load_input.file map tables
           (found_before _ past c.in-Ok-load_input.file c.open_map.ensures.same c.in-Ok-load_input.ensures.found) is;
       sound = sound;
     })
@@ -32,6 +32,6 @@ returns-clause-cause g c =
     let past = g.F.Folder.past c.args.folder.now in
     let map : HasMap past = (map_of c.in-Ok.map, c.in-Ok.ensures.found) in
     err_so _ _ c.open_tables.result
-    (λ status is. not_opened c.args.key c.args.chain past map c.in-Ok-load_input.file status
+    (λ status is. not_opened c.args.key c.args.kind.chain past map c.in-Ok-load_input.file status
     (found_before _ past c.in-Ok-load_input.file c.open_map.ensures.same c.in-Ok-load_input.ensures.found) is)
     c.open_tables.ensures.cause

@@ -9,10 +9,10 @@ pub returns-clause-outcome : goal.returns-clause-outcome
 returns-clause-outcome g c =
     let old = outside g.L.Source g.F.Folder g.K.Sink c.args.log.now c.args.folder.now c.args.out.now in
     let new = outside g.L.Source g.F.Folder g.K.Sink c.run_log.new.log c.run_log.new.world c.run_log.new.out in
-    subst (ReplayOutcome c.args.key c.args.chain old new) (sym c.status_of.ensures)
-    (by_status (Replayed c.args.key c.args.chain old new) (NotOpened c.args.key c.args.chain old new) c.run_log.result
-    (replayed g.F.Folder.past g.F.Folder.faults c.args.key c.args.chain c.in-Ok.tables c.make-session.result old new c.open_folder.new.folder c.run_log.new.world c.run_log.result
-    c.in-Ok.ensures.found (starts c.args.chain c.in-Ok.tables c.make-session.result c.open.result c.make-session.ensures c.open.ensures)
+    subst (ReplayOutcome c.args.key c.args.kind old new) (sym c.status_of.ensures)
+    (by_status (Replayed c.args.key c.args.kind old new) (NotOpened c.args.key c.args.kind.chain old new) c.run_log.result
+    (replayed g.F.Folder.past g.F.Folder.faults c.args.key c.args.kind c.in-Ok.tables c.make-session.result old new c.open_folder.new.folder c.run_log.new.world c.run_log.result
+    c.in-Ok.ensures.found (starts c.args.kind.chain c.in-Ok.tables c.make-session.result c.open.result c.make-session.ensures c.open.ensures)
     c.in-Ok.ensures.small c.open_folder.ensures.same c.open_folder.ensures.disk.0 refl refl c.run_log.ensures.ran))
 
 pub returns-clause-read : goal.returns-clause-read

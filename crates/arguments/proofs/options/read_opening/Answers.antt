@@ -2,7 +2,6 @@ use Rattle.std.proofs.Common.{length, string_bytes, ap, sym, ◌∙◌, arith}
 use Rattle.std.proofs.lemmas.Bool.{eqb-false}
 use Rattle.std.proofs.lemmas.List.{length-map}
 use Rattle.arguments.proofs.Choosing.{found_by_key, found_by_net, only_by_key, only_by_net, no_options}
-use Rattle.arguments.proofs.Asking.{no_opening}
 use Rattle.arguments.proofs.options.read_opening.Goals as goal
 
 pub returns-in-Some-clause-found : goal.returns-in-Some-clause-found
@@ -22,12 +21,3 @@ returns-clause-found c = found_by_net _ _ _ _ _ c.in-Some-cut_chain.ensures.foun
 
 pub returns-clause-only : goal.returns-clause-only
 returns-clause-only c = only_by_net _ _ _ _ _ c.in-Some-cut_chain.ensures.found c.read_net_then_key.ensures.only
-
-pub returns-in-Some-clause-none : goal.returns-in-Some-clause-none
-returns-in-Some-clause-none c = no_opening _ _ (returns-in-Some-clause-only c)
-
-pub returns-in_default-cut_chain-clause-none : goal.returns-in_default-cut_chain-clause-none
-returns-in_default-cut_chain-clause-none c = no_opening _ _ (returns-in_default-cut_chain-clause-only c)
-
-pub returns-clause-none : goal.returns-clause-none
-returns-clause-none c = no_opening _ _ (returns-clause-only c)

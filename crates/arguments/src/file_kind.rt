@@ -1,0 +1,87 @@
+ghost use Rattle.std.specs.Prelude.{◌≡◌, ◌≢◌, ℕ, List, ◌∷◌, codes, map, string_bytes, IfSome, IfNone};
+ghost use Rattle.arguments.specs.Options.{HasRule, IsFileOptions, IsListingOptions, IsNet, IsOpeningOptions, IsPeersOption};
+ghost use Rattle.arguments.specs.Table.{HasNoValues, Listing, Network, Opening, Records};
+ghost use Rattle.placing.specs.declared.sum.SumRule.TheVariants.{Bytes};
+
+use crate::options::{after_flag, read_after_peers, read_listing, read_net, read_opening};
+use peers_file::Chain;
+use placing::SumRule;
+
+/// Which peers.dat is read and written.
+#[derive(Clone, Copy)]
+pub struct FileKind {
+    /// The chain whose peers it has.
+    pub chain: Chain,
+    /// What the checksum in it, of the asmap in use, is taken of: `Bits` with `--core`, as Bitcoin
+    /// Core does it, and else `Bytes`.
+    pub rule: SumRule,
+}
+
+/// Cuts `--core` off the arguments that begin with it, and returns the rule that it chooses and the
+/// rest.
+fn cut_rule(words: &[String]) -> (SumRule, &[String])
+    ensures found { HasRule result.0 (map string_bytes result.1.now) (map string_bytes words.now) }
+    ensures none { result.0 ≡ Bytes → (rest : List (List ℕ)) →
+        map string_bytes words.now ≢ codes "--core" ∷ rest }
+{
+    match after_flag(words, b"--core") {
+        Some(rest) => (SumRule::Bits, rest),
+        None => (SumRule::Bytes, words),
+    }
+}
+
+/// Reads the arguments that say how tables are opened: `--core`, and after it those that choose a
+/// key and a chain.
+pub(crate) fn read_opening_kind(words: &[String]) -> Option<(Option<[u8; 32]>, FileKind)>
+    ensures found { IfSome result (λ o.
+        IsFileOptions (IsOpeningOptions o.0) (map string_bytes words.now) o.1) }
+    ensures none { IfNone result (HasNoValues Opening (map string_bytes words.now)) }
+{
+    let (rule, rest) = cut_rule(words);
+    match read_opening(rest) {
+        Some((key, chain)) => Some((key, FileKind { chain, rule })),
+        None => None,
+    }
+}
+
+/// Reads the arguments that say which peers.dat is read: `--core`, and after it those that choose a
+/// chain.
+pub(crate) fn read_file_kind(words: &[String]) -> Option<FileKind>
+    ensures found { IfSome result (IsFileOptions IsNet (map string_bytes words.now)) }
+    ensures none { IfNone result (HasNoValues Network (map string_bytes words.now)) }
+{
+    let (rule, rest) = cut_rule(words);
+    match read_net(rest) {
+        Some(chain) => Some(FileKind { chain, rule }),
+        None => None,
+    }
+}
+
+/// Reads the arguments after `show`: `--core`, and after it those that choose a chain, and whether
+/// the key is listed.
+pub(crate) fn read_listing_kind(words: &[String]) -> Option<(bool, FileKind)>
+    ensures found { IfSome result (λ o.
+        IsFileOptions (IsListingOptions o.0) (map string_bytes words.now) o.1) }
+    ensures none { IfNone result (HasNoValues Listing (map string_bytes words.now)) }
+{
+    let (rule, rest) = cut_rule(words);
+    match read_listing(rest) {
+        Some((keyed, chain)) => Some((keyed, FileKind { chain, rule })),
+        None => None,
+    }
+}
+
+/// Reads the arguments after `diff`: none, or those that say of which peers.dat the records are.
+pub(crate) fn read_records(words: &[String]) -> Option<Option<FileKind>>
+    ensures found { IfSome result (IsPeersOption (map string_bytes words.now)) }
+    ensures none { IfNone result (HasNoValues Records (map string_bytes words.now)) }
+{
+    if words.is_empty() {
+        return Some(None);
+    }
+    let (rule, rest) = cut_rule(words);
+    match read_after_peers(rest) {
+        Some(chain) => Some(Some(FileKind { chain, rule })),
+        None => None,
+    }
+}
