@@ -1,6 +1,7 @@
 """The command line."""
 
 import hashlib
+from typing import NamedTuple
 
 import bans
 import difference
@@ -30,6 +31,13 @@ CHAIN = ("--net", "--magic")
 OPTIONS = {"replay": ("--key", *CHAIN), "opener": ("--key", *CHAIN), "picture": CHAIN, "raw": CHAIN,
            "info": CHAIN, "groups": CHAIN}
 NO_KEY = b"--no-key"
+CORE = b"--core"
+
+
+class FileKind(NamedTuple):
+    """Which file of peers is meant: the first bytes of its chain's files, and whether its checksum of the asmap is Bitcoin Core's."""
+    start: bytes
+    core: bool
 
 
 def usage(value=None):
@@ -65,6 +73,12 @@ def read_options(arguments: list[bytes], names: tuple[str, ...]) -> dict[str, by
     return options
 
 
+def without_core(arguments: list[bytes]) -> tuple[list[bytes], bool]:
+    """The arguments after `--core`, and whether it is the first."""
+    core = arguments[:1] == [CORE]
+    return arguments[core:], core
+
+
 def key_and_chain(options: dict[str, bytes]) -> tuple[bytes | None, bytes]:
     """The key, if there is one, and the first bytes of the files of the chain of the options."""
     key = usage(read_digits(options["--key"], 32)) if "--key" in options else None
@@ -83,6 +97,7 @@ def chain_option(arguments: list[bytes]) -> bytes:
 
 def listing_options(arguments: list[bytes]) -> tuple[bytes, bool]:
     """The same of the arguments of `show`, and whether it lists the key."""
+    arguments, _ = without_core(arguments)
     if arguments[:1] == [NO_KEY]:
         return chain_option(arguments[1:]), False
     if arguments[-1:] == [NO_KEY]:
@@ -94,9 +109,26 @@ def peers_option(arguments: list[bytes]) -> bytes | None:
     """The same of the file of peers that `--peers` asks for, None without it."""
     if not arguments:
         return None
-    if arguments[0] != b"--peers":
+    arguments, _ = without_core(arguments)
+    if arguments[:1] != [b"--peers"]:
         usage()
     return chain_option(arguments[1:])
+
+
+def sum_said(file: peers_file.PeersFile, asmap: Asmap, core: bool) -> str:
+    """What is said of a file whose checksum of the asmap is not that of the asmap in use."""
+    anew = "its new records are placed anew"
+    if not file.new or file.sum == peers_file.asmap_sum_of(asmap, core):
+        return ""
+    if asmap.data is None:
+        return f"peers.dat was written under an asmap, and asmap.dat is missing: {anew}"
+    if file.sum == peers_file.NO_SUM:
+        return f"peers.dat was written without an asmap: {anew}"
+    if file.sum != peers_file.asmap_sum_of(asmap, not core):
+        return f"peers.dat was written under another asmap: {anew}"
+    if core:
+        return f"peers.dat was written by addrman under this asmap: leave out --core, else {anew}"
+    return f"peers.dat was written by Bitcoin Core under this asmap: use --core, else {anew}"
 
 
 def looked_up(peer: Peer, asmap: Asmap) -> str:
@@ -149,6 +181,7 @@ class Run:
     def __init__(self, read, write, folder: Folder):
         self.read, self.write, self.folder = read, write, folder
         self.passed_over = 0
+        self.sum_said = ""
 
     def emit(self, data: bytes):
         """Writes bytes."""
@@ -178,7 +211,9 @@ class Run:
             self.show(*listing_options(arguments[1:]))
             return
         if name in OPTIONS:
-            method(*key_and_chain(read_options(arguments[1:], OPTIONS[name])))
+            options, core = without_core(arguments[1:])
+            key, start = key_and_chain(read_options(options, OPTIONS[name]))
+            method(key, FileKind(start, core))
             return
         if len(arguments) != method.__code__.co_argcount:
             usage()
@@ -194,11 +229,11 @@ class Run:
             if output is not None:
                 self.print(output)
 
-    def replay(self, key: bytes | None, chain: bytes):
-        self.each_line(ReplayLog(self.tables(key, chain), chain, self.folder).answer)
+    def replay(self, key: bytes | None, kind: FileKind):
+        self.each_line(ReplayLog(self.tables(key, kind), kind.start, self.folder).answer)
 
-    def opener(self, key: bytes | None, chain: bytes):
-        self.each_line(OpenerLog(self.tables(key, chain)).answer)
+    def opener(self, key: bytes | None, kind: FileKind):
+        self.each_line(OpenerLog(self.tables(key, kind)).answer)
 
     def limit(self):
         self.each_line(Limit().output)
@@ -265,25 +300,26 @@ class Run:
         maximum = peers_file.MAXIMUM_BYTES
         return self.load("peers.dat", maximum, 4, lambda data: peers_file.read_peers(data, chain))
 
-    def tables(self, key: bytes | None, chain: bytes) -> Tables:
+    def tables(self, key: bytes | None, kind: FileKind) -> Tables:
         """The tables with which a log begins."""
         asmap = self.asmap() or NO_ASMAP
-        file = self.peers(chain)
+        file = self.peers(kind.start)
         if file is not None:
-            return self.restored(file, asmap)
+            return self.restored(file, asmap, kind.core)
         if key is None:
             raise Stop(11, "no peers.dat and no key")
-        return Tables(key, asmap)
+        return Tables(key, asmap, kind.core)
 
-    def saved_tables(self, chain: bytes) -> Tables:
+    def saved_tables(self, kind: FileKind) -> Tables:
         """The tables of the folder's file of peers."""
         asmap = self.asmap() or NO_ASMAP
-        return self.restored(self.needed(self.peers(chain), "peers.dat"), asmap)
+        return self.restored(self.needed(self.peers(kind.start), "peers.dat"), asmap, kind.core)
 
-    def restored(self, file: peers_file.PeersFile, asmap: Asmap) -> Tables:
+    def restored(self, file: peers_file.PeersFile, asmap: Asmap, core: bool) -> Tables:
         """The tables of a file."""
+        self.sum_said = sum_said(file, asmap, core)
         try:
-            return peers_file.restored(file, asmap)
+            return peers_file.restored(file, asmap, core)
         except Fault as fault:
             raise Stop(4, f"peers.dat refused: {fault}")
 
@@ -291,17 +327,17 @@ class Run:
         for line in peers_file.shown(self.needed(self.peers(chain), "peers.dat"), keyed):
             self.print(line)
 
-    def picture(self, _key: None, chain: bytes):
-        self.print(picture(self.saved_tables(chain)).removesuffix("\n"))
+    def picture(self, _key: None, kind: FileKind):
+        self.print(picture(self.saved_tables(kind)).removesuffix("\n"))
 
-    def raw(self, _key: None, chain: bytes):
-        self.print(node_json.raw(self.saved_tables(chain)))
+    def raw(self, _key: None, kind: FileKind):
+        self.print(node_json.raw(self.saved_tables(kind)))
 
-    def info(self, _key: None, chain: bytes):
-        self.print(node_json.info(self.saved_tables(chain)))
+    def info(self, _key: None, kind: FileKind):
+        self.print(node_json.info(self.saved_tables(kind)))
 
-    def groups(self, _key: None, chain: bytes):
-        self.print(node_json.groups(self.saved_tables(chain)))
+    def groups(self, _key: None, kind: FileKind):
+        self.print(node_json.groups(self.saved_tables(kind)))
 
     def compile(self):
         rows = self.load("prefixes.txt", prefixes.MAXIMUM_BYTES, 6, prefixes.read_rows)
@@ -397,6 +433,8 @@ def run(arguments: list[str], read, write, folder: Folder, said: list[str] | Non
         return stop.code, stop.text
     except MemoryError:
         return 12, "out of memory"
+    if said is not None and carried_out.sum_said:
+        said.append(carried_out.sum_said)
     if said is not None and carried_out.passed_over:
         said.append(f"elements of banlist.json passed over, which a save leaves out: {carried_out.passed_over}; "
                     "a ban has version 1, a subnet and two times")

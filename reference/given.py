@@ -5,6 +5,8 @@ import os
 from folder import Stop
 from text import read_digits
 
+READ_PEERS = ("replay", "opener", "show", "picture", "raw", "info", "groups", "diff")
+
 
 def changed_folder(arguments: list[str]) -> list[str]:
     """Goes to the folder of `-C` or `--dir` before the command; the arguments after it. Raises Stop."""
@@ -55,4 +57,7 @@ def plain_words(arguments: list[str]) -> list[str]:
         return ["help", command]
     if command == "-V":
         command = "version"
+    if command in READ_PEERS and "--core" in rest:
+        at = rest.index("--core")
+        rest = ["--core", *rest[:at], *rest[at + 1:]]
     return [command, *(with_key(rest) if command in ("replay", "opener") else rest)]

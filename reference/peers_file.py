@@ -112,13 +112,13 @@ def asmap_sum_of(asmap: Asmap, of_bits: bool = False) -> bytes:
     return places.double_sha256(compact_size(len(bits)) + bits)
 
 
-def restored(file: PeersFile, asmap: Asmap) -> Tables:
-    """The tables of a file; raises Fault."""
+def restored(file: PeersFile, asmap: Asmap, of_bits: bool = False) -> Tables:
+    """The tables of a file; the checksum of their asmap is of its bits or of its bytes. Raises Fault."""
     peers = [one.peer for one in file.new + file.tried if valid(one.peer.address)]
     if len(set(peers)) < len(peers):
         raise Fault("duplicate")
-    same = len(file.buckets) == places.NEW_BUCKETS and file.sum == asmap_sum_of(asmap)
-    tables = Tables(file.key, asmap)
+    same = len(file.buckets) == places.NEW_BUCKETS and file.sum == asmap_sum_of(asmap, of_bits)
+    tables = Tables(file.key, asmap, of_bits)
     tables.restore(file.new, file.tried, file.buckets, same)
     return tables
 
@@ -158,7 +158,7 @@ def written_file(tables: Tables, start: bytes) -> bytes:
         slots = sorted(tables.new.get(bucket, {}).items())
         parts.append(len(slots).to_bytes(4, "little"))
         parts += [index[number].to_bytes(4, "little") for _, number in slots]
-    data = b"".join(parts) + asmap_sum_of(tables.asmap)
+    data = b"".join(parts) + asmap_sum_of(tables.asmap, tables.of_bits)
     return data + places.double_sha256(data)
 
 

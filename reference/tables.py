@@ -68,9 +68,10 @@ def clamped(entry: Entry, now: int) -> Entry:
 class Tables:
     """The new and the tried table, with the order of the records and the collisions."""
 
-    def __init__(self, key: bytes, asmap: Asmap):
+    def __init__(self, key: bytes, asmap: Asmap, of_bits: bool = False):
         self.key = key
         self.asmap = asmap
+        self.of_bits = of_bits
         self.records: dict[int, Record] = {}
         self.numbers: dict[Peer, int] = {}
         self.order: list[int] = []

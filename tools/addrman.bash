@@ -31,10 +31,10 @@ _addrman() {
         return
     fi
     case ${COMP_WORDS[at]} in
-        replay | opener) mapfile -t COMPREPLY < <(compgen -W "--key --key-file --net --magic" -- "$word") ;;
-        show) mapfile -t COMPREPLY < <(compgen -W "--net --magic --no-key" -- "$word") ;;
-        picture | raw | info | groups) mapfile -t COMPREPLY < <(compgen -W "--net --magic" -- "$word") ;;
-        diff) mapfile -t COMPREPLY < <(compgen -W "--peers --net --magic" -- "$word") ;;
+        replay | opener) mapfile -t COMPREPLY < <(compgen -W "--key --key-file --net --magic --core" -- "$word") ;;
+        show) mapfile -t COMPREPLY < <(compgen -W "--net --magic --no-key --core" -- "$word") ;;
+        picture | raw | info | groups) mapfile -t COMPREPLY < <(compgen -W "--net --magic --core" -- "$word") ;;
+        diff) mapfile -t COMPREPLY < <(compgen -W "--peers --net --magic --core" -- "$word") ;;
         help | --help | -h) mapfile -t COMPREPLY < <(compgen -W "$commands" -- "$word") ;;
     esac
 }
