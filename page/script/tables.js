@@ -5,6 +5,10 @@ let highlight = null, matched = null, setMask = null;
 // How often something was asked for: an answer is dropped if something else was meanwhile.
 let wanted = 0;
 const KEPT_VIEWS = 12;
+// How long a file is shown, in milliseconds, before its counts are compared with the program's. The
+// engine loads the file once more for that, and nobody waits for it.
+const CHECK_AFTER = 700;
+let checking = 0;
 // What can be shown before tries, successes and the groups of all peers are known.
 const EARLY_MODES = ["placed", "source", "network", "age"];
 
@@ -37,11 +41,12 @@ function viewFrom(told) {
 // Asks for the view of a file. `tell` gets it once there are slots and the groups that their places
 // depend on; the rest is there when the promise is kept.
 async function readView(snap, tell) {
+  const map = asmap && asmap.bytes;
   let found = null;
   const details = await ask(
-    "view", { [snap.isJson ? "json" : "peers"]: snap.bytes, asmap: asmap && asmap.bytes },
+    "view", { [snap.isJson ? "json" : "peers"]: snap.bytes, asmap: map },
     told => {
-      found = viewFrom(told);
+      found = { ...viewFrom(told), peers: snap.bytes, asmap: map };
       if (tell) tell(found);
     }
   );
@@ -90,9 +95,21 @@ async function viewBefore(i) {
   return null;
 }
 
+// Has the program count the groups of the file that is shown, and says so if it counts others.
+async function checkCounts() {
+  const view = data;
+  if (!view || !view.chain || view.agrees !== undefined) return;
+  try {
+    const { peers, asmap, rows } = view;
+    view.agrees = await ask("agrees", { peers, asmap, rows });
+    if (view === data) showNote();
+  } catch (error) { fail(error.message); }
+}
+
 // Shows a file.
 async function show(i) {
   const turn = ++wanted, isOld = () => turn !== wanted;
+  clearTimeout(checking);
   at = i;
   setState("busy");
   $("time-row").hidden = snaps.length < 2;
@@ -116,6 +133,7 @@ async function show(i) {
     if (isOld()) return;
     showAll();
     setState("ready");
+    checking = setTimeout(checkCounts, CHECK_AFTER);
   } catch (error) {
     if (isOld()) return;
     data = null;

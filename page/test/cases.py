@@ -22,6 +22,12 @@ def rows_of(groups):
     return sorted((g["group"], *(g[name] for name in COUNTS)) for g in groups)
 
 
+def counts_agree(browser):
+    """Whether the page says that the program counts as it does, once it has been asked."""
+    browser.wait("data.agrees !== undefined")
+    return browser.js("return data.agrees")
+
+
 def records_of(raw):
     return [rec for table in raw.values() for rec in table.values()]
 
@@ -43,7 +49,7 @@ def same_slots(browser, program, folder):
 def same_numbers(browser, program, folder):
     """The same, and tries, successes, services and shares of picks."""
     raw, shown = same_slots(browser, program, folder)
-    assert browser.js("return data.agrees") is True, folder
+    assert counts_agree(browser), folder
     peers, wanted = browser.js("return look.peers()"), {}
     for line in shown.splitlines()[1:]:
         words = line.split(" ")
@@ -257,7 +263,7 @@ class Cases:
         for option, chain in (("--net", "testnet4"), ("--magic", "01020304")):
             words, log = (option, chain), made.log_of(5, 2, 50)
             b.drop(made.replayed(self.program, os.path.join(folder, chain), log, words))
-            assert f"of {chain}" in b.text("facts") and b.js("return data.agrees") is True
+            assert f"of {chain}" in b.text("facts") and counts_agree(b)
         bad = made.write(folder, "asmap.dat", b"\xff" * 40)
         path = made.write(folder, "peers.dat", good)
         b.drop(path, bad, state="error")
@@ -315,7 +321,7 @@ class Cases:
             assert buckets[-1] == b.js("return classes.list[0].buckets"), (groups, buckets)
             assert bound == b.js("return attack.bound") and max(buckets) <= bound
             assert option == "limit" or buckets[-1] > 0.8 * bound, (groups, buckets)
-            assert buckets[:3] == [0, 0, 0] and b.js("return data.agrees") is True
+            assert buckets[:3] == [0, 0, 0] and counts_agree(b)
             self.shot(f"attack-{groups}{option}")
         b.begin("$('time').value = 0; $('time').dispatchEvent(new Event('input'))")
         assert "before the attack" in b.text("time-name")

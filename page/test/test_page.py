@@ -21,7 +21,7 @@ sys.path.insert(0, os.path.dirname(os.path.abspath(__file__)))
 
 from chromium import Chromium  # noqa: E402
 from firefox import Firefox  # noqa: E402
-from cases import EXAMPLES, TOP, Cases  # noqa: E402
+from cases import EXAMPLES, TOP, Cases, counts_agree  # noqa: E402
 
 PAGE = "file://" + os.path.join(TOP, "bin", "page.html")
 FOLDER = os.path.join(TOP, "bin", "page")
@@ -74,7 +74,7 @@ def try_folder(kind, shots):
         browser.open(own + "index.html")
         browser.give(os.path.join(EXAMPLES, "node", "peers.dat"))
         assert browser.js("return colour('--ground')[0]") < 64
-        assert browser.js("return data.agrees") is True
+        assert counts_agree(browser)
         assert browser.said() == [], browser.said()
         asked = sorted({url.removeprefix(own) for url in browser.asked()})
         assert asked == FILES, asked

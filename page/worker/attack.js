@@ -100,8 +100,8 @@ function limited(engine, hours) {
   return hours.map(lines => left.slice(at, at += lines.length).map(line => line + "\n"));
 }
 
-// Counts what the replies of an hour say: the picks, the slots of both tables, how many of these are
-// of the attacker's groups, and the buckets of the new table that such slots are in.
+// Counts what the replies of an hour say: the picks, the slots of both tables, how many of these
+// are of the attacker's groups, and the buckets of the new table that such slots are in.
 function countReplies(text) {
   const found = {
     picks: 0,

@@ -1,6 +1,7 @@
 // The jobs that the page asks for, one after another.
 const JOBS = {
   view,
+  agrees,
   covered,
   output,
   outputOfPeers,

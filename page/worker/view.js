@@ -172,7 +172,7 @@ function isSameCounts(rows, printed) {
 // What `show` knows besides: tries, the last success, and services without a loss.
 const LINE =
   /^(?:new|tried) \d+ (\S+) source \S+ time \d+ services (\d+) success (\d+) attempts (\d+)$/;
-function detailsOf(engine, files, chain, view, rows) {
+function detailsOf(engine, files, chain, view) {
   const count = view.name.length, lines = engine.text(["show", ...chain], files).split("\n");
   const tries = new Int32Array(count).fill(-1), success = new Float64Array(count).fill(-1);
   const services = Array(count).fill("");
@@ -183,13 +183,12 @@ function detailsOf(engine, files, chain, view, rows) {
     success[r] = Number(found[3]);
     tries[r] = Number(found[4]);
   }
-  const head = lines[0].split(" "), printed = JSON.parse(engine.text(["groups", ...chain], files));
+  const head = lines[0].split(" ");
   return {
     tries,
     success,
     services: services.join("\n"),
     share: sharesOf(view, tries),
-    agrees: isSameCounts(rows, printed.groups),
     hasAsmap: !/^0*$/.test(head[10] || ""),
   };
 }
@@ -227,8 +226,15 @@ function view({ peers, json, asmap }, tell) {
   return {
     group: found.group,
     names: groups.names,
-    ...(json ? {} : detailsOf(engine, files, chain, found, rows))
+    ...(json ? {} : detailsOf(engine, files, chain, found))
   };
+}
+
+// Whether the program counts the groups of a file so.
+function agrees({ peers, asmap, rows }) {
+  const engine = new Engine(), files = { "peers.dat": peers, "asmap.dat": asmap };
+  const printed = engine.text(["groups", ...chainOf(engine, peers)], files);
+  return isSameCounts(rows, JSON.parse(printed).groups);
 }
 
 // Which of these addresses the rows of prefixes cover.
