@@ -11,4 +11,4 @@ returns-in-Ok-clause-call c =
     let put =
     subst (λ (peers : List Peer). PeersPut peers c.put_peers.result c.args.out.now new.out new.length)
     (c.items.ensures ∙ c.in-Ok.ensures.peers) c.put_peers.ensures.call in
-    inr (few, short, inr (inr (c.in-Ok.ensures.enough, c.in-Ok.ensures.state, put)))
+    inr (few, short, inr (c.in-Ok.ensures.enough, inr (c.in-Ok.ensures.state, put)))
