@@ -35,6 +35,7 @@ impl Model for Answers {
 impl Answers {
     ghost use Rattle.std.specs.Prelude.{◌≡◌, [], IfOk, OnOk, OnErr, option_map, length, ◌≤◌};
     ghost use Rattle.addr_answers.specs.Answers.{answer_at, answer, has_room, after_put, AreAnswers};
+    ghost use Rattle.addr_answers.specs.Runs.{entries_of};
     ghost use Rattle.addr_answers.specs.declared.answers.TheConstants.{MAX_KEYS, MAX_TOLD};
 
     /// Makes the answers of a node that was not asked yet.
@@ -55,6 +56,17 @@ impl Answers {
         match current_in(&self.kept, key, now) {
             Some(kept) => Some(kept.entries()),
             None => None,
+        }
+    }
+
+    /// Returns the entries of that answer, or none if the key has no answer then.
+    pub fn told(&self, key: u64, now: u32) -> &[Entry]
+        ensures told { result.now ≡ entries_of (answer_at key now self.now) }
+        ensures few { length result.now ≤ MAX_TOLD }
+    {
+        match self.find(key, now) {
+            Some(entries) => entries,
+            None => &[],
         }
     }
 

@@ -12,9 +12,11 @@ mod asking;
 mod entries;
 mod law;
 mod message;
+mod requests;
 mod times;
 
 pub use asking::{MAX_PERCENT, prepare};
 pub use law::{answers_are_independent, answers_are_records, limits, times_are_hidden};
-pub use message::{write_new, write_old};
+pub use message::{write_answer, write_new, write_old};
+pub use requests::{RequestFault, prepare_with};
 pub use times::Times;
