@@ -146,7 +146,7 @@ lib:
 	$(MAKE) archive
 
 # The calls that close take NULL too, by bindings/close.c, which stands before the proved ones.
-CLOSES := addrman_close addrman_save_close addrman_bans_close addrman_limiter_close
+CLOSES := addrman_close addrman_save_close addrman_bans_close addrman_limiter_close addrman_answers_close
 
 # One object, with the allocator in it and only addrman_* to be seen.
 OBJECTS ?= --whole-archive crates/addrman_c/out/libaddrman_c.a $(KIT)/c/liblibc_c.a

@@ -373,7 +373,7 @@ ADDRMAN_CALL addrman_result addrman_select(addrman *am, bool new_only,
  * how many peers the sample has. It needs a random word for each record (addrman_size tells how
  * many there are). The order of the records changes, which no other call shows. addrman_find has a
  * peer's time and services. A node that answers each getaddr by a new sample gives its tables away:
- * see "Answers to getaddr" in docs/NODE.md.
+ * addrman_answer keeps its answers.
  *   ADDRMAN_ERR_ARGUMENT      `percent` is above 100, or there are 2^32 words or more
  *   ADDRMAN_ERR_SHORT_WORDS   nothing changes; *length is how many words are needed
  *   ADDRMAN_ERR_SHORT_BUFFER  nothing is written but *length. The order changes all the same
@@ -614,6 +614,55 @@ ADDRMAN_CALL addrman_result addrman_limiter_admit(addrman_limiter *limiter, uint
  * Codes: CLOSED, NONE. */
 ADDRMAN_CALL addrman_result addrman_limiter_stat(addrman_limiter *limiter, uint32_t number,
     addrman_limits *limits);
+
+/* ----------------------------------------------------------------------- answers to getaddr */
+
+/* The answers that a node keeps: one for each network class of requesters and local socket, at most
+ * 64. The rules for objects of type addrman hold of it. */
+typedef struct addrman_answers {
+    void *impl;
+    bool is_open;
+} addrman_answers;
+ADDRMAN_SIZE(addrman_answers, 16);
+#define ADDRMAN_ANSWERS_INIT { 0, false }
+
+/* Opens a list without answers. What the object had is dropped first, and after any result other
+ * than ADDRMAN_OK it is closed. Proved: NewCall.
+ * Codes: MEMORY. */
+ADDRMAN_CALL addrman_result addrman_answers_open(addrman_answers *answers);
+
+/* Frees all memory of the object, and closes it. */
+ADDRMAN_API void addrman_answers_close(addrman_answers *answers);
+
+/* Drops all answers. Proved: ForgetCall.
+ * Codes: CLOSED. */
+ADDRMAN_CALL addrman_result addrman_answers_forget(addrman_answers *answers);
+
+/* Writes the payload that answers a getaddr, an addr (is_v2 false) or addrv2 message, and how many
+ * bytes it has: at most 49,003. Only inbound connections get an answer, and each only once.
+ * `requester` is the network class of the connection (addrman_addr_class, or ADDRMAN_ONION if it
+ * came in by Tor), and `socket` the node's own number of the socket that it came in on. All
+ * requesters of the two get one answer, which is kept for 21 hours and a random part of six more,
+ * or for an hour if it was made of fewer than 1000 records. A new answer is a sample of at most
+ * 1000 records and 23 percent of them, of IPv4, IPv6, Tor, I2P and CJDNS, without terrible records
+ * and banned addresses. Its entries all have one time, 8 to 12 days before it was made; with
+ * `own_times` each has that of its record, for peers that the node trusts: give them a socket
+ * number of their own. An addr message has the IPv4 and IPv6 entries of the answer.
+ * A new answer needs a random word, and one for each record (addrman_size tells how many there
+ * are); one that is kept needs none. The order of the records changes, which no other call shows.
+ *   ADDRMAN_ERR_CLOSED        one of the three objects is not open
+ *   ADDRMAN_ERR_ARGUMENT      `requester` is no network
+ *   ADDRMAN_NONE              64 others have answers: nothing is told
+ *   ADDRMAN_ERR_SHORT_WORDS   nothing changes; *length is how many words are needed
+ *   ADDRMAN_ERR_MEMORY        a new answer may be kept, and the order may have changed
+ *   ADDRMAN_ERR_SHORT_BUFFER  nothing is written but *length; the answer is kept all the same
+ * Proved: OnThree, AnswerCall (`request`, `after_ask`, `told`, `IsMessage`), and of many requests
+ * the laws of the crates addr_answers and getaddr (docs/NODE.md).
+ * Codes: CLOSED, ARGUMENT, NONE, SHORT_WORDS, MEMORY, SHORT_BUFFER. */
+ADDRMAN_CALL addrman_result addrman_answer(addrman_answers *answers, addrman *am,
+    addrman_bans *bans, addrman_network requester, uint32_t socket, bool is_v2, bool own_times,
+    uint32_t now, const uint64_t *words, size_t word_count, uint8_t *payload, size_t capacity,
+    size_t *length);
 
 #ifdef __cplusplus
 }

@@ -170,6 +170,7 @@ inline std::uint32_t network_of(const addrman_addr &addr)
 // therefore no member is const.
 class tables {
     detail::owner<addrman, addrman_close> am_;
+    friend class answers;
     friend class save;
 
 public:
@@ -346,6 +347,7 @@ public:
 // A list of banned subnets.
 class bans {
     detail::owner<addrman_bans, addrman_bans_close> bans_;
+    friend class answers;
 
 public:
     explicit bans(std::string_view json = {})
@@ -431,6 +433,30 @@ public:
         auto code = addrman_limiter_stat(limiter_.get(), number, &out);
         if (code == ADDRMAN_NONE) return {};
         detail::check(code);
+        return out;
+    }
+};
+
+// The answers to getaddr that a node keeps.
+class answers {
+    detail::owner<addrman_answers, addrman_answers_close> answers_;
+
+public:
+    answers() { detail::check(addrman_answers_open(answers_.get())); }
+
+    void forget() { detail::check(addrman_answers_forget(answers_.get())); }
+
+    // The payload of an answer; nothing if 64 others have answers.
+    std::optional<bytes> answer(tables &t, bans &b, addrman_network requester, std::uint32_t socket,
+        bool is_v2, bool own_times, std::uint32_t now, view<std::uint64_t> words)
+    {
+        bytes out(49003); // a message has at most as many
+        std::size_t length = 0;
+        auto code = addrman_answer(answers_.get(), t.am_.get(), b.bans_.get(), requester, socket,
+            is_v2, own_times, now, words.data(), words.size(), out.data(), out.size(), &length);
+        if (code == ADDRMAN_NONE) return {};
+        detail::check(code, {}, length);
+        out.resize(length);
         return out;
     }
 };

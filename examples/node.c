@@ -6,7 +6,7 @@
  *     bin/node FOLDER < MESSAGES
  *
  * FOLDER has its peers.dat, or gets one. A line of MESSAGES is SOURCE HEX: the address that sent an
- * addrv2 message, and the payload in hexadecimal.
+ * addrv2 message, and the payload in hexadecimal; or SOURCE getaddr, which is answered.
  */
 #include "addrman.h"
 
@@ -28,7 +28,7 @@ static void stop(const char *what, unsigned code)
 /* Random words of the system. */
 static const uint64_t *draw(size_t count)
 {
-    static uint64_t words[10000];
+    static uint64_t words[70000]; /* one for each record, and one more */
     for (size_t done = 0; done < 8 * count;) {
         ssize_t some = getrandom((char *)words + done, 8 * count - done, 0);
         if (some < 0) stop("getrandom", 0);
@@ -109,6 +109,24 @@ static void take(addrman *am, const char *source, const char *hex, uint32_t now)
     else printf("%s told %u peers, %u new\n", source, added.total, added.accepted);
 }
 
+/* Answers a getaddr of an inbound connection from an address, which came in on socket 0. */
+static void answer(addrman *am, addrman_answers *answers, addrman_bans *bans, const char *source, uint32_t now)
+{
+    static uint8_t payload[49003];
+    addrman_addr from;
+    addrman_counts counts;
+    uint32_t network;
+    size_t length;
+    if (addrman_addr_parse(source, strlen(source), &from) || addrman_addr_class(&from, &network)) stop(source, 0);
+    if (addrman_size(am, &counts)) stop("size", 0);
+    size_t need = 1 + (size_t)counts.new_count + counts.tried_count;
+    addrman_result code = addrman_answer(answers, am, bans, (addrman_network)network, 0, true, false, now, draw(need), need,
+                                         payload, sizeof payload, &length);
+    if (code == ADDRMAN_NONE) printf("%s is told nothing\n", source);
+    else if (code) stop("answer", code);
+    else printf("%s is told %zu bytes\n", source, length);
+}
+
 /* Chooses peers to connect to, no two of one network group, until ten are chosen or tries fail. */
 static void connect_all(addrman *am, uint32_t now)
 {
@@ -133,15 +151,24 @@ int main(int argc, char **argv)
 {
     static char source[100], hex[2000001];
     addrman am = ADDRMAN_INIT;
+    addrman_bans bans = ADDRMAN_BANS_INIT;
+    addrman_answers answers = ADDRMAN_ANSWERS_INIT;
+    addrman_fault fault;
     addrman_counts counts;
     uint32_t now = (uint32_t)time(NULL);
     if (argc != 2) return 2;
     open_tables(&am, argv[1]);
-    while (scanf("%99s %2000000s", source, hex) == 2) take(&am, source, hex, now);
+    if (addrman_bans_open(&bans, "", 0, &fault) || addrman_answers_open(&answers)) stop("bans and answers", 0);
+    while (scanf("%99s %2000000s", source, hex) == 2) {
+        if (strcmp(hex, "getaddr") == 0) answer(&am, &answers, &bans, source, now);
+        else take(&am, source, hex, now);
+    }
     connect_all(&am, now);
     save(&am, argv[1]);
     if (addrman_size(&am, &counts)) stop("size", 0);
     printf("%u peers in the new table, %u in the tried table\n", counts.new_count, counts.tried_count);
     addrman_close(&am);
+    addrman_bans_close(&bans);
+    addrman_answers_close(&answers);
     return 0;
 }

@@ -9,7 +9,7 @@ using namespace libaddrman;
 
 template <class T> constexpr bool moves_only = std::is_nothrow_move_constructible_v<T>
     && std::is_nothrow_move_assignable_v<T> && !std::is_copy_constructible_v<T> && !std::is_copy_assignable_v<T>;
-static_assert(moves_only<tables> && moves_only<bans> && moves_only<limiter> && moves_only<save>);
+static_assert(moves_only<tables> && moves_only<answers> && moves_only<bans> && moves_only<limiter> && moves_only<save>);
 
 static void want(bool holds, const char *what)
 {
@@ -50,6 +50,11 @@ int main()
     limit.add(1, source, false, 1000);
     limits = std::move(limit);
     want(limits.stat(1).has_value() && is_closed([&] { limit.remove(1); }), "limits are not moved");
+    answers told, tells;
+    const auto payload = told.answer(two, other, ADDRMAN_IPV4, 0, true, false, 1700000000, {1, 2});
+    tells = std::move(told);
+    want(payload && tells.answer(two, other, ADDRMAN_IPV4, 0, true, false, 1700000000, {}) == payload, "an answer is not kept");
+    want(is_closed([&] { told.forget(); }), "answers are not moved");
     save first(two, ADDRMAN_MAIN, 1000), second(two, ADDRMAN_MAIN, 1000);
     second = std::move(first);
     want(second.next()->what == ADDRMAN_CREATE && is_closed([&] { first.next(); }), "saves are not moved");

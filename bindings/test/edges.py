@@ -79,7 +79,19 @@ def main():
     size = am.size()
     if size.new + size.tried != len(am.records()) or sum(accepted) != size.new + size.tried:
         raise SystemExit(f"four threads: {sum(accepted)} peers were accepted, and there are {size}")
+    answers, bans, words = addrman.Answers(), addrman.Bans(), list(range(1 + size.new + size.tried))
+    refuses(TypeError, lambda: answers.answer(am, am, addrman.IPV4, 0, True, False, NOW, words))
+    refuses(TypeError, lambda: answers.answer(am, bans, addrman.IPV4, 0, 1, False, NOW, words))
+    refuses(ValueError, lambda: answers.answer(am, bans, 7, 0, True, False, NOW, words))
+    refuses(ValueError, lambda: answers.answer(am, bans, 256, 0, True, False, NOW, words))
+    refuses(addrman.ShortWords, lambda: answers.answer(am, bans, addrman.IPV4, 0, True, False, NOW, words[1:]))
+    first = answers.answer(am, bans, addrman.IPV4, 0, True, False, NOW, words)
+    if first is None or len(first) < 100 or answers.answer(am, bans, addrman.IPV4, 0, True, False, NOW, []) != first:
+        raise SystemExit("an answer is not kept")
+    answers.forget()
+    refuses(addrman.ShortWords, lambda: answers.answer(am, bans, addrman.IPV4, 0, True, False, NOW, []))
     am.close()
+    closed(lambda: answers.answer(am, bans, addrman.IPV4, 0, True, False, NOW, words))
     for call in (am.size, am.records, lambda: am.group(SOURCE), lambda: am.good(PEER, True, NOW)):
         closed(call)
     with addrman.Bans() as bans, addrman.Limiter():

@@ -30,9 +30,10 @@ void *__wrap_realloc(void *old, size_t size)
     return fails() ? NULL : __real_realloc(old, size);
 }
 
-enum { CALLS = 13 };
+enum { CALLS = 16 };
 static const char *names[CALLS] = { "open", "take_message", "good", "add", "select", "sample", "records", "peer_text",
-                                    "write_file", "open_file", "save_begin", "asmap_compile", "asmap_decompile" };
+                                    "write_file", "open_file", "save_begin", "asmap_compile", "asmap_decompile",
+                                    "bans_open", "answers_open", "answer" };
 
 /* An addr message of three entries. */
 static size_t fill(uint8_t *out)
@@ -82,6 +83,8 @@ int main(void)
         uint32_t answer, code[CALLS];
         size_t length = 0, map_length = 0, sampled = 77;
         addrman_save job = ADDRMAN_SAVE_INIT;
+        addrman_bans bans = ADDRMAN_BANS_INIT;
+        addrman_answers answers = ADDRMAN_ANSWERS_INIT;
         left = fail;
         memcpy(map, given, given_length);
         code[0] = addrman_open(&a, key, seed, map, given_length);
@@ -100,6 +103,9 @@ int main(void)
         code[10] = addrman_save_begin(&job, &a, ADDRMAN_MAIN, 1000);
         code[11] = addrman_asmap_compile(table, sizeof table - 1, map, sizeof map, &map_length, &fault);
         code[12] = code[11] ? 0 : addrman_asmap_decompile(map, map_length, text, sizeof text, &length, &fault);
+        code[13] = addrman_bans_open(&bans, "{\"banned_nets\":[]}", 18, &fault);
+        code[14] = addrman_answers_open(&answers);
+        code[15] = addrman_answer(&answers, &a, &bans, ADDRMAN_IPV4, 0, true, false, 1700000005, words, 12, file, sizeof file, &length);
         bool reached = left == 0;
         left = 0;
         unsigned failed = 0;
@@ -108,7 +114,7 @@ int main(void)
                 wanted[i]++;
                 failed++;
             } else if (code[i] && code[i] != ADDRMAN_NONE && code[i] != ADDRMAN_EXHAUSTED
-                       && !(code[0] && code[i] == ADDRMAN_ERR_CLOSED)) {
+                       && !((code[0] || (i == 15 && (code[13] || code[14]))) && code[i] == ADDRMAN_ERR_CLOSED)) {
                 printf("allocation %ld: %s returned %u\n", fail, names[i], code[i]);
                 return 1;
             }
@@ -128,6 +134,8 @@ int main(void)
         addrman_close(&a);
         addrman_close(&b);
         addrman_save_close(&job);
+        addrman_bans_close(&bans);
+        addrman_answers_close(&answers);
         if (!reached) {
             printf("%ld allocations failed in turn;", fail - 1);
             for (int i = 0; i < CALLS; i++)

@@ -144,6 +144,7 @@ class ShortWords(Error):
 
 
 _lib = c.CDLL(os.environ.get("ADDRMAN_LIBRARY", "libaddrman.so.1"))
+_MAX_PAYLOAD = 49_003  # bytes of a message of 1000 entries
 _U32, _U64, _SIZE, _BOOL = c.c_uint32, c.c_uint64, c.c_size_t, c.c_bool
 _P = c.c_void_p
 _SIGNATURES = {
@@ -166,6 +167,8 @@ _SIGNATURES = {
     "limiter_open": [_P], "limiter_close": [_P], "limiter_add": [_P, _U32, _P, _BOOL, _U32, _P],
     "limiter_remove": [_P, _U32, _P], "limiter_getaddr": [_P, _U32, _P], "limiter_admit": [_P, _U32, _U32, _U32, _P],
     "limiter_stat": [_P, _U32, _P],
+    "answers_open": [_P], "answers_close": [_P], "answers_forget": [_P],
+    "answer": [_P, _P, _P, c.c_uint8, _U32, _BOOL, _BOOL, _U32, _P, _SIZE, _P, _SIZE, _P],
     "asmap_compile": [_P, _SIZE, _P, _SIZE, _P, _P], "asmap_decompile": [_P, _SIZE, _P, _SIZE, _P, _P],
     "save_begin": [_P, _P, _U32, _U32], "save_next": [_P, _P, _P, _SIZE, _P], "save_done": [_P, _BOOL], "save_close": [_P],
     "opener_judge": [_P, _P, _U32, _U32, _P], "opener_add": [_P, _P], "opener_remove": [_P, _P, _P],
@@ -564,6 +567,36 @@ class Limiter(_Object):
             return None
         _check(code)
         return Limits(out.tenths, out.moment, out.processed, out.limited, out.asked != 0, out.unlimited != 0)
+
+
+class Answers(_Object):
+    """The answers to getaddr that a node keeps: one for each network class of requesters and local socket."""
+    _prefix = "answers_"
+
+    def __init__(self) -> None:
+        super().__init__()
+        _check(self._call("answers_open"))
+
+    def forget(self) -> None:
+        """Drops all answers."""
+        _check(self._call("answers_forget"))
+
+    def answer(self, tables: AddrMan, bans: Bans, requester: int, socket: int, is_v2: bool, own_times: bool, now: int,
+               words: Sequence[int]) -> Optional[bytes]:
+        """The payload of an answer. A new one needs a random word, and one for each record. None: 64 others have
+        answers."""
+        for name, value, kind in (("tables", tables, AddrMan), ("bans", bans, Bans)):
+            if not isinstance(value, kind):
+                raise TypeError(f"{name} is of {kind.__name__}, not of {type(value).__name__}")
+        length, out = _SIZE(), (c.c_uint8 * _MAX_PAYLOAD)()
+        with tables._lock, bans._lock:
+            code = self._call("answer", c.byref(tables._h), c.byref(bans._h), _number("requester", requester, 8),
+                              _number("socket", socket), _flag("is_v2", is_v2), _flag("own_times", own_times),
+                              _number("now", now), *_words(words), out, len(out), c.byref(length))
+        if code == NONE:
+            return None
+        _check(code, need=length.value)
+        return bytes(out[:length.value])
 
 
 class Save(_Object):

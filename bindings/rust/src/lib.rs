@@ -8,6 +8,9 @@ pub use raw::{Added, Addr, Ban, Counts, Fault, Limits, Peer, Picked, Record, Res
 use std::fmt;
 use std::str::FromStr;
 
+/// The bytes of a message, at most.
+const MAX_PAYLOAD: usize = 49_003;
+
 /// Why a call did not do what it is for.
 #[derive(Clone, Copy, Debug, PartialEq, Eq)]
 pub enum Error {
@@ -495,6 +498,73 @@ impl Limiter {
             raw::NONE => Ok(None),
             code => done(code).map(|()| Some(out)),
         }
+    }
+}
+
+/// The answers to getaddr that a node keeps.
+pub struct Answers {
+    handle: raw::Handle,
+}
+
+unsafe impl Send for Answers {}
+
+impl Drop for Answers {
+    fn drop(&mut self) {
+        unsafe { raw::addrman_answers_close(&mut self.handle) }
+    }
+}
+
+impl Answers {
+    /// Makes answers of a node that was not asked yet.
+    pub fn open() -> Result<Answers, Error> {
+        let mut answers = Answers { handle: no_handle() };
+        done(unsafe { raw::addrman_answers_open(&mut answers.handle) })?;
+        Ok(answers)
+    }
+
+    /// Drops all answers.
+    pub fn forget(&mut self) -> Result<(), Error> {
+        done(unsafe { raw::addrman_answers_forget(&mut self.handle) })
+    }
+
+    /// Returns the payload of an answer, or `None` if 64 others have answers. A new one needs a
+    /// random word, and one for each record.
+    pub fn answer(
+        &mut self,
+        tables: &mut AddrMan,
+        bans: &mut Bans,
+        requester: u8,
+        socket: u32,
+        is_v2: bool,
+        own_times: bool,
+        now: u32,
+        words: &[u64],
+    ) -> Result<Option<Vec<u8>>, Error> {
+        let mut payload = vec![0; MAX_PAYLOAD];
+        let mut length = 0;
+        match unsafe {
+            raw::addrman_answer(
+                &mut self.handle,
+                &mut tables.handle,
+                &mut bans.handle,
+                requester,
+                socket,
+                is_v2,
+                own_times,
+                now,
+                words.as_ptr(),
+                words.len(),
+                payload.as_mut_ptr(),
+                payload.len(),
+                &mut length,
+            )
+        } {
+            raw::NONE => return Ok(None),
+            raw::ERR_SHORT_WORDS => return Err(Error::ShortWords(length)),
+            code => done(code)?,
+        }
+        payload.truncate(length);
+        Ok(Some(payload))
     }
 }
 

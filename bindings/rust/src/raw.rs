@@ -126,6 +126,10 @@ extern "C" {
     pub fn addrman_limiter_getaddr(limiter: *mut Handle, number: u32, answer: *mut u32) -> u32;
     pub fn addrman_limiter_admit(limiter: *mut Handle, number: u32, count: u32, now: u32, admitted: *mut u32) -> u32;
     pub fn addrman_limiter_stat(limiter: *mut Handle, number: u32, limits: *mut Limits) -> u32;
+    pub fn addrman_answers_open(answers: *mut Handle) -> u32;
+    pub fn addrman_answers_close(answers: *mut Handle);
+    pub fn addrman_answers_forget(answers: *mut Handle) -> u32;
+    pub fn addrman_answer(answers: *mut Handle, am: *mut Handle, bans: *mut Handle, requester: u8, socket: u32, is_v2: bool, own_times: bool, now: u32, words: *const u64, word_count: usize, payload: *mut u8, capacity: usize, length: *mut usize) -> u32;
     pub fn addrman_abi() -> u32;
     pub fn addrman_addr_parse(text: *const u8, length: usize, out: *mut Addr) -> u32;
     pub fn addrman_peer_parse(text: *const u8, length: usize, out: *mut Peer) -> u32;

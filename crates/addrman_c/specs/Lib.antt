@@ -1,3 +1,4 @@
+pub mod Answering
 pub mod Asmaps
 pub mod Banning
 pub mod Calls

@@ -157,7 +157,7 @@ fn message_on(
 }
 
 /// Returns the form of a message.
-fn form_of(is_v2: bool) -> Form
+pub(crate) fn form_of(is_v2: bool) -> Form
     ensures { result ≡ form_of is_v2 }
 {
     if is_v2 { Form::Addrv2 } else { Form::Addr }

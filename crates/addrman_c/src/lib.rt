@@ -10,6 +10,7 @@
 
 ghost use Rattle.std.specs.Prelude.{◌≡◌};
 
+mod answering;
 mod asmaps;
 mod bans;
 mod chain;
@@ -28,6 +29,9 @@ mod saves;
 mod text;
 mod writing;
 
+pub use answering::{
+    addrman_answer, addrman_answers_close, addrman_answers_forget, addrman_answers_open,
+};
 pub use asmaps::{addrman_asmap_compile, addrman_asmap_decompile};
 pub use bans::{
     addrman_bans_add, addrman_bans_close, addrman_bans_covering, addrman_bans_open,

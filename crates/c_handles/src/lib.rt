@@ -8,12 +8,14 @@
 //! given.
 #![tactic(auto)]
 
+mod answers_handle;
 mod bans_handle;
 mod handle;
 mod keyed;
 mod limiter_handle;
 mod save_handle;
 
+pub use answers_handle::{AnswersHandle, KeptAnswers, LooseAnswers};
 pub use bans_handle::{BansHandle, KeptBans, LooseBans};
 pub use handle::{Handle, Kept, Loose};
 pub use keyed::Keyed;

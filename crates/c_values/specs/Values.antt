@@ -21,6 +21,10 @@ network_of number =
     else if number == 6 then Some Internal
     else None
 
+-- the network of a number, `Unroutable` among them
+abbrev pub class_of : ℕ → Option Net
+class_of number = if number == 0 then Some Unroutable else network_of number
+
 -- whether the bytes are an address of the network: as many as it has, and no IPv6 value that is the
 -- old form of something else
 abbrev pub is_address : Net → List ℕ → Bool

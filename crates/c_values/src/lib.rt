@@ -25,5 +25,6 @@ pub use structs::{
     AddrmanRecord, AddrmanResolved,
 };
 pub use values::{
-    AddrmanAddr, AddrmanPeer, bit, read_addr, read_nets, read_peer, write_addr, write_peer,
+    AddrmanAddr, AddrmanPeer, bit, read_addr, read_class, read_nets, read_peer, write_addr,
+    write_peer,
 };

@@ -1,6 +1,6 @@
 ghost use Rattle.std.specs.Prelude.{◌≡◌, ◌%◌, Some};
 ghost use Rattle.net_addr.specs.NetBits.{nets_of};
-ghost use Rattle.c_values.specs.Values.{network_of, address_by, address_in, peer_in, with_bit, bit};
+ghost use Rattle.c_values.specs.Values.{network_of, class_of, address_by, address_in, peer_in, with_bit, bit};
 
 use crate::output::put_start;
 use net_addr::{Net, NetAddr, NetSet, Peer};
@@ -35,6 +35,16 @@ fn network_of(number: u8) -> Option<Net>
         6 => Some(Net::Internal),
         _ => None,
     }
+}
+
+/// Returns the network of a number, which may be `Unroutable`.
+pub fn read_class(number: u8) -> Option<Net>
+    ensures { result ≡ class_of number }
+{
+    if number == 0 {
+        return Some(Net::Unroutable);
+    }
+    network_of(number)
 }
 
 /// Returns the address of a network with these bytes, or `None` if they are no address.

@@ -1,0 +1,12 @@
+-- `into_parts` gives the pointer its type again.
+use Rattle.std.proofs.Common.{refl}
+use Rattle.c_handles.specs.contracts.answers_handle.KeptAnswers as R
+use Rattle.c_handles.specs.contracts.answers_handle.LooseAnswers as L
+use Rattle.c_handles.specs.contracts.answers_handle.LooseAnswers.into_parts.Key as key
+use Rattle.c_handles.proofs.Handles.{parts}
+use Rattle.c_handles.proofs.answers_handle.LooseAnswers.into_parts.Statement.{statement}
+use Rattle.c_handles.proofs.answers_handle.LooseAnswers.into_parts.Code as code
+
+pub into_parts_spec : {M : Type 1} → statement M
+into_parts_spec 𝓤 𝓛 𝓜 𝓡 wired = parts R.the_row L.the_row L.struct.name (λ p a o. record { at = p; alloc = a; kept = o }) (λ d. d.at) (λ d. d.alloc) (λ d. d.kept)
+    (λ p a o vs. refl) (λ p a o. refl) 𝓤 𝓛 𝓜 𝓡 key.name (λ d vs. refl) (λ κs x w. refl) (λ d. tt) (code.unfolded 𝓤 𝓛.H 𝓜 𝓡 wired)
