@@ -320,6 +320,40 @@ ADDRMAN_CALL addrman_result addrman_take_message(addrman *am, bool is_v2,
     const uint64_t *words, size_t word_count, uint32_t now, addrman_added *added,
     addrman_fault *fault);
 
+/* Writes how many entries an addr (is_v2 false) or addrv2 message has, those that are skipped among
+ * them, as addrman_limiter_admit wants it. Proved: CountCall (`IsMessage`, `HasMessageFault`).
+ *   ADDRMAN_ERR_REFUSED  *fault says why
+ * Codes: REFUSED or MEMORY. */
+ADDRMAN_CALL addrman_result addrman_message_count(bool is_v2, const uint8_t *payload,
+    size_t payload_length, uint32_t *count, addrman_fault *fault);
+
+/* An entry of a message. Its time is as the message has it. */
+typedef struct {
+    uint64_t services;
+    addrman_peer peer;
+    uint32_t time;
+} addrman_entry;
+ADDRMAN_SIZE(addrman_entry, 48);
+
+/* Writes the entries of a message in their order, at most 1000, and how many they are: without those
+ * that are skipped, since a node does not know their network, or no address has their bytes.
+ *   ADDRMAN_ERR_REFUSED       *fault says why
+ *   ADDRMAN_ERR_SHORT_BUFFER  nothing is written but *length
+ * Proved: ReadMessageCall (`IsMessage`, `known`, `HasMessageFault`).
+ * Codes: REFUSED or MEMORY, SHORT_BUFFER. */
+ADDRMAN_CALL addrman_result addrman_read_message(bool is_v2, const uint8_t *payload,
+    size_t payload_length, addrman_entry *entries, size_t capacity, size_t *length,
+    addrman_fault *fault);
+
+/* Writes the payload of a message of entries, and how many bytes it has: at most 49,003. An addr
+ * message has the IPv4 and IPv6 entries alone, and an addrv2 message all but internal ones.
+ *   ADDRMAN_ERR_ARGUMENT      there are more than 1000 entries, or the address of one is none
+ *   ADDRMAN_ERR_SHORT_BUFFER  nothing is written but *length
+ * Proved: WriteMessageCall (`entries_in`, `fits`, `IsMessage`).
+ * Codes: ARGUMENT (the count), MEMORY, ARGUMENT (an address), MEMORY, SHORT_BUFFER. */
+ADDRMAN_CALL addrman_result addrman_write_message(bool is_v2, const addrman_entry *entries,
+    size_t count, uint8_t *payload, size_t capacity, size_t *length);
+
 /* Adds one entry that `source` announced, with a penalty in seconds and a random word: for seeds,
  * and for callers that read messages themselves. The time is not clamped. *accepted is 1 if the
  * peer got a slot, else 0.
@@ -414,6 +448,12 @@ ADDRMAN_SIZE(addrman_counts, 12);
 /* How many records are in each table, and how many collisions there are.
  * Codes: CLOSED. */
 ADDRMAN_CALL addrman_result addrman_size(addrman *am, addrman_counts *counts);
+
+/* How many records of a set of networks are in each table. A record whose address is not routable
+ * counts for ADDRMAN_UNROUTABLE. Proved: `wanted_new`, `wanted_tried`.
+ * Codes: CLOSED. */
+ADDRMAN_CALL addrman_result addrman_size_of(addrman *am, uint32_t nets, uint32_t *new_count,
+    uint32_t *tried_count);
 
 /* The record of a peer. ADDRMAN_NONE: it has none. Proved: FindCall (`find_peer`).
  * Codes: CLOSED, ARGUMENT, NONE. */

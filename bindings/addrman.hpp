@@ -277,6 +277,14 @@ public:
         return out;
     }
 
+    // How many records of a set of networks are in the new table, and in the tried table.
+    std::pair<std::uint32_t, std::uint32_t> size_of(std::uint32_t nets)
+    {
+        std::pair<std::uint32_t, std::uint32_t> out;
+        detail::check(addrman_size_of(am_.get(), nets, &out.first, &out.second));
+        return out;
+    }
+
     addrman_counts size()
     {
         addrman_counts out{};
@@ -492,6 +500,32 @@ public:
     // It has succeeded, or has failed, which ends the save.
     void done(bool succeeded) { detail::check(addrman_save_done(save_.get(), succeeded)); }
 };
+
+// How many entries a message has, those that are skipped among them.
+inline std::uint32_t message_count(bool is_v2, view<std::uint8_t> payload)
+{
+    addrman_fault fault{};
+    std::uint32_t out = 0;
+    detail::check(addrman_message_count(is_v2, payload.data(), payload.size(), &out, &fault), fault);
+    return out;
+}
+
+// The entries of a message, without those that are skipped.
+inline std::vector<addrman_entry> read_message(bool is_v2, view<std::uint8_t> payload)
+{
+    addrman_fault fault{};
+    return detail::filled<std::vector<addrman_entry>>(1000, [&](auto *p, auto n, auto *l) {
+        return addrman_read_message(is_v2, payload.data(), payload.size(), p, n, l, &fault);
+    }, fault);
+}
+
+// The payload of a message of entries, of those that it has a form for.
+inline bytes write_message(bool is_v2, view<addrman_entry> entries)
+{
+    return detail::filled<bytes>(49 * entries.size() + 3, [&](auto *p, auto n, auto *l) {
+        return addrman_write_message(is_v2, entries.data(), entries.size(), p, n, l);
+    });
+}
 
 // Compiles the text of a table of prefixes into an asmap.
 inline bytes compile_asmap(std::string_view table)

@@ -55,6 +55,11 @@ int main()
     tells = std::move(told);
     want(payload && tells.answer(two, other, ADDRMAN_IPV4, 0, true, false, 1700000000, {}) == payload, "an answer is not kept");
     want(is_closed([&] { told.forget(); }), "answers are not moved");
+    const bytes message{1, 0, 0xf1, 0x53, 0x65, 9, 1, 4, 8, 8, 8, 8, 0x20, 0x8d};
+    const auto entries = read_message(true, message);
+    want(message_count(true, message) == 1 && entries.size() == 1 && entries[0].services == 9, "a message is not read");
+    want(write_message(true, entries) == message && write_message(true, {}) == bytes{0}, "a message is written otherwise");
+    want(text_of(entries[0].peer) == "8.8.8.8:8333" && two.size_of(ADDRMAN_NET(ADDRMAN_IPV4)).first == 1, "a peer is another");
     save first(two, ADDRMAN_MAIN, 1000), second(two, ADDRMAN_MAIN, 1000);
     second = std::move(first);
     want(second.next()->what == ADDRMAN_CREATE && is_closed([&] { first.next(); }), "saves are not moved");

@@ -79,6 +79,22 @@ def main():
     size = am.size()
     if size.new + size.tried != len(am.records()) or sum(accepted) != size.new + size.tried:
         raise SystemExit(f"four threads: {sum(accepted)} peers were accepted, and there are {size}")
+    if am.size_of(addrman.ALL_NETS) != (size.new, size.tried) or am.size_of(1 << addrman.ONION) != (0, 0):
+        raise SystemExit("the sizes of networks are others")
+    entry, skipped = bytes.fromhex("00f1536509010408080808208d"), bytes.fromhex("00f1536509030a") + bytes(12)
+    payload, told = b"\2" + skipped + entry, [addrman.Entry(NOW, 9, PEER)]
+    if addrman.message_count(True, payload) != 2 or addrman.read_message(True, payload) != told:
+        raise SystemExit("a message has other entries")
+    if addrman.write_message(True, told) != b"\1" + entry or addrman.read_message(False, addrman.write_message(False, told)) != told:
+        raise SystemExit("a message is written otherwise")
+    hidden = addrman.Entry(NOW, 9, "onion:" + "ab" * 32 + ":1")
+    if addrman.write_message(False, [hidden]) != b"\0" or addrman.read_message(True, addrman.write_message(True, [hidden])) != [hidden]:
+        raise SystemExit("another form has the entry")
+    refuses(ValueError, lambda: addrman.write_message(True, told * 1001))
+    refuses(ValueError, lambda: addrman.write_message(True, [addrman.Entry(-1, 9, PEER)]))
+    refuses(addrman.Refused, lambda: addrman.message_count(True, payload[1:]))
+    refuses(addrman.Refused, lambda: addrman.read_message(False, payload))
+    refuses(TypeError, lambda: addrman.message_count(2, payload))
     answers, bans, words = addrman.Answers(), addrman.Bans(), list(range(1 + size.new + size.tried))
     refuses(TypeError, lambda: answers.answer(am, am, addrman.IPV4, 0, True, False, NOW, words))
     refuses(TypeError, lambda: answers.answer(am, bans, addrman.IPV4, 0, 1, False, NOW, words))

@@ -55,6 +55,10 @@ class _Record(c.Structure):
                 ("bucket_count", c.c_uint32)]
 
 
+class _Entry(c.Structure):
+    _fields_ = [("services", c.c_uint64), ("peer", _Peer), ("time", c.c_uint32)]
+
+
 class _Added(c.Structure):
     _fields_ = [("accepted", c.c_uint32), ("total", c.c_uint32)]
 
@@ -73,6 +77,13 @@ class _Ban(c.Structure):
 
 class _Limits(c.Structure):
     _fields_ = [(name, c.c_uint32) for name in ("tenths", "moment", "processed", "limited", "asked", "unlimited")]
+
+
+class Entry(NamedTuple):
+    """An entry of a message."""
+    time: int
+    services: int
+    peer: str
 
 
 class Record(NamedTuple):
@@ -155,12 +166,14 @@ _SIGNATURES = {
     "open": [_P, _P, _P, _P, _SIZE], "open_file": [_P, _P, _SIZE, _U32, _P, _P, _SIZE, _P], "close": [_P],
     "write_file": [_P, _U32, _P, _SIZE, _P],
     "take_message": [_P, _BOOL, _P, _SIZE, _P, _P, _SIZE, _U32, _P, _P],
+    "message_count": [_BOOL, _P, _SIZE, _P, _P], "read_message": [_BOOL, _P, _SIZE, _P, _SIZE, _P, _P],
+    "write_message": [_BOOL, _P, _SIZE, _P, _SIZE, _P],
     "add": [_P, _P, _P, _U32, _U64, _U32, _U64, _U32, _P],
     "good": [_P, _P, _BOOL, _U32, _P], "attempt": [_P, _P, _BOOL, _U32, _P], "connected": [_P, _P, _U32, _P],
     "set_services": [_P, _P, _U64, _P], "select": [_P, _BOOL, _U32, _P, _SIZE, _U32, _P],
     "sample": [_P, _U32, _U32, _U32, _P, _SIZE, _U32, _P, _SIZE, _P],
     "resolve_collisions": [_P, _U32, _P], "select_collision": [_P, _U64, _P],
-    "size": [_P, _P], "find": [_P, _P, _P], "records": [_P, _P, _SIZE, _P],
+    "size": [_P, _P], "size_of": [_P, _U32, _P, _P], "find": [_P, _P, _P], "records": [_P, _P, _SIZE, _P],
     "asmap_check": [_P, _SIZE], "asn": [_P, _P, _P], "group": [_P, _P, _P, _SIZE, _P],
     "bans_open": [_P, _P, _SIZE, _P], "bans_close": [_P], "bans_write": [_P, _P, _SIZE, _P],
     "bans_add": [_P, _P, _SIZE, _U32, _U32, _P], "bans_remove": [_P, _P, _SIZE, _P], "bans_covering": [_P, _P, _U32, _P],
@@ -319,6 +332,28 @@ def asmap_is_sane(asmap: BytesLike) -> bool:
     return _lib.addrman_asmap_check(raw, len(raw)) == OK
 
 
+def message_count(is_v2: bool, payload: BytesLike) -> int:
+    """How many entries a message has, those that are skipped among them."""
+    fault, out, raw = _Fault(), _U32(), _raw("payload", payload)
+    _check(_lib.addrman_message_count(_flag("is_v2", is_v2), raw, len(raw), c.byref(out), c.byref(fault)), fault)
+    return out.value
+
+
+def read_message(is_v2: bool, payload: BytesLike) -> list[Entry]:
+    """The entries of a message, without those that are skipped."""
+    fault, is_v2, raw = _Fault(), _flag("is_v2", is_v2), _raw("payload", payload)
+    entries = _filled(_Entry, 1000, lambda p, n, l: _lib.addrman_read_message(is_v2, raw, len(raw), p, n, l, c.byref(fault)), fault)
+    return [Entry(e.time, e.services, _peer_text(e.peer)) for e in entries]
+
+
+def write_message(is_v2: bool, entries: Sequence[Entry]) -> bytes:
+    """The payload of a message of entries, of those that it has a form for."""
+    is_v2, structs = _flag("is_v2", is_v2), (_Entry * max(len(entries), 1))()
+    for out, entry in zip(structs, entries):
+        out.services, out.peer, out.time = _number("services", entry.services, 64), _peer(entry.peer), _number("time", entry.time)
+    return bytes(_filled(c.c_uint8, _MAX_PAYLOAD, lambda p, n, l: _lib.addrman_write_message(is_v2, structs, len(entries), p, n, l)))
+
+
 def compile_asmap(table: str) -> bytes:
     """Compiles the text of a table of prefixes (lines as `1.2.3.0/24 AS5`) into an asmap."""
     fault, raw = _Fault(), _text("table", table)
@@ -459,6 +494,12 @@ class AddrMan(_Object):
         out = _Three()
         _check(self._call("size", c.byref(out)))
         return Counts(out.first, out.second, out.third)
+
+    def size_of(self, nets: int) -> tuple[int, int]:
+        """How many records of a set of networks are in the new table, and in the tried table."""
+        new, tried = _U32(), _U32()
+        _check(self._call("size_of", _number("nets", nets), c.byref(new), c.byref(tried)))
+        return new.value, tried.value
 
     def find(self, peer: str) -> Optional[Record]:
         out = _Record()

@@ -4,7 +4,7 @@
 
 pub mod raw;
 
-pub use raw::{Added, Addr, Ban, Counts, Fault, Limits, Peer, Picked, Record, Resolved};
+pub use raw::{Added, Addr, Ban, Counts, Entry, Fault, Limits, Peer, Picked, Record, Resolved};
 use std::fmt;
 use std::str::FromStr;
 
@@ -315,6 +315,13 @@ impl AddrMan {
         let mut out = Counts::default();
         done(unsafe { raw::addrman_size(&mut self.handle, &mut out) })?;
         Ok(out)
+    }
+
+    /// Returns how many records of a set of networks are in the new table, and in the tried table.
+    pub fn size_of(&mut self, nets: u32) -> Result<(u32, u32), Error> {
+        let (mut new, mut tried) = (0, 0);
+        done(unsafe { raw::addrman_size_of(&mut self.handle, nets, &mut new, &mut tried) })?;
+        Ok((new, tried))
     }
 
     /// Returns the record of a peer.
@@ -635,6 +642,28 @@ pub fn parse_subnet(text: &str) -> Result<(Addr, u32), Error> {
     let (mut base, mut prefix) = (Addr::default(), 0);
     done(unsafe { raw::addrman_subnet_parse(text.as_ptr(), text.len(), &mut base, &mut prefix) })?;
     Ok((base, prefix))
+}
+
+/// Counts the entries of a message, those that are skipped among them.
+pub fn message_count(is_v2: bool, payload: &[u8]) -> Result<u32, Error> {
+    let (mut fault, mut count) = (Fault::default(), 0);
+    done(unsafe { raw::addrman_message_count(is_v2, payload.as_ptr(), payload.len(), &mut count, &mut fault) })
+        .map_err(|error| error.with(fault))?;
+    Ok(count)
+}
+
+/// Returns the entries of a message, without those that are skipped.
+pub fn read_message(is_v2: bool, payload: &[u8]) -> Result<Vec<Entry>, Error> {
+    let mut fault = Fault::default();
+    let out = filled(1000, |p, n, l| unsafe {
+        raw::addrman_read_message(is_v2, payload.as_ptr(), payload.len(), p, n, l, &mut fault)
+    });
+    out.map_err(|error| error.with(fault))
+}
+
+/// Returns the payload of a message of entries, of those that it has a form for.
+pub fn write_message(is_v2: bool, entries: &[Entry]) -> Result<Vec<u8>, Error> {
+    filled(MAX_PAYLOAD, |p, n, l| unsafe { raw::addrman_write_message(is_v2, entries.as_ptr(), entries.len(), p, n, l) })
 }
 
 /// Compiles the text of a table of prefixes into an asmap.

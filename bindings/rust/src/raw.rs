@@ -45,6 +45,15 @@ pub struct Peer {
     pub port: u16,
 }
 
+/// An entry of a message.
+#[repr(C)]
+#[derive(Clone, Copy, Debug, Default)]
+pub struct Entry {
+    pub services: u64,
+    pub peer: Peer,
+    pub time: u32,
+}
+
 #[repr(C)]
 #[derive(Clone, Copy, Debug, Default)]
 pub struct Record {
@@ -130,6 +139,10 @@ extern "C" {
     pub fn addrman_answers_close(answers: *mut Handle);
     pub fn addrman_answers_forget(answers: *mut Handle) -> u32;
     pub fn addrman_answer(answers: *mut Handle, am: *mut Handle, bans: *mut Handle, requester: u8, socket: u32, is_v2: bool, own_times: bool, now: u32, words: *const u64, word_count: usize, payload: *mut u8, capacity: usize, length: *mut usize) -> u32;
+    pub fn addrman_message_count(is_v2: bool, payload: *const u8, payload_length: usize, count: *mut u32, fault: *mut Fault) -> u32;
+    pub fn addrman_read_message(is_v2: bool, payload: *const u8, payload_length: usize, entries: *mut Entry, capacity: usize, length: *mut usize, fault: *mut Fault) -> u32;
+    pub fn addrman_write_message(is_v2: bool, entries: *const Entry, count: usize, payload: *mut u8, capacity: usize, length: *mut usize) -> u32;
+    pub fn addrman_size_of(am: *mut Handle, nets: u32, new_count: *mut u32, tried_count: *mut u32) -> u32;
     pub fn addrman_abi() -> u32;
     pub fn addrman_addr_parse(text: *const u8, length: usize, out: *mut Addr) -> u32;
     pub fn addrman_peer_parse(text: *const u8, length: usize, out: *mut Peer) -> u32;

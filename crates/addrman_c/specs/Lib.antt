@@ -6,6 +6,7 @@ pub mod Files
 pub mod Groups
 pub mod Limits
 pub mod Loading
+pub mod Messages
 pub mod OnHandle
 pub mod Outbound
 pub mod Sampling

@@ -63,7 +63,7 @@ fn times_of(own_times: bool) -> Times
 }
 
 /// Writes the message of an answer, and how many bytes it has.
-fn put_answer(
+pub(crate) fn put_answer(
     alloc: Global,
     form: Form,
     entries: &[Entry],

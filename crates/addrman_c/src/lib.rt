@@ -20,6 +20,7 @@ mod kinds;
 mod limits;
 mod loading;
 mod marks;
+mod messages;
 mod opener;
 mod opening;
 mod picks;
@@ -48,12 +49,13 @@ pub use limits::{
 };
 pub use loading::addrman_open_file;
 pub use marks::{addrman_attempt, addrman_connected, addrman_good, addrman_set_services};
+pub use messages::{addrman_message_count, addrman_read_message, addrman_write_message};
 pub use opener::{
     addrman_judge_feeler, addrman_opener_add, addrman_opener_judge, addrman_opener_remove,
 };
 pub use opening::{addrman_close, addrman_open};
 pub use picks::{addrman_resolve_collisions, addrman_select, addrman_select_collision};
-pub use records::{addrman_find, addrman_records, addrman_size};
+pub use records::{addrman_find, addrman_records, addrman_size, addrman_size_of};
 pub use sampling::addrman_sample;
 pub use saves::{addrman_save_begin, addrman_save_close, addrman_save_done, addrman_save_next};
 pub use text::{addrman_addr_parse, addrman_addr_text, addrman_peer_parse, addrman_peer_text};

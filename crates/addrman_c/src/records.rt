@@ -1,13 +1,17 @@
-ghost use Rattle.std.specs.Prelude.{◌≡◌, ◌≢◌, length, count_by, not};
+ghost use Rattle.std.specs.Prelude.{◌≡◌, ◌≢◌, ◌%◌, length, count_by, not};
+ghost use Rattle.net_addr.specs.NetBits.{nets_of};
 ghost use Rattle.peer_rec.specs.Rec.{is_tried};
+ghost use Rattle.table_machine.specs.Picks.{wanted_new, wanted_tried};
 ghost use Rattle.c_values.specs.Values.{peer_in};
 ghost use Rattle.addrman_c.specs.Calls.{FindCall, RecordsCall};
 ghost use Rattle.addrman_c.specs.OnHandle.{OnTables};
 
 use c_handles::{Handle, Keyed};
 use c_values::code::{ARGUMENT, CLOSED, MEMORY, NONE, OK, SHORT_BUFFER};
-use c_values::{AddrmanCounts, AddrmanPeer, AddrmanRecord, put_records, read_peer, write_record};
-use net_addr::Peer;
+use c_values::{
+    AddrmanCounts, AddrmanPeer, AddrmanRecord, put_records, read_nets, read_peer, write_record,
+};
+use net_addr::{NetSet, Peer};
 use std::alloc::Global;
 use tables::Tables;
 
@@ -110,5 +114,40 @@ pub extern "C" fn addrman_size(
         tried_count: found.tried_count,
         collisions: found.clashes,
     };
+    OK
+}
+
+/// Counts the records of each table whose networks are in a set.
+fn size_on(tables: &Tables<'_, Keyed>, nets: NetSet, new_count: &mut u32, tried_count: &mut u32)
+    ensures new { new_count.new ≡ wanted_new tables.now nets }
+    ensures tried { tried_count.new ≡ wanted_tried tables.now nets }
+{
+    let (new, tried) = tables.wanted(nets);
+    *new_count = new;
+    *tried_count = tried;
+}
+
+/// Counts the records of each table whose networks are in a set, that of those that are not
+/// routable among them.
+#[unsafe(no_mangle)]
+pub extern "C" fn addrman_size_of(
+    alloc: Global,
+    handle: &mut Handle,
+    nets: u32,
+    new_count: &mut u32,
+    tried_count: &mut u32,
+) -> u32
+    ensures call { OnTables handle.old.loose.kept result handle.new.loose.kept (λ old new.
+        (result ≡ OK) × (new_count.new ≡ wanted_new old (nets_of (nets % 128)))
+        × (tried_count.new ≡ wanted_tried old (nets_of (nets % 128)))
+        × (new ≡ old)) }
+    ensures same { result ≢ OK → (new_count.new ≡ new_count.old)
+        × (tried_count.new ≡ tried_count.old) }
+{
+    let Some(kept) = handle.take(alloc) else {
+        return CLOSED;
+    };
+    size_on(&kept.tables, read_nets(nets), new_count, tried_count);
+    handle.put(kept);
     OK
 }

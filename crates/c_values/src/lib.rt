@@ -9,6 +9,7 @@
 #![tactic(auto)]
 
 pub mod code;
+mod entries;
 mod faults;
 mod output;
 mod peers;
@@ -16,13 +17,14 @@ mod records;
 mod structs;
 mod values;
 
+pub use entries::{put_entries, read_entries};
 pub use faults::fault_number;
 pub use output::put_all;
 pub use peers::put_peers;
 pub use records::{put_records, write_record};
 pub use structs::{
-    AddrmanAdded, AddrmanBan, AddrmanCounts, AddrmanFault, AddrmanLimits, AddrmanPicked,
-    AddrmanRecord, AddrmanResolved,
+    AddrmanAdded, AddrmanBan, AddrmanCounts, AddrmanEntry, AddrmanFault, AddrmanLimits,
+    AddrmanPicked, AddrmanRecord, AddrmanResolved,
 };
 pub use values::{
     AddrmanAddr, AddrmanPeer, bit, read_addr, read_class, read_nets, read_peer, write_addr,

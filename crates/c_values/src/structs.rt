@@ -8,6 +8,15 @@ pub struct AddrmanAdded {
     pub total: u32,
 }
 
+/// An entry of a message: a peer, its services, and a time in seconds since 1970.
+#[repr(C)]
+#[derive(Clone, Copy)]
+pub struct AddrmanEntry {
+    pub services: u64,
+    pub peer: AddrmanPeer,
+    pub time: u32,
+}
+
 /// A peer that was picked, and when it was last tried, in seconds since 1970.
 #[repr(C)]
 #[derive(Clone, Copy)]
