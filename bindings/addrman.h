@@ -320,6 +320,15 @@ ADDRMAN_CALL addrman_result addrman_take_message(addrman *am, bool is_v2,
     const uint64_t *words, size_t word_count, uint32_t now, addrman_added *added,
     addrman_fault *fault);
 
+/* The same with at most `most` entries of the message, the first ones: as many as
+ * addrman_limiter_admit lets through of addrman_message_count. Proved: FirstCall (`IsFirstAdded`,
+ * `IsFirstFault`).
+ * Codes: as of addrman_take_message. */
+ADDRMAN_CALL addrman_result addrman_take_first(addrman *am, bool is_v2,
+    const uint8_t *payload, size_t payload_length, const addrman_addr *source, uint32_t most,
+    const uint64_t *words, size_t word_count, uint32_t now, addrman_added *added,
+    addrman_fault *fault);
+
 /* Writes how many entries an addr (is_v2 false) or addrv2 message has, those that are skipped among
  * them, as addrman_limiter_admit wants it. Proved: CountCall (`IsMessage`, `HasMessageFault`).
  *   ADDRMAN_ERR_REFUSED  *fault says why

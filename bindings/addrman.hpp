@@ -201,6 +201,18 @@ public:
         return added;
     }
 
+    // Takes at most so many entries of a message, the first ones.
+    addrman_added take_first(bool is_v2, view<std::uint8_t> payload, const addrman_addr &source,
+        std::uint32_t most, view<std::uint64_t> w, std::uint32_t now)
+    {
+        addrman_added added{};
+        addrman_fault fault{};
+        auto code = addrman_take_first(am_.get(), is_v2, payload.data(), payload.size(), &source,
+            most, w.data(), w.size(), now, &added, &fault);
+        detail::check(code, fault, added.total);
+        return added;
+    }
+
     bool add(const addrman_peer &peer, const addrman_addr &source, std::uint32_t time,
         std::uint64_t services, std::uint32_t penalty, std::uint64_t word, std::uint32_t now)
     {

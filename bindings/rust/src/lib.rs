@@ -240,6 +240,19 @@ impl AddrMan {
         Ok(added)
     }
 
+    /// Takes at most so many entries of a message, the first ones.
+    #[allow(clippy::too_many_arguments)]
+    pub fn take_first(&mut self, is_v2: bool, payload: &[u8], source: &Addr, most: u32, words: &[u64], now: u32) -> Result<Added, Error> {
+        let (mut added, mut fault) = (Added::default(), Fault::default());
+        let code = unsafe {
+            raw::addrman_take_first(
+                &mut self.handle, is_v2, payload.as_ptr(), payload.len(), source, most, words.as_ptr(), words.len(), now, &mut added, &mut fault,
+            )
+        };
+        checked(code, fault, added.total as usize)?;
+        Ok(added)
+    }
+
     /// Adds one entry that `source` announced. Returns whether its peer got a slot.
     #[allow(clippy::too_many_arguments)]
     pub fn add(&mut self, peer: &Peer, source: &Addr, time: u32, services: u64, penalty: u32, word: u64, now: u32) -> Result<bool, Error> {

@@ -142,6 +142,7 @@ extern "C" {
     pub fn addrman_message_count(is_v2: bool, payload: *const u8, payload_length: usize, count: *mut u32, fault: *mut Fault) -> u32;
     pub fn addrman_read_message(is_v2: bool, payload: *const u8, payload_length: usize, entries: *mut Entry, capacity: usize, length: *mut usize, fault: *mut Fault) -> u32;
     pub fn addrman_write_message(is_v2: bool, entries: *const Entry, count: usize, payload: *mut u8, capacity: usize, length: *mut usize) -> u32;
+    pub fn addrman_take_first(am: *mut Handle, is_v2: bool, payload: *const u8, payload_length: usize, source: *const Addr, most: u32, words: *const u64, word_count: usize, now: u32, added: *mut Added, fault: *mut Fault) -> u32;
     pub fn addrman_size_of(am: *mut Handle, nets: u32, new_count: *mut u32, tried_count: *mut u32) -> u32;
     pub fn addrman_abi() -> u32;
     pub fn addrman_addr_parse(text: *const u8, length: usize, out: *mut Addr) -> u32;

@@ -15,6 +15,7 @@ use Rattle.table_machine.specs.State.{State, After, find_peer}
 use Rattle.table_machine.specs.Entries.{add}
 use Rattle.table_machine.specs.Tried.{good}
 use Rattle.taking.specs.Taking.{IsAdded, IsMessageFault}
+use Rattle.uncounted.specs.First.{IsFirstAdded, IsFirstFault}
 use Rattle.taking.specs.declared.messages.Added.{Added}
 use Rattle.taking.specs.declared.messages.MessageFault.{MessageFault}
 use Rattle.taking.specs.declared.messages.MessageFault.TheVariants.{Memory, Refused, ShortWords}
@@ -95,6 +96,19 @@ MessageCall form payload (Some source) words now old code added fault new =
     ⊎ ((old.next_number < most_records) × ((answer : Result Added MessageFault)
     × MatchResult answer (λ taken. IsAdded form payload old now source words taken new)
     (λ why. IsMessageFault form payload old now source words why new)
+    × Tells answer code added fault))
+
+-- a message, of which at most so many entries are taken, the first ones; None is no address
+abbrev pub FirstCall : Form → List ℕ → Option Address → ℕ → List ℕ → ℕ → State → ℕ → AddrmanAdded
+    → AddrmanFault → State → Type 0
+FirstCall form payload None most words now old code added fault new =
+    Refuses ARGUMENT old code new
+FirstCall form payload (Some source) most words now old code added fault new =
+    ((most_records ≤ old.next_number) × Refuses FULL old code new)
+    ⊎ ((old.next_number < most_records) × ((answer : Result Added MessageFault)
+    × MatchResult answer
+    (λ taken. IsFirstAdded form payload most old now source words taken new)
+    (λ why. IsFirstFault form payload most old now source words why new)
     × Tells answer code added fault))
 
 -- the code and the output for a pick

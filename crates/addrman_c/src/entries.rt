@@ -1,6 +1,6 @@
 ghost use Rattle.std.specs.Prelude.{◌≡◌, ◌≢◌};
 ghost use Rattle.c_values.specs.Values.{peer_in, address_in};
-ghost use Rattle.addrman_c.specs.Calls.{AddCall, MessageCall, Tells, form_of};
+ghost use Rattle.addrman_c.specs.Calls.{AddCall, FirstCall, MessageCall, Tells, form_of};
 ghost use Rattle.addrman_c.specs.OnHandle.{OnTables};
 
 use addr_codecs::Form;
@@ -191,6 +191,75 @@ pub extern "C" fn addrman_take_message(
         form_of(is_v2),
         payload,
         read_addr(source),
+        words,
+        now,
+        added,
+        fault,
+    );
+    handle.put(kept);
+    code
+}
+
+/// Adds at most so many entries of a message, the first ones.
+fn first_on(
+    alloc: Global,
+    tables: &mut Tables<'_, Keyed>,
+    form: Form,
+    payload: &[u8],
+    source: Option<NetAddr>,
+    most: u32,
+    words: &[u64],
+    now: u32,
+    added: &mut AddrmanAdded,
+    fault: &mut AddrmanFault,
+) -> u32
+    ensures call { FirstCall form payload.now source most words.now now tables.old result added.new
+        fault.new tables.new }
+    ensures added { result ≢ OK → result ≢ SHORT_WORDS → added.new ≡ added.old }
+    ensures fault { result ≢ REFUSED → fault.new ≡ fault.old }
+{
+    let Some(source) = source else {
+        return ARGUMENT;
+    };
+    if tables.next_number() >= MOST_RECORDS {
+        return FULL;
+    }
+    let most = most as usize;
+    let answer = uncounted::take_first(alloc, tables, form, payload, &source, most, words, now);
+    tell(answer, added, fault)
+}
+
+/// Adds at most so many entries of a message that `source` sent, the first ones, each with the
+/// random word at its index.
+#[unsafe(no_mangle)]
+pub extern "C" fn addrman_take_first(
+    alloc: Global,
+    handle: &mut Handle,
+    is_v2: bool,
+    payload: &[u8],
+    source: &AddrmanAddr,
+    most: u32,
+    words: &[u64],
+    now: u32,
+    added: &mut AddrmanAdded,
+    fault: &mut AddrmanFault,
+) -> u32
+    ensures call { OnTables handle.old.loose.kept result handle.new.loose.kept
+        (λ old new. FirstCall (form_of is_v2) payload.now (address_in source.now) most words.now now
+        old result added.new fault.new new) }
+    ensures added { result ≢ OK → result ≢ SHORT_WORDS → added.new ≡ added.old }
+    ensures fault { result ≢ REFUSED → fault.new ≡ fault.old }
+{
+    let Some(mut kept) = handle.take(alloc) else {
+        return CLOSED;
+    };
+    let code = first_on(
+        alloc,
+        &mut kept.tables,
+        form_of(is_v2),
+        payload,
+        read_addr(source),
+        most,
         words,
         now,
         added,

@@ -38,7 +38,7 @@ pub use bans::{
     addrman_bans_add, addrman_bans_close, addrman_bans_covering, addrman_bans_open,
     addrman_bans_remove, addrman_bans_write, addrman_subnet_parse,
 };
-pub use entries::{addrman_add, addrman_take_message};
+pub use entries::{addrman_add, addrman_take_first, addrman_take_message};
 pub use group::{addrman_asmap_check, addrman_asn, addrman_group};
 pub use kinds::{
     addrman_addr_class, addrman_addr_from_v1, addrman_addr_routable, addrman_addr_to_v1,

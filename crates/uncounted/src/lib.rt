@@ -1,15 +1,18 @@
 //! The calls of the tables for callers that read no count of steps: each counts its steps on a
 //! counter of its own, so that the caller names no ledger and has no condition on it.
 //!
-//! Proved: each call returns and leaves what the call with a count of steps does.
+//! Proved: each call returns and leaves what the call with a count of steps does. `take_first` does
+//! so with the first entries of a message (`IsFirstAdded`, `IsFirstFault`).
 #![tactic(auto)]
 
 mod entries;
+mod first;
 mod marks;
 mod picks;
 mod reads;
 
 pub use entries::{add, take_message};
+pub use first::take_first;
 pub use marks::{attempt, connected, good, services};
 pub use picks::{clash_pick, resolve, sample, select};
 pub use reads::{find, recs, restore, snapshot};
