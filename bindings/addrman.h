@@ -240,6 +240,18 @@ ADDRMAN_CALL addrman_result addrman_open_file(addrman *am, const uint8_t *bytes,
     size_t length, addrman_chain chain, const uint64_t seed[2], const uint8_t *asmap,
     size_t asmap_length, addrman_fault *fault);
 
+/* The same for a node that runs with Bitcoin Core's peers.dat: the checksum of the asmap, by which a
+ * file says under which asmap it was written, is that of Bitcoin Core 24 to 30 (docs/FORMATS.md). It
+ * is that of the object: addrman_write_file and addrman_save_begin write it.
+ * Proved: OpenCall, LoadCall (`sum_by` with `Bits`).
+ * Codes: REFUSED, MEMORY. */
+ADDRMAN_CALL addrman_result addrman_open_core(addrman *am, const uint8_t key[32],
+    const uint64_t seed[2], const uint8_t *asmap, size_t asmap_length);
+/* Codes: as of addrman_open_file. */
+ADDRMAN_CALL addrman_result addrman_open_file_core(addrman *am, const uint8_t *bytes,
+    size_t length, addrman_chain chain, const uint64_t seed[2], const uint8_t *asmap,
+    size_t asmap_length, addrman_fault *fault);
+
 /* Frees all memory of the object, and closes it. Proved: the object is closed. */
 ADDRMAN_API void addrman_close(addrman *am);
 

@@ -174,19 +174,21 @@ class tables {
     friend class save;
 
 public:
-    tables(const key &k, const seed &s, view<std::uint8_t> asmap = {})
+    // With `core` the checksum of the asmap is Bitcoin Core's.
+    tables(const key &k, const seed &s, view<std::uint8_t> asmap = {}, bool core = false)
     {
         addrman_fault fault{ADDRMAN_FAULT_ASMAP, 0};
-        detail::check(addrman_open(am_.get(), k.data(), s.data(), asmap.data(), asmap.size()),
-            fault);
+        auto open = core ? addrman_open_core : addrman_open;
+        detail::check(open(am_.get(), k.data(), s.data(), asmap.data(), asmap.size()), fault);
     }
 
     tables(view<std::uint8_t> file, addrman_chain chain, const seed &s,
-        view<std::uint8_t> asmap = {})
+        view<std::uint8_t> asmap = {}, bool core = false)
     {
         addrman_fault fault{};
-        detail::check(addrman_open_file(am_.get(), file.data(), file.size(), chain, s.data(),
-                          asmap.data(), asmap.size(), &fault),
+        auto open = core ? addrman_open_file_core : addrman_open_file;
+        detail::check(open(am_.get(), file.data(), file.size(), chain, s.data(), asmap.data(),
+                          asmap.size(), &fault),
             fault);
     }
 

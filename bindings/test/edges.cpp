@@ -60,6 +60,8 @@ int main()
     want(message_count(true, message) == 1 && entries.size() == 1 && entries[0].services == 9, "a message is not read");
     want(write_message(true, entries) == message && write_message(true, {}) == bytes{0}, "a message is written otherwise");
     want(text_of(entries[0].peer) == "8.8.8.8:8333" && two.size_of(ADDRMAN_NET(ADDRMAN_IPV4)).first == 1, "a peer is another");
+    tables core(key{}, s, {}, true);
+    want(core.file(ADDRMAN_MAIN) == tables(key{}, s).file(ADDRMAN_MAIN), "no asmap has a checksum");
     save first(two, ADDRMAN_MAIN, 1000), second(two, ADDRMAN_MAIN, 1000);
     second = std::move(first);
     want(second.next()->what == ADDRMAN_CREATE && is_closed([&] { first.next(); }), "saves are not moved");

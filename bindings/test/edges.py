@@ -95,6 +95,16 @@ def main():
     refuses(addrman.Refused, lambda: addrman.message_count(True, payload[1:]))
     refuses(addrman.Refused, lambda: addrman.read_message(False, payload))
     refuses(TypeError, lambda: addrman.message_count(2, payload))
+    # The asmap of Bitcoin Core's unit tests, and the checksum that it has there.
+    asmap = bytes.fromhex("fb03ec0fb03fc0fe00fb03ec0fb03fc0fe00fb03ec0fb0fffffeffedb0ffd486e628290000400000400040990100800180040000"
+                          "050006001cf039")
+    said = bytes.fromhex("fec61fa21a9f46f3b17bdcd660d7f4cd90b966aad3aec593c99b35f0aca15853")[::-1]
+    with addrman.AddrMan(KEY, SEED, asmap, True) as core, addrman.AddrMan(KEY, SEED, asmap) as own:
+        file = core.file()
+        again = addrman.AddrMan.load(file, addrman.MAIN, SEED, asmap, core=True)
+        other = addrman.AddrMan.load(file, addrman.MAIN, SEED, asmap)
+        if file[-64:-32] != said or again.file() != file or own.file() == file or other.file() != own.file():
+            raise SystemExit("an asmap has another checksum")
     answers, bans, words = addrman.Answers(), addrman.Bans(), list(range(1 + size.new + size.tried))
     refuses(TypeError, lambda: answers.answer(am, am, addrman.IPV4, 0, True, False, NOW, words))
     refuses(TypeError, lambda: answers.answer(am, bans, addrman.IPV4, 0, 1, False, NOW, words))

@@ -164,6 +164,7 @@ _SIGNATURES = {
     "addr_text": [_P, _P, _SIZE, _P], "peer_text": [_P, _P, _SIZE, _P], "addr_routable": [_P, _P],
     "addr_from_v1": [_P, _P], "addr_to_v1": [_P, _P], "addr_class": [_P, _P], "subnet_parse": [_P, _SIZE, _P, _P],
     "open": [_P, _P, _P, _P, _SIZE], "open_file": [_P, _P, _SIZE, _U32, _P, _P, _SIZE, _P], "close": [_P],
+    "open_core": [_P, _P, _P, _P, _SIZE], "open_file_core": [_P, _P, _SIZE, _U32, _P, _P, _SIZE, _P],
     "write_file": [_P, _U32, _P, _SIZE, _P],
     "take_message": [_P, _BOOL, _P, _SIZE, _P, _P, _SIZE, _U32, _P, _P],
     "take_first": [_P, _BOOL, _P, _SIZE, _P, _U32, _P, _SIZE, _U32, _P, _P],
@@ -410,19 +411,21 @@ class AddrMan(_Object):
     """The tables, and the outbound peers that are open. Peers and addresses are texts, as `9.9.9.9:8333`. Times are
     seconds since 1970, and words random 64-bit numbers (`secrets.randbits(64)`)."""
 
-    def __init__(self, key: BytesLike, seed: tuple[int, int], asmap: BytesLike = b""):
-        """Empty tables under a secret key of 32 bytes."""
+    def __init__(self, key: BytesLike, seed: tuple[int, int], asmap: BytesLike = b"", core: bool = False):
+        """Empty tables under a secret key of 32 bytes. With `core` the checksum of the asmap is Bitcoin Core's."""
         super().__init__()
         raw = _raw("asmap", asmap)
-        _check(self._call("open", _raw("key", key, 32), _seed(seed), raw, len(raw)), _Fault(21, 0))
+        _check(self._call("open_core" if _flag("core", core) else "open", _raw("key", key, 32), _seed(seed), raw, len(raw)), _Fault(21, 0))
 
     @classmethod
-    def load(cls, file: BytesLike, chain: int, seed: tuple[int, int], asmap: BytesLike = b"") -> AddrMan:
+    def load(cls, file: BytesLike, chain: int, seed: tuple[int, int], asmap: BytesLike = b"",
+             core: bool = False) -> AddrMan:
         """The tables that the bytes of a peers.dat have."""
         self, fault = cls.__new__(cls), _Fault()
         _Object.__init__(self)
         bytes_of, raw = _raw("file", file), _raw("asmap", asmap)
-        _check(self._call("open_file", bytes_of, len(bytes_of), _number("chain", chain), _seed(seed), raw, len(raw),
+        name = "open_file_core" if _flag("core", core) else "open_file"
+        _check(self._call(name, bytes_of, len(bytes_of), _number("chain", chain), _seed(seed), raw, len(raw),
                           c.byref(fault)), fault)
         return self
 

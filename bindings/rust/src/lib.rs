@@ -223,6 +223,26 @@ impl AddrMan {
         Ok(am)
     }
 
+    /// Opens empty tables, of which the checksum of the asmap is Bitcoin Core's.
+    pub fn open_core(key: &[u8; 32], seed: &[u64; 2], asmap: &[u8]) -> Result<AddrMan, Error> {
+        let mut am = AddrMan { handle: no_handle() };
+        let code = unsafe { raw::addrman_open_core(&mut am.handle, key, seed, asmap.as_ptr(), asmap.len()) };
+        checked(code, Fault { kind: 21, at: 0 }, 0)?;
+        Ok(am)
+    }
+
+    /// Opens the tables that the bytes of a `peers.dat` of Bitcoin Core have.
+    pub fn load_core(file: &[u8], chain: Chain, seed: &[u64; 2], asmap: &[u8]) -> Result<AddrMan, Error> {
+        let mut am = AddrMan { handle: no_handle() };
+        let mut fault = Fault::default();
+        let (map, length) = (asmap.as_ptr(), asmap.len());
+        let code = unsafe {
+            raw::addrman_open_file_core(&mut am.handle, file.as_ptr(), file.len(), chain as u32, seed, map, length, &mut fault)
+        };
+        checked(code, fault, 0)?;
+        Ok(am)
+    }
+
     /// Returns the bytes of the `peers.dat` that keeps the tables.
     pub fn file(&mut self, chain: Chain) -> Result<Vec<u8>, Error> {
         filled(0, |p, n, l| unsafe { raw::addrman_write_file(&mut self.handle, chain as u32, p, n, l) })

@@ -143,6 +143,8 @@ extern "C" {
     pub fn addrman_read_message(is_v2: bool, payload: *const u8, payload_length: usize, entries: *mut Entry, capacity: usize, length: *mut usize, fault: *mut Fault) -> u32;
     pub fn addrman_write_message(is_v2: bool, entries: *const Entry, count: usize, payload: *mut u8, capacity: usize, length: *mut usize) -> u32;
     pub fn addrman_take_first(am: *mut Handle, is_v2: bool, payload: *const u8, payload_length: usize, source: *const Addr, most: u32, words: *const u64, word_count: usize, now: u32, added: *mut Added, fault: *mut Fault) -> u32;
+    pub fn addrman_open_core(am: *mut Handle, key: *const [u8; 32], seed: *const [u64; 2], asmap: *const u8, asmap_length: usize) -> u32;
+    pub fn addrman_open_file_core(am: *mut Handle, bytes: *const u8, length: usize, chain: u32, seed: *const [u64; 2], asmap: *const u8, asmap_length: usize, fault: *mut Fault) -> u32;
     pub fn addrman_size_of(am: *mut Handle, nets: u32, new_count: *mut u32, tried_count: *mut u32) -> u32;
     pub fn addrman_abi() -> u32;
     pub fn addrman_addr_parse(text: *const u8, length: usize, out: *mut Addr) -> u32;

@@ -3,7 +3,7 @@ use Rattle.std.specs.Prelude.{◌≡◌, ◌⊎◌, ℕ, ◌<◌, ◌≤◌, Lis
 use Rattle.bit_code.specs.declared.bits.TheConstants.{MAX_ASMAP}
 use Rattle.asmap_vm.specs.Code.{Tree, IsSaneFile}
 use Rattle.asmap_vm.specs.Asmap.{Asmap}
-use Rattle.placing.specs.declared.sum.SumRule.TheVariants.{Bytes}
+use Rattle.placing.specs.declared.sum.SumRule.{SumRule}
 use Rattle.table_machine.specs.State.{State, empty_state}
 use Rattle.table_machine.specs.Snapshot.{snapshot_of}
 use Rattle.peers_file.specs.Texts.{file_text}
@@ -26,21 +26,21 @@ IsNoMap bytes =
     (0 < length bytes)
     × ((MAX_ASMAP < length bytes) ⊎ ((t : Tree) → IsSaneFile t bytes → ⊥))
 
--- empty tables of the key and the asmap, and no outbound peer
-abbrev pub IsOpened : List ℕ → Option Asmap → Kept → Type 0
-IsOpened key map kept =
+-- empty tables of the key, the asmap and the rule of its checksum, and no outbound peer
+abbrev pub IsOpened : List ℕ → Option Asmap → SumRule → Kept → Type 0
+IsOpened key map rule kept =
     kept ≡ record {
-      tables = empty_state (record { key = key; map = map; rule = Bytes });
+      tables = empty_state (record { key = key; map = map; rule = rule });
       opener = [];
     }
 
 -- tables are opened, or the handle is closed
-abbrev pub OpenCall : List ℕ → List ℕ → ℕ → Option Kept → Type 0
-OpenCall key asmap code None =
+abbrev pub OpenCall : List ℕ → List ℕ → SumRule → ℕ → Option Kept → Type 0
+OpenCall key asmap rule code None =
     ((code ≡ REFUSED) × IsNoMap asmap)
     ⊎ ((code ≡ MEMORY) × ((map : Option Asmap) × IsMapOf asmap map))
-OpenCall key asmap code (Some kept) =
-    (code ≡ OK) × ((map : Option Asmap) × IsMapOf asmap map × IsOpened key map kept)
+OpenCall key asmap rule code (Some kept) =
+    (code ≡ OK) × ((map : Option Asmap) × IsMapOf asmap map × IsOpened key map rule kept)
 
 -- the chain of a number of the header: one by name, or one by the four bytes with which its files
 -- begin, the first one highest

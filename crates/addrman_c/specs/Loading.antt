@@ -2,7 +2,7 @@
 use Rattle.std.specs.Prelude.{◌≡◌, ◌≢◌, ◌⊎◌, ℕ, List, [], Option, Some, None, ⊤}
 use Rattle.asmap_vm.specs.Asmap.{Asmap}
 use Rattle.peer_rec.specs.Snapshot.{Snapshot}
-use Rattle.placing.specs.declared.sum.SumRule.TheVariants.{Bytes}
+use Rattle.placing.specs.declared.sum.SumRule.{SumRule}
 use Rattle.table_machine.specs.Restoring.{restored, duplicate}
 use Rattle.peers_file.specs.Layout.{IsFile, HasFileFault}
 use Rattle.peers_file.specs.declared.chain.Chain.{Chain}
@@ -32,12 +32,13 @@ fault_of (file.Attempts index) = fault_at 18 index
 fault_of (file.TooLarge size) = fault_at 19 size
 fault_of file.Memory = fault_at 0 0
 
--- the tables of the file that the bytes are, with its key and the asmap, and no outbound peer
-abbrev pub IsLoaded : Chain → List ℕ → Option Asmap → Kept → Type 0
-IsLoaded chain bytes map kept =
+-- the tables of the file that the bytes are, with its key, the asmap and the rule of its checksum,
+-- and no outbound peer
+abbrev pub IsLoaded : Chain → List ℕ → Option Asmap → SumRule → Kept → Type 0
+IsLoaded chain bytes map rule kept =
     (snap : Snapshot) × IsFile chain bytes snap
     × (kept ≡ record {
-      tables = restored snap (record { key = snap.key; map = map; rule = Bytes });
+      tables = restored snap (record { key = snap.key; map = map; rule = rule });
       opener = [];
     })
 
@@ -56,12 +57,13 @@ TellsLoad (Duplicate index) code out = (code ≡ REFUSED) × (out ≡ fault_at 2
 
 -- A file is loaded, or the handle is closed: an asmap that is refused goes before the file. None is
 -- no chain.
-abbrev pub LoadCall : Option Chain → List ℕ → List ℕ → ℕ → AddrmanFault → Option Kept → Type 0
-LoadCall None bytes asmap code out None = code ≡ ARGUMENT
-LoadCall None bytes asmap code out (Some kept) = ⊥
-LoadCall (Some chain) bytes asmap code out None =
+abbrev pub LoadCall : Option Chain → List ℕ → List ℕ → SumRule → ℕ → AddrmanFault → Option Kept
+    → Type 0
+LoadCall None bytes asmap rule code out None = code ≡ ARGUMENT
+LoadCall None bytes asmap rule code out (Some kept) = ⊥
+LoadCall (Some chain) bytes asmap rule code out None =
     ((code ≡ REFUSED) × IsNoMap asmap × (out ≡ fault_at 21 0))
     ⊎ ((map : Option Asmap) × IsMapOf asmap map
     × ((why : LoadFault) × IsLoadFault chain bytes why × TellsLoad why code out))
-LoadCall (Some chain) bytes asmap code out (Some kept) =
-    (code ≡ OK) × ((map : Option Asmap) × IsMapOf asmap map × IsLoaded chain bytes map kept)
+LoadCall (Some chain) bytes asmap rule code out (Some kept) =
+    (code ≡ OK) × ((map : Option Asmap) × IsMapOf asmap map × IsLoaded chain bytes map rule kept)

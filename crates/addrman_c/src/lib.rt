@@ -47,13 +47,13 @@ pub use limits::{
     addrman_limiter_add, addrman_limiter_admit, addrman_limiter_close, addrman_limiter_getaddr,
     addrman_limiter_open, addrman_limiter_remove, addrman_limiter_stat,
 };
-pub use loading::addrman_open_file;
+pub use loading::{addrman_open_file, addrman_open_file_core};
 pub use marks::{addrman_attempt, addrman_connected, addrman_good, addrman_set_services};
 pub use messages::{addrman_message_count, addrman_read_message, addrman_write_message};
 pub use opener::{
     addrman_judge_feeler, addrman_opener_add, addrman_opener_judge, addrman_opener_remove,
 };
-pub use opening::{addrman_close, addrman_open};
+pub use opening::{addrman_close, addrman_open, addrman_open_core};
 pub use picks::{addrman_resolve_collisions, addrman_select, addrman_select_collision};
 pub use records::{addrman_find, addrman_records, addrman_size, addrman_size_of};
 pub use sampling::addrman_sample;

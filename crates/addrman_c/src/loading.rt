@@ -2,6 +2,7 @@ ghost use Rattle.std.specs.Prelude.{◌≡◌, ◌≢◌, IfOk, IfErr};
 ghost use Rattle.placing.specs.Inside.{map_of};
 ghost use Rattle.addrman_c.specs.Loading.{fault_of, IsLoaded, IsLoadFault, TellsLoad, LoadCall};
 ghost use Rattle.addrman_c.specs.Files.{chain_of};
+ghost use Rattle.placing.specs.declared.sum.SumRule.TheVariants.{Bytes, Bits};
 
 use crate::chain::chain_of;
 use crate::opening::{boxed, check_map, placer_of};
@@ -10,6 +11,7 @@ use c_handles::{Handle, Kept, Keyed};
 use c_values::AddrmanFault;
 use c_values::code::{ARGUMENT, MEMORY, OK, REFUSED};
 use peers_file::{Chain, FileFault, read_file};
+use placing::SumRule;
 use std::alloc::Global;
 use tables::RestoreFault;
 
@@ -52,8 +54,10 @@ fn loaded(
     chain: Chain,
     hasher: Keyed,
     map: Option<Sane<'_>>,
+    rule: SumRule,
 ) -> Result<Box<Kept>, LoadFault>
-    ensures found { IfOk result (λ kept. IsLoaded chain bytes.now (map_of map.entry) kept.value) }
+    ensures found { IfOk result (λ kept.
+        IsLoaded chain bytes.now (map_of map.entry) rule kept.value) }
     ensures cause { IfErr result (IsLoadFault chain bytes.now) }
 {
     let snap = match read_file(alloc, bytes, chain) {
@@ -61,7 +65,7 @@ fn loaded(
         Err(FileFault::Memory) => return Err(LoadFault::Memory),
         Err(fault) => return Err(LoadFault::Refused(fault)),
     };
-    let Some(placer) = placer_of(alloc, snap.key(), map) else {
+    let Some(placer) = placer_of(alloc, snap.key(), map, rule) else {
         return Err(LoadFault::Memory);
     };
     match uncounted::restore(alloc, &snap, placer, hasher) {
@@ -95,18 +99,19 @@ fn tell(why: LoadFault, fault: &mut AddrmanFault) -> u32
     }
 }
 
-/// Opens the tables that the bytes of a `peers.dat` have. What the handle had is dropped.
-#[unsafe(no_mangle)]
-pub extern "C" fn addrman_open_file(
+/// Opens the tables that the bytes of a `peers.dat` have, with a rule for the checksum of the asmap.
+/// What the handle had is dropped.
+fn open_by(
     alloc: Global,
     handle: &mut Handle,
     bytes: &[u8],
     chain: u32,
     seed: &[u64; 2],
     asmap: &[u8],
+    rule: SumRule,
     fault: &mut AddrmanFault,
 ) -> u32
-    ensures call { LoadCall (chain_of chain) bytes.now asmap.now result fault.new
+    ensures call { LoadCall (chain_of chain) bytes.now asmap.now rule result fault.new
         handle.new.loose.kept }
     ensures fault { result ≢ REFUSED → fault.new ≡ fault.old }
 {
@@ -118,11 +123,72 @@ pub extern "C" fn addrman_open_file(
         *fault = AddrmanFault { kind: 21, at: 0 };
         return REFUSED;
     };
-    match loaded(alloc, bytes, chain, Keyed::make(seed[0], seed[1]), map) {
+    match loaded(
+        alloc,
+        bytes,
+        chain,
+        Keyed::make(seed[0], seed[1]),
+        map,
+        rule,
+    ) {
         Ok(kept) => {
             handle.put(kept);
             OK
         }
         Err(why) => tell(why, fault),
     }
+}
+
+/// Opens the tables that the bytes of a `peers.dat` have. What the handle had is dropped.
+#[unsafe(no_mangle)]
+pub extern "C" fn addrman_open_file(
+    alloc: Global,
+    handle: &mut Handle,
+    bytes: &[u8],
+    chain: u32,
+    seed: &[u64; 2],
+    asmap: &[u8],
+    fault: &mut AddrmanFault,
+) -> u32
+    ensures call { LoadCall (chain_of chain) bytes.now asmap.now Bytes result fault.new
+        handle.new.loose.kept }
+    ensures fault { result ≢ REFUSED → fault.new ≡ fault.old }
+{
+    open_by(
+        alloc,
+        handle,
+        bytes,
+        chain,
+        seed,
+        asmap,
+        SumRule::Bytes,
+        fault,
+    )
+}
+
+/// Does the same, and the checksum of the asmap is Bitcoin Core's.
+#[unsafe(no_mangle)]
+pub extern "C" fn addrman_open_file_core(
+    alloc: Global,
+    handle: &mut Handle,
+    bytes: &[u8],
+    chain: u32,
+    seed: &[u64; 2],
+    asmap: &[u8],
+    fault: &mut AddrmanFault,
+) -> u32
+    ensures call { LoadCall (chain_of chain) bytes.now asmap.now Bits result fault.new
+        handle.new.loose.kept }
+    ensures fault { result ≢ REFUSED → fault.new ≡ fault.old }
+{
+    open_by(
+        alloc,
+        handle,
+        bytes,
+        chain,
+        seed,
+        asmap,
+        SumRule::Bits,
+        fault,
+    )
 }
