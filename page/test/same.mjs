@@ -1,8 +1,9 @@
 // same.mjs ENGINE.wasm PROGRAM [COUNT]: whether the engine of the page does what the program does.
 //
-// Hands the same arguments, input and files to both: those of examples/, and COUNT generated logs
-// with the files that they leave, whole, changed and cut. Compares exit code, output, standard
-// error and all files that are left. Ends with status 1 at a difference.
+// Hands the same arguments, input and files to both: those of examples/, COUNT generated logs with
+// the files that they leave, whole, changed and cut, and two logs of 20,000 lines with saves.
+// Compares exit code, output, standard error and all files that are left. Ends with status 1 at a
+// difference.
 import {spawnSync} from "child_process";
 import fs from "fs";
 import os from "os";
@@ -137,9 +138,20 @@ function generated(seed) {
   }
 }
 
+// A log of 20,000 lines, with a save after each five hundred, of one piece or of several.
+function withSaves(seed) {
+  const text = same(["gen", String(seed), "20000"]).output.toString().trimEnd();
+  const saves = [["save"], ["save-begin", "save-step 300", "save-step 1", "save-end"]];
+  const log = text.split("\n").flatMap(
+    (line, i) => i % 500 === 499 ? [line, ...saves[(i + 1) / 500 % 2]] : [line]
+  );
+  same(["replay", ...KEY], {}, [...log, "size", "dump", ""].join("\n"));
+}
+
 const imports = WebAssembly.Module.imports(module).length;
 examples();
 for (let seed = 1; seed <= Number(count); seed++) generated(seed);
+for (const seed of [1, 2]) withSaves(seed);
 fs.rmSync(folder, { recursive: true });
 console.log(
   `${runs} runs, ${different} different; ${imports} imports; at most ${Math.ceil(most / 1e6)} MB`
