@@ -1,4 +1,3 @@
 pub mod Tally
 pub mod Ranks
 pub mod Buckets
-pub mod Firsts

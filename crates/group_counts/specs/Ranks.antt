@@ -1,8 +1,6 @@
 -- The groups of some slots, and those with the most.
 use Rattle.std.specs.Prelude.{ℕ, ◌+◌, ◌==◌, ◌&&◌, ◌||◌, nat_lt, Bool, if◌then◌else◌, List, [], ◌∷◌, map, take}
 use Rattle.std.specs.List.{count_by, fold}
-use Rattle.std.specs.Ordering.{nat_cmp, ordering_then}
-use Rattle.std.specs.declared.cmp.Ordering.{Ordering}
 use Rattle.group_counts.specs.Tally.{count_in, tally_of}
 use Rattle.group_counts.specs.declared.counting.Counted.{Counted}
 
@@ -19,10 +17,6 @@ groups_of keys = entries_of (tally_of keys)
 -- the group has more slots, or as many and the lower key
 abbrev pub comes_before : Counted → Counted → Bool
 comes_before a b = nat_lt b.slots a.slots || (a.slots == b.slots && nat_lt a.key b.key)
-
--- the same as an answer of a comparison
-abbrev pub rank_cmp : Counted → Counted → Ordering
-rank_cmp a b = ordering_then (nat_cmp b.slots a.slots) (nat_cmp a.key b.key)
 
 -- one group more, in an order by `comes_before`
 abbrev pub placed : Counted → List Counted → List Counted

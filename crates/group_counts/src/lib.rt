@@ -5,13 +5,9 @@
 
 mod buckets;
 mod counting;
-mod firsts;
 mod ranking;
 
 pub use buckets::bucket_keys;
-pub use counting::{
-    Counted, Lent, Tally, count_groups, count_of, counts_are_of_slots, occurrences, tally,
-};
-pub use firsts::{Firsts, find_firsts, first_of};
+pub use counting::{Counted, Lent, count_groups, counts_are_of_slots, occurrences};
 pub use net_addr::Memory;
-pub use ranking::{above, first_six, in_order};
+pub use ranking::{above, first_six};

@@ -1,12 +1,10 @@
-ghost use Rattle.std.specs.Prelude.{◌≡◌, ◌≤◌, length, take, IfOk};
+ghost use Rattle.std.specs.Prelude.{◌≡◌, ◌≤◌, length, take};
 ghost use Rattle.arrayvec.specs.ArrayVec.{array_vec_len};
-ghost use Rattle.group_counts.specs.Ranks.{above, comes_before, first_six, in_order, placed, rank_cmp, rank_in};
+ghost use Rattle.group_counts.specs.Ranks.{above, comes_before, first_six, placed, rank_in};
 ghost use Rattle.slot_grid.specs.declared.sizes.TheConstants.{NEW_SLOTS};
 
-use crate::{Counted, Memory};
+use crate::Counted;
 use arrayvec::ArrayVec;
-use std::alloc::Global;
-use std::cmp::Ordering;
 
 /// Returns the six groups with the most slots, in order; of groups with as many, the one with the
 /// lower key comes first.
@@ -55,24 +53,6 @@ fn comes_before(group: Counted, other: Counted) -> bool
     ensures { result ≡ comes_before group other }
 {
     group.slots > other.slots || group.slots == other.slots && group.key < other.key
-}
-
-/// Compares two groups by their ranks: the one with more slots comes first, and of two with as many
-/// the one with the lower key.
-fn rank_cmp(a: &Counted, b: &Counted) -> Ordering
-    ensures { result ≡ rank_cmp a.now b.now }
-{
-    b.slots.cmp(&a.slots).then(a.key.cmp(&b.key))
-}
-
-/// Returns the groups in order: of two, the one with more slots comes first, and of two with as
-/// many the one with the lower key.
-pub fn in_order(alloc: Global, groups: &[Counted]) -> Result<Vec<Counted>, Memory>
-    ensures { IfOk result (λ list. list.items ≡ in_order groups.now) }
-{
-    let mut list = Vec::from_slice(alloc, groups)?;
-    list.sort_unstable_by(|a, b| rank_cmp(a, b));
-    Ok(list)
 }
 
 /// Returns how many groups have more than `limit` slots.

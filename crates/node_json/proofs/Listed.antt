@@ -1,6 +1,6 @@
 -- The tokens, the texts and the depth of the groups.
 use Rattle.std.proofs.Common.{◌≡◌, ℕ, ◌+◌, ◌<◌, ◌≤◌, ◌&&◌, not, nat_le, ◌==◌, ◌||◌, Bool, true, false, cond, filter, List, [], ◌∷◌, ◌++◌, length, get_or, take, map, codes, refl, ap, sym, ◌∙◌, arith, append_assoc}
-use Rattle.std.specs.Prelude.{Option, Some, None, slice_get}
+use Rattle.std.specs.Prelude.{Option, Some, None}
 use Rattle.std.specs.List.{flat_map, list_all}
 use Rattle.std.specs.Str.{IsAscii}
 use Rattle.std.proofs.Math.Nat.{max-le}
@@ -8,29 +8,23 @@ use Rattle.std.proofs.lemmas.Bool.{and_parts, leb-true}
 use Rattle.std.proofs.lemmas.List.{append-nil, length-map, take_more}
 use Rattle.std.proofs.lemmas.List.Concat.{flat_map-append}
 use Rattle.std.proofs.lemmas.Str.Ascii.{IsAscii-cons, IsAscii-nil}
-use Rattle.group_counts.specs.Firsts.{AreFirsts, first_at}
 use Rattle.json.specs.Json.{Json, string}
 use Rattle.json.specs.Token.{Token}
 use Rattle.json.specs.Tree.{depth, items_depth, json_tokens}
 use Rattle.net_addr.specs.Address.{Address}
 use Rattle.peer_rec.specs.declared.rec.Rec.{Rec}
-use Rattle.picture_text.specs.Markup.{IsPlain, is_plain}
-use Rattle.picture_text.specs.Names.{name_of}
+use Rattle.table_groups.specs.Groups.{rows_of}
+use Rattle.table_groups.specs.Names.{name_of}
+use Rattle.table_groups.specs.Plain.{IsPlain, is_plain}
 use Rattle.placing.specs.Places.{Places, asn}
 use Rattle.table_machine.specs.State.{State}
-use Rattle.node_json.specs.declared.numbers.Numbers.{Numbers}
-use Rattle.node_json.specs.declared.numbers.Row.{Row}
-use Rattle.node_json.specs.declared.part.Part.TheVariants.{Both}
-use Rattle.node_json.specs.Groups.{counted_address, first_in, group_members, groups_array, groups_json, groups_members, health_members, is_clearnet, items_by, number_members, record_keys, row_items, rows_of, totals_by}
+use Rattle.table_groups.specs.declared.row.Numbers.{Numbers}
+use Rattle.table_groups.specs.declared.row.Row.{Row}
+use Rattle.node_json.specs.Groups.{group_members, groups_array, groups_json, groups_members, health_members, is_clearnet, items_by, number_members, row_items, totals_by}
 use Rattle.node_json.specs.Inside.{items_tokens_of, tokens_of}
 use Rattle.node_json.specs.Value.{array_of, items_of, json_number, unless_zero}
 use Rattle.node_json.proofs.Items.{array_value, items-append}
 use Rattle.node_json.proofs.Tokens.{AreShallow, shallow-append, shallow_object, shallow_unless}
-
--- the record at the first place that has a key
-pub first-is : (es : List (ℕ × ℕ)) (keys : List ℕ) (recs : List Rec) (key : ℕ) → length keys ≡ length recs → AreFirsts es keys
-    → slice_get recs (first_at es (length recs) key) ≡ first_in keys recs key
-first-is es keys recs key long are = ap (slice_get recs) (ap (λ (n : ℕ). first_at es n key) (sym long) ∙ are key)
 
 -- ---- texts
 
@@ -85,19 +79,19 @@ items_depth-append : (k : ℕ) (xs ys : List Json) → items_depth (items_of xs)
 items_depth-append k [] ys p q = q
 items_depth-append k (x ∷ xs) ys p q = max-le (omega (arith, p)) (items_depth-append k xs ys (omega (arith, p)) q)
 
-shallow_items : (places : Places) (n : Numbers) (o : Option Rec) → items_depth (items_of (items_by places n o)) ≤ 1
+shallow_items : (places : Places) (n : Numbers) (o : Option Address) → items_depth (items_of (items_by places n o)) ≤ 1
 shallow_items places n None = omega arith
-shallow_items places n (Some r) = max-le (shallow_object 0 (group_members places n (counted_address r)) (shallow_group places n (counted_address r))) (omega arith)
+shallow_items places n (Some a) = max-le (shallow_object 0 (group_members places n a) (shallow_group places n a)) (omega arith)
 
-shallow_rows : (places : Places) (keys : List ℕ) (recs : List Rec) (rows : List Row) → items_depth (items_of (flat_map (row_items places keys recs) rows)) ≤ 1
-shallow_rows places keys recs [] = omega arith
-shallow_rows places keys recs (row ∷ rows) =
-    items_depth-append 1 (row_items places keys recs row) (flat_map (row_items places keys recs) rows)
-    (shallow_items places row.numbers (first_in keys recs row.key)) (shallow_rows places keys recs rows)
+shallow_rows : (places : Places) (rows : List Row) → items_depth (items_of (flat_map (row_items places) rows)) ≤ 1
+shallow_rows places [] = omega arith
+shallow_rows places (row ∷ rows) =
+    items_depth-append 1 (row_items places row) (flat_map (row_items places) rows)
+    (shallow_items places row.numbers row.first) (shallow_rows places rows)
 
 pub groups_depth : (st : State) → depth (groups_json st) ≤ 128
 unfolding groups_json groups_members groups_array health_members totals_by
-groups_depth st = omega (arith, shallow_rows st.places (record_keys st Both) st.records (rows_of st))
+groups_depth st = omega (arith, shallow_rows st.places (rows_of st))
 
 -- ---- lengths
 

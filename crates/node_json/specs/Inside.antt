@@ -2,18 +2,15 @@
 use Rattle.std.specs.Prelude.{ℕ, ◌-◌, List, [], ◌∷◌, ◌++◌, codes}
 use Rattle.std.specs.List.{flat_map}
 use Rattle.ban_list.specs.declared.ban.Ban.{Ban}
-use Rattle.group_counts.specs.Buckets.{bucket_keys}
-use Rattle.group_counts.specs.Tally.{count_in, tally_of}
 use Rattle.json.specs.Json.{Json, string}
 use Rattle.json.specs.Token.{Token}
 use Rattle.json.specs.Tree.{json_tokens}
 use Rattle.names.specs.Name.{name_text}
 use Rattle.placing.specs.Places.{Places, asn}
 use Rattle.peer_rec.specs.declared.rec.Rec.{Rec}
-use Rattle.picture_text.specs.Picture.{in_new}
 use Rattle.node_json.specs.Groups.{row_items}
 use Rattle.node_json.specs.Raw.{class_name}
-use Rattle.node_json.specs.declared.numbers.Row.{Row}
+use Rattle.table_groups.specs.declared.row.Row.{Row}
 use Rattle.node_json.specs.Value.{Member, json_number, unless_zero}
 
 abbrev pub tokens_of : List Member → List Token
@@ -56,24 +53,5 @@ items_tokens_of [] = []
 items_tokens_of (j ∷ js) = json_tokens j ++ items_tokens_of js
 
 -- the tokens of the objects of some rows
-abbrev pub rows_tokens : Places → List ℕ → List Rec → List Row → List Token
-rows_tokens places keys recs rows =
-    flat_map (λ row. items_tokens_of (row_items places keys recs row)) rows
-
--- the row of a group from tallies of slots, buckets and records
-abbrev pub row_in : List (ℕ × ℕ) → List (ℕ × ℕ) → List (ℕ × ℕ) → List (ℕ × ℕ) → ℕ → Row
-row_in slots buckets records tried key = record {
-  key = key;
-  numbers = record {
-    slots = count_in slots key;
-    buckets = count_in buckets key;
-    records = count_in records key;
-    tried = count_in tried key;
-  };
-}
-
--- the row of a group from the keys of all slots and those of the records of each table
-abbrev pub row_by : List ℕ → List ℕ → List ℕ → ℕ → Row
-row_by slots new tried key =
-    row_in (tally_of (in_new slots)) (tally_of (bucket_keys slots)) (tally_of new)
-    (tally_of tried) key
+abbrev pub rows_tokens : Places → List Row → List Token
+rows_tokens places rows = flat_map (λ row. items_tokens_of (row_items places row)) rows

@@ -1,38 +1,27 @@
-ghost use Rattle.std.specs.Prelude.{◌≡◌, ◌≤◌, ◌-◌, ◌+◌, [], ◌∷◌, ◌++◌, IfOk, OnOk, codes, filter, length, map, option_map, slice_get};
+ghost use Rattle.std.specs.Prelude.{◌≡◌, ◌≤◌, ◌∷◌, ◌++◌, [], IfOk, OnOk, codes, filter, length, map};
 ghost use Rattle.std.specs.List.{flat_map};
 ghost use Rattle.json.specs.Json.{string};
 ghost use Rattle.json.specs.Tree.{json_tokens};
-ghost use Rattle.group_counts.specs.Firsts.{AreFirsts, first_at};
-ghost use Rattle.group_counts.specs.Ranks.{groups_of, in_order};
-ghost use Rattle.picture_text.specs.Markup.{IsPlain};
-ghost use Rattle.picture_text.specs.Names.{name_of};
-ghost use Rattle.picture_text.specs.Picture.{in_new};
 ghost use Rattle.placing.specs.Places.{asn};
-ghost use Rattle.node_json.specs.Groups.{group_members, groups_json, groups_members, health_members, is_clearnet, is_clearnet_class, items_by, number_members, part_key, row_items, rows_of, totals_by};
+ghost use Rattle.node_json.specs.Groups.{group_members, groups_json, groups_members, health_members, is_clearnet, is_clearnet_class, number_members, row_items, totals_by};
 ghost use Rattle.node_json.specs.Inside.{items_tokens_of, rows_tokens, tokens_of};
 ghost use Rattle.node_json.specs.Value.{IsJsonText, array_of, object_of};
-ghost use Rattle.node_json.specs.declared.part.Part.TheVariants.{Both};
-ghost use Rattle.table_picture.specs.Keys.{slot_keys};
-ghost use Rattle.group_counts.specs.Tally.{occurrences};
-ghost use Rattle.slot_grid.specs.declared.sizes.TheConstants.{ALL_SLOTS, NEW_SLOTS};
+ghost use Rattle.slot_grid.specs.declared.sizes.TheConstants.{ALL_SLOTS};
+ghost use Rattle.table_groups.specs.Names.{name_of};
+ghost use Rattle.table_groups.specs.Plain.{IsPlain};
 
 use crate::Memory;
-use crate::numbers::{Numbers, Row, count_rows};
-use crate::part::{Part, counted_address, record_keys};
 use crate::put::{put_begin, put_number, put_string, put_unless_zero, with_end};
-use group_counts::{Counted, Firsts, count_groups, find_firsts, first_of, in_order, occurrences};
+use group_counts::{count_groups, occurrences};
 use json::{Pretty, Token};
 use net_addr::{Net, NetAddr};
 use peer_rec::Rec;
-use picture_laws::names_are_plain;
-use picture_text::{name_of, new_keys};
 use placing::Placer;
-use slot_grid::NEW_SLOTS;
 use std::alloc::{AllocError, Global};
 use std::hash::BuildHasher;
 use std::sync::ledger::Ledger;
 use steps::Steps;
-use table_picture::slot_keys;
+use table_groups::{Numbers, Row, name_of, names_are_plain, new_slots, rows_of};
 use tables::Tables;
 
 /// Appends the numbers of a group.
@@ -92,72 +81,27 @@ fn put_group(
     Ok(())
 }
 
-/// Appends the object of a group with its first record, if there is one.
-fn put_found(
-    alloc: Global,
-    json: &mut Pretty,
-    placer: &Placer<'_>,
-    numbers: Numbers,
-    rec: Option<&Rec>,
-) -> Result<(), Memory>
-    ensures { OnOk result (json.new ≡ json.old ++ items_tokens_of
-        (items_by placer.now numbers (option_map (λ r. r.now) rec.entry))) }
+/// Appends the object of a row, if a record counts for its group.
+fn put_row(alloc: Global, json: &mut Pretty, placer: &Placer<'_>, row: &Row) -> Result<(), Memory>
+    ensures { OnOk result (json.new ≡ json.old ++ items_tokens_of (row_items placer.now row.now)) }
 {
-    match rec {
-        Some(rec) => put_group(alloc, json, placer, numbers, counted_address(rec)),
+    match &row.first {
+        Some(first) => put_group(alloc, json, placer, row.numbers, first),
         None => Ok(()),
     }
 }
 
-/// Returns the first of the records that has the key, if there is one.
-fn first_in<'a, H: BuildHasher>(
-    firsts: &Firsts<'_, H>,
-    recs: &'a [Rec],
-    key: u128,
-) -> Option<&'a Rec>
-    ensures { option_map (λ r. r.now) result
-        ≡ slice_get recs.now (first_at firsts.now.entries (length recs.now) key) }
-{
-    recs.get(first_of(firsts, key, recs.len()))
-}
-
-/// Appends the object of a row, for which the first records have these places.
-fn put_row<H: BuildHasher>(
-    alloc: Global,
-    json: &mut Pretty,
-    placer: &Placer<'_>,
-    firsts: &Firsts<'_, H>,
-    recs: &[Rec],
-    row: &Row,
-) -> Result<(), Memory>
-    requires { AreFirsts firsts.now.entries (map (part_key placer.now Both) recs.now) }
-    ensures { OnOk result (json.new ≡ json.old ++ items_tokens_of (row_items placer.now
-        (map (part_key placer.now Both) recs.now) recs.now row.now)) }
-{
-    put_found(
-        alloc,
-        json,
-        placer,
-        row.numbers,
-        first_in(firsts, recs, row.key),
-    )
-}
-
 /// Appends the objects of some rows.
-fn put_rows<H: BuildHasher>(
+fn put_rows(
     alloc: Global,
     json: &mut Pretty,
     placer: &Placer<'_>,
-    firsts: &Firsts<'_, H>,
-    recs: &[Rec],
     rows: &[Row],
 ) -> Result<(), Memory>
-    requires { AreFirsts firsts.now.entries (map (part_key placer.now Both) recs.now) }
-    ensures { OnOk result (json.new ≡ json.old ++ rows_tokens placer.now
-        (map (part_key placer.now Both) recs.now) recs.now rows.now) }
+    ensures { OnOk result (json.new ≡ json.old ++ rows_tokens placer.now rows.now) }
 {
     for row in rows {
-        put_row(alloc, json, placer, firsts, recs, row)?;
+        put_row(alloc, json, placer, row)?;
     }
     Ok(())
 }
@@ -252,131 +196,61 @@ fn put_numbers_of_all(
     Ok(())
 }
 
-/// Appends the member with the numbers of all groups, from the keys of the slots of the new table.
+/// Appends the member with the numbers of all groups.
 fn put_totals(
     json: &mut Pretty,
     groups: u64,
-    keys: &[u128],
+    slots: u32,
     records: u32,
     tried: u32,
 ) -> Result<(), AllocError>
-    requires { length keys.now ≡ NEW_SLOTS }
-    ensures { OnOk result (json.new ≡ json.old ++ tokens_of ((
-      codes "totals",
-      object_of
-          (totals_by groups (NEW_SLOTS - occurrences keys.now 0) records tried),
-    ) ∷ [])) }
+    ensures { OnOk result (json.new ≡ json.old ++ tokens_of (
+        (codes "totals", object_of (totals_by groups slots records tried)) ∷ [])) }
 {
     put_begin(json, "totals")?;
-    let slots = NEW_SLOTS as u32 - occurrences(keys, 0);
     put_numbers_of_all(json, groups, slots, records, tried)?;
     json.token(Token::EndObject)?;
     Ok(())
 }
 
 /// Appends the member with the groups.
-fn put_array<H: BuildHasher>(
+fn put_array(
     alloc: Global,
-    hasher: &H,
     json: &mut Pretty,
     placer: &Placer<'_>,
-    recs: &[Rec],
     rows: &[Row],
 ) -> Result<(), Memory>
-    ensures { OnOk result (json.new ≡ json.old ++ tokens_of ((
-      codes "groups",
-      array_of
-          (flat_map (row_items placer.now (map (part_key placer.now Both) recs.now) recs.now)
-          rows.now),
-    ) ∷ [])) }
+    ensures { OnOk result (json.new ≡ json.old ++ tokens_of (
+        (codes "groups", array_of (flat_map (row_items placer.now) rows.now)) ∷ [])) }
 {
-    let keys = record_keys(alloc, placer, recs, Part::Both)?;
-    let firsts = find_firsts(alloc, hasher, keys.as_slice())?;
     json.token(Token::Key("groups"))?;
     json.token(Token::BeginArray)?;
-    put_rows(alloc, json, placer, &firsts, recs, rows)?;
+    put_rows(alloc, json, placer, rows)?;
     json.token(Token::EndArray)?;
     Ok(())
 }
 
-/// Returns two lists of keys, one after the other.
-fn joined(alloc: Global, first: &[u128], second: &[u128]) -> Result<Vec<u128>, AllocError>
-    ensures keys { IfOk result (λ keys. keys.items ≡ first.now ++ second.now) }
-    ensures long { IfOk result (λ keys. length keys.items
-        ≡ length first.now + length second.now) }
-{
-    let mut keys = Vec::from_slice(alloc, first)?;
-    keys.extend_from_slice(second)?;
-    Ok(keys)
-}
-
-/// Returns the groups that have slots of the new table, of which these are the keys among those of
-/// all slots, or records of the tried one with these keys.
-fn groups_in<H: BuildHasher>(
-    alloc: Global,
-    hasher: &H,
-    slots: &[u128],
-    tried: &[u128],
-) -> Result<Vec<Counted>, Memory>
-    requires slots { length slots.now ≡ ALL_SLOTS }
-    requires tried { length tried.now ≤ ALL_SLOTS }
-    ensures { IfOk result (λ groups. groups.items
-        ≡ in_order (groups_of (in_new slots.now ++ tried.now))) }
-{
-    let keys = joined(alloc, new_keys(slots), tried)?;
-    let groups = count_groups(alloc, hasher, keys.as_slice())?;
-    Ok(in_order(alloc, groups.as_slice())?)
-}
-
-/// Returns the rows of the groups, from the keys of all slots and all records.
-fn rows_of<H: BuildHasher, G: BuildHasher>(
-    alloc: Global,
-    hasher: &G,
-    tables: &Tables<'_, H>,
-    slots: &[u128],
-    recs: &[Rec],
-) -> Result<Vec<Row>, Memory>
-    requires slots { slots.now ≡ slot_keys tables.now tables.now.places }
-    requires long { length slots.now ≡ ALL_SLOTS }
-    requires recs { recs.now ≡ tables.now.records }
-    requires few { length recs.now ≤ ALL_SLOTS }
-    ensures { IfOk result (λ rows. rows.items ≡ rows_of tables.now) }
-{
-    let new = record_keys(alloc, tables.placer(), recs, Part::New)?;
-    let tried = record_keys(alloc, tables.placer(), recs, Part::Tried)?;
-    let groups = groups_in(alloc, hasher, slots, tried.as_slice())?;
-    count_rows(
-        alloc,
-        hasher,
-        groups.as_slice(),
-        slots,
-        new.as_slice(),
-        tried.as_slice(),
-    )
-}
-
-/// Appends the members of the whole, from the keys of all slots and all records.
-fn put_members<H: BuildHasher, G: BuildHasher>(
+/// Appends the members of the whole, from all records.
+fn put_members<L: Ledger, H: BuildHasher, G: BuildHasher>(
     alloc: Global,
     hasher: &G,
     json: &mut Pretty,
     tables: &Tables<'_, H>,
-    slots: &[u128],
     recs: &[Rec],
+    steps: &mut Steps<L>,
 ) -> Result<(), Memory>
-    requires slots { slots.now ≡ slot_keys tables.now tables.now.places }
-    requires long { length slots.now ≡ ALL_SLOTS }
-    requires recs { recs.now ≡ tables.now.records }
+    requires { recs.now ≡ tables.now.records }
     ensures { OnOk result (json.new ≡ json.old ++ tokens_of (groups_members tables.now)) }
 {
     let counts = tables.counts();
-    let rows = rows_of(alloc, hasher, tables, slots, recs)?;
+    let rows = rows_of(alloc, hasher, tables, recs, steps)?;
+    let slots = new_slots(tables, steps);
     let numbers = clearnet_numbers(alloc, tables.placer(), recs)?;
-    put_array(alloc, hasher, json, tables.placer(), recs, rows.as_slice())?;
+    put_array(alloc, json, tables.placer(), rows.as_slice())?;
     put_totals(
         json,
         rows.len() as u64,
-        new_keys(slots),
+        slots,
         counts.new_count,
         counts.tried_count,
     )?;
@@ -394,17 +268,9 @@ pub fn groups_text<L: Ledger, H: BuildHasher, G: BuildHasher>(
     ensures { IfOk result (λ text. IsJsonText (groups_json tables.now) text.items) }
 {
     let recs = tables.recs(steps)?;
-    let slots = slot_keys(alloc, tables, tables.placer(), steps)?;
     let mut json = Pretty::new(alloc);
     json.token(Token::BeginObject)?;
-    put_members(
-        alloc,
-        hasher,
-        &mut json,
-        tables,
-        slots.as_slice(),
-        recs.items(),
-    )?;
+    put_members(alloc, hasher, &mut json, tables, recs.items(), steps)?;
     json.token(Token::EndObject)?;
     Ok(with_end(json)?)
 }

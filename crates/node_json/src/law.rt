@@ -1,11 +1,11 @@
-ghost use Rattle.std.specs.Prelude.{◌≡◌, ◌+◌, ◌==◌, ℕ, List, count_by, length, not};
+ghost use Rattle.std.specs.Prelude.{◌≡◌, ◌+◌, ◌==◌, ℕ, List, count_by, is_some, length, not};
 ghost use Rattle.std.specs.List.{sum_by};
 ghost use Rattle.group_counts.specs.Tally.{occurrences};
 ghost use Rattle.peer_rec.specs.Rec.{is_tried};
-ghost use Rattle.table_machine.specs.Sound.{IsSound};
+ghost use Rattle.table_groups.specs.Groups.{rows_of};
+ghost use Rattle.table_groups.specs.Slots.{new_slots};
 ghost use Rattle.table_machine.specs.State.{State};
-ghost use Rattle.node_json.specs.Groups.{ListsGroups, record_keys, rows_of, source_keys};
-ghost use Rattle.node_json.specs.declared.part.Part.TheVariants.{Tried};
+ghost use Rattle.node_json.specs.Groups.{ListsGroups};
 
 /// The row of all networks counts every record, also one whose address is not routable.
 pub fn every_record_counts()
@@ -13,18 +13,16 @@ pub fn every_record_counts()
         + count_by is_tried st.records ≡ length st.records }
 {}
 
-/// The slots of the new table and the records of the tried one of all groups are all of them: a key
-/// is 0 only for a free slot, or a record that is not in the tried table.
+/// The slots of the new table and the records of the tried one of all groups are all of them.
 pub fn groups_add_up()
     ensures { (st : State) → sum_by (λ row. row.numbers.slots + row.numbers.tried) (rows_of st)
-        ≡ count_by (λ k. not (k == 0)) (source_keys st)
-        + count_by (λ k. not (k == 0)) (record_keys st Tried) }
+        ≡ new_slots is_some st + count_by is_tried st.records }
 {}
 
 /// The groups of the text are those of the sources in the records of the new table and of the peers
 /// in those of the tried one, each once.
 pub fn groups_are_listed()
-    ensures { (st : State) → IsSound st → ListsGroups st }
+    ensures { (st : State) → ListsGroups st }
 {}
 
 /// Of the records that an asmap can map, those without an AS number and those with one are all.

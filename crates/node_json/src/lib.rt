@@ -11,8 +11,6 @@ mod bans;
 mod groups;
 mod info;
 mod law;
-mod numbers;
-mod part;
 mod put;
 mod raw;
 mod table;

@@ -17,7 +17,7 @@ use Rattle.table_picture.specs.Keys.{bucket_keys, group_key, new_keys, slot_key,
 use Rattle.table_picture.specs.Picture.{rec_in}
 use Rattle.picture_laws.proofs.Groups.{IsGroup, group-is, key-some, key-tells}
 use Rattle.picture_laws.proofs.Listed.{count-map}
-use Rattle.picture_laws.specs.Slots.{is_of, new_slots, tried_slots}
+use Rattle.table_groups.specs.Slots.{is_of, new_slots, tried_slots}
 use Rattle.table_picture.proofs.Slots.{long}
 
 -- a record, if there is one, has a source

@@ -1,5 +1,4 @@
 pub mod Plain
-pub mod Names
 pub mod Contents
 pub mod Markups
 pub mod Groups

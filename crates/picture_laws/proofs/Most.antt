@@ -17,7 +17,8 @@ use Rattle.picture_laws.proofs.Listed.{count-cons, eqb-flip, one_if}
 use Rattle.picture_laws.proofs.Ranked.{AreCounts, all-back, all-with, behind}
 use Rattle.picture_laws.proofs.Rows.{are-groups, groups-long, listed-are, slots-of}
 use Rattle.picture_laws.specs.Counts.{IsBehind}
-use Rattle.picture_laws.specs.Slots.{all_slots, is_of, is_unlisted, keys_of, listed_groups}
+use Rattle.picture_laws.specs.Slots.{is_unlisted, keys_of, listed_groups}
+use Rattle.table_groups.specs.Slots.{all_slots, is_of}
 
 -- the key of a group is none of the others'
 none-listed : (places : Places) (r : Rec) (gs : List (List ℕ)) → IsGroup (group places r.source) → AllByRecursion IsGroup gs

@@ -27,7 +27,8 @@ use Rattle.picture_laws.proofs.Groups.{IsGroup}
 use Rattle.picture_laws.proofs.Listed.{count-cons, count-map, eqb-flip, first-slot, listed-few, listed-once, listed-some, listed-zero, one_if}
 use Rattle.picture_laws.proofs.Sums.{all-slots}
 use Rattle.picture_laws.specs.Counts.{CountsSlots, row_at}
-use Rattle.picture_laws.specs.Slots.{all_slots, is_free, is_of, is_other, key_group, keys_of, listed_groups, new_buckets, new_slots, rec_group, tried_slots}
+use Rattle.picture_laws.specs.Slots.{is_free, is_other, key_group, keys_of, listed_groups, rec_group}
+use Rattle.table_groups.specs.Slots.{all_slots, is_of, new_buckets, new_slots, tried_slots}
 
 drop-front : (a b : List ℕ) → drop (length a) (a ++ b) ≡ b
 drop-front [] b = refl

@@ -13,7 +13,7 @@ use Rattle.table_machine.specs.State.{State, is_new_at, is_tried_at, new_rec_at,
 use Rattle.table_picture.specs.Keys.{slot_keys}
 use Rattle.table_picture.specs.Picture.{key_name, picture_of, picture_under, rec_in, rec_name}
 use Rattle.picture_laws.proofs.Markups.{picture-tree}
-use Rattle.picture_laws.proofs.Names.{name-plain}
+use Rattle.table_groups.proofs.PlainNames.{name-plain}
 
 module _ (st : State) (each : All IsRec st.records) where
   found-plain : (test : Rec → Bool) → IsPlain (rec_name st.places (find test st.records))

@@ -24,7 +24,8 @@ use Rattle.picture_laws.proofs.Listed.{count-cons, count-map, group-keys, one_if
 use Rattle.picture_laws.proofs.Ranked.{HasCount, count-back, groups-count, in-tally, zero-or-more}
 use Rattle.picture_laws.proofs.Rows.{buckets-by, buckets-of, count-keys, found-key}
 use Rattle.picture_laws.specs.Counts.{CountsWide}
-use Rattle.picture_laws.specs.Slots.{is_of, key_group, keys_of, new_buckets, new_slots}
+use Rattle.picture_laws.specs.Slots.{key_group, keys_of}
+use Rattle.table_groups.specs.Slots.{is_of, new_buckets, new_slots}
 
 -- ---- lists
 

@@ -5,7 +5,8 @@ use Rattle.table_machine.specs.State.{State}
 use Rattle.picture_text.specs.Elements.{colour, count_text, ground, new_title, row_text, tried_title, wide_text}
 use Rattle.picture_text.specs.Maps.{name_at}
 use Rattle.picture_text.specs.Picture.{free_row, group_rows, listed_keys, others_name, others_text, titles_text, top_of, wide_of}
-use Rattle.picture_laws.specs.Slots.{all_marks, all_slots, is_free, is_of, is_unlisted, keys_of, listed_groups, new_buckets, new_slots, tried_slots}
+use Rattle.picture_laws.specs.Slots.{all_marks, is_free, is_unlisted, keys_of, listed_groups}
+use Rattle.table_groups.specs.Slots.{all_slots, is_of, new_buckets, new_slots, tried_slots}
 
 -- the row of a group: its slots in both tables, those in the tried one, and its buckets of the new
 abbrev pub counted_row : State → List (List ℕ) → List ℕ → ℕ → List ℕ

@@ -3,9 +3,9 @@ ghost use Rattle.net_addr.specs.Address.{Address, IsAddress};
 ghost use Rattle.peer_rec.specs.declared.rec.Rec.{Rec};
 ghost use Rattle.picture_laws.specs.Counts.{CountsSlots, CountsWide, IsBehind};
 ghost use Rattle.picture_laws.specs.Dots.{DrawsSlots};
-ghost use Rattle.picture_laws.specs.Slots.{all_slots, is_of, is_unlisted};
+ghost use Rattle.picture_laws.specs.Slots.{is_unlisted};
+ghost use Rattle.table_groups.specs.Slots.{all_slots, is_of};
 ghost use Rattle.picture_text.specs.Markup.{IsPlain, IsTree};
-ghost use Rattle.picture_text.specs.Names.{name_of};
 ghost use Rattle.picture_text.specs.Picture.{picture_text};
 ghost use Rattle.placing.specs.Places.{Places, group};
 ghost use Rattle.table_machine.specs.Sound.{IsSound};
@@ -21,11 +21,6 @@ use group_counts::counts_are_of_slots;
 pub fn picture_is_a_tree()
     ensures { (keys : List ℕ) (names : List (List ℕ)) → All IsPlain names →
         IsTree (codes "svg") (picture_text keys names) }
-{}
-
-/// The name of a group is such a text.
-pub fn names_are_plain()
-    ensures { (places : Places) (a : Address) → IsAddress a → IsPlain (name_of places a) }
 {}
 
 /// So the picture of the tables is always the text of such a tree.

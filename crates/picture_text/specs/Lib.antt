@@ -3,5 +3,4 @@ pub mod Elements
 pub mod Head
 pub mod Marks
 pub mod Maps
-pub mod Names
 pub mod Picture

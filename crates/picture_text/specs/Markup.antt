@@ -1,13 +1,7 @@
 -- Documents of XML 1.0 in which nothing is escaped: the text of one tree of elements.
 use Rattle.std.specs.Prelude.{◌≡◌, ℕ, ◌==◌, ◌&&◌, ◌||◌, not, nat_le, Bool, true, false, List, [], ◌∷◌, ◌++◌, bytes_eq, codes}
 use Rattle.std.specs.List.{list_all, list_any}
-
--- printable ASCII, but for the angle brackets, the ampersand and the quotation mark
-abbrev pub is_plain : ℕ → Bool
-is_plain b = nat_le 32 b && nat_le b 126 && not (b == 60 || b == 62 || b == 38 || b == 34)
-
-abbrev pub IsPlain : List ℕ → Type 0
-IsPlain text = list_all is_plain text ≡ true
+pub use Rattle.table_groups.specs.Plain.{IsPlain, is_plain}
 
 -- character data: the same, and line feeds
 abbrev pub is_character : ℕ → Bool

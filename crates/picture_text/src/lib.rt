@@ -5,12 +5,10 @@ mod head;
 mod list;
 mod maps;
 mod marks;
-mod names;
 mod parts;
 mod picture;
 mod pieces;
 
-pub use names::name_of;
 pub use net_addr::Memory;
 pub use parts::new_keys;
 pub use picture::{Groups, find_groups, put_picture};

@@ -7,9 +7,10 @@ use crate::Memory;
 use crate::maps::name_at;
 use crate::marks::dots_of;
 use crate::parts::{tried_keys, tried_marks};
-use crate::pieces::{colour, put_count, put_numbered, put_row};
+use crate::pieces::{colour, put_count, put_row};
 use group_counts::occurrences;
 use std::alloc::Global;
+use table_groups::put_numbered;
 
 /// Returns where a row of the list is.
 fn top_of(index: u8) -> u32

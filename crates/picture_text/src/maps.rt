@@ -3,9 +3,10 @@ ghost use Rattle.picture_text.specs.Maps.{ground_text, map_opening, map_text, na
 ghost use Rattle.slot_grid.specs.declared.sizes.TheConstants.{NEW_SLOTS};
 
 use crate::Memory;
-use crate::pieces::{colour, put_around, put_numbered};
+use crate::pieces::{colour, put_around};
 use dot_runs::put_path;
 use net_addr::put_text;
+use table_groups::put_numbered;
 
 /// Appends the map of a table, `side` tiles wide, whose left edge is at `x`: a path for each name,
 /// from the mark 1 on.

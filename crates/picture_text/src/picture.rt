@@ -12,11 +12,11 @@ use crate::list::{others_name, put_rows};
 use crate::maps::put_map;
 use crate::marks::marks_of;
 use crate::parts::{new_keys, new_marks, tried_keys, tried_marks};
-use crate::pieces::put_numbered;
 use group_counts::{Counted, above, bucket_keys, count_groups, first_six, occurrences};
 use net_addr::put_text;
 use std::alloc::Global;
 use std::hash::BuildHasher;
+use table_groups::put_numbered;
 
 /// The groups of the slots: the keys of those that are listed, and how many others there are.
 #[derive(Drop)]

@@ -1,23 +1,9 @@
-ghost use Rattle.std.specs.Prelude.{◌≡◌, ◌+◌, ◌<◌, ◌^◌, ◌++◌, decimal, OnOk};
+ghost use Rattle.std.specs.Prelude.{◌≡◌, ◌+◌, ◌<◌, ◌^◌, ◌++◌, OnOk};
 ghost use Rattle.picture_text.specs.Elements.{colour, count_text, name_text, row_text, swatch};
 
 use crate::Memory;
-use net_addr::{put_number, put_text};
-
-/// Appends a text, a number in decimal, and a text.
-pub(crate) fn put_numbered(
-    before: &[u8],
-    number: u32,
-    after: &[u8],
-    out: &mut Vec<u8>,
-) -> Result<(), Memory>
-    ensures { OnOk result (out.new.items ≡ out.old.items
-        ++ (before.now ++ (decimal number ++ after.now))) }
-{
-    put_number(before, u64::from(number), out)?;
-    put_text(after, out)?;
-    Ok(())
-}
+use net_addr::put_text;
+use table_groups::put_numbered;
 
 /// Appends a text between two texts.
 pub(crate) fn put_around(

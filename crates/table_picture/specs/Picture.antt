@@ -3,9 +3,9 @@ use Rattle.std.specs.Prelude.{ℕ, ◌-◌, ◌/◌, ◌%◌, ◌==◌, nat_lt, 
 use Rattle.std.specs.List.{position_or_len}
 use Rattle.placing.specs.Places.{Places}
 use Rattle.peer_rec.specs.declared.rec.Rec.{Rec}
-use Rattle.picture_text.specs.Names.{name_of}
 use Rattle.picture_text.specs.Picture.{listed_keys, picture_text}
 use Rattle.slot_grid.specs.declared.sizes.TheConstants.{ALL_SLOTS, NEW_SLOTS, SLOTS}
+use Rattle.table_groups.specs.Names.{name_of}
 use Rattle.table_machine.specs.State.{State, new_rec_at, tried_rec_at}
 use Rattle.table_picture.specs.Keys.{slot_keys}
 

@@ -6,13 +6,14 @@ ghost use Rattle.table_picture.specs.Picture.{key_name, picture_of, picture_unde
 use crate::Memory;
 use crate::keys::slot_keys;
 use peer_rec::Rec;
-use picture_text::{find_groups, name_of};
+use picture_text::find_groups;
 use placing::Placer;
 use slot_grid::{ALL_SLOTS, NEW_SLOTS, SLOTS};
 use std::alloc::Global;
 use std::hash::BuildHasher;
 use std::sync::ledger::Ledger;
 use steps::Steps;
+use table_groups::name_of;
 use tables::Tables;
 
 /// Returns the index of the first slot that has the key, and their number if none has.

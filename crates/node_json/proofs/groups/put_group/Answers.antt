@@ -1,6 +1,6 @@
 use Rattle.std.proofs.Common.{◌∷◌, ◌++◌, ◌∙◌, [], ap, codes, sym}
 use Rattle.json.specs.Json.{string}
-use Rattle.picture_text.specs.Names.{name_of}
+use Rattle.table_groups.specs.Names.{name_of}
 use Rattle.placing.specs.Places.{asn}
 use Rattle.node_json.specs.Groups.{group_members, number_members}
 use Rattle.node_json.specs.Inside.{tokens_of}

@@ -1,5 +1,5 @@
 use Rattle.std.proofs.Common.{◌∙◌, subst, sym, rules}
-use Rattle.picture_text.specs.Markup.{IsPlain}
+use Rattle.table_groups.specs.Plain.{IsPlain}
 use Rattle.node_json.proofs.groups.put_name.Goals as goal
 
 pub text_of-requires : goal.text_of-requires

@@ -1,0 +1,9 @@
+pub mod Values
+pub mod Sorted
+pub mod Visits
+pub mod OfRecords
+pub mod Buckets
+pub mod PlainTexts
+pub mod PlainNames
+pub mod Once
+pub mod Counting

@@ -1,0 +1,79 @@
+-- What records and slots add to the numbers of their groups, one after another.
+use Rattle.std.specs.Prelude.{ℕ, ◌+◌, ◌≤◌, List, [], ◌∷◌, map, Option, Some, None, if◌then◌else◌}
+use Rattle.std.specs.List.{flat_map, range_with_len}
+use Rattle.net_addr.specs.Address.{Address}
+use Rattle.peer_rec.specs.Rec.{is_tried}
+use Rattle.peer_rec.specs.declared.rec.Rec.{Rec}
+use Rattle.placing.specs.Places.{Places, group}
+use Rattle.slot_grid.specs.declared.sizes.TheConstants.{NEW_BUCKETS, SLOTS}
+use Rattle.table_machine.specs.State.{State, new_rec_at}
+use Rattle.table_groups.specs.Groups.{counted_address, counted_group}
+use Rattle.table_groups.specs.Tally.{tally_of, value_in}
+use Rattle.table_groups.specs.Visits.{no_slots, visits_of, with_slot}
+use Rattle.table_groups.specs.declared.order.Counted.{Counted}
+use Rattle.table_groups.specs.declared.record_numbers.RecordNumbers.{RecordNumbers}
+use Rattle.table_groups.specs.declared.row.Row.{Row}
+use Rattle.table_groups.specs.declared.slot_numbers.SlotNumbers.{SlotNumbers}
+
+-- RECORDS
+
+abbrev pub no_records : RecordNumbers
+no_records = record { first = None; new = 0; tried = 0 }
+
+abbrev pub first_or : Option Address → Address → Option Address
+first_or None a = Some a
+first_or (Some first) a = Some first
+
+abbrev pub with_record : RecordNumbers → Rec → RecordNumbers
+with_record n r = record {
+  first = first_or n.first (counted_address r);
+  new = if is_tried r then n.new else n.new + 1;
+  tried = if is_tried r then n.tried + 1 else n.tried;
+}
+
+abbrev pub record_visits : Places → List Rec → List (List ℕ × Rec)
+record_visits places recs = map (λ r. (counted_group places r, r)) recs
+
+abbrev pub records_by : Places → List Rec → List (List ℕ × RecordNumbers)
+records_by places recs = tally_of no_records with_record (record_visits places recs)
+
+-- no group has more than n records of either table
+abbrev pub AreFewRecords : ℕ → List (List ℕ × RecordNumbers) → Type 0
+AreFewRecords n es = (g : List ℕ) → ((value_in no_records es g).new ≤ n)
+    × ((value_in no_records es g).tried ≤ n)
+
+-- SLOTS
+
+-- the group of the source in a record, if there is one
+abbrev pub source_groups : Places → Option Rec → List (List ℕ)
+source_groups places None = []
+source_groups places (Some r) = group places r.source ∷ []
+
+-- the groups of the occupied slots of a bucket of the new table
+abbrev pub bucket_groups : State → ℕ → List (List ℕ)
+bucket_groups st bucket =
+    flat_map (λ slot. source_groups st.places (new_rec_at st bucket slot)) (range_with_len 0 SLOTS)
+
+unfoldable pub slots_by : State → List (List ℕ × SlotNumbers)
+slots_by st = tally_of no_slots with_slot (visits_of (bucket_groups st) 0 NEW_BUCKETS)
+
+-- BOTH
+
+-- a group with its slots of the new table and its records of the tried one
+abbrev pub counted_in : List (List ℕ × RecordNumbers) → List (List ℕ × SlotNumbers) → List ℕ
+    → Counted
+counted_in records slots g = record {
+  group = record { items = g };
+  slots = (value_in no_slots slots g).slots + (value_in no_records records g).tried;
+}
+
+abbrev pub row_in : List (List ℕ × RecordNumbers) → List (List ℕ × SlotNumbers) → List ℕ → Row
+row_in records slots g = record {
+  first = (value_in no_records records g).first;
+  numbers = record {
+    slots = (value_in no_slots slots g).slots;
+    buckets = (value_in no_slots slots g).buckets;
+    records = (value_in no_records records g).new;
+    tried = (value_in no_records records g).tried;
+  };
+}

@@ -1,0 +1,31 @@
+//! The network groups of the tables: how many slots, buckets and records each has, which come
+//! first, and how people write them.
+//!
+//! Definitions see a group as its bytes. It is no enum, since the group of an AS number may equal
+//! that of an IPv6 prefix, as in Bitcoin Core.
+//!
+//! Proved: a pass over the records and one over the slots of the new table count for each group its
+//! own records, slots and buckets (`rows_of`), and no name of a group has anything that has to be
+//! escaped (`names_are_plain`).
+#![tactic(auto)]
+
+mod law;
+mod lent;
+mod names;
+mod order;
+mod record_numbers;
+mod records;
+mod row;
+mod rows;
+mod slot_numbers;
+mod slots;
+mod tally;
+
+pub use law::names_are_plain;
+pub use lent::Lent;
+pub use names::{name_of, put_numbered};
+pub use net_addr::Memory;
+pub use order::{Counted, Group};
+pub use row::{Numbers, Row};
+pub use rows::rows_of;
+pub use slots::new_slots;

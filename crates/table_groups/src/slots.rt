@@ -1,0 +1,118 @@
+ghost use Rattle.std.specs.Prelude.{◌≡◌, ◌<◌, ◌≤◌, ◌*◌, ◌+◌, ◌-◌, ◌^◌, IfOk, OnOk, fold, if◌then◌else◌, is_some, option_map};
+ghost use Rattle.slot_grid.specs.declared.sizes.TheConstants.{NEW_BUCKETS, NEW_SLOTS, SLOTS};
+ghost use Rattle.table_groups.specs.Inside.{bucket_groups, slots_by, source_groups};
+ghost use Rattle.table_groups.specs.Tally.{by_bytes, noted};
+ghost use Rattle.table_groups.specs.Visits.{AreFewSlots, in_bucket, no_slots, with_slot};
+ghost use Rattle.table_groups.specs.Slots.{new_slots, slots_in};
+ghost use Rattle.table_machine.specs.State.{new_rec_at};
+
+use crate::slot_numbers::SlotNumbers;
+use crate::tally::{Tally, put_value, value_of};
+use crate::{Lent, Memory};
+use indexmap::IndexMap;
+use peer_rec::Rec;
+use placing::Placer;
+use slot_grid::{NEW_BUCKETS, SLOTS};
+use std::alloc::{AllocError, Global};
+use std::hash::BuildHasher;
+use std::sync::ledger::Ledger;
+use steps::Steps;
+use tables::Tables;
+
+/// Counts a slot of a bucket for the group of the source in its record, if it has one.
+fn note_slot<H: BuildHasher>(
+    tally: &mut Tally<'_, SlotNumbers, H>,
+    placer: &Placer<'_>,
+    bucket: u16,
+    rec: Option<&Rec>,
+) -> Result<(), AllocError>
+    requires few { AreFewSlots (2 ^ 32 - 2) (by_bytes tally.old.entries) }
+    ensures { OnOk result (by_bytes tally.new.entries
+        ≡ fold (noted no_slots with_slot) (by_bytes tally.old.entries)
+        (in_bucket (λ b. source_groups placer.now (option_map (λ r. r.now) rec.entry)) bucket)) }
+{
+    if let Some(rec) = rec {
+        let group = placer.group(&rec.source);
+        let numbers = value_of(tally, &group, SlotNumbers::none()).with_slot(bucket);
+        put_value(tally, group, numbers)?;
+    }
+    Ok(())
+}
+
+/// Counts the slots of a bucket of the new table for their groups.
+fn note_bucket<H: BuildHasher, G: BuildHasher, L: Ledger>(
+    tally: &mut Tally<'_, SlotNumbers, G>,
+    tables: &Tables<'_, H>,
+    bucket: u16,
+    steps: &mut Steps<L>,
+) -> Result<(), AllocError>
+    requires bucket { bucket < NEW_BUCKETS }
+    requires few { AreFewSlots (SLOTS * bucket) (by_bytes tally.old.entries) }
+    ensures visits { OnOk result (by_bytes tally.new.entries
+        ≡ fold (noted no_slots with_slot) (by_bytes tally.old.entries)
+        (in_bucket (bucket_groups tables.now) bucket)) }
+    ensures few { OnOk result (AreFewSlots (SLOTS * (bucket + 1)) (by_bytes tally.new.entries)) }
+{
+    for slot in 0..SLOTS {
+        let rec = tables.new_rec_at(bucket, slot, steps);
+        note_slot(tally, tables.placer(), bucket, rec)?;
+    }
+    Ok(())
+}
+
+/// Counts the slots of the new table for their groups, by rising bucket.
+pub(crate) fn tally_slots<'a, H: BuildHasher, G: BuildHasher, L: Ledger>(
+    alloc: Global,
+    hasher: &'a G,
+    tables: &Tables<'_, H>,
+    steps: &mut Steps<L>,
+) -> Result<Tally<'a, SlotNumbers, G>, Memory>
+    ensures { IfOk result (λ tally. by_bytes tally.entries ≡ slots_by tables.now) }
+{
+    let mut tally = IndexMap::with_hasher(alloc, Lent::of(hasher));
+    for bucket in 0..NEW_BUCKETS {
+        note_bucket(&mut tally, tables, bucket, steps)?;
+    }
+    Ok(tally)
+}
+
+/// Returns 1 for a record, and 0 for none.
+fn one_if(rec: Option<&Rec>) -> u32
+    ensures is { result ≡ (if is_some (option_map (λ r. r.now) rec.entry) then 1 else 0) }
+    ensures few { result ≤ 1 }
+{
+    match rec {
+        Some(_) => 1,
+        None => 0,
+    }
+}
+
+/// Returns how many slots of a bucket of the new table are occupied.
+fn slots_in<H: BuildHasher, L: Ledger>(
+    tables: &Tables<'_, H>,
+    bucket: u16,
+    steps: &mut Steps<L>,
+) -> u32
+    requires { bucket < NEW_BUCKETS }
+    ensures count { result ≡ slots_in is_some (new_rec_at tables.now bucket) }
+    ensures few { result ≤ SLOTS }
+{
+    let mut count = 0;
+    for slot in 0..SLOTS {
+        count += one_if(tables.new_rec_at(bucket, slot, steps));
+    }
+    count
+}
+
+/// Returns how many slots of the new table are occupied.
+#[tactic(auto, unfolding(crate::specs::Slots::new_slots))]
+pub fn new_slots<H: BuildHasher, L: Ledger>(tables: &Tables<'_, H>, steps: &mut Steps<L>) -> u32
+    ensures count { result ≡ new_slots is_some tables.now }
+    ensures few { result ≤ NEW_SLOTS }
+{
+    let mut count = 0;
+    for bucket in 0..NEW_BUCKETS {
+        count += slots_in(tables, bucket, steps);
+    }
+    count
+}

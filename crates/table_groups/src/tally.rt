@@ -1,0 +1,38 @@
+ghost use Rattle.std.specs.Prelude.{◌≡◌, bytes_eq, OnOk};
+ghost use Rattle.indexmap.specs.IndexMap.{insert_entry};
+ghost use Rattle.table_groups.specs.Tally.{by_bytes, value_in};
+
+use crate::{Group, Lent};
+use indexmap::IndexMap;
+use std::alloc::{AllocError, Global};
+use std::hash::BuildHasher;
+
+/// The values of groups, in the order of the first ones.
+pub(crate) type Tally<'a, V, H> = IndexMap<Group, V, Lent<'a, H>>;
+
+/// Returns the value of a group, `none` if it has none.
+pub(crate) fn value_of<V: Copy, H: BuildHasher>(
+    tally: &Tally<'_, V, H>,
+    group: &Group,
+    none: V,
+) -> V
+    ensures { result ≡ value_in none (by_bytes tally.now.entries) group.now.items }
+{
+    match tally.get(group) {
+        Some(value) => *value,
+        None => none,
+    }
+}
+
+/// Writes the value of a group.
+pub(crate) fn put_value<V: Copy + Drop, H: BuildHasher>(
+    tally: &mut Tally<'_, V, H>,
+    group: Group,
+    value: V,
+) -> Result<(), AllocError>
+    ensures { OnOk result (by_bytes tally.new.entries
+        ≡ insert_entry bytes_eq (by_bytes tally.old.entries) group.items value) }
+{
+    tally.insert(group, value)?;
+    Ok(())
+}
