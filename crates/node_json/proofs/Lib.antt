@@ -5,3 +5,4 @@ pub mod Items
 pub mod Listed
 pub mod Sums
 pub mod Firsts
+pub mod Known

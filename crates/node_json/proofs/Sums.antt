@@ -3,7 +3,6 @@ use Rattle.std.proofs.Common.{◌≡◌, ℕ, ◌+◌, ◌==◌, ◌&&◌, not, 
 use Rattle.std.specs.Prelude.{Contains, Option, Some, None, bytes_eq, is_some}
 use Rattle.std.specs.List.{count_by, list_any, range_with_len, sum_by}
 use Rattle.std.proofs.lemmas.Bool.{and_parts, both_ways}
-use Rattle.group_counts.specs.Tally.{occurrences}
 use Rattle.peer_rec.specs.Rec.{buckets_by, buckets_of, is_tried, tried_by}
 use Rattle.peer_rec.specs.declared.place.Place.{Place}
 use Rattle.peer_rec.specs.declared.place.Place.TheVariants as place
@@ -71,5 +70,5 @@ module _ (st : State) where
       ∙ (λ i. all-slots i + all-tried i)
 
 -- those with an AS number and those without are all
-pub numbers_add_up : (numbers : List ℕ) → occurrences numbers 0 + count_by (λ n. not (n == 0)) numbers ≡ length numbers
+pub numbers_add_up : (numbers : List ℕ) → count_by (λ n. n == 0) numbers + count_by (λ n. not (n == 0)) numbers ≡ length numbers
 numbers_add_up numbers = omega (arith, counts_all (λ (n : ℕ). n == 0) numbers)

@@ -1,9 +1,7 @@
 -- The groups of the tables: how many slots, buckets and records each has.
-use Rattle.std.specs.Prelude.{◌≡◌, ℕ, All, Bool, Contains, true, false, not, List, [], ◌∷◌, ◌++◌, length, map, Option, Some, None, bytes_eq, codes, count_by, filter, is_some}
-use Rattle.std.specs.List.{flat_map}
+use Rattle.std.specs.Prelude.{◌≡◌, ℕ, All, Bool, Contains, true, false, not, List, [], ◌∷◌, ◌++◌, length, map, Option, Some, None, bytes_eq, codes, count_by, filter, fold, if◌then◌else◌, is_some, ◌==◌, ◌||◌}
+use Rattle.std.specs.List.{flat_map, list_any}
 use Rattle.json.specs.Json.{Json, string}
-use Rattle.group_counts.specs.Ranks.{groups_of}
-use Rattle.group_counts.specs.Tally.{occurrences}
 use Rattle.net_addr.specs.Address.{Address}
 use Rattle.net_addr.specs.Ranges.{net_class}
 use Rattle.net_addr.specs.declared.net.Net.{Net}
@@ -87,12 +85,20 @@ unfoldable pub clearnet_numbers : State → List ℕ
 clearnet_numbers st =
     map (λ r. asn st.places.map r.peer.addr) (filter is_clearnet st.records)
 
+-- a number more, unless it is 0 or there
+abbrev pub with_number : List ℕ → ℕ → List ℕ
+with_number seen n = if n == 0 || list_any (λ m. n == m) seen then seen else seen ++ n ∷ []
+
+-- the numbers other than 0, each once
+abbrev pub known_numbers : List ℕ → List ℕ
+known_numbers numbers = fold with_number [] numbers
+
 -- how many records an asmap can map, how many numbers it gives them, and how many it gives none
 unfoldable pub health_members : List ℕ → List Member
 health_members numbers =
     (codes "clearnet_peers", json_number (length numbers))
-    ∷ (codes "as_numbers", json_number (length (groups_of numbers)))
-    ∷ (codes "unmapped", json_number (occurrences numbers 0)) ∷ []
+    ∷ (codes "as_numbers", json_number (length (known_numbers numbers)))
+    ∷ (codes "unmapped", json_number (count_by (λ n. n == 0) numbers)) ∷ []
 
 unfoldable pub groups_members : State → List Member
 groups_members st =

@@ -1,9 +1,10 @@
-ghost use Rattle.std.specs.Prelude.{◌≡◌, ◌≤◌, ◌∷◌, ◌++◌, [], IfOk, OnOk, codes, filter, length, map};
+ghost use Rattle.std.specs.Prelude.{◌≡◌, ◌==◌, count_by, ◌≤◌, ◌∷◌, ◌++◌, [], IfOk, OnOk, codes, filter, length, map};
 ghost use Rattle.std.specs.List.{flat_map};
+ghost use Rattle.indexmap.specs.IndexMap.{keys};
 ghost use Rattle.json.specs.Json.{string};
 ghost use Rattle.json.specs.Tree.{json_tokens};
 ghost use Rattle.placing.specs.Places.{asn};
-ghost use Rattle.node_json.specs.Groups.{group_members, groups_json, groups_members, health_members, is_clearnet, is_clearnet_class, number_members, row_items, totals_by};
+ghost use Rattle.node_json.specs.Groups.{group_members, groups_json, groups_members, health_members, is_clearnet, is_clearnet_class, known_numbers, number_members, row_items, totals_by, with_number};
 ghost use Rattle.node_json.specs.Inside.{items_tokens_of, rows_tokens, tokens_of};
 ghost use Rattle.node_json.specs.Value.{IsJsonText, array_of, object_of};
 ghost use Rattle.slot_grid.specs.declared.sizes.TheConstants.{ALL_SLOTS};
@@ -12,7 +13,7 @@ ghost use Rattle.table_groups.specs.Plain.{IsPlain};
 
 use crate::Memory;
 use crate::put::{put_begin, put_number, put_string, put_unless_zero, with_end};
-use group_counts::{count_groups, occurrences};
+use indexmap::IndexMap;
 use json::{Pretty, Token};
 use net_addr::{Net, NetAddr};
 use peer_rec::Rec;
@@ -21,7 +22,7 @@ use std::alloc::{AllocError, Global};
 use std::hash::BuildHasher;
 use std::sync::ledger::Ledger;
 use steps::Steps;
-use table_groups::{Numbers, Row, name_of, names_are_plain, new_slots, rows_of};
+use table_groups::{Lent, Numbers, Row, name_of, names_are_plain, new_slots, rows_of};
 use tables::Tables;
 
 /// Appends the numbers of a group.
@@ -121,10 +122,10 @@ fn is_clearnet(rec: &Rec) -> bool
 }
 
 /// Returns the AS number of a record's address, 0 if it has none.
-fn number_of(placer: &Placer<'_>, rec: &Rec) -> u128
+fn number_of(placer: &Placer<'_>, rec: &Rec) -> u32
     ensures { result ≡ asn placer.now.map rec.now.peer.addr }
 {
-    u128::from(placer.asn(&rec.peer.addr))
+    placer.asn(&rec.peer.addr)
 }
 
 /// Returns the AS numbers of the records whose addresses an asmap can map.
@@ -132,7 +133,7 @@ fn clearnet_numbers(
     alloc: Global,
     placer: &Placer<'_>,
     recs: &[Rec],
-) -> Result<Vec<u128>, AllocError>
+) -> Result<Vec<u32>, AllocError>
     ensures { IfOk result (λ numbers. numbers.items
         ≡ map (λ r. asn placer.now.map r.peer.addr) (filter is_clearnet recs.now)) }
 {
@@ -142,21 +143,59 @@ fn clearnet_numbers(
         .collect(alloc)
 }
 
+/// Adds an AS number, unless it is 0.
+fn add_number<H: BuildHasher>(
+    seen: &mut IndexMap<u32, (), Lent<'_, H>>,
+    number: u32,
+) -> Result<(), AllocError>
+    ensures { OnOk result (keys seen.new ≡ with_number (keys seen.old) number) }
+{
+    if number != 0 {
+        seen.insert(number, ())?;
+    }
+    Ok(())
+}
+
+/// Returns how many AS numbers there are other than 0, of which each counts once.
+fn count_known<H: BuildHasher>(alloc: Global, hasher: &H, numbers: &[u32]) -> Result<usize, Memory>
+    ensures { IfOk result (λ count. count ≡ length (known_numbers numbers.now)) }
+{
+    let mut seen = IndexMap::with_hasher(alloc, Lent::of(hasher));
+    for number in numbers {
+        add_number(&mut seen, *number)?;
+    }
+    Ok(seen.len())
+}
+
+/// Returns how many of the AS numbers are 0.
+fn count_unmapped(numbers: &[u32]) -> u32
+    requires { length numbers.now ≤ ALL_SLOTS }
+    ensures { result ≡ count_by (λ n. n == 0) numbers.now }
+{
+    let mut count = 0;
+    for number in numbers {
+        if *number == 0 {
+            count += 1;
+        }
+    }
+    count
+}
+
 /// Appends how well the asmap covers the records with these AS numbers.
 #[tactic(auto, unfolding(crate::specs::Groups::health_members))]
 fn put_health<H: BuildHasher>(
     alloc: Global,
     hasher: &H,
     json: &mut Pretty,
-    numbers: &[u128],
+    numbers: &[u32],
 ) -> Result<(), Memory>
     requires { length numbers.now ≤ ALL_SLOTS }
     ensures { OnOk result (json.new ≡ json.old ++ tokens_of (health_members numbers.now)) }
 {
-    let groups = count_groups(alloc, hasher, numbers)?;
+    let known = count_known(alloc, hasher, numbers)?;
     put_number(json, "clearnet_peers", numbers.len() as u64)?;
-    put_number(json, "as_numbers", groups.len() as u64)?;
-    put_number(json, "unmapped", u64::from(occurrences(numbers, 0)))?;
+    put_number(json, "as_numbers", known as u64)?;
+    put_number(json, "unmapped", u64::from(count_unmapped(numbers)))?;
     Ok(())
 }
 
@@ -165,7 +204,7 @@ fn put_asmap<H: BuildHasher>(
     alloc: Global,
     hasher: &H,
     json: &mut Pretty,
-    numbers: &[u128],
+    numbers: &[u32],
 ) -> Result<(), Memory>
     requires { length numbers.now ≤ ALL_SLOTS }
     ensures { OnOk result (json.new ≡ json.old

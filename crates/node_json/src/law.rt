@@ -1,6 +1,5 @@
 ghost use Rattle.std.specs.Prelude.{◌≡◌, ◌+◌, ◌==◌, ℕ, List, count_by, is_some, length, not};
 ghost use Rattle.std.specs.List.{sum_by};
-ghost use Rattle.group_counts.specs.Tally.{occurrences};
 ghost use Rattle.peer_rec.specs.Rec.{is_tried};
 ghost use Rattle.table_groups.specs.Groups.{rows_of};
 ghost use Rattle.table_groups.specs.Slots.{new_slots};
@@ -27,6 +26,6 @@ pub fn groups_are_listed()
 
 /// Of the records that an asmap can map, those without an AS number and those with one are all.
 pub fn numbers_add_up()
-    ensures { (numbers : List ℕ) → occurrences numbers 0 + count_by (λ n. not (n == 0)) numbers
+    ensures { (numbers : List ℕ) → count_by (λ n. n == 0) numbers + count_by (λ n. not (n == 0)) numbers
         ≡ length numbers }
 {}
