@@ -1,0 +1,34 @@
+//! The calls of the crate for Rust (`plain/face`) that would have a condition below: none has one
+//! here.
+//!
+//! A call whose condition may not hold says so by its result: the numbers of records are used up
+//! (`Full`), a message has too many entries, a group has an open peer. What has no condition is
+//! called where it is, most of it in `uncounted`.
+//!
+//! Proved: each call is safe, returns, and states its result by the words of the crate that it
+//! calls.
+#![tactic(auto)]
+
+mod banning;
+mod entries;
+mod files;
+mod limits;
+mod messages;
+mod outbound;
+mod prefixes;
+mod sampling;
+mod saving;
+mod subnet;
+mod take_fault;
+
+pub use banning::ban;
+pub use entries::{AddFault, MAX_RECORDS, add, take_message};
+pub use files::{OpenFault, load, open, read};
+pub use limits::{AdmitFault, admit};
+pub use messages::{WriteFault, write_message};
+pub use outbound::{OutboundFault, add_outbound};
+pub use prefixes::read_prefixes;
+pub use sampling::sample;
+pub use saving::{SaveFault, save, write};
+pub use subnet::ProperSubnet;
+pub use take_fault::TakeFault;
