@@ -70,6 +70,12 @@ impl File {
     }
 }
 
+impl From<std::fs::File> for File {
+    fn from(file: std::fs::File) -> File {
+        File(file)
+    }
+}
+
 impl io::Read for File {
     fn read(&mut self, buf: &mut [u8]) -> io::Result<usize> {
         Ok(self.0.read(buf)?)
@@ -180,7 +186,8 @@ impl OpenOptions {
         rt.open_file(self, path)
     }
 
-    pub(crate) fn of_std(&self) -> std::fs::OpenOptions {
+    /// Returns the options as those of std.
+    pub fn of_std(&self) -> std::fs::OpenOptions {
         let mut how = std::fs::OpenOptions::new();
         how.read(self.read).write(self.write).append(self.append);
         how.truncate(self.truncate)

@@ -179,8 +179,13 @@ pub struct RandomState(u64, u64);
 impl RandomState {
     /// Takes the keys from the system, by way of Rust's `RandomState`.
     pub fn new<R>(_rt: &R) -> io::Result<RandomState> {
+        Ok(RandomState::of_process())
+    }
+
+    /// Does the same, without a handle.
+    pub fn of_process() -> RandomState {
         let random = std::hash::RandomState::new();
-        Ok(RandomState(random.hash_one(1), random.hash_one(2)))
+        RandomState(random.hash_one(1), random.hash_one(2))
     }
 }
 

@@ -70,6 +70,12 @@ impl From<std::io::Error> for Error {
     }
 }
 
+impl From<Error> for std::io::Error {
+    fn from(error: Error) -> std::io::Error {
+        error.as_std()
+    }
+}
+
 impl From<TryLockError> for Error {
     fn from(error: TryLockError) -> Error {
         match error {

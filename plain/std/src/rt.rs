@@ -164,16 +164,22 @@ pub trait Files {
     fn open_file(&self, how: &OpenOptions, path: &str) -> io::Result<Self::File>;
 
     /// Opens a folder.
-    fn open_dir(&self, path: &str) -> io::Result<Self::Dir>;
+    fn open_dir(&self, _path: &str) -> io::Result<Self::Dir> {
+        unsupported()
+    }
 
     /// Returns what is known of a file, behind links.
     fn metadata(&self, path: &str) -> io::Result<Metadata>;
 
     /// Returns what is known of a file, of a link itself.
-    fn symlink_metadata(&self, path: &str) -> io::Result<Metadata>;
+    fn symlink_metadata(&self, _path: &str) -> io::Result<Metadata> {
+        unsupported()
+    }
 
     /// Copies a file.
-    fn copy(&self, from: &str, to: &str) -> io::Result<u64>;
+    fn copy(&self, _from: &str, _to: &str) -> io::Result<u64> {
+        unsupported()
+    }
 
     /// Renames a file.
     fn rename(&self, from: &str, to: &str) -> io::Result<()>;
@@ -182,13 +188,19 @@ pub trait Files {
     fn remove_file(&self, path: &str) -> io::Result<()>;
 
     /// Makes a folder.
-    fn create_dir(&self, path: &str) -> io::Result<()>;
+    fn create_dir(&self, _path: &str) -> io::Result<()> {
+        unsupported()
+    }
 
     /// Removes an empty folder.
-    fn remove_dir(&self, path: &str) -> io::Result<()>;
+    fn remove_dir(&self, _path: &str) -> io::Result<()> {
+        unsupported()
+    }
 
     /// Removes a folder with all that is in it.
-    fn remove_dir_all<B: Allocator>(&self, alloc: B, path: &str) -> io::Result<()>;
+    fn remove_dir_all<B: Allocator>(&self, _alloc: B, _path: &str) -> io::Result<()> {
+        unsupported()
+    }
 
     /// Returns the path without links.
     fn canonicalize<B: Allocator>(&self, _alloc: B, _path: &str) -> io::Result<PathBuf<B>> {
@@ -251,11 +263,7 @@ impl Files for HostRuntime {
     type Dir = io::Stdin;
 
     fn open_file(&self, how: &OpenOptions, path: &str) -> io::Result<fs::File> {
-        Ok(fs::File(how.of_std().open(path)?))
-    }
-
-    fn open_dir(&self, _path: &str) -> io::Result<io::Stdin> {
-        unsupported()
+        Ok(how.of_std().open(path)?.into())
     }
 
     fn metadata(&self, path: &str) -> io::Result<Metadata> {
