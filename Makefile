@@ -3,6 +3,7 @@
 # make check      tests what make built
 # make proved     proves the program with the toolchain of Rattle, and builds bin/addrman: half an
 #                 hour on four cores
+# make package    writes the crate for Rust as one package, at bin/package, and has cargo check it
 # make plain-lib  builds the library for C with cargo, at bin/lib
 # make try        runs examples from the source, before anything is proved
 # make ci-try     runs those of diff and lookup alone
@@ -15,7 +16,7 @@
 # make endings    tries the exit codes of the built program and their texts
 # make mistakes   makes some hundred mistakes with it, and compares what standard error says
 # make lib        proves the library for C, and builds bin/lib/libaddrman.a and libaddrman.so.1
-# make lib-test   tries it from C, C++, Rust and Python, beside the built program
+# make lib-test   tries it from C, C++ and Python, beside the built program
 # make ci-lib-test  the same with what rt ci has just proved and built in this clone
 # make ci-program-test  endings, mistakes and examples with what rt ci has just proved and built in this clone
 # make ci-plain-test  what make and make check do, and its program beside that which rt ci has just built
@@ -43,7 +44,7 @@ DIST := addrman-$(VERSION)-x86_64-linux
 # Where the toolchain has its part of the C library: the allocator that the library calls.
 KIT = $(shell dirname "$$(dirname "$$(readlink -f "$$(command -v rt)")")")
 
-.PHONY: all plain check proved plain-lib plain-archive try ci-try demo examples flood page page-test endings \
+.PHONY: all plain check proved package plain-lib plain-archive try ci-try demo examples flood page page-test endings \
 	mistakes packed test figures lib lib-test ci-lib-test ci-program-test archive install install-lib \
 	uninstall dist
 
@@ -64,6 +65,10 @@ proved:
 	mkdir -p bin
 	cd crates/addrman && rt run -- replay --key $(ZERO_KEY) < /dev/null
 	cp crates/addrman/out/addrman bin/addrman
+
+package:
+	tools/plain --package bin/package > /dev/null
+	cd bin/package && cargo package --quiet --allow-dirty --target-dir ../target
 
 plain-lib: plain
 	$(CARGO) -p addrman_c

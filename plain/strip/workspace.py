@@ -10,6 +10,7 @@ from check import check_format, check_shapes, check_tokens
 from drops import drop_all
 from laws import drop_laws, drop_removed, drop_unread
 from ledger import drop_ledgers
+from package import package_files
 from rewrites import rewrite_all
 from source import Source
 from tokens import GHOST
@@ -172,11 +173,11 @@ def cargo_toml(crate, words, deps, left, plain, registry):
 
 
 def write_files(out, files):
-    """Writes files below a folder, and removes what else is below crates/ and plain/.
+    """Writes files below a folder, and removes what else is below crates/, plain/ and src/.
 
     A file that has its text already is left alone, since cargo builds what is newer.
     """
-    for part in ('crates', 'plain'):
+    for part in ('crates', 'plain', 'src'):
         for base, _, names in os.walk(os.path.join(out, part), topdown=False):
             for name in names:
                 path = os.path.join(base, name)
@@ -218,7 +219,7 @@ def plain_files(plain):
     found = {}
     for base, _, names in os.walk(plain):
         for name in names:
-            if name.endswith('.rs') or name == 'Cargo.toml':
+            if name.endswith('.rs') or name in ('Cargo.toml', 'README.md'):
                 path = os.path.join(base, name)
                 with open(path, encoding='utf-8') as file:
                     found[os.path.join('plain', os.path.relpath(path, plain))] = file.read()
@@ -238,8 +239,8 @@ def counts_of(sources):
     return {rule: (times, len(crates)) for rule, (times, crates) in rules.items()}
 
 
-def write_workspace(root, out):
-    """Writes the workspace. Returns how often each rule was used."""
+def read_workspace(root):
+    """The files of the workspace, and how often each rule was used."""
     plain = os.path.join(root, 'plain')
     crates = read_crates(os.path.join(root, 'crates.txt'))
     sources = read_sources(root, crates)
@@ -259,9 +260,30 @@ def write_workspace(root, out):
     files.update(plain_files(plain))
     files['Cargo.toml'] = re.sub(r'^members = .*$', 'members = ["crates/*", "plain/*"]', workspace,
                                  flags=re.M)
-    if has_packages(registry):
+    return files, counts_of(everything)
+
+
+def write_out(root, out, files):
+    """Writes files, and where cargo finds the registry's crates."""
+    if has_packages(versions_of(os.path.join(root, 'plain'))[1]):
         files['.cargo/config.toml'] = FROM_PACKAGES
     elif os.path.exists(os.path.join(out, '.cargo', 'config.toml')):
         os.remove(os.path.join(out, '.cargo', 'config.toml'))
     write_files(out, files)
-    return counts_of(everything)
+
+
+def write_workspace(root, out):
+    """Writes the workspace. Returns how often each rule was used."""
+    files, counts = read_workspace(root)
+    write_out(root, out, files)
+    return counts
+
+
+def write_package(root, out):
+    """Writes the crate for Rust as one package. Returns how often each rule was used."""
+    files, counts = read_workspace(root)
+    found = package_files(files, files['Cargo.toml'])
+    with open(os.path.join(root, 'LICENSE'), encoding='utf-8') as file:
+        found['LICENSE'] = file.read()
+    write_out(root, out, laid_out(found))
+    return counts
