@@ -317,11 +317,15 @@ class Run:
 
     def restored(self, file: peers_file.PeersFile, asmap: Asmap, core: bool) -> Tables:
         """The tables of a file."""
-        self.sum_said = sum_said(file, asmap, core)
         try:
-            return peers_file.restored(file, asmap, core)
+            tables = peers_file.restored(file, asmap, core)
         except Fault as fault:
             raise Stop(4, f"peers.dat refused: {fault}")
+        left_out = len(file.new) - sum(not record.tried for record in tables.records.values())
+        self.sum_said = sum_said(file, asmap, core)
+        if self.sum_said and left_out:
+            self.sum_said += f"; left out: {left_out}"
+        return tables
 
     def show(self, chain: bytes, keyed: bool):
         for line in peers_file.shown(self.needed(self.peers(chain), "peers.dat"), keyed):

@@ -60,7 +60,8 @@ fn put_lines(
                 text,
             )?;
         }
-        put_line(sum_hint(facts.learned.sum_fit()), text)?;
+        let hint = sum_hint(alloc, facts.learned)?;
+        put_line(hint.as_str(), text)?;
     }
     if *status == Status::Done {
         let hint = passed_over_hint(alloc, facts.learned.passed_over())?;
@@ -143,17 +144,27 @@ fn refused_hint(alloc: Global, fault: &PeersFault, head: &[u8]) -> Result<String
 
 /// Returns what is said of the checksum of an asmap in peers.dat, if it is not that of the asmap in
 /// use.
-fn sum_hint(fit: SumFit) -> &'static str {
+fn sum_hint(alloc: Global, learned: &Learned) -> Result<String, AllocError> {
+    let said = fit_text(learned.sum_fit());
+    let count = learned.left_out();
+    if said.is_empty() || count == 0 {
+        return String::from_str(alloc, said);
+    }
+    format!(in alloc; "{said}; left out: {count}")
+}
+
+/// Returns how the checksum of an asmap in peers.dat fits, or nothing if it is the same.
+fn fit_text(fit: SumFit) -> &'static str {
     match fit {
         SumFit::Same => "",
-        SumFit::Core =>
-            "peers.dat was written by Bitcoin Core under this asmap: use --core, else its new records are placed anew",
-        SumFit::Own =>
-            "peers.dat was written by addrman under this asmap: leave out --core, else its new records are placed anew",
+        SumFit::Core => "peers.dat was written by Bitcoin Core under this asmap: use --core, \
+             else its new records are placed anew",
+        SumFit::Own => "peers.dat was written by addrman under this asmap: leave out --core, \
+             else its new records are placed anew",
         SumFit::NoneThen =>
             "peers.dat was written without an asmap: its new records are placed anew",
-        SumFit::NoneNow =>
-            "peers.dat was written under an asmap, and asmap.dat is missing: its new records are placed anew",
+        SumFit::NoneNow => "peers.dat was written under an asmap, and asmap.dat is missing: \
+             its new records are placed anew",
         SumFit::Other =>
             "peers.dat was written under another asmap: its new records are placed anew",
     }

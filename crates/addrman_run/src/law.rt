@@ -12,9 +12,9 @@ ghost use Rattle.addrman_run.specs.declared.peers_fault.PeersFault.{PeersFault};
 
 use peers_file::files_have_one_meaning;
 
-/// Whatever key and kind of file the arguments give, and whatever bytes peers.dat has, if there is such a
-/// file: exactly one of three things holds. The tables open, and only in one state; the file is
-/// refused, for one reason; or there is neither a file nor a key.
+/// Whatever key and kind of file the arguments give, and whatever bytes peers.dat has, if there is
+/// such a file: exactly one of three things holds. The tables open, and only in one state; the file
+/// is refused, for one reason; or there is neither a file nor a key.
 pub fn folders_open_once()
     ensures { (key : Option (List ℕ)) (kind : FileKind) (past : Past) (map : Option Asmap) →
         IfSome (under (files_on past.now) name.Peers) (All (λ b. b < 256)) →

@@ -33,6 +33,7 @@ pub struct Learned {
     pub(crate) passed_over: usize,
     pub(crate) is_key_unused: bool,
     pub(crate) sum_fit: SumFit,
+    pub(crate) left_out: usize,
 }
 
 impl Learned {
@@ -45,6 +46,7 @@ impl Learned {
             passed_over: 0,
             is_key_unused: false,
             sum_fit: SumFit::Same,
+            left_out: 0,
         }
     }
 
@@ -81,6 +83,12 @@ impl Learned {
     /// same, the new records are placed anew.
     pub fn sum_fit(&self) -> SumFit {
         self.sum_fit
+    }
+
+    /// Returns how many new records of peers.dat are not in the tables that it opened, since their
+    /// address is not valid or their slot has another record.
+    pub fn left_out(&self) -> usize {
+        self.left_out
     }
 
     /// Keeps the first bytes of a file.

@@ -21,7 +21,7 @@ use arguments::FileKind;
 use asmap_vm::{CodeFault, Sane, check};
 use bit_code::MAX_ASMAP;
 use host_io::{Bytes, Folder, Name};
-use peer_rec::Snapshot;
+use peer_rec::{Counts, Snapshot};
 use peers_file::{Chain, FileFault, read_file};
 use placing::{Placer, SumRule, sum_by};
 use std::alloc::Global;
@@ -79,6 +79,13 @@ fn fit_of(snap: &Snapshot, rule: SumRule, map: Option<Sane<'_>>) -> SumFit {
     } else {
         SumFit::Other
     }
+}
+
+/// Returns how many new records of a snapshot are not in the tables with these counts.
+fn left_out_of(snap: &Snapshot, counts: Counts) -> usize {
+    snap.new_recs()
+        .len()
+        .saturating_sub(counts.new_count as usize)
 }
 
 /// Restores the tables of a snapshot. The steps are counted, and nobody reads how many.
@@ -159,8 +166,14 @@ fn open_tables<'a, H: BuildHasher + Drop>(
         Err(status) => return Err(status),
     };
     learned.is_key_unused = is_unused(key, snap.key());
-    learned.sum_fit = fit_of(&snap, kind.rule, map);
-    restore_tables::<Brand, H>(alloc, hasher, &snap, map, kind.rule, Blank::new(1))
+    let rule = kind.rule;
+    learned.sum_fit = fit_of(&snap, rule, map);
+    let tables = match restore_tables::<Brand, H>(alloc, hasher, &snap, map, rule, Blank::new(1)) {
+        Ok(tables) => tables,
+        Err(status) => return Err(status),
+    };
+    learned.left_out = left_out_of(&snap, tables.counts());
+    Ok(tables)
 }
 
 /// Checks the asmap in these bytes, if there are any.
