@@ -5,8 +5,8 @@
  * RULES FOR ALL CALLS
  *
  * Ownership. An object of type addrman is a struct that the caller declares, begins with
- *   ADDRMAN_INIT, opens by addrman_open or addrman_open_file, and closes by addrman_close. It may
- *   be moved by plain assignment while no call uses it, and the old copy is then not used any more;
+ *   ADDRMAN_INIT, opens by addrman_open, addrman_open_file or their twins that end in _core, and
+ *   closes by addrman_close. It may be moved by plain assignment while no call uses it, and the old copy is then not used any more;
  *   it is never copied. Its fields are private. addrman_close of a closed object, or of NULL, does
  *   nothing; of the other calls, those that open the object open it, and all others return
  *   ADDRMAN_ERR_CLOSED. Nothing that a call returns has to be freed: results go into memory of the
@@ -333,8 +333,8 @@ ADDRMAN_CALL addrman_result addrman_take_message(addrman *am, bool is_v2,
     addrman_fault *fault);
 
 /* The same with at most `most` entries of the message, the first ones: as many as
- * addrman_limiter_admit lets through of addrman_message_count. Proved: FirstCall (`IsFirstAdded`,
- * `IsFirstFault`).
+ * addrman_limiter_admit lets through of addrman_message_count. Then added->total, and how many words
+ * are needed, is the number of these. Proved: FirstCall (`IsFirstAdded`, `IsFirstFault`).
  * Codes: as of addrman_take_message. */
 ADDRMAN_CALL addrman_result addrman_take_first(addrman *am, bool is_v2,
     const uint8_t *payload, size_t payload_length, const addrman_addr *source, uint32_t most,
@@ -713,7 +713,8 @@ ADDRMAN_CALL addrman_result addrman_answers_forget(addrman_answers *answers);
  * are); one that is kept needs none. The order of the records changes, which no other call shows.
  *   ADDRMAN_ERR_CLOSED        one of the three objects is not open
  *   ADDRMAN_ERR_ARGUMENT      `requester` is no network
- *   ADDRMAN_NONE              64 others have answers: nothing is told
+ *   ADDRMAN_NONE              64 others have answers, those that are over among them, for which
+ *                             addrman_answers_forget makes room: nothing is told
  *   ADDRMAN_ERR_SHORT_WORDS   nothing changes; *length is how many words are needed
  *   ADDRMAN_ERR_MEMORY        a new answer may be kept, and the order may have changed
  *   ADDRMAN_ERR_SHORT_BUFFER  nothing is written but *length; the answer is kept all the same
