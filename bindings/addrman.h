@@ -6,11 +6,11 @@
  *
  * Ownership. An object of type addrman is a struct that the caller declares, begins with
  *   ADDRMAN_INIT, opens by addrman_open, addrman_open_file or their twins that end in _core, and
- *   closes by addrman_close. It may be moved by plain assignment while no call uses it, and the old copy is then not used any more;
- *   it is never copied. Its fields are private. addrman_close of a closed object, or of NULL, does
- *   nothing; of the other calls, those that open the object open it, and all others return
- *   ADDRMAN_ERR_CLOSED. Nothing that a call returns has to be freed: results go into memory of the
- *   caller's.
+ *   closes by addrman_close. It may be moved by plain assignment while no call uses it, and the old
+ *   copy is then not used any more; it is never copied. Its fields are private. addrman_close of a
+ *   closed object, or of NULL, does nothing; of the other calls, those that open the object open
+ *   it, and all others return ADDRMAN_ERR_CLOSED. Nothing that a call returns has to be freed:
+ *   results go into memory of the caller's.
  * Memory. The library allocates by malloc, realloc and free alone. A call that can run out of
  *   memory returns ADDRMAN_ERR_MEMORY, and says what it then leaves. No call aborts.
  * Arguments. No pointer is NULL, but for those of the calls that close. One with a length of 0 may
@@ -240,9 +240,9 @@ ADDRMAN_CALL addrman_result addrman_open_file(addrman *am, const uint8_t *bytes,
     size_t length, addrman_chain chain, const uint64_t seed[2], const uint8_t *asmap,
     size_t asmap_length, addrman_fault *fault);
 
-/* The same for a node that runs with Bitcoin Core's peers.dat: the checksum of the asmap, by which a
- * file says under which asmap it was written, is that of Bitcoin Core 24 to 30 (docs/FORMATS.md). It
- * is that of the object: addrman_write_file and addrman_save_begin write it.
+/* The same for a node that runs with Bitcoin Core's peers.dat: the checksum of the asmap, by which
+ * a file says under which asmap it was written, is that of Bitcoin Core 24 to 30
+ * (docs/FORMATS.md). It is that of the object: addrman_write_file and addrman_save_begin write it.
  * Proved: OpenCall, LoadCall (`sum_by` with `Bits`).
  * Codes: REFUSED, MEMORY. */
 ADDRMAN_CALL addrman_result addrman_open_core(addrman *am, const uint8_t key[32],
@@ -333,8 +333,8 @@ ADDRMAN_CALL addrman_result addrman_take_message(addrman *am, bool is_v2,
     addrman_fault *fault);
 
 /* The same with at most `most` entries of the message, the first ones: as many as
- * addrman_limiter_admit lets through of addrman_message_count. Then added->total, and how many words
- * are needed, is the number of these. Proved: FirstCall (`IsFirstAdded`, `IsFirstFault`).
+ * addrman_limiter_admit lets through of addrman_message_count. Then added->total, and how many
+ * words are needed, is the number of these. Proved: FirstCall (`IsFirstAdded`, `IsFirstFault`).
  * Codes: as of addrman_take_message. */
 ADDRMAN_CALL addrman_result addrman_take_first(addrman *am, bool is_v2,
     const uint8_t *payload, size_t payload_length, const addrman_addr *source, uint32_t most,
@@ -356,8 +356,8 @@ typedef struct {
 } addrman_entry;
 ADDRMAN_SIZE(addrman_entry, 48);
 
-/* Writes the entries of a message in their order, at most 1000, and how many they are: without those
- * that are skipped, since a node does not know their network, or no address has their bytes.
+/* Writes the entries of a message in their order, at most 1000, and how many they are: without
+ * those that are skipped, since a node does not know their network, or no address has their bytes.
  *   ADDRMAN_ERR_REFUSED       *fault says why
  *   ADDRMAN_ERR_SHORT_BUFFER  nothing is written but *length
  * Proved: ReadMessageCall (`IsMessage`, `known`, `HasMessageFault`).
