@@ -39,7 +39,7 @@ impl<'a, H: BuildHasher> BuildHasher for Lent<'a, H> {
 }
 
 /// The groups of some slots, each with the number of its slots.
-type Tally<'a, H> = IndexMap<u128, u32, Lent<'a, H>>;
+pub type Tally<'a, H> = IndexMap<u128, u32, Lent<'a, H>>;
 
 /// Returns the groups of the keys with the number of their slots, in the order of the first ones. A
 /// key 0 is a free slot.
@@ -71,7 +71,7 @@ fn list_groups<H: BuildHasher>(alloc: Global, map: &Tally<'_, H>) -> Result<Vec<
 }
 
 /// Counts the slots of each key. It takes two look-ups a slot.
-fn tally<'a, H: BuildHasher>(
+pub fn tally<'a, H: BuildHasher>(
     alloc: Global,
     hasher: &'a H,
     keys: &[u128],
@@ -99,7 +99,7 @@ fn note<H: BuildHasher>(map: &mut Tally<'_, H>, key: u128) -> Result<(), Memory>
 }
 
 /// Returns the count of a key, 0 if it has none.
-fn count_of<H: BuildHasher>(map: &Tally<'_, H>, key: u128) -> u32
+pub fn count_of<H: BuildHasher>(map: &Tally<'_, H>, key: u128) -> u32
     ensures { result ≡ count_in map.now.entries key }
 {
     match map.get(&key) {

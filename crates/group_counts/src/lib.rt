@@ -8,6 +8,8 @@ mod counting;
 mod ranking;
 
 pub use buckets::bucket_keys;
-pub use counting::{Counted, Lent, count_groups, counts_are_of_slots, occurrences};
+pub use counting::{
+    Counted, Lent, Tally, count_groups, count_of, counts_are_of_slots, occurrences, tally,
+};
 pub use net_addr::Memory;
 pub use ranking::{above, first_six};

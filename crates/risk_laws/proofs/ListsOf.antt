@@ -363,7 +363,7 @@ either_lists st nets now n theirs size half is =
     last : (a b : ℕ) → a + (b + 0) ≡ a + b
     last a b = omega arith
 
-not_zero : (n : ℕ) → 0 < n → (n == 0) ≡ false
+pub not_zero : (n : ℕ) → 0 < n → (n == 0) ≡ false
 not_zero n some = false_from_ne_true (n == 0) (λ is. let none = (Decides-eqb n 0).0 is in omega (arith, none, some))
 
 select_either : (st : State) (nets words : List ℕ) (now : ℕ) → (wanted_new st nets == 0) ≡ false → (wanted_tried st nets == 0) ≡ false
@@ -383,7 +383,7 @@ pub by_both : (st : State) (nets : List ℕ) (now n : ℕ) (theirs : Peer → Bo
 by_both st nets now n theirs has also =
     ap (selecting_lists st false nets now theirs) (sym (one_longer n)) ∙ by_either_lists st nets now n theirs has also
 
-halves : (h x y u a p q l size z : ℕ) → z ≡ h * (x + y) → l ≡ size * a → size ≡ h * 2 → x * u ≤ a * p → y * u ≤ a * q → z * (2 * u) ≤ l * (p + q)
+pub halves : (h x y u a p q l size z : ℕ) → z ≡ h * (x + y) → l ≡ size * a → size ≡ h * 2 → x * u ≤ a * p → y * u ≤ a * q → z * (2 * u) ≤ l * (p + q)
 halves h x y u a p q l size z is longer two first second =
     let one = mul-le-mul_left h first in
     let other = mul-le-mul_left h second in

@@ -2,7 +2,7 @@ ghost use Rattle.std.specs.Prelude.{◌≡◌, ◌+◌, ◌-◌, ◌*◌, ◌^�
 ghost use Rattle.risk_sum.specs.Kinds.{AreKinds, starts_of, accepting, most_by, next_factor, refused_by, rounded_up, taken_by};
 
 /// The records of one chance in a table.
-#[derive(Clone, Copy)]
+#[derive(Clone, Copy, Default)]
 pub struct Kind {
     /// the chance, in parts of 2^30
     pub chance: u32,

@@ -1,0 +1,6 @@
+pub mod FromEnd
+pub mod MaskGaps
+pub mod KindsOf
+pub mod BoundsOf
+pub mod RowsOf
+pub mod Ranked

@@ -1,0 +1,8 @@
+use Rattle.table_risk.proofs.BoundsOf.{by_new, by_picks}
+use Rattle.table_risk.proofs.law.rows_are_bounds.Goals as goal
+
+pub returns-clause-picks : goal.returns-clause-picks
+returns-clause-picks c = λ st by now key first n theirs sound are. by_picks st by now key theirs sound are n
+
+pub returns-clause-new : goal.returns-clause-new
+returns-clause-new c = λ st by now key first n theirs sound are. by_new st by now key theirs sound are n

@@ -1,0 +1,91 @@
+-- The text of which part of the picks falls to each group.
+use Rattle.std.specs.Prelude.{◌≡◌, ℕ, ◌/◌, ◌%◌, List, [], ◌++◌, Bool, true, false, Option, Some, None, codes, count_by, decimal, not, slice_get}
+use Rattle.std.specs.List.{flat_map, range_with_len}
+use Rattle.std.specs.List.Sorted.{IsPermutation, IsSortedBy}
+use Rattle.net_addr.specs.NetSet.{all}
+use Rattle.net_addr.specs.declared.net.Net.{Net}
+use Rattle.net_addr.specs.declared.net.Net.TheVariants.{Unroutable, Ipv4, Ipv6, Onion, I2p, Cjdns, Internal}
+use Rattle.peer_rec.specs.Rec.{is_tried, network}
+use Rattle.peer_rec.specs.declared.rec.Rec.{Rec}
+use Rattle.table_groups.specs.Names.{name_of}
+use Rattle.placing.specs.Places.{Places}
+use Rattle.table_laws.specs.Searches.{has_candidate}
+use Rattle.table_machine.specs.Picks.{bucket_count}
+use Rattle.table_machine.specs.State.{State}
+use Rattle.table_risk.specs.Rows.{comes_before, rows_of}
+use Rattle.table_risk.specs.declared.by.By.{By}
+use Rattle.table_risk.specs.declared.by.By.TheVariants.{Source, Peer, Network}
+use Rattle.table_risk.specs.declared.rows.Row.{Row}
+
+-- the last four decimal digits
+unfoldable pub four_digits : ℕ → List ℕ
+four_digits n =
+    decimal (n / 1000 % 10)
+    ++ (decimal (n / 100 % 10) ++ (decimal (n / 10 % 10) ++ decimal (n % 10)))
+
+-- a label, and a part of a million in percent
+unfoldable pub part_text : List ℕ → ℕ → List ℕ
+part_text label part =
+    label ++ (decimal (part / 10000)
+    ++ (codes "." ++ (four_digits (part % 10000) ++ codes " %")))
+
+abbrev pub word_of : By → List ℕ
+word_of Source = codes "source "
+word_of Peer = codes "peer "
+word_of Network = codes "network "
+
+abbrev pub network_name : Net → List ℕ
+network_name Unroutable = codes "not routable"
+network_name Ipv4 = codes "ipv4"
+network_name Ipv6 = codes "ipv6"
+network_name Onion = codes "onion"
+network_name I2p = codes "i2p"
+network_name Cjdns = codes "cjdns"
+network_name Internal = codes "internal"
+
+-- how people write the group of a record
+abbrev pub name_by : By → Places → Rec → List ℕ
+name_by Source places r = name_of places r.source
+name_by Peer places r = name_of places r.peer.addr
+name_by Network places r = network_name (network r)
+
+abbrev pub name_in : By → Places → Option Rec → List ℕ
+name_in by places None = []
+name_in by places (Some r) = name_by by places r
+
+unfoldable pub tail_text : Row → List ℕ
+tail_text row =
+    part_text (codes ": picks ") row.picks
+    ++ (part_text (codes " new ") row.new
+    ++ (part_text (codes " tried ") row.tried ++ codes "\n"))
+
+-- the line of a group, with the name of its first record's
+unfoldable pub row_text : Places → By → List Rec → Row → List ℕ
+row_text places by recs row =
+    word_of by ++ (name_in by places (slice_get recs row.first) ++ tail_text row)
+
+-- how many buckets of a table have a record
+unfoldable pub used_buckets : State → Bool → ℕ
+used_buckets st in_new =
+    count_by (has_candidate st in_new all) (range_with_len 0 (bucket_count in_new))
+
+-- a label, and a number of each table
+unfoldable pub numbers_text : List ℕ → ℕ → ℕ → List ℕ
+numbers_text label new tried =
+    label ++ ((codes " new " ++ decimal new) ++ (codes " tried " ++ decimal tried))
+
+-- the first line
+unfoldable pub heading : ℕ → ℕ → ℕ → ℕ → List ℕ
+heading new tried new_buckets tried_buckets =
+    numbers_text (codes "peers") new tried
+    ++ (numbers_text (codes " buckets") new_buckets tried_buckets ++ codes "\n")
+
+-- The text at a time: how many records and used buckets the tables have, and the rows of all
+-- groups, those with more picks first, and of two with as many the one with the lower key.
+pub record IsRiskText (st : State) (by : By) (now : ℕ) (text : List ℕ) : Type 0 where
+  pub rows : List Row
+  pub all : IsPermutation (rows_of st by now) rows
+  pub order : IsSortedBy comes_before rows
+  pub is : text ≡ heading (count_by (λ r. not (is_tried r)) st.records)
+      (count_by is_tried st.records) (used_buckets st true) (used_buckets st false)
+      ++ flat_map (row_text st.places by st.records) rows

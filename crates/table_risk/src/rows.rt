@@ -1,0 +1,213 @@
+ghost use Rattle.std.specs.Prelude.{◌≡◌, ◌≤◌, ◌<◌, ◌^◌, All, IfOk};
+ghost use Rattle.std.specs.List.Sorted.{IsPermutation, IsSortedBy};
+ghost use Rattle.table_machine.specs.Sound.{IsSound};
+ghost use Rattle.table_risk.specs.Inside.{AreFirsts, FitsSide, row_in, side_by, side_share, side_value};
+ghost use Rattle.table_risk.specs.Rows.{comes_before, keys_of, millionths, rank_cmp, rows_at, rows_of, wanted_in};
+
+use crate::classes::{Class, Search, classes_of};
+use crate::firsts::{Firsts, find_firsts, first_of};
+use crate::shares::{AHEAD, share};
+use crate::{By, Memory};
+use net_addr::NetSet;
+use peer_rec::Rec;
+use placing::Placer;
+use std::alloc::{AllocError, Global};
+use std::cmp::Ordering;
+use std::hash::BuildHasher;
+use std::sync::ledger::Ledger;
+use steps::Steps;
+use tables::Tables;
+
+/// The searches that shares are parts of.
+const WHOLE: u128 = 18_446_744_073_709_551_616;
+/// The parts in which shares are printed.
+const MILLION: u128 = 1_000_000;
+
+/// A group: its key, the index of its first record, and which part falls to it, at most, of the
+/// picks from both tables, of those from the new table alone, and of a search of the tried table,
+/// in parts of a million.
+#[derive(Clone, Copy)]
+pub struct Row {
+    pub key: u128,
+    pub first: usize,
+    pub picks: u32,
+    pub new: u32,
+    pub tried: u32,
+}
+
+/// One table: how many starts lead to records of each chance, and how many records it has.
+#[derive(Drop)]
+struct Side<'a, H: BuildHasher> {
+    classes: Vec<Class<'a, H>>,
+    wanted: u32,
+}
+
+/// Returns a share of `whole` in parts of a million, rounded up.
+fn millionths(share: u128, whole: u128) -> u32
+    requires some { 0 < whole }
+    requires few { whole ≤ 2 ^ 65 }
+    ensures { result ≡ millionths share whole }
+{
+    if share < whole {
+        ((share * MILLION + (whole - 1)) / whole) as u32
+    } else {
+        MILLION as u32
+    }
+}
+
+/// Returns how many of 2^64 searches of a table end at records of a group, at most. Without
+/// records none do.
+fn share_in<H: BuildHasher>(side: &Side<'_, H>, key: u128) -> u128
+    requires { FitsSide (side_value side.now) key }
+    ensures is { result ≡ side_share (side_value side.now) key }
+    ensures few { result ≤ 2 ^ 64 }
+{
+    if side.wanted == 0 {
+        return 0;
+    }
+    let share = share(side.classes.as_slice(), key, AHEAD);
+    if share < WHOLE { share } else { WHOLE }
+}
+
+/// Returns the row of a group. With records in both tables, half of the picks come from each.
+fn row_in<H: BuildHasher>(new: &Side<'_, H>, tried: &Side<'_, H>, key: u128, first: usize) -> Row
+    requires new { FitsSide (side_value new.now) key }
+    requires tried { FitsSide (side_value tried.now) key }
+    ensures { result ≡ row_in (side_value new.now) (side_value tried.now) key first }
+{
+    let in_new = share_in(new, key);
+    let in_tried = share_in(tried, key);
+    let whole = if new.wanted == 0 || tried.wanted == 0 {
+        WHOLE
+    } else {
+        2 * WHOLE
+    };
+    Row {
+        key,
+        first,
+        picks: millionths(in_new + in_tried, whole),
+        new: millionths(in_new, WHOLE),
+        tried: millionths(in_tried, WHOLE),
+    }
+}
+
+/// Returns the rows of the groups of some keys, each where its key occurs first.
+fn rows_at<H: BuildHasher>(
+    alloc: Global,
+    new: &Side<'_, H>,
+    tried: &Side<'_, H>,
+    keys: &[u128],
+    firsts: &Firsts<'_, H>,
+) -> Result<Vec<Row>, AllocError>
+    requires firsts { AreFirsts firsts.now.entries keys.now }
+    requires new { All (FitsSide (side_value new.now)) keys.now }
+    requires tried { All (FitsSide (side_value tried.now)) keys.now }
+    ensures { IfOk result (λ rows. rows.items
+        ≡ rows_at (row_in (side_value new.now) (side_value tried.now)) keys.now) }
+{
+    let mut rows = Vec::new(alloc);
+    for index in 0..keys.len() {
+        let key = keys[index];
+        if first_of(firsts, key, keys.len()) == index {
+            rows.push(row_in(new, tried, key, index))?;
+        }
+    }
+    Ok(rows)
+}
+
+/// Returns the keys of some records.
+fn keys_of(
+    alloc: Global,
+    placer: &Placer<'_>,
+    recs: &[Rec],
+    by: By,
+) -> Result<Vec<u128>, AllocError>
+    ensures { IfOk result (λ keys. keys.items ≡ keys_of placer.now by recs.now) }
+{
+    recs.iter().map(|rec| by.key(placer, rec)).collect(alloc)
+}
+
+/// Returns how many records a table has.
+fn wanted_in<H: BuildHasher>(tables: &Tables<'_, H>, in_new: bool) -> u32
+    ensures { result ≡ wanted_in tables.now in_new }
+{
+    let (new, tried) = tables.wanted(NetSet::all());
+    if in_new { new } else { tried }
+}
+
+/// Returns one table's side.
+fn side_of<'a, H: BuildHasher, G: BuildHasher, L: Ledger>(
+    alloc: Global,
+    hasher: &'a G,
+    tables: &Tables<'_, H>,
+    recs: &[Rec],
+    what: Search,
+    steps: &mut Steps<L>,
+) -> Result<Side<'a, G>, Memory>
+    requires recs { recs.now ≡ tables.now.records }
+    requires sound { IsSound tables.now }
+    ensures { IfOk result (λ side. side_value side ≡ side_by tables.now what) }
+{
+    let wanted = wanted_in(tables, what.in_new);
+    let classes = classes_of(alloc, hasher, tables, recs, what, steps)?;
+    Ok(Side { classes, wanted })
+}
+
+/// Returns the rows of the groups of all records, in the order of the first ones.
+fn rows_of<H: BuildHasher, G: BuildHasher, L: Ledger>(
+    alloc: Global,
+    hasher: &G,
+    tables: &Tables<'_, H>,
+    recs: &[Rec],
+    by: By,
+    now: u32,
+    steps: &mut Steps<L>,
+) -> Result<Vec<Row>, Memory>
+    requires recs { recs.now ≡ tables.now.records }
+    requires sound { IsSound tables.now }
+    ensures { IfOk result (λ rows. rows.items ≡ rows_of tables.now by now) }
+{
+    let keys = keys_of(alloc, tables.placer(), recs, by)?;
+    let firsts = find_firsts(alloc, hasher, keys.as_slice())?;
+    let in_new = Search {
+        in_new: true,
+        by,
+        now,
+    };
+    let in_tried = Search {
+        in_new: false,
+        by,
+        now,
+    };
+    let new = side_of(alloc, hasher, tables, recs, in_new, steps)?;
+    let tried = side_of(alloc, hasher, tables, recs, in_tried, steps)?;
+    Ok(rows_at(alloc, &new, &tried, keys.as_slice(), &firsts)?)
+}
+
+/// Compares two rows: the one with more picks comes first, and of two with as many the one with the
+/// lower key.
+fn rank_cmp(a: &Row, b: &Row) -> Ordering
+    ensures { result ≡ rank_cmp a.now b.now }
+{
+    b.picks.cmp(&a.picks).then(a.key.cmp(&b.key))
+}
+
+/// Returns the rows of the groups of all records, those with more picks first.
+pub(crate) fn rows_in_order<H: BuildHasher, G: BuildHasher, L: Ledger>(
+    alloc: Global,
+    hasher: &G,
+    tables: &Tables<'_, H>,
+    recs: &[Rec],
+    by: By,
+    now: u32,
+    steps: &mut Steps<L>,
+) -> Result<Vec<Row>, Memory>
+    requires recs { recs.now ≡ tables.now.records }
+    requires sound { IsSound tables.now }
+    ensures rows { IfOk result (λ rows. IsPermutation (rows_of tables.now by now) rows.items) }
+    ensures order { IfOk result (λ rows. IsSortedBy comes_before rows.items) }
+{
+    let mut rows = rows_of(alloc, hasher, tables, recs, by, now, steps)?;
+    rows.sort_unstable_by(|a, b| rank_cmp(a, b));
+    Ok(rows)
+}
