@@ -1,0 +1,99 @@
+"""Which part of the picks falls to each group of records, exactly."""
+
+from fractions import Fraction
+
+from addresses import NETWORKS, UNROUTABLE, routable
+from picture import name as group_name
+from places import group
+from tables import LARGEST_FACTOR, ONE, Record, Tables, chance
+
+SLOTS = 64
+MILLION = 1_000_000
+RESTARTED = 600  # a time at which no try is of the last ten minutes, as after a restart
+
+
+def starts(table: dict[int, dict[int, int]]) -> dict[int, int]:
+    """From how many starts, a bucket and a slot of it, a round comes to each record of a table."""
+    found: dict[int, int] = {}
+    for bucket in table.values():
+        slots = sorted(bucket)
+        for index, slot in enumerate(slots):
+            gap = (slot - slots[index - 1]) % SLOTS or SLOTS
+            found[bucket[slot]] = found.get(bucket[slot], 0) + gap
+    return found
+
+
+def accepting(parts: int, factor: int) -> int:
+    """How many of 2^30 residues accept a record of this chance."""
+    return min(-(-parts * factor // ONE), ONE)
+
+
+def weights(of_chance: dict[int, int]) -> dict[int, Fraction]:
+    """Which part of the searches ends at a record of each chance, for each start that leads to it."""
+    rounds = sum(of_chance.values()) * ONE
+    found = dict.fromkeys(of_chance, Fraction(0))
+    left, factor = Fraction(bool(of_chance)), ONE
+    while left:
+        for parts in of_chance:
+            found[parts] += left * Fraction(accepting(parts, factor), rounds)
+        left *= Fraction(sum(count * (ONE - accepting(parts, factor)) for parts, count in of_chance.items()), rounds)
+        factor = min(factor + factor // 5, LARGEST_FACTOR)
+    return found
+
+
+def shares(tables: Tables, in_new: bool, now: int) -> dict[int, Fraction]:
+    """Which part of the searches of a table ends at each record."""
+    leading = starts(tables.new if in_new else tables.tried)
+    of_chance: dict[int, int] = {}
+    for number, count in leading.items():
+        parts = chance(tables.records[number], now)
+        of_chance[parts] = of_chance.get(parts, 0) + count
+    weight = weights(of_chance)
+    return {number: count * weight[chance(tables.records[number], now)] for number, count in leading.items()}
+
+
+def network(record: Record) -> str:
+    """The network of a record."""
+    return record.peer.address.network if routable(record.peer.address) else UNROUTABLE
+
+
+def key(tables: Tables, by: str, record: Record):
+    """What is the same in records of one group, in the order in which groups with as many picks come."""
+    if by == "network":
+        return (UNROUTABLE, *NETWORKS).index(network(record))
+    own = group(record.source if by == "source" else record.peer.address, tables.asmap)
+    return own.ljust(15, b"\0"), len(own)
+
+
+def name(tables: Tables, by: str, record: Record) -> str:
+    """How people write the group of a record."""
+    if by == "network":
+        own = network(record)
+        return "not routable" if own == UNROUTABLE else own
+    address = record.source if by == "source" else record.peer.address
+    return group_name(address, tables.asmap.number_of(address))
+
+
+def percent(part: int) -> str:
+    """A part of a million in percent."""
+    return f"{part // 10_000}.{part % 10_000:04} %"
+
+
+def risk(tables: Tables, by: str, now: int = RESTARTED) -> str:
+    """The numbers of the tables, and a line for each group."""
+    sides = [shares(tables, in_new, now) for in_new in (True, False)]
+    searched = max(1, sum(bool(side) for side in sides))
+    members: dict[object, list[Record]] = {}
+    for record in sorted(tables.records.values(), key=lambda record: record.number):
+        members.setdefault(key(tables, by, record), []).append(record)
+
+    rows = []
+    for own, records in members.items():
+        new, tried = (sum(side.get(record.number, Fraction(0)) for record in records) for side in sides)
+        picks, new, tried = (-(-part * MILLION // 1) for part in ((new + tried) / searched, new, tried))
+        rows.append((-picks, own, f"{by} {name(tables, by, records[0])}: picks {percent(picks)}"
+                                  f" new {percent(new)} tried {percent(tried)}"))
+    new, tried = tables.counts()
+    used = [sum(bool(bucket) for bucket in table.values()) for table in (tables.new, tables.tried)]
+    head = f"peers new {new} tried {tried} buckets new {used[0]} tried {used[1]}"
+    return "\n".join([head, *(line for _, _, line in sorted(rows, key=lambda row: row[:2]))])
