@@ -1,7 +1,7 @@
 -- What the calls on answers to `getaddr` return, write and leave.
 use Rattle.std.specs.Prelude.{◌≡◌, ◌⊎◌, ℕ, ◌+◌, ◌<◌, ◌≤◌, List, [], length, map, filter, Bool, true, false, Option, Some, None}
 use Rattle.addr_answers.specs.Answers.{Answer, key_of}
-use Rattle.addr_answers.specs.Runs.{Ask, after_ask, told}
+use Rattle.addr_answers.specs.Runs.{Ask, is_made, after_ask, told}
 use Rattle.addr_codecs.specs.Layout.{IsMessage}
 use Rattle.addr_codecs.specs.declared.form.Form.{Form}
 use Rattle.ban_list.specs.declared.ban.Ban.{Ban}
@@ -61,15 +61,16 @@ PutAnswer form entries code old new count =
 
 -- What a request is answered, if there is room for an answer of its key and, should one be made,
 -- the words suffice: the answer that is kept of the key after it, which is new if there was none.
--- If memory runs out, the answers are those before the request or after it, and of the tables at
--- most the order has changed.
+-- If memory runs out while a new answer is made, the answers are as they were, and of the tables at
+-- most the order has changed. If it runs out later, answers and tables are those after the request,
+-- so they are as they were if an answer was kept.
 abbrev pub TellCall : Form → Ask → List ℕ → List Answer → State → ℕ → List ℕ → List ℕ → ℕ
     → List Answer → State → Type 0
 TellCall form ask words kept st code old new count kept_after st_after =
-    ((code ≡ MEMORY) × (new ≡ old) × ((kept_after ≡ kept) ⊎ (kept_after ≡ after_ask kept ask))
+    ((is_made kept ask ≡ true) × (code ≡ MEMORY) × (new ≡ old) × (kept_after ≡ kept)
     × (st_after ≡ record st { order = st_after.order }))
     ⊎ ((kept_after ≡ after_ask kept ask) × (st_after ≡ tables_after_request kept ask st words)
-    × IsWritten form (told kept ask) code old new count)
+    × PutAnswer form (told kept ask) code old new count)
 
 -- nothing changes, for the reason that the code says
 abbrev pub Unanswered : ℕ → List Answer → State → ℕ → List ℕ → List ℕ → List Answer → State → Type 0

@@ -32,11 +32,11 @@ fault_of (file.Attempts index) = fault_at 18 index
 fault_of (file.TooLarge size) = fault_at 19 size
 fault_of file.Memory = fault_at 0 0
 
--- the tables of the file that the bytes are, with its key, the asmap and the rule of its checksum,
--- and no outbound peer
+-- the tables of the file that the bytes are, which has no two valid records of one peer, with its
+-- key, the asmap and the rule of its checksum, and no outbound peer
 abbrev pub IsLoaded : Chain → List ℕ → Option Asmap → SumRule → Kept → Type 0
 IsLoaded chain bytes map rule kept =
-    (snap : Snapshot) × IsFile chain bytes snap
+    (snap : Snapshot) × IsFile chain bytes snap × (duplicate snap ≡ None)
     × (kept ≡ record {
       tables = restored snap (record { key = snap.key; map = map; rule = rule });
       opener = [];
