@@ -1,5 +1,6 @@
 -- Tables that are opened, and those that a file of peers has.
-use Rattle.std.specs.Prelude.{◌≡◌, ◌≢◌, ℕ, ◌<◌, List, Option, Some, IfSome, ⊤}
+use Rattle.std.specs.Prelude.{◌≡◌, ◌≢◌, ℕ, ◌<◌, List, length, Option, None, Some, IfSome, ⊤}
+use Rattle.std.specs.Option.{option_map}
 use Rattle.asmap_vm.specs.Asmap.{Asmap}
 use Rattle.host_io.specs.Files.{Files}
 use Rattle.host_io.specs.PerName.{under}
@@ -19,10 +20,11 @@ use Rattle.node_face.specs.declared.files.OpenFault.TheVariants.{Disk, TooLarge,
 abbrev pub IsOpened : List ℕ → Option Asmap → State → Type 0
 IsOpened key map st = st ≡ empty_state (record { key = key; map = map; rule = Bytes })
 
--- the tables of the file that the bytes are, with its key and the asmap
+-- the tables of the file that the bytes are, with its key and the asmap; no two of its valid records
+-- have one peer
 abbrev pub IsLoaded : Chain → List ℕ → Option Asmap → State → Type 0
 IsLoaded chain bytes map st =
-    (snap : Snapshot) × IsFile chain bytes snap
+    (snap : Snapshot) × IsFile chain bytes snap × (duplicate snap ≡ None)
     × (st ≡ restored snap (record { key = snap.key; map = map; rule = Bytes }))
 
 -- why bytes have no tables: memory, their first fault as a file, or two valid records of one peer
@@ -48,7 +50,8 @@ IsFromFolder known chain map st =
 abbrev pub IsFolderFault : Option Files → Chain → OpenFault → Type 0
 IsFolderFault known chain Disk = ⊤
 IsFolderFault known chain Memory = ⊤
-IsFolderFault known chain (TooLarge size) = MAX_FILE < size
+IsFolderFault known chain (TooLarge size) =
+    (MAX_FILE < size) × IfSome known (λ files. option_map length (under files Peers) ≡ Some size)
 IsFolderFault known chain (File why) =
     (bytes : List ℕ) × IsPeersFile known bytes × IsOpenFault chain bytes (File why)
 IsFolderFault known chain (Duplicate index) =

@@ -11,7 +11,8 @@ use std::hash::BuildHasher;
 use tables::Tables;
 use taking::{Added, MessageFault};
 
-/// How many records get a number. A call that would give numbers past these is refused.
+/// No call adds once this many numbers were given to records. A message that begins below it is
+/// taken whole.
 pub const MAX_RECORDS: u64 = 1 << 62;
 
 /// Why an entry is not added.

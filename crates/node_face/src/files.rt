@@ -1,8 +1,10 @@
-ghost use Rattle.std.specs.Prelude.{◌≡◌, ◌≤◌, None, Ok, Err, IfOk, IfErr, IfSome};
+ghost use Rattle.std.specs.Prelude.{◌≡◌, ◌<◌, ◌≤◌, ◌⊎◌, length, None, Ok, Err, IfOk, IfErr, IfSome};
 ghost use Rattle.host_io.specs.Faults.{Rose};
+ghost use Rattle.host_io.specs.Files.{known_bytes};
 ghost use Rattle.host_io.specs.Past.{files_of};
 ghost use Rattle.host_io.specs.PerName.{under};
 ghost use Rattle.host_io.specs.declared.name.Name.TheVariants.{Peers};
+ghost use Rattle.peers_file.specs.declared.read.TheConstants.{MAX_FILE};
 ghost use Rattle.placing.specs.Inside.{map_of};
 ghost use Rattle.placing.specs.declared.sum.SumRule.TheVariants.{Bytes};
 ghost use Rattle.node_face.specs.Files.{IsOpened, IsLoaded, IsOpenFault, IsFromFolder, IsFolderFault};
@@ -95,6 +97,11 @@ pub fn load<F: Folder, H: BuildHasher + Drop>(
 ) -> Result<Option<Tables<'static, H>>, OpenFault>
     ensures absent { result ≡ Ok None → IfSome (files_of (F.past folder.old)) (λ files.
         under files Peers ≡ None) }
+    ensures no_file { IfSome (files_of (F.past folder.old)) (λ files. under files Peers ≡ None →
+        (result ≡ Ok None) ⊎ (result ≡ Err OpenFault.Disk)) }
+    ensures larger { IfSome (known_bytes (files_of (F.past folder.old)) Peers) (λ bytes.
+        MAX_FILE < length bytes → (result ≡ Err (OpenFault.TooLarge (length bytes)))
+        ⊎ (result ≡ Err OpenFault.Disk)) }
     ensures found { IfOk result (λ loaded. IfSome loaded
         (λ t. IsFromFolder (files_of (F.past folder.old)) chain (map_of map.entry) t)) }
     ensures cause { IfErr result (IsFolderFault (files_of (F.past folder.old)) chain) }

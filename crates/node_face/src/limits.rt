@@ -1,4 +1,4 @@
-ghost use Rattle.std.specs.Prelude.{◌≡◌, ◌<◌, None, Some, Err, IfOk, OnOk, OnErr, option_map};
+ghost use Rattle.std.specs.Prelude.{◌≡◌, ◌<◌, ◌↔◌, None, Some, Err, IfOk, OnOk, OnErr, option_map};
 ghost use Rattle.addr_codecs.specs.declared.message.TheConstants.{MAX_ENTRIES};
 ghost use Rattle.limiter.specs.State.{find_conn};
 ghost use Rattle.limiter.specs.Tokens.{refill, intake_count};
@@ -31,7 +31,7 @@ pub fn admit<H: BuildHasher>(
     ensures conns { OnOk result (limiter.new
         ≡ after_taking now count (find_conn number limiter.old) limiter.old) }
     ensures unknown { result ≡ Err AdmitFault.Unknown → find_conn number limiter.old ≡ None }
-    ensures too_many { result ≡ Err AdmitFault.TooMany → MAX_ENTRIES < count }
+    ensures too_many { result ≡ Err AdmitFault.TooMany ↔ MAX_ENTRIES < count }
     ensures err { OnErr result (limiter.new ≡ limiter.old) }
 {
     if u64::from(count) > MAX_ENTRIES {

@@ -1,19 +1,19 @@
 ghost use Rattle.ban_list.specs.Subnet.{IsProper};
 
-use ban_list::{Subnet, parse_subnet};
+use ban_list::{Memory, Subnet, parse_subnet, put_subnet};
 
 /// A subnet that can be banned: its address has no bits after the first `len`, and is not the old
 /// form of an address of another network.
 #[derive(Clone, Copy)]
 pub struct ProperSubnet {
-    subnet: Subnet,
+    pub(crate) subnet: Subnet,
     ghost proper: { IsProper subnet },
 }
 
 impl ProperSubnet {
-    ghost use Rattle.std.specs.Prelude.{◌≡◌, IfSome, IfNone};
+    ghost use Rattle.std.specs.Prelude.{◌≡◌, ◌++◌, IfSome, IfNone, OnOk, OnErr};
     ghost use Rattle.ban_list.specs.Subnet.{IsProper};
-    ghost use Rattle.ban_list.specs.SubnetText.{IsSubnetText};
+    ghost use Rattle.ban_list.specs.SubnetText.{IsSubnetText, subnet_text};
     ghost use Rattle.ban_list.specs.declared.subnet.Subnet.{Subnet};
 
     /// Parses a subnet (`ban_list::parse_subnet`).
@@ -35,5 +35,14 @@ impl ProperSubnet {
         ensures proper { IsProper self.now.subnet }
     {
         self.subnet
+    }
+
+    /// Appends the text of the subnet (`ban_list::put_subnet`). If memory runs out, `out` is
+    /// unchanged.
+    pub fn put(&self, out: &mut Vec<u8>) -> Result<(), Memory>
+        ensures ok { OnOk result (out.new.items ≡ out.old.items ++ subnet_text self.now.subnet) }
+        ensures err { OnErr result (out.new.items ≡ out.old.items) }
+    {
+        put_subnet(&self.subnet, out)
     }
 }

@@ -2,10 +2,11 @@
 
 use crate::message::copied;
 use crate::{Address, BanReply, BansError, Memory, ParseError};
-use node_face::ProperSubnet;
+use node_face::{ProperBan, ProperSubnet};
 use plain_std::alloc::Global;
 use plain_std::vec;
 use std::fmt;
+use std::ops::Range;
 use std::str::FromStr;
 
 /// The addresses of a network that begin with the same bits.
@@ -46,7 +47,7 @@ impl FromStr for Subnet {
 
 impl fmt::Display for Subnet {
     fn fmt(&self, f: &mut fmt::Formatter<'_>) -> fmt::Result {
-        show(&self.0.subnet(), f)
+        show(&self.0, f)
     }
 }
 
@@ -56,15 +57,15 @@ impl fmt::Debug for Subnet {
     }
 }
 
-fn show(subnet: &ban_list::Subnet, f: &mut fmt::Formatter<'_>) -> fmt::Result {
+fn show(subnet: &ProperSubnet, f: &mut fmt::Formatter<'_>) -> fmt::Result {
     let mut text = vec::Vec::new(Global);
-    ban_list::put_subnet(subnet, &mut text).map_err(|_| fmt::Error)?;
+    subnet.put(&mut text).map_err(|_| fmt::Error)?;
     crate::address::pad(f, &text)
 }
 
 /// A subnet that is banned for a time.
 #[derive(Clone, Copy, Debug, PartialEq, Eq)]
-pub struct Ban(ban_list::Ban);
+pub struct Ban(ProperBan);
 
 impl Ban {
     /// Returns when the ban was made, in seconds since 1970.
@@ -75,7 +76,7 @@ impl Ban {
     /// assert_eq!(bans.iter().next().unwrap().created(), 5);
     /// ```
     pub fn created(&self) -> u32 {
-        self.0.created
+        self.0.ban().created
     }
 
     /// Returns when the ban is over, in seconds since 1970.
@@ -86,7 +87,7 @@ impl Ban {
     /// assert_eq!(bans.iter().next().unwrap().until(), 10);
     /// ```
     pub fn until(&self) -> u32 {
-        self.0.until
+        self.0.ban().until
     }
 
     /// Returns the address of the subnet, and how many of its bits count.
@@ -97,14 +98,15 @@ impl Ban {
     /// assert_eq!(bans.iter().next().unwrap().range(), ("10.0.0.0".parse().unwrap(), 8));
     /// ```
     pub fn range(&self) -> (Address, u16) {
-        (Address(self.0.subnet.addr), self.0.subnet.len)
+        let subnet = self.0.ban().subnet;
+        (Address(subnet.addr), subnet.len)
     }
 }
 
 /// Writes the subnet.
 impl fmt::Display for Ban {
     fn fmt(&self, f: &mut fmt::Formatter<'_>) -> fmt::Result {
-        show(&self.0.subnet, f)
+        show(&self.0.subnet(), f)
     }
 }
 
@@ -199,7 +201,7 @@ impl Bans {
     /// assert_eq!(bans.covering(&"10.1.2.3".parse().unwrap(), 1_700_000_000), None);
     /// ```
     pub fn covering(&self, address: &Address, now: u32) -> Option<Ban> {
-        self.0.covering(&address.0, now).copied().map(Ban)
+        ProperBan::covering(&self.0, &address.0, now).map(Ban)
     }
 
     /// Returns the bans in their order.
@@ -208,6 +210,29 @@ impl Bans {
     /// assert_eq!(addrman::Bans::new().iter().len(), 0);
     /// ```
     pub fn iter(&self) -> impl ExactSizeIterator<Item = Ban> + '_ {
-        self.0.bans().iter().copied().map(Ban)
+        Listed {
+            bans: &self.0,
+            left: 0..self.0.bans().len(),
+        }
     }
 }
+
+/// The bans of a list whose indices are left.
+struct Listed<'a> {
+    bans: &'a ban_list::Bans,
+    left: Range<usize>,
+}
+
+impl Iterator for Listed<'_> {
+    type Item = Ban;
+
+    fn next(&mut self) -> Option<Ban> {
+        ProperBan::at(self.bans, self.left.next()?).map(Ban)
+    }
+
+    fn size_hint(&self) -> (usize, Option<usize>) {
+        self.left.size_hint()
+    }
+}
+
+impl ExactSizeIterator for Listed<'_> {}
