@@ -35,6 +35,10 @@
 //! random bits takes a generator. A call that needs memory and gets none says so, and leaves what
 //! it was called on as it was, unless it says otherwise.
 //!
+//! A `peers.dat` is written and read with this crate's own checksum of the asmap. So a file of a
+//! Bitcoin Core node that uses an asmap is read as one that was placed by another asmap, and its
+//! new records are placed again.
+//!
 //! # What is proved
 //!
 //! The functions below this crate's own types are those of a program in Rattle, Rust with

@@ -338,8 +338,11 @@ impl AddrMan {
     }
 
     /// Samples peers to announce in random order: at most `max`, and at most `percent` percent of
-    /// all. `None` is no limit. Bitcoin Core answers getaddr with at most 1000 and 23 percent, and
-    /// makes one sample a day for all that ask over one network and socket.
+    /// all. `None` is no limit. Bitcoin Core answers getaddr with at most 1000 and 23 percent.
+    ///
+    /// Do not answer each request by a new sample: whoever asks often enough then sees most of the
+    /// tables. Keep one sample for all that ask over one network and socket, and make the next a
+    /// day later, as Bitcoin Core does.
     ///
     /// # Errors
     ///
