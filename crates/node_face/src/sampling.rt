@@ -1,5 +1,5 @@
 ghost use Rattle.std.specs.Prelude.{◌≡◌, IfOk, OnErr, length};
-ghost use Rattle.node_face.specs.Sampling.{IsSample};
+ghost use Rattle.node_face.specs.Sampling.{IsSample, next_words};
 
 use net_addr::NetSet;
 use picking::{Peers, SampleFault};
@@ -9,8 +9,10 @@ use std::hash::BuildHasher;
 use tables::{Memory, Tables};
 
 /// Draws random words.
+#[tactic(auto, using(crate::proofs::Words::words_more))]
 fn words_of<R: Rng>(alloc: Global, count: u32, rng: &mut R) -> Result<Vec<u64>, Memory>
     ensures count { IfOk result (λ words. length words.items ≡ count) }
+    ensures words { IfOk result (λ words. words.items ≡ next_words count (R.stream rng.old)) }
 {
     let mut words = Vec::with_capacity(alloc, count as usize)?;
     for _ in 0..count {
@@ -32,7 +34,7 @@ pub fn sample<H: BuildHasher, R: Rng>(
     now: u32,
 ) -> Result<Peers, Memory>
     ensures sample { IfOk result (λ peers.
-        IsSample tables.old max percent classes now peers tables.new) }
+        IsSample (R.stream rng.old) tables.old max percent classes now peers tables.new) }
     ensures err { OnErr result (tables.new ≡ tables.old) }
 {
     let counts = tables.counts();
