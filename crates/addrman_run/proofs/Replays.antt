@@ -25,14 +25,14 @@ use Rattle.addrman_run.proofs.FileIndexes.{file-below}
 use Rattle.addrman_run.proofs.Reopening.{reopens}
 use Rattle.addrman_run.specs.Opening.{Opened, Opens, file_in, places_of}
 use Rattle.addrman_run.specs.Opening.Opens.{from_file, from_key}
-use Rattle.causes.specs.Kept.{IsOpening, KeepsCauses}
-use Rattle.causes.proofs.Laws.{keeps_causes}
-use Rattle.laws.specs.LostLines.{KeepsLosses}
+use Rattle.log_laws.specs.Kept.{IsOpening, KeepsCauses}
+use Rattle.log_laws.proofs.Laws.{keeps_causes}
+use Rattle.log_laws.specs.LostLines.{KeepsLosses}
 use Rattle.table_laws.specs.Openings.{KeepsOpened}
-use Rattle.laws.specs.Shares.{KeepsShares}
+use Rattle.log_laws.specs.Shares.{KeepsShares}
 use Rattle.table_laws.proofs.OpeningOf.{keeps_at_opening}
-use Rattle.laws.proofs.RunsOf.{keeps_losses}
-use Rattle.laws.proofs.SharesOf.{keeps_shares}
+use Rattle.log_laws.proofs.RunsOf.{keeps_losses}
+use Rattle.log_laws.proofs.SharesOf.{keeps_shares}
 use Rattle.placing.specs.Places.{Places}
 use Rattle.table_machine.specs.Sound.{IsSound}
 use Rattle.manager.specs.Machine.{Machine}

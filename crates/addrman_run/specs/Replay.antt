@@ -9,10 +9,10 @@ use Rattle.host_io.specs.PerName.{under}
 use Rattle.host_io.specs.Reading.{TakesAtMost}
 use Rattle.host_io.specs.declared.name.Name.TheVariants as name
 use Rattle.asmap_vm.specs.Asmap.{Asmap}
-use Rattle.causes.specs.Kept.{IsAfter, KeepsCauses}
-use Rattle.laws.specs.LostLines.{KeepsLosses}
+use Rattle.log_laws.specs.Kept.{IsAfter, KeepsCauses}
+use Rattle.log_laws.specs.LostLines.{KeepsLosses}
 use Rattle.table_laws.specs.Openings.{KeepsOpened}
-use Rattle.laws.specs.Shares.{KeepsShares}
+use Rattle.log_laws.specs.Shares.{KeepsShares}
 use Rattle.log_lines.specs.Spelling.{HasCommandFault}
 use Rattle.log_run.specs.Run.{Ran, Run}
 use Rattle.log_run.specs.declared.end.LogEnd.{LogEnd}

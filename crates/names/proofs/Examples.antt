@@ -2,7 +2,7 @@
 -- unit tests (net_tests.cpp), computed over the definitions.
 use Rattle.std.proofs.Common.{◌≡◌, [], ◌∷◌, codes, refl}
 use Rattle.net_addr.specs.declared.net.Net.TheVariants.{Onion, I2p}
-use Rattle.sha3_short.specs.Keccak.{block_lane, chi, digest, keccak_f, lanes, moved, padded_block, padded_byte, parity, sha3_256, theta}
+use Rattle.names.specs.Keccak.{block_lane, chi, digest, keccak_f, lanes, moved, padded_block, padded_byte, parity, sha3_256, theta}
 use Rattle.names.specs.Base32.{base32}
 use Rattle.names.specs.Name.{encoded, name_by}
 

@@ -9,7 +9,7 @@ use Rattle.net_addr.specs.declared.net.Net.{Net}
 use Rattle.net_addr.specs.declared.net.Net.TheVariants.{Unroutable, Ipv4, Ipv6, Onion, I2p, Cjdns, Internal}
 use Rattle.net_addr.proofs.Bits.{AllBytes}
 use Rattle.net_addr.proofs.Bytes.{AllBytes-All}
-use Rattle.sha3_short.specs.Keccak.{digest, keccak_f, lanes, padded_block, sha3_256}
+use Rattle.names.specs.Keccak.{digest, keccak_f, lanes, padded_block, sha3_256}
 use Rattle.names.specs.Base32.{base32}
 use Rattle.names.specs.Inside.{decoded}
 use Rattle.names.specs.Name.{HasLetters, IsLettered, checksum, encoded, letters_of}

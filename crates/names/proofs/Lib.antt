@@ -7,3 +7,5 @@ pub mod Printed
 pub mod Readings
 mod Examples
 mod Checksums
+pub mod Filling
+mod StandardFacts

@@ -8,7 +8,7 @@ use Rattle.net_addr.specs.OldForm.{address, from_v1}
 use Rattle.net_addr.specs.Text.{ipv4_text, ipv6_text, IsIpv6Text, IsDottedText}
 use Rattle.net_addr.specs.declared.net.Net.{Net}
 use Rattle.net_addr.specs.declared.net.Net.TheVariants.{Unroutable, Ipv4, Ipv6, Onion, I2p, Cjdns, Internal}
-use Rattle.sha3_short.specs.Keccak.{sha3_256}
+use Rattle.names.specs.Keccak.{sha3_256}
 use Rattle.names.specs.Base32.{base32}
 
 -- the first two bytes of a hash of a public key and the version, which is 3 (rend-spec-v3, section

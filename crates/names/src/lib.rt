@@ -12,10 +12,12 @@
 #![tactic(auto)]
 
 mod base32;
+mod keccak;
 mod law;
 mod name;
 mod print;
 mod read;
+mod sha3;
 mod text;
 
 pub use law::{checksums_are_determined, texts_have_one_meaning};

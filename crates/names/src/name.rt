@@ -8,9 +8,9 @@ ghost use Rattle.names.specs.Inside.{decoded};
 ghost use Rattle.names.specs.Name.{HasLetters, IsLettered, checksum, encoded, letters_of};
 
 use crate::base32::{decode, encode};
+use crate::sha3::sha3_256;
 use arrayvec::ArrayVec;
 use net_addr::{Net, NetAddr, append};
-use sha3_short::sha3_256;
 
 /// Returns the bytes whose hash has the checksum of a public key.
 fn message(key: &[u8]) -> [u8; 48]

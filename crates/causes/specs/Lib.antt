@@ -1,4 +1,0 @@
-pub mod Accepted
-pub mod Buckets
-pub mod Tried
-pub mod Kept

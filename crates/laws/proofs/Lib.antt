@@ -1,4 +1,0 @@
-pub mod LinesOf
-pub mod PeersOf
-pub mod RunsOf
-pub mod SharesOf

@@ -1,2 +1,0 @@
-pub mod LostLines
-pub mod Shares

@@ -1,0 +1,14 @@
+ghost use Rattle.std.specs.Prelude.{ℕ, List, Option};
+ghost use Rattle.placing.specs.Places.{Places};
+ghost use Rattle.peer_rec.specs.Snapshot.{Snapshot};
+ghost use Rattle.session.specs.State.{SessionState};
+ghost use Rattle.log_laws.specs.Kept.{IsOpening, KeepsCauses};
+
+/// Whatever lines are carried out, after each of them: the tables are sound; each bucket of the new
+/// table that a record is in has a cause; and sources of some groups reach 64 buckets a group at
+/// most. A record leaves the tried table only for another one of its slot, by `good` with `force`
+/// or by `resolve`.
+pub fn runs_keep_causes()
+    ensures { (file : Option Snapshot) (places : Places) (st : SessionState)
+        (lines : List (List ℕ)) → IsOpening file places st → KeepsCauses file places st lines }
+{}

@@ -1,0 +1,23 @@
+//! What a run of a log keeps, whatever its lines: why a record is in a bucket, how many buckets the
+//! sources of some groups reach, when a record leaves the tried table, and with what cause one is
+//! lost. There is no program here, only definitions and laws.
+//!
+//! Proved:
+//! - `runs_keep_causes`: after each line the tables are sound, each bucket has a cause, sources of
+//!   some groups reach 64 buckets a group at most, and a tried record stays unless one of its slot
+//!   displaces it.
+//! - `groups_reach_few`: of the random words that select a bucket, few lead to records of these
+//!   groups, or to those that sources of these groups put there.
+//! - `runs_lose_with_causes`: each record stays, or is lost in a line with a cause, and the counts
+//!   agree.
+//!
+//! Not said: how likely a pick is one of an attacker's peers; `risk_laws` says it of tables.
+#![tactic(auto)]
+
+mod causes;
+mod groups;
+mod losses;
+
+pub use causes::runs_keep_causes;
+pub use groups::groups_reach_few;
+pub use losses::runs_lose_with_causes;
