@@ -36,7 +36,9 @@ def main() -> int:
     said: list[str] = []
     try:
         words = changed_folder(sys.argv[1:])
-        code, text = command.run(plain_words(words), lambda: os.read(0, MAXIMUM_PIECE), write, Folder(), said)
+        paths: dict[str, str] = {}
+        plain = plain_words(words, paths)
+        code, text = command.run(plain, lambda: os.read(0, MAXIMUM_PIECE), write, Folder(paths), said)
     except Stop as stop:
         words, code, text = sys.argv[1:], stop.code, stop.text
     lines = [line for line in (text, *said) if line]

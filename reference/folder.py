@@ -22,9 +22,10 @@ class Failed(Exception):
 
 
 class Folder:
-    """The current folder. It has a file open, and itself while it is locked."""
+    """The current folder, with files of other paths in the place of some. It has a file open, and itself while it is locked."""
 
-    def __init__(self):
+    def __init__(self, paths: dict[str, str] | None = None):
+        self.paths = paths or {}
         self.file = self.folder = -1
 
     def close(self):
@@ -35,11 +36,13 @@ class Folder:
         self.file = self.folder = -1
 
     def size(self, name: str) -> int | None:
-        """The length of a file, None if there is none. It is open then."""
+        """The length of a file, None if there is none. It is open then. One that an option names has to be there."""
         self.close()
         try:
-            self.file = os.open(name, os.O_RDONLY | os.O_NONBLOCK | os.O_CLOEXEC)
+            self.file = os.open(self.paths.get(name, name), os.O_RDONLY | os.O_NONBLOCK | os.O_CLOEXEC)
         except FileNotFoundError:
+            if name in self.paths:
+                raise Stop(14, f"{name} is missing")
             return None
         except OSError:
             raise Failed

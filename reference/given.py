@@ -6,6 +6,11 @@ from folder import Stop
 from text import read_digits
 
 READ_PEERS = ("replay", "opener", "show", "picture", "raw", "info", "groups", "diff")
+# The options that name a file: in whose place it is read, and the commands that take the option.
+OTHER_FILES = {"--peers": ("peers.dat", "show picture raw info groups diff".split()),
+               "--asmap": ("asmap.dat", "picture raw info groups diff check lookup decompile address".split()),
+               "--bans": ("banlist.json", "banned bans".split())}
+NO_ARGUMENT = "--"
 
 
 def changed_folder(arguments: list[str]) -> list[str]:
@@ -48,8 +53,31 @@ def with_key(words: list[str]) -> list[str]:
     return found
 
 
-def plain_words(arguments: list[str]) -> list[str]:
-    """The arguments of the run."""
+def without_files(command: str, words: list[str], paths: dict[str, str]) -> list[str]:
+    """Arguments without the options that name a file; their paths go to `paths`. `diff` keeps `--peers`, which may lack its file."""
+    found, rest = [], list(words)
+    while rest:
+        word = rest.pop(0)
+        option, equals, path = word.partition("=")
+        name, commands = OTHER_FILES.get(option, ("", ()))
+        if command not in commands:
+            found.append(word)
+            continue
+        if command == "diff" and option == "--peers":
+            found.append(option)
+            if not equals and (not rest or rest[0].startswith("-")):
+                continue
+        if not equals:
+            path = rest.pop(0) if rest else ""
+        if path in ("", "-") or name in paths:
+            found.append(NO_ARGUMENT)
+        else:
+            paths[name] = path
+    return found
+
+
+def plain_words(arguments: list[str], paths: dict[str, str]) -> list[str]:
+    """The arguments of the run. The paths of files that are read in the place of others go to `paths`."""
     if not arguments:
         return arguments
     command, *rest = arguments
@@ -60,4 +88,6 @@ def plain_words(arguments: list[str]) -> list[str]:
     if command in READ_PEERS and "--core" in rest:
         at = rest.index("--core")
         rest = ["--core", *rest[:at], *rest[at + 1:]]
-    return [command, *(with_key(rest) if command in ("replay", "opener") else rest)]
+    if command in ("replay", "opener"):
+        return [command, *with_key(rest)]
+    return [command, *without_files(command, rest, paths)]

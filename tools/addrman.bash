@@ -26,15 +26,24 @@ _addrman() {
         mapfile -t COMPREPLY < <(compgen -W "$chains" -- "$word")
         return
     fi
-    if [[ $before == --key-file ]]; then
+    if [[ $before == --key-file || $before == --asmap || $before == --bans ]] ||
+        [[ $before == --peers && ${COMP_WORDS[at]} != diff ]]; then
         mapfile -t COMPREPLY < <(compgen -f -- "$word")
+        return
+    fi
+    if [[ $before == --peers && $word != -* ]]; then
+        mapfile -t COMPREPLY < <(compgen -f -W "--net --magic --core --asmap" -- "$word")
         return
     fi
     case ${COMP_WORDS[at]} in
         replay | opener) mapfile -t COMPREPLY < <(compgen -W "--key --key-file --net --magic --core" -- "$word") ;;
-        show) mapfile -t COMPREPLY < <(compgen -W "--net --magic --no-key --core" -- "$word") ;;
-        picture | raw | info | groups) mapfile -t COMPREPLY < <(compgen -W "--net --magic --core" -- "$word") ;;
-        diff) mapfile -t COMPREPLY < <(compgen -W "--peers --net --magic --core" -- "$word") ;;
+        show) mapfile -t COMPREPLY < <(compgen -W "--net --magic --no-key --core --peers" -- "$word") ;;
+        picture | raw | info | groups)
+            mapfile -t COMPREPLY < <(compgen -W "--net --magic --core --peers --asmap" -- "$word")
+            ;;
+        diff) mapfile -t COMPREPLY < <(compgen -W "--peers --net --magic --core --asmap" -- "$word") ;;
+        check | lookup | decompile | address) mapfile -t COMPREPLY < <(compgen -W "--asmap" -- "$word") ;;
+        banned | bans) mapfile -t COMPREPLY < <(compgen -W "--bans" -- "$word") ;;
         help | --help | -h) mapfile -t COMPREPLY < <(compgen -W "$commands" -- "$word") ;;
     esac
 }

@@ -1,4 +1,5 @@
-use hints::expected_text;
+use hints::{Paths, expected_text};
+use host_io::Name;
 use std::alloc::{AllocError, Global};
 use std::fs::File;
 use std::io;
@@ -16,12 +17,50 @@ static PEERS_COMMANDS: [&str; 8] = [
     "replay", "opener", "show", "picture", "raw", "info", "groups", "diff",
 ];
 
+/// The commands that take `--peers FILE`.
+static PEERS_FILE: [&str; 6] = ["show", "picture", "raw", "info", "groups", "diff"];
+
+/// The commands that take `--asmap FILE`.
+static ASMAP_FILE: [&str; 9] = [
+    "picture",
+    "raw",
+    "info",
+    "groups",
+    "diff",
+    "check",
+    "lookup",
+    "decompile",
+    "address",
+];
+
+/// The commands that take `--bans FILE`.
+static BANS_FILE: [&str; 2] = ["banned", "bans"];
+
+/// An argument that no command takes.
+const NO_ARGUMENT: &str = "--";
+
 /// The arguments of a run: those of the command line, but for what the program does around `run`.
 #[derive(Drop)]
-pub(crate) struct Given {
+pub(crate) struct Given<'a> {
     pub words: Vec<String>,
-    /// What is said of a file with a key that cannot be read. `run` refuses the arguments then.
+    /// The files that are read in the place of those of the current folder.
+    pub paths: Paths<'a>,
+    /// What is said of an option that the program takes itself, if its value is wrong. `run` refuses
+    /// the arguments then.
     pub hint: String,
+}
+
+/// What the next argument is.
+#[derive(Clone, Copy)]
+enum Next {
+    /// An argument that no option waits for.
+    Any,
+    /// The file of `--key-file`.
+    KeyFile,
+    /// The file that is read in the place of this one.
+    File(Name),
+    /// The same, unless it begins as an option.
+    FileOrOption(Name),
 }
 
 /// Returns the folder of the option that the arguments begin with, and how many arguments it is.
@@ -38,17 +77,19 @@ pub(crate) fn folder_of(words: &[String]) -> Option<(&str, usize)> {
     }
 }
 
-impl Given {
+impl<'a> Given<'a> {
     /// Makes the arguments of a run: `help COMMAND` if an option asks for it, `version` for `-V`,
     /// and for `--key-file FILE` the key in the file, so that the list of processes doesn't have it.
-    /// `--core` comes first among the options, wherever it was.
+    /// `--core` comes first among the options, wherever it was. Options that name a file to be read
+    /// are left out.
     pub(crate) fn of<R: Files>(
         alloc: Global,
         rt: &R,
-        words: &[String],
-    ) -> Result<Given, AllocError> {
+        words: &'a [String],
+    ) -> Result<Given<'a>, AllocError> {
         let mut given = Given {
             words: Vec::new(alloc),
+            paths: Paths::none(),
             hint: String::new(alloc),
         };
         let Some((command, rest)) = words.split_first() else {
@@ -61,32 +102,122 @@ impl Given {
             return Ok(given);
         }
         given.add(alloc, if command == "-V" { "version" } else { command })?;
-        let has_key = command == "replay" || command == "opener";
-        let mut is_file = false;
-        let mut is_core = reads_peers(command) && has_core(rest);
+        given.add_all(alloc, rt, command, rest)?;
+        Ok(given)
+    }
+
+    /// Adds the arguments after the command.
+    fn add_all<R: Files>(
+        &mut self,
+        alloc: Global,
+        rt: &R,
+        command: &str,
+        rest: &'a [String],
+    ) -> Result<(), AllocError> {
+        let mut is_core = is_among(&PEERS_COMMANDS, command) && has_core(rest);
         if is_core {
-            given.add(alloc, "--core")?;
+            self.add(alloc, "--core")?;
         }
+        let mut next = Next::Any;
         for word in rest {
             let word = word.as_str();
             if is_core && word == "--core" {
                 is_core = false;
-            } else if is_file {
-                given.add_key(alloc, rt, word)?;
-                is_file = false;
-            } else if has_key && word == "--key-file" {
-                is_file = true;
-            } else if has_key && word.starts_with("--key-file=") {
-                given.add_key(alloc, rt, word.strip_prefix("--key-file=").unwrap_or(""))?;
             } else {
-                given.add(alloc, word)?;
+                next = self.take(alloc, rt, command, next, word)?;
             }
         }
-        if is_file {
-            given.add(alloc, "--key-file")?;
-            given.hint = String::from_str(alloc, "--key-file: expected a file")?;
+        match next {
+            Next::KeyFile => {
+                self.add(alloc, "--key-file")?;
+                self.hint = String::from_str(alloc, "--key-file: expected a file")?;
+                Ok(())
+            }
+            Next::File(name) => self.refuse(alloc, name, "expected a file"),
+            _ => Ok(()),
         }
-        Ok(given)
+    }
+
+    /// Adds an argument, or does what it asks for. Returns what comes after it.
+    fn take<R: Files>(
+        &mut self,
+        alloc: Global,
+        rt: &R,
+        command: &str,
+        next: Next,
+        word: &'a str,
+    ) -> Result<Next, AllocError> {
+        match next {
+            Next::KeyFile => {
+                self.add_key(alloc, rt, word)?;
+                return Ok(Next::Any);
+            }
+            Next::File(name) => return self.set_path(alloc, name, word),
+            Next::FileOrOption(name) if !word.starts_with("-") => {
+                return self.set_path(alloc, name, word);
+            }
+            _ => {}
+        }
+        let (flag, value) = match word.split_once('=') {
+            Some((flag, value)) => (flag, Some(value)),
+            None => (word, None),
+        };
+        if let Some(name) = file_option(command, flag) {
+            return self.take_file(alloc, command, name, value);
+        }
+        if flag != "--key-file" || !(command == "replay" || command == "opener") {
+            self.add(alloc, word)?;
+            return Ok(Next::Any);
+        }
+        match value {
+            Some(path) => {
+                self.add_key(alloc, rt, path)?;
+                Ok(Next::Any)
+            }
+            None => Ok(Next::KeyFile),
+        }
+    }
+
+    /// Takes an option that names a file, perhaps with its value. `diff` has `--peers` without a
+    /// file, too, and knows by it that it reads one.
+    fn take_file(
+        &mut self,
+        alloc: Global,
+        command: &str,
+        name: Name,
+        value: Option<&'a str>,
+    ) -> Result<Next, AllocError> {
+        let is_flag = command == "diff" && name == Name::Peers;
+        if is_flag {
+            self.add(alloc, "--peers")?;
+        }
+        match value {
+            Some(path) => self.set_path(alloc, name, path),
+            None if is_flag => Ok(Next::FileOrOption(name)),
+            None => Ok(Next::File(name)),
+        }
+    }
+
+    /// Has this path read in the place of a file. It is not `-`, and comes once.
+    fn set_path(&mut self, alloc: Global, name: Name, path: &'a str) -> Result<Next, AllocError> {
+        if path.is_empty() || path == "-" {
+            self.refuse(alloc, name, "expected a file")?;
+        } else if self.paths.of(name).is_some() {
+            self.refuse(alloc, name, "it comes twice")?;
+        } else {
+            match name {
+                Name::Peers => self.paths.peers = Some(path),
+                Name::Asmap => self.paths.asmap = Some(path),
+                _ => self.paths.bans = Some(path),
+            }
+        }
+        Ok(Next::Any)
+    }
+
+    /// Adds an argument that `run` refuses, and says why.
+    fn refuse(&mut self, alloc: Global, name: Name, why: &str) -> Result<(), AllocError> {
+        self.hint = format!(in alloc; "{}: {why}", flag_of(name))?;
+        self.add(alloc, NO_ARGUMENT)
     }
 
     /// Adds an argument.
@@ -129,14 +260,38 @@ impl Given {
     }
 }
 
-/// Returns whether a command reads peers.dat.
-fn reads_peers(command: &str) -> bool {
-    for name in PEERS_COMMANDS {
-        if name == command {
+/// Returns whether a command is one of these.
+fn is_among(names: &[&'static str], command: &str) -> bool {
+    for name in names {
+        if *name == command {
             return true;
         }
     }
     false
+}
+
+/// Returns the option that names the file which is read in the place of this one.
+fn flag_of(name: Name) -> &'static str {
+    match name {
+        Name::Peers => "--peers",
+        Name::Asmap => "--asmap",
+        _ => "--bans",
+    }
+}
+
+/// Returns the file in whose place the file of an option of this command is read.
+fn file_option(command: &str, flag: &str) -> Option<Name> {
+    let (name, commands) = match flag {
+        "--peers" => (Name::Peers, PEERS_FILE.as_slice()),
+        "--asmap" => (Name::Asmap, ASMAP_FILE.as_slice()),
+        "--bans" => (Name::Bans, BANS_FILE.as_slice()),
+        _ => return None,
+    };
+    if is_among(commands, command) {
+        Some(name)
+    } else {
+        None
+    }
 }
 
 /// Returns whether one of the arguments is `--core`.

@@ -4,15 +4,18 @@
 //! Proved: the functions are safe and return. An `Ended` has the exit code of the status that it
 //! was made of, and reports it (`code`).
 //!
-//! Tested only: that this is the status of `run`, and that its line is written and then those of
-//! `hints`, but for a run whose output nobody reads any more.
+//! Tested only: that this is the status of `run`, or that a file which an option names is missing,
+//! and that its line is written and then those of `hints`, but for a run whose output nobody reads
+//! any more.
 #![tactic(auto)]
 
 mod ended;
 mod given;
+mod placed;
 mod second;
 
 use crate::given::{Given, folder_of};
+use crate::placed::Placed;
 use crate::second::{Facts, second_lines};
 use addrman_run::{Learned, Status, run_learning, status_line};
 use arguments::help_text;
@@ -90,7 +93,8 @@ fn without_folder(alloc: Global, folder: &str, error: io::Error) -> Ended {
 }
 
 /// Runs the program, which reads standard input and writes standard output, and returns how it
-/// ended. `-C DIR` or `--dir=DIR` before the command is the folder of its files.
+/// ended. `-C DIR` or `--dir=DIR` before the command is the folder of its files; `--peers FILE`,
+/// `--asmap FILE` and `--bans FILE` are read in the place of files of that folder.
 pub fn run_program(rt: &HostRuntime) -> Ended {
     let Ok(_streams) = open_closed_streams(rt) else {
         return Ended::before_the_run("addrman: the standard streams cannot be opened\n");
@@ -117,18 +121,19 @@ pub fn run_program(rt: &HostRuntime) -> Ended {
 }
 
 /// Runs the program with these arguments over the current folder, a log and an output, and returns
-/// how it ended.
+/// how it ended. The file of an option is missing for each command that looks for it.
 fn run_over<I: Read + Drop, O: Write + Drop>(
     rt: &HostRuntime,
     hasher: RandomState,
-    given: &Given,
+    given: &Given<'_>,
     input: I,
     output: O,
 ) -> Ended {
     let alloc = rt.alloc();
     let words = given.words.as_slice();
     let tells_saves = words.first().is_some_and(|word| word.as_str() == "replay");
-    let mut folder = NotedFolder::make(rt, tells_saves);
+    let placed = Placed::make(rt, given.paths);
+    let mut folder = NotedFolder::make(&placed, tells_saves);
     let mut log = StdSource::make(input);
     let mut out = StdSink::make(output);
     let mut learned = Learned::make(alloc);
@@ -141,11 +146,18 @@ fn run_over<I: Read + Drop, O: Write + Drop>(
         &mut out,
         &mut learned,
     );
-    let failure = folder.failure_text().unwrap_or(String::new(alloc));
+    let failure = folder
+        .failure_text(&given.paths)
+        .unwrap_or(String::new(alloc));
+    let status = match placed.missing() {
+        Some(name) => Status::NoFile { name },
+        None => status,
+    };
     let facts = Facts {
         words,
         hint: given.hint.as_str(),
         learned: &learned,
+        paths: &given.paths,
         input: log.error(),
         output: out.error(),
         failure: failure.as_str(),

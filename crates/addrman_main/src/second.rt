@@ -1,8 +1,9 @@
 use addrman_run::{Learned, PeersFault, Status, SumFit, TablesFault};
 use hints::{
-    Saves, asmap_hint, bans_hint, compile_hint, duplicate_hint, line_hint, missing_hint,
-    peers_hint, stream_hint, table_hint, usage_hint,
+    Paths, Saves, asmap_hint, bans_hint, compile_hint, duplicate_hint, line_hint, missing_hint,
+    peers_hint, place_hint, stream_hint, table_hint, usage_hint,
 };
+use host_io::Name;
 use std::alloc::{AllocError, Global};
 use std::io;
 use std::io::ErrorKind;
@@ -16,6 +17,8 @@ pub(crate) struct Facts<'a> {
     pub hint: &'a str,
     /// What the run learned.
     pub learned: &'a Learned,
+    /// The files that are read in the place of those of the current folder.
+    pub paths: &'a Paths<'a>,
     /// Why standard input failed.
     pub input: Option<io::Error>,
     /// Why standard output failed.
@@ -53,6 +56,10 @@ fn put_lines(
 ) -> Result<(), AllocError> {
     let hint = hint_of(alloc, status, facts)?;
     put_line(hint.as_str(), text)?;
+    if let Some(name) = refused_name(status) {
+        let hint = place_hint(alloc, name, facts.paths)?;
+        put_line(hint.as_str(), text)?;
+    }
     if !matches!(status, Status::PeersRefused(_)) {
         if facts.learned.is_key_unused() {
             put_line(
@@ -81,6 +88,16 @@ fn put_line(hint: &str, text: &mut String) -> Result<(), AllocError> {
     text.push_str("\n")
 }
 
+/// Returns the file that a status refuses, if it is one that may have another path.
+fn refused_name(status: &Status) -> Option<Name> {
+    match status {
+        Status::PeersRefused(_) => Some(Name::Peers),
+        Status::AsmapRefused(_) => Some(Name::Asmap),
+        Status::BansRefused(_) => Some(Name::Bans),
+        _ => None,
+    }
+}
+
 /// Returns what is said of a status, or an empty text.
 fn hint_of(alloc: Global, status: &Status, facts: &Facts<'_>) -> Result<String, AllocError> {
     let learned = facts.learned;
@@ -94,7 +111,7 @@ fn hint_of(alloc: Global, status: &Status, facts: &Facts<'_>) -> Result<String, 
         Status::TableRefused(TablesFault::Rows(fault)) => table_hint(alloc, fault, learned.text()),
         Status::TableRefused(TablesFault::Compile(fault)) => compile_hint(alloc, fault),
         Status::BansRefused(fault) => bans_hint(alloc, fault, learned.text()),
-        Status::NoFile { name } => missing_hint(alloc, *name),
+        Status::NoFile { name } => missing_hint(alloc, *name, facts.paths),
         Status::ReadFault => failed_hint(alloc, "input", facts.input),
         Status::WriteFault => failed_hint(alloc, "output", facts.output),
         Status::DiskFault => String::from_str(alloc, facts.failure),

@@ -68,6 +68,7 @@ Writes   a line for the file, with its key unless --no-key is given, and one for
          record.
 CHAIN    main, test, testnet4, signet or regtest; main if it is left out. In place of
          --net may be --magic and the 8 hexadecimal digits that its files begin with.
+FILE     --peers FILE is read in the place of peers.dat.
 --core   changes nothing here: no checksum of asmap.dat is compared.
 Codes    0 done, 2 bad usage, 4 peers.dat is refused, 8 the output cannot be written,
          9 the folder failed, 12 out of memory, 14 peers.dat is missing.
@@ -83,6 +84,7 @@ Writes   one SVG: both tables, with the six source groups that have the most slo
          colours, and a list of them.
 CHAIN    main, test, testnet4, signet or regtest; main if it is left out. In place of
          --net may be --magic and the 8 hexadecimal digits that its files begin with.
+FILE     --peers FILE and --asmap FILE are read in the place of peers.dat and asmap.dat.
 --core   takes the checksum of asmap.dat in peers.dat as Bitcoin Core 24 to 30 does.
 Codes    0 done, 2 bad usage, 4 peers.dat is refused, 5 asmap.dat is refused,
          8 the output cannot be written, 9 the folder failed, 12 out of memory,
@@ -98,6 +100,7 @@ Reads    peers.dat; asmap.dat, if it is there.
 Writes   what Bitcoin Core's getrawaddrman returns.
 CHAIN    main, test, testnet4, signet or regtest; main if it is left out. In place of
          --net may be --magic and the 8 hexadecimal digits that its files begin with.
+FILE     --peers FILE and --asmap FILE are read in the place of peers.dat and asmap.dat.
 --core   takes the checksum of asmap.dat in peers.dat as Bitcoin Core 24 to 30 does.
 Codes    0 done, 2 bad usage, 4 peers.dat is refused, 5 asmap.dat is refused,
          8 the output cannot be written, 9 the folder failed, 12 out of memory,
@@ -113,6 +116,7 @@ Reads    peers.dat; asmap.dat, if it is there.
 Writes   what Bitcoin Core's getaddrmaninfo returns.
 CHAIN    main, test, testnet4, signet or regtest; main if it is left out. In place of
          --net may be --magic and the 8 hexadecimal digits that its files begin with.
+FILE     --peers FILE and --asmap FILE are read in the place of peers.dat and asmap.dat.
 --core   takes the checksum of asmap.dat in peers.dat as Bitcoin Core 24 to 30 does.
 Codes    0 done, 2 bad usage, 4 peers.dat is refused, 5 asmap.dat is refused,
          8 the output cannot be written, 9 the folder failed, 12 out of memory,
@@ -129,6 +133,7 @@ Writes   for each group its slots, buckets and records; their sums; how many AS 
          asmap.dat gives the records, and how many of these it gives none.
 CHAIN    main, test, testnet4, signet or regtest; main if it is left out. In place of
          --net may be --magic and the 8 hexadecimal digits that its files begin with.
+FILE     --peers FILE and --asmap FILE are read in the place of peers.dat and asmap.dat.
 --core   takes the checksum of asmap.dat in peers.dat as Bitcoin Core 24 to 30 does.
 Codes    0 done, 2 bad usage, 4 peers.dat is refused, 5 asmap.dat is refused,
          8 the output cannot be written, 9 the folder failed, 12 out of memory,
@@ -153,6 +158,7 @@ pub(crate) const DECOMPILE: Page = (
     "\
 Reads    asmap.dat.
 Writes   rows in the form of prefixes.txt.
+FILE     --asmap FILE is read in the place of asmap.dat.
 Codes    0 done, 2 bad usage, 5 asmap.dat is refused, 8 the output cannot be written,
          9 the folder failed, 12 out of memory, 14 asmap.dat is missing, 17 it has
          more than 2,000,000 rows.
@@ -169,6 +175,7 @@ Writes   what diff of Bitcoin Core's asmap-tool.py prints, but for its powers of
          these are.
 CHAIN    main, test, testnet4, signet or regtest; main if it is left out. In place of
          --net may be --magic and the 8 hexadecimal digits that its files begin with.
+FILE     --peers FILE and --asmap FILE are read in the place of peers.dat and asmap.dat.
 --core   changes nothing here: no checksum of asmap.dat is compared.
 Codes    0 done, 2 bad usage, 4 peers.dat is refused, 5 asmap.dat is refused,
          8 the output cannot be written, 9 the folder failed, 12 out of memory,
@@ -183,6 +190,7 @@ pub(crate) const CHECK: Page = (
     "\
 Reads    asmap.dat.
 Writes   a line with its size.
+FILE     --asmap FILE is read in the place of asmap.dat.
 Codes    0 done, 2 bad usage, 5 asmap.dat is refused, 8 the output cannot be written,
          9 the folder failed, 12 out of memory, 14 asmap.dat is missing.
 ",
@@ -196,6 +204,7 @@ Reads    asmap.dat; with - also standard input, a log with a peer in each line.
 Writes   for each address a line with the number, 0 if asmap.dat gives none, and the
          group in hexadecimal.
 PEER     an address with a port, as 1.2.3.4:8333 or [2001:470::1]:8333.
+FILE     --asmap FILE is read in the place of asmap.dat.
 Codes    0 done, 2 bad usage, 3 a line has an error, 5 asmap.dat is refused, 7 the log
          cannot be read, 8 the output cannot be written, 9 the folder failed, 10 the
          log is too long, 12 out of memory, 13 a line is too long, 14 asmap.dat is
@@ -213,6 +222,7 @@ Writes   a line each: network, address, name, class, whether it is routable, AS 
          left out if asmap.dat gives none, and group in hexadecimal.
 TEXT     a name, as pg6m..ryd.onion or 2001:470::1, or an address as in a log, as
          [2001:470::1], with or without a port.
+FILE     --asmap FILE is read in the place of asmap.dat.
 Codes    0 done, 2 bad usage, 3 a line has an error, 5 asmap.dat is refused, 7 the log
          cannot be read, 8 the output cannot be written, 9 the folder failed, 10 the
          log is too long, 12 out of memory, 13 a line is too long.
@@ -253,6 +263,7 @@ Reads    banlist.json, if it is there.
 Writes   `banned`, the subnet and the time until which it is banned; or `free`.
 PEER     an address with a port, as 1.2.3.4:8333 or [2001:470::1]:8333.
 NOW      a time in seconds since 1970.
+FILE     --bans FILE is read in the place of banlist.json.
 Codes    0 done, 2 bad usage, 8 the output cannot be written, 9 the folder failed,
          12 out of memory, 16 banlist.json is refused.
 ",
@@ -265,6 +276,7 @@ pub(crate) const BANS: Page = (
 Reads    banlist.json, if it is there.
 Writes   what Bitcoin Core's listbanned returns.
 NOW      a time in seconds since 1970.
+FILE     --bans FILE is read in the place of banlist.json.
 Codes    0 done, 2 bad usage, 8 the output cannot be written, 9 the folder failed,
          12 out of memory, 16 banlist.json is refused.
 ",

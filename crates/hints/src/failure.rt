@@ -1,3 +1,4 @@
+use crate::paths::Paths;
 use host_io::{Failure, Tried};
 use std::alloc::{AllocError, Global};
 use std::io::ErrorKind;
@@ -7,6 +8,7 @@ pub fn failure_hint(
     alloc: Global,
     failure: &Failure,
     is_in_use: bool,
+    paths: &Paths<'_>,
 ) -> Result<String, AllocError> {
     if is_in_use {
         return String::from_str(
@@ -15,7 +17,7 @@ pub fn failure_hint(
         );
     }
     let name = match failure.name {
-        Some(name) => name.file_name(),
+        Some(name) => paths.text_of(name),
         None => "the folder",
     };
     if failure.error.kind() == ErrorKind::InvalidInput {

@@ -1,3 +1,4 @@
+use crate::paths::Paths;
 use crate::shown::{MARKED, PACKED, is_marked, is_packed};
 use asmap_compile::{CompileFault, MAX_BITS};
 use asmap_vm::CodeFault;
@@ -70,8 +71,14 @@ fn json_hint(alloc: Global, text: &[u8]) -> Result<String, AllocError> {
     }
 }
 
-/// Says where a file comes from that is missing.
-pub fn missing_hint(alloc: Global, name: Name) -> Result<String, AllocError> {
+/// Says where a file comes from that is missing; of one with a path, that it is the one.
+pub fn missing_hint(alloc: Global, name: Name, paths: &Paths<'_>) -> Result<String, AllocError> {
+    if let Some(path) = paths.of(name) {
+        return format!(in alloc;
+            "{path} is missing: it is read in the place of {}",
+            name.file_name()
+        );
+    }
     let text = match name {
         Name::Asmap => "addrman compile makes it from prefixes.txt of the current folder",
         Name::AsmapOld => "it has to be in the current folder: the asmap of before",
@@ -79,4 +86,12 @@ pub fn missing_hint(alloc: Global, name: Name) -> Result<String, AllocError> {
         _ => "it has to be in the current folder: copy that of a node which does not run",
     };
     String::from_str(alloc, text)
+}
+
+/// Says which file is read in the place of this one, if another is.
+pub fn place_hint(alloc: Global, name: Name, paths: &Paths<'_>) -> Result<String, AllocError> {
+    match paths.of(name) {
+        Some(path) => format!(in alloc; "{path} is read in the place of {}", name.file_name()),
+        None => Ok(String::new(alloc)),
+    }
 }

@@ -2,6 +2,7 @@ ghost use Rattle.std.specs.Prelude.{◌≡◌, ◌≢◌, ◌<◌, ◌≤◌, le
 ghost use Rattle.host_io.specs.Faults.{Rose};
 
 use crate::failure::failure_hint;
+use crate::paths::Paths;
 use host_io::{DirFolder, Failed, Folder, Lock, Name};
 use std::alloc::{AllocError, Global};
 use std::marker::Model;
@@ -55,10 +56,12 @@ impl<'a, R: Files + AllocGlobal + Eprint> NotedFolder<'a, R> {
         self.saves
     }
 
-    /// Returns the text for the last call that failed, or an empty one.
-    pub fn failure_text(&self) -> Result<String, AllocError> {
+    /// Returns the text for the last call that failed, or an empty one. A file of another path is
+    /// called by that.
+    pub fn failure_text(&self, paths: &Paths<'_>) -> Result<String, AllocError> {
+        let is_in_use = self.folder.is_in_use();
         match self.folder.last_failure() {
-            Some(failure) => failure_hint(self.rt.alloc(), &failure, self.folder.is_in_use()),
+            Some(failure) => failure_hint(self.rt.alloc(), &failure, is_in_use, paths),
             None => Ok(String::new(self.rt.alloc())),
         }
     }
@@ -72,7 +75,7 @@ impl<'a, R: Files + AllocGlobal + Eprint> NotedFolder<'a, R> {
         }
         self.saves.failed = self.saves.failed.saturating_add(1);
         self.saves.is_unsaved = true;
-        if let Ok(text) = self.failure_text() {
+        if let Ok(text) = self.failure_text(&Paths::none()) {
             let _ = eprintln!(self.rt; "addrman: not saved: {}", text.as_str());
         }
     }

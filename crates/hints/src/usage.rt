@@ -18,6 +18,43 @@ fn is_flag(form: &str, word: &str) -> bool {
     (word == "--peers" || word == "--no-key") && form.contains(word)
 }
 
+/// An option that names a file to be read, and the commands that have it.
+struct FileOption {
+    flag: &'static str,
+    commands: &'static str,
+}
+
+/// The options that name a file to be read.
+static FILE_OPTIONS: [FileOption; 3] = [
+    FileOption {
+        flag: "--peers",
+        commands: "show, picture, raw, info, groups and diff",
+    },
+    FileOption {
+        flag: "--asmap",
+        commands: "picture, raw, info, groups, diff, check, lookup, decompile and address",
+    },
+    FileOption {
+        flag: "--bans",
+        commands: "banned and bans",
+    },
+];
+
+/// Returns the option of another command, if an argument is one that names a file.
+fn file_option(form: &str, words: &[String]) -> Option<&'static FileOption> {
+    for option in &FILE_OPTIONS {
+        for word in words {
+            let begins = word.as_str().strip_prefix(option.flag);
+            if !form.contains(option.flag)
+                && begins.is_some_and(|rest| rest.is_empty() || rest.starts_with("="))
+            {
+                return Some(option);
+            }
+        }
+    }
+    None
+}
+
 /// Says which argument is wrong, and what is wanted there. The arguments are not those of a
 /// command.
 pub fn usage_hint(alloc: Global, words: &[String]) -> Result<String, AllocError> {
@@ -33,10 +70,18 @@ pub fn usage_hint(alloc: Global, words: &[String]) -> Result<String, AllocError>
             "expected [-C DIR] COMMAND before other options, as in addrman show --net CHAIN",
         );
     }
-    if let Some(form) = Reader::Arguments.find_form(command.as_bytes())
-        && form.contains("--")
-    {
-        return explain_options(alloc, form, after_flag(form, rest));
+    if let Some(form) = Reader::Arguments.find_form(command.as_bytes()) {
+        if let Some(option) = file_option(form, rest) {
+            return format!(in alloc;
+                "{} is no option of {}, but of {}",
+                option.flag,
+                command.as_str(),
+                option.commands
+            );
+        }
+        if form.contains("--") {
+            return explain_options(alloc, form, after_flag(form, rest));
+        }
     }
     if command.as_str() == "help"
         && let [name] = rest
