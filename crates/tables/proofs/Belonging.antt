@@ -5,7 +5,7 @@ use Rattle.placing.specs.Places.{Places}
 use Rattle.slot_grid.specs.Slots.{Slots, new_id, tried_id}
 use Rattle.peer_index.specs.Order.{Order}
 use Rattle.table_machine.specs.Sound.{IsSound}
-use Rattle.tables.specs.declared.waiter.Waiter.{Waiter}
+use Rattle.table_plan.specs.declared.waiter.Waiter.{Waiter}
 use Rattle.tables.specs.Inside.{AreStored, state_with}
 use Rattle.tables.specs.Restored.{AreOf}
 use Rattle.tables.proofs.Listing.{same_records}

@@ -23,7 +23,7 @@ use Rattle.table_machine.specs.Sound.{IsSound}
 use Rattle.table_machine.specs.State.{State, is_new_at, new_rec_at}
 use Rattle.placing.specs.Places.{Places}
 use Rattle.slot_grid.specs.Slots.{Slots, new_id}
-use Rattle.tables.specs.declared.waiter.Waiter.{Waiter}
+use Rattle.table_plan.specs.declared.waiter.Waiter.{Waiter}
 use Rattle.tables.specs.Inside.{AreNumbers, AreStored, record_at, records_below, state_with}
 use Rattle.tables.proofs.Changes.{occupant-some, untried-at}
 use Rattle.tables.specs.Saving.{AreIndexes, LeadTo, new_part, number_id, tried_part}

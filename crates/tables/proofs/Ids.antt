@@ -8,8 +8,9 @@ use Rattle.std.proofs.lemmas.Bool.Decides.{Decides-eqb}
 use Rattle.std.proofs.lemmas.List.Elements.{All-append, All-cons, All-map}
 use Rattle.peer_rec.specs.declared.rec.Rec.{Rec}
 use Rattle.peer_index.specs.Order.{Order, SameOthers, SameRecs, rec_of}
-use Rattle.tables.specs.declared.waiter.Waiter.{Waiter}
-use Rattle.tables.specs.Inside.{AreNumbers, IsIdOf, forget, id_without}
+use Rattle.table_plan.specs.declared.waiter.Waiter.{Waiter}
+use Rattle.tables.specs.Inside.{AreNumbers, IsIdOf}
+use Rattle.table_plan.specs.Waiters.{forget, id_without}
 use Rattle.tables.proofs.Searches.{one_rec, some-of}
 use Rattle.tables.proofs.Records.{HadNumbers}
 

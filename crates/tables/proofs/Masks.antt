@@ -5,7 +5,7 @@ use Rattle.slot_grid.specs.Masks.{IsMask, bit_of}
 use Rattle.slot_grid.specs.Slots.{Slots, new_id, tried_id}
 use Rattle.peer_index.specs.Order.{Order}
 use Rattle.table_machine.specs.State.{new_rec_at, tried_rec_at}
-use Rattle.tables.specs.declared.waiter.Waiter.{Waiter}
+use Rattle.table_plan.specs.declared.waiter.Waiter.{Waiter}
 use Rattle.tables.specs.Inside.{AreStored, state_with}
 use Rattle.tables.proofs.Changes.{occupant-none, occupant-some, tried-none, tried-some}
 

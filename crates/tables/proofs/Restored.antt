@@ -17,7 +17,7 @@ use Rattle.table_machine.proofs.Lists.{AllPairs-from_map, Contains-map, Contains
 use Rattle.table_machine.proofs.Records.{same_record}
 use Rattle.table_machine.proofs.Rising.{filter_whole, pairs_head, pairs_tail}
 use Rattle.tables.specs.Restored.{ArePartsOf, rec_by}
-use Rattle.tables.specs.declared.waiter.Waiter.{Waiter}
+use Rattle.table_plan.specs.declared.waiter.Waiter.{Waiter}
 use Rattle.tables.specs.Inside.{AreSlots, AreStored, record_at, records_below, state_with}
 use Rattle.tables.proofs.Searches.{some_is}
 

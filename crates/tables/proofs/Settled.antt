@@ -18,10 +18,10 @@ use Rattle.table_machine.specs.Sound.{IsSound}
 use Rattle.table_machine.proofs.Counts.{few_in_order}
 use Rattle.table_machine.proofs.Lists.{Contains-filter, Contains-from_filter, Contains-from_map, Contains-head, Contains-map, Contains-tail, find-None, find-Some, find_none_from, find_only}
 use Rattle.table_machine.proofs.Records.{new_at_parts, same_by_peer, same_record, tried_at-is_tried}
-use Rattle.tables.specs.Planned.{IsPlan, dropping, stays}
+use Rattle.table_plan.specs.Planned.{IsPlan, dropping, stays}
 use Rattle.tables.specs.Filled.{HasApart, blank, filled, item_of, rec_at}
 use Rattle.tables.specs.Restored.{ArePartsOf, rec_by}
-use Rattle.tables.proofs.Plans.{at-get, number-is, rising}
+use Rattle.table_plan.proofs.Plans.{at-get, number-is, rising}
 
 not-empty : (xs : List ℕ) (b : ℕ) → Contains xs b → (length xs == 0) ≡ false
 not-empty [] b c = absurd (let within = c.1 in omega arith)

@@ -1,14 +1,12 @@
-ghost use Rattle.std.specs.Prelude.{◌≡◌, slice_get};
-ghost use Rattle.peer_rec.specs.Rec.{buckets_of};
 ghost use Rattle.slot_grid.specs.declared.sizes.TheConstants.{NEW_BUCKETS, TRIED_BUCKETS, SLOTS};
 
 use crate::Store;
-use crate::known::after_success;
 use net_addr::Peer;
 use peer_rec::{Buckets, Good, Place, Rec};
 use std::hash::BuildHasher;
 use std::sync::ledger::Ledger;
 use steps::Steps;
+use table_plan::{after_success, first_bucket};
 
 impl<'a, H: BuildHasher> Store<'a, H> {
     ghost use Rattle.std.specs.Prelude.{◌≡◌, ◌∷◌, ◌<◌, [], None, Some, IsSome, IsSomeAnd, slice_get, ◌+◌, ◌≤◌};
@@ -251,15 +249,5 @@ impl<'a, H: BuildHasher> Store<'a, H> {
         };
         self.index.set(id, rec, steps);
         self.grid.set_tried(bucket, slot, Some(id), steps);
-    }
-}
-
-/// Returns the first bucket of the new table that lists a record, or `None` if none does.
-fn first_bucket(rec: &Rec) -> Option<u16>
-    ensures { result ≡ slice_get (buckets_of rec.now) 0 }
-{
-    match &rec.place {
-        Place::New(buckets) => buckets.items().first().copied(),
-        Place::Tried => None,
     }
 }

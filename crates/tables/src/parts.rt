@@ -3,14 +3,14 @@ ghost use Rattle.placing.specs.Places.{IsPlaces};
 ghost use Rattle.table_machine.specs.Restoring.{duplicate, restored};
 ghost use Rattle.table_machine.specs.Sound.{IsSound};
 ghost use Rattle.tables.specs.Duplicates.{AreFileRecs};
-ghost use Rattle.tables.specs.Planned.{IsPlanned, settled};
+ghost use Rattle.table_plan.specs.Planned.{IsPlanned, settled};
 ghost use Rattle.tables.specs.Restored.{ArePartsOf, IsCause};
 ghost use Rattle.slot_grid.specs.declared.sizes.TheConstants.{ALL_SLOTS};
 ghost use Rattle.peer_index.specs.Order.{IsOrder};
 ghost use Rattle.tables.specs.Filled.{HasApart, filled};
 
 use crate::duplicates::duplicate;
-use crate::{Draft, Memory, Plan, RestoreFault};
+use crate::{Memory, RestoreFault};
 use peer_index::{PeerIndex, PeerSet};
 use peer_rec::Snapshot;
 use placing::Placer;
@@ -19,6 +19,7 @@ use std::alloc::Global;
 use std::hash::BuildHasher;
 use std::sync::ledger::Ledger;
 use steps::Steps;
+use table_plan::{Draft, Plan};
 
 /// What tables are made of: the key and the asmap, the slots, the records in their order, and the
 /// number of the next record.

@@ -1,5 +1,4 @@
 use crate::parts::restore;
-use crate::reach::Reach;
 use crate::{RestoreFault, Store, Tables};
 use arrayvec::ArrayVec;
 use peer_rec::Snapshot;
@@ -8,6 +7,7 @@ use std::alloc::Global;
 use std::hash::BuildHasher;
 use std::sync::ledger::Ledger;
 use steps::Steps;
+use table_plan::Reach;
 
 impl<'a, H: BuildHasher + Drop> Tables<'a, H> {
     ghost use Rattle.std.specs.Prelude.{◌≡◌, ◌+◌, ◌*◌, ◌≤◌, length, IfOk, IfErr, None};

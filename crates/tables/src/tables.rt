@@ -1,8 +1,6 @@
 ghost use Rattle.peer_rec.specs.declared.snapshot.TheConstants.{MAX_NEW, MAX_TRIED};
 ghost use Rattle.slot_grid.specs.declared.sizes.TheConstants.{NEW_BUCKETS, TRIED_BUCKETS, SLOTS};
 
-use crate::known::{after_try, still_connected, with_services};
-use crate::reach::Reach;
 use crate::{Memory, Store};
 use arrayvec::ArrayVec;
 use net_addr::{Entry, NetAddr, NetSet, Peer};
@@ -15,6 +13,7 @@ use std::hash::BuildHasher;
 use std::marker::Model;
 use std::sync::ledger::Ledger;
 use steps::Steps;
+use table_plan::{Reach, after_try, still_connected, with_services};
 
 /// The tables of addresses of a node: the records of peers, the slots that they are in, and the
 /// order that samples are drawn from (`AddrManImpl` in addrman_impl.h of Bitcoin Core). It has no

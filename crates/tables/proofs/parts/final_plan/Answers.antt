@@ -3,7 +3,7 @@ use Rattle.std.specs.List.{range_with_len}
 use Rattle.table_machine.specs.Sound.{IsSound}
 use Rattle.table_machine.specs.Restoring.{drop_all, restored}
 use Rattle.table_machine.proofs.RestoredSound.{restored_sound}
-use Rattle.tables.specs.Planned.{state_of}
+use Rattle.table_plan.specs.Planned.{state_of}
 use Rattle.tables.proofs.Causes.{file-of}
 use Rattle.tables.proofs.parts.final_plan.Goals as goal
 

@@ -5,7 +5,7 @@ use Rattle.slot_grid.specs.Slots.{new_id, renumbered, tried_id}
 use Rattle.peer_index.specs.Order.{IsOrder, Order}
 use Rattle.table_machine.specs.State.{State}
 use Rattle.table_machine.specs.Restoring.{drop_all}
-use Rattle.tables.specs.Planned.{dropping, state_of}
+use Rattle.table_plan.specs.Planned.{dropping, state_of}
 use Rattle.tables.specs.Filled.{HasApart, filled}
 use Rattle.tables.specs.Restored.{ArePartsOf}
 use Rattle.tables.proofs.Settled.{apart, few, parts-of, sound-left, within}

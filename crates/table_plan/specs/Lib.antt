@@ -1,0 +1,4 @@
+pub mod Reach
+pub mod Planned
+pub mod Positions
+pub mod Waiters
