@@ -16,7 +16,7 @@ use Rattle.arguments.specs.declared.file_kind.FileKind.{FileKind}
 use Rattle.peers_file.specs.declared.fault.FileFault.{FileFault}
 use Rattle.peers_file.proofs.FileLaws.{Reads-body}
 use Rattle.peers_file.proofs.WholeLaws.{is_file}
-use Rattle.session.specs.State.{file_of}
+use Rattle.session_saves.specs.Files.{file_of}
 use Rattle.table_machine.specs.Restart.{restart}
 use Rattle.table_machine.specs.Snapshot.{snapshot_of}
 use Rattle.table_machine.specs.Sound.{IsSound}

@@ -13,8 +13,9 @@ use Rattle.log_run.specs.Worlds.{RanIn, both}
 use Rattle.log_run.specs.declared.end.LogEnd.{LogEnd}
 use Rattle.peers_file.specs.declared.chain.Chain.{Chain}
 use Rattle.arguments.specs.declared.file_kind.FileKind.{FileKind}
-use Rattle.session.specs.Events.{Ended}
-use Rattle.session.specs.Folders.{IsOpen, SessionStep}
+use Rattle.session_saves.specs.Events.{Ended}
+use Rattle.session.specs.Folders.{SessionStep}
+use Rattle.session_saves.specs.Folders.{IsOpen}
 use Rattle.session.specs.History.{AtExit, Now, SinceEntry, HistoryStep, failed, fresh, onto}
 use Rattle.session.specs.State as session
 use Rattle.session.proofs.OneHistory.{one_run}

@@ -20,8 +20,8 @@ use Rattle.gen_load.specs.Spelling.{without_feed}
 use Rattle.gen_load.specs.declared.generated.TheConstants.{MAX_LINES}
 use Rattle.log_run.proofs.OneMore.{Run-more}
 use Rattle.log_run.specs.Run.{Run}
-use Rattle.session.specs.Events.{Ended}
-use Rattle.session.specs.Folders.{IsOpen}
+use Rattle.session_saves.specs.Events.{Ended}
+use Rattle.session_saves.specs.Folders.{IsOpen}
 use Rattle.session.specs.History.{HistoryStep, fresh, onto}
 use Rattle.session.specs.State as session
 use Rattle.session.proofs.Promise.{history}

@@ -31,7 +31,7 @@ use Rattle.addrman_run.specs.Opening.{ReportsTables, places_of, tables_of}
 use Rattle.log_run.specs.Run.{Run}
 use Rattle.log_run.specs.declared.end.LogEnd.{LogEnd}
 use Rattle.log_run.specs.declared.end.LogEnd.TheVariants as end
-use Rattle.session.specs.Events.{Ended}
+use Rattle.session_saves.specs.Events.{Ended}
 use Rattle.session.specs.History.{HistoryStep, fresh}
 use Rattle.session.specs.State as session
 use Rattle.session.specs.State.{LineStep}

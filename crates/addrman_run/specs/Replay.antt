@@ -19,7 +19,7 @@ use Rattle.log_run.specs.declared.end.LogEnd.{LogEnd}
 use Rattle.log_run.specs.declared.limits.TheConstants.{MAX_LOG}
 use Rattle.peers_file.specs.declared.chain.Chain.{Chain}
 use Rattle.arguments.specs.declared.file_kind.FileKind.{FileKind}
-use Rattle.session.specs.Folders.{IsOpen}
+use Rattle.session_saves.specs.Folders.{IsOpen}
 use Rattle.session.specs.History.{AtExit, History, Now, SinceEntry, HistoryStep, failed, fresh}
 use Rattle.session.specs.State as session
 use Rattle.table_machine.specs.Restart.{restart}

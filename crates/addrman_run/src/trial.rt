@@ -2,7 +2,7 @@ ghost use Rattle.std.specs.Prelude.{◌≡◌, ◌≢◌, ◌<◌, ◌≤◌, �
 ghost use Rattle.addr_codecs.specs.declared.message.TheConstants.{MAX_ENTRIES};
 ghost use Rattle.gen_load.specs.Spelling.{without_feed};
 ghost use Rattle.gen_load.specs.declared.generated.TheConstants.{MAX_LENGTH, MAX_LINES};
-ghost use Rattle.session.specs.Folders.{IsOpen};
+ghost use Rattle.session_saves.specs.Folders.{IsOpen};
 ghost use Rattle.addrman_run.specs.Inside.{HasReplies, Replied};
 ghost use Rattle.addrman_run.specs.OneText.{OneText};
 ghost use Rattle.addrman_run.specs.Trial.{IsTrial, trial_start};

@@ -13,9 +13,11 @@ use Rattle.log_lines.specs.declared.command.Command.{Command}
 use Rattle.log_lines.specs.declared.reply.Reply.{Reply}
 use Rattle.save_store.specs.Job.{Job, whole}
 use Rattle.save_store.specs.Saves.{IsStored}
-use Rattle.session.specs.Events.{Ended, Event, IsOfEvent, after_step, event_of, save, save_begin, save_end, save_step}
-use Rattle.session.specs.Events.Ended.{NotSaved, Saved}
-use Rattle.session.specs.Folders.{HasEnded, LeavesFile, published, published_in, unless}
+use Rattle.session_saves.specs.Events.{Ended, Event, IsOfEvent, after_step, event_of, save, save_begin, save_end, save_step}
+use Rattle.session_saves.specs.Events.Ended.{NotSaved, Saved}
+use Rattle.session.specs.Folders.{published_in}
+use Rattle.session_saves.specs.Files.{published, unless}
+use Rattle.session_saves.specs.Folders.{HasEnded, LeavesFile}
 use Rattle.session.specs.History.{IsAny, IsLast, OrOpen, failed, onto}
 use Rattle.session.specs.State.{CommandStep, LineStep, SessionState, file_now}
 use Rattle.session.proofs.Effects.{of_event, publishes_none, saves_nothing}

@@ -12,11 +12,14 @@ use Rattle.log_lines.proofs.Percents.{percent}
 use Rattle.manager.specs.Step.{HasPercent}
 use Rattle.grammar.specs.declared.fault.LineFault.{LineFault}
 use Rattle.log_lines.specs.declared.reply.Reply.{Reply}
-use Rattle.session.specs.Events.{IsEvent}
-use Rattle.session.specs.Folders.{AtMost, IsEventLine, MayPublish, Turn, published}
+use Rattle.session_saves.specs.Events.{IsEvent}
+use Rattle.session.specs.Folders.{IsEventLine, MayPublish, Turn}
+use Rattle.session_saves.specs.Files.{published}
+use Rattle.session_saves.specs.Folders.{AtMost}
 use Rattle.session.specs.Inside.{Carried}
 use Rattle.session.specs.State.{SessionState, file_now}
-use Rattle.session.proofs.Effects.{may_publish, still_moments}
+use Rattle.session_saves.proofs.Effects.{still_moments}
+use Rattle.session.proofs.Effects.{may_publish}
 
 -- a line that is passed over
 pub passed : (old : SessionState) (line items : List ℕ) (past : Option Past) (f : ℕ) → IsPassedOver line

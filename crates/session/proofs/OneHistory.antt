@@ -26,7 +26,7 @@ use Rattle.log_run.specs.Run.{Run}
 use Rattle.manager.specs.Machine.{Machine}
 use Rattle.manager.specs.Step as manager
 use Rattle.save_store.specs.Job.{Job}
-use Rattle.session.specs.Events.{Ended, Event, IsOfEvent, SaveCommand, event_of, save, save_begin, save_end, save_step}
+use Rattle.session_saves.specs.Events.{Ended, Event, IsOfEvent, SaveCommand, event_of, save, save_begin, save_end, save_step}
 use Rattle.session.specs.History.{History, HistoryStep, onto}
 use Rattle.session.specs.State.{CommandStep, JobStep, LineStep, MachineStep, SessionState, file_now}
 use Rattle.session.proofs.Effects.{no_save, of_event, saves_nothing}

@@ -5,8 +5,9 @@ use Rattle.host_io.specs.Faults.{RoseBy}
 use Rattle.host_io.specs.Disk.{Disk}
 use Rattle.host_io.specs.Past.{Always, Past}
 use Rattle.host_io.proofs.Moments.{begun as nothing_since, joined, now_has}
-use Rattle.session.specs.Events.{Ended}
-use Rattle.session.specs.Folders.{AtMost, IsOpen, Turn, published_in}
+use Rattle.session_saves.specs.Events.{Ended}
+use Rattle.session.specs.Folders.{Turn, published_in}
+use Rattle.session_saves.specs.Folders.{AtMost, IsOpen}
 use Rattle.session.specs.History.{AtExit, History, Now, SinceEntry, failed, fresh, onto}
 use Rattle.session.specs.State.{SessionState}
 use Rattle.session.proofs.Files.{EndedAt, ended_at, next_any, next_failed, next_last}

@@ -8,9 +8,9 @@ use Rattle.host_io.specs.declared.name.Name.{Name}
 use Rattle.host_io.specs.declared.name.Name.TheVariants.{Peers, PeersTemp}
 use Rattle.save_store.specs.Job.{Job, whole}
 use Rattle.save_store.specs.Saves.{NoMore}
-use Rattle.session.specs.Events.{Ended}
-use Rattle.session.specs.Events.Ended.{NotSaved, Saved}
-use Rattle.session.specs.Folders.{LeavesFile}
+use Rattle.session_saves.specs.Events.{Ended}
+use Rattle.session_saves.specs.Events.Ended.{NotSaved, Saved}
+use Rattle.session_saves.specs.Folders.{LeavesFile}
 use Rattle.session.specs.State.{LineStep, SessionState}
 
 -- the state now, and the saves that have ended, the last one first

@@ -1,4 +1,3 @@
-pub mod Events
 pub mod Folders
 pub mod History
 pub mod Inside

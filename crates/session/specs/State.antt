@@ -7,12 +7,10 @@ use Rattle.log_lines.specs.declared.command.Command.{Command}
 use Rattle.log_lines.specs.declared.reply.Reply.{Reply}
 use Rattle.manager.specs.Machine.{Machine}
 use Rattle.manager.specs.Step as manager
-use Rattle.peers_file.specs.Texts.{file_text}
 use Rattle.peers_file.specs.declared.chain.Chain.{Chain}
 use Rattle.save_store.specs.Job.{Job}
-use Rattle.session.specs.Events.{Ended, SaveCommand}
-use Rattle.table_machine.specs.Snapshot.{snapshot_of}
-use Rattle.table_machine.specs.State as tables
+use Rattle.session_saves.specs.Events.{Ended, SaveCommand}
+use Rattle.session_saves.specs.Files.{file_of}
 
 -- the chain of its files, the machine, and the open save
 pub record SessionState : Type 0 where
@@ -22,11 +20,6 @@ pub record SessionState : Type 0 where
 
 abbrev pub state : Chain → Machine → Option Job → SessionState
 state chain machine job = record { chain = chain; machine = machine; job = job }
-
--- the file of peers that a save of the tables writes (`AddrManImpl::Serialize` in addrman.cpp of
--- Bitcoin Core)
-abbrev pub file_of : Chain → tables.State → List ℕ
-file_of chain tables = file_text chain (snapshot_of tables)
 
 -- the file of the tables as they are
 abbrev pub file_now : SessionState → List ℕ

@@ -3,24 +3,25 @@ ghost use Rattle.addr_codecs.specs.declared.message.TheConstants.{MAX_ENTRIES};
 ghost use Rattle.host_io.specs.Past.{Always};
 ghost use Rattle.manager.specs.Step.{Step, SavesNothing, HasPercent, LeavesPart};
 ghost use Rattle.save_store.specs.Job.{Job};
-ghost use Rattle.session.specs.Events.{IsEvent};
-ghost use Rattle.session.specs.Folders.{AtMost, IsOpen, published};
+ghost use Rattle.session_saves.specs.Events.{IsEvent};
+ghost use Rattle.session_saves.specs.Files.{published};
+ghost use Rattle.session_saves.specs.Folders.{AtMost, IsOpen};
 ghost use Rattle.session.specs.Inside.{Carried};
-ghost use Rattle.session.specs.State.{file_of, state};
+ghost use Rattle.session.specs.State.{state};
+ghost use Rattle.session_saves.specs.Files.{file_of};
 
-use crate::events::{end_line, step_line};
-use crate::memory::Memory;
-use crate::saving::{begin, save};
 use host_io::Folder;
 use log_lines::{Command, Reply};
 use manager::Manager;
 use peers_file::Chain;
 use save_store::SaveJob;
+use session_saves::{begin, end_line, save, step_line};
 use std::alloc::Global;
 use std::hash::BuildHasher;
 use std::marker::Brand;
 use std::sync::ledger::{Blank, Ledger};
 use steps::Steps;
+use tables::Memory;
 
 /// Carries out a command of the machine, with a counter of its own, whose steps nobody reads.
 fn apply<L: Ledger, H: BuildHasher>(
@@ -42,7 +43,10 @@ fn apply<L: Ledger, H: BuildHasher>(
     ensures no_file { (file : List ℕ) (job : Option Job) → published file job command.now ≡ None }
 {
     let mut steps = Steps::<L>::none(blank);
-    Ok(manager.apply(alloc, command, &mut steps)?)
+    match manager.apply(alloc, command, &mut steps) {
+        Ok(reply) => Ok(reply),
+        Err(_) => Err(Memory),
+    }
 }
 
 /// Carries out a command.
@@ -72,8 +76,8 @@ pub(crate) fn carry_out<F: Folder, H: BuildHasher>(
     ensures never_falls { F.faults folder.old ≤ F.faults folder.new }
 {
     match command {
-        Command::Save => save(alloc, folder, manager, chain, job),
-        Command::SaveBegin => begin(alloc, folder, manager, chain, job),
+        Command::Save => save(alloc, folder, manager.tables(), chain, job),
+        Command::SaveBegin => begin(alloc, folder, manager.tables(), chain, job),
         Command::SaveStep { count } => {
             let (next, reply) = step_line(folder, job.take(), *count);
             *job = next;

@@ -16,11 +16,7 @@
 #![tactic(auto)]
 
 mod carry_out;
-mod encode;
-mod events;
 mod law;
-mod memory;
-mod saving;
 mod session;
 
 pub use law::text_fixes_the_history;

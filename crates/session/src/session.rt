@@ -37,7 +37,8 @@ impl<'a, H: BuildHasher> Session<'a, H> {
     ghost use Rattle.host_io.specs.Past.{Always};
     ghost use Rattle.log_lines.specs.Spelling.{HasCommandFault, SpellsCommand};
     ghost use Rattle.manager.specs.Step.{HasPercent};
-    ghost use Rattle.session.specs.Folders.{AtMost, IsEventLine, IsOpen, SessionLeavesPart, MayPublish, Turn};
+    ghost use Rattle.session.specs.Folders.{IsEventLine, SessionLeavesPart, MayPublish, Turn};
+    ghost use Rattle.session_saves.specs.Folders.{AtMost, IsOpen};
 
     /// Makes a session in which no save is open.
     pub fn make(manager: Manager<'a, H>, chain: Chain) -> Session<'a, H>
@@ -145,7 +146,8 @@ impl<'a, F: Folder, H: BuildHasher> LineSteps<F> for Session<'a, H> {
     ghost use Rattle.std.specs.Prelude.{◌+◌, ◌*◌, ◌<◌, ◌^◌};
     ghost use Rattle.addr_codecs.specs.declared.message.TheConstants.{MAX_ENTRIES};
     ghost use Rattle.log_lines.specs.Spelling.{HasCommandFault};
-    ghost use Rattle.session.specs.Folders.{IsOpen, SessionStep};
+    ghost use Rattle.session.specs.Folders.{SessionStep};
+    ghost use Rattle.session_saves.specs.Folders.{IsOpen};
 
     ghost step = { SessionStep F.past F.faults };
 

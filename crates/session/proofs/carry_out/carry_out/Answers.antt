@@ -4,10 +4,12 @@ use Rattle.std.specs.Option.{option_map}
 use Rattle.std.proofs.lemmas.Result.{IfOk-weaker}
 use Rattle.host_io.specs.Past.{Always}
 use Rattle.save_store.specs.Job.{whole}
-use Rattle.session.proofs.Effects.{applied, carried, is_none, none_of_four, still_moments}
-use Rattle.session.specs.Events.{IsEvent, event_of, save, save_begin, save_end, save_step}
-use Rattle.session.specs.Folders.{AtMost, published, unless}
-use Rattle.session.specs.State.{file_of}
+use Rattle.session_saves.proofs.Effects.{is_none, still_moments}
+use Rattle.session.proofs.Effects.{applied, carried, none_of_four}
+use Rattle.session_saves.specs.Events.{IsEvent, event_of, save, save_begin, save_end, save_step}
+use Rattle.session_saves.specs.Files.{published, unless}
+use Rattle.session_saves.specs.Folders.{AtMost}
+use Rattle.session_saves.specs.Files.{file_of}
 use Rattle.session.proofs.carry_out.carry_out.Goals as goal
 
 pub returns-in-Save-clause-step : goal.returns-in-Save-clause-step
@@ -15,9 +17,11 @@ returns-in-Save-clause-step g c =
     let P = g.F.Folder.past in
     let job = c.args.job.now in
     let file = file_of c.args.chain c.args.manager.now.tables in
+    let given = file_of c.args.chain c.tables.result.now in
     IfOk-weaker c.save.result _ _
-    (λ answer effect. carried c.args.chain c.args.manager.now job job c.args.command.now answer (save file job) (unless job file)
-    (P c.args.folder.now) (P c.save.new.folder) _ _ (ap (event_of file job) c.in-Save.is) effect)
+    (λ answer effect. carried c.args.chain c.args.manager.now job job c.args.command.now answer (save given job) (unless job given)
+    (P c.args.folder.now) (P c.save.new.folder) _ _
+    (ap (event_of file job) c.in-Save.is ∙ ap (λ st. Some (save (file_of c.args.chain st) job)) (sym c.tables.ensures)) effect)
     c.save.ensures.effect
 
 pub returns-in-SaveBegin-clause-step : goal.returns-in-SaveBegin-clause-step
@@ -25,9 +29,11 @@ returns-in-SaveBegin-clause-step g c =
     let P = g.F.Folder.past in
     let job = c.args.job.now in
     let file = file_of c.args.chain c.args.manager.now.tables in
+    let given = file_of c.args.chain c.tables-in-SaveBegin.result.now in
     IfOk-weaker c.begin.result _ _
-    (λ answer effect. carried c.args.chain c.args.manager.now job c.begin.new.job c.args.command.now answer (save_begin file job) None
-    (P c.args.folder.now) (P c.begin.new.folder) _ _ (ap (event_of file job) c.in-SaveBegin.is) effect)
+    (λ answer effect. carried c.args.chain c.args.manager.now job c.begin.new.job c.args.command.now answer (save_begin given job) None
+    (P c.args.folder.now) (P c.begin.new.folder) _ _
+    (ap (event_of file job) c.in-SaveBegin.is ∙ ap (λ st. Some (save_begin (file_of c.args.chain st) job)) (sym c.tables-in-SaveBegin.ensures)) effect)
     c.begin.ensures.effect
 
 pub returns-in-SaveStep-clause-step : goal.returns-in-SaveStep-clause-step

@@ -1,4 +1,4 @@
-use Rattle.session.proofs.saving.begin.Given as goal
+use Rattle.session_saves.proofs.saving.save.Given as goal
 
 -- the ledger that no other token is of
 abbrev pub ghosts-encode : goal.ghosts-encode

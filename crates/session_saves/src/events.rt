@@ -1,9 +1,9 @@
 ghost use Rattle.std.specs.Prelude.{◌≡◌, ◌≤◌, Some, None};
 ghost use Rattle.std.specs.Option.{option_map};
 ghost use Rattle.save_store.specs.Job.{whole};
-ghost use Rattle.session.specs.Events as event;
-ghost use Rattle.session.specs.Folders.{IsOpen};
-ghost use Rattle.session.specs.Inside.{Effect};
+ghost use Rattle.session_saves.specs.Events as event;
+ghost use Rattle.session_saves.specs.Folders.{IsOpen};
+ghost use Rattle.session_saves.specs.Folders.{Effect};
 
 use host_io::{Bytes, Folder, Name};
 use log_lines::Reply;
@@ -35,7 +35,7 @@ pub(crate) fn begin_line<F: Folder>(folder: &mut F, file: Bytes) -> (Option<Save
 }
 
 /// Writes the next `count` bytes of the open save.
-pub(crate) fn step_line<F: Folder>(
+pub fn step_line<F: Folder>(
     folder: &mut F,
     job: Option<SaveJob>,
     count: u32,
@@ -59,7 +59,7 @@ pub(crate) fn step_line<F: Folder>(
 }
 
 /// Ends the open save.
-pub(crate) fn end_line<F: Folder>(folder: &mut F, job: Option<SaveJob>) -> Reply
+pub fn end_line<F: Folder>(folder: &mut F, job: Option<SaveJob>) -> Reply
     requires is_open { IsOpen job (F.past folder.old) }
     ensures effect { Effect (event.save_end job) (option_map whole job) result None
         (F.past folder.old) (F.past folder.new) (F.faults folder.old) (F.faults folder.new) }

@@ -1,34 +1,34 @@
 ghost use Rattle.std.specs.Prelude.{◌≡◌, ◌≢◌, ◌≤◌, None, IfOk, OnErr};
-ghost use Rattle.session.specs.Events as event;
-ghost use Rattle.session.specs.Folders.{IsOpen, unless};
-ghost use Rattle.session.specs.Inside.{Effect};
-ghost use Rattle.session.specs.State.{file_of};
+ghost use Rattle.session_saves.specs.Events as event;
+ghost use Rattle.session_saves.specs.Files.{unless};
+ghost use Rattle.session_saves.specs.Folders.{IsOpen};
+ghost use Rattle.session_saves.specs.Folders.{Effect};
+ghost use Rattle.session_saves.specs.Files.{file_of};
 
 use crate::encode::encode;
-use crate::events::{begin_line, end_line, save_line, step_line};
-use crate::memory::Memory;
+use crate::events::{begin_line, save_line};
 use host_io::Folder;
 use log_lines::Reply;
-use manager::Manager;
 use peers_file::Chain;
 use save_store::SaveJob;
 use std::alloc::Global;
 use std::hash::BuildHasher;
 use std::marker::Brand;
 use std::sync::ledger::Blank;
+use tables::{Memory, Tables};
 
 /// Saves the tables whole, unless a save is open.
-pub(crate) fn save<F: Folder, H: BuildHasher>(
+pub fn save<F: Folder, H: BuildHasher>(
     alloc: Global,
     folder: &mut F,
-    manager: &Manager<'_, H>,
+    tables: &Tables<'_, H>,
     chain: Chain,
     job: &Option<SaveJob>,
 ) -> Result<Reply, Memory>
     requires is_open { IsOpen job.now (F.past folder.old) }
     ensures effect { IfOk result (λ answer.
-        Effect (event.save (file_of chain manager.now.tables) job.now)
-        (unless job.now (file_of chain manager.now.tables)) answer job.now
+        Effect (event.save (file_of chain tables.now) job.now)
+        (unless job.now (file_of chain tables.now)) answer job.now
         (F.past folder.old) (F.past folder.new) (F.faults folder.old) (F.faults folder.new)) }
     ensures err { OnErr result (folder.new ≡ folder.old) }
     ensures still { job.now ≢ None → folder.new ≡ folder.old }
@@ -37,21 +37,21 @@ pub(crate) fn save<F: Folder, H: BuildHasher>(
     if job.is_some() {
         return Ok(Reply::Busy);
     }
-    let file = encode::<Brand, H>(alloc, manager, chain, Blank::new(1))?;
+    let file = encode::<Brand, H>(alloc, tables, chain, Blank::new(1))?;
     Ok(save_line(folder, &file))
 }
 
 /// Begins to save the tables in pieces, unless a save is open.
-pub(crate) fn begin<F: Folder, H: BuildHasher>(
+pub fn begin<F: Folder, H: BuildHasher>(
     alloc: Global,
     folder: &mut F,
-    manager: &Manager<'_, H>,
+    tables: &Tables<'_, H>,
     chain: Chain,
     job: &mut Option<SaveJob>,
 ) -> Result<Reply, Memory>
     requires is_open { IsOpen job.old (F.past folder.old) }
     ensures effect { IfOk result (λ answer.
-        Effect (event.save_begin (file_of chain manager.now.tables) job.old) None answer job.new
+        Effect (event.save_begin (file_of chain tables.now) job.old) None answer job.new
         (F.past folder.old) (F.past folder.new) (F.faults folder.old) (F.faults folder.new)) }
     ensures err { OnErr result ((folder.new ≡ folder.old) × (job.new ≡ job.old)) }
     ensures still { job.old ≢ None → folder.new ≡ folder.old }
@@ -60,7 +60,7 @@ pub(crate) fn begin<F: Folder, H: BuildHasher>(
     if job.is_some() {
         return Ok(Reply::Busy);
     }
-    let file = encode::<Brand, H>(alloc, manager, chain, Blank::new(1))?;
+    let file = encode::<Brand, H>(alloc, tables, chain, Blank::new(1))?;
     let (next, reply) = begin_line(folder, file);
     *job = next;
     Ok(reply)

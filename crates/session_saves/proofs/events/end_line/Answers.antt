@@ -1,6 +1,6 @@
 use Rattle.std.proofs.Common.{rules}
-use Rattle.session.proofs.Effects.{job_failed, job_saved}
-use Rattle.session.proofs.events.end_line.Goals as goal
+use Rattle.session_saves.proofs.Effects.{job_failed, job_saved}
+use Rattle.session_saves.proofs.events.end_line.Goals as goal
 
 pub returns-in-Ok-clause-effect : goal.returns-in-Ok-clause-effect
 returns-in-Ok-clause-effect g c =
