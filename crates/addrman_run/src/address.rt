@@ -8,7 +8,7 @@ ghost use Rattle.addrman_run.specs.TextOut.{TextOut};
 
 use crate::opening::open_map;
 use crate::output::write_line;
-use crate::{Memory, Status};
+use crate::{Learned, Memory, Status};
 use asmap_vm::Sane;
 use host_io::{Folder, Sink};
 use names::name_of;
@@ -112,6 +112,7 @@ pub(crate) fn write_address<F: Folder, K: Sink>(
     addr: &NetAddr,
     folder: &mut F,
     out: &mut K,
+    learned: &mut Learned,
 ) -> Status
     ensures text { TextOut (IsAddressText addr.now) ReportsAsmap
         (F.past folder.old) (K.written out.old) (K.written out.new) result }
@@ -120,7 +121,7 @@ pub(crate) fn write_address<F: Folder, K: Sink>(
     ensures same { F.past folder.new ≡ F.past folder.old }
 {
     let mut asmap = None;
-    let map = match open_map(alloc, &mut asmap, folder) {
+    let map = match open_map(alloc, &mut asmap, folder, learned) {
         Ok(map) => map,
         Err(status) => return status,
     };

@@ -79,7 +79,7 @@ pub(crate) fn address_lines<L: Source, F: Folder, K: Sink>(
     ensures same { F.past folder.new ≡ F.past folder.old }
 {
     let mut asmap = None;
-    let map = match open_map(alloc, &mut asmap, folder) {
+    let map = match open_map(alloc, &mut asmap, folder, learned) {
         Ok(map) => map,
         Err(status) => return status,
     };

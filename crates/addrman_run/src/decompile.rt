@@ -9,8 +9,8 @@ ghost use Rattle.addrman_run.specs.InFolder.{ReportsAbsence};
 ghost use Rattle.addrman_run.specs.Inside.{IsLoaded};
 ghost use Rattle.addrman_run.specs.declared.input.Input.TheVariants as input;
 
-use crate::Status;
 use crate::input::{Input, load_present};
+use crate::{Learned, Status};
 use asmap_back::{fits_table, write_rows};
 use asmap_vm::check;
 use host_io::{Folder, Sink};
@@ -18,7 +18,12 @@ use std::alloc::Global;
 
 /// Turns asmap.dat back into a table of prefixes, and writes its rows, one a line. Only the file is
 /// in memory: the rows are written as they are read.
-pub(crate) fn decompile<F: Folder, K: Sink>(alloc: Global, folder: &mut F, out: &mut K) -> Status
+pub(crate) fn decompile<F: Folder, K: Sink>(
+    alloc: Global,
+    folder: &mut F,
+    out: &mut K,
+    learned: &mut Learned,
+) -> Status
     ensures text { FileLineText name.Asmap IsDecompiled ReportsDecompile (F.past folder.old)
         (K.written out.old) (K.written out.new) result }
     ensures absent { ReportsAbsence name.Asmap (F.past folder.old) result }
@@ -26,10 +31,12 @@ pub(crate) fn decompile<F: Folder, K: Sink>(alloc: Global, folder: &mut F, out: 
     ensures write { IsCounted Status.WriteFault (K.faults out.old) (K.faults out.new) result }
     ensures same { F.past folder.new ≡ F.past folder.old }
 {
-    match load_present(alloc, Input::Asmap, folder) {
-        Ok(bytes) => write_table(bytes.items(), out),
-        Err(status) => status,
-    }
+    let bytes = match load_present(alloc, Input::Asmap, folder) {
+        Ok(bytes) => bytes,
+        Err(status) => return status,
+    };
+    learned.keep_head(bytes.items());
+    write_table(bytes.items(), out)
 }
 
 /// Writes the rows that the asmap of these bytes is turned back into. Nothing is written of one

@@ -77,6 +77,7 @@ fn text_of<F: Folder>(
         Ok(bytes) => bytes,
         Err(status) => return Err(status),
     };
+    learned.keep_head(bytes.items());
     let old = match check(bytes.items()) {
         Ok(old) => old,
         Err(fault) => return Err(Status::OldAsmapRefused(fault)),
@@ -103,6 +104,7 @@ fn text_from<F: Folder>(
         Ok(bytes) => bytes,
         Err(status) => return Err(status),
     };
+    learned.keep_head(bytes.items());
     let new = match check(bytes.items()) {
         Ok(new) => new,
         Err(fault) => return Err(Status::AsmapRefused(fault)),

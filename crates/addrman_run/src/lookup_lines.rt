@@ -82,6 +82,7 @@ pub(crate) fn lookup_lines<L: Source, F: Folder, K: Sink>(
         Ok(bytes) => bytes,
         Err(status) => return status,
     };
+    learned.keep_head(bytes.items());
     let asmap = match check(bytes.items()) {
         Ok(asmap) => asmap,
         Err(fault) => return Status::AsmapRefused(fault),

@@ -198,6 +198,7 @@ pub(crate) fn open_map<'a, F: Folder>(
     alloc: Global,
     asmap: &'a mut Option<Bytes>,
     folder: &mut F,
+    learned: &mut Learned,
 ) -> Result<Option<Sane<'a>>, Status>
     ensures found { IfOk result (λ map. IsMapIn (F.past folder.old) (map_of map)) }
     ensures absent { IfSome (files_of (F.past folder.old)) (λ files.
@@ -211,6 +212,9 @@ pub(crate) fn open_map<'a, F: Folder>(
         Ok(bytes) => bytes,
         Err(status) => return Err(status),
     };
+    if let Some(bytes) = &*asmap {
+        learned.keep_head(bytes.items());
+    }
     match check_map(asmap) {
         Ok(map) => Ok(map),
         Err(fault) => Err(Status::AsmapRefused(fault)),
@@ -238,7 +242,7 @@ pub(crate) fn open_folder<'a, F: Folder, H: BuildHasher + Drop>(
         (F.faults folder.old) (F.faults folder.new) result }
     ensures same { F.past folder.new ≡ F.past folder.old }
 {
-    let map = match open_map(alloc, asmap, folder) {
+    let map = match open_map(alloc, asmap, folder, learned) {
         Ok(map) => map,
         Err(status) => return Err(status),
     };

@@ -132,12 +132,12 @@ fn carry_out<L: Source, F: Folder, K: Sink, H: BuildHasher + Drop>(
         ),
         Request::Compile => compile_table(alloc, folder, out, learned),
         Request::Check => write_file_line(alloc, &Check, folder, out, learned),
-        Request::Decompile => decompile(alloc, folder, out),
+        Request::Decompile => decompile(alloc, folder, out, learned),
         Request::Diff { peers } => diff(alloc, chain_of(peers), folder, out, learned),
         Request::Limit => limit(alloc, hasher, log, out, learned),
         Request::Lookup { peer } => write_file_line(alloc, &Lookup { peer }, folder, out, learned),
         Request::LookupLines => lookup_lines(alloc, log, folder, out, learned),
-        Request::Address { addr } => write_address(alloc, &addr, folder, out),
+        Request::Address { addr } => write_address(alloc, &addr, folder, out, learned),
         Request::AddressLines => address_lines(alloc, log, folder, out, learned),
         Request::Show { keyed, kind } => {
             let chain = kind.chain;
