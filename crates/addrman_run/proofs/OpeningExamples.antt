@@ -1,7 +1,6 @@
--- Worked examples of how a replay opens: the arguments, and the folder.
-use Rattle.std.specs.Prelude.{◌≡◌, ℕ, List, [], ◌∷◌, ◌++◌, replicate, codes, Option, Some, None, refl}
+-- Worked examples of how a replay opens the folder.
+use Rattle.std.specs.Prelude.{◌≡◌, ℕ, List, [], ◌∷◌, ◌++◌, replicate, Option, Some, None, refl}
 use Rattle.std.proofs.Common.{inl}
-use Rattle.hex.proofs.OnLiterals.{hex_on_literals}
 use Rattle.host_io.specs.Disk.{safe}
 use Rattle.host_io.specs.Past.{Past}
 use Rattle.table_machine.specs.State.{empty_state}
@@ -11,14 +10,10 @@ use Rattle.peers_file.specs.Layout.{IsFile, whole_fault}
 use Rattle.peers_file.specs.declared.chain.Chain.TheVariants.{Main, Test}
 use Rattle.peers_file.specs.declared.fault.FileFault.TheVariants.{Truncated, BadMagic, Memory}
 use Rattle.placing.specs.declared.sum.SumRule.{SumRule}
-use Rattle.arguments.specs.Options.{IsOpeningOptions}
 use Rattle.arguments.specs.declared.file_kind.FileKind.{FileKind}
 use Rattle.addrman_run.specs.Opening.{Opens, RefusesTables, LacksKey, places_of, tables_of}
 use Rattle.addrman_run.specs.Opening.Opens.{from_file, from_key}
 use Rattle.addrman_run.specs.declared.peers_fault.PeersFault.TheVariants.{File, Duplicate}
-
-abbrev digits : List ℕ
-digits = codes "00000000000000000000000000000000000000000000000000000000000000ff"
 
 abbrev key : List ℕ
 key = replicate 31 0 ++ 255 ∷ []
@@ -26,13 +21,6 @@ key = replicate 31 0 ++ 255 ∷ []
 -- a file of main, by a rule
 abbrev of_main : SumRule → FileKind
 of_main rule = record { chain = Main; rule = rule }
-
-no_options : IsOpeningOptions None [] Main
-no_options = ([], [], refl, inl (refl, inl (refl, refl)))
-
-only_a_key : IsOpeningOptions (Some key) (codes "--key" ∷ digits ∷ []) Main
-unfolding hex_on_literals
-only_a_key = (codes "--key" ∷ digits ∷ [], [], refl, inl ((digits, (refl, refl), inl refl), inl (refl, refl)))
 
 -- a folder with these bytes in peers.dat, or without the file, and no other file
 abbrev pub folder : Option (List ℕ) → Option Past

@@ -2,3 +2,4 @@ pub mod Choosing
 pub mod WithCore
 pub mod Asking
 pub mod Names
+mod OptionExamples
