@@ -5,6 +5,7 @@
 #                 hour on four cores
 # make package    writes the crate for Rust as one package, at bin/package, and has cargo check it
 # make plain-lib  builds the library for C with cargo, at bin/lib
+# make bench      builds with cargo the program that the scripts of bench/ take
 # make try        runs examples from the source, before anything is proved
 # make ci-try     runs those of diff and lookup alone
 # make demo       runs the built program on the files of examples/
@@ -44,7 +45,7 @@ DIST := addrman-$(VERSION)-x86_64-linux
 # Where the toolchain has its part of the C library: the allocator that the library calls.
 KIT = $(shell dirname "$$(dirname "$$(readlink -f "$$(command -v rt)")")")
 
-.PHONY: all plain check proved package plain-lib plain-archive try ci-try demo examples flood page page-test endings \
+.PHONY: all plain check proved package plain-lib plain-archive bench try ci-try demo examples flood page page-test endings \
 	mistakes packed test figures lib lib-test ci-lib-test ci-program-test archive install install-lib \
 	uninstall dist
 
@@ -69,6 +70,9 @@ proved:
 package:
 	tools/plain --package bin/package > /dev/null
 	cd bin/package && cargo package --quiet --allow-dirty --target-dir ../target
+
+bench: plain
+	$(CARGO) -p plain_bench
 
 plain-lib: plain
 	$(CARGO) -p addrman_c

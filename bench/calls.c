@@ -1,5 +1,5 @@
 /*
- * The calls of `bench calls KIND TIMES` (crates/bench), by libaddrman: calls KIND TIMES. It prints the
+ * The calls of `bench calls KIND TIMES` (plain/bench), by libaddrman: calls KIND TIMES. It prints the
  * same sum, and with `stack` as the kind how many bytes of stack the calls use at most.
  */
 #include "addrman.h"

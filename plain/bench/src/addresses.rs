@@ -1,13 +1,9 @@
-ghost use Rattle.std.specs.Prelude.{◌≡◌};
-ghost use Rattle.net_addr.specs.declared.net.Net.TheVariants.{Ipv4};
-
 use net_addr::{NetAddr, Peer};
 
 /// What is added to the state for each word.
 const STEP: u64 = 0x9E37_79B9_7F4A_7C15;
 
 /// Addresses to look up, made of the words of SplitMix64 by Steele, Lea and Flood.
-#[derive(Drop)]
 pub(crate) struct Addresses {
     state: u64,
 }
@@ -41,9 +37,7 @@ impl Addresses {
     }
 
     /// Returns some IPv4 address and port.
-    pub fn next_peer(&mut self) -> Peer
-        ensures { result.addr.net ≡ Ipv4 }
-    {
+    pub fn next_peer(&mut self) -> Peer {
         let word = self.next_word();
         let address = (word >> 32) as u32;
         Peer {

@@ -5,6 +5,7 @@ use crate::index_work::{IndexWork, Kind};
 use crate::lines_work::LinesWork;
 use crate::refusal::Refusal;
 use crate::table_work::TableWork;
+use plain_std::string::String;
 
 /// What the arguments ask for.
 #[derive(Clone, Copy)]

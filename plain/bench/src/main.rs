@@ -1,7 +1,14 @@
 //! Work of a known size for measurements: a script takes the time of whole runs, the program takes
 //! none.
-#![tactic(auto)]
 
+#![cfg_attr(unix, no_main)]
+use plain_std::alloc::AllocGlobal;
+use plain_std::eprintln;
+use plain_std::println;
+use plain_std::rt::HostRuntime;
+use plain_std::rt::Print;
+use plain_std::string::String;
+use plain_std::vec::Vec;
 mod addresses;
 mod asmap_work;
 mod calls_work;
@@ -17,10 +24,10 @@ mod task;
 
 use asmap_work::run_on_asmap;
 use host_io::{DirFolder, Lock};
+use plain_std::process::ExitCode;
+use plain_std::rt::{Env, Files};
+use plain_std::{env, io};
 use refusal::Refusal;
-use std::process::ExitCode;
-use std::rt::{Env, Files};
-use std::{env, io};
 use table_work::run_on_text;
 use tables_work::fill_tables;
 use task::Task;
@@ -67,7 +74,7 @@ where
     println!(rt; "{word} {sum}").map_err(|_| Refusal::NotPrinted)
 }
 
-fn main(rt: HostRuntime) -> ExitCode {
+fn program(rt: HostRuntime) -> ExitCode {
     match measure(&rt) {
         Ok(()) => ExitCode::SUCCESS,
         Err(refusal) => {
@@ -76,3 +83,5 @@ fn main(rt: HostRuntime) -> ExitCode {
         }
     }
 }
+
+plain_std::entry!(program);

@@ -1,5 +1,5 @@
 /// Why nothing was measured.
-#[derive(Clone, Copy)]
+#[derive(Clone, Copy, PartialEq, Eq)]
 pub(crate) enum Refusal {
     /// The arguments of the command line could not be read.
     NoWords,
@@ -30,11 +30,12 @@ impl Refusal {
     pub fn text(self) -> &'static str {
         match self {
             Refusal::NoWords => "the words cannot be read",
-            Refusal::Usage =>
+            Refusal::Usage => {
                 "usage: bench asmap N, check TIMES, calls KIND TIMES, codecs KIND TIMES, \
                  table TIMES, matches N, compile TIMES, tables N, lines LENGTH TIMES, \
                  index-adds N TIMES, index-removes N TIMES, \
-                 index-finds N SOME TIMES, or index-turns N SOME TIMES",
+                 index-finds N SOME TIMES, or index-turns N SOME TIMES"
+            }
             Refusal::NoAsmap => "asmap.dat is missing",
             Refusal::NoPrefixes => "prefixes.txt is missing",
             Refusal::NotLoaded => "the file cannot be loaded",

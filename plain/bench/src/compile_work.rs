@@ -1,7 +1,7 @@
 use crate::refusal::Refusal;
 use asmap_compile::{CompileFault, compile};
+use plain_std::alloc::Global;
 use prefix_table::Table;
-use std::alloc::Global;
 
 /// Returns why a table is not compiled.
 fn refusal_of(fault: CompileFault) -> Refusal {

@@ -1,8 +1,8 @@
-ghost use Rattle.std.specs.Prelude.{◌<◌};
-
 use crate::refusal::Refusal;
 use log_lines::split_line;
-use std::alloc::{AllocError, Global};
+use plain_std::alloc::{AllocError, Global};
+use plain_std::vec;
+use plain_std::vec::Vec;
 
 /// The bytes of the log that is split into lines.
 const LOG_BYTES: usize = 16_777_216;
@@ -32,9 +32,7 @@ impl LinesWork {
 }
 
 /// A log of this many bytes, whose lines have `length` bytes with their line feeds.
-fn comment_log(alloc: Global, bytes: usize, length: usize) -> Result<Vec<u8>, AllocError>
-    requires { 0 < length }
-{
+fn comment_log(alloc: Global, bytes: usize, length: usize) -> Result<Vec<u8>, AllocError> {
     let mut log = vec![in alloc; b'#'; bytes]?;
     for (i, byte) in log.iter_mut().enumerate() {
         if i % length == length - 1 {

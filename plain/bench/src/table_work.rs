@@ -2,9 +2,9 @@ use crate::compile_work::compile_often;
 use crate::numbers::{Numbers, sum_of};
 use crate::refusal::Refusal;
 use host_io::{Folder, Name};
+use plain_std::alloc::Global;
 use prefix_table::{MAX_TEXT, Table, TableFault, read_table};
 use save_store::load;
-use std::alloc::Global;
 
 /// What is done over prefixes.txt, and how often.
 #[derive(Clone, Copy)]

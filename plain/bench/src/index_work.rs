@@ -1,15 +1,10 @@
-ghost use Rattle.std.specs.Prelude.{◌≡◌};
-
 use crate::addresses::Addresses;
 use crate::refusal::Refusal;
 use net_addr::Peer;
 use peer_index::PeerIndex;
 use peer_rec::{Buckets, Place, Rec};
-use std::alloc::Global;
-use std::hash::{BuildHasherDefault, FoldHasher};
-use std::marker::Brand;
-use std::sync::ledger::{Blank, Ledger};
-use steps::Steps;
+use plain_std::alloc::Global;
+use plain_std::hash::{BuildHasherDefault, FoldHasher};
 
 /// An index under std's own hasher.
 pub(crate) type Index = PeerIndex<BuildHasherDefault<FoldHasher>>;
@@ -21,7 +16,7 @@ const MOST_RECORDS: usize = 10_000_000;
 const STEP: u64 = 7_919;
 
 /// A kind of work on an index.
-#[derive(Clone, Copy)]
+#[derive(Clone, Copy, PartialEq, Eq)]
 pub(crate) enum Kind {
     /// An index is made and filled this many times.
     Adds,
@@ -47,21 +42,16 @@ pub(crate) struct IndexWork {
 impl IndexWork {
     /// Does the work, and gives a sum of what was found.
     pub fn run(self, alloc: Global) -> Result<u64, Refusal> {
-        self.run_counted::<Brand>(alloc, Blank::new(1))
+        self.run_counted(alloc)
     }
 
     /// Does the work with a counter of steps.
-    fn run_counted<L: Ledger>(self, alloc: Global, blank: Blank) -> Result<u64, Refusal>
-        requires name { blank.name ≡ L.name }
-        requires parts { blank.parts ≡ L.parts }
-        requires one { blank.parts ≡ 1 }
-    {
-        let mut steps = Steps::<L>::none(blank);
+    fn run_counted(self, alloc: Global) -> Result<u64, Refusal> {
         match self.kind {
-            Kind::Adds => self.fill_often(alloc, &mut steps),
-            Kind::Finds => self.find_often(alloc, &mut steps),
-            Kind::Removes => self.remove_often(alloc, &mut steps),
-            Kind::Turns => self.turn_often(alloc, &mut steps),
+            Kind::Adds => self.fill_often(alloc),
+            Kind::Finds => self.find_often(alloc),
+            Kind::Removes => self.remove_often(alloc),
+            Kind::Turns => self.turn_often(alloc),
         }
     }
 
@@ -71,19 +61,19 @@ impl IndexWork {
     }
 
     // The sum of the sizes of as many indexes as are made and filled.
-    fn fill_often<L: Ledger>(self, alloc: Global, steps: &mut Steps<L>) -> Result<u64, Refusal> {
+    fn fill_often(self, alloc: Global) -> Result<u64, Refusal> {
         let mut sum: u64 = 0;
         for _ in 0..self.times {
-            sum = sum.wrapping_add(filled(alloc, self.records, steps)?.len() as u64);
+            sum = sum.wrapping_add(filled(alloc, self.records)?.len() as u64);
         }
         Ok(sum)
     }
 
     // The sum of the ids of some records.
-    fn find_some<L: Ledger>(self, index: &Index, steps: &mut Steps<L>) -> u64 {
+    fn find_some(self, index: &Index) -> u64 {
         let mut sum: u64 = 0;
         for turn in 0..self.some {
-            if let Some(id) = index.find(&self.peer(turn), steps) {
+            if let Some(id) = index.find(&self.peer(turn)) {
                 sum = sum.wrapping_add(id as u64);
             }
         }
@@ -91,51 +81,51 @@ impl IndexWork {
     }
 
     // That sum, this many times.
-    fn find_often<L: Ledger>(self, alloc: Global, steps: &mut Steps<L>) -> Result<u64, Refusal> {
-        let index = filled(alloc, self.records, steps)?;
+    fn find_often(self, alloc: Global) -> Result<u64, Refusal> {
+        let index = filled(alloc, self.records)?;
         let mut sum: u64 = 0;
         for _ in 0..self.times {
-            sum = sum.wrapping_add(self.find_some(&index, steps));
+            sum = sum.wrapping_add(self.find_some(&index));
         }
         Ok(sum)
     }
 
     // Removes some records.
-    fn remove_some<L: Ledger>(self, index: &mut Index, steps: &mut Steps<L>) {
+    fn remove_some(self, index: &mut Index) {
         for turn in 0..self.some {
             let peer = self.peer(turn);
-            if index.find(&peer, steps).is_some() {
-                index.remove(&peer, steps);
+            if index.find(&peer).is_some() {
+                index.remove(&peer);
             }
         }
     }
 
     /// Fills an index and removes some of its records, `times` times. Returns the sum of the
     /// records that are left.
-    fn remove_often<L: Ledger>(self, alloc: Global, steps: &mut Steps<L>) -> Result<u64, Refusal> {
+    fn remove_often(self, alloc: Global) -> Result<u64, Refusal> {
         let mut sum: u64 = 0;
         for _ in 0..self.times {
-            let mut index = filled(alloc, self.records, steps)?;
-            self.remove_some(&mut index, steps);
+            let mut index = filled(alloc, self.records)?;
+            self.remove_some(&mut index);
             sum = sum.wrapping_add(index.len() as u64);
         }
         Ok(sum)
     }
 
     /// Adds some records.
-    fn add_some<L: Ledger>(self, index: &mut Index, steps: &mut Steps<L>) -> Result<(), Refusal> {
+    fn add_some(self, index: &mut Index) -> Result<(), Refusal> {
         for turn in 0..self.some {
-            add(index, number_at(turn, self.records), steps)?;
+            add(index, number_at(turn, self.records))?;
         }
         Ok(())
     }
 
     /// Removes some records and adds them again, `times` times. Returns the size of the index.
-    fn turn_often<L: Ledger>(self, alloc: Global, steps: &mut Steps<L>) -> Result<u64, Refusal> {
-        let mut index = filled(alloc, self.records, steps)?;
+    fn turn_often(self, alloc: Global) -> Result<u64, Refusal> {
+        let mut index = filled(alloc, self.records)?;
         for _ in 0..self.times {
-            self.remove_some(&mut index, steps);
-            self.add_some(&mut index, steps)?;
+            self.remove_some(&mut index);
+            self.add_some(&mut index)?;
         }
         Ok(index.len() as u64)
     }
@@ -152,9 +142,7 @@ fn number_at(turn: u32, records: u32) -> u64 {
 }
 
 /// A record of the peer.
-fn record(number: u64, peer: Peer) -> Rec
-    ensures { result.peer ≡ peer }
-{
+fn record(number: u64, peer: Peer) -> Rec {
     Rec {
         number,
         peer,
@@ -170,26 +158,22 @@ fn record(number: u64, peer: Peer) -> Rec
 }
 
 /// Adds a record to the index, by its number. Its peer has to be new.
-fn add<L: Ledger>(index: &mut Index, number: u64, steps: &mut Steps<L>) -> Result<(), Refusal> {
+fn add(index: &mut Index, number: u64) -> Result<(), Refusal> {
     let peer = peer_of(number);
-    if index.len() >= MOST_RECORDS || index.find(&peer, steps).is_some() {
+    if index.len() >= MOST_RECORDS || index.find(&peer).is_some() {
         return Err(Refusal::NotAdded);
     }
-    match index.add(record(number, peer), steps) {
+    match index.add(record(number, peer)) {
         Ok(_) => Ok(()),
         Err(_) => Err(Refusal::NoMemory),
     }
 }
 
 /// An index of this many records.
-pub(crate) fn filled<L: Ledger>(
-    alloc: Global,
-    records: u32,
-    steps: &mut Steps<L>,
-) -> Result<Index, Refusal> {
+pub(crate) fn filled(alloc: Global, records: u32) -> Result<Index, Refusal> {
     let mut index = PeerIndex::make(alloc, BuildHasherDefault::new());
     for number in 0..records {
-        add(&mut index, u64::from(number), steps)?;
+        add(&mut index, u64::from(number))?;
     }
     Ok(index)
 }

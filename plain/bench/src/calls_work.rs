@@ -4,7 +4,8 @@ use c_handles::Keyed;
 use net_addr::{Entry, NetAddr, NetSet, Peer};
 use picking::Picked;
 use placing::Placer;
-use std::alloc::Global;
+use plain_std::alloc::Global;
+use plain_std::vec::Vec;
 use tables::Tables;
 
 /// When everything happens, in seconds since 1970.
@@ -17,7 +18,7 @@ const PEERS: u64 = 20_000;
 const WORDS: usize = 1000;
 
 /// A kind of call.
-#[derive(Clone, Copy)]
+#[derive(Clone, Copy, PartialEq, Eq)]
 pub(crate) enum Kind {
     /// A peer is added.
     Adds,
