@@ -1,6 +1,6 @@
 -- What a command has done.
-use Rattle.std.proofs.Common.{◌≡◌, ℕ, List, inl, inr, refl, sym, subst}
-use Rattle.std.specs.Prelude.{Option, Some, None, IfSome, IsSomeAnd, ◌≢◌, Bool}
+use Rattle.std.proofs.Common.{◌≡◌, ℕ, List, inl, refl, sym, subst}
+use Rattle.std.specs.Prelude.{Option, Some, None, IfSome, IsSomeAnd, Bool}
 use Rattle.std.specs.Option.{option_map}
 use Rattle.host_io.specs.Past.{Past}
 use Rattle.log_lines.specs.declared.command.Command.TheVariants as command
@@ -18,21 +18,22 @@ use Rattle.manager.specs.Machine.{Machine}
 use Rattle.manager.specs.Step.{Step, SavesNothing}
 use Rattle.peers_file.specs.declared.chain.Chain.{Chain}
 
--- what the event of a command has done
+-- what a save command has done
 pub carried : (chain : Chain) (machine : Machine) (job new : Option Job) (asked : Command) (answer : Reply)
-    (outcome : Bool → Event) (file : Option (List ℕ)) (before after : Option Past) (f g : ℕ)
-    → event_of (file_of chain machine.tables) job asked ≡ Some outcome → Effect outcome file answer new before after f g
+    (file : Option (List ℕ)) (before after : Option Past) (f g : ℕ)
+    → IsSomeAnd (event_of (file_of chain machine.tables) job asked) (λ outcome. Effect outcome file answer new before after f g)
     → Carried (state chain machine job) asked answer (state chain machine new) after f g
-carried chain machine job new asked answer outcome file before after f g is effect = record {
-  ended = effect.ended;
-  step = inl (new, subst (λ o. IsSomeAnd o (λ e. IsOfEvent e answer new effect.ended)) (sym is) effect.step, refl);
-  has = effect.has;
-}
-
--- what a command of the machine has done
-pub applied : (chain : Chain) (old new : Machine) (job : Option Job) (asked : Command) (answer : Reply) (after : Option Past) (f g : ℕ)
-    → Step old asked answer new → Carried (state chain old job) asked answer (state chain new job) after f g
-applied chain old new job asked answer after f g step = record { ended = None; step = inr (new, step, refl, refl); has = tt }
+carried chain machine job new asked answer file before after f g = by (event_of (file_of chain machine.tables) job asked) refl
+  where
+    by : (o : Option (Bool → Event)) → event_of (file_of chain machine.tables) job asked ≡ o
+        → IsSomeAnd o (λ outcome. Effect outcome file answer new before after f g)
+        → Carried (state chain machine job) asked answer (state chain machine new) after f g
+    by None is none = absurd none
+    by (Some outcome) is effect = record {
+      ended = effect.ended;
+      step = inl (new, subst (λ o. IsSomeAnd o (λ e. IsOfEvent e answer new effect.ended)) (sym is) effect.step, refl);
+      has = effect.has;
+    }
 
 -- a line that spells a command may publish what the command may
 pub may_publish : (old : SessionState) (line : List ℕ) (asked : Command) (file : Option (List ℕ)) → SpellsCommand line asked
@@ -50,16 +51,7 @@ of_event P file job whole_save begins steps ends (command.SaveStep n) = steps n
 of_event P file job whole_save begins steps ends command.SaveEnd = ends
 of_event P file job whole_save begins steps ends other = tt
 
--- a command that is none of the four saves nothing
-pub none_of_four : (asked : Command) → asked ≢ command.Save → asked ≢ command.SaveBegin → ((n : ℕ) → asked ≢ command.SaveStep n)
-    → asked ≢ command.SaveEnd → SavesNothing asked
-none_of_four command.Save whole_save begins steps ends = absurd (whole_save refl)
-none_of_four command.SaveBegin whole_save begins steps ends = absurd (begins refl)
-none_of_four (command.SaveStep n) whole_save begins steps ends = absurd (steps n refl)
-none_of_four command.SaveEnd whole_save begins steps ends = absurd (ends refl)
-none_of_four other whole_save begins steps ends = tt
-
--- nor does one of the machine
+-- a command of the machine saves nothing
 pub saves_nothing : (m n : Machine) (asked : Command) (answer : Reply) → Step m asked answer n → SavesNothing asked
 saves_nothing m n command.Save answer step = step
 saves_nothing m n other answer step = search

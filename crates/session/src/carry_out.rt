@@ -1,21 +1,19 @@
-ghost use Rattle.std.specs.Prelude.{◌≡◌, ◌+◌, ◌*◌, ◌≤◌, ◌<◌, ◌^◌, List, ℕ, Option, None, IfOk, OnErr};
+ghost use Rattle.std.specs.Prelude.{◌≡◌, ◌+◌, ◌*◌, ◌≤◌, ◌<◌, ◌^◌, IfOk, OnErr};
 ghost use Rattle.addr_codecs.specs.declared.message.TheConstants.{MAX_ENTRIES};
 ghost use Rattle.host_io.specs.Past.{Always};
 ghost use Rattle.manager.specs.Step.{Step, SavesNothing, HasPercent, LeavesPart};
-ghost use Rattle.save_store.specs.Job.{Job};
 ghost use Rattle.session_saves.specs.Events.{IsEvent};
-ghost use Rattle.session_saves.specs.Files.{published};
+ghost use Rattle.session_saves.specs.Files.{file_of, published};
 ghost use Rattle.session_saves.specs.Folders.{AtMost, IsOpen};
 ghost use Rattle.session.specs.Inside.{Carried};
 ghost use Rattle.session.specs.State.{state};
-ghost use Rattle.session_saves.specs.Files.{file_of};
 
 use host_io::Folder;
 use log_lines::{Command, Reply};
 use manager::Manager;
 use peers_file::Chain;
 use save_store::SaveJob;
-use session_saves::{begin, end_line, save, step_line};
+use session_saves::carry_out_save;
 use std::alloc::Global;
 use std::hash::BuildHasher;
 use std::marker::Brand;
@@ -40,7 +38,6 @@ fn apply<L: Ledger, H: BuildHasher>(
     ensures numbers { manager.new.tables.next_number
         ≤ manager.old.tables.next_number + MAX_ENTRIES }
     ensures err { OnErr result (LeavesPart manager.old command.now manager.new) }
-    ensures no_file { (file : List ℕ) (job : Option Job) → published file job command.now ≡ None }
 {
     let mut steps = Steps::<L>::none(blank);
     match manager.apply(alloc, command, &mut steps) {
@@ -75,15 +72,8 @@ pub(crate) fn carry_out<F: Folder, H: BuildHasher>(
         ≤ manager.old.tables.next_number + MAX_ENTRIES }
     ensures never_falls { F.faults folder.old ≤ F.faults folder.new }
 {
-    match command {
-        Command::Save => save(alloc, folder, manager.tables(), chain, job),
-        Command::SaveBegin => begin(alloc, folder, manager.tables(), chain, job),
-        Command::SaveStep { count } => {
-            let (next, reply) = step_line(folder, job.take(), *count);
-            *job = next;
-            Ok(reply)
-        }
-        Command::SaveEnd => Ok(end_line(folder, job.take())),
-        _ => apply::<Brand, H>(alloc, manager, command, Blank::new(1)),
+    match carry_out_save(alloc, folder, manager.tables(), chain, job, command) {
+        Some(done) => done,
+        None => apply::<Brand, H>(alloc, manager, command, Blank::new(1)),
     }
 }

@@ -8,11 +8,14 @@ use Rattle.host_io.specs.Past.{Past, Always}
 use Rattle.host_io.specs.declared.name.Name.{Name}
 use Rattle.host_io.specs.declared.name.Name.TheVariants.{Peers, PeersTemp}
 use Rattle.host_io.proofs.Moments.{begun as nothing_since, joined}
+use Rattle.log_lines.specs.declared.command.Command.{Command}
+use Rattle.log_lines.specs.declared.command.Command.TheVariants as command
 use Rattle.log_lines.specs.declared.reply.Reply.TheVariants.{Begun, NotSaved, Saved, Stepped}
 use Rattle.save_store.specs.Job.{Job, ReadsAs, whole}
 use Rattle.save_store.specs.Saves.{IsStored, KeepsOthers, PublishesOrNot}
-use Rattle.session_saves.specs.Events.{after_step, begun, save, save_begin, save_end, save_step}
+use Rattle.session_saves.specs.Events.{after_step, begun, event_of, save, save_begin, save_end, save_step}
 use Rattle.session_saves.specs.Events.Ended.{Saved as was_saved, NotSaved as was_not}
+use Rattle.session_saves.specs.Files.{published}
 use Rattle.session_saves.specs.Folders.{AtMost, Effect}
 
 IsPeers : Name → Type 0
@@ -146,3 +149,13 @@ job_failed job j old new f g some temp always rose =
       moments = published_moments (whole j) old new (subst (λ t. Always old new (PublishesOrNot t Peers (whole j))) temp always);
       is_open = tt;
     })
+
+-- a command that is none of the four is no event, and publishes no file
+pub no_event : (file : List ℕ) (job : Option Job) (asked : Command) → asked ≢ command.Save → asked ≢ command.SaveBegin
+    → ((n : ℕ) → asked ≢ command.SaveStep n) → asked ≢ command.SaveEnd
+    → (event_of file job asked ≡ None) × (published file job asked ≡ None)
+no_event file job command.Save whole_save begins steps ends = absurd (whole_save refl)
+no_event file job command.SaveBegin whole_save begins steps ends = absurd (begins refl)
+no_event file job (command.SaveStep n) whole_save begins steps ends = absurd (steps n refl)
+no_event file job command.SaveEnd whole_save begins steps ends = absurd (ends refl)
+no_event file job other whole_save begins steps ends = (refl, refl)

@@ -2,8 +2,7 @@ ghost use Rattle.std.specs.Prelude.{◌≡◌, ◌≤◌, Some, None};
 ghost use Rattle.std.specs.Option.{option_map};
 ghost use Rattle.save_store.specs.Job.{whole};
 ghost use Rattle.session_saves.specs.Events as event;
-ghost use Rattle.session_saves.specs.Folders.{IsOpen};
-ghost use Rattle.session_saves.specs.Folders.{Effect};
+ghost use Rattle.session_saves.specs.Folders.{Effect, IsOpen};
 
 use host_io::{Bytes, Folder, Name};
 use log_lines::Reply;
@@ -34,41 +33,38 @@ pub(crate) fn begin_line<F: Folder>(folder: &mut F, file: Bytes) -> (Option<Save
     }
 }
 
-/// Writes the next `count` bytes of the open save.
-pub fn step_line<F: Folder>(
-    folder: &mut F,
-    job: Option<SaveJob>,
-    count: u32,
-) -> (Option<SaveJob>, Reply)
-    requires is_open { IsOpen job (F.past folder.old) }
-    ensures effect { Effect (event.save_step count job) None result.1 result.0
+/// Writes the next `count` bytes of the open save. If that fails, no save is open any more.
+pub(crate) fn step_line<F: Folder>(folder: &mut F, job: &mut Option<SaveJob>, count: u32) -> Reply
+    requires is_open { IsOpen job.old (F.past folder.old) }
+    ensures effect { Effect (event.save_step count job.old) None result job.new
         (F.past folder.old) (F.past folder.new) (F.faults folder.old) (F.faults folder.new) }
-    ensures still { job ≡ None → folder.new ≡ folder.old }
+    ensures still { job.old ≡ None → folder.new ≡ folder.old }
     ensures never_falls { F.faults folder.old ≤ F.faults folder.new }
 {
-    match job {
-        None => (None, Reply::NoSave),
-        Some(job) => match job.step(folder, count) {
+    match job.take() {
+        None => Reply::NoSave,
+        Some(open) => match open.step(folder, count) {
             Ok(next) => {
                 let left = next.left();
-                (Some(next), Reply::Stepped { left })
+                *job = Some(next);
+                Reply::Stepped { left }
             }
-            Err(_) => (None, Reply::NotSaved),
+            Err(_) => Reply::NotSaved,
         },
     }
 }
 
-/// Ends the open save.
-pub fn end_line<F: Folder>(folder: &mut F, job: Option<SaveJob>) -> Reply
-    requires is_open { IsOpen job (F.past folder.old) }
-    ensures effect { Effect (event.save_end job) (option_map whole job) result None
+/// Ends the open save, after which no save is open.
+pub(crate) fn end_line<F: Folder>(folder: &mut F, job: &mut Option<SaveJob>) -> Reply
+    requires is_open { IsOpen job.old (F.past folder.old) }
+    ensures effect { Effect (event.save_end job.old) (option_map whole job.old) result job.new
         (F.past folder.old) (F.past folder.new) (F.faults folder.old) (F.faults folder.new) }
-    ensures still { job ≡ None → folder.new ≡ folder.old }
+    ensures still { job.old ≡ None → folder.new ≡ folder.old }
     ensures never_falls { F.faults folder.old ≤ F.faults folder.new }
 {
-    match job {
+    match job.take() {
         None => Reply::NoSave,
-        Some(job) => match job.end(folder, Name::Peers) {
+        Some(open) => match open.end(folder, Name::Peers) {
             Ok(()) => Reply::Saved,
             Err(_) => Reply::NotSaved,
         },

@@ -1,9 +1,7 @@
 ghost use Rattle.std.specs.Prelude.{◌≡◌, ◌≢◌, ◌≤◌, None, IfOk, OnErr};
 ghost use Rattle.session_saves.specs.Events as event;
-ghost use Rattle.session_saves.specs.Files.{unless};
-ghost use Rattle.session_saves.specs.Folders.{IsOpen};
-ghost use Rattle.session_saves.specs.Folders.{Effect};
-ghost use Rattle.session_saves.specs.Files.{file_of};
+ghost use Rattle.session_saves.specs.Files.{file_of, unless};
+ghost use Rattle.session_saves.specs.Folders.{Effect, IsOpen};
 
 use crate::encode::encode;
 use crate::events::{begin_line, save_line};
@@ -18,7 +16,7 @@ use std::sync::ledger::Blank;
 use tables::{Memory, Tables};
 
 /// Saves the tables whole, unless a save is open.
-pub fn save<F: Folder, H: BuildHasher>(
+pub(crate) fn save<F: Folder, H: BuildHasher>(
     alloc: Global,
     folder: &mut F,
     tables: &Tables<'_, H>,
@@ -42,7 +40,7 @@ pub fn save<F: Folder, H: BuildHasher>(
 }
 
 /// Begins to save the tables in pieces, unless a save is open.
-pub fn begin<F: Folder, H: BuildHasher>(
+pub(crate) fn begin<F: Folder, H: BuildHasher>(
     alloc: Global,
     folder: &mut F,
     tables: &Tables<'_, H>,
