@@ -19,6 +19,7 @@ use Rattle.log_run.specs.declared.end.LogEnd.{LogEnd}
 use Rattle.log_run.specs.declared.limits.TheConstants.{MAX_LOG}
 use Rattle.peers_file.specs.declared.chain.Chain.{Chain}
 use Rattle.arguments.specs.declared.file_kind.FileKind.{FileKind}
+use Rattle.session_saves.specs.Files.{file_of}
 use Rattle.session_saves.specs.Folders.{IsOpen}
 use Rattle.session.specs.History.{AtExit, History, Now, SinceEntry, HistoryStep, failed, fresh}
 use Rattle.session.specs.State as session
@@ -36,7 +37,7 @@ at_start chain tables = session.state chain (record { tables = tables; clock = 0
 abbrev pub ReopensAs : FileKind → Option Asmap → State → Type 0
 ReopensAs kind map st =
     (past : Past) (key : Option (List ℕ))
-    → under (files_on past.now) name.Peers ≡ Some (session.file_of kind.chain st)
+    → under (files_on past.now) name.Peers ≡ Some (file_of kind.chain st)
     → Opens key kind (Some past) map (restart st)
     × ((found : State) → Opens key kind (Some past) map found → found ≡ restart st)
 
