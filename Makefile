@@ -201,6 +201,8 @@ install: bin/addrman
 
 # Bitcoin Core has a file addrman.h too, so the headers have a folder of their own:
 # #include <libaddrman/addrman.h>.
+TOLD = pkgconfig/addrman.pc cmake/addrman/addrman-config.cmake \
+	cmake/addrman/addrman-config-version.cmake
 install-lib:
 	install -d $(DESTDIR)$(INCLUDEDIR)/libaddrman $(DESTDIR)$(LIBDIR)/pkgconfig
 	install -d $(DESTDIR)$(LIBDIR)/cmake/addrman
@@ -213,14 +215,16 @@ install-lib:
 		> $(DESTDIR)$(LIBDIR)/pkgconfig/addrman.pc
 	sed -e 's|@LIBDIR@|$(LIBDIR)|' -e 's|@INCLUDEDIR@|$(INCLUDEDIR)|' -e 's|@VERSION@|$(VERSION)|' \
 		bindings/addrman-config.cmake.in > $(DESTDIR)$(LIBDIR)/cmake/addrman/addrman-config.cmake
-	chmod 644 $(addprefix $(DESTDIR)$(LIBDIR)/,pkgconfig/addrman.pc cmake/addrman/addrman-config.cmake)
+	sed -e 's|@VERSION@|$(VERSION)|' bindings/addrman-config-version.cmake.in \
+		> $(DESTDIR)$(LIBDIR)/cmake/addrman/addrman-config-version.cmake
+	chmod 644 $(addprefix $(DESTDIR)$(LIBDIR)/,$(TOLD))
 
 uninstall:
 	rm -f $(DESTDIR)$(BINDIR)/addrman $(DESTDIR)$(MANDIR)/man1/addrman.1
 	rm -f $(DESTDIR)$(COMPLETIONS)/addrman $(addprefix $(DESTDIR)$(DOCDIR)/,FORMATS.md LICENSE)
 	rm -f $(addprefix $(DESTDIR)$(INCLUDEDIR)/libaddrman/,addrman.h addrman.hpp)
 	rm -f $(addprefix $(DESTDIR)$(LIBDIR)/,libaddrman.a libaddrman.so.1 libaddrman.so)
-	rm -f $(addprefix $(DESTDIR)$(LIBDIR)/,pkgconfig/addrman.pc cmake/addrman/addrman-config.cmake)
+	rm -f $(addprefix $(DESTDIR)$(LIBDIR)/,$(TOLD))
 	-rmdir --ignore-fail-on-non-empty $(wildcard $(DESTDIR)$(DOCDIR) \
 		$(DESTDIR)$(INCLUDEDIR)/libaddrman $(DESTDIR)$(LIBDIR)/cmake/addrman)
 

@@ -1,6 +1,7 @@
 """The proved address manager of a Bitcoin node, over its shared library.
 
-The library is libaddrman.so.1 of the system, or the file that the environment's ADDRMAN_LIBRARY names.
+The library is the file that the environment's ADDRMAN_LIBRARY names, or libaddrman.so.1 beside this file, where a wheel
+has it, or that of the system.
 
 Arguments come in the order of addrman.h. Of another type than the call says they raise TypeError, and ValueError if they
 are out of range or have no meaning. An object may be used from several threads: a lock of its own lets one call in at a
@@ -154,7 +155,8 @@ class ShortWords(Error):
         self.need = need
 
 
-_lib = c.CDLL(os.environ.get("ADDRMAN_LIBRARY", "libaddrman.so.1"))
+_beside = os.path.join(os.path.dirname(os.path.abspath(__file__)), "libaddrman.so.1")
+_lib = c.CDLL(os.environ.get("ADDRMAN_LIBRARY") or (_beside if os.path.exists(_beside) else "libaddrman.so.1"))
 _MAX_PAYLOAD = 49_003  # bytes of a message of 1000 entries
 _U32, _U64, _SIZE, _BOOL = c.c_uint32, c.c_uint64, c.c_size_t, c.c_bool
 _P = c.c_void_p
