@@ -14,12 +14,13 @@
 # make flood      the page with an attack on the tables, hour by hour, as bin/flood.html
 # make page       the page that reads a peers.dat, as bin/page.html and as the folder bin/page
 # make page-test  tries it in Chromium and Firefox, and its engine beside the built program
+# make rows       runs the cases of crates/addrman/rows with the built program
 # make endings    tries the exit codes of the built program and their texts
 # make mistakes   makes some hundred mistakes with it, and compares what standard error says
 # make lib        proves the library for C, and builds bin/lib/libaddrman.a and libaddrman.so.1
 # make lib-test   tries it from C, C++ and Python, beside the built program
 # make ci-lib-test  the same with what rt ci has just proved and built in this clone
-# make ci-program-test  endings, mistakes and examples with what rt ci has just proved and built in this clone
+# make ci-program-test  rows, endings, mistakes and examples with what rt ci has just proved and built in this clone
 # make ci-plain-test  what make and make check do, and its program beside that which rt ci has just built
 # make packed     tries make install, make uninstall and make dist
 # make figures    prints lines, words and the like, and checks the names that docs/DEFINITIONS.md lists
@@ -126,10 +127,14 @@ page-test:
 	node page/test/same.mjs bin/page-work/addrman.wasm bin/addrman
 	page/test/test_page.py bin/addrman
 
+rows: bin/addrman
+	tools/rows
+
 endings: bin/addrman
 	tools/endings
 
 ci-program-test:
+	tools/rows crates/addrman/out/addrman
 	tools/endings crates/addrman/out/addrman
 	tools/mistakes crates/addrman/out/addrman
 	tools/examples crates/addrman/out/addrman

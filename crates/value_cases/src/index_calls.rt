@@ -1,15 +1,26 @@
 ghost use Rattle.std.specs.Prelude.{◌≡◌};
 
 use crate::fields::RowFields;
-use crate::tables_state::Hasher;
 use crate::text::{decimal, owned};
 use crate::unread::Unread;
 use net_addr::{NetAddr, Peer};
 use peer_index::PeerIndex;
 use peer_rec::{Buckets, Place, Rec};
 use std::alloc::Global;
-use std::sync::ledger::Ledger;
+use std::hash::{BuildHasherDefault, FoldHasher};
+use std::marker::Brand;
+use std::sync::ledger::{Blank, Ledger};
 use steps::Steps;
+
+/// The hasher of the index, and of connections.
+pub(crate) type Hasher = BuildHasherDefault<FoldHasher>;
+
+/// A call of a row.
+#[derive(Clone, Copy)]
+struct Call<'c> {
+    name: &'c str,
+    arguments: &'c str,
+}
 
 /// Returns a record of the peer.
 fn record(peer: Peer) -> Rec
@@ -93,23 +104,38 @@ fn order<L: Ledger>(
     Ok(text)
 }
 
-/// Answers the calls above and `index-find PEER`, the id of the peer's record.
-pub(crate) fn answer<L: Ledger>(
+/// Makes a call with a counter of steps, one of those above or `index-find PEER`, the id of the
+/// peer's record.
+fn answer_counted<L: Ledger>(
     alloc: Global,
     index: &mut PeerIndex<Hasher>,
-    name: &str,
-    fields: &mut RowFields<'_>,
-    steps: &mut Steps<L>,
-) -> Result<String, Unread> {
-    match name {
-        "add" => add(alloc, index, fields.peer()?, steps),
-        "remove" => remove(alloc, index, fields.peer()?, steps),
-        "swap" => swap(alloc, index, fields, steps),
-        "order" => order(alloc, index, steps),
-        "find" => match index.find(&fields.peer()?, steps) {
+    call: Call<'_>,
+    blank: Blank,
+) -> Result<String, Unread>
+    requires name { blank.name ≡ L.name }
+    requires parts { blank.parts ≡ L.parts }
+    requires one { blank.parts ≡ 1 }
+{
+    let mut steps = Steps::<L>::none(blank);
+    let mut fields = RowFields::of(call.arguments);
+    match call.name {
+        "index-add" => add(alloc, index, fields.peer()?, &mut steps),
+        "index-remove" => remove(alloc, index, fields.peer()?, &mut steps),
+        "index-swap" => swap(alloc, index, &mut fields, &mut steps),
+        "index-order" => order(alloc, index, &mut steps),
+        _ => match index.find(&fields.peer()?, &mut steps) {
             Some(id) => decimal(alloc, id as u64),
             None => owned(alloc, "none"),
         },
-        _ => Err(Unread::Form),
     }
+}
+
+/// Answers the calls above.
+pub(crate) fn answer(
+    alloc: Global,
+    index: &mut PeerIndex<Hasher>,
+    name: &str,
+    arguments: &str,
+) -> Result<String, Unread> {
+    answer_counted::<Brand>(alloc, index, Call { name, arguments }, Blank::new(1))
 }

@@ -1,7 +1,7 @@
 ghost use Rattle.std.specs.Prelude.{◌≤◌};
 
 use crate::fields::RowFields;
-use crate::tables_state::Hasher;
+use crate::index_calls::Hasher;
 use crate::text::{bool_text, number_text, owned};
 use crate::unread::Unread;
 use limiter::{Conn, Limiter, Memory};

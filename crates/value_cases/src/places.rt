@@ -11,7 +11,7 @@ use std::alloc::{AllocError, Global};
 const ASMAP: &str = "fb03ec0fb03fc0fe00fb03ec0fb03fc0fe00fb03ec0fb0fffffefffb03020001";
 
 /// SHA-256 of SHA-256 of the bytes.
-pub(crate) fn hashed_twice(bytes: &[u8]) -> [u8; 32] {
+fn hashed_twice(bytes: &[u8]) -> [u8; 32] {
     Sha256::digest(Sha256::digest(bytes).as_slice())
 }
 

@@ -1,7 +1,7 @@
 use crate::fields::RowFields;
 use crate::text::{bytes_of, decimal, in_one_line, owned};
 use crate::unread::Unread;
-use prefix_table::{MAX_TEXT, Row, Table, TableFault, put_table, read_table};
+use prefix_table::{MAX_TEXT, Row, Table, put_table, read_table};
 use std::alloc::Global;
 
 /// The text of a table of prefixes that calls add lines to.
@@ -18,7 +18,8 @@ impl Prefixes {
         }
     }
 
-    /// `prefix LINE`: a line of the text. The other calls are those below.
+    /// `prefix LINE`: a line of the text. `best HEX`: the number of the longest row of the text that
+    /// covers the address. The other call is the one below.
     pub fn answer(&mut self, alloc: Global, name: &str, arguments: &str) -> Result<String, Unread> {
         match name {
             "prefix" => {
@@ -27,8 +28,10 @@ impl Prefixes {
                 owned(alloc, "done")
             }
             "rows" => rows(alloc, arguments),
-            "table-faults" => faults(alloc),
-            _ => of_table(alloc, name, arguments, &read(alloc, self.text.as_slice())?),
+            _ => {
+                let table = read(alloc, self.text.as_slice())?;
+                decimal(alloc, u64::from(table.best(bits_of(alloc, arguments)?)))
+            }
         }
     }
 }
@@ -42,19 +45,6 @@ fn read(alloc: Global, text: &[u8]) -> Result<Table, Unread> {
         Ok(table) => Ok(table),
         Err(_) => Err(Unread::Form),
     }
-}
-
-/// `best HEX`: the number of the longest row that covers the address. `printed`: the text of the
-/// table, with `|` for each line feed, if it reads as the same table.
-fn of_table(alloc: Global, name: &str, arguments: &str, table: &Table) -> Result<String, Unread> {
-    if name == "best" {
-        return decimal(alloc, u64::from(table.best(bits_of(alloc, arguments)?)));
-    }
-    let text = table_text(alloc, table)?;
-    if read(alloc, text.as_slice())?.rows() != table.rows() {
-        return owned(alloc, "other rows");
-    }
-    in_one_line(text)
 }
 
 /// Returns the address bits that 32 digits in hexadecimal have.
@@ -93,16 +83,4 @@ fn rows(alloc: Global, arguments: &str) -> Result<String, Unread> {
         Ok(None) => owned(alloc, "none"),
         Err(_) => Err(Unread::Memory),
     }
-}
-
-/// `table-faults`: the text of each fault.
-fn faults(alloc: Global) -> Result<String, Unread> {
-    let (form, number) = (TableFault::Form { line: 1 }, TableFault::Number { line: 1 });
-    let (bits, again) = (
-        TableFault::HostBits { line: 1 },
-        TableFault::Repeated { line: 1 },
-    );
-    let (many, large) = (TableFault::TooMany, TableFault::TooLarge { size: 1 });
-    let memory = TableFault::Memory;
-    Ok(format!(in alloc; "{form}, {number}, {bits}, {again}, {many}, {large}, {memory}")?)
 }

@@ -52,11 +52,8 @@ fn check_line(
     line: &str,
 ) -> io::Result<Option<bool>> {
     if line.is_empty() {
-        return Ok(if values.restart(rt.alloc()) {
-            None
-        } else {
-            Some(false)
-        });
+        *values = Values::make(rt.alloc());
+        return Ok(None);
     }
     if line.starts_with("# ") {
         return Ok(None);
@@ -96,7 +93,7 @@ fn check_file<R: Files + Print + Eprint + AllocGlobal>(
     file: &str,
 ) -> io::Result<u64> {
     let text = fs::read_to_string(rt, file)?;
-    let _ = values.restart(rt.alloc());
+    *values = Values::make(rt.alloc());
     let tally = check_text(rt, values, file, text.as_str())?;
     println!(rt; "{file}: {} calls, {} wrong", tally.calls, tally.wrong)?;
     Ok(tally.wrong)

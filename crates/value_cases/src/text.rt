@@ -25,14 +25,6 @@ pub(crate) fn hex_text(alloc: Global, bytes: &[u8]) -> Result<String, Unread> {
     Ok(hex::encode(alloc, bytes)?)
 }
 
-/// Returns a copy of the bytes as text.
-pub(crate) fn copied(alloc: Global, bytes: &[u8]) -> Result<String, Unread> {
-    match str::from_utf8(bytes) {
-        Ok(text) => owned(alloc, text),
-        Err(_) => Err(Unread::Form),
-    }
-}
-
 /// Returns the bytes as text.
 pub(crate) fn text_of(bytes: Vec<u8>) -> Result<String, Unread> {
     match String::from_utf8(bytes) {
@@ -80,35 +72,10 @@ pub(crate) fn yes_or_no(alloc: Global, yes: bool) -> Result<String, Unread> {
     owned(alloc, if yes { "yes" } else { "no" })
 }
 
-/// Returns the bytes of a text: parts with commas between them, each in hexadecimal or as
-/// `COUNTxBYTES` for the same bytes as many times.
+/// Decodes bytes in hexadecimal.
 pub(crate) fn bytes_of(alloc: Global, text: &str) -> Result<Vec<u8>, Unread> {
-    let mut bytes = Vec::new(alloc);
-    for part in text.split(",") {
-        put_part(alloc, part, &mut bytes)?;
-    }
-    Ok(bytes)
-}
-
-/// Appends the bytes of a part.
-fn put_part(alloc: Global, part: &str, bytes: &mut Vec<u8>) -> Result<(), Unread> {
-    let (count, digits) = match part.split_once("x") {
-        Some((count, digits)) => (count_of(count)?, digits),
-        None => (1, part),
-    };
-    let Ok(piece) = hex::decode(alloc, digits) else {
-        return Err(Unread::Form);
-    };
-    for _ in 0..count {
-        bytes.extend_from_slice(piece.as_slice())?;
-    }
-    Ok(())
-}
-
-/// Parses a count.
-fn count_of(text: &str) -> Result<u32, Unread> {
-    match text.parse::<u32>() {
-        Ok(count) => Ok(count),
+    match hex::decode(alloc, text) {
+        Ok(bytes) => Ok(bytes),
         Err(_) => Err(Unread::Form),
     }
 }

@@ -1,69 +1,45 @@
-use crate::limits::Limits;
+use crate::index_calls::Hasher;
+use crate::limiter_calls::limiter_call;
 use crate::prefixes::Prefixes;
-use crate::tables_state::TablesState;
 use crate::unread::Unread;
-use crate::{
-    addresses, bans, codes, lines, messages, numbers, peers_files, places, records, replies,
-    vectors, written,
-};
+use crate::{addresses, codes, index_calls, numbers, places, records, vectors, written};
+use limiter::Limiter;
+use peer_index::PeerIndex;
 use std::alloc::Global;
+use std::hash::BuildHasherDefault;
 
 /// What a call is about.
 #[derive(Clone, Copy)]
 enum Subject {
     Addresses,
-    Messages,
     Numbers,
-    Lines,
-    Bans,
-    PeersFiles,
     Records,
     Written,
-    Replies,
-    Limits,
+    Connections,
     Places,
-    Tables,
+    Index,
     Prefixes,
     Codes,
     Vectors,
 }
 
 /// The names of the calls about each subject, with a space between two of them.
-static CALLS: [(Subject, &str); 15] = [
+static CALLS: [(Subject, &str); 10] = [
     (Subject::Addresses, "address peer class bytes v1 ipv4 ipv6"),
-    (
-        Subject::Messages,
-        "addr addrv2 prefixes equal-entries unknown-network",
-    ),
     (Subject::Numbers, "number le32 le64 be16"),
-    (
-        Subject::Lines,
-        "line line-hex long-number long-payload words ends-of-words split",
-    ),
-    (Subject::Bans, "subnet file many others other-faults"),
-    (
-        Subject::PeersFiles,
-        "fault rewrite listed memory-fault flips cuts",
-    ),
     (Subject::Records, "chance terrible"),
     (Subject::Written, "written"),
-    (Subject::Replies, "replies reply"),
-    (
-        Subject::Limits,
-        "event open close getaddr admit repeat conn",
-    ),
+    (Subject::Connections, "open close getaddr admit repeat conn"),
     (
         Subject::Places,
         "places group mapped-group asmap-sum core-sum key source-buckets group-buckets choice \
 new-slot next-port hash cheap",
     ),
     (
-        Subject::Tables,
-        "add good find record order next new-at tried-at new-mask tried-mask wanted counts \
-piece zeros made filled restore again listing saved index-add index-remove index-swap \
-index-order index-find",
+        Subject::Index,
+        "index-add index-remove index-swap index-order index-find",
     ),
-    (Subject::Prefixes, "prefix best printed rows table-faults"),
+    (Subject::Prefixes, "prefix best rows"),
     (Subject::Vectors, "facts places-by"),
     (Subject::Codes, "coded coded-many coded-at coded-bits"),
 ];
@@ -88,33 +64,21 @@ fn subject_of(name: &str) -> Result<Subject, Unread> {
     Err(Unread::Form)
 }
 
-/// What the calls of a block leave: those about the limit, about tables and about prefixes.
+/// What the calls of a block leave: connections, an index and a table of prefixes.
 #[derive(Drop)]
 pub(crate) struct Values {
-    limits: Limits,
-    tables: TablesState,
+    limiter: Limiter<Hasher>,
+    index: PeerIndex<Hasher>,
     prefixes: Prefixes,
 }
 
 impl Values {
     /// Returns what the first call of a block finds.
-    pub fn make(alloc: Global) -> Result<Values, Unread> {
-        let tables = TablesState::make(alloc)?;
-        Ok(Values {
-            limits: Limits::make(alloc),
-            tables,
+    pub fn make(alloc: Global) -> Values {
+        Values {
+            limiter: Limiter::make(alloc, BuildHasherDefault::new()),
+            index: PeerIndex::make(alloc, BuildHasherDefault::new()),
             prefixes: Prefixes::make(alloc),
-        })
-    }
-
-    /// Lets a block of calls begin. Returns whether there was memory for it.
-    pub fn restart(&mut self, alloc: Global) -> bool {
-        match Values::make(alloc) {
-            Ok(values) => {
-                *self = values;
-                true
-            }
-            Err(_) => false,
         }
     }
 
@@ -122,17 +86,12 @@ impl Values {
     pub fn call(&mut self, alloc: Global, name: &str, arguments: &str) -> Result<String, Unread> {
         match subject_of(name)? {
             Subject::Addresses => addresses::answer(alloc, name, arguments),
-            Subject::Messages => messages::answer(alloc, name, arguments),
             Subject::Numbers => numbers::answer(alloc, name, arguments),
-            Subject::Lines => lines::answer(alloc, name, arguments),
-            Subject::Bans => bans::answer(alloc, name, arguments),
-            Subject::PeersFiles => peers_files::answer(alloc, name, arguments),
             Subject::Records => records::answer(alloc, name, arguments),
             Subject::Written => written::answer(alloc, arguments),
-            Subject::Replies => replies::answer(alloc, name, arguments),
-            Subject::Limits => self.limits.answer(alloc, name, arguments),
+            Subject::Connections => limiter_call(alloc, &mut self.limiter, name, arguments),
             Subject::Places => places::answer(alloc, name, arguments),
-            Subject::Tables => self.tables.answer(alloc, name, arguments),
+            Subject::Index => index_calls::answer(alloc, &mut self.index, name, arguments),
             Subject::Prefixes => self.prefixes.answer(alloc, name, arguments),
             Subject::Vectors => vectors::answer(alloc, name, arguments),
             Subject::Codes => codes::answer(alloc, name, arguments),

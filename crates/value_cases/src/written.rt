@@ -1,25 +1,17 @@
 ghost use Rattle.std.specs.Prelude.{◌≡◌, IfOk};
 
 use crate::records::record;
-use crate::replies::two_buckets;
 use crate::text::{bool_text, bytes_of, hex_text};
 use crate::unread::Unread;
-use addr_codecs::{AddressFault, MsgFault, write_addr, write_addrv2};
+use addr_codecs::{AddressFault, MsgFault, write_addr};
+use arrayvec::ArrayVec;
 use log_lines::LineFault;
 use net_addr::{Entry, Net, NetAddr, Peer};
 use peer_rec::{Buckets, Counts, Good, Peers, Picked, Place, Rec, Recs, Resolved};
 use std::alloc::Global;
 
-/// Addresses in hexadecimal.
+/// The address `::` in hexadecimal.
 const ZEROS: &str = "00000000000000000000000000000000";
-
-const ONION: &str = "5311111111111111111111111111111111111111111111111111111111111111";
-
-const I2P: &str = "2222222222222222222222222222222222222222222222222222222222222222";
-
-const CJDNS: &str = "fc123333333333333333333333333333";
-
-const IPV6: &str = "20010db8000000000000000000000001";
 
 /// Returns an entry of the time 1700000000 and the port 8333, for the address of the network with
 /// these bytes in hexadecimal.
@@ -53,34 +45,18 @@ fn addr_messages(alloc: Global) -> Result<String, Unread> {
     Ok(format!(in alloc; "{one} {two}")?)
 }
 
-/// `written addrv2-one`: a message of one entry.
-fn one_addrv2(alloc: Global) -> Result<String, Unread> {
-    let ipv4 = entry(alloc, Net::Ipv4, "08080808", 1)?;
-    match write_addrv2(alloc, &[ipv4]) {
-        Ok(one) => hex_text(alloc, one.items()),
-        Err(_) => Err(Unread::Memory),
-    }
-}
-
-/// `written addrv2-four`: services take one byte, three, five or nine.
-fn four_addrv2(alloc: Global) -> Result<String, Unread> {
-    let onion = entry(alloc, Net::Onion, ONION, 252)?;
-    let i2p = entry(alloc, Net::I2p, I2P, 253)?;
-    let cjdns = entry(alloc, Net::Cjdns, CJDNS, 65536)?;
-    let mut ipv6 = entry(alloc, Net::Ipv6, IPV6, u64::MAX)?;
-    ipv6.time = u32::MAX;
-    ipv6.peer.port = 65535;
-    match write_addrv2(alloc, &[onion, i2p, cjdns, ipv6]) {
-        Ok(four) => hex_text(alloc, four.items()),
-        Err(_) => Err(Unread::Memory),
-    }
-}
-
 /// `written address-faults`: the text of each fault of an address.
 fn address_faults(alloc: Global) -> Result<String, Unread> {
     let (truncated, non_canonical) = (AddressFault::Truncated, AddressFault::NonCanonical);
     let (too_long, bad_length) = (AddressFault::TooLong, AddressFault::BadLength);
     Ok(format!(in alloc; "{truncated} {non_canonical} {too_long} {bad_length}")?)
+}
+
+/// Returns two buckets of the new table.
+fn two_buckets() -> Place {
+    let mut items = ArrayVec::new();
+    let _ = items.try_extend_from_slice(&[87, 803]);
+    Place::New(Buckets::of(items))
 }
 
 /// Whether the numbers of the record are those of `record`.
@@ -146,8 +122,6 @@ fn memory_faults(alloc: Global) -> Result<String, Unread> {
 pub(crate) fn answer(alloc: Global, what: &str) -> Result<String, Unread> {
     match what {
         "addr" => addr_messages(alloc),
-        "addrv2-one" => one_addrv2(alloc),
-        "addrv2-four" => four_addrv2(alloc),
         "copies" => bool_text(alloc, are_copied()),
         "lists" => bool_text(alloc, are_listed(alloc)?),
         "answers" => bool_text(alloc, are_compared()?),

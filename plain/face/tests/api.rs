@@ -62,6 +62,16 @@ fn values_go_to_other_threads() {
 }
 
 #[test]
+fn memory_has_one_text_in_each_error() {
+    let texts = [
+        addrman::TableFault::Memory.to_string(),
+        addrman::BanFault::Memory.to_string(),
+        addrman::FileFault::Memory.to_string(),
+    ];
+    assert_eq!(texts, ["out of memory"; 3]);
+}
+
+#[test]
 fn many_threads_select_at_once() {
     let peers = many(20_000);
     let (new, tried) = peers.size_of(Networks::ALL);
