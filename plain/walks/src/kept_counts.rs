@@ -1,9 +1,8 @@
-// The kept counts and masks of the tables, after each of many random calls.
+//! The kept counts and masks of the tables, after each of many random calls.
+
 use crate::entries::{Tabled, buckets, source};
 use net_addr::{Entry, Net, NetAddr, NetSet, Peer};
 use peer_rec::Recs;
-use std::sync::ledger::Ledger;
-use steps::Steps;
 
 /// When the first call is made, in seconds since 1970.
 const NOW: u32 = 1_700_000_000;
@@ -83,23 +82,23 @@ fn slots_of(recs: &Recs) -> (usize, usize) {
 }
 
 /// Returns how many bits are set in the masks of the new and of the tried table.
-fn bits_of<L: Ledger>(tables: &Tabled, steps: &mut Steps<L>) -> (usize, usize) {
+fn bits_of(tables: &Tabled) -> (usize, usize) {
     let (mut new, mut tried) = (0usize, 0usize);
     for bucket in 0..1024 {
-        new = new.wrapping_add(tables.new_mask(bucket, steps).count_ones() as usize);
+        new = new.wrapping_add(tables.new_mask(bucket).count_ones() as usize);
     }
     for bucket in 0..256 {
-        tried = tried.wrapping_add(tables.tried_mask(bucket, steps).count_ones() as usize);
+        tried = tried.wrapping_add(tables.tried_mask(bucket).count_ones() as usize);
     }
     (new, tried)
 }
 
 /// Makes some call: an entry is added, or a peer is reached, with a test of its slot or without.
 /// Returns whether there was memory for it.
-fn call<L: Ledger>(tables: &mut Tabled, word: u64, now: u32, steps: &mut Steps<L>) -> bool {
+fn call(tables: &mut Tabled, word: u64, now: u32) -> bool {
     let peer = peer_of(word >> 20);
     if word >> 10 & 3 == 0 {
-        let _ = tables.good(&peer, word >> 12 & 1 == 0, now, steps);
+        let _ = tables.good(&peer, word >> 12 & 1 == 0, now);
         return true;
     }
     let entry = Entry {
@@ -108,16 +107,13 @@ fn call<L: Ledger>(tables: &mut Tabled, word: u64, now: u32, steps: &mut Steps<L
         peer,
     };
     let source = source((word >> 2 & 7) as u8);
-    tables.next_number() < 1_000_000
-        && tables
-            .add(&entry, &source, 0, word >> 50, now, steps)
-            .is_ok()
+    tables.next_number() < 1_000_000 && tables.add(&entry, &source, 0, word >> 50, now).is_ok()
 }
 
 /// Whether the kept counts and masks are those of the records.
-fn is_kept<L: Ledger>(tables: &Tabled, steps: &mut Steps<L>) -> bool {
-    match tables.recs(steps) {
-        Ok(recs) => is_counted(tables, &recs) && bits_of(tables, steps) == slots_of(&recs),
+fn is_kept(tables: &Tabled) -> bool {
+    match tables.recs() {
+        Ok(recs) => is_counted(tables, &recs) && bits_of(tables) == slots_of(&recs),
         Err(_) => false,
     }
 }
@@ -125,14 +121,14 @@ fn is_kept<L: Ledger>(tables: &Tabled, steps: &mut Steps<L>) -> bool {
 /// Whether the kept counts and masks of tables, which are empty, are those of the records after
 /// each fiftieth of many random calls: entries of five networks are added, evicted as they grow
 /// old, moved and displaced.
-pub(crate) fn are_kept<L: Ledger>(tables: &mut Tabled, steps: &mut Steps<L>) -> bool {
+pub(crate) fn are_kept(tables: &mut Tabled) -> bool {
     let mut state = 5;
     for turn in 0..6000u32 {
         state = step(state);
-        if !call(tables, state, NOW + 3600 * turn, steps) {
+        if !call(tables, state, NOW + 3600 * turn) {
             return false;
         }
-        if turn % 50 == 0 && !is_kept(tables, steps) {
+        if turn % 50 == 0 && !is_kept(tables) {
             return false;
         }
     }

@@ -1,33 +1,31 @@
-// Records and entries added when memory runs out. Try it with each allocation failing in turn, as
-// by `rt try --fail-alloc 30`: it holds with memory and without.
+//! Records and entries that are added when memory runs out. It holds with memory and without.
+
 use crate::entries::{Tabled, source, sum_of_order};
 use crate::four_classes::FourClasses;
 use crate::plain::{Item, add_new, is_same};
 use crate::samples::peer_of;
 use net_addr::{Entry, NetAddr, Peer};
 use peer_index::PeerIndex;
-use std::alloc::Global;
-use std::hash::BuildHasherDefault;
-use std::sync::ledger::Ledger;
-use steps::Steps;
+use plain_std::alloc::Global;
+use plain_std::hash::BuildHasherDefault;
+use plain_std::vec::Vec;
 
 /// How many records are added, and how many entries.
 const COUNT: u8 = 100;
 
 /// Adds records to both, which are empty. Returns whether the list is longer by each, or as it
 /// was.
-fn is_steady_index<L: Ledger>(
+fn is_steady_index(
     index: &mut PeerIndex<BuildHasherDefault<FourClasses>>,
     list: &mut Vec<Item>,
-    steps: &mut Steps<L>,
 ) -> bool {
     for number in 0..u32::from(COUNT) {
-        let is_added = add_new(index, list, (number, u64::from(number)), steps);
-        if !is_added && index.find(&peer_of(number), steps).is_some() {
+        let is_added = add_new(index, list, (number, u64::from(number)));
+        if !is_added && index.find(&peer_of(number)).is_some() {
             // (it is the list that has no memory)
             return true;
         }
-        if !is_same(index, list.as_slice(), steps) {
+        if !is_same(index, list.as_slice()) {
             return false;
         }
     }
@@ -35,10 +33,10 @@ fn is_steady_index<L: Ledger>(
 }
 
 /// Whether a record without memory leaves an index as it was.
-pub(crate) fn leaves_the_index<L: Ledger>(alloc: Global, steps: &mut Steps<L>) -> bool {
+pub(crate) fn leaves_the_index(alloc: Global) -> bool {
     let mut list = Vec::new(alloc);
     let mut index = PeerIndex::make(alloc, BuildHasherDefault::new());
-    is_steady_index(&mut index, &mut list, steps)
+    is_steady_index(&mut index, &mut list)
 }
 
 /// Returns the entry of a number: each has a group and so mostly a slot of its own.
@@ -54,28 +52,28 @@ fn entry_of(number: u8) -> Entry {
 }
 
 /// Adds an entry. Returns whether it has the next number or, without memory, nothing changed.
-fn is_added_or_not<L: Ledger>(tables: &mut Tabled, number: u8, steps: &mut Steps<L>) -> bool {
-    let before = (tables.len(), sum_of_order(tables, steps));
+fn is_added_or_not(tables: &mut Tabled, number: u8) -> bool {
+    let before = (tables.len(), sum_of_order(tables));
     let next = tables.next_number();
     if next >= 1_000 {
         return false;
     }
     let entry = entry_of(number);
     if tables
-        .add(&entry, &source(1), 7200, 0, 1_700_000_000, steps)
+        .add(&entry, &source(1), 7200, 0, 1_700_000_000)
         .is_ok()
     {
         return tables.next_number() == next + 1;
     }
-    tables.find(&entry.peer, steps).is_none()
-        && (tables.len(), sum_of_order(tables, steps)) == before
+    tables.find(&entry.peer).is_none()
+        && (tables.len(), sum_of_order(tables)) == before
         && tables.next_number() == next
 }
 
 /// Whether an entry without memory leaves the tables, which are empty, as they were.
-pub(crate) fn leaves_the_tables<L: Ledger>(tables: &mut Tabled, steps: &mut Steps<L>) -> bool {
+pub(crate) fn leaves_the_tables(tables: &mut Tabled) -> bool {
     for number in 0..COUNT {
-        if !is_added_or_not(tables, number, steps) {
+        if !is_added_or_not(tables, number) {
             return false;
         }
     }

@@ -1,9 +1,11 @@
-// Random tables of two kinds.
+//! Random tables of two kinds.
+
 use crate::table_texts::{put_row, read};
+use plain_rand_core::{Rng, SeedableRng};
+use plain_rand_xoshiro::Xoshiro256PlusPlus;
+use plain_std::alloc::{AllocError, Global};
+use plain_std::vec::Vec;
 use prefix_table::{Row, Table};
-use rand_core::{Rng, SeedableRng};
-use rand_xoshiro::Xoshiro256PlusPlus;
-use std::alloc::{AllocError, Global};
 
 /// The bits up to a length, and zeros.
 pub(crate) fn cut(bits: u128, len: u8) -> u128 {

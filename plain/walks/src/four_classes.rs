@@ -1,16 +1,10 @@
-ghost use Rattle.std.specs.Prelude.{◌%◌, get_or};
-
-use std::hash::Hasher;
+use plain_std::hash::Hasher;
 
 /// A hasher with only four answers, by the first byte of the last write, so that most keys collide.
 #[derive(Clone, Copy, Default)]
 pub(crate) struct FourClasses(u64);
 
 impl Hasher for FourClasses {
-    ghost write = { λ s bytes. record { 0 = get_or bytes 0 s.0 % 4 } };
-
-    ghost finish = { λ s. s.0 };
-
     fn finish(&self) -> u64 {
         self.0
     }

@@ -1,10 +1,10 @@
-// Each write of a grid beside the same write of a plain list, and after it the slots of both.
-use rand_core::{Rng, SeedableRng};
-use rand_xoshiro::Xoshiro256PlusPlus;
+//! Each write of a grid beside the same write of a plain list, and after it the slots of both.
+
+use plain_rand_core::{Rng, SeedableRng};
+use plain_rand_xoshiro::Xoshiro256PlusPlus;
+use plain_std::alloc::Global;
+use plain_std::vec;
 use slot_grid::Grid;
-use std::alloc::Global;
-use std::sync::ledger::Ledger;
-use steps::Steps;
 
 /// How many writes the walk makes.
 const WRITES: u32 = 2_000;
@@ -30,37 +30,32 @@ fn place_of(number: u32) -> (u16, u8) {
 }
 
 /// Puts an id into the slot of the number.
-pub(crate) fn put<L: Ledger>(
-    grid: &mut Grid,
-    number: u32,
-    id: Option<usize>,
-    steps: &mut Steps<L>,
-) {
+pub(crate) fn put(grid: &mut Grid, number: u32, id: Option<usize>) {
     let (bucket, slot) = place_of(number);
     if number < NEW_SLOTS {
-        grid.set_new(bucket % 1024, slot % 64, id, steps);
+        grid.set_new(bucket % 1024, slot % 64, id);
     } else {
-        grid.set_tried(bucket % 256, slot % 64, id, steps);
+        grid.set_tried(bucket % 256, slot % 64, id);
     }
 }
 
 /// Returns the id in the slot of the number.
-pub(crate) fn id_at<L: Ledger>(grid: &Grid, number: u32, steps: &mut Steps<L>) -> Option<usize> {
+pub(crate) fn id_at(grid: &Grid, number: u32) -> Option<usize> {
     let (bucket, slot) = place_of(number);
     if number < NEW_SLOTS {
-        grid.new_at(bucket % 1024, slot % 64, steps)
+        grid.new_at(bucket % 1024, slot % 64)
     } else {
-        grid.tried_at(bucket % 256, slot % 64, steps)
+        grid.tried_at(bucket % 256, slot % 64)
     }
 }
 
 /// Whether the bit of the number's slot is set in the mask of its bucket.
-fn is_in_mask<L: Ledger>(grid: &Grid, number: u32, steps: &mut Steps<L>) -> bool {
+fn is_in_mask(grid: &Grid, number: u32) -> bool {
     let (bucket, _) = place_of(number);
     let mask = if number < NEW_SLOTS {
-        grid.new_mask(bucket % 1024, steps)
+        grid.new_mask(bucket % 1024)
     } else {
-        grid.tried_mask(bucket % 256, steps)
+        grid.tried_mask(bucket % 256)
     };
     mask >> (number % 64) & 1 == 1
 }
@@ -77,20 +72,15 @@ fn written(choice: u32) -> u32 {
 }
 
 /// Whether both have the same in the slot of the number, and the mask has its bit.
-fn is_same_at<L: Ledger>(
-    grid: &Grid,
-    list: &[Option<usize>],
-    number: u32,
-    steps: &mut Steps<L>,
-) -> bool {
+fn is_same_at(grid: &Grid, list: &[Option<usize>], number: u32) -> bool {
     let want = list.get(number as usize).copied().unwrap_or(None);
-    id_at(grid, number, steps) == want && is_in_mask(grid, number, steps) == want.is_some()
+    id_at(grid, number) == want && is_in_mask(grid, number) == want.is_some()
 }
 
 /// Whether both have the same in all slots.
-fn is_same<L: Ledger>(grid: &Grid, list: &[Option<usize>], steps: &mut Steps<L>) -> bool {
+fn is_same(grid: &Grid, list: &[Option<usize>]) -> bool {
     for number in 0..SLOTS {
-        if !is_same_at(grid, list, number, steps) {
+        if !is_same_at(grid, list, number) {
             return false;
         }
     }
@@ -98,9 +88,9 @@ fn is_same<L: Ledger>(grid: &Grid, list: &[Option<usize>], steps: &mut Steps<L>)
 }
 
 /// Whether both have the same in the slots that are written to.
-fn is_same_written<L: Ledger>(grid: &Grid, list: &[Option<usize>], steps: &mut Steps<L>) -> bool {
+fn is_same_written(grid: &Grid, list: &[Option<usize>]) -> bool {
     for choice in 0..WRITTEN {
-        if !is_same_at(grid, list, written(choice), steps) {
+        if !is_same_at(grid, list, written(choice)) {
             return false;
         }
     }
@@ -108,12 +98,7 @@ fn is_same_written<L: Ledger>(grid: &Grid, list: &[Option<usize>], steps: &mut S
 }
 
 /// Writes an id, or none, to a slot of both.
-fn write<L: Ledger>(
-    grid: &mut Grid,
-    list: &mut [Option<usize>],
-    words: &mut Xoshiro256PlusPlus,
-    steps: &mut Steps<L>,
-) {
+fn write(grid: &mut Grid, list: &mut [Option<usize>], words: &mut Xoshiro256PlusPlus) {
     let number = written(words.next_u32() % WRITTEN);
     let word = words.next_u64();
     let id = if word % 3 == 0 {
@@ -121,22 +106,18 @@ fn write<L: Ledger>(
     } else {
         Some(word as usize)
     };
-    put(grid, number, id, steps);
+    put(grid, number, id);
     if let Some(slot) = list.get_mut(number as usize) {
         *slot = id;
     }
 }
 
 /// Makes many writes to both, and compares them after each.
-fn is_same_after_each<L: Ledger>(
-    grid: &mut Grid,
-    list: &mut [Option<usize>],
-    steps: &mut Steps<L>,
-) -> bool {
+fn is_same_after_each(grid: &mut Grid, list: &mut [Option<usize>]) -> bool {
     let mut words = Xoshiro256PlusPlus::seed_from_u64(3);
     for _ in 0..WRITES {
-        write(grid, list, &mut words, steps);
-        if !is_same_written(grid, list, steps) {
+        write(grid, list, &mut words);
+        if !is_same_written(grid, list) {
             return false;
         }
     }
@@ -144,29 +125,23 @@ fn is_same_after_each<L: Ledger>(
 }
 
 /// Compares a grid and a list that are empty, and then after writes.
-fn compare<L: Ledger>(grid: &mut Grid, list: &mut [Option<usize>], steps: &mut Steps<L>) -> bool {
-    is_same(grid, list, steps)
-        && is_same_after_each(grid, list, steps)
-        && is_same(grid, list, steps)
+fn compare(grid: &mut Grid, list: &mut [Option<usize>]) -> bool {
+    is_same(grid, list) && is_same_after_each(grid, list) && is_same(grid, list)
 }
 
 /// Compares an empty grid and a list that is to be so.
-fn compare_empty<L: Ledger>(
-    alloc: Global,
-    list: &mut [Option<usize>],
-    steps: &mut Steps<L>,
-) -> bool {
+fn compare_empty(alloc: Global, list: &mut [Option<usize>]) -> bool {
     match Grid::make(alloc) {
-        Ok(mut grid) => compare(&mut grid, list, steps),
+        Ok(mut grid) => compare(&mut grid, list),
         Err(_) => false,
     }
 }
 
 /// Whether after each write the slots and masks of a grid are those of a plain list.
-pub(crate) fn is_as_a_list<L: Ledger>(alloc: Global, steps: &mut Steps<L>) -> bool {
+pub(crate) fn is_as_a_list(alloc: Global) -> bool {
     let empty: Option<usize> = None;
     match vec![in alloc; empty; SLOTS as usize] {
-        Ok(mut list) => compare_empty(alloc, list.as_mut_slice(), steps),
+        Ok(mut list) => compare_empty(alloc, list.as_mut_slice()),
         Err(_) => false,
     }
 }

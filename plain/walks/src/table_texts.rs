@@ -1,7 +1,10 @@
-// Texts of tables of prefixes.
+//! Texts of tables of prefixes.
+
 use net_addr::put_ipv6;
+use plain_std::alloc::{AllocError, Global};
+use plain_std::format;
+use plain_std::vec::Vec;
 use prefix_table::{MAX_TEXT, Row, Table, read_table};
-use std::alloc::{AllocError, Global};
 
 /// Appends the line of a row.
 pub(crate) fn put_row(row: Row, text: &mut Vec<u8>) -> Result<(), AllocError> {

@@ -1,9 +1,10 @@
-// The longest match in tables, beside lookups in the compiled tables and a walk over all rows.
+//! The longest match in tables, beside lookups in the compiled tables and a walk over all rows.
+
 use crate::random_tables::{cut, near_table, random_table};
 use asmap_compile::compile;
 use asmap_vm::{Sane, check};
+use plain_std::alloc::Global;
 use prefix_table::{Row, Table};
-use std::alloc::Global;
 
 /// The first address of a row and its last, and those before and after them.
 fn edges(row: &Row) -> [u128; 4] {

@@ -1,6 +1,5 @@
-ghost use Rattle.std.specs.Prelude.{◌≡◌};
+//! Peers and records to put into the tables, and when two records are the same.
 
-// Peers and records to put into the tables, and when two records are the same.
 use net_addr::{NetAddr, Peer};
 use peer_rec::{Buckets, Place, Rec};
 
@@ -22,9 +21,7 @@ fn place_of(word: u64) -> Place {
 }
 
 /// A record of a peer, whose other fields are made of a word.
-pub(crate) fn record(peer: Peer, word: u64) -> Rec
-    ensures { result.peer ≡ peer }
-{
+pub(crate) fn record(peer: Peer, word: u64) -> Rec {
     let low = (word % 65_536) as u32;
     Rec {
         number: word,

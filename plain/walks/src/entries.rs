@@ -1,9 +1,8 @@
-// Tables under the key of zeros, and a sum over their order.
+//! Tables under the key of zeros, and a sum over their order.
+
 use net_addr::NetAddr;
 use peer_rec::{Place, Rec};
-use std::hash::{BuildHasherDefault, FoldHasher};
-use std::sync::ledger::Ledger;
-use steps::Steps;
+use plain_std::hash::{BuildHasherDefault, FoldHasher};
 use tables::Tables;
 
 /// The hasher of the tables.
@@ -35,10 +34,10 @@ fn sum(start: u64, number: u64) -> u64 {
 }
 
 /// Returns the sum of the numbers of the records in their order.
-pub(crate) fn sum_of_order<L: Ledger>(tables: &Tabled, steps: &mut Steps<L>) -> u64 {
+pub(crate) fn sum_of_order(tables: &Tabled) -> u64 {
     let mut digest = 0;
     for position in 0..tables.len() {
-        digest = sum(digest, tables.order_at(position, steps).number);
+        digest = sum(digest, tables.order_at(position).number);
     }
     digest
 }

@@ -1,10 +1,12 @@
-// The largest tables and asmaps, and those that are too large by one.
+//! The largest tables and asmaps, and those that are too large by one.
+
 use crate::table_texts::{put_row, read};
 use asmap_back::{BackFault, decompile};
 use asmap_compile::{CompileFault, compile};
 use asmap_vm::{Sane, check};
+use plain_std::alloc::{AllocError, Global};
+use plain_std::vec::Vec;
 use prefix_table::{MAX_TEXT, Row, Table, TableFault, put_table, read_table};
-use std::alloc::{AllocError, Global};
 
 /// The maximum number of rows of a table.
 const MOST: u32 = 2_000_000;

@@ -1,16 +1,10 @@
-ghost use Rattle.std.specs.Prelude.{◌+◌, ◌*◌, ◌%◌, ◌^◌, get_or};
-
-use std::hash::Hasher;
+use plain_std::hash::Hasher;
 
 /// A hasher of the first two bytes of the last write, spread over 64 bits.
 #[derive(Clone, Copy, Default)]
 pub(crate) struct LastWord(u64);
 
 impl Hasher for LastWord {
-    ghost write = { λ s bytes. record { 0 = get_or bytes 0 0 + 256 * get_or bytes 1 0 } };
-
-    ghost finish = { λ s. s.0 * 11400714819323198485 % 2 ^ 64 };
-
     fn finish(&self) -> u64 {
         self.0.wrapping_mul(11_400_714_819_323_198_485)
     }
