@@ -1,0 +1,4 @@
+pub mod SlotNames
+pub mod FieldLaws
+pub mod RowLaws
+pub mod RawLaws
