@@ -1,0 +1,4 @@
+mod Addresses
+mod Fits
+mod Records
+mod Texts
