@@ -144,22 +144,35 @@ def written_record(record: Record) -> bytes:
     ))
 
 
-def written_file(tables: Tables, start: bytes) -> bytes:
-    """The file of the tables, in format 4."""
+def saved(tables: Tables) -> PeersFile:
+    """What the file of the tables has."""
     records = [tables.records[number] for number in sorted(tables.records)]
     new = [record for record in records if not record.tried]
     tried = [record for record in records if record.tried]
     index = {record.number: at for at, record in enumerate(new)}
-    parts = [start, bytes([WRITTEN_FORMAT, LARGEST_COMPATIBLE]), tables.key]
-    for count in (len(new), len(tried), places.NEW_BUCKETS ^ FLIPPED_BIT):
+    buckets = [
+        [index[number] for _, number in sorted(tables.new.get(bucket, {}).items())]
+        for bucket in range(places.NEW_BUCKETS)
+    ]
+    return PeersFile(tables.key, new, tried, buckets, asmap_sum_of(tables.asmap, tables.of_bits))
+
+
+def written(file: PeersFile, start: bytes) -> bytes:
+    """The bytes of a file, in format 4."""
+    parts = [start, bytes([WRITTEN_FORMAT, LARGEST_COMPATIBLE]), file.key]
+    for count in (len(file.new), len(file.tried), len(file.buckets) ^ FLIPPED_BIT):
         parts.append(count.to_bytes(4, "little"))
-    parts += [written_record(record) for record in new + tried]
-    for bucket in range(places.NEW_BUCKETS):
-        slots = sorted(tables.new.get(bucket, {}).items())
-        parts.append(len(slots).to_bytes(4, "little"))
-        parts += [index[number].to_bytes(4, "little") for _, number in slots]
-    data = b"".join(parts) + asmap_sum_of(tables.asmap, tables.of_bits)
+    parts += [written_record(record) for record in file.new + file.tried]
+    for indices in file.buckets:
+        parts.append(len(indices).to_bytes(4, "little"))
+        parts += [index.to_bytes(4, "little") for index in indices]
+    data = b"".join(parts) + file.sum
     return data + places.double_sha256(data)
+
+
+def written_file(tables: Tables, start: bytes) -> bytes:
+    """The file of the tables, in format 4."""
+    return written(saved(tables), start)
 
 
 def shown(file: PeersFile, keyed: bool) -> list[str]:
