@@ -1,0 +1,5 @@
+mod NoMemory
+mod FileLaws
+mod TextLaws
+mod WholeLaws
+mod Lines
