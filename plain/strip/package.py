@@ -136,7 +136,7 @@ def package_files(files, workspace):
         rel = path[len(FACE) + 1:]
         if path.startswith(FACE + '/src/'):
             found[rel] = with_paths(text, '', names)
-        elif path.startswith(FACE + '/') and rel.endswith(('.rs', '.md')):
+        elif path.startswith(FACE + '/') and rel.endswith(('.rs', '.md', '.txt')):
             found[rel] = text
     found['src/lib.rs'] += '\nmod parts;\n'
     modules = ''.join('pub(crate) mod %s;\n' % name for name in sorted(map(name_of, folders)))

@@ -215,11 +215,11 @@ def laid_out(files):
 
 
 def plain_files(plain):
-    """The files of plain/ that are Rust, or are for cargo."""
+    """The files of plain/ that are Rust, or are for cargo or for a test."""
     found = {}
     for base, _, names in os.walk(plain):
         for name in names:
-            if name.endswith('.rs') or name in ('Cargo.toml', 'README.md'):
+            if name.endswith(('.rs', '.txt')) or name in ('Cargo.toml', 'README.md'):
                 path = os.path.join(base, name)
                 with open(path, encoding='utf-8') as file:
                     found[os.path.join('plain', os.path.relpath(path, plain))] = file.read()

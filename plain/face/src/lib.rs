@@ -54,6 +54,7 @@
 #![deny(missing_docs)]
 
 mod address;
+mod anchors;
 mod asmap;
 mod bans;
 mod error;
@@ -69,6 +70,7 @@ mod serialized;
 mod words;
 
 pub use address::{Address, NoSocket, ParseError, Peer};
+pub use anchors::{AnchorsError, read_anchors, write_anchors};
 pub use asmap::Asmap;
 pub use bans::{Ban, Bans, Subnet};
 pub use error::{
@@ -83,6 +85,7 @@ pub use opener::Opener;
 pub use record::{Added, Entry, Pick, Record};
 
 pub use addr_codecs::{Form, MAX_ENTRIES, MsgFault};
+pub use anchors_crate::{AnchorCause, AnchorsFault};
 pub use asmap_vm::CodeFault;
 pub use ban_list::{BanFault, BanReply};
 pub use limiter_crate::Asked;
