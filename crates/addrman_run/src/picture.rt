@@ -11,13 +11,13 @@ use crate::opening::open_peers;
 use crate::output::write_line;
 use crate::{Learned, Memory, Status};
 use arguments::FileKind;
-use group_counts::Lent;
 use host_io::{Bytes, Folder, Sink};
 use std::alloc::Global;
 use std::hash::BuildHasher;
 use std::marker::Brand;
 use std::sync::ledger::{Blank, Ledger};
 use steps::Steps;
+use table_groups::Lent;
 use table_picture::put_picture;
 use tables::Tables;
 
@@ -95,14 +95,7 @@ fn text_of<L: Ledger, H: BuildHasher, G: BuildHasher>(
 {
     let mut steps = Steps::<L>::none(blank);
     let mut text = Vec::new(alloc);
-    match put_picture(
-        alloc,
-        hasher,
-        tables,
-        tables.placer(),
-        &mut text,
-        &mut steps,
-    ) {
+    match put_picture(alloc, hasher, tables, &mut text, &mut steps) {
         Ok(()) => Ok(text),
         Err(_) => Err(Memory),
     }

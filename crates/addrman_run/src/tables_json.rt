@@ -10,7 +10,6 @@ use crate::opening::open_peers;
 use crate::output::write_line;
 use crate::{Learned, Memory, Status};
 use arguments::FileKind;
-use group_counts::Lent;
 use host_io::{Bytes, Folder, Sink};
 use node_json::{groups_text, info_text, raw_text};
 use std::alloc::Global;
@@ -18,6 +17,7 @@ use std::hash::BuildHasher;
 use std::marker::Brand;
 use std::sync::ledger::{Blank, Ledger};
 use steps::Steps;
+use table_groups::Lent;
 use tables::Tables;
 
 /// What is printed of the tables.

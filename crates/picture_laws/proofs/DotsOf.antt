@@ -1,42 +1,19 @@
 -- The dots of a state's slots.
 use Rattle.std.proofs.Common.{◌≡◌, ℕ, ◌+◌, ◌*◌, ◌/◌, ◌<◌, ◌≤◌, ◌==◌, Bool, true, false, cond, List, [], ◌∷◌, ◌++◌, length, map, get_or, filter, refl, sym, ap, ◌∙◌, arith}
-use Rattle.std.specs.Prelude.{All, Option, Some, None, bytes_eq}
-use Rattle.std.specs.List.{AllByRecursion, flat_map, range_with_len}
-use Rattle.std.proofs.lemmas.List.{drop-map, get_or-map, length-map, take-map}
+use Rattle.std.specs.List.{flat_map, range_with_len}
 use Rattle.std.proofs.lemmas.List.Concat.{flat_map-append}
 use Rattle.std.proofs.lemmas.List.Elements.{filter-append}
 use Rattle.dot_runs.specs.Rects.{dot_x, dot_y, dots_over, row_rects, table_rects}
 use Rattle.dot_runs.specs.Runs.{Run, run_text, rect_text, runs_from}
 use Rattle.dot_runs.specs.Tables.{row_marks, row_x, row_y, table_row}
-use Rattle.peer_rec.specs.Rec.{IsRec}
-use Rattle.peer_rec.specs.declared.rec.Rec.{Rec}
-use Rattle.picture_text.specs.Marks.{mark_of, marks_of, place_in}
-use Rattle.picture_text.specs.Picture.{in_new, in_tried, listed_keys}
-use Rattle.placing.specs.Places.{Places, group}
-use Rattle.table_machine.specs.State.{State, new_rec_at, tried_rec_at}
-use Rattle.table_picture.specs.Keys.{group_key, new_keys, slot_key, tried_keys}
-use Rattle.picture_laws.proofs.Found.{HasSource, key-free, key-of, new-key-at, new-length, new-source, tried-key-at, tried-length, tried-source}
-use Rattle.picture_laws.proofs.Groups.{IsGroup}
-use Rattle.picture_laws.proofs.Listed.{eqb-flip}
-use Rattle.picture_laws.proofs.Rows.{are-groups, in-new, in-tried, listed-are}
-use Rattle.picture_laws.specs.Dots.{DrawsSlots, group_mark, rec_mark, rect_of}
-use Rattle.picture_laws.specs.Slots.{all_marks, keys_of, listed_groups}
-
--- the mark of a key is that of its record's group
-place-of : (places : Places) (r : Rec) (n : ℕ) (gs : List (List ℕ)) → IsGroup (group places r.source) → AllByRecursion IsGroup gs
-    → place_in n (group_key (group places r.source)) (map group_key gs) ≡ group_mark n (group places r.source) gs
-place-of places r n [] has each = refl
-place-of places r n (g ∷ gs) has each =
-    ap (λ (b : Bool). cond b n (place_in (n + 1) (group_key (group places r.source)) (map group_key gs)))
-    (eqb-flip (group_key g) (group_key (group places r.source)) ∙ key-of places g (Some r) each.0 has)
-    ∙ ap (λ (k : ℕ). cond (bytes_eq (group places r.source) g) n k) (place-of places r (n + 1) gs has each.1)
-
-mark-is : (places : Places) (gs : List (List ℕ)) (o : Option Rec) → AllByRecursion IsGroup gs → HasSource places o
-    → mark_of (map group_key gs) (slot_key places o) ≡ rec_mark places gs o
-mark-is places gs None each has = refl
-mark-is places gs (Some r) each has =
-    ap (λ (b : Bool). cond b 0 (place_in 1 (group_key (group places r.source)) (map group_key gs))) (key-free places (Some r) has)
-    ∙ place-of places r 1 gs has each
+use Rattle.table_groups.specs.declared.sources.Source.{Source}
+use Rattle.table_machine.specs.Picks.{bucket_count, occupant_at}
+use Rattle.table_machine.specs.State.{State}
+use Rattle.table_picture.specs.Marks.{rec_mark, table_marks}
+use Rattle.table_picture.specs.Picture.{listed_of}
+use Rattle.table_picture.proofs.Slots.{table-length}
+use Rattle.picture_laws.proofs.Marks.{in-new, in-tried, mark-at}
+use Rattle.picture_laws.specs.Dots.{DrawsSlots, marks_at, rect_of}
 
 -- the rectangles of a mark in a row, and in all rows
 row-paths : (mark top : ℕ) (rs : List Run)
@@ -63,33 +40,20 @@ abbrev pub OneDot : Type 0
 OneDot = (side : ℕ) (marks : List ℕ) (bucket slot : ℕ) → slot < 64 → 64 * bucket + 64 ≤ length marks
     → dots_over (dot_x side bucket slot) (dot_y side bucket slot) (table_rects side marks) ≡ get_or marks (64 * bucket + slot) 0 ∷ []
 
-module _ (st : State) (each : All IsRec st.records) where
-  mark-at : (o : Option Rec) → HasSource st.places o → mark_of (listed_keys (keys_of st)) (slot_key st.places o) ≡ rec_mark st.places (listed_groups st) o
-  mark-at o has = ap (λ (ks : List ℕ). mark_of ks (slot_key st.places o)) (sym (listed-are st each)) ∙ mark-is st.places (listed_groups st) o (are-groups st each) has
+module _ (st : State) (one_dot : OneDot) where
+  abbrev listed : List Source
+  listed = listed_of st
 
-  new-marks : in_new (all_marks st) ≡ map (mark_of (listed_keys (keys_of st))) (new_keys st st.places)
-  unfolding marks_of in_new
-  new-marks = take-map (mark_of (listed_keys (keys_of st))) 65536 (keys_of st) ∙ ap (map (mark_of (listed_keys (keys_of st)))) (in-new st each)
+  -- the dot of a slot of a table
+  dot-at : (side : ℕ) (in_new : Bool) (bucket slot : ℕ) → bucket < bucket_count in_new → slot < 64 → marks_at side (table_marks st listed in_new) bucket slot
+      ≡ rec_mark st.places listed (occupant_at st in_new bucket slot) ∷ []
+  dot-at side in_new bucket slot low small =
+      one_dot side (table_marks st listed in_new) bucket slot small (omega (arith, table-length st listed in_new, low))
+      ∙ ap (λ (m : ℕ). m ∷ []) (mark-at st listed in_new bucket slot low small)
 
-  tried-marks : in_tried (all_marks st) ≡ map (mark_of (listed_keys (keys_of st))) (tried_keys st st.places)
-  unfolding marks_of in_tried
-  tried-marks = drop-map (mark_of (listed_keys (keys_of st))) 65536 (keys_of st) ∙ ap (map (mark_of (listed_keys (keys_of st)))) (in-tried st each)
-
-  pub draws-slots : OneDot → DrawsSlots st
-  draws-slots one_dot = record {
-    new = λ bucket slot low small.
-        let mark : ℕ → ℕ = mark_of (listed_keys (keys_of st)) in
-        let long : length (map mark (new_keys st st.places)) ≡ 65536 = length-map (new_keys st st.places) mark ∙ new-length st st.places in
-        ap (λ (ms : List ℕ). dots_over (dot_x 32 bucket slot) (dot_y 32 bucket slot) (table_rects 32 ms)) new-marks
-        ∙ one_dot 32 (map mark (new_keys st st.places)) bucket slot small (omega (arith, long, low))
-        ∙ ap (λ (m : ℕ). m ∷ []) (get_or-map mark (new_keys st st.places) (64 * bucket + slot) 0 0 (omega (arith, new-length st st.places, low, small))
-        ∙ ap mark (new-key-at st st.places bucket slot low small) ∙ mark-at (new_rec_at st bucket slot) (new-source st each bucket slot));
-    tried = λ bucket slot low small.
-        let mark : ℕ → ℕ = mark_of (listed_keys (keys_of st)) in
-        let long : length (map mark (tried_keys st st.places)) ≡ 16384 = length-map (tried_keys st st.places) mark ∙ tried-length st st.places in
-        ap (λ (ms : List ℕ). dots_over (dot_x 16 bucket slot) (dot_y 16 bucket slot) (table_rects 16 ms)) tried-marks
-        ∙ one_dot 16 (map mark (tried_keys st st.places)) bucket slot small (omega (arith, long, low))
-        ∙ ap (λ (m : ℕ). m ∷ []) (get_or-map mark (tried_keys st st.places) (64 * bucket + slot) 0 0 (omega (arith, tried-length st st.places, low, small))
-        ∙ ap mark (tried-key-at st st.places bucket slot low small) ∙ mark-at (tried_rec_at st bucket slot) (tried-source st each bucket slot));
+  pub draws-slots : DrawsSlots st
+  draws-slots = record {
+    new = λ bucket slot low small. ap (λ (ms : List ℕ). marks_at 32 ms bucket slot) (in-new st listed) ∙ dot-at 32 true bucket slot low small;
+    tried = λ bucket slot low small. ap (λ (ms : List ℕ). marks_at 16 ms bucket slot) (in-tried st listed) ∙ dot-at 16 false bucket slot low small;
     paths = λ mark side marks. all-paths mark side marks (range_with_len 0 (length marks / 8));
   }

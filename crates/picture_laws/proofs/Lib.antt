@@ -3,12 +3,10 @@ pub mod Contents
 pub mod Markups
 pub mod Groups
 pub mod Listed
-pub mod Found
-pub mod Sums
-pub mod Buckets
+pub mod Marks
+pub mod Parts
 pub mod Rows
 pub mod DotsOf
 pub mod Trees
-pub mod Ranked
 pub mod Most
 pub mod Wide

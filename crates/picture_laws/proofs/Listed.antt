@@ -1,23 +1,25 @@
--- The keys of the list: at most six, each once, and each that of some slot.
-use Rattle.std.proofs.Common.{◌≡◌, ℕ, suc, ◌+◌, ◌<◌, ◌≤◌, ◌==◌, not, Bool, true, false, cond, List, [], ◌∷◌, length, map, take, get_or, refl, sym, ap, ◌∙◌, arith}
-use Rattle.std.specs.List.{count_by, fold, position_or_len}
-use Rattle.std.proofs.lemmas.Bool.{both_ways, eq-eqb, eqb-true}
-use Rattle.std.proofs.lemmas.List.{length-map, length-take}
-use Rattle.std.proofs.lemmas.List.Sums.{sum_by-cons, sum_by-take-le}
-use Rattle.group_counts.specs.Ranks.{comes_before, counted_at, first_six, groups_of, in_order, placed}
-use Rattle.group_counts.specs.Tally.{counted, noted, occurrences, tally_of}
-use Rattle.group_counts.specs.declared.counting.Counted.{Counted}
-use Rattle.picture_text.specs.Picture.{listed_keys}
-
-abbrev pub one_if : Bool → ℕ
-one_if b = cond b 1 0
-
-pub count-cons : {X : Type 0} (p : X → Bool) (x : X) (xs : List X) → count_by p (x ∷ xs) ≡ one_if (p x) + count_by p xs
-count-cons p x xs = sum_by-cons (λ y. one_if (p y)) x xs
-
-pub count-map : {X Y : Type 0} (p : Y → Bool) (f : X → Y) (xs : List X) → count_by p (map f xs) ≡ count_by (λ x. p (f x)) xs
-count-map p f [] = refl
-count-map p f (x ∷ xs) = count-cons p (f x) (map f xs) ∙ ap (λ (n : ℕ). one_if (p (f x)) + n) (count-map p f xs) ∙ sym (count-cons (λ y. p (f y)) x xs)
+-- The groups of the sources in order: each is there once, and none after it has more slots.
+use Rattle.std.proofs.Common.{◌≡◌, ℕ, zero, suc, ◌+◌, ◌<◌, ◌≤◌, ◌==◌, ◌||◌, not, Bool, true, false, cond, List, [], ◌∷◌, length, map, take, drop, refl, sym, ap, ◌∙◌, arith}
+use Rattle.std.specs.Prelude.{bytes_eq, nat_lt}
+use Rattle.std.specs.Cmp.Lexicographic.{slice_cmp}
+use Rattle.std.specs.List.{AllByRecursion, count_by, list_any}
+use Rattle.std.specs.Ordering.{is_lt, nat_cmp, ordering_then}
+use Rattle.std.specs.declared.cmp.Ordering.TheVariants.{Less, Equal, Greater}
+use Rattle.std.proofs.lemmas.Bool.{both_ways, eq-eqb, eqb-true, ltb-false}
+use Rattle.std.proofs.lemmas.List.{length-map, length-take, take-map}
+use Rattle.std.proofs.lemmas.List.Sums.{sum_by-take-le}
+use Rattle.table_groups.specs.Order.{comes_before, in_order}
+use Rattle.table_groups.specs.Slots.{all_slots, is_of}
+use Rattle.table_groups.specs.Sources.{counted_source, slot_groups, source_of, sources_of}
+use Rattle.table_groups.specs.Tally.{once}
+use Rattle.table_groups.specs.declared.order.Counted.{Counted}
+use Rattle.table_groups.specs.declared.sources.Source.{Source}
+use Rattle.table_groups.proofs.Once.{once-count, same-back}
+use Rattle.table_groups.proofs.Sorted.{IsUp, order-all, order-sum, order-up}
+use Rattle.table_groups.proofs.Visits.{count-cons, count-map, one_if}
+use Rattle.table_machine.specs.State.{State}
+use Rattle.table_picture.specs.Picture.{listed_of}
+use Rattle.picture_laws.specs.Slots.{listed_groups}
 
 pub eqb-flip : (a b : ℕ) → (a == b) ≡ (b == a)
 eqb-flip a b = by (a == b) refl (b == a) refl
@@ -28,174 +30,148 @@ eqb-flip a b = by (a == b) refl (b == a) refl
     by true e false f = absurd (both_ways (b == a) f (eq-eqb b a (sym (eqb-true a b e))))
     by false e true f = absurd (both_ways (a == b) e (eq-eqb a b (sym (eqb-true b a f))))
 
--- how often a key is in a tally
-abbrev noted_keys : List (ℕ × ℕ) → List ℕ
-noted_keys es = map (λ e. e.0) es
+pub map-map : {A B C : Type 0} (f : B → C) (g : A → B) (xs : List A) → map f (map g xs) ≡ map (λ x. f (g x)) xs
+map-map f g [] = refl
+map-map f g (x ∷ xs) = ap (λ ys. f (g x) ∷ ys) (map-map f g xs)
 
-times : List (ℕ × ℕ) → ℕ → ℕ
-times es k = occurrences (noted_keys es) k
+-- ---- counts
 
-times-cons : (e : ℕ × ℕ) (es : List (ℕ × ℕ)) (k : ℕ) → times (e ∷ es) k ≡ one_if (e.0 == k) + times es k
-unfolding times
-times-cons e es k = count-cons (λ j. j == k) e.0 (noted_keys es)
+module _ {X : Type 0} (p : X → Bool) where
+  pub none-count : (xs : List X) → list_any p xs ≡ false → count_by p xs ≡ 0
+  none-count [] none = refl
+  none-count (x ∷ xs) none = by (p x) refl none (none-count xs)
+    where
+      by : (b : Bool) → p x ≡ b → (b || list_any p xs) ≡ false → (list_any p xs ≡ false → count_by p xs ≡ 0) → count_by p (x ∷ xs) ≡ 0
+      by true e none more = absurd (both_ways true none refl)
+      by false e none more = count-cons p x xs ∙ omega (arith, ap one_if e, more none)
 
-times-nil : (k : ℕ) → times [] k ≡ 0
-unfolding times
-times-nil k = refl
+  pub some-any : (xs : List X) → 0 < count_by p xs → list_any p xs ≡ true
+  some-any [] some = absurd (omega (arith, some))
+  some-any (x ∷ xs) some = by (p x) refl (some-any xs)
+    where
+      by : (b : Bool) → p x ≡ b → (0 < count_by p xs → list_any p xs ≡ true) → (b || list_any p xs) ≡ true
+      by true e more = refl
+      by false e more = more (omega (arith, some, count-cons p x xs, ap one_if e))
 
--- one occurrence more leaves the other keys
-counted-other : (es : List (ℕ × ℕ)) (h k : ℕ) → (h == k) ≡ false → times (counted es h) k ≡ times es k
-counted-other [] h k other = times-cons (h, 1) [] k ∙ ap (λ (b : Bool). one_if b + times [] k) other ∙ omega arith
-counted-other (e ∷ es) h k other = by (h == e.0) (counted-other es h k other)
+  -- what is there at most once is there, or not
+  pub there-or-not : (xs : List X) → count_by p xs ≤ 1 → count_by p xs + one_if (not (list_any p xs)) ≡ 1
+  there-or-not [] few = refl
+  there-or-not (x ∷ xs) few = by (p x) refl (there-or-not xs)
+    where
+      by : (b : Bool) → p x ≡ b → (count_by p xs ≤ 1 → count_by p xs + one_if (not (list_any p xs)) ≡ 1) → count_by p (x ∷ xs) + one_if (not (b || list_any p xs)) ≡ 1
+      by true e more = omega (arith, few, count-cons p x xs, ap one_if e)
+      by false e more = omega (arith, few, count-cons p x xs, ap one_if e, more (omega (arith, few, count-cons p x xs, ap one_if e)))
+
+  -- those of the first ones and those of the others
+  pub count-cut : (n : ℕ) (xs : List X) → count_by p xs ≡ count_by p (take n xs) + count_by p (drop n xs)
+  count-cut zero xs = omega arith
+  count-cut (suc n) [] = refl
+  count-cut (suc n) (x ∷ xs) = count-cons p x xs ∙ omega (arith, count-cut n xs, count-cons p x (take n xs))
+
+  -- others are there only after all of the first ones
+  pub long-take : (n : ℕ) (xs : List X) → 0 < count_by p (drop n xs) → length (take n xs) ≡ n
+  long-take zero xs some = refl
+  long-take (suc n) [] some = absurd (omega (arith, some))
+  long-take (suc n) (x ∷ xs) some = ap suc (long-take n xs some)
+
+  -- one that passes has what all have
+  pub one-that : (Q : X → Type 0) (xs : List X) → 0 < count_by p xs → AllByRecursion Q xs → (x : X) × (p x ≡ true) × Q x
+  one-that Q [] some each = absurd (omega (arith, some))
+  one-that Q (x ∷ xs) some each = by (p x) refl (one-that Q xs)
+    where
+      by : (b : Bool) → p x ≡ b → (0 < count_by p xs → AllByRecursion Q xs → (y : X) × (p y ≡ true) × Q y) → (y : X) × (p y ≡ true) × Q y
+      by true e more = (x, e, each.0)
+      by false e more = more (omega (arith, some, count-cons p x xs, ap one_if e)) each.1
+
+pub all-drop : {X : Type 0} (P : X → Type 0) (n : ℕ) (xs : List X) → AllByRecursion P xs → AllByRecursion P (drop n xs)
+all-drop P zero xs each = each
+all-drop P (suc n) [] each = tt
+all-drop P (suc n) (x ∷ xs) each = all-drop P n xs each.1
+
+pub all-take : {X : Type 0} (P : X → Type 0) (n : ℕ) (xs : List X) → AllByRecursion P xs → AllByRecursion P (take n xs)
+all-take P zero xs each = tt
+all-take P (suc n) [] each = tt
+all-take P (suc n) (x ∷ xs) each = (each.0, all-take P n xs each.1)
+
+pub all-both : {X : Type 0} (P Q R : X → Type 0) (xs : List X) → AllByRecursion P xs → AllByRecursion Q xs → ((x : X) → P x → Q x → R x) → AllByRecursion R xs
+all-both P Q R [] p q so = tt
+all-both P Q R (x ∷ xs) p q so = (so x p.0 q.0, all-both P Q R xs p.1 q.1 so)
+
+pub all-map : {X Y : Type 0} (P : Y → Type 0) (f : X → Y) (xs : List X) → AllByRecursion (λ x. P (f x)) xs → AllByRecursion P (map f xs)
+all-map P f [] each = tt
+all-map P f (x ∷ xs) each = (each.0, all-map P f xs each.1)
+
+-- ---- the order
+
+-- who does not come before another has no more slots
+no-more : (z x : Counted) → comes_before z x ≡ false → z.slots ≤ x.slots
+no-more z x not_before = by (nat_lt x.slots z.slots) refl not_before
   where
-    by : (b : Bool) → times (counted es h) k ≡ times es k → times (cond b ((e.0, e.1 + 1) ∷ es) (e ∷ counted es h)) k ≡ times (e ∷ es) k
-    by true more = times-cons (e.0, e.1 + 1) es k ∙ sym (times-cons e es k)
-    by false more = times-cons e (counted es h) k ∙ ap (λ (n : ℕ). one_if (e.0 == k) + n) more ∙ sym (times-cons e es k)
+    by : (b : Bool) → nat_lt x.slots z.slots ≡ b → is_lt (ordering_then (cond b Less (cond (x.slots == z.slots) Equal Greater)) (slice_cmp nat_cmp z.group.items x.group.items)) ≡ false → z.slots ≤ x.slots
+    by true e is = absurd (both_ways true is refl)
+    by false e is = ltb-false x.slots z.slots e
 
--- it adds a key at most
-counted-more : (es : List (ℕ × ℕ)) (h k : ℕ) → times (counted es h) k ≤ times es k + one_if (h == k)
-counted-more [] h k = omega (arith, times-cons (h, 1) [] k, times-nil k)
-counted-more (e ∷ es) h k = by (h == e.0) (counted-more es h k)
-  where
-    by : (b : Bool) → times (counted es h) k ≤ times es k + one_if (h == k) → times (cond b ((e.0, e.1 + 1) ∷ es) (e ∷ counted es h)) k ≤ times (e ∷ es) k + one_if (h == k)
-    by true more = omega (arith, times-cons (e.0, e.1 + 1) es k, times-cons e es k)
-    by false more = omega (arith, more, times-cons e (counted es h) k, times-cons e es k)
+-- the first ones have as many slots as one after them
+pub first-have : (p : Counted → Bool) (m n : ℕ) (xs : List Counted) → IsUp xs → 0 < count_by p (drop n xs) → AllByRecursion (λ c. p c ≡ true → c.slots ≡ m) xs
+    → AllByRecursion (λ x. m ≤ x.slots) (take n xs)
+first-have p m zero xs up some own = tt
+first-have p m (suc n) [] up some own = tt
+first-have p m (suc n) (x ∷ xs) up some own =
+    let found = one-that p (λ c. (comes_before c x ≡ false) × (p c ≡ true → c.slots ≡ m)) (drop n xs) some
+    (all-drop (λ c. (comes_before c x ≡ false) × (p c ≡ true → c.slots ≡ m)) n xs
+    (all-both (λ c. comes_before c x ≡ false) (λ c. p c ≡ true → c.slots ≡ m) (λ c. (comes_before c x ≡ false) × (p c ≡ true → c.slots ≡ m)) xs up.0 own.1 (λ c a b. (a, b)))) in
+    let slots : found.0.slots ≡ m = found.2.1 found.1 in
+    (omega (arith, slots, no-more found.0 x found.2.0), first-have p m n xs up.1 some own.1)
 
--- and none twice
-counted-once : (es : List (ℕ × ℕ)) (h k : ℕ) → times es k ≤ 1 → times (counted es h) k ≤ 1
-counted-once [] h k once = by (h == k) (times-cons (h, 1) [] k)
-  where
-    by : (b : Bool) → times ((h, 1) ∷ []) k ≡ one_if b + times [] k → times ((h, 1) ∷ []) k ≤ 1
-    by true is = omega (arith, is, times-nil k)
-    by false is = omega (arith, is, times-nil k)
-counted-once (e ∷ es) h k once = by (counted-once es h k (omega (arith, once, times-cons e es k))) (h == e.0) refl (e.0 == k) refl
-  where
-    by : times (counted es h) k ≤ 1 → (a : Bool) → (h == e.0) ≡ a → (b : Bool) → (e.0 == k) ≡ b → times (cond a ((e.0, e.1 + 1) ∷ es) (e ∷ counted es h)) k ≤ 1
-    by more true p b q = omega (arith, once, times-cons (e.0, e.1 + 1) es k, times-cons e es k)
-    by more false p true q =
-        let other : (h == k) ≡ false = ap (λ (j : ℕ). h == j) (sym (eqb-true e.0 k q)) ∙ p in
-        let whole : times (e ∷ es) k ≡ 1 + times es k = times-cons e es k ∙ ap (λ (b : Bool). one_if b + times es k) q in
-        let new : times (e ∷ counted es h) k ≡ 1 + times (counted es h) k = times-cons e (counted es h) k ∙ ap (λ (b : Bool). one_if b + times (counted es h) k) q in
-        omega (arith, once, whole, new, counted-other es h k other)
-    by more false p false q =
-        let new : times (e ∷ counted es h) k ≡ 0 + times (counted es h) k = times-cons e (counted es h) k ∙ ap (λ (b : Bool). one_if b + times (counted es h) k) q in
-        omega (arith, new, more)
+module _ (st : State) where
+  abbrev pub ordered : List Counted
+  ordered = in_order (map (counted_source st) (once (slot_groups st)))
 
--- the same with free slots, which add nothing
-noted-more : (es : List (ℕ × ℕ)) (h k : ℕ) → times (noted es h) k ≤ times es k + one_if (h == k)
-noted-more es h k = by (h == 0)
-  where
-    by : (b : Bool) → times (cond b es (counted es h)) k ≤ times es k + one_if (h == k)
-    by true = omega arith
-    by false = counted-more es h k
+  pub ordered-up : IsUp ordered
+  ordered-up = order-up (map (counted_source st) (once (slot_groups st))) [] tt
 
-noted-once : (es : List (ℕ × ℕ)) (h k : ℕ) → times es k ≤ 1 → times (noted es h) k ≤ 1
-noted-once es h k once = by (h == 0)
-  where
-    by : (b : Bool) → times (cond b es (counted es h)) k ≤ 1
-    by true = once
-    by false = counted-once es h k once
+  -- each has the slots of its group
+  pub ordered-own : AllByRecursion (λ c. c.slots ≡ all_slots (is_of st.places c.group.items) st) ordered
+  ordered-own =
+      order-all (λ c. c.slots ≡ all_slots (is_of st.places c.group.items) st) (map (counted_source st) (once (slot_groups st))) []
+      (all-map (λ c. c.slots ≡ all_slots (is_of st.places c.group.items) st) (counted_source st) (once (slot_groups st)) (own (once (slot_groups st)))) tt
+    where
+      own : (gs : List (List ℕ)) → AllByRecursion (λ g. all_slots (is_of st.places g) st ≡ all_slots (is_of st.places g) st) gs
+      own [] = tt
+      own (g ∷ gs) = (refl, own gs)
 
-noted-zero : (es : List (ℕ × ℕ)) (h : ℕ) → times (noted es h) 0 ≡ times es 0
-noted-zero es h = by (h == 0) refl
-  where
-    by : (b : Bool) → (h == 0) ≡ b → times (cond b es (counted es h)) 0 ≡ times es 0
-    by true e = refl
-    by false e = counted-other es h 0 e
+  -- each group is once among them, if a slot is of it
+  pub ordered-once : (g : List ℕ) → count_by (λ c. bytes_eq c.group.items g) ordered ≡ one_if (list_any (bytes_eq g) (slot_groups st))
+  ordered-once g =
+      order-sum (λ (c : Counted). one_if (bytes_eq c.group.items g)) (map (counted_source st) (once (slot_groups st))) [] ∙ omega arith
+      ∙ count-map (λ (c : Counted). bytes_eq c.group.items g) (counted_source st) (once (slot_groups st))
+      ∙ (λ i. count_by (λ h. same-back h g i) (once (slot_groups st)))
+      ∙ once-count g (slot_groups st)
 
-fold-more : (es : List (ℕ × ℕ)) (ks : List ℕ) (k : ℕ) → times (fold noted es ks) k ≤ times es k + occurrences ks k
-fold-more es [] k = omega arith
-fold-more es (h ∷ ks) k = omega (arith, fold-more (noted es h) ks k, noted-more es h k, count-cons (λ j. j == k) h ks)
+  -- the listed ones are the first six
+  pub listed-are : listed_of st ≡ map (source_of st) (take 6 ordered)
+  unfolding listed_of sources_of
+  listed-are = take-map (source_of st) 6 ordered
 
-fold-once : (es : List (ℕ × ℕ)) (ks : List ℕ) (k : ℕ) → times es k ≤ 1 → times (fold noted es ks) k ≤ 1
-fold-once es [] k once = once
-fold-once es (h ∷ ks) k once = fold-once (noted es h) ks k (noted-once es h k once)
+  pub groups-are : listed_groups st ≡ map (λ c. c.group.items) (take 6 ordered)
+  groups-are = ap (map (λ (s : Source). s.group.items)) listed-are ∙ map-map (λ (s : Source). s.group.items) (source_of st) (take 6 ordered)
 
-fold-zero : (es : List (ℕ × ℕ)) (ks : List ℕ) → times (fold noted es ks) 0 ≡ times es 0
-fold-zero es [] = refl
-fold-zero es (h ∷ ks) = fold-zero (noted es h) ks ∙ noted-zero es h
+  pub groups-few : length (listed_groups st) ≤ 6
+  groups-few = omega (arith, ap length groups-are, length-map (take 6 ordered) (λ (c : Counted). c.group.items), length-take 6 ordered)
 
--- an order has what is placed in it
-placed-count : (p : Counted → Bool) (c : Counted) (ds : List Counted) → count_by p (placed c ds) ≡ one_if (p c) + count_by p ds
-placed-count p c [] = count-cons p c []
-placed-count p c (d ∷ ds) = by (comes_before c d) (placed-count p c ds)
-  where
-    by : (b : Bool) → count_by p (placed c ds) ≡ one_if (p c) + count_by p ds → count_by p (cond b (c ∷ d ∷ ds) (d ∷ placed c ds)) ≡ one_if (p c) + count_by p (d ∷ ds)
-    by true more = count-cons p c (d ∷ ds)
-    by false more = omega (arith, more, count-cons p d (placed c ds), count-cons p d ds)
+  pub groups-times : (g : List ℕ) → count_by (λ h. bytes_eq h g) (listed_groups st) ≡ count_by (λ c. bytes_eq c.group.items g) (take 6 ordered)
+  groups-times g = ap (count_by (λ h. bytes_eq h g)) groups-are ∙ count-map (λ h. bytes_eq h g) (λ (c : Counted). c.group.items) (take 6 ordered)
 
-pub order-count : (p : Counted → Bool) (cs ds : List Counted) → count_by p (fold (λ es c. placed c es) ds cs) ≡ count_by p ds + count_by p cs
-order-count p [] ds = omega arith
-order-count p (c ∷ cs) ds = omega (arith, order-count p cs (placed c ds), placed-count p c ds, count-cons p c cs)
+  few-if : (b : Bool) → one_if b ≤ 1
+  few-if true = omega arith
+  few-if false = omega arith
 
--- the keys of the six groups are keys of the tally
-six-keys : (cs : List Counted) (k : ℕ) → occurrences (map (λ c. c.key) (first_six cs)) k ≤ occurrences (map (λ c. c.key) cs) k
-unfolding first_six
-six-keys cs k =
-    let p : Counted → Bool = λ c. c.key == k in
-    omega (
-      arith,
-      count-map (λ j. j == k) (λ (c : Counted). c.key) (take 6 (in_order cs)),
-      sum_by-take-le (λ c. one_if (p c)) (in_order cs) 6,
-      order-count p cs [],
-      count-map (λ j. j == k) (λ (c : Counted). c.key) cs,
-    )
-
-keys-back : (f : ℕ → Counted) → ((k : ℕ) → (f k).key ≡ k) → (ks : List ℕ) → map (λ c. c.key) (map f ks) ≡ ks
-keys-back f is [] = refl
-keys-back f is (k ∷ ks) = (λ i. is k i ∷ keys-back f is ks i)
-
-pub group-keys : (keys : List ℕ) → map (λ c. c.key) (groups_of keys) ≡ noted_keys (tally_of keys)
-unfolding groups_of
-group-keys keys = keys-back (counted_at (tally_of keys)) (λ k. refl) (noted_keys (tally_of keys))
-
--- a key is in the tally of some keys once at most
-pub tally-once : (keys : List ℕ) (k : ℕ) → occurrences (map (λ e. e.0) (tally_of keys)) k ≤ 1
-unfolding times
-tally-once keys k = fold-once [] keys k (omega (arith, times-nil k))
-
--- one that is there is one of the keys
-pub tally-some : (keys : List ℕ) (k : ℕ) → occurrences (map (λ e. e.0) (tally_of keys)) k ≤ occurrences keys k
-unfolding times
-tally-some keys k = omega (arith, fold-more [] keys k, times-nil k)
-
--- and none is that of a free slot
-pub tally-zero : (keys : List ℕ) → occurrences (map (λ e. e.0) (tally_of keys)) 0 ≡ 0
-unfolding times
-tally-zero keys = fold-zero [] keys ∙ times-nil 0
-
-module _ (keys : List ℕ) where
-  listed-times : (k : ℕ) → occurrences (listed_keys keys) k ≤ times (tally_of keys) k
-  unfolding listed_keys times
-  listed-times k = omega (arith, six-keys (groups_of keys) k, ap (λ (ks : List ℕ). occurrences ks k) (group-keys keys))
-
-  -- a listed key is that of a slot
-  pub listed-some : (k : ℕ) → occurrences (listed_keys keys) k ≤ occurrences keys k
-  listed-some k = omega (arith, listed-times k, fold-more [] keys k, times-nil k)
-
-  -- each is listed once
-  pub listed-once : (k : ℕ) → occurrences (listed_keys keys) k ≤ 1
-  listed-once k = omega (arith, listed-times k, fold-once [] keys k (omega (arith, times-nil k)))
-
-  -- none is that of a free slot
-  pub listed-zero : occurrences (listed_keys keys) 0 ≡ 0
-  listed-zero = omega (arith, listed-times 0, fold-zero [] keys, times-nil 0)
-
-  pub listed-few : length (listed_keys keys) ≤ 6
-  unfolding listed_keys first_six
-  listed-few = omega (arith, length-map (take 6 (in_order (groups_of keys))) (λ (c : Counted). c.key), length-take 6 (in_order (groups_of keys)))
-
--- the first slot of a key
-pub first-slot : (keys : List ℕ) (key : ℕ) → 0 < occurrences keys key
-    → (position_or_len (λ j. j == key) keys < length keys) × (get_or keys (position_or_len (λ j. j == key) keys) 0 ≡ key)
-first-slot [] key some = absurd (omega arith)
-first-slot (k ∷ ks) key some = by (first-slot ks key) (k == key) refl
-  where
-    by : (0 < occurrences ks key → (position_or_len (λ j. j == key) ks < length ks) × (get_or ks (position_or_len (λ j. j == key) ks) 0 ≡ key))
-        → (b : Bool) → (k == key) ≡ b
-        → (cond (not b) (1 + position_or_len (λ j. j == key) ks) 0 < length (k ∷ ks)) × (get_or (k ∷ ks) (cond (not b) (1 + position_or_len (λ j. j == key) ks) 0) 0 ≡ key)
-    by rest true e = (omega arith, eqb-true k key e)
-    by rest false e =
-        let more = rest (omega (arith, some, count-cons (λ j. j == key) k ks ∙ ap (λ (b : Bool). one_if b + occurrences ks key) e)) in
-        let up : 1 + position_or_len (λ j. j == key) ks ≡ suc (position_or_len (λ j. j == key) ks) = omega arith in
-        (omega (arith, more.0), ap (λ (i : ℕ). get_or (k ∷ ks) i 0) up ∙ more.1)
+  pub groups-once : (g : List ℕ) → count_by (λ h. bytes_eq h g) (listed_groups st) ≤ 1
+  groups-once g =
+      omega (
+        arith,
+        groups-times g,
+        sum_by-take-le (λ (c : Counted). one_if (bytes_eq c.group.items g)) ordered 6,
+        ordered-once g,
+        few-if (list_any (bytes_eq g) (slot_groups st)),
+      )

@@ -8,7 +8,8 @@ use Rattle.picture_text.specs.Elements.{colour, count_text, ground, label, name_
 use Rattle.picture_text.specs.Head.{Label, head_text, labels, labels_text, meaning, opening_text, styles, svg_attributes, tile, tile_attributes}
 use Rattle.picture_text.specs.Maps.{ground_text, map_opening, map_text, name_at, path_element, paths_text}
 use Rattle.picture_text.specs.Markup.{Attribute, IsPlain, IsTree, are_unique, element, is_attribute, is_name, is_plain}
-use Rattle.picture_text.specs.Picture.{body_text, free_row, group_row, group_rows, listed_keys, maps_text, names_of, others_name, others_of, others_row, others_text, picture_text, rows_text, titles_text, top_of}
+use Rattle.picture_text.specs.Picture.{body_text, free_row, group_row, group_rows, listed_in, maps_text, names_of, others_name, others_of, others_row, others_text, picture_text, rows_text, source_at, titles_text, top_of}
+use Rattle.table_groups.specs.declared.sources.Source.{Source}
 use Rattle.dot_runs.specs.Tables.{path_text}
 use Rattle.picture_laws.proofs.Contents.{AreAttributes, IsBreak, IsContent, beside, characters, empty, line_feed, nested, nothing, rooted}
 use Rattle.picture_laws.proofs.Plain.{plain-append, plain-colour, plain-decimal, plain-numbered, plain-path}
@@ -157,10 +158,9 @@ plain-others : (n : ℕ) → IsPlain (others_name n)
 unfolding others_name
 plain-others n = plain-append (codes "other groups: ") (decimal n) refl (plain-decimal n)
 
-group-markup : (keys listed : List ℕ) (names : List (List ℕ)) (index : ℕ) → All IsPlain names → IsContent (group_row keys listed names index)
+group-markup : (s : Source) (name : List ℕ) (index : ℕ) → IsPlain name → IsContent (group_row s name index)
 unfolding group_row
-group-markup keys listed names index each =
-    beside _ _ (row-markup (top_of index) (colour index) (name_at names index) _ _ (plain-colour index) (plain-name names index each)) (count-markup 1056 (top_of index + 10) _)
+group-markup s name index plain = beside _ _ (row-markup (top_of index) (colour index) name _ _ (plain-colour index) plain) (count-markup 1056 (top_of index + 10) _)
 
 others-text-markup : (marks : List ℕ) (others : ℕ) → IsContent (others_text marks others)
 unfolding others_text
@@ -173,22 +173,22 @@ others-markup marks others = by (others == 0)
     by true = nothing
     by false = others-text-markup marks others
 
-free-markup : (keys : List ℕ) (index : ℕ) → IsContent (free_row keys index)
+free-markup : (marks : List ℕ) (index : ℕ) → IsContent (free_row marks index)
 unfolding free_row
-free-markup keys index = row-markup (top_of index) ground (codes "free") _ _ refl refl
+free-markup marks index = row-markup (top_of index) ground (codes "free") _ _ refl refl
 
-rows-markup : (keys listed marks : List ℕ) (names : List (List ℕ)) (others : ℕ) → All IsPlain names → IsContent (rows_text keys listed marks names others)
+rows-markup : (listed : List Source) (marks : List ℕ) (names : List (List ℕ)) (others : ℕ) → All IsPlain names → IsContent (rows_text listed marks names others)
 unfolding rows_text group_rows
-rows-markup keys listed marks names others each =
-    beside _ _ (each-markup (group_row keys listed names) 0 (length listed) (λ index. group-markup keys listed names index each))
-    (beside _ _ (others-markup marks others) (free-markup keys (length names)))
+rows-markup listed marks names others each =
+    beside _ _ (each-markup (λ index. group_row (source_at listed index) (name_at names index) index) 0 (length listed) (λ index. group-markup (source_at listed index) (name_at names index) index (plain-name names index each)))
+    (beside _ _ (others-markup marks others) (free-markup marks (length names)))
 
-body-markup : (keys listed : List ℕ) (names : List (List ℕ)) (others : ℕ) → All IsPlain names → IsContent (body_text keys listed names others)
+body-markup : (sources : List Source) (marks : List ℕ) (names : List (List ℕ)) → All IsPlain names → IsContent (body_text sources marks names)
 unfolding body_text titles_text maps_text
-body-markup keys listed names others each =
+body-markup sources marks names each =
     beside _ _ (beside _ _ (new-title-markup _) (tried-title-markup _))
     (beside _ _ (beside _ _ (map-markup 56 32 _ names each) (map-markup 694 16 _ names each))
-    (beside _ _ (rows-markup keys listed _ names others each) (wide-markup _)))
+    (beside _ _ (rows-markup (listed_in sources) marks names (others_of sources) each) (wide-markup _)))
 
 -- ---- what each picture has
 
@@ -226,14 +226,14 @@ plain-names others names each = All-append IsPlain names (cond (others == 0) [] 
     by false = All-from_recursion IsPlain (others_name others ∷ []) (plain-others others, tt)
 
 -- the whole picture
-pub picture-tree : (keys : List ℕ) (names : List (List ℕ)) → All IsPlain names → IsTree (codes "svg") (picture_text keys names)
+pub picture-tree : (sources : List Source) (marks : List ℕ) (names : List (List ℕ)) → All IsPlain names → IsTree (codes "svg") (picture_text sources marks names)
 unfolding picture_text opening_text
-picture-tree keys names each =
-    let shown : List (List ℕ) = names_of (others_of keys) names in
-    let body : List ℕ = body_text keys (listed_keys keys) shown (others_of keys) in
+picture-tree sources marks names each =
+    let shown : List (List ℕ) = names_of (others_of sources) names in
+    let body : List ℕ = body_text sources marks shown in
     let inner : List ℕ = codes "\n" ++ (head_text ++ (labels_text ++ body)) in
     subst (IsTree (codes "svg"))
     (ap (λ (t : List ℕ). codes "<svg xmlns=\"http://www.w3.org/2000/svg\" viewBox=\"0 0 1080 712\" role=\"img\">\n" ++ t)
     (append_assoc head_text (labels_text ++ body) (codes "</svg>\n") ∙ ap (λ (t : List ℕ). head_text ++ t) (append_assoc labels_text body (codes "</svg>\n"))))
     (rooted (codes "svg") svg_attributes inner refl refl refl
-    (beside (codes "\n") (head_text ++ (labels_text ++ body)) line_feed (beside head_text (labels_text ++ body) head-markup (beside labels_text body labels-markup (body-markup keys (listed_keys keys) shown (others_of keys) (plain-names (others_of keys) names each))))))
+    (beside (codes "\n") (head_text ++ (labels_text ++ body)) line_feed (beside head_text (labels_text ++ body) head-markup (beside labels_text body labels-markup (body-markup sources marks shown (plain-names (others_of sources) names each))))))

@@ -1,19 +1,18 @@
 -- The picture of a sound state is the text of one tree.
-use Rattle.std.proofs.Common.{◌≡◌, ℕ, ◌-◌, ◌/◌, ◌%◌, ◌==◌, Bool, true, false, cond, List, [], ◌∷◌, map, refl}
+use Rattle.std.proofs.Common.{◌≡◌, ℕ, ◌+◌, ◌-◌, ◌/◌, ◌%◌, ◌==◌, Bool, true, false, cond, List, [], ◌∷◌, length, map, refl}
 use Rattle.std.specs.Prelude.{All, codes, Option, Some, None, find, nat_lt}
-use Rattle.std.specs.List.{position_or_len}
+use Rattle.std.specs.List.{position_or_len, range_with_len}
 use Rattle.std.proofs.lemmas.List.Elements.{All-contains, All-from_recursion}
 use Rattle.std.specs.List.{AllByRecursion}
 use Rattle.peer_rec.specs.Rec.{IsRec}
 use Rattle.peer_rec.specs.declared.rec.Rec.{Rec}
 use Rattle.picture_text.specs.Markup.{IsPlain, IsTree}
-use Rattle.picture_text.specs.Picture.{listed_keys}
 use Rattle.table_machine.proofs.Lists.{find-Some}
 use Rattle.table_machine.specs.State.{State, is_new_at, is_tried_at, new_rec_at, tried_rec_at}
-use Rattle.table_picture.specs.Keys.{slot_keys}
-use Rattle.table_picture.specs.Picture.{key_name, picture_of, picture_under, rec_in, rec_name}
+use Rattle.table_picture.specs.Picture.{listed_of, mark_name, marks_of, names_in, picture_of, rec_in, rec_name}
 use Rattle.picture_laws.proofs.Markups.{picture-tree}
 use Rattle.table_groups.proofs.PlainNames.{name-plain}
+use Rattle.table_groups.specs.Sources.{sources_of}
 
 module _ (st : State) (each : All IsRec st.records) where
   found-plain : (test : Rec → Bool) → IsPlain (rec_name st.places (find test st.records))
@@ -31,13 +30,13 @@ module _ (st : State) (each : All IsRec st.records) where
       by false true = found-plain (is_tried_at st.places ((slot - 65536) / 64) ((slot - 65536) % 64))
       by false false = refl
 
-  each-name : (keys ks : List ℕ) → AllByRecursion IsPlain (map (key_name st st.places keys) ks)
-  each-name keys [] = tt
-  each-name keys (k ∷ ks) = (slot-plain (position_or_len (λ j. j == k) keys), each-name keys ks)
+  each-name : (marks is : List ℕ) → AllByRecursion IsPlain (map (mark_name st marks) is)
+  each-name marks [] = tt
+  each-name marks (i ∷ is) = (slot-plain (position_or_len (λ m. m == i + 1) marks), each-name marks is)
 
   pub tree-of : IsTree (codes "svg") (picture_of st)
-  unfolding picture_under
+  unfolding picture_of
   tree-of =
-      let keys : List ℕ = slot_keys st st.places in
-      let names : List (List ℕ) = map (key_name st st.places keys) (listed_keys keys) in
-      picture-tree keys names (All-from_recursion IsPlain names (each-name keys (listed_keys keys)))
+      let marks : List ℕ = marks_of st in
+      let names : List (List ℕ) = names_in st marks (length (listed_of st)) in
+      picture-tree (sources_of st) marks names (All-from_recursion IsPlain names (each-name marks (range_with_len 0 (length (listed_of st)))))

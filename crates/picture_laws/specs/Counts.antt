@@ -4,8 +4,10 @@ use Rattle.std.specs.List.{count_by, flat_map, range_with_len, sum_by}
 use Rattle.table_machine.specs.State.{State}
 use Rattle.picture_text.specs.Elements.{colour, count_text, ground, new_title, row_text, tried_title, wide_text}
 use Rattle.picture_text.specs.Maps.{name_at}
-use Rattle.picture_text.specs.Picture.{free_row, group_rows, listed_keys, others_name, others_text, titles_text, top_of, wide_of}
-use Rattle.picture_laws.specs.Slots.{all_marks, is_free, is_unlisted, keys_of, listed_groups}
+use Rattle.picture_text.specs.Picture.{free_row, group_rows, others_name, others_text, titles_text, top_of, wide_of}
+use Rattle.picture_laws.specs.Slots.{is_free, is_unlisted, listed_groups}
+use Rattle.table_groups.specs.Sources.{sources_of}
+use Rattle.table_picture.specs.Picture.{listed_of, marks_of}
 use Rattle.table_groups.specs.Slots.{all_slots, is_of, new_buckets, new_slots, tried_slots}
 
 -- the row of a group: its slots in both tables, those in the tried one, and its buckets of the new
@@ -23,14 +25,14 @@ row_at st names index = counted_row st names (slice_index_or (listed_groups st) 
 -- groups and of the others have each occupied slot once: each group is listed once, and the sums
 -- are all slots with a record.
 pub record CountsSlots (st : State) : Type 0 where
-  pub titles : titles_text (keys_of st)
+  pub titles : titles_text (marks_of st)
       ≡ new_title (new_slots is_some st) ++ tried_title (tried_slots is_some st)
-  pub groups : (names : List (List ℕ)) → group_rows (keys_of st) (listed_keys (keys_of st)) names
+  pub groups : (names : List (List ℕ)) → group_rows (listed_of st) names
       ≡ flat_map (row_at st names) (range_with_len 0 (length (listed_groups st)))
-  pub others : (count : ℕ) → others_text (all_marks st) count
+  pub others : (count : ℕ) → others_text (marks_of st) count
       ≡ row_text (top_of 6) (colour 6) (others_name count)
       (all_slots (is_unlisted st) st) (tried_slots (is_unlisted st) st)
-  pub free : (index : ℕ) → free_row (keys_of st) index
+  pub free : (index : ℕ) → free_row (marks_of st) index
       ≡ row_text (top_of index) ground (codes "free")
       (all_slots is_free st) (tried_slots is_free st)
   pub few : length (listed_groups st) ≤ 6
@@ -52,4 +54,4 @@ pub record CountsWide (st : State) : Type 0 where
   pub groups : List (List ℕ)
   pub each : (g : List ℕ) → count_by (λ h. bytes_eq h g) groups
       ≡ (if nat_lt 32 (new_buckets (is_of st.places g) st) then 1 else 0)
-  pub line : wide_text (wide_of (keys_of st)) ≡ wide_text (length groups)
+  pub line : wide_text (wide_of (sources_of st)) ≡ wide_text (length groups)

@@ -1,29 +1,32 @@
--- The picture of the tables, from the keys of their slots and the names of the groups.
-use Rattle.std.specs.Prelude.{ℕ, ◌+◌, ◌-◌, ◌*◌, ◌==◌, List, [], ◌∷◌, ◌++◌, length, map, take, drop, codes, decimal, if◌then◌else◌, slice_index}
+-- The picture of the tables, from the groups of their sources in order, the marks of their slots,
+-- and the names of the listed groups.
+use Rattle.std.specs.Prelude.{ℕ, ◌+◌, ◌-◌, ◌*◌, ◌==◌, nat_lt, List, [], ◌∷◌, ◌++◌, count_by, length, take, drop, codes, decimal, if◌then◌else◌, slice_index_or}
 use Rattle.std.specs.List.{flat_map, range_with_len}
-use Rattle.group_counts.specs.Buckets.{bucket_keys}
-use Rattle.group_counts.specs.Ranks.{above, first_six, groups_of}
-use Rattle.group_counts.specs.Tally.{occurrences}
 use Rattle.picture_text.specs.Elements.{colour, ground, count_text, row_text, new_title, tried_title, wide_text}
 use Rattle.picture_text.specs.Head.{head_text, labels_text, opening_text}
 use Rattle.picture_text.specs.Maps.{map_text, name_at}
-use Rattle.picture_text.specs.Marks.{marks_of}
+use Rattle.picture_text.specs.Marks.{dots_of}
 use Rattle.slot_grid.specs.declared.sizes.TheConstants.{NEW_SLOTS}
+use Rattle.table_groups.specs.declared.sources.Source.{Source}
 
--- the keys or marks of the new table's slots, and those of the tried table's, which come after them
+-- the marks of the new table's slots, and those of the tried table's, which come after them
 unfoldable pub in_new : List ℕ → List ℕ
-in_new slots = take NEW_SLOTS slots
+in_new marks = take NEW_SLOTS marks
 
 unfoldable pub in_tried : List ℕ → List ℕ
-in_tried slots = drop NEW_SLOTS slots
+in_tried marks = drop NEW_SLOTS marks
 
--- the keys of the six groups with the most slots
-unfoldable pub listed_keys : List ℕ → List ℕ
-listed_keys keys = map (λ c. c.key) (first_six (groups_of keys))
+-- the groups that are listed: the six with the most slots
+abbrev pub listed_in : List Source → List Source
+listed_in sources = take 6 sources
 
 -- how many groups are not listed
-unfoldable pub others_of : List ℕ → ℕ
-others_of keys = length (groups_of keys) - 6
+abbrev pub others_of : List Source → ℕ
+others_of sources = length sources - 6
+
+-- how many groups are in more than 32 buckets of the new table
+abbrev pub wide_of : List Source → ℕ
+wide_of sources = count_by (λ s. nat_lt 32 s.buckets) sources
 
 -- the name of all groups that are not listed
 unfoldable pub others_name : ℕ → List ℕ
@@ -35,30 +38,33 @@ names_of others names = names ++ (if others == 0 then [] else others_name others
 
 -- how many slots are occupied
 abbrev pub occupied : List ℕ → ℕ
-occupied keys = length keys - occurrences keys 0
+occupied marks = length marks - dots_of marks 0
 
 -- where a row of the list is
 abbrev pub top_of : ℕ → ℕ
 top_of index = 456 + 22 * index
 
 -- the row of a listed group: its slots, those in the tried table, and its buckets of the new one
-unfoldable pub group_row : List ℕ → List ℕ → List (List ℕ) → ℕ → List ℕ
-group_row keys listed names index =
-    row_text (top_of index) (colour index) (name_at names index)
-    (occurrences keys (slice_index listed index))
-    (occurrences (in_tried keys) (slice_index listed index))
-    ++ count_text 1056 (top_of index + 10)
-    (occurrences (bucket_keys keys) (slice_index listed index))
+unfoldable pub group_row : Source → List ℕ → ℕ → List ℕ
+group_row s name index =
+    row_text (top_of index) (colour index) name (s.new + s.tried) s.tried
+    ++ count_text 1056 (top_of index + 10) s.buckets
 
-unfoldable pub group_rows : List ℕ → List ℕ → List (List ℕ) → List ℕ
-group_rows keys listed names =
-    flat_map (group_row keys listed names) (range_with_len 0 (length listed))
+abbrev pub source_at : List Source → ℕ → Source
+source_at listed index =
+    slice_index_or listed index
+    (record { group = record { items = [] }; new = 0; tried = 0; buckets = 0 })
+
+unfoldable pub group_rows : List Source → List (List ℕ) → List ℕ
+group_rows listed names =
+    flat_map (λ index. group_row (source_at listed index) (name_at names index) index)
+    (range_with_len 0 (length listed))
 
 -- that of all other groups
 unfoldable pub others_text : List ℕ → ℕ → List ℕ
 others_text marks others =
-    row_text (top_of 6) (colour 6) (others_name others)
-    (occurrences marks 7) (occurrences (in_tried marks) 7)
+    row_text (top_of 6) (colour 6) (others_name others) (dots_of marks 7)
+    (dots_of (in_tried marks) 7)
 
 -- the same, if there are some
 abbrev pub others_row : List ℕ → ℕ → List ℕ
@@ -66,9 +72,8 @@ others_row marks others = if others == 0 then [] else others_text marks others
 
 -- that of the free slots
 unfoldable pub free_row : List ℕ → ℕ → List ℕ
-free_row keys index =
-    row_text (top_of index) ground (codes "free")
-    (occurrences keys 0) (occurrences (in_tried keys) 0)
+free_row marks index =
+    row_text (top_of index) ground (codes "free") (dots_of marks 0) (dots_of (in_tried marks) 0)
 
 -- both maps
 unfoldable pub maps_text : List ℕ → List (List ℕ) → List ℕ
@@ -76,28 +81,25 @@ maps_text marks names =
     map_text 56 32 (in_new marks) names ++ map_text 694 16 (in_tried marks) names
 
 -- the list
-unfoldable pub rows_text : List ℕ → List ℕ → List ℕ → List (List ℕ) → ℕ → List ℕ
-rows_text keys listed marks names others =
-    group_rows keys listed names ++ (others_row marks others ++ free_row keys (length names))
+unfoldable pub rows_text : List Source → List ℕ → List (List ℕ) → ℕ → List ℕ
+rows_text listed marks names others =
+    group_rows listed names ++ (others_row marks others ++ free_row marks (length names))
 
 -- how full the tables are
 unfoldable pub titles_text : List ℕ → List ℕ
-titles_text keys = new_title (occupied (in_new keys)) ++ tried_title (occupied (in_tried keys))
-
--- how many groups are in more than 32 buckets of the new table
-unfoldable pub wide_of : List ℕ → ℕ
-wide_of keys = above 32 (groups_of (bucket_keys keys))
+titles_text marks =
+    new_title (occupied (in_new marks)) ++ tried_title (occupied (in_tried marks))
 
 -- what is between the head and the end
-unfoldable pub body_text : List ℕ → List ℕ → List (List ℕ) → ℕ → List ℕ
-body_text keys listed names others =
-    titles_text keys
-    ++ (maps_text (marks_of listed keys) names
-    ++ (rows_text keys listed (marks_of listed keys) names others ++ wide_text (wide_of keys)))
+unfoldable pub body_text : List Source → List ℕ → List (List ℕ) → List ℕ
+body_text sources marks names =
+    titles_text marks
+    ++ (maps_text marks names
+    ++ (rows_text (listed_in sources) marks names (others_of sources)
+    ++ wide_text (wide_of sources)))
 
--- the whole picture, from the keys of the slots and the names of the listed groups
-unfoldable pub picture_text : List ℕ → List (List ℕ) → List ℕ
-picture_text keys names =
+-- the whole picture
+unfoldable pub picture_text : List Source → List ℕ → List (List ℕ) → List ℕ
+picture_text sources marks names =
     opening_text ++ (head_text ++ (labels_text
-    ++ (body_text keys (listed_keys keys) (names_of (others_of keys) names) (others_of keys)
-    ++ codes "</svg>\n")))
+    ++ (body_text sources marks (names_of (others_of sources) names) ++ codes "</svg>\n")))

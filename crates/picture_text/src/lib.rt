@@ -1,4 +1,4 @@
-//! The picture of the tables, an SVG, from the keys of their slots and the names of their groups.
+//! The picture of the tables, an SVG, from the marks of their slots and the groups of their sources.
 #![tactic(auto)]
 
 mod head;
@@ -9,6 +9,6 @@ mod parts;
 mod picture;
 mod pieces;
 
+pub use marks::group_mark;
 pub use net_addr::Memory;
-pub use parts::new_keys;
-pub use picture::{Groups, find_groups, put_picture};
+pub use picture::{listed_in, put_picture};

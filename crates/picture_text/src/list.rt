@@ -1,16 +1,15 @@
 ghost use Rattle.std.specs.Prelude.{◌≡◌, ◌+◌, ◌*◌, ◌<◌, ◌≤◌, ◌++◌, length, map, OnOk, IfOk};
-ghost use Rattle.group_counts.specs.Buckets.{bucket_keys};
-ghost use Rattle.picture_text.specs.Picture.{free_row, group_row, group_rows, others_name, others_row, others_text, rows_text, top_of};
-ghost use Rattle.slot_grid.specs.declared.sizes.TheConstants.{ALL_SLOTS, NEW_SLOTS};
+ghost use Rattle.picture_text.specs.Picture.{free_row, group_row, group_rows, others_name, others_row, others_text, rows_text, source_at, top_of};
+ghost use Rattle.slot_grid.specs.declared.sizes.TheConstants.{ALL_SLOTS};
 
 use crate::Memory;
 use crate::maps::name_at;
 use crate::marks::dots_of;
-use crate::parts::{tried_keys, tried_marks};
+use crate::parts::tried_marks;
 use crate::pieces::{colour, put_count, put_row};
-use group_counts::occurrences;
+use net_addr::put_number;
 use std::alloc::Global;
-use table_groups::put_numbered;
+use table_groups::Source;
 
 /// Returns where a row of the list is.
 fn top_of(index: u8) -> u32
@@ -20,73 +19,60 @@ fn top_of(index: u8) -> u32
     456 + 22 * u32::from(index)
 }
 
+/// Returns the listed group of an index.
+fn source_at(listed: &[Source], index: u8) -> &Source
+    requires { index < length listed.now }
+    ensures { result.now ≡ source_at listed.now index }
+{
+    &listed[usize::from(index)]
+}
+
 /// Appends the row of a listed group.
 #[tactic(auto, unfolding(crate::specs::Picture::group_row))]
-fn put_group_row(
-    keys: &[u128],
-    buckets: &[u128],
-    listed: &[u128],
-    names: &[Vec<u8>],
-    index: u8,
-    out: &mut Vec<u8>,
-) -> Result<(), Memory>
-    requires keys { length keys.now ≡ ALL_SLOTS }
-    requires buckets { buckets.now ≡ bucket_keys keys.now }
-    requires few { length buckets.now ≤ NEW_SLOTS }
-    requires index { index < length listed.now }
-    requires names { length listed.now ≤ length names.now }
-    ensures { OnOk result (out.new.items ≡ out.old.items
-        ++ group_row keys.now listed.now (map (λ v. v.items) names.now) index) }
+fn put_group_row(source: &Source, name: &[u8], index: u8, out: &mut Vec<u8>) -> Result<(), Memory>
+    ensures { OnOk result (out.new.items
+        ≡ out.old.items ++ group_row source.now name.now index) }
 {
-    let key = listed[usize::from(index)];
     let y = top_of(index);
+    let tried = u64::from(source.tried);
     put_row(
         y,
         colour(index),
-        name_at(names, index),
-        occurrences(keys, key),
-        occurrences(tried_keys(keys), key),
+        name,
+        u64::from(source.new) + tried,
+        tried,
         out,
     )?;
-    put_count(1056, y + 10, occurrences(buckets, key), out)?;
+    put_count(1056, y + 10, u64::from(source.buckets), out)?;
     Ok(())
 }
 
 /// Appends the rows of the listed groups.
 #[tactic(auto, unfolding(crate::specs::Picture::group_rows))]
-fn put_group_rows(
-    keys: &[u128],
-    buckets: &[u128],
-    listed: &[u128],
-    names: &[Vec<u8>],
-    out: &mut Vec<u8>,
-) -> Result<(), Memory>
-    requires keys { length keys.now ≡ ALL_SLOTS }
-    requires buckets { buckets.now ≡ bucket_keys keys.now }
-    requires few { length buckets.now ≤ NEW_SLOTS }
+fn put_group_rows(listed: &[Source], names: &[Vec<u8>], out: &mut Vec<u8>) -> Result<(), Memory>
     requires listed { length listed.now ≤ 6 }
     requires names { length listed.now ≤ length names.now }
     ensures { OnOk result (out.new.items ≡ out.old.items
-        ++ group_rows keys.now listed.now (map (λ v. v.items) names.now)) }
+        ++ group_rows listed.now (map (λ v. v.items) names.now)) }
 {
     for index in 0..listed.len() as u8 {
-        put_group_row(keys, buckets, listed, names, index, out)?;
+        put_group_row(source_at(listed, index), name_at(names, index), index, out)?;
     }
     Ok(())
 }
 
 /// Returns the name of the groups that are not listed.
 #[tactic(auto, unfolding(crate::specs::Picture::others_name))]
-pub(crate) fn others_name(alloc: Global, others: u32) -> Result<Vec<u8>, Memory>
+pub(crate) fn others_name(alloc: Global, others: usize) -> Result<Vec<u8>, Memory>
     ensures { IfOk result (λ name. name.items ≡ others_name others) }
 {
     let mut name = Vec::new(alloc);
-    put_numbered(b"other groups: ", others, b"", &mut name)?;
+    put_number(b"other groups: ", others as u64, &mut name)?;
     Ok(name)
 }
 
 /// Appends the row of the groups that are not listed, if there are some.
-fn put_others_row(marks: &[u8], others: u32, out: &mut Vec<u8>) -> Result<(), Memory>
+fn put_others_row(marks: &[u8], others: usize, out: &mut Vec<u8>) -> Result<(), Memory>
     requires { length marks.now ≡ ALL_SLOTS }
     ensures { OnOk result (out.new.items ≡ out.old.items ++ others_row marks.now others) }
 {
@@ -98,7 +84,7 @@ fn put_others_row(marks: &[u8], others: u32, out: &mut Vec<u8>) -> Result<(), Me
 
 /// Appends the row of the groups that are not listed.
 #[tactic(auto, unfolding(crate::specs::Picture::others_text))]
-fn put_others(marks: &[u8], others: u32, out: &mut Vec<u8>) -> Result<(), Memory>
+fn put_others(marks: &[u8], others: usize, out: &mut Vec<u8>) -> Result<(), Memory>
     requires { length marks.now ≡ ALL_SLOTS }
     ensures { OnOk result (out.new.items ≡ out.old.items ++ others_text marks.now others) }
 {
@@ -107,8 +93,8 @@ fn put_others(marks: &[u8], others: u32, out: &mut Vec<u8>) -> Result<(), Memory
         top_of(6),
         colour(6),
         name.as_slice(),
-        dots_of(marks, 7),
-        dots_of(tried_marks(marks), 7),
+        u64::from(dots_of(marks, 7)),
+        u64::from(dots_of(tried_marks(marks), 7)),
         out,
     )?;
     Ok(())
@@ -116,45 +102,39 @@ fn put_others(marks: &[u8], others: u32, out: &mut Vec<u8>) -> Result<(), Memory
 
 /// Appends the row of the free slots.
 #[tactic(auto, unfolding(crate::specs::Picture::free_row))]
-fn put_free_row(keys: &[u128], index: u8, out: &mut Vec<u8>) -> Result<(), Memory>
-    requires { length keys.now ≡ ALL_SLOTS }
-    ensures { OnOk result (out.new.items ≡ out.old.items ++ free_row keys.now index) }
+fn put_free_row(marks: &[u8], index: u8, out: &mut Vec<u8>) -> Result<(), Memory>
+    requires { length marks.now ≡ ALL_SLOTS }
+    ensures { OnOk result (out.new.items ≡ out.old.items ++ free_row marks.now index) }
 {
     put_row(
         top_of(index),
         b"#eceff2",
         b"free",
-        occurrences(keys, 0),
-        occurrences(tried_keys(keys), 0),
+        u64::from(dots_of(marks, 0)),
+        u64::from(dots_of(tried_marks(marks), 0)),
         out,
     )?;
     Ok(())
 }
 
-/// Appends the list. The first names are those of the listed groups; `buckets` has each key once
-/// for each bucket of the new table that it is in.
+/// Appends the list. The first names are those of the listed groups.
 #[tactic(auto, unfolding(crate::specs::Picture::rows_text))]
 pub(crate) fn put_rows(
-    keys: &[u128],
-    buckets: &[u128],
-    listed: &[u128],
+    listed: &[Source],
     marks: &[u8],
     names: &[Vec<u8>],
-    others: u32,
+    others: usize,
     out: &mut Vec<u8>,
 ) -> Result<(), Memory>
-    requires keys { length keys.now ≡ ALL_SLOTS }
     requires marks { length marks.now ≡ ALL_SLOTS }
-    requires buckets { buckets.now ≡ bucket_keys keys.now }
-    requires few { length buckets.now ≤ NEW_SLOTS }
     requires listed { length listed.now ≤ 6 }
     requires names { length listed.now ≤ length names.now }
     requires few_names { length names.now ≤ 7 }
     ensures { OnOk result (out.new.items ≡ out.old.items
-        ++ rows_text keys.now listed.now marks.now (map (λ v. v.items) names.now) others) }
+        ++ rows_text listed.now marks.now (map (λ v. v.items) names.now) others) }
 {
-    put_group_rows(keys, buckets, listed, names, out)?;
+    put_group_rows(listed, names, out)?;
     put_others_row(marks, others, out)?;
-    put_free_row(keys, names.len() as u8, out)?;
+    put_free_row(marks, names.len() as u8, out)?;
     Ok(())
 }

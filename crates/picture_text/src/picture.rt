@@ -1,77 +1,66 @@
 ghost use Rattle.std.specs.Prelude.{◌≡◌, ◌+◌, ◌≤◌, ◌++◌, length, map, IfOk, OnOk};
-ghost use Rattle.group_counts.specs.Buckets.{bucket_keys};
-ghost use Rattle.group_counts.specs.Ranks.{above};
 ghost use Rattle.picture_text.specs.Elements.{new_title, tried_title, wide_text};
-ghost use Rattle.picture_text.specs.Marks.{marks_of};
-ghost use Rattle.picture_text.specs.Picture.{body_text, listed_keys, maps_text, names_of, occupied, others_of, picture_text, titles_text, wide_of};
-ghost use Rattle.slot_grid.specs.declared.sizes.TheConstants.{ALL_SLOTS, NEW_SLOTS};
+ghost use Rattle.picture_text.specs.Picture.{body_text, listed_in, maps_text, names_of, occupied, others_of, picture_text, titles_text, wide_of};
+ghost use Rattle.slot_grid.specs.declared.sizes.TheConstants.{ALL_SLOTS};
 
 use crate::Memory;
 use crate::head::{head_text, labels_text, opening_text};
 use crate::list::{others_name, put_rows};
 use crate::maps::put_map;
-use crate::marks::marks_of;
-use crate::parts::{new_keys, new_marks, tried_keys, tried_marks};
-use group_counts::{Counted, above, bucket_keys, count_groups, first_six, occurrences};
-use net_addr::put_text;
+use crate::marks::dots_of;
+use crate::parts::{new_marks, tried_marks};
+use net_addr::{put_number, put_text};
 use std::alloc::Global;
-use std::hash::BuildHasher;
-use table_groups::put_numbered;
+use table_groups::{Source, put_numbered};
 
-/// The groups of the slots: the keys of those that are listed, and how many others there are.
-#[derive(Drop)]
-pub struct Groups {
-    pub listed: Vec<u128>,
-    pub others: u32,
-}
-
-/// Returns the groups of the slots with these keys.
-#[tactic(auto, unfolding(crate::specs::Picture::listed_keys, crate::specs::Picture::others_of))]
-pub fn find_groups<H: BuildHasher>(
-    alloc: Global,
-    hasher: &H,
-    keys: &[u128],
-) -> Result<Groups, Memory>
-    requires { length keys.now ≡ ALL_SLOTS }
-    ensures listed { IfOk result (λ groups. groups.listed.items ≡ listed_keys keys.now) }
-    ensures few { IfOk result (λ groups. length groups.listed.items ≤ 6) }
-    ensures others { IfOk result (λ groups. groups.others ≡ others_of keys.now) }
+/// Returns the groups that are listed: the first six.
+pub fn listed_in(sources: &[Source]) -> &[Source]
+    ensures is { result.now ≡ listed_in sources.now }
+    ensures few { length result.now ≤ 6 }
 {
-    let groups = count_groups(alloc, hasher, keys)?;
-    let listed = keys_of(alloc, first_six(groups.as_slice()).as_slice())?;
-    Ok(Groups {
-        listed,
-        others: groups.len().saturating_sub(6) as u32,
-    })
-}
-
-/// Returns the keys of some groups.
-fn keys_of(alloc: Global, groups: &[Counted]) -> Result<Vec<u128>, Memory>
-    ensures { IfOk result (λ keys. keys.items ≡ map (λ c. c.key) groups.now) }
-{
-    let mut keys = Vec::new(alloc);
-    for group in groups {
-        keys.push(group.key)?;
+    if 6 < sources.len() {
+        &sources[..6]
+    } else {
+        sources
     }
-    Ok(keys)
 }
 
-/// Returns how many of the slots are occupied.
-fn occupied(keys: &[u128]) -> u32
-    requires { length keys.now ≤ ALL_SLOTS }
-    ensures { result ≡ occupied keys.now }
+/// Returns how many groups are not listed.
+fn others_of(sources: &[Source]) -> usize
+    ensures { result ≡ others_of sources.now }
 {
-    keys.len() as u32 - occurrences(keys, 0)
+    sources.len().saturating_sub(6)
+}
+
+/// Returns how many groups are in more than 32 buckets of the new table.
+fn wide_of(sources: &[Source]) -> usize
+    ensures { result ≡ wide_of sources.now }
+{
+    let mut count = 0;
+    for source in sources {
+        if 32 < source.buckets {
+            count += 1;
+        }
+    }
+    count
+}
+
+/// Returns how many slots with these marks are occupied.
+fn occupied(marks: &[u8]) -> u32
+    requires { length marks.now ≤ ALL_SLOTS }
+    ensures { result ≡ occupied marks.now }
+{
+    marks.len() as u32 - dots_of(marks, 0)
 }
 
 /// Appends how full the tables are.
 #[tactic(auto, unfolding(crate::specs::Picture::titles_text))]
-fn put_titles(keys: &[u128], out: &mut Vec<u8>) -> Result<(), Memory>
-    requires { length keys.now ≡ ALL_SLOTS }
-    ensures { OnOk result (out.new.items ≡ out.old.items ++ titles_text keys.now) }
+fn put_titles(marks: &[u8], out: &mut Vec<u8>) -> Result<(), Memory>
+    requires { length marks.now ≡ ALL_SLOTS }
+    ensures { OnOk result (out.new.items ≡ out.old.items ++ titles_text marks.now) }
 {
-    put_new_title(occupied(new_keys(keys)), out)?;
-    put_tried_title(occupied(tried_keys(keys)), out)?;
+    put_new_title(occupied(new_marks(marks)), out)?;
+    put_tried_title(occupied(tried_marks(marks)), out)?;
     Ok(())
 }
 
@@ -103,15 +92,16 @@ fn put_tried_title(count: u32, out: &mut Vec<u8>) -> Result<(), Memory>
 
 /// Appends how many groups are in many buckets.
 #[tactic(auto, unfolding(crate::specs::Elements::wide_text))]
-fn put_wide(count: u32, out: &mut Vec<u8>) -> Result<(), Memory>
+fn put_wide(count: usize, out: &mut Vec<u8>) -> Result<(), Memory>
     ensures { OnOk result (out.new.items ≡ out.old.items ++ wide_text count) }
 {
-    put_numbered(
+    put_number(
         b"<text x=\"694\" y=\"644\">Groups in more than 32 of the 1024 new buckets: ",
-        count,
-        b"</text>\n",
+        count as u64,
         out,
-    )
+    )?;
+    put_text(b"</text>\n", out)?;
+    Ok(())
 }
 
 /// Appends both maps.
@@ -127,62 +117,30 @@ fn put_maps(marks: &[u8], names: &[Vec<u8>], out: &mut Vec<u8>) -> Result<(), Me
     Ok(())
 }
 
-/// Returns how many groups are in more than 32 buckets of the new table; `buckets` has the key of
-/// each group once for each bucket that it is in.
-#[tactic(auto, unfolding(crate::specs::Picture::wide_of))]
-fn wide_of<H: BuildHasher>(
-    alloc: Global,
-    hasher: &H,
-    keys: &[u128],
-    buckets: &[u128],
-) -> Result<u32, Memory>
-    requires buckets { buckets.now ≡ bucket_keys keys.now }
-    requires few { length buckets.now ≤ NEW_SLOTS }
-    ensures { IfOk result (λ count. count ≡ wide_of keys.now) }
-{
-    let groups = count_groups(alloc, hasher, buckets)?;
-    Ok(above(groups.as_slice(), 32))
-}
-
 /// Appends the titles, the maps and the list.
 #[tactic(auto, unfolding(crate::specs::Picture::body_text))]
-fn put_body<H: BuildHasher>(
-    alloc: Global,
-    hasher: &H,
-    keys: &[u128],
-    listed: &[u128],
+fn put_body(
+    sources: &[Source],
+    marks: &[u8],
     names: &[Vec<u8>],
-    others: u32,
     out: &mut Vec<u8>,
 ) -> Result<(), Memory>
-    requires keys { length keys.now ≡ ALL_SLOTS }
-    requires listed { length listed.now ≤ 6 }
-    requires names { length listed.now ≤ length names.now }
-    requires few_names { length names.now ≤ 7 }
+    requires marks { length marks.now ≡ ALL_SLOTS }
+    requires names { length (listed_in sources.now) ≤ length names.now }
+    requires few { length names.now ≤ 7 }
     ensures { OnOk result (out.new.items ≡ out.old.items
-        ++ body_text keys.now listed.now (map (λ v. v.items) names.now) others) }
+        ++ body_text sources.now marks.now (map (λ v. v.items) names.now)) }
 {
-    let marks = marks_of(alloc, listed, keys)?;
-    let buckets = bucket_keys(alloc, keys)?;
-    let wide = wide_of(alloc, hasher, keys, buckets.as_slice())?;
-    put_titles(keys, out)?;
-    put_maps(marks.as_slice(), names, out)?;
-    put_rows(
-        keys,
-        buckets.as_slice(),
-        listed,
-        marks.as_slice(),
-        names,
-        others,
-        out,
-    )?;
-    put_wide(wide, out)?;
+    put_titles(marks, out)?;
+    put_maps(marks, names, out)?;
+    put_rows(listed_in(sources), marks, names, others_of(sources), out)?;
+    put_wide(wide_of(sources), out)?;
     Ok(())
 }
 
 /// Returns the names of the marks: those of the listed groups, and that of all others if there are
 /// some.
-fn names_of(alloc: Global, others: u32, names: Vec<Vec<u8>>) -> Result<Vec<Vec<u8>>, Memory>
+fn names_of(alloc: Global, others: usize, names: Vec<Vec<u8>>) -> Result<Vec<Vec<u8>>, Memory>
     requires { length names.items ≤ 6 }
     ensures names { IfOk result (λ all. map (λ v. v.items) all.items
         ≡ names_of others (map (λ v. v.items) names.items)) }
@@ -196,37 +154,27 @@ fn names_of(alloc: Global, others: u32, names: Vec<Vec<u8>>) -> Result<Vec<Vec<u
     Ok(all)
 }
 
-/// Appends the picture of the tables. The names are those of the listed groups.
+/// Appends the picture of the tables, from the groups of their sources in order, the marks of their
+/// slots, and the names of the listed groups.
 #[tactic(auto, unfolding(crate::specs::Picture::picture_text))]
-pub fn put_picture<H: BuildHasher>(
+pub fn put_picture(
     alloc: Global,
-    hasher: &H,
-    keys: &[u128],
-    groups: &Groups,
+    sources: &[Source],
+    marks: &[u8],
     names: Vec<Vec<u8>>,
     out: &mut Vec<u8>,
 ) -> Result<(), Memory>
-    requires keys { length keys.now ≡ ALL_SLOTS }
-    requires listed { groups.now.listed.items ≡ listed_keys keys.now }
-    requires few { length groups.now.listed.items ≤ 6 }
-    requires others { groups.now.others ≡ others_of keys.now }
-    requires names { length names.items ≡ length groups.now.listed.items }
+    requires marks { length marks.now ≡ ALL_SLOTS }
+    requires names { length names.items ≡ length (listed_in sources.now) }
+    requires few { length names.items ≤ 6 }
     ensures { OnOk result (out.new.items ≡ out.old.items
-        ++ picture_text keys.now (map (λ v. v.items) names.items)) }
+        ++ picture_text sources.now marks.now (map (λ v. v.items) names.items)) }
 {
-    let shown = names_of(alloc, groups.others, names)?;
+    let shown = names_of(alloc, others_of(sources), names)?;
     put_text(opening_text(), out)?;
     put_text(head_text(), out)?;
     put_text(labels_text(), out)?;
-    put_body(
-        alloc,
-        hasher,
-        keys,
-        groups.listed.as_slice(),
-        shown.as_slice(),
-        groups.others,
-        out,
-    )?;
+    put_body(sources, marks, shown.as_slice(), out)?;
     put_text(b"</svg>\n", out)?;
     Ok(())
 }

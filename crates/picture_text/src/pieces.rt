@@ -2,7 +2,7 @@ ghost use Rattle.std.specs.Prelude.{◌≡◌, ◌+◌, ◌<◌, ◌^◌, ◌++�
 ghost use Rattle.picture_text.specs.Elements.{colour, count_text, name_text, row_text, swatch};
 
 use crate::Memory;
-use net_addr::put_text;
+use net_addr::{put_number, put_text};
 use table_groups::put_numbered;
 
 /// Appends a text between two texts.
@@ -43,8 +43,8 @@ pub(crate) fn put_row(
     y: u32,
     fill: &[u8],
     name: &[u8],
-    slots: u32,
-    tried: u32,
+    slots: u64,
+    tried: u64,
     out: &mut Vec<u8>,
 ) -> Result<(), Memory>
     requires { y < 2 ^ 16 }
@@ -87,11 +87,12 @@ fn put_name(y: u32, name: &[u8], out: &mut Vec<u8>) -> Result<(), Memory>
 
 /// Appends a count.
 #[tactic(auto, unfolding(crate::specs::Elements::count_text))]
-pub(crate) fn put_count(x: u32, y: u32, count: u32, out: &mut Vec<u8>) -> Result<(), Memory>
+pub(crate) fn put_count(x: u32, y: u32, count: u64, out: &mut Vec<u8>) -> Result<(), Memory>
     ensures { OnOk result (out.new.items ≡ out.old.items ++ count_text x y count) }
 {
     put_numbered(b"<text x=\"", x, b"\" y=\"", out)?;
     put_numbered(b"", y, b"\" class=\"n\">", out)?;
-    put_numbered(b"", count, b"</text>\n", out)?;
+    put_number(b"", count, out)?;
+    put_text(b"</text>\n", out)?;
     Ok(())
 }

@@ -1,5 +1,5 @@
 -- The numbers of a group are those of its slots.
-use Rattle.std.proofs.Common.{◌≡◌, ℕ, ◌+◌, ◌≤◌, ◌||◌, Bool, true, false, List, [], ◌∷◌, ◌++◌, map, refl, sym, ap, subst, ◌∙◌, Option, Some, None, arith}
+use Rattle.std.proofs.Common.{◌≡◌, ℕ, ◌+◌, ◌*◌, ◌≤◌, ◌||◌, Bool, true, false, List, [], ◌∷◌, ◌++◌, map, refl, sym, ap, subst, ◌∙◌, Option, Some, None, arith}
 use Rattle.std.specs.Prelude.{bytes_eq}
 use Rattle.std.specs.List.{count_by, flat_map, fold, list_any, range_with_len, sum_by}
 use Rattle.std.proofs.lemmas.List.{append-nil, map-append, map-id}
@@ -9,14 +9,16 @@ use Rattle.std.proofs.lemmas.List.Folds.{list_any-append}
 use Rattle.std.proofs.lemmas.List.Sums.{fold-append, sum_by-append, sum_by-cons}
 use Rattle.peer_rec.specs.declared.rec.Rec.{Rec}
 use Rattle.placing.specs.Places.{Places, group}
-use Rattle.table_machine.specs.State.{State, new_rec_at}
-use Rattle.table_groups.specs.Inside.{bucket_groups, slots_by, source_groups}
-use Rattle.table_groups.specs.Slots.{is_of, new_buckets, new_slots}
-use Rattle.table_groups.specs.Tally.{noted, value_in}
-use Rattle.table_groups.specs.Visits.{AreFewSlots, in_bucket, no_slots, visits_of, with_slot}
+use Rattle.table_machine.specs.State.{State, new_rec_at, tried_rec_at}
+use Rattle.table_groups.specs.Inside.{all_by, slots_by}
+use Rattle.table_groups.specs.Slots.{is_of, new_buckets, new_slots, tried_slots}
+use Rattle.table_groups.specs.Sources.{bucket_groups, slot_groups, source_groups}
+use Rattle.table_groups.specs.Tally.{groups_of, noted, once, value_in, with_group}
+use Rattle.table_groups.specs.Visits.{AreFewSlots, in_bucket, no_slots, slots_before, visits_of, with_slot}
 use Rattle.table_groups.specs.declared.slot_numbers.SlotNumbers.{SlotNumbers}
 use Rattle.table_groups.proofs.Once.{same-back}
-use Rattle.table_groups.proofs.Visits.{buckets-are, count-cons, count-flat, few-slots, one_if, slots-are}
+use Rattle.table_groups.proofs.Values.{all-written, groups-are}
+use Rattle.table_groups.proofs.Visits.{after-tried, buckets-are, count-cons, count-flat, few-slots, none-tried, one_if, slots-are, visit-groups}
 
 module _ (places : Places) (g : List ℕ) where
   -- a slot is one of the group, or none
@@ -43,11 +45,62 @@ module _ (places : Places) (g : List ℕ) where
 
 pub slots-of : (st : State) (g : List ℕ) → (value_in no_slots (slots_by st) g).slots ≡ new_slots (is_of st.places g) st
 unfolding slots_by new_slots
-slots-of st g = slots-are (bucket_groups st) 1024 g ∙ (λ i. sum_by (λ b. count-slots st.places g (new_rec_at st b) (range_with_len 0 64) i) (range_with_len 0 1024))
+slots-of st g = slots-are (bucket_groups st true) 1024 g ∙ (λ i. sum_by (λ b. count-slots st.places g (new_rec_at st b) (range_with_len 0 64) i) (range_with_len 0 1024))
 
 pub buckets-of : (st : State) (g : List ℕ) → (value_in no_slots (slots_by st) g).buckets ≡ new_buckets (is_of st.places g) st
 unfolding slots_by new_buckets
-buckets-of st g = buckets-are (bucket_groups st) 1024 g ∙ (λ i. count_by (λ b. any-slots st.places g (new_rec_at st b) (range_with_len 0 64) i) (range_with_len 0 1024))
+buckets-of st g = buckets-are (bucket_groups st true) 1024 g ∙ (λ i. count_by (λ b. any-slots st.places g (new_rec_at st b) (range_with_len 0 64) i) (range_with_len 0 1024))
+
+none-plus : (n : ℕ) → 0 + n ≡ n
+none-plus n = omega arith
+
+-- the numbers of a group in both tables
+module _ (st : State) (g : List ℕ) where
+  abbrev before : SlotNumbers
+  before = value_in no_slots (slots_by st) g
+
+  abbrev tried-visits : ℕ
+  tried-visits = sum_by (λ b. count_by (bytes_eq g) (bucket_groups st false b)) (range_with_len 0 256)
+
+  all-is : value_in no_slots (all_by st) g ≡ record { slots = before.slots; buckets = before.buckets; tried = before.tried + tried-visits; last = before.last }
+  unfolding all_by
+  all-is = after-tried (slots_by st) (bucket_groups st false) 256 g
+
+  pub all-slots-of : (value_in no_slots (all_by st) g).slots ≡ new_slots (is_of st.places g) st
+  all-slots-of = ap (λ (m : SlotNumbers). m.slots) all-is ∙ slots-of st g
+
+  pub all-buckets-of : (value_in no_slots (all_by st) g).buckets ≡ new_buckets (is_of st.places g) st
+  all-buckets-of = ap (λ (m : SlotNumbers). m.buckets) all-is ∙ buckets-of st g
+
+  none-before : before.tried ≡ 0
+  unfolding slots_by
+  none-before = none-tried (visits_of (bucket_groups st true) 0 1024) g
+
+  pub all-tried-of : (value_in no_slots (all_by st) g).tried ≡ tried_slots (is_of st.places g) st
+  unfolding tried_slots
+  all-tried-of =
+      ap (λ (m : SlotNumbers). m.tried) all-is ∙ ap (λ (n : ℕ). n + tried-visits) none-before ∙ none-plus tried-visits
+      ∙ (λ i. sum_by (λ b. count-slots st.places g (tried_rec_at st b) (range_with_len 0 64) i) (range_with_len 0 256))
+
+-- the groups of the slots of both tables, each once
+pub all-groups : (st : State) → groups_of (all_by st) ≡ once (slot_groups st)
+unfolding all_by slots_by slot_groups
+all-groups st =
+    let new : List (List ℕ × ℕ) = visits_of (bucket_groups st true) 0 1024 in
+    let tried : List (List ℕ × ℕ) = visits_of (bucket_groups st false) 0 256 in
+    all-written no_slots (with_slot false) tried (slots_by st)
+    ∙ (λ i. fold with_group (groups-are no_slots (with_slot true) new i) (visit-groups (bucket_groups st false) 0 256 i))
+    ∙ (λ i. fold with_group (once (visit-groups (bucket_groups st true) 0 1024 i)) (flat_map (bucket_groups st false) (range_with_len 0 256)))
+    ∙ sym (fold-append with_group [] (flat_map (bucket_groups st true) (range_with_len 0 1024)) (flat_map (bucket_groups st false) (range_with_len 0 256)))
+
+-- the slots of a group among those of all
+pub groups-count : (st : State) (g : List ℕ) → count_by (bytes_eq g) (slot_groups st) ≡ new_slots (is_of st.places g) st + tried_slots (is_of st.places g) st
+unfolding slot_groups new_slots tried_slots
+groups-count st g =
+    sum_by-append (λ h. one_if (bytes_eq g h)) (flat_map (bucket_groups st true) (range_with_len 0 1024)) (flat_map (bucket_groups st false) (range_with_len 0 256))
+    ∙ (λ i. count-flat (bytes_eq g) (bucket_groups st true) (range_with_len 0 1024) i + count-flat (bytes_eq g) (bucket_groups st false) (range_with_len 0 256) i)
+    ∙ (λ i. sum_by (λ b. count-slots st.places g (new_rec_at st b) (range_with_len 0 64) i) (range_with_len 0 1024)
+    + sum_by (λ b. count-slots st.places g (tried_rec_at st b) (range_with_len 0 64) i) (range_with_len 0 256))
 
 -- ---- the loops
 
@@ -79,45 +132,46 @@ abbrev Entries : Type 0
 Entries = List (List ℕ × SlotNumbers)
 
 -- one slot more of a bucket
-pub slot-more : (groups : ℕ → List (List ℕ)) (bucket i : ℕ) (start now next : Entries)
-    → now ≡ fold (noted no_slots with_slot) start (map (λ g. (g, bucket)) (flat_map groups (range_with_len 0 i)))
-    → next ≡ fold (noted no_slots with_slot) now (map (λ g. (g, bucket)) (groups i))
-    → next ≡ fold (noted no_slots with_slot) start (map (λ g. (g, bucket)) (flat_map groups (range_with_len 0 (i + 1))))
-slot-more groups bucket i start now next so_far more =
+pub slot-more : (in_new : Bool) (groups : ℕ → List (List ℕ)) (bucket i : ℕ) (start now next : Entries)
+    → now ≡ fold (noted no_slots (with_slot in_new)) start (map (λ g. (g, bucket)) (flat_map groups (range_with_len 0 i)))
+    → next ≡ fold (noted no_slots (with_slot in_new)) now (map (λ g. (g, bucket)) (groups i))
+    → next ≡ fold (noted no_slots (with_slot in_new)) start (map (λ g. (g, bucket)) (flat_map groups (range_with_len 0 (i + 1))))
+slot-more in_new groups bucket i start now next so_far more =
     let before : List (List ℕ × ℕ) = map (λ g. (g, bucket)) (flat_map groups (range_with_len 0 i)) in
     let here : List (List ℕ × ℕ) = map (λ g. (g, bucket)) (groups i) in
-    more ∙ ap (λ (es : Entries). fold (noted no_slots with_slot) es here) so_far ∙ sym (fold-append (noted no_slots with_slot) start before here)
-    ∙ ap (fold (noted no_slots with_slot) start) (sym (ap (map (λ g. (g, bucket))) (flat-more groups i) ∙ map-append (λ g. (g, bucket)) (flat_map groups (range_with_len 0 i)) (groups i)))
+    more ∙ ap (λ (es : Entries). fold (noted no_slots (with_slot in_new)) es here) so_far ∙ sym (fold-append (noted no_slots (with_slot in_new)) start before here)
+    ∙ ap (fold (noted no_slots (with_slot in_new)) start) (sym (ap (map (λ g. (g, bucket))) (flat-more groups i) ∙ map-append (λ g. (g, bucket)) (flat_map groups (range_with_len 0 i)) (groups i)))
 
 -- one bucket more
-pub bucket-more : (groups : ℕ → List (List ℕ)) (i : ℕ) (now next : Entries) → now ≡ fold (noted no_slots with_slot) [] (visits_of groups 0 i)
-    → next ≡ fold (noted no_slots with_slot) now (in_bucket groups i) → next ≡ fold (noted no_slots with_slot) [] (visits_of groups 0 (i + 1))
-bucket-more groups i now next so_far more =
-    more ∙ ap (λ (es : Entries). fold (noted no_slots with_slot) es (in_bucket groups i)) so_far
-    ∙ sym (fold-append (noted no_slots with_slot) [] (visits_of groups 0 i) (in_bucket groups i))
-    ∙ ap (fold (noted no_slots with_slot) []) (sym (flat-more (in_bucket groups) i))
+pub bucket-more : (in_new : Bool) (groups : ℕ → List (List ℕ)) (i : ℕ) (start now next : Entries) → now ≡ fold (noted no_slots (with_slot in_new)) start (visits_of groups 0 i)
+    → next ≡ fold (noted no_slots (with_slot in_new)) now (in_bucket groups i) → next ≡ fold (noted no_slots (with_slot in_new)) start (visits_of groups 0 (i + 1))
+bucket-more in_new groups i start now next so_far more =
+    more ∙ ap (λ (es : Entries). fold (noted no_slots (with_slot in_new)) es (in_bucket groups i)) so_far
+    ∙ sym (fold-append (noted no_slots (with_slot in_new)) start (visits_of groups 0 i) (in_bucket groups i))
+    ∙ ap (fold (noted no_slots (with_slot in_new)) start) (sym (flat-more (in_bucket groups) i))
 
 -- a slot adds at most one
-pub few-more : (places : Places) (bucket n : ℕ) (o : Option Rec) (es next : Entries) → AreFewSlots n es
-    → next ≡ fold (noted no_slots with_slot) es (map (λ g. (g, bucket)) (source_groups places o)) → AreFewSlots (n + 1) next
-few-more places bucket n None es next few is =
-    subst (AreFewSlots (n + 1)) (sym is) (λ g. (omega (arith, (few g).0), omega (arith, (few g).1)))
-few-more places bucket n (Some r) es next few is = subst (AreFewSlots (n + 1)) (sym is) (few-slots n es (group places r.source, bucket) few)
+pub few-more : (in_new : Bool) (places : Places) (bucket n : ℕ) (o : Option Rec) (es next : Entries) → AreFewSlots n es
+    → next ≡ fold (noted no_slots (with_slot in_new)) es (map (λ g. (g, bucket)) (source_groups places o)) → AreFewSlots (n + 1) next
+few-more in_new places bucket n None es next few is =
+    subst (AreFewSlots (n + 1)) (sym is) (λ g. (omega (arith, (few g).0), omega (arith, (few g).1), omega (arith, (few g).2)))
+few-more in_new places bucket n (Some r) es next few is = subst (AreFewSlots (n + 1)) (sym is) (few-slots in_new n es (group places r.source, bucket) few)
 
 pub fewer : (n m : ℕ) (es : Entries) → n ≤ m → AreFewSlots n es → AreFewSlots m es
-fewer n m es le few g = (omega (arith, (few g).0, le), omega (arith, (few g).1, le))
+fewer n m es le few g = (omega (arith, (few g).0, le), omega (arith, (few g).1, le), omega (arith, (few g).2, le))
 
 -- there are none at first
 pub none-few : (n : ℕ) (es : Entries) → es ≡ [] → AreFewSlots n es
-none-few n es none = subst (AreFewSlots n) (sym none) (λ g. (omega arith, omega arith))
+none-few n es none = subst (AreFewSlots n) (sym none) (λ g. (omega arith, omega arith, omega arith))
 
--- all slots of a bucket, and all buckets
-pub slots-all : (groups : ℕ → List (List ℕ)) (bucket i n : ℕ) (start now : Entries) → i ≡ n
-    → now ≡ fold (noted no_slots with_slot) start (map (λ g. (g, bucket)) (flat_map groups (range_with_len 0 i)))
-    → now ≡ fold (noted no_slots with_slot) start (map (λ g. (g, bucket)) (flat_map groups (range_with_len 0 n)))
-slots-all groups bucket i n start now e is =
-    is ∙ ap (λ (k : ℕ). fold (noted no_slots with_slot) start (map (λ g. (g, bucket)) (flat_map groups (range_with_len 0 k)))) e
+-- all slots of a bucket
+pub slots-all : (in_new : Bool) (groups : ℕ → List (List ℕ)) (bucket i n : ℕ) (start now : Entries) → i ≡ n
+    → now ≡ fold (noted no_slots (with_slot in_new)) start (map (λ g. (g, bucket)) (flat_map groups (range_with_len 0 i)))
+    → now ≡ fold (noted no_slots (with_slot in_new)) start (map (λ g. (g, bucket)) (flat_map groups (range_with_len 0 n)))
+slots-all in_new groups bucket i n start now e is =
+    is ∙ ap (λ (k : ℕ). fold (noted no_slots (with_slot in_new)) start (map (λ g. (g, bucket)) (flat_map groups (range_with_len 0 k)))) e
 
-pub buckets-all : (groups : ℕ → List (List ℕ)) (i n : ℕ) (now : Entries) → i ≡ n → now ≡ fold (noted no_slots with_slot) [] (visits_of groups 0 i)
-    → now ≡ fold (noted no_slots with_slot) [] (visits_of groups 0 n)
-buckets-all groups i n now e is = is ∙ ap (λ (k : ℕ). fold (noted no_slots with_slot) [] (visits_of groups 0 k)) e
+-- the slots of a bucket are counted before the next one
+pub after-bucket : (in_new : Bool) (bucket i : ℕ) (es : Entries) → i ≡ 64 → AreFewSlots (slots_before in_new bucket + i) es → AreFewSlots (slots_before in_new (bucket + 1)) es
+after-bucket true bucket i es e few = fewer (64 * bucket + i) (64 * (bucket + 1)) es (omega (arith, e)) few
+after-bucket false bucket i es e few = fewer (65536 + 64 * bucket + i) (65536 + 64 * (bucket + 1)) es (omega (arith, e)) few

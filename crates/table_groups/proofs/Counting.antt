@@ -3,15 +3,18 @@ use Rattle.std.proofs.Common.{◌≡◌, ℕ, ◌+◌, List, [], ◌∷◌, Resu
 use Rattle.std.specs.Prelude.{IfOk}
 use Rattle.arrayvec.specs.ArrayVec.{ArrayVec}
 use Rattle.table_machine.specs.State.{State}
-use Rattle.table_groups.proofs.Buckets.{buckets-of, slots-of}
+use Rattle.table_groups.proofs.Buckets.{all-buckets-of, all-groups, all-slots-of, all-tried-of, buckets-of, slots-of}
 use Rattle.table_groups.proofs.OfRecords.{first-of, groups-are-once, new-of, tried-of}
 use Rattle.table_groups.specs.Groups.{counted_group, counted_of, groups_in, row_of, rows_of}
-use Rattle.table_groups.specs.Inside.{counted_in, records_by, row_in, slots_by}
+use Rattle.table_groups.specs.Inside.{all_by, counted_in, counted_source_in, records_by, row_in, slots_by, source_in}
+use Rattle.table_groups.specs.Order.{in_order}
+use Rattle.table_groups.specs.Sources.{counted_source, slot_groups, source_of, sources_of}
 use Rattle.table_groups.specs.Tally.{by_bytes, groups_of, once}
 use Rattle.table_groups.specs.declared.order.Counted.{Counted}
 use Rattle.table_groups.specs.declared.record_numbers.RecordNumbers.{RecordNumbers}
 use Rattle.table_groups.specs.declared.row.Row.{Row}
 use Rattle.table_groups.specs.declared.slot_numbers.SlotNumbers.{SlotNumbers}
+use Rattle.table_groups.specs.declared.sources.Source.{Source}
 
 pub if_ok : {A E : Type 0} (P Q : A → Type 0) (r : Result A E) → ((x : A) → P x → Q x) → IfOk r P → IfOk r Q
 if_ok P Q (Ok x) so h = so x h
@@ -49,3 +52,30 @@ module _ (st : State) where
   unfolding rows_of
   rows-are-of rs ss cs rows records slots groups is =
       is ∙ (λ i. map (λ c. row_in (records i) (slots i) c.group.items) (groups i)) ∙ (λ i. map (λ c. row-is c i) (groups_in st))
+
+  -- ---- the sources
+
+  counted-source-is : (g : List ℕ) → counted_source_in (all_by st) g ≡ counted_source st g
+  counted-source-is g = λ i. record { group = record { items = g }; slots = all-slots-of st g i + all-tried-of st g i }
+
+  source-is : (c : Counted) → source_in (all_by st) c.group.items ≡ source_of st c
+  source-is c = λ i. record {
+    group = record { items = c.group.items };
+    new = all-slots-of st c.group.items i;
+    tried = all-tried-of st c.group.items i;
+    buckets = all-buckets-of st c.group.items i;
+  }
+
+  pub sources-are-in : (ss : List (ArrayVec ℕ × SlotNumbers)) (cs : List Counted) → by_bytes ss ≡ all_by st → cs ≡ map (λ k. counted_source_in (by_bytes ss) k.items) (map (λ e. e.0) ss)
+      → cs ≡ map (counted_source st) (once (slot_groups st))
+  sources-are-in ss cs slots is =
+      is ∙ keys-bytes (counted_source_in (by_bytes ss)) ss
+      ∙ (λ i. map (counted_source_in (slots i)) (groups_of (slots i)))
+      ∙ ap (map (counted_source_in (all_by st))) (all-groups st)
+      ∙ (λ i. map (λ g. counted-source-is g i) (once (slot_groups st)))
+
+  pub sources-are-of : (ss : List (ArrayVec ℕ × SlotNumbers)) (cs : List Counted) (sources : List Source) → by_bytes ss ≡ all_by st
+      → cs ≡ in_order (map (counted_source st) (once (slot_groups st))) → sources ≡ map (λ c. source_in (by_bytes ss) c.group.items) cs → sources ≡ sources_of st
+  unfolding sources_of
+  sources-are-of ss cs sources slots groups is =
+      is ∙ (λ i. map (λ c. source_in (slots i) c.group.items) (groups i)) ∙ (λ i. map (λ c. source-is c i) (in_order (map (counted_source st) (once (slot_groups st)))))

@@ -62,7 +62,7 @@ sum-none f [] each = refl
 sum-none f (x ∷ xs) each = let own = each.0 in omega (arith, own, sum-none f xs each.1, sum_by-cons f x xs)
 
 -- no group comes before an earlier one
-abbrev IsUp : List Counted → Type 0
+abbrev pub IsUp : List Counted → Type 0
 IsUp [] = Unit {0}
 IsUp (x ∷ xs) = AllByRecursion (λ z. comes_before z x ≡ false) xs × IsUp xs
 
@@ -84,7 +84,7 @@ placed-up c (d ∷ ds) up = by (comes_before c d) refl (placed-up c ds up.1)
         ((own, weaker (λ z. comes_before z d ≡ false) (λ z. comes_before z c ≡ false) ds (λ z f. weak.chain z d c f own) up.0), up)
     by false e more = (placed-all (λ z. comes_before z d ≡ false) c ds e up.0, more)
 
-order-up : (cs ds : List Counted) → IsUp ds → IsUp (fold (λ es c. placed c es) ds cs)
+pub order-up : (cs ds : List Counted) → IsUp ds → IsUp (fold (λ es c. placed c es) ds cs)
 order-up [] ds up = up
 order-up (c ∷ cs) ds up = order-up cs (placed c ds) (placed-up c ds up)
 

@@ -82,7 +82,7 @@ module _ {V E : Type 0} (none : V) (after : V → E → V) where
       by true is = ap (λ (i : List ℕ). after (value_in none es i) v.1) (sym (same k v.0 is))
       by false is = refl
 
-  folded : (vs : List (List ℕ × E)) (es : List (List ℕ × V)) (k : List ℕ) → value_in none (fold (noted none after) es vs) k ≡ fold (after_visit after k) (value_in none es k) vs
+  pub folded : (vs : List (List ℕ × E)) (es : List (List ℕ × V)) (k : List ℕ) → value_in none (fold (noted none after) es vs) k ≡ fold (after_visit after k) (value_in none es k) vs
   folded [] es k = refl
   folded (v ∷ vs) es k = folded vs (noted none after es v) k ∙ ap (λ (n : V). fold (after_visit after k) n vs) (visited es v k)
 
@@ -100,7 +100,7 @@ module _ {V E : Type 0} (none : V) (after : V → E → V) where
       by false true more = ap (λ (gs : List (List ℕ)). e.0 ∷ gs) more
       by false false more = ap (λ (gs : List (List ℕ)). e.0 ∷ gs) more
 
-  all-written : (vs : List (List ℕ × E)) (es : List (List ℕ × V)) → groups_of (fold (noted none after) es vs) ≡ fold with_group (groups_of es) (map (λ v. v.0) vs)
+  pub all-written : (vs : List (List ℕ × E)) (es : List (List ℕ × V)) → groups_of (fold (noted none after) es vs) ≡ fold with_group (groups_of es) (map (λ v. v.0) vs)
   all-written [] es = refl
   all-written (v ∷ vs) es =
       all-written vs (noted none after es v) ∙ ap (λ (gs : List (List ℕ)). fold with_group gs (map (λ v. v.0) vs)) (written es v.0 (after (value_in none es v.0) v.1))

@@ -1,19 +1,20 @@
 -- What records and slots add to the numbers of their groups, one after another.
-use Rattle.std.specs.Prelude.{ℕ, ◌+◌, ◌≤◌, List, [], ◌∷◌, map, Option, Some, None, if◌then◌else◌}
-use Rattle.std.specs.List.{flat_map, range_with_len}
+use Rattle.std.specs.Prelude.{ℕ, ◌+◌, ◌≤◌, List, map, fold, true, false, Option, Some, None, if◌then◌else◌}
 use Rattle.net_addr.specs.Address.{Address}
 use Rattle.peer_rec.specs.Rec.{is_tried}
 use Rattle.peer_rec.specs.declared.rec.Rec.{Rec}
-use Rattle.placing.specs.Places.{Places, group}
-use Rattle.slot_grid.specs.declared.sizes.TheConstants.{NEW_BUCKETS, SLOTS}
-use Rattle.table_machine.specs.State.{State, new_rec_at}
+use Rattle.placing.specs.Places.{Places}
+use Rattle.slot_grid.specs.declared.sizes.TheConstants.{NEW_BUCKETS, TRIED_BUCKETS}
+use Rattle.table_machine.specs.State.{State}
 use Rattle.table_groups.specs.Groups.{counted_address, counted_group}
-use Rattle.table_groups.specs.Tally.{tally_of, value_in}
+use Rattle.table_groups.specs.Sources.{bucket_groups}
+use Rattle.table_groups.specs.Tally.{noted, tally_of, value_in}
 use Rattle.table_groups.specs.Visits.{no_slots, visits_of, with_slot}
 use Rattle.table_groups.specs.declared.order.Counted.{Counted}
 use Rattle.table_groups.specs.declared.record_numbers.RecordNumbers.{RecordNumbers}
 use Rattle.table_groups.specs.declared.row.Row.{Row}
 use Rattle.table_groups.specs.declared.slot_numbers.SlotNumbers.{SlotNumbers}
+use Rattle.table_groups.specs.declared.sources.Source.{Source}
 
 -- RECORDS
 
@@ -44,18 +45,15 @@ AreFewRecords n es = (g : List ℕ) → ((value_in no_records es g).new ≤ n)
 
 -- SLOTS
 
--- the group of the source in a record, if there is one
-abbrev pub source_groups : Places → Option Rec → List (List ℕ)
-source_groups places None = []
-source_groups places (Some r) = group places r.source ∷ []
-
--- the groups of the occupied slots of a bucket of the new table
-abbrev pub bucket_groups : State → ℕ → List (List ℕ)
-bucket_groups st bucket =
-    flat_map (λ slot. source_groups st.places (new_rec_at st bucket slot)) (range_with_len 0 SLOTS)
-
+-- what the slots of the new table add
 unfoldable pub slots_by : State → List (List ℕ × SlotNumbers)
-slots_by st = tally_of no_slots with_slot (visits_of (bucket_groups st) 0 NEW_BUCKETS)
+slots_by st = tally_of no_slots (with_slot true) (visits_of (bucket_groups st true) 0 NEW_BUCKETS)
+
+-- the same, and those of the tried table after them
+unfoldable pub all_by : State → List (List ℕ × SlotNumbers)
+all_by st =
+    fold (noted no_slots (with_slot false)) (slots_by st)
+    (visits_of (bucket_groups st false) 0 TRIED_BUCKETS)
 
 -- BOTH
 
@@ -76,4 +74,21 @@ row_in records slots g = record {
     records = (value_in no_records records g).new;
     tried = (value_in no_records records g).tried;
   };
+}
+
+-- SOURCES
+
+-- a group with its slots of both tables
+abbrev pub counted_source_in : List (List ℕ × SlotNumbers) → List ℕ → Counted
+counted_source_in slots g = record {
+  group = record { items = g };
+  slots = (value_in no_slots slots g).slots + (value_in no_slots slots g).tried;
+}
+
+abbrev pub source_in : List (List ℕ × SlotNumbers) → List ℕ → Source
+source_in slots g = record {
+  group = record { items = g };
+  new = (value_in no_slots slots g).slots;
+  tried = (value_in no_slots slots g).tried;
+  buckets = (value_in no_slots slots g).buckets;
 }

@@ -4,5 +4,6 @@ pub mod Tally
 pub mod Order
 pub mod Visits
 pub mod Slots
+pub mod Sources
 pub mod Groups
 pub mod Inside

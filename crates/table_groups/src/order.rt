@@ -16,7 +16,7 @@ pub struct Counted {
 }
 
 /// Returns a copy of a group.
-pub(crate) fn copy_of(group: &Group) -> Group
+pub fn copy_of(group: &Group) -> Group
     ensures { result ≡ group.now }
 {
     let mut copy = Group::new();

@@ -1,9 +1,11 @@
-ghost use Rattle.std.specs.Prelude.{◌≡◌, ◌<◌, ◌≤◌, ◌*◌, ◌+◌, ◌-◌, ◌^◌, IfOk, OnOk, fold, if◌then◌else◌, is_some, option_map};
+ghost use Rattle.std.specs.Prelude.{◌≡◌, ◌<◌, ◌≤◌, ◌+◌, ◌-◌, ◌^◌, IfOk, OnOk, true, fold, if◌then◌else◌, is_some, option_map};
 ghost use Rattle.slot_grid.specs.declared.sizes.TheConstants.{NEW_BUCKETS, NEW_SLOTS, SLOTS};
-ghost use Rattle.table_groups.specs.Inside.{bucket_groups, slots_by, source_groups};
+ghost use Rattle.table_groups.specs.Inside.{slots_by};
+ghost use Rattle.table_groups.specs.Sources.{bucket_groups, source_groups};
 ghost use Rattle.table_groups.specs.Tally.{by_bytes, noted};
-ghost use Rattle.table_groups.specs.Visits.{AreFewSlots, in_bucket, no_slots, with_slot};
+ghost use Rattle.table_groups.specs.Visits.{AreFewSlots, in_bucket, no_slots, slots_before, visits_of, with_slot};
 ghost use Rattle.table_groups.specs.Slots.{new_slots, slots_in};
+ghost use Rattle.table_machine.specs.Picks.{bucket_count, occupant_at};
 ghost use Rattle.table_machine.specs.State.{new_rec_at};
 
 use crate::slot_numbers::SlotNumbers;
@@ -12,50 +14,100 @@ use crate::{Lent, Memory};
 use indexmap::IndexMap;
 use peer_rec::Rec;
 use placing::Placer;
-use slot_grid::{NEW_BUCKETS, SLOTS};
+use slot_grid::{NEW_BUCKETS, SLOTS, TRIED_BUCKETS};
 use std::alloc::{AllocError, Global};
 use std::hash::BuildHasher;
 use std::sync::ledger::Ledger;
 use steps::Steps;
 use tables::Tables;
 
+/// Returns how many buckets a table has.
+pub fn bucket_count(in_new: bool) -> u16
+    ensures { result ≡ bucket_count in_new }
+{
+    if in_new { NEW_BUCKETS } else { TRIED_BUCKETS }
+}
+
+/// Returns the record in a slot of the new table or of the tried one, or `None` if the slot is
+/// empty.
+pub fn rec_at<'a, H: BuildHasher, L: Ledger>(
+    tables: &'a Tables<'_, H>,
+    in_new: bool,
+    bucket: u16,
+    slot: u8,
+    steps: &mut Steps<L>,
+) -> Option<&'a Rec>
+    requires bucket { bucket < bucket_count in_new }
+    requires slot { slot < SLOTS }
+    ensures { option_map (λ r. r.now) result ≡ occupant_at tables.now in_new bucket slot }
+{
+    if in_new {
+        tables.new_rec_at(bucket, slot, steps)
+    } else {
+        tables.tried_rec_at(bucket, slot, steps)
+    }
+}
+
 /// Counts a slot of a bucket for the group of the source in its record, if it has one.
 fn note_slot<H: BuildHasher>(
     tally: &mut Tally<'_, SlotNumbers, H>,
     placer: &Placer<'_>,
+    in_new: bool,
     bucket: u16,
     rec: Option<&Rec>,
 ) -> Result<(), AllocError>
     requires few { AreFewSlots (2 ^ 32 - 2) (by_bytes tally.old.entries) }
     ensures { OnOk result (by_bytes tally.new.entries
-        ≡ fold (noted no_slots with_slot) (by_bytes tally.old.entries)
+        ≡ fold (noted no_slots (with_slot in_new)) (by_bytes tally.old.entries)
         (in_bucket (λ b. source_groups placer.now (option_map (λ r. r.now) rec.entry)) bucket)) }
 {
     if let Some(rec) = rec {
         let group = placer.group(&rec.source);
-        let numbers = value_of(tally, &group, SlotNumbers::none()).with_slot(bucket);
+        let numbers = value_of(tally, &group, SlotNumbers::none()).with_slot(in_new, bucket);
         put_value(tally, group, numbers)?;
     }
     Ok(())
 }
 
-/// Counts the slots of a bucket of the new table for their groups.
+/// Counts the slots of a bucket for their groups.
 fn note_bucket<H: BuildHasher, G: BuildHasher, L: Ledger>(
     tally: &mut Tally<'_, SlotNumbers, G>,
     tables: &Tables<'_, H>,
+    in_new: bool,
     bucket: u16,
     steps: &mut Steps<L>,
 ) -> Result<(), AllocError>
-    requires bucket { bucket < NEW_BUCKETS }
-    requires few { AreFewSlots (SLOTS * bucket) (by_bytes tally.old.entries) }
+    requires bucket { bucket < bucket_count in_new }
+    requires few { AreFewSlots (slots_before in_new bucket) (by_bytes tally.old.entries) }
     ensures visits { OnOk result (by_bytes tally.new.entries
-        ≡ fold (noted no_slots with_slot) (by_bytes tally.old.entries)
-        (in_bucket (bucket_groups tables.now) bucket)) }
-    ensures few { OnOk result (AreFewSlots (SLOTS * (bucket + 1)) (by_bytes tally.new.entries)) }
+        ≡ fold (noted no_slots (with_slot in_new)) (by_bytes tally.old.entries)
+        (in_bucket (bucket_groups tables.now in_new) bucket)) }
+    ensures few { OnOk result (AreFewSlots (slots_before in_new (bucket + 1))
+        (by_bytes tally.new.entries)) }
 {
     for slot in 0..SLOTS {
-        let rec = tables.new_rec_at(bucket, slot, steps);
-        note_slot(tally, tables.placer(), bucket, rec)?;
+        let rec = rec_at(tables, in_new, bucket, slot, steps);
+        note_slot(tally, tables.placer(), in_new, bucket, rec)?;
+    }
+    Ok(())
+}
+
+/// Counts the slots of a table for their groups, by rising bucket. The new table comes first.
+pub(crate) fn note_table<H: BuildHasher, G: BuildHasher, L: Ledger>(
+    tally: &mut Tally<'_, SlotNumbers, G>,
+    tables: &Tables<'_, H>,
+    in_new: bool,
+    steps: &mut Steps<L>,
+) -> Result<(), AllocError>
+    requires few { AreFewSlots (slots_before in_new 0) (by_bytes tally.old.entries) }
+    ensures visits { OnOk result (by_bytes tally.new.entries
+        ≡ fold (noted no_slots (with_slot in_new)) (by_bytes tally.old.entries)
+        (visits_of (bucket_groups tables.now in_new) 0 (bucket_count in_new))) }
+    ensures few { OnOk result (AreFewSlots (slots_before in_new (bucket_count in_new))
+        (by_bytes tally.new.entries)) }
+{
+    for bucket in 0..bucket_count(in_new) {
+        note_bucket(tally, tables, in_new, bucket, steps)?;
     }
     Ok(())
 }
@@ -67,12 +119,11 @@ pub(crate) fn tally_slots<'a, H: BuildHasher, G: BuildHasher, L: Ledger>(
     tables: &Tables<'_, H>,
     steps: &mut Steps<L>,
 ) -> Result<Tally<'a, SlotNumbers, G>, Memory>
-    ensures { IfOk result (λ tally. by_bytes tally.entries ≡ slots_by tables.now) }
+    ensures visits { IfOk result (λ tally. by_bytes tally.entries ≡ slots_by tables.now) }
+    ensures few { IfOk result (λ tally. AreFewSlots NEW_SLOTS (by_bytes tally.entries)) }
 {
     let mut tally = IndexMap::with_hasher(alloc, Lent::of(hasher));
-    for bucket in 0..NEW_BUCKETS {
-        note_bucket(&mut tally, tables, bucket, steps)?;
-    }
+    note_table(&mut tally, tables, true, steps)?;
     Ok(tally)
 }
 

@@ -8,14 +8,10 @@ use std::alloc::{AllocError, Global};
 use std::hash::BuildHasher;
 
 /// The values of groups, in the order of the first ones.
-pub(crate) type Tally<'a, V, H> = IndexMap<Group, V, Lent<'a, H>>;
+pub type Tally<'a, V, H> = IndexMap<Group, V, Lent<'a, H>>;
 
 /// Returns the value of a group, `none` if it has none.
-pub(crate) fn value_of<V: Copy, H: BuildHasher>(
-    tally: &Tally<'_, V, H>,
-    group: &Group,
-    none: V,
-) -> V
+pub fn value_of<V: Copy, H: BuildHasher>(tally: &Tally<'_, V, H>, group: &Group, none: V) -> V
     ensures { result ≡ value_in none (by_bytes tally.now.entries) group.now.items }
 {
     match tally.get(group) {
@@ -25,7 +21,7 @@ pub(crate) fn value_of<V: Copy, H: BuildHasher>(
 }
 
 /// Writes the value of a group.
-pub(crate) fn put_value<V: Copy + Drop, H: BuildHasher>(
+pub fn put_value<V: Copy + Drop, H: BuildHasher>(
     tally: &mut Tally<'_, V, H>,
     group: Group,
     value: V,

@@ -1,30 +1,24 @@
--- The keys of the slots, of which there are 64 a bucket.
-use Rattle.std.proofs.Common.{◌≡◌, ℕ, zero, suc, ◌+◌, ◌*◌, List, length, ap, ◌∙◌, arith, length-append}
+-- The marks of the slots, of which there are 64 a bucket.
+use Rattle.std.proofs.Common.{◌≡◌, ℕ, zero, suc, ◌+◌, ◌*◌, Bool, true, false, List, length, ap, ◌∙◌, arith, length-append}
 use Rattle.std.specs.List.{flat_map, range_with_len}
 use Rattle.std.proofs.lemmas.List.FromFn.{length-map-range_with_len}
-use Rattle.placing.specs.Places.{Places}
-use Rattle.table_machine.specs.State.{State, new_rec_at, tried_rec_at}
-use Rattle.table_picture.specs.Keys.{slot_key, bucket_keys, new_keys, tried_bucket_keys, tried_keys, slot_keys}
+use Rattle.table_groups.specs.declared.sources.Source.{Source}
+use Rattle.table_machine.specs.Picks.{bucket_count, occupant_at}
+use Rattle.table_machine.specs.State.{State}
+use Rattle.table_picture.specs.Marks.{bucket_marks, marks_by, rec_mark, table_marks}
 
 pub long : (f : ℕ → List ℕ) (a n : ℕ) → ((k : ℕ) → length (f k) ≡ 64) → length (flat_map f (range_with_len a n)) ≡ 64 * n
 long f a zero each = omega arith
 long f a (suc n) each = length-append (f a) (flat_map f (range_with_len (a + 1) n)) ∙ omega (arith, each a, long f (a + 1) n each)
 
-module _ (st : State) (places : Places) where
-  each_bucket : (k : ℕ) → length (bucket_keys st places k) ≡ 64
-  each_bucket k = length-map-range_with_len (λ slot. slot_key places (new_rec_at st k slot)) 0 64
+module _ (st : State) (listed : List Source) where
+  pub bucket-length : (in_new : Bool) (k : ℕ) → length (bucket_marks st listed in_new k) ≡ 64
+  bucket-length in_new k = length-map-range_with_len (λ slot. rec_mark st.places listed (occupant_at st in_new k slot)) 0 64
 
-  each_tried_bucket : (k : ℕ) → length (tried_bucket_keys st places k) ≡ 64
-  each_tried_bucket k = length-map-range_with_len (λ slot. slot_key places (tried_rec_at st k slot)) 0 64
+  pub table-length : (in_new : Bool) → length (table_marks st listed in_new) ≡ 64 * bucket_count in_new
+  unfolding table_marks
+  table-length in_new = long (bucket_marks st listed in_new) 0 (bucket_count in_new) (bucket-length in_new)
 
-  pub new-length : length (new_keys st places) ≡ 64 * 1024
-  unfolding new_keys
-  new-length = long (bucket_keys st places) 0 1024 each_bucket
-
-  pub tried-length : length (tried_keys st places) ≡ 64 * 256
-  unfolding tried_keys
-  tried-length = long (tried_bucket_keys st places) 0 256 each_tried_bucket
-
-  pub slots-length : (keys : List ℕ) → keys ≡ slot_keys st places → length keys ≡ 81920
-  unfolding slot_keys
-  slots-length keys is = omega (arith, ap length is, length-append (new_keys st places) (tried_keys st places), new-length, tried-length)
+  pub marks-length : (marks : List ℕ) → marks ≡ marks_by st listed → length marks ≡ 81920
+  unfolding marks_by
+  marks-length marks is = omega (arith, ap length is, length-append (table_marks st listed true) (table_marks st listed false), table-length true, table-length false)

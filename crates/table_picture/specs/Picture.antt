@@ -1,13 +1,15 @@
 -- The picture of a state.
-use Rattle.std.specs.Prelude.{ℕ, ◌-◌, ◌/◌, ◌%◌, ◌==◌, nat_lt, List, [], map, Option, Some, None, if◌then◌else◌}
-use Rattle.std.specs.List.{position_or_len}
+use Rattle.std.specs.Prelude.{ℕ, ◌+◌, ◌-◌, ◌/◌, ◌%◌, ◌==◌, nat_lt, List, [], length, map, Option, Some, None, if◌then◌else◌}
+use Rattle.std.specs.List.{position_or_len, range_with_len}
 use Rattle.placing.specs.Places.{Places}
 use Rattle.peer_rec.specs.declared.rec.Rec.{Rec}
-use Rattle.picture_text.specs.Picture.{listed_keys, picture_text}
+use Rattle.picture_text.specs.Picture.{listed_in, picture_text}
 use Rattle.slot_grid.specs.declared.sizes.TheConstants.{ALL_SLOTS, NEW_SLOTS, SLOTS}
 use Rattle.table_groups.specs.Names.{name_of}
+use Rattle.table_groups.specs.Sources.{sources_of}
+use Rattle.table_groups.specs.declared.sources.Source.{Source}
 use Rattle.table_machine.specs.State.{State, new_rec_at, tried_rec_at}
-use Rattle.table_picture.specs.Keys.{slot_keys}
+use Rattle.table_picture.specs.Marks.{marks_by}
 
 -- the record in a slot; slots are counted by rising bucket, those of the new table first
 abbrev pub rec_in : State → ℕ → Option Rec
@@ -21,16 +23,24 @@ abbrev pub rec_name : Places → Option Rec → List ℕ
 rec_name places None = []
 rec_name places (Some r) = name_of places r.source
 
--- the name of a key: that of the source in the first slot that has it
-abbrev pub key_name : State → Places → List ℕ → ℕ → List ℕ
-key_name st places keys key = rec_name places (rec_in st (position_or_len (λ j. j == key) keys))
+-- the name of the listed group at an index: that of the source in the first slot with its mark
+abbrev pub mark_name : State → List ℕ → ℕ → List ℕ
+mark_name st marks index =
+    rec_name st.places (rec_in st (position_or_len (λ m. m == index + 1) marks))
 
--- the picture under the key and the asmap of `places`
-unfoldable pub picture_under : State → Places → List ℕ
-picture_under st places =
-    picture_text (slot_keys st places)
-    (map (key_name st places (slot_keys st places)) (listed_keys (slot_keys st places)))
+abbrev pub names_in : State → List ℕ → ℕ → List (List ℕ)
+names_in st marks count = map (mark_name st marks) (range_with_len 0 count)
+
+-- the groups that are listed
+unfoldable pub listed_of : State → List Source
+listed_of st = listed_in (sources_of st)
+
+-- the marks of the slots
+abbrev pub marks_of : State → List ℕ
+marks_of st = marks_by st (listed_of st)
 
 -- the picture of a state
-abbrev pub picture_of : State → List ℕ
-picture_of st = picture_under st st.places
+unfoldable pub picture_of : State → List ℕ
+picture_of st =
+    picture_text (sources_of st) (marks_of st)
+    (names_in st (marks_of st) (length (listed_of st)))

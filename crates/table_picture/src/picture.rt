@@ -1,29 +1,28 @@
-ghost use Rattle.std.specs.Prelude.{◌≡◌, ◌<◌, ◌==◌, ◌++◌, length, map, IfOk, OnOk, option_map};
+ghost use Rattle.std.specs.Prelude.{◌≡◌, ◌<◌, ◌≤◌, ◌==◌, ◌++◌, ◌+◌, length, map, IfOk, OnOk, option_map};
 ghost use Rattle.std.specs.List.{position_or_len};
-ghost use Rattle.table_picture.specs.Keys.{slot_keys};
-ghost use Rattle.table_picture.specs.Picture.{key_name, picture_of, picture_under, rec_in, rec_name};
+ghost use Rattle.table_picture.specs.Picture.{names_in, picture_of, rec_in, rec_name};
 
 use crate::Memory;
-use crate::keys::slot_keys;
+use crate::marks::marks_by;
 use peer_rec::Rec;
-use picture_text::find_groups;
+use picture_text::listed_in;
 use placing::Placer;
 use slot_grid::{ALL_SLOTS, NEW_SLOTS, SLOTS};
 use std::alloc::Global;
 use std::hash::BuildHasher;
 use std::sync::ledger::Ledger;
 use steps::Steps;
-use table_groups::name_of;
+use table_groups::{name_of, sources_of};
 use tables::Tables;
 
-/// Returns the index of the first slot that has the key, and their number if none has.
-fn first_slot(keys: &[u128], key: u128) -> usize
-    ensures { result ≡ position_or_len (λ j. j == key) keys.now }
+/// Returns the index of the first slot that has the mark, and their number if none has.
+fn first_slot(marks: &[u8], mark: u8) -> usize
+    ensures { result ≡ position_or_len (λ m. m == mark) marks.now }
 {
-    let mut rest = keys;
+    let mut rest = marks;
     let mut at = 0;
     while let [first, after @ ..] = rest {
-        if *first == key {
+        if *first == mark {
             return at;
         }
         at += 1;
@@ -62,50 +61,42 @@ fn rec_name(alloc: Global, placer: &Placer<'_>, rec: Option<&Rec>) -> Result<Vec
     }
 }
 
-/// Returns the names of the listed groups.
-fn names_of<H: BuildHasher, L: Ledger>(
+/// Returns the names of the listed groups, of which there are `count`.
+fn names_in<H: BuildHasher, L: Ledger>(
     alloc: Global,
     tables: &Tables<'_, H>,
-    placer: &Placer<'_>,
-    keys: &[u128],
-    listed: &[u128],
+    marks: &[u8],
+    count: u8,
     steps: &mut Steps<L>,
 ) -> Result<Vec<Vec<u8>>, Memory>
+    requires { count ≤ 6 }
     ensures names { IfOk result (λ names. map (λ v. v.items) names.items
-        ≡ map (key_name tables.now placer.now keys.now) listed.now) }
-    ensures long { IfOk result (λ names. length names.items ≡ length listed.now) }
+        ≡ names_in tables.now marks.now count) }
+    ensures long { IfOk result (λ names. length names.items ≡ count) }
 {
     let mut names = Vec::new(alloc);
-    for key in listed {
-        let name = rec_name(alloc, placer, rec_in(tables, first_slot(keys, *key), steps))?;
-        names.push(name)?;
+    for index in 0..count {
+        let rec = rec_in(tables, first_slot(marks, index + 1), steps);
+        names.push(rec_name(alloc, tables.placer(), rec)?)?;
     }
     Ok(names)
 }
 
-/// Appends the picture of the tables, an SVG. It takes two steps a slot, and two for each name.
-#[tactic(auto, unfolding(crate::specs::Picture::picture_under))]
+/// Appends the picture of the tables, an SVG. It takes four steps a slot, and two for each name.
+#[tactic(auto, unfolding(crate::specs::Picture::picture_of, crate::specs::Picture::listed_of))]
 pub fn put_picture<H: BuildHasher, G: BuildHasher, L: Ledger>(
     alloc: Global,
     hasher: &G,
     tables: &Tables<'_, H>,
-    placer: &Placer<'_>,
     out: &mut Vec<u8>,
     steps: &mut Steps<L>,
 ) -> Result<(), Memory>
-    requires { placer.now ≡ tables.now.places }
     ensures text { OnOk result (out.new.items ≡ out.old.items ++ picture_of tables.now) }
 {
-    let keys = slot_keys(alloc, tables, placer, steps)?;
-    let groups = find_groups(alloc, hasher, keys.as_slice())?;
-    let names = names_of(
-        alloc,
-        tables,
-        placer,
-        keys.as_slice(),
-        groups.listed.as_slice(),
-        steps,
-    )?;
-    picture_text::put_picture(alloc, hasher, keys.as_slice(), &groups, names, out)?;
+    let sources = sources_of(alloc, hasher, tables, steps)?;
+    let listed = listed_in(sources.as_slice());
+    let marks = marks_by(alloc, tables, listed, steps)?;
+    let names = names_in(alloc, tables, marks.as_slice(), listed.len() as u8, steps)?;
+    picture_text::put_picture(alloc, sources.as_slice(), marks.as_slice(), names, out)?;
     Ok(())
 }

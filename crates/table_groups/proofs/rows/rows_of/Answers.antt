@@ -12,7 +12,7 @@ returns g c =
     let st = c.args.tables.now in
     let records : by_bytes c.in_ok-records.records.entries ≡ records_by st.places st.records =
     c.in_ok-records.ensures ∙ (λ i. records_by (c.placer.ensures i) (c.requires.all i)) in
-    let slots : by_bytes c.in_ok-slots.slots.entries ≡ slots_by st = c.in_ok-slots.ensures in
+    let slots : by_bytes c.in_ok-slots.slots.entries ≡ slots_by st = c.in_ok-slots.ensures.visits in
     let groups : c.as_slice.result.now ≡ groups_in st =
     c.as_slice.ensures.value ∙ c.put_in_order.ensures
     ∙ ap in_order (groups-are-in st c.in_ok-records.records.entries c.in_ok-slots.slots.entries c.in_ok-groups.groups.items records slots c.in_ok-groups.ensures) in

@@ -1,17 +1,10 @@
-use Rattle.std.proofs.Common.{arith}
-use Rattle.table_groups.proofs.Buckets.{bucket-more, buckets-all}
-use Rattle.table_groups.specs.Inside.{bucket_groups, slots_by}
-use Rattle.table_groups.specs.Tally.{by_bytes}
+use Rattle.std.proofs.Common.{true, ap, fold, ◌∙◌}
+use Rattle.table_groups.specs.Inside.{slots_by}
+use Rattle.table_groups.specs.Sources.{bucket_groups}
+use Rattle.table_groups.specs.Tally.{by_bytes, noted}
+use Rattle.table_groups.specs.Visits.{no_slots, visits_of, with_slot}
 use Rattle.table_groups.proofs.slots.tally_slots.Goals as goal
 
-pub loop-bucket-preserved : goal.loop-bucket-preserved
-loop-bucket-preserved g c = record {
-  counted = bucket-more (bucket_groups c.args.tables.now) c.loop-bucket.bucket (by_bytes c.loop-bucket.tally.entries) (by_bytes c.note_bucket.new.tally.entries) c.loop-bucket.invariant.counted
-      c.in_ok-note_bucket.ensures.visits;
-  few = c.in_ok-note_bucket.ensures.few;
-}
-
-pub returns : goal.returns
+pub returns-clause-visits : goal.returns-clause-visits
 unfolding slots_by
-returns g c =
-    buckets-all (bucket_groups c.args.tables.now) c.loop-bucket.bucket 1024 (by_bytes c.loop-bucket.tally.entries) (omega arith) c.loop-bucket.invariant.counted
+returns-clause-visits g c = c.in_ok-note_table.ensures.visits ∙ ap (λ es. fold (noted no_slots (with_slot true)) (by_bytes es) (visits_of (bucket_groups c.args.tables.now true) 0 1024)) c.with_hasher-tally.ensures.empty
