@@ -26,8 +26,8 @@
  *   result other than ADDRMAN_OK the outputs are as they were, but for what the result is about:
  *   *length after ADDRMAN_ERR_SHORT_BUFFER, *fault after ADDRMAN_ERR_REFUSED, and what the call
  *   says. *fault is written after no other result.
- * Layout. The structs below are part of the ABI. ADDRMAN_ABI changes with them; compare it with
- *   addrman_abi().
+ * Layout. The structs and the calls below are the ABI. ADDRMAN_ABI changes with them; compare it
+ *   with addrman_abi().
  *
  * PROOFS
  *
@@ -49,7 +49,7 @@
 extern "C" {
 #endif
 
-#define ADDRMAN_ABI 1u
+#define ADDRMAN_ABI 2u
 
 #if defined(_WIN32)
 #error "libaddrman is built for ELF systems"
@@ -184,6 +184,19 @@ ADDRMAN_CALL addrman_result addrman_peer_parse(const char *text, size_t length,
 ADDRMAN_CALL addrman_result addrman_addr_text(const addrman_addr *addr, char *out,
     size_t capacity, size_t *length);
 ADDRMAN_CALL addrman_result addrman_peer_text(const addrman_peer *peer, char *out,
+    size_t capacity, size_t *length);
+
+/* Parse the name of an address as people write it: 9.9.9.9, 2001:db8::1, the 56 letters of Tor v3
+ * before .onion, those of I2P before .b32.i2p. One of fc00::/8 is of CJDNS.
+ * ADDRMAN_ERR_ARGUMENT: the text is none, or has a port. Proved: `IsName`.
+ * Codes: ARGUMENT. */
+ADDRMAN_CALL addrman_result addrman_name_parse(const char *text, size_t length,
+    addrman_addr *addr);
+
+/* Write the name, which has no zero at its end, and its length: at most 62 bytes. Proved: TextCall
+ * (`name_text`).
+ * Codes: ARGUMENT, MEMORY, SHORT_BUFFER. */
+ADDRMAN_CALL addrman_result addrman_name_text(const addrman_addr *addr, char *out,
     size_t capacity, size_t *length);
 
 /* Whether an address is one that can be reached from anywhere: *routable is 1 or 0. Proved:
@@ -423,12 +436,18 @@ ADDRMAN_SIZE(addrman_picked, 40);
 ADDRMAN_CALL addrman_result addrman_select(addrman *am, bool new_only,
     uint32_t nets, const uint64_t *words, size_t word_count, uint32_t now, addrman_picked *picked);
 
+/* The same, and writes the record of the peer that is picked: its services, times and places, too.
+ * Proved: PickRecordCall (`select`, `find_peer`); the tables are as they were.
+ * Codes: as of addrman_select. */
+ADDRMAN_CALL addrman_result addrman_select_record(addrman *am, bool new_only,
+    uint32_t nets, const uint64_t *words, size_t word_count, uint32_t now,
+    addrman_record *record);
+
 /* Samples peers to announce to another node: at most `max`, and at most `percent` percent of all
  * records; 0 is no limit. `classes` is a set of networks, ADDRMAN_UNROUTABLE among them. *length is
  * how many peers the sample has. It needs a random word for each record (addrman_size tells how
- * many there are). The order of the records changes, which no other call shows. addrman_find has a
- * peer's time and services. A node that answers each getaddr by a new sample gives its tables away:
- * addrman_answer keeps its answers.
+ * many there are). The order of the records changes, which no other call shows. A node that answers
+ * each getaddr by a new sample gives its tables away: addrman_answer keeps its answers.
  *   ADDRMAN_ERR_ARGUMENT      `percent` is above 100, or there are 2^32 words or more
  *   ADDRMAN_ERR_SHORT_WORDS   nothing changes; *length is how many words are needed
  *   ADDRMAN_ERR_SHORT_BUFFER  nothing is written but *length. The order changes all the same
@@ -438,6 +457,14 @@ ADDRMAN_CALL addrman_result addrman_select(addrman *am, bool new_only,
 ADDRMAN_CALL addrman_result addrman_sample(addrman *am, uint32_t max,
     uint32_t percent, uint32_t classes, const uint64_t *words, size_t word_count, uint32_t now,
     addrman_peer *peers, size_t capacity, size_t *length);
+
+/* The same, and writes entries: the peers with the times and services of their records.
+ *   ADDRMAN_ERR_MEMORY  the order may have changed
+ * Proved: SampleEntriesCall (`sample`, `entries_of`).
+ * Codes: as of addrman_sample. */
+ADDRMAN_CALL addrman_result addrman_sample_entries(addrman *am, uint32_t max,
+    uint32_t percent, uint32_t classes, const uint64_t *words, size_t word_count, uint32_t now,
+    addrman_entry *entries, size_t capacity, size_t *length);
 
 /* ------------------------------------------------------------------------------- collisions */
 
@@ -523,6 +550,20 @@ ADDRMAN_CALL addrman_result addrman_asn(addrman *am, const addrman_addr *addr, u
  * Codes: CLOSED, ARGUMENT, SHORT_BUFFER. */
 ADDRMAN_CALL addrman_result addrman_group(addrman *am, const addrman_addr *addr, uint8_t *out,
     size_t capacity, size_t *length);
+
+/* The slot that a peer has in a bucket of the new table, from 0 to 63. A record is at this slot of
+ * each of its buckets.
+ *   ADDRMAN_ERR_ARGUMENT  the bucket is not below 1024, or there is no such peer
+ * Proved: NewSlotCall (`new_slot`).
+ * Codes: CLOSED, ARGUMENT. */
+ADDRMAN_CALL addrman_result addrman_new_slot(addrman *am, const addrman_peer *peer,
+    uint16_t bucket, uint32_t *slot);
+
+/* The bucket, from 0 to 255, and the slot that a peer has in the tried table. If its record is in
+ * that table, it is there. Proved: TriedSlotCall (`tried_bucket`, `tried_slot`).
+ * Codes: CLOSED, ARGUMENT. */
+ADDRMAN_CALL addrman_result addrman_tried_slot(addrman *am, const addrman_peer *peer,
+    uint32_t *bucket, uint32_t *slot);
 
 /* ------------------------------------------------------------------- outbound connections */
 

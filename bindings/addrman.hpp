@@ -141,6 +141,21 @@ inline std::string text_of(const addrman_addr &addr)
     });
 }
 
+// An address by its name as people write it, and that name: 2001:db8::1, letters before .onion.
+inline addrman_addr parse_name(std::string_view text)
+{
+    addrman_addr out{};
+    detail::check(addrman_name_parse(detail::raw(text), text.size(), &out));
+    return out;
+}
+
+inline std::string name_of(const addrman_addr &addr)
+{
+    return detail::filled<std::string>(80, [&](auto *p, auto n, auto *l) {
+        return addrman_name_text(&addr, p, n, l);
+    });
+}
+
 // The sixteen bytes of an address in messages before BIP 155, if it has some.
 inline std::optional<std::array<std::uint8_t, 16>> to_v1(const addrman_addr &addr)
 {
@@ -264,6 +279,18 @@ public:
         return picked;
     }
 
+    // The same, with the record of the peer.
+    std::optional<addrman_record> select_record(bool new_only, std::uint32_t nets,
+        view<std::uint64_t> w, std::uint32_t now, bool *exhausted = nullptr)
+    {
+        addrman_record out{};
+        auto code = addrman_select_record(am_.get(), new_only, nets, w.data(), w.size(), now, &out);
+        if (exhausted) *exhausted = code == ADDRMAN_EXHAUSTED;
+        if (code == ADDRMAN_NONE || code == ADDRMAN_EXHAUSTED) return {};
+        detail::check(code);
+        return out;
+    }
+
     std::vector<addrman_peer> sample(std::uint32_t max, std::uint32_t percent,
         std::uint32_t classes, view<std::uint64_t> w, std::uint32_t now)
     {
@@ -272,6 +299,18 @@ public:
         return detail::filled<std::vector<addrman_peer>>(count, [&](auto *p, auto n, auto *l) {
             return addrman_sample(am_.get(), max, percent, classes, w.data(), w.size(), now, p,
                 n, l);
+        });
+    }
+
+    // The same, with the times and services of the records.
+    std::vector<addrman_entry> sample_entries(std::uint32_t max, std::uint32_t percent,
+        std::uint32_t classes, view<std::uint64_t> w, std::uint32_t now)
+    {
+        auto c = size();
+        auto count = c.new_count + c.tried_count;
+        return detail::filled<std::vector<addrman_entry>>(count, [&](auto *p, auto n, auto *l) {
+            return addrman_sample_entries(am_.get(), max, percent, classes, w.data(), w.size(),
+                now, p, n, l);
         });
     }
 
@@ -344,6 +383,22 @@ public:
         return detail::filled<bytes>(11, [&](auto *p, auto n, auto *l) {
             return addrman_group(am_.get(), &addr, p, n, l);
         });
+    }
+
+    // The slot of a peer in a bucket of the new table.
+    std::uint32_t new_slot(const addrman_peer &peer, std::uint16_t bucket)
+    {
+        std::uint32_t out = 0;
+        detail::check(addrman_new_slot(am_.get(), &peer, bucket, &out));
+        return out;
+    }
+
+    // The bucket and the slot of a peer in the tried table.
+    std::pair<std::uint32_t, std::uint32_t> tried_slot(const addrman_peer &peer)
+    {
+        std::pair<std::uint32_t, std::uint32_t> out;
+        detail::check(addrman_tried_slot(am_.get(), &peer, &out.first, &out.second));
+        return out;
     }
 
     std::uint32_t judge(const addrman_picked &candidate, std::uint32_t now, std::uint32_t tries)

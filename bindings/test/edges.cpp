@@ -60,6 +60,10 @@ int main()
     want(message_count(true, message) == 1 && entries.size() == 1 && entries[0].services == 9, "a message is not read");
     want(write_message(true, entries) == message && write_message(true, {}) == bytes{0}, "a message is written otherwise");
     want(text_of(entries[0].peer) == "8.8.8.8:8333" && two.size_of(ADDRMAN_NET(ADDRMAN_IPV4)).first == 1, "a peer is another");
+    const auto record = two.select_record(false, ADDRMAN_ALL_NETS, {87, 37, 0}, 1700000000);
+    want(record && record->services == 1 && two.new_slot(peer, record->buckets[0]) == 37, "a record has another place");
+    want(two.tried_slot(peer).first < 256 && two.sample_entries(0, 0, ADDRMAN_ALL_NETS, {7}, 1700000000)[0].services == 1, "no entry");
+    want(name_of(parse_name("2001:DB8::1")) == "2001:db8::1", "a name is another");
     tables core(key{}, s, {}, true);
     want(core.file(ADDRMAN_MAIN) == tables(key{}, s).file(ADDRMAN_MAIN), "no asmap has a checksum");
     save first(two, ADDRMAN_MAIN, 1000), second(two, ADDRMAN_MAIN, 1000);

@@ -30,10 +30,11 @@ void *__wrap_realloc(void *old, size_t size)
     return fails() ? NULL : __real_realloc(old, size);
 }
 
-enum { CALLS = 19 };
+enum { CALLS = 21 };
 static const char *names[CALLS] = { "open", "take_message", "good", "add", "select", "sample", "records", "peer_text",
                                     "write_file", "open_file", "save_begin", "asmap_compile", "asmap_decompile",
-                                    "bans_open", "answers_open", "answer", "message_count", "read_message", "write_message" };
+                                    "bans_open", "answers_open", "answer", "message_count", "read_message", "write_message",
+                                    "name_text", "sample_entries" };
 
 /* An addr message of three entries. */
 static size_t fill(uint8_t *out)
@@ -106,10 +107,12 @@ int main(void)
         code[13] = addrman_bans_open(&bans, "{\"banned_nets\":[]}", 18, &fault);
         code[14] = addrman_answers_open(&answers);
         code[15] = addrman_answer(&answers, &a, &bans, ADDRMAN_IPV4, 0, true, false, 1700000005, words, 12, file, sizeof file, &length);
-        addrman_entry entries[3];
+        addrman_entry entries[3], some[9];
         code[16] = addrman_message_count(false, payload, payload_length, &answer, &fault);
         code[17] = addrman_read_message(false, payload, payload_length, entries, 3, &length, &fault);
         code[18] = code[17] ? 0 : addrman_write_message(false, entries, length, file, sizeof file, &length);
+        code[19] = addrman_name_text(&source, text, sizeof text, &length);
+        code[20] = addrman_sample_entries(&a, 0, 0, ADDRMAN_ALL_NETS, words, 12, 1700000006, some, 9, &length);
         bool reached = left == 0;
         left = 0;
         unsigned failed = 0;

@@ -15,7 +15,7 @@ import os
 import threading
 from typing import Callable, NamedTuple, Optional, Sequence, TypeVar, Union
 
-ABI = 1
+ABI = 2
 OK, CLOSED, MEMORY, ARGUMENT, FULL, SHORT_WORDS, SHORT_BUFFER, REFUSED, NONE, EXHAUSTED = range(10)
 UNROUTABLE, IPV4, IPV6, ONION, I2P, CJDNS, INTERNAL = range(7)
 ALL_NETS = 0x7F
@@ -164,6 +164,7 @@ _SIGNATURES = {
     "abi": [], "judge_feeler": [_U32, _U32, _U32],
     "addr_parse": [_P, _SIZE, _P], "peer_parse": [_P, _SIZE, _P],
     "addr_text": [_P, _P, _SIZE, _P], "peer_text": [_P, _P, _SIZE, _P], "addr_routable": [_P, _P],
+    "name_parse": [_P, _SIZE, _P], "name_text": [_P, _P, _SIZE, _P],
     "addr_from_v1": [_P, _P], "addr_to_v1": [_P, _P], "addr_class": [_P, _P], "subnet_parse": [_P, _SIZE, _P, _P],
     "open": [_P, _P, _P, _P, _SIZE], "open_file": [_P, _P, _SIZE, _U32, _P, _P, _SIZE, _P], "close": [_P],
     "open_core": [_P, _P, _P, _P, _SIZE], "open_file_core": [_P, _P, _SIZE, _U32, _P, _P, _SIZE, _P],
@@ -175,10 +176,13 @@ _SIGNATURES = {
     "add": [_P, _P, _P, _U32, _U64, _U32, _U64, _U32, _P],
     "good": [_P, _P, _BOOL, _U32, _P], "attempt": [_P, _P, _BOOL, _U32, _P], "connected": [_P, _P, _U32, _P],
     "set_services": [_P, _P, _U64, _P], "select": [_P, _BOOL, _U32, _P, _SIZE, _U32, _P],
+    "select_record": [_P, _BOOL, _U32, _P, _SIZE, _U32, _P],
     "sample": [_P, _U32, _U32, _U32, _P, _SIZE, _U32, _P, _SIZE, _P],
+    "sample_entries": [_P, _U32, _U32, _U32, _P, _SIZE, _U32, _P, _SIZE, _P],
     "resolve_collisions": [_P, _U32, _P], "select_collision": [_P, _U64, _P],
     "size": [_P, _P], "size_of": [_P, _U32, _P, _P], "find": [_P, _P, _P], "records": [_P, _P, _SIZE, _P],
     "asmap_check": [_P, _SIZE], "asn": [_P, _P, _P], "group": [_P, _P, _P, _SIZE, _P],
+    "new_slot": [_P, _P, c.c_uint16, _P], "tried_slot": [_P, _P, _P, _P],
     "bans_open": [_P, _P, _SIZE, _P], "bans_close": [_P], "bans_write": [_P, _P, _SIZE, _P],
     "bans_add": [_P, _P, _SIZE, _U32, _U32, _P], "bans_remove": [_P, _P, _SIZE, _P], "bans_covering": [_P, _P, _U32, _P],
     "limiter_open": [_P], "limiter_close": [_P], "limiter_add": [_P, _U32, _P, _BOOL, _U32, _P],
@@ -292,6 +296,23 @@ def _record(r: _Record) -> Record:
                   r.last_counted, r.attempts, tuple(r.buckets[:r.bucket_count]))
 
 
+def _entry(e: _Entry) -> Entry:
+    return Entry(e.time, e.services, _peer_text(e.peer))
+
+
+def parse_name(name: str) -> str:
+    """The address, as this module has it, of a name as people write it: `2001:db8::1`, letters before `.onion`."""
+    out, raw = _Addr(), _text("a name", name)
+    _check(_lib.addrman_name_parse(raw, len(raw), c.byref(out)))
+    return _addr_text(out)
+
+
+def name_of(addr: str) -> str:
+    """The name of an address as people write it."""
+    text = _addr(addr)
+    return bytes(_filled(c.c_uint8, 80, lambda p, n, l: _lib.addrman_name_text(c.byref(text), p, n, l))).decode()
+
+
 def is_routable(addr: str) -> bool:
     """Whether the address can be reached from anywhere."""
     out = _U32()
@@ -347,7 +368,7 @@ def read_message(is_v2: bool, payload: BytesLike) -> list[Entry]:
     """The entries of a message, without those that are skipped."""
     fault, is_v2, raw = _Fault(), _flag("is_v2", is_v2), _raw("payload", payload)
     entries = _filled(_Entry, 1000, lambda p, n, l: _lib.addrman_read_message(is_v2, raw, len(raw), p, n, l, c.byref(fault)), fault)
-    return [Entry(e.time, e.services, _peer_text(e.peer)) for e in entries]
+    return [_entry(e) for e in entries]
 
 
 def write_message(is_v2: bool, entries: Sequence[Entry]) -> bytes:
@@ -489,6 +510,16 @@ class AddrMan(_Object):
         return self._picked("select", _flag("new_only", new_only), _number("nets", nets), *_words(words),
                             _number("now", now))
 
+    def select_record(self, new_only: bool, nets: int, words: Sequence[int], now: int) -> Optional[Record]:
+        """The same, with the record of the peer."""
+        out = _Record()
+        code = self._call("select_record", _flag("new_only", new_only), _number("nets", nets), *_words(words),
+                          _number("now", now), c.byref(out))
+        if code == NONE:
+            return None
+        _check(code)
+        return _record(out)
+
     def sample(self, max: int, percent: int, classes: int, words: Sequence[int], now: int) -> list[str]:
         """Peers to announce; a random word for each record."""
         with self._lock:
@@ -496,6 +527,14 @@ class AddrMan(_Object):
             return [_peer_text(p) for p in self._filled(_Peer, size.new + size.tried, "sample", _number("max", max),
                                                         _number("percent", percent), _number("classes", classes),
                                                         *_words(words), _number("now", now))]
+
+    def sample_entries(self, max: int, percent: int, classes: int, words: Sequence[int], now: int) -> list[Entry]:
+        """The same, with the times and services of the records."""
+        with self._lock:
+            size = self.size()
+            return [_entry(e) for e in self._filled(_Entry, size.new + size.tried, "sample_entries", _number("max", max),
+                                                    _number("percent", percent), _number("classes", classes), *_words(words),
+                                                    _number("now", now))]
 
     def resolve_collisions(self, now: int) -> Resolved:
         out = _Three()
@@ -538,6 +577,16 @@ class AddrMan(_Object):
     def group(self, addr: str) -> bytes:
         """The network group of an address."""
         return bytes(self._filled(c.c_uint8, 11, "group", c.byref(_addr(addr))))
+
+    def new_slot(self, peer: str, bucket: int) -> int:
+        """The slot of a peer in a bucket of the new table."""
+        return self._answer("new_slot", c.byref(_peer(peer)), _number("bucket", bucket, 16))
+
+    def tried_slot(self, peer: str) -> tuple[int, int]:
+        """The bucket and the slot of a peer in the tried table."""
+        bucket, slot = _U32(), _U32()
+        _check(self._call("tried_slot", c.byref(_peer(peer)), c.byref(bucket), c.byref(slot)))
+        return bucket.value, slot.value
 
     def judge(self, peer: str, last_try: int, now: int, tries: int) -> str:
         """Whether to connect to a candidate, in the try of this number from 1 to 100: one of VERDICTS."""

@@ -137,3 +137,9 @@ RecordsCall recs code old new count =
     ⊎ ((count ≡ length recs)
     × (((length old < length recs) × (code ≡ SHORT_BUFFER) × (new ≡ old))
     ⊎ ((code ≡ OK) × AreRecords new recs × (drop (length recs) new ≡ drop (length recs) old))))
+
+-- the code and the record for a pick
+abbrev pub PickRecordCall : Picked → State → ℕ → AddrmanRecord → Type 0
+PickRecordCall (One peer last_try) st code out = FindCall (Some peer) st code out
+PickRecordCall Nothing st code out = code ≡ NONE
+PickRecordCall Exhausted st code out = code ≡ EXHAUSTED

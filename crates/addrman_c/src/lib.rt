@@ -10,6 +10,7 @@
 
 ghost use Rattle.std.specs.Prelude.{◌≡◌};
 
+mod announcing;
 mod answering;
 mod asmaps;
 mod bans;
@@ -27,9 +28,11 @@ mod picks;
 mod records;
 mod sampling;
 mod saves;
+mod slots;
 mod text;
 mod writing;
 
+pub use announcing::addrman_sample_entries;
 pub use answering::{
     addrman_answer, addrman_answers_close, addrman_answers_forget, addrman_answers_open,
 };
@@ -54,17 +57,23 @@ pub use opener::{
     addrman_judge_feeler, addrman_opener_add, addrman_opener_judge, addrman_opener_remove,
 };
 pub use opening::{addrman_close, addrman_open, addrman_open_core};
-pub use picks::{addrman_resolve_collisions, addrman_select, addrman_select_collision};
+pub use picks::{
+    addrman_resolve_collisions, addrman_select, addrman_select_collision, addrman_select_record,
+};
 pub use records::{addrman_find, addrman_records, addrman_size, addrman_size_of};
 pub use sampling::addrman_sample;
 pub use saves::{addrman_save_begin, addrman_save_close, addrman_save_done, addrman_save_next};
-pub use text::{addrman_addr_parse, addrman_addr_text, addrman_peer_parse, addrman_peer_text};
+pub use slots::{addrman_new_slot, addrman_tried_slot};
+pub use text::{
+    addrman_addr_parse, addrman_addr_text, addrman_name_parse, addrman_name_text,
+    addrman_peer_parse, addrman_peer_text,
+};
 pub use writing::addrman_write_file;
 
 /// Returns the number of the structs' layout and of the calls, `ADDRMAN_ABI` in the header.
 #[unsafe(no_mangle)]
 pub extern "C" fn addrman_abi() -> u32
-    ensures { result ≡ 1 }
+    ensures { result ≡ 2 }
 {
-    1
+    2
 }

@@ -2,12 +2,13 @@ ghost use Rattle.std.specs.Prelude.{◌≡◌, ◌≢◌, ◌%◌};
 ghost use Rattle.net_addr.specs.NetBits.{nets_of};
 ghost use Rattle.table_machine.specs.Picks.{select};
 ghost use Rattle.table_machine.specs.Clashes.{resolve, clash_pick};
-ghost use Rattle.addrman_c.specs.Calls.{PickCall, OccupantCall};
+ghost use Rattle.addrman_c.specs.Calls.{PickCall, PickRecordCall, OccupantCall};
 ghost use Rattle.addrman_c.specs.OnHandle.{OnTables};
 
+use crate::records::find_on;
 use c_handles::{Handle, Keyed};
 use c_values::code::{CLOSED, EXHAUSTED, NONE, OK};
-use c_values::{AddrmanPicked, AddrmanResolved, read_nets, write_peer};
+use c_values::{AddrmanPicked, AddrmanRecord, AddrmanResolved, read_nets, write_peer};
 use net_addr::{NetSet, Peer};
 use picking::Picked;
 use std::alloc::Global;
@@ -67,6 +68,50 @@ pub extern "C" fn addrman_select(
         return CLOSED;
     };
     let code = select_on(&kept.tables, new_only, read_nets(nets), words, now, picked);
+    handle.put(kept);
+    code
+}
+
+/// Selects a peer to connect to, and writes its record.
+fn select_record_on(
+    tables: &Tables<'_, Keyed>,
+    new_only: bool,
+    nets: NetSet,
+    words: &[u64],
+    now: u32,
+    out: &mut AddrmanRecord,
+) -> u32
+    ensures call { PickRecordCall (select tables.now new_only nets words.now now) tables.now result
+        out.new }
+    ensures same { result ≢ OK → out.new ≡ out.old }
+{
+    match uncounted::select(tables, new_only, nets, words, now) {
+        Picked::One(peer, _) => find_on(tables, Some(peer), out),
+        Picked::Nothing => NONE,
+        Picked::Exhausted => EXHAUSTED,
+    }
+}
+
+/// Selects a peer to connect to by random words, of the networks of a set, and writes its record.
+#[unsafe(no_mangle)]
+pub extern "C" fn addrman_select_record(
+    alloc: Global,
+    handle: &mut Handle,
+    new_only: bool,
+    nets: u32,
+    words: &[u64],
+    now: u32,
+    out: &mut AddrmanRecord,
+) -> u32
+    ensures call { OnTables handle.old.loose.kept result handle.new.loose.kept (λ old new.
+        PickRecordCall (select old new_only (nets_of (nets % 128)) words.now now) old result out.new
+        × (new ≡ old)) }
+    ensures same { result ≢ OK → out.new ≡ out.old }
+{
+    let Some(kept) = handle.take(alloc) else {
+        return CLOSED;
+    };
+    let code = select_record_on(&kept.tables, new_only, read_nets(nets), words, now, out);
     handle.put(kept);
     code
 }

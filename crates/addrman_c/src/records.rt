@@ -16,7 +16,11 @@ use std::alloc::Global;
 use tables::Tables;
 
 /// Finds the record of a peer.
-fn find_on(tables: &Tables<'_, Keyed>, peer: Option<Peer>, out: &mut AddrmanRecord) -> u32
+pub(crate) fn find_on(
+    tables: &Tables<'_, Keyed>,
+    peer: Option<Peer>,
+    out: &mut AddrmanRecord,
+) -> u32
     ensures call { FindCall peer tables.now result out.new }
     ensures same { result ≢ OK → out.new ≡ out.old }
 {

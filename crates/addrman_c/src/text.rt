@@ -3,10 +3,12 @@ ghost use Rattle.net_addr.specs.Address.{Address};
 ghost use Rattle.net_addr.specs.Text.{IsAddrText, IsPeerText, addr_text, peer_text};
 ghost use Rattle.net_addr.specs.declared.peer.Peer.{Peer};
 ghost use Rattle.c_values.specs.Values.{address_in, peer_in};
+ghost use Rattle.names.specs.Name.{IsName, name_text};
 ghost use Rattle.addrman_c.specs.Texts.{TextCall};
 
 use c_values::code::{ARGUMENT, MEMORY, OK, SHORT_BUFFER};
 use c_values::{AddrmanAddr, AddrmanPeer, put_all, read_addr, read_peer, write_addr, write_peer};
+use names::{name_of, parse_name};
 use net_addr::{NetAddr, Peer, parse_addr, parse_peer, put_addr, put_peer};
 use std::alloc::Global;
 
@@ -100,4 +102,49 @@ pub extern "C" fn addrman_peer_text(
     ensures length { result ≢ OK → result ≢ SHORT_BUFFER → length.new ≡ length.old }
 {
     put_peer_text(alloc, read_peer(peer), out, length)
+}
+
+/// Parses the name of an address as people write it.
+#[unsafe(no_mangle)]
+pub extern "C" fn addrman_name_parse(text: &[u8], out: &mut AddrmanAddr) -> u32
+    ensures ok { (addr : Address) → IsName text.now addr
+        → (result ≡ OK) × (address_in out.new ≡ Some addr) }
+    ensures none { ((addr : Address) → IsName text.now addr → ⊥) → result ≡ ARGUMENT }
+    ensures same { result ≢ OK → out.new ≡ out.old }
+{
+    match parse_name(text) {
+        Some(addr) => {
+            *out = write_addr(&addr);
+            OK
+        }
+        None => ARGUMENT,
+    }
+}
+
+/// Writes the name of an address, whole or not at all, and its length.
+fn put_name(alloc: Global, addr: Option<NetAddr>, out: &mut [u8], length: &mut usize) -> u32
+    ensures call { TextCall name_text addr result out.old out.new length.new }
+    ensures length { result ≢ OK → result ≢ SHORT_BUFFER → length.new ≡ length.old }
+{
+    let Some(addr) = addr else {
+        return ARGUMENT;
+    };
+    match name_of(alloc, &addr) {
+        Ok(name) => put_all(out, name.as_bytes(), length),
+        Err(_) => MEMORY,
+    }
+}
+
+/// Writes the name of an address as people write it, and its length.
+#[unsafe(no_mangle)]
+pub extern "C" fn addrman_name_text(
+    alloc: Global,
+    addr: &AddrmanAddr,
+    out: &mut [u8],
+    length: &mut usize,
+) -> u32
+    ensures call { TextCall name_text (address_in addr.now) result out.old out.new length.new }
+    ensures length { result ≢ OK → result ≢ SHORT_BUFFER → length.new ≡ length.old }
+{
+    put_name(alloc, read_addr(addr), out, length)
 }

@@ -1,0 +1,105 @@
+"""Calls of the Python module beside reference/, which the environment's PYTHONPATH names too: names, slots, and records of picks
+and samples. Prints how many answers were compared."""
+import random
+
+import addresses
+import names
+import places
+
+import addrman
+
+KEY, SEED, NOW = bytes(range(32)), (1, 2), 1_700_000_000
+draw = random.Random(59)
+compared = 0
+
+
+def same(what, ours, theirs):
+    """The two are the same."""
+    global compared
+    compared += 1
+    if ours != theirs:
+        raise SystemExit(f"{what}: {ours!r}, not {theirs!r}")
+
+
+def any_address():
+    """The text of an address of any network."""
+    kind = draw.randrange(5)
+    if kind < 2:
+        return "%d.%d.%d.%d" % (draw.randrange(1, 224), draw.randrange(256), draw.randrange(256), draw.randrange(1, 255))
+    if kind == 2:
+        return "[2a01:%x::%x]" % (draw.randrange(1 << 16), draw.randrange(1, 1 << 16))
+    return ("onion:", "i2p:")[kind - 3] + draw.randbytes(32).hex()
+
+
+def words(count):
+    return [draw.getrandbits(64) for _ in range(count)]
+
+
+def filled(count):
+    """Tables of some peers, of which some were reached."""
+    am = addrman.AddrMan(KEY, SEED)
+    peers = [any_address() + ":8333" for _ in range(count)]
+    for peer in peers:
+        am.add(peer, any_address(), NOW - draw.randrange(100_000), draw.choice((1, 9, 1033)), 0, draw.getrandbits(64), NOW)
+        if draw.random() < 0.3:
+            am.good(peer, True, NOW)
+    return am, peers
+
+
+def check_names():
+    """Names are those of reference/."""
+    for _ in range(200):
+        text = any_address()
+        address = addresses.read_address(text.encode())
+        name = addrman.name_of(text)
+        same("a name", name, names.name_of(address))
+        same("an address by its name", addrman.parse_name(name), text)
+    for text in ("1.2.3.4:8333", "[2001:db8::1]", "onion:00", "", "a.onion"):
+        try:
+            addrman.parse_name(text)
+        except ValueError:
+            continue
+        raise SystemExit(f"{text!r} is a name")
+    same("an address of CJDNS", addrman.parse_name("fc00::1"), "cjdns:fc" + 29 * "0" + "1")
+
+
+def check_slots(am, peers):
+    """Buckets and slots are those of reference/."""
+    for text in peers[:100]:
+        peer, bucket = addresses.read_peer(text.encode()), draw.randrange(1024)
+        same("a slot of the new table", am.new_slot(text, bucket), places.new_slot(KEY, bucket, peer))
+        tried = places.tried_bucket(KEY, places.NO_ASMAP, peer)
+        same("a slot of the tried table", am.tried_slot(text), (tried, places.tried_slot(KEY, tried, peer)))
+    for bucket in (1024, 65535):
+        try:
+            am.new_slot(peers[0], bucket)
+        except ValueError:
+            continue
+        raise SystemExit("there is a bucket %d" % bucket)
+
+
+def check_records(am):
+    """What is picked and sampled has the records that are found."""
+    for _ in range(100):
+        chosen = words(300)
+        picked = am.select(False, addrman.ALL_NETS, chosen, NOW)
+        same("the record of a pick", am.select_record(False, addrman.ALL_NETS, chosen, NOW), am.find(picked[0]))
+    same("a pick of no network", am.select_record(False, 0, words(300), NOW), None)
+    first, second = (addrman.AddrMan.load(am.file(), addrman.MAIN, SEED) for _ in range(2))
+    size = am.size()
+    for limit in (0, 10, 100):
+        shuffled = words(size.new + size.tried)
+        sample = first.sample(limit, 23, 0x3e, shuffled, NOW)
+        entries = [addrman.Entry(r.time, r.services, r.peer) for r in map(first.find, sample)]
+        same("a sample", second.sample_entries(limit, 23, 0x3e, shuffled, NOW), entries)
+
+
+def main():
+    check_names()
+    am, peers = filled(300)
+    check_slots(am, peers)
+    check_records(am)
+    print(f"Python: {compared} answers on names, slots and records are as they have to be")
+
+
+main()
