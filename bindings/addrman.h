@@ -594,6 +594,13 @@ ADDRMAN_CALL addrman_result addrman_opener_add(addrman *am, const addrman_peer *
 ADDRMAN_CALL addrman_result addrman_opener_remove(addrman *am, const addrman_peer *peer,
     uint32_t *was_open);
 
+/* Writes the open peers in the order in which they were opened, and how many they are: at most ten.
+ * Proved: OpenPeersCall (`peers`); the object is as it was.
+ *   ADDRMAN_ERR_SHORT_BUFFER  nothing is written but *length
+ * Codes: CLOSED, MEMORY, SHORT_BUFFER. */
+ADDRMAN_CALL addrman_result addrman_opener_peers(addrman *am, addrman_peer *peers, size_t capacity,
+    size_t *length);
+
 /* ------------------------------------------------------------------------------------- bans */
 
 /* A list of banned subnets. The rules for objects of type addrman hold of it. */

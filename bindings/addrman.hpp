@@ -419,6 +419,14 @@ public:
         detail::check(addrman_opener_remove(am_.get(), &peer, &was_open));
         return was_open != 0;
     }
+
+    // The open peers, in the order in which they were opened.
+    std::vector<addrman_peer> open_peers()
+    {
+        return detail::filled<std::vector<addrman_peer>>(10, [&](auto *p, auto n, auto *l) {
+            return addrman_opener_peers(am_.get(), p, n, l);
+        });
+    }
 };
 
 // A list of banned subnets.

@@ -1,5 +1,5 @@
-"""Calls of the Python module beside reference/, which the environment's PYTHONPATH names too: names, slots, and records of picks
-and samples. Prints how many answers were compared."""
+"""Calls of the Python module beside reference/, which the environment's PYTHONPATH names too: names, slots, records of picks and
+samples, and open peers. Prints how many answers were compared."""
 import random
 
 import addresses
@@ -78,8 +78,8 @@ def check_slots(am, peers):
         raise SystemExit("there is a bucket %d" % bucket)
 
 
-def check_records(am):
-    """What is picked and sampled has the records that are found."""
+def check_records(am, peers):
+    """What is picked and sampled has the records that are found; open peers are listed."""
     for _ in range(100):
         chosen = words(300)
         picked = am.select(False, addrman.ALL_NETS, chosen, NOW)
@@ -92,14 +92,22 @@ def check_records(am):
         sample = first.sample(limit, 23, 0x3e, shuffled, NOW)
         entries = [addrman.Entry(r.time, r.services, r.peer) for r in map(first.find, sample)]
         same("a sample", second.sample_entries(limit, 23, 0x3e, shuffled, NOW), entries)
+    opened = []
+    for peer in peers:
+        if len(opened) < 10 and am.group(peer.rpartition(":")[0]) not in [am.group(p.rpartition(":")[0]) for p in opened]:
+            am.open_peer(peer)
+            opened.append(peer)
+        same("the open peers", am.open_peers(), opened)
+    am.close_peer(opened[3])
+    same("the open peers after one is closed", am.open_peers(), opened[:3] + opened[4:])
 
 
 def main():
     check_names()
     am, peers = filled(300)
     check_slots(am, peers)
-    check_records(am)
-    print(f"Python: {compared} answers on names, slots and records are as they have to be")
+    check_records(am, peers)
+    print(f"Python: {compared} answers on names, slots, records and open peers are as they have to be")
 
 
 main()

@@ -63,6 +63,8 @@ int main()
     const auto record = two.select_record(false, ADDRMAN_ALL_NETS, {87, 37, 0}, 1700000000);
     want(record && record->services == 1 && two.new_slot(peer, record->buckets[0]) == 37, "a record has another place");
     want(two.tried_slot(peer).first < 256 && two.sample_entries(0, 0, ADDRMAN_ALL_NETS, {7}, 1700000000)[0].services == 1, "no entry");
+    two.open_peer(peer);
+    want(text_of(two.open_peers().at(0)) == "8.8.8.8:8333" && two.close_peer(peer) && two.open_peers().empty(), "open peers are others");
     want(name_of(parse_name("2001:DB8::1")) == "2001:db8::1", "a name is another");
     tables core(key{}, s, {}, true);
     want(core.file(ADDRMAN_MAIN) == tables(key{}, s).file(ADDRMAN_MAIN), "no asmap has a checksum");

@@ -30,11 +30,11 @@ void *__wrap_realloc(void *old, size_t size)
     return fails() ? NULL : __real_realloc(old, size);
 }
 
-enum { CALLS = 21 };
+enum { CALLS = 22 };
 static const char *names[CALLS] = { "open", "take_message", "good", "add", "select", "sample", "records", "peer_text",
                                     "write_file", "open_file", "save_begin", "asmap_compile", "asmap_decompile",
                                     "bans_open", "answers_open", "answer", "message_count", "read_message", "write_message",
-                                    "name_text", "sample_entries" };
+                                    "name_text", "sample_entries", "opener_peers" };
 
 /* An addr message of three entries. */
 static size_t fill(uint8_t *out)
@@ -113,6 +113,8 @@ int main(void)
         code[18] = code[17] ? 0 : addrman_write_message(false, entries, length, file, sizeof file, &length);
         code[19] = addrman_name_text(&source, text, sizeof text, &length);
         code[20] = addrman_sample_entries(&a, 0, 0, ADDRMAN_ALL_NETS, words, 12, 1700000006, some, 9, &length);
+        answer = addrman_opener_add(&a, &peer);
+        code[21] = answer ? 0 : addrman_opener_peers(&a, peers, 9, &length);
         bool reached = left == 0;
         left = 0;
         unsigned failed = 0;

@@ -193,6 +193,7 @@ _SIGNATURES = {
     "asmap_compile": [_P, _SIZE, _P, _SIZE, _P, _P], "asmap_decompile": [_P, _SIZE, _P, _SIZE, _P, _P],
     "save_begin": [_P, _P, _U32, _U32], "save_next": [_P, _P, _P, _SIZE, _P], "save_done": [_P, _BOOL], "save_close": [_P],
     "opener_judge": [_P, _P, _U32, _U32, _P], "opener_add": [_P, _P], "opener_remove": [_P, _P, _P],
+    "opener_peers": [_P, _P, _SIZE, _P],
 }
 for _name, _arguments in _SIGNATURES.items():
     _call = getattr(_lib, "addrman_" + _name)
@@ -600,6 +601,10 @@ class AddrMan(_Object):
     def close_peer(self, peer: str) -> bool:
         """A connection to a peer was closed. Returns whether it was open."""
         return self._answer("opener_remove", c.byref(_peer(peer))) != 0
+
+    def open_peers(self) -> list[str]:
+        """The open peers, in the order in which they were opened."""
+        return [_peer_text(p) for p in self._filled(_Peer, 10, "opener_peers")]
 
 
 class Bans(_Object):

@@ -1,13 +1,15 @@
 -- What the calls on the outbound peers return, write and leave.
-use Rattle.std.specs.Prelude.{◌≡◌, ◌⊎◌, ◌<◌, ℕ, length, Contains, Option, Some, None}
+use Rattle.std.specs.Prelude.{◌≡◌, ◌⊎◌, ◌<◌, ℕ, List, length, Contains, Option, Some, None}
 use Rattle.net_addr.specs.declared.peer.Peer.{Peer}
 use Rattle.placing.specs.Places.{group}
-use Rattle.peer_open.specs.Groups.{groups, with_peer, without_peer, is_open}
+use Rattle.peer_open.specs.Groups.{Outbound, groups, peers, with_peer, without_peer, is_open}
 use Rattle.peer_open.specs.Verdicts.{judge}
 use Rattle.peer_open.specs.declared.verdict.Verdict.{Verdict}
 use Rattle.peer_open.specs.declared.verdict.Verdict.TheVariants.{Take, SameGroup, Recent}
 use Rattle.peer_open.specs.declared.opener.TheConstants.{MAX_OUTBOUND}
-use Rattle.c_values.specs.declared.code.TheConstants.{OK, ARGUMENT, FULL}
+use Rattle.c_values.specs.declared.code.TheConstants.{OK, MEMORY, ARGUMENT, FULL}
+use Rattle.c_values.specs.declared.values.AddrmanPeer.{AddrmanPeer}
+use Rattle.c_values.specs.Records.{PeersPut}
 use Rattle.c_handles.specs.declared.handle.Kept.{Kept}
 use Rattle.c_values.specs.Values.{bit}
 
@@ -41,3 +43,8 @@ RemoveCall None old code was_open new = (code ≡ ARGUMENT) × (new ≡ old)
 RemoveCall (Some peer) old code was_open new =
     (code ≡ OK) × (was_open ≡ bit (is_open peer old.opener))
     × (new ≡ record old { opener = without_peer peer old.opener })
+
+-- the open peers in their order, or no memory for them
+abbrev pub OpenPeersCall : List Outbound → ℕ → List AddrmanPeer → List AddrmanPeer → ℕ → Type 0
+OpenPeersCall open_peers code old new count =
+    ((code ≡ MEMORY) × (new ≡ old)) ⊎ PeersPut (peers open_peers) code old new count

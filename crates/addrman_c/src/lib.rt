@@ -54,7 +54,8 @@ pub use loading::{addrman_open_file, addrman_open_file_core};
 pub use marks::{addrman_attempt, addrman_connected, addrman_good, addrman_set_services};
 pub use messages::{addrman_message_count, addrman_read_message, addrman_write_message};
 pub use opener::{
-    addrman_judge_feeler, addrman_opener_add, addrman_opener_judge, addrman_opener_remove,
+    addrman_judge_feeler, addrman_opener_add, addrman_opener_judge, addrman_opener_peers,
+    addrman_opener_remove,
 };
 pub use opening::{addrman_close, addrman_open, addrman_open_core};
 pub use picks::{

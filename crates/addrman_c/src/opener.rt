@@ -1,12 +1,12 @@
 ghost use Rattle.std.specs.Prelude.{◌≡◌, ◌≢◌};
 ghost use Rattle.peer_open.specs.Verdicts.{judge_feeler};
 ghost use Rattle.c_values.specs.Values.{peer_in};
-ghost use Rattle.addrman_c.specs.Outbound.{verdict_number, JudgeCall, AddCall, RemoveCall};
+ghost use Rattle.addrman_c.specs.Outbound.{verdict_number, JudgeCall, AddCall, OpenPeersCall, RemoveCall};
 ghost use Rattle.addrman_c.specs.OnHandle.{OnHandle};
 
 use c_handles::{Handle, Kept};
-use c_values::code::{ARGUMENT, CLOSED, FULL, OK};
-use c_values::{AddrmanPeer, AddrmanPicked, bit, read_peer};
+use c_values::code::{ARGUMENT, CLOSED, FULL, MEMORY, OK, SHORT_BUFFER};
+use c_values::{AddrmanPeer, AddrmanPicked, bit, put_peers, read_peer};
 use net_addr::Peer;
 use peer_open::{MAX_OUTBOUND, Opener, Verdict};
 use std::alloc::Global;
@@ -134,6 +134,39 @@ pub extern "C" fn addrman_opener_remove(
         return CLOSED;
     };
     let code = remove_on(&mut kept, read_peer(peer), was_open);
+    handle.put(kept);
+    code
+}
+
+/// Writes the open peers.
+fn peers_on(alloc: Global, opener: &Opener, out: &mut [AddrmanPeer], length: &mut usize) -> u32
+    ensures call { OpenPeersCall opener.now result out.old out.new length.new }
+    ensures same { result ≢ OK → out.new ≡ out.old }
+    ensures length { result ≢ OK → result ≢ SHORT_BUFFER → length.new ≡ length.old }
+{
+    match opener.peers(alloc) {
+        Ok(peers) => put_peers(out, peers.as_slice(), length),
+        Err(_) => MEMORY,
+    }
+}
+
+/// Writes the open peers in the order in which they were opened, and how many they are.
+#[unsafe(no_mangle)]
+pub extern "C" fn addrman_opener_peers(
+    alloc: Global,
+    handle: &mut Handle,
+    out: &mut [AddrmanPeer],
+    length: &mut usize,
+) -> u32
+    ensures call { OnHandle handle.old.loose.kept result handle.new.loose.kept (λ old new.
+        OpenPeersCall old.opener result out.old out.new length.new × (new ≡ old)) }
+    ensures same { result ≢ OK → out.new ≡ out.old }
+    ensures length { result ≢ OK → result ≢ SHORT_BUFFER → length.new ≡ length.old }
+{
+    let Some(kept) = handle.take(alloc) else {
+        return CLOSED;
+    };
+    let code = peers_on(alloc, &kept.opener, out, length);
     handle.put(kept);
     code
 }

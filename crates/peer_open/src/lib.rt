@@ -4,7 +4,7 @@
 //!
 //! Proved: the groups are pairwise distinct (`apart`), a peer whose last try is less than ten
 //! minutes old is taken only by the 31st try or a later one (`recent`), and `judge` says so for a
-//! candidate. It takes no memory and reads no log.
+//! candidate. Only the list of open peers (`peers`) takes memory.
 #![tactic(auto)]
 
 mod law;

@@ -1,4 +1,4 @@
-ghost use Rattle.std.specs.Prelude.{◌≡◌, ◌<◌, ◌≤◌, ◌↔◌, [], length, Contains, IsTrue};
+ghost use Rattle.std.specs.Prelude.{◌≡◌, ◌<◌, ◌≤◌, ◌↔◌, [], length, Contains, IfOk, IsTrue};
 ghost use Rattle.peer_open.specs.Groups.{AreApart, groups, peers, has_group, is_open, with_peer, without_peer};
 ghost use Rattle.peer_open.specs.Verdicts.{IsTooSoon, judge, judge_feeler, is_recent};
 ghost use Rattle.peer_open.specs.declared.verdict.Verdict as verdict;
@@ -7,6 +7,7 @@ use crate::Verdict;
 use crate::outbound::Outbound;
 use arrayvec::ArrayVec;
 use net_addr::Peer;
+use std::alloc::{AllocError, Global};
 use std::marker::Model;
 
 /// The maximum number of outbound peers at a time: eight that relay everything and two that relay
@@ -24,7 +25,7 @@ const RECENT_SECONDS: u32 = 600;
 const LAST_STRICT_TRY: u32 = 30;
 
 /// The open outbound peers with their network groups, in the order in which they were opened. No
-/// two of them are in one group. Takes no memory.
+/// two of them are in one group.
 #[derive(Drop)]
 pub struct Opener {
     open_peers: ArrayVec<Outbound, MAX_OUTBOUND>,
@@ -108,6 +109,19 @@ impl Opener {
         let was_open = self.is_open(peer);
         self.open_peers.retain(|outbound| outbound.is_other(peer));
         was_open
+    }
+
+    /// Returns the open peers, in the order in which they were opened. Of all calls it alone takes
+    /// memory.
+    pub fn peers(&self, alloc: Global) -> Result<Vec<Peer>, AllocError>
+        ensures { IfOk result (λ found. found.items ≡ peers self.now) }
+    {
+        let open_peers = self.open_peers.as_slice();
+        let mut found = Vec::with_capacity(alloc, open_peers.len())?;
+        for outbound in open_peers {
+            found.push(outbound.peer())?;
+        }
+        Ok(found)
     }
 
     /// Returns `true` if an open peer is in the group.

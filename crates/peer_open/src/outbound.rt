@@ -29,6 +29,13 @@ impl Outbound {
         Outbound { peer, group }
     }
 
+    /// Returns the peer.
+    pub(crate) fn peer(&self) -> Peer
+        ensures { result ≡ self.now.peer }
+    {
+        self.peer
+    }
+
     /// Returns `true` if the peer is this one.
     pub(crate) fn is_of(&self, peer: &Peer) -> bool
         ensures { result ≡ same_peer self.now.peer peer.now }
