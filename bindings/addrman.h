@@ -354,6 +354,21 @@ ADDRMAN_CALL addrman_result addrman_take_first(addrman *am, bool is_v2,
     const uint64_t *words, size_t word_count, uint32_t now, addrman_added *added,
     addrman_fault *fault);
 
+/* The same with the entries that a node has a use for, as Bitcoin Core does. The entries are
+ * shuffled, and at most `most` of them are let through, the first ones. Of these some are skipped:
+ * those that have none of the bits of `services` (0x401 in Bitcoin Core, which is NODE_NETWORK and
+ * NODE_NETWORK_LIMITED), and those whose network is not in the set `nets` of the networks that the
+ * node reaches. An address that is not routable is of ADDRMAN_UNROUTABLE there. The first random
+ * words are for the shuffle, one for each entry. Each entry that is let through then has one.
+ *   ADDRMAN_ERR_SHORT_WORDS  nothing changes; added->total is how many words are needed, and
+ *                            added->accepted is 0
+ * Proved: ChosenCall (`chosen`, `IsChosenAdded`, `IsChosenFault`).
+ * Codes: as of addrman_take_message. */
+ADDRMAN_CALL addrman_result addrman_take_chosen(addrman *am, bool is_v2,
+    const uint8_t *payload, size_t payload_length, const addrman_addr *source, uint32_t most,
+    uint64_t services, uint32_t nets, const uint64_t *words, size_t word_count, uint32_t now,
+    addrman_added *added, addrman_fault *fault);
+
 /* Writes how many entries an addr (is_v2 false) or addrv2 message has, those that are skipped among
  * them, as addrman_limiter_admit wants it. Proved: CountCall (`IsMessage`, `HasMessageFault`).
  *   ADDRMAN_ERR_REFUSED  *fault says why

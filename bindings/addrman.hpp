@@ -230,6 +230,20 @@ public:
         return added;
     }
 
+    // Takes those of at most so many entries after a shuffle that have one of the services, and
+    // whose network is in a set.
+    addrman_added take_chosen(bool is_v2, view<std::uint8_t> payload, const addrman_addr &source,
+        std::uint32_t most, std::uint64_t services, std::uint32_t nets, view<std::uint64_t> w,
+        std::uint32_t now)
+    {
+        addrman_added added{};
+        addrman_fault fault{};
+        auto code = addrman_take_chosen(am_.get(), is_v2, payload.data(), payload.size(), &source,
+            most, services, nets, w.data(), w.size(), now, &added, &fault);
+        detail::check(code, fault, added.total);
+        return added;
+    }
+
     bool add(const addrman_peer &peer, const addrman_addr &source, std::uint32_t time,
         std::uint64_t services, std::uint32_t penalty, std::uint64_t word, std::uint32_t now)
     {

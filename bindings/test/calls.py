@@ -1,5 +1,5 @@
 """Calls of the Python module beside reference/, which the environment's PYTHONPATH names too: names, slots, records of picks and
-samples, and open peers. Prints how many answers were compared."""
+samples, open peers, and a message of which a node has a use for some entries only. Prints how many answers were compared."""
 import random
 
 import addresses
@@ -8,7 +8,7 @@ import places
 
 import addrman
 
-KEY, SEED, NOW = bytes(range(32)), (1, 2), 1_700_000_000
+KEY, SEED, NOW, SERVICES = bytes(range(32)), (1, 2), 1_700_000_000, 0x401
 draw = random.Random(59)
 compared = 0
 
@@ -102,12 +102,42 @@ def check_records(am, peers):
     same("the open peers after one is closed", am.open_peers(), opened[:3] + opened[4:])
 
 
+def check_chosen():
+    """A message of which some entries are taken does what one of these alone does."""
+    skipped = bytes(4) + b"\1\x63\1\0" + bytes(2)
+    for count in (0, 1, 5, 40, 250):
+        first, second = addrman.AddrMan(KEY, SEED), addrman.AddrMan(KEY, SEED)
+        listed = []
+        for _ in range(count):
+            services, text = draw.choice((0, 1, 8, 0x400, 0x408)), draw.choice(("10.0.0.%d" % draw.randrange(256), any_address(), any_address()))
+            entry = addrman.write_message(True, [addrman.Entry(NOW - 1000, services, text + ":8333")])[1:]
+            listed.append((entry, text, services) if draw.random() < 0.9 else (skipped, text, 0))
+        payload = bytes([count]) + b"".join(entry for entry, _, _ in listed)
+        most, nets, drawn = draw.choice((0, 1, count // 2, count, 2000)), draw.choice((0x7f, 0x3e, 0x06, 0x0c)), words(2 * count + 3)
+        for i in range(count):
+            j = i + drawn[i] % (count - i)
+            listed[i], listed[j] = listed[j], listed[i]
+        net = lambda text: addrman.network(text) if not addrman.is_routable(text) else (
+            {"o": addrman.ONION, "i": addrman.I2P, "[": addrman.IPV6}.get(text[0], addrman.IPV4))
+        taken = [entry if services & SERVICES and nets >> net(text) & 1 else skipped for entry, text, services in listed[:most]]
+        try:
+            first.take_chosen(True, payload, "1.2.3.4", most, SERVICES, nets, drawn[:count + len(taken)][:-1], NOW)
+            same("words that are not needed", count, 0)
+        except addrman.ShortWords as short:
+            same("how many words are needed", short.need, count + len(taken))
+        ours = first.take_chosen(True, payload, "1.2.3.4", most, SERVICES, nets, drawn, NOW)
+        theirs = second.take_message(True, bytes([len(taken)]) + b"".join(taken), "1.2.3.4", drawn[count:], NOW)
+        same("what a message adds", ours, theirs)
+        same("the tables after a message", first.file(), second.file())
+
+
 def main():
     check_names()
     am, peers = filled(300)
     check_slots(am, peers)
     check_records(am, peers)
-    print(f"Python: {compared} answers on names, slots, records and open peers are as they have to be")
+    check_chosen()
+    print(f"Python: {compared} answers on names, slots, records, open peers and chosen entries are as they have to be")
 
 
 main()

@@ -65,6 +65,7 @@ int main()
     want(two.tried_slot(peer).first < 256 && two.sample_entries(0, 0, ADDRMAN_ALL_NETS, {7}, 1700000000)[0].services == 1, "no entry");
     two.open_peer(peer);
     want(text_of(two.open_peers().at(0)) == "8.8.8.8:8333" && two.close_peer(peer) && two.open_peers().empty(), "open peers are others");
+    want(two.take_chosen(true, message, source, 1, 8, ADDRMAN_ALL_NETS, {1, 2}, 1700000000).total == 1, "no entry is chosen");
     want(name_of(parse_name("2001:DB8::1")) == "2001:db8::1", "a name is another");
     tables core(key{}, s, {}, true);
     want(core.file(ADDRMAN_MAIN) == tables(key{}, s).file(ADDRMAN_MAIN), "no asmap has a checksum");

@@ -30,11 +30,11 @@ void *__wrap_realloc(void *old, size_t size)
     return fails() ? NULL : __real_realloc(old, size);
 }
 
-enum { CALLS = 22 };
+enum { CALLS = 23 };
 static const char *names[CALLS] = { "open", "take_message", "good", "add", "select", "sample", "records", "peer_text",
                                     "write_file", "open_file", "save_begin", "asmap_compile", "asmap_decompile",
                                     "bans_open", "answers_open", "answer", "message_count", "read_message", "write_message",
-                                    "name_text", "sample_entries", "opener_peers" };
+                                    "name_text", "sample_entries", "take_chosen", "opener_peers" };
 
 /* An addr message of three entries. */
 static size_t fill(uint8_t *out)
@@ -113,8 +113,10 @@ int main(void)
         code[18] = code[17] ? 0 : addrman_write_message(false, entries, length, file, sizeof file, &length);
         code[19] = addrman_name_text(&source, text, sizeof text, &length);
         code[20] = addrman_sample_entries(&a, 0, 0, ADDRMAN_ALL_NETS, words, 12, 1700000006, some, 9, &length);
+        code[21] = addrman_take_chosen(&a, false, payload, payload_length, &source, 3, 1, ADDRMAN_ALL_NETS, words, 6, 1700000007, &added,
+                                       &fault);
         answer = addrman_opener_add(&a, &peer);
-        code[21] = answer ? 0 : addrman_opener_peers(&a, peers, 9, &length);
+        code[22] = answer ? 0 : addrman_opener_peers(&a, peers, 9, &length);
         bool reached = left == 0;
         left = 0;
         unsigned failed = 0;

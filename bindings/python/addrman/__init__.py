@@ -171,6 +171,7 @@ _SIGNATURES = {
     "write_file": [_P, _U32, _P, _SIZE, _P],
     "take_message": [_P, _BOOL, _P, _SIZE, _P, _P, _SIZE, _U32, _P, _P],
     "take_first": [_P, _BOOL, _P, _SIZE, _P, _U32, _P, _SIZE, _U32, _P, _P],
+    "take_chosen": [_P, _BOOL, _P, _SIZE, _P, _U32, _U64, _U32, _P, _SIZE, _U32, _P, _P],
     "message_count": [_BOOL, _P, _SIZE, _P, _P], "read_message": [_BOOL, _P, _SIZE, _P, _SIZE, _P, _P],
     "write_message": [_BOOL, _P, _SIZE, _P, _SIZE, _P],
     "add": [_P, _P, _P, _U32, _U64, _U32, _U64, _U32, _P],
@@ -472,6 +473,17 @@ class AddrMan(_Object):
         added, fault, raw = _Added(), _Fault(), _raw("payload", payload)
         code = self._call("take_first", _flag("is_v2", is_v2), raw, len(raw), c.byref(_addr(source)), _number("most", most),
                           *_words(words), _number("now", now), c.byref(added), c.byref(fault))
+        _check(code, fault, added.total)
+        return added.accepted, added.total
+
+    def take_chosen(self, is_v2: bool, payload: BytesLike, source: str, most: int, services: int, nets: int,
+                    words: Sequence[int], now: int) -> tuple[int, int]:
+        """Takes those of at most so many entries after a shuffle that have one of the services, and whose network is in a
+        set. Returns how many got a slot, and how many were let through."""
+        added, fault, raw = _Added(), _Fault(), _raw("payload", payload)
+        code = self._call("take_chosen", _flag("is_v2", is_v2), raw, len(raw), c.byref(_addr(source)), _number("most", most),
+                          _number("services", services, 64), _number("nets", nets), *_words(words), _number("now", now),
+                          c.byref(added), c.byref(fault))
         _check(code, fault, added.total)
         return added.accepted, added.total
 

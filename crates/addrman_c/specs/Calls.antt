@@ -15,6 +15,7 @@ use Rattle.table_machine.specs.State.{State, After, find_peer}
 use Rattle.table_machine.specs.Entries.{add}
 use Rattle.table_machine.specs.Tried.{good}
 use Rattle.taking.specs.Taking.{IsAdded, IsMessageFault}
+use Rattle.uncounted.specs.Chosen.{IsChosenAdded, IsChosenFault}
 use Rattle.uncounted.specs.First.{IsFirstAdded, IsFirstFault}
 use Rattle.taking.specs.declared.messages.Added.{Added}
 use Rattle.taking.specs.declared.messages.MessageFault.{MessageFault}
@@ -109,6 +110,20 @@ FirstCall form payload (Some source) most words now old code added fault new =
     × MatchResult answer
     (λ taken. IsFirstAdded form payload most old now source words taken new)
     (λ why. IsFirstFault form payload most old now source words why new)
+    × Tells answer code added fault))
+
+-- a message, of which those of the first entries after a shuffle are taken that a node has a use
+-- for; None is no address
+abbrev pub ChosenCall : Form → List ℕ → Option Address → ℕ → ℕ → List ℕ → List ℕ → ℕ → State → ℕ
+    → AddrmanAdded → AddrmanFault → State → Type 0
+ChosenCall form payload None most services nets words now old code added fault new =
+    Refuses ARGUMENT old code new
+ChosenCall form payload (Some source) most services nets words now old code added fault new =
+    ((most_records ≤ old.next_number) × Refuses FULL old code new)
+    ⊎ ((old.next_number < most_records) × ((answer : Result Added MessageFault)
+    × MatchResult answer
+    (λ taken. IsChosenAdded form payload most services nets old now source words taken new)
+    (λ why. IsChosenFault form payload most services nets old now source words why new)
     × Tells answer code added fault))
 
 -- the code and the output for a pick

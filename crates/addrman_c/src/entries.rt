@@ -15,7 +15,7 @@ use tables::Tables;
 use taking::{Added, MessageFault};
 
 /// The next record number must be below this, so that a whole message fits.
-const MOST_RECORDS: u64 = 1 << 62;
+pub(crate) const MOST_RECORDS: u64 = 1 << 62;
 
 /// Adds an entry that `source` announced.
 fn add_on(
@@ -94,7 +94,7 @@ pub extern "C" fn addrman_add(
 }
 
 /// Tells what became of a message.
-fn tell(
+pub(crate) fn tell(
     answer: Result<Added, MessageFault>,
     added: &mut AddrmanAdded,
     fault: &mut AddrmanFault,

@@ -77,7 +77,7 @@ fn take_all<H: BuildHasher>(
 }
 
 /// Adds entries in order, each with the random word at its index, and returns how many got a slot.
-fn take_entries<H: BuildHasher>(
+pub(crate) fn take_entries<H: BuildHasher>(
     tables: &mut Tables<'_, H>,
     entries: &[Option<Entry>],
     source: &NetAddr,

@@ -2,15 +2,18 @@
 //! counter of its own, so that the caller names no ledger and has no condition on it.
 //!
 //! Proved: each call returns and leaves what the call with a count of steps does. `take_first` does
-//! so with the first entries of a message (`IsFirstAdded`, `IsFirstFault`).
+//! so with the first entries of a message (`IsFirstAdded`, `IsFirstFault`), and `take_chosen` with
+//! those that a node has a use for, after a shuffle (`IsChosenAdded`, `IsChosenFault`).
 #![tactic(auto)]
 
+mod chosen;
 mod entries;
 mod first;
 mod marks;
 mod picks;
 mod reads;
 
+pub use chosen::take_chosen;
 pub use entries::{add, take_message};
 pub use first::take_first;
 pub use marks::{attempt, connected, good, services};
