@@ -9,6 +9,7 @@ import help_texts
 import node_json
 import peers_file
 import prefixes
+import risk
 from addresses import Address, Peer, address_text, class_of, read_peer, routable
 from asmap import MAXIMUM_BYTES as MAXIMUM_ASMAP
 from asmap import NO_ASMAP, Asmap, compile_rows, pack, rows_of
@@ -25,11 +26,12 @@ from tables import Tables
 from text import MASK, Fault, read_digits, read_number
 
 MAXIMUM_GENERATED_LINES = 100_000
-COMMANDS = "replay opener limit show picture raw info groups compile decompile diff check lookup address ban unban banned bans gen trial help version"
+COMMANDS = "replay opener limit show picture raw info groups risk compile decompile diff check lookup address ban unban banned bans gen trial help version"
 IN_PLACE = {b"--help": b"help", b"-h": b"help", b"--version": b"version"}
 CHAIN = ("--net", "--magic")
 OPTIONS = {"replay": ("--key", *CHAIN), "opener": ("--key", *CHAIN), "picture": CHAIN, "raw": CHAIN,
            "info": CHAIN, "groups": CHAIN}
+GROUPINGS = ("source", "peer", "network")
 NO_KEY = b"--no-key"
 CORE = b"--core"
 
@@ -113,6 +115,13 @@ def peers_option(arguments: list[bytes]) -> bytes | None:
     if arguments[:1] != [b"--peers"]:
         usage()
     return chain_option(arguments[1:])
+
+
+def grouping_options(arguments: list[bytes]) -> tuple[str, FileKind]:
+    """What makes records one group, and the file of peers, by the arguments of `risk`."""
+    arguments, core = without_core(arguments)
+    by = usage(next((own for own in GROUPINGS if arguments[:1] == [own.encode()]), None))
+    return by, FileKind(chain_option(arguments[1:]), core)
 
 
 def sum_said(file: peers_file.PeersFile, asmap: Asmap, core: bool) -> str:
@@ -209,6 +218,9 @@ class Run:
             return
         if name == "show":
             self.show(*listing_options(arguments[1:]))
+            return
+        if name == "risk":
+            self.risk(*grouping_options(arguments[1:]))
             return
         if name in OPTIONS:
             options, core = without_core(arguments[1:])
@@ -342,6 +354,9 @@ class Run:
 
     def groups(self, _key: None, kind: FileKind):
         self.print(node_json.groups(self.saved_tables(kind)))
+
+    def risk(self, by: str, kind: FileKind):
+        self.print(risk.risk(self.saved_tables(kind), by))
 
     def compile(self):
         rows = self.load("prefixes.txt", prefixes.MAXIMUM_BYTES, 6, prefixes.read_rows)

@@ -5,10 +5,10 @@ import os
 from folder import Stop
 from text import read_digits
 
-READ_PEERS = ("replay", "opener", "show", "picture", "raw", "info", "groups", "diff")
+READ_PEERS = ("replay", "opener", "show", "picture", "raw", "info", "groups", "risk", "diff")
 # The options that name a file: in whose place it is read, and the commands that take the option.
-OTHER_FILES = {"--peers": ("peers.dat", "show picture raw info groups diff".split()),
-               "--asmap": ("asmap.dat", "picture raw info groups diff check lookup decompile address".split()),
+OTHER_FILES = {"--peers": ("peers.dat", "show picture raw info groups risk diff".split()),
+               "--asmap": ("asmap.dat", "picture raw info groups risk diff check lookup decompile address".split()),
                "--bans": ("banlist.json", "banned bans".split())}
 NO_ARGUMENT = "--"
 

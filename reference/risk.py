@@ -1,4 +1,4 @@
-"""Which part of the picks falls to each group of records, exactly."""
+"""Which part of the picks falls to each group of records: exactly, and as the command prints it."""
 
 from fractions import Fraction
 
@@ -9,6 +9,8 @@ from tables import LARGEST_FACTOR, ONE, Record, Tables, chance
 
 SLOTS = 64
 MILLION = 1_000_000
+WHOLE = 1 << 64
+AHEAD = 48  # how many refusals of a search are looked ahead
 RESTARTED = 600  # a time at which no try is of the last ten minutes, as after a restart
 
 
@@ -41,15 +43,20 @@ def weights(of_chance: dict[int, int]) -> dict[int, Fraction]:
     return found
 
 
+def by_chance(leading: dict[int, int], chances: dict[int, int], numbers) -> dict[int, int]:
+    """How many starts lead to those of the records of each chance."""
+    found: dict[int, int] = {}
+    for number in numbers:
+        found[chances[number]] = found.get(chances[number], 0) + leading.get(number, 0)
+    return found
+
+
 def shares(tables: Tables, in_new: bool, now: int) -> dict[int, Fraction]:
     """Which part of the searches of a table ends at each record."""
     leading = starts(tables.new if in_new else tables.tried)
-    of_chance: dict[int, int] = {}
-    for number, count in leading.items():
-        parts = chance(tables.records[number], now)
-        of_chance[parts] = of_chance.get(parts, 0) + count
-    weight = weights(of_chance)
-    return {number: count * weight[chance(tables.records[number], now)] for number, count in leading.items()}
+    chances = {number: chance(tables.records[number], now) for number in leading}
+    weight = weights(by_chance(leading, chances, leading))
+    return {number: count * weight[chances[number]] for number, count in leading.items()}
 
 
 def network(record: Record) -> str:
@@ -79,18 +86,39 @@ def percent(part: int) -> str:
     return f"{part // 10_000}.{part % 10_000:04} %"
 
 
+def at_most(of_chance: dict[int, int], theirs: dict[int, int]) -> int:
+    """Which part of the searches ends at records of a group, at most, by how many starts lead to all and to them."""
+    busy, left, found, factor = sum(of_chance.values()) * ONE, WHOLE, 0, ONE
+    if not busy:
+        return 0
+    for _ in range(AHEAD):
+        found += -(-left * sum(count * accepting(parts, factor) for parts, count in theirs.items()) // busy)
+        left = -(-left * sum(count * (ONE - accepting(parts, factor)) for parts, count in of_chance.items()) // busy)
+        factor = min(factor + factor // 5, LARGEST_FACTOR)
+    return min(found + left, WHOLE)
+
+
+def millionths(part: int, whole: int) -> int:
+    """A part in parts of a million, rounded up."""
+    return -(-min(part, whole) * MILLION // whole)
+
+
 def risk(tables: Tables, by: str, now: int = RESTARTED) -> str:
     """The numbers of the tables, and a line for each group."""
-    sides = [shares(tables, in_new, now) for in_new in (True, False)]
-    searched = max(1, sum(bool(side) for side in sides))
     members: dict[object, list[Record]] = {}
     for record in sorted(tables.records.values(), key=lambda record: record.number):
         members.setdefault(key(tables, by, record), []).append(record)
+    chances = {number: chance(record, now) for number, record in tables.records.items()}
+    leading = [starts(table) for table in (tables.new, tables.tried)]
+    all_starts = [by_chance(leads, chances, leads) for leads in leading]
+    searched = max(1, sum(bool(leads) for leads in leading))
 
     rows = []
     for own, records in members.items():
-        new, tried = (sum(side.get(record.number, Fraction(0)) for record in records) for side in sides)
-        picks, new, tried = (-(-part * MILLION // 1) for part in ((new + tried) / searched, new, tried))
+        numbers = [record.number for record in records]
+        new, tried = (at_most(whole, by_chance(leads, chances, numbers)) for leads, whole in zip(leading, all_starts))
+        picks = millionths(new + tried, searched * WHOLE)
+        new, tried = millionths(new, WHOLE), millionths(tried, WHOLE)
         rows.append((-picks, own, f"{by} {name(tables, by, records[0])}: picks {percent(picks)}"
                                   f" new {percent(new)} tried {percent(tried)}"))
     new, tried = tables.counts()

@@ -2,7 +2,7 @@
 
 _addrman() {
     local word=${COMP_WORDS[COMP_CWORD]} before=${COMP_WORDS[COMP_CWORD - 1]}
-    local commands="replay opener limit show picture raw info groups compile decompile diff check lookup address ban unban banned bans gen trial help version"
+    local commands="replay opener limit show picture raw info groups risk compile decompile diff check lookup address ban unban banned bans gen trial help version"
     local chains="main test testnet4 signet regtest"
     local at=1
     if [[ ${COMP_WORDS[1]} == -C || ${COMP_WORDS[1]} == --dir ]]; then
@@ -38,6 +38,9 @@ _addrman() {
     case ${COMP_WORDS[at]} in
         replay | opener) mapfile -t COMPREPLY < <(compgen -W "--key --key-file --net --magic --core" -- "$word") ;;
         show) mapfile -t COMPREPLY < <(compgen -W "--net --magic --no-key --core --peers" -- "$word") ;;
+        risk)
+            mapfile -t COMPREPLY < <(compgen -W "source peer network --net --magic --core --peers --asmap" -- "$word")
+            ;;
         picture | raw | info | groups)
             mapfile -t COMPREPLY < <(compgen -W "--net --magic --core --peers --asmap" -- "$word")
             ;;

@@ -108,7 +108,7 @@ function examples() {
          ["", "compile", "check", "decompile", "diff", "diff --peers", "lookup 1.2.3.4:8333",
           "lookup -", "lookup nothing", "address 8.8.8.8", "ban 1.2.3.0/24 1700000000 1800000000",
           "unban 1.2.3.0/24", "banned 1.2.3.4:1 1700000000", "bans 1", "help", "help raw", "raw",
-          "info", "groups", "picture", "show", "raw --net test", "trial 7 20000",
+          "info", "groups", "risk source", "picture", "show", "raw --net test", "trial 7 20000",
           "gen 18446744073709551615 1000", "gen 1 0", "no such command"]) {
     const words = text.split(" ").filter(Boolean);
     same(words, files, "1.2.3.4:8333\n");
@@ -125,8 +125,8 @@ function generated(seed) {
   const asmap = fs.readFileSync(path.join(TOP, "examples", "asmap.dat")),
         with_asmap = seed % 2 ? { "asmap.dat": asmap } : {};
   const peers = same(["replay", ...KEY], with_asmap, log).files["peers.dat"];
-  for (const command of ["raw", "picture", "groups", "info", "show"])
-    same([command], { "peers.dat": peers, ...with_asmap });
+  for (const command of ["raw", "picture", "groups", "info", "show", "risk source", "risk network"])
+    same(command.split(" "), { "peers.dat": peers, ...with_asmap });
   for (let k = 0; k < 4; k++) {
     const at = (seed * 7919 + k * 104729) % peers.length, changed = Buffer.from(peers);
     changed[at] ^= 1 << k * 2;

@@ -13,19 +13,20 @@ const KEY_DIGITS: usize = 64;
 const PIECE: usize = 80;
 
 /// The commands that read peers.dat.
-static PEERS_COMMANDS: [&str; 8] = [
-    "replay", "opener", "show", "picture", "raw", "info", "groups", "diff",
+static PEERS_COMMANDS: [&str; 9] = [
+    "replay", "opener", "show", "picture", "raw", "info", "groups", "risk", "diff",
 ];
 
 /// The commands that take `--peers FILE`.
-static PEERS_FILE: [&str; 6] = ["show", "picture", "raw", "info", "groups", "diff"];
+static PEERS_FILE: [&str; 7] = ["show", "picture", "raw", "info", "groups", "risk", "diff"];
 
 /// The commands that take `--asmap FILE`.
-static ASMAP_FILE: [&str; 9] = [
+static ASMAP_FILE: [&str; 10] = [
     "picture",
     "raw",
     "info",
     "groups",
+    "risk",
     "diff",
     "check",
     "lookup",

@@ -304,6 +304,7 @@ done (request.Picture kind) old new answer ends cause fine calm = text_done _ _ 
 done (request.Raw kind) old new answer ends cause fine calm = text_done _ _ old new answer ends.ends cause fine calm
 done (request.Info kind) old new answer ends cause fine calm = text_done _ _ old new answer ends.ends cause fine calm
 done (request.Groups kind) old new answer ends cause fine calm = text_done _ _ old new answer ends.ends cause fine calm
+done (request.Risk by kind) old new answer ends cause fine calm = text_done _ _ old new answer ends.ends cause fine calm
 done (request.Ban subnet now until) old new answer ends cause fine calm = bans_done _ old new answer ends cause fine calm
 done (request.Unban subnet) old new answer ends cause fine calm = bans_done _ old new answer ends cause fine calm
 done (request.Banned peer now) old new answer ends cause fine calm = bans_done _ old new answer ends cause fine calm

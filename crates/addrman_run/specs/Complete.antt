@@ -30,7 +30,7 @@ use Rattle.addrman_run.specs.Replay.{Replayed}
 use Rattle.addrman_run.specs.Show.{ReportsPeers}
 use Rattle.addrman_run.specs.Tables.{ReportsTable}
 use Rattle.arguments.specs.declared.request.Request.{Request}
-use Rattle.arguments.specs.declared.request.Request.TheVariants.{Show, Picture, Raw, Info, Groups}
+use Rattle.arguments.specs.declared.request.Request.TheVariants.{Show, Picture, Raw, Info, Groups, Risk}
 use Rattle.arguments.specs.declared.request.Request.TheVariants.{Replay, Opener, Compile, Check, Lookup, LookupLines, Address, AddressLines}
 use Rattle.arguments.specs.declared.request.Request.TheVariants.{Decompile, Diff, Limit}
 use Rattle.arguments.specs.declared.request.Request.TheVariants.{Ban, Unban, Banned, Bans}
@@ -103,6 +103,7 @@ NothingIsWrong (Picture kind) at = NoRefusal (ReportsTables kind.chain at.past)
 NothingIsWrong (Raw kind) at = NoRefusal (ReportsTables kind.chain at.past)
 NothingIsWrong (Info kind) at = NoRefusal (ReportsTables kind.chain at.past)
 NothingIsWrong (Groups kind) at = NoRefusal (ReportsTables kind.chain at.past)
+NothingIsWrong (Risk by kind) at = NoRefusal (ReportsTables kind.chain at.past)
 NothingIsWrong (Ban subnet now until) at = NoRefusal (ReportsBans at.past)
 NothingIsWrong (Unban subnet) at = NoRefusal (ReportsBans at.past)
 NothingIsWrong (Banned peer now) at = NoRefusal (ReportsBans at.past)

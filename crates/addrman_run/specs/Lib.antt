@@ -22,6 +22,7 @@ pub mod Compile
 pub mod Bans
 pub mod Show
 pub mod Picture
+pub mod Risk
 pub mod TablesJson
 pub mod TextOut
 pub mod Generate

@@ -16,6 +16,7 @@ use Rattle.addrman_run.specs.Limit.{LimitEnds}
 use Rattle.addrman_run.specs.Opener.{OpenerEnds}
 use Rattle.addrman_run.specs.Show.{ShowEnds}
 use Rattle.addrman_run.specs.Picture.{PictureEnds}
+use Rattle.addrman_run.specs.Risk.{RiskEnds}
 use Rattle.addrman_run.specs.TablesJson.{TablesJsonEnds}
 use Rattle.addrman_run.specs.declared.tables_json.TablesJson.TheVariants as json
 use Rattle.addrman_run.specs.Generate.{GenEnds}
@@ -23,7 +24,7 @@ use Rattle.addrman_run.specs.Help.{HelpEnds, VersionEnds}
 use Rattle.addrman_run.specs.Trial.{TrialEnds}
 use Rattle.addrman_run.specs.Bans.{BansEnds, ListEnds, ban_change, unban_change, banned_change}
 use Rattle.arguments.specs.declared.request.Request.{Request}
-use Rattle.arguments.specs.declared.request.Request.TheVariants.{Show, Picture, Raw, Info, Groups}
+use Rattle.arguments.specs.declared.request.Request.TheVariants.{Show, Picture, Raw, Info, Groups, Risk}
 use Rattle.arguments.specs.declared.request.Request.TheVariants.{Replay, Opener, Compile, Check, Lookup, LookupLines, Address, AddressLines}
 use Rattle.arguments.specs.declared.request.Request.TheVariants.{Decompile, Diff, Limit}
 use Rattle.arguments.specs.declared.request.Request.TheVariants.{Ban, Unban, Banned, Bans}
@@ -49,6 +50,7 @@ Ends (Picture kind) old new answer = PictureEnds kind old new answer
 Ends (Raw kind) old new answer = TablesJsonEnds json.Raw kind old new answer
 Ends (Info kind) old new answer = TablesJsonEnds json.Info kind old new answer
 Ends (Groups kind) old new answer = TablesJsonEnds json.Groups kind old new answer
+Ends (Risk by kind) old new answer = RiskEnds by kind old new answer
 Ends (Ban subnet now until) old new answer =
     BansEnds (ban_change (ban_of subnet now until)) old new answer
 Ends (Unban subnet) old new answer = BansEnds (unban_change subnet) old new answer

@@ -36,6 +36,7 @@ mod peers_fault;
 mod picture;
 mod replay;
 mod report;
+mod risk;
 mod show;
 mod status;
 mod tables_fault;

@@ -22,6 +22,7 @@ use crate::lookup_lines::lookup_lines;
 use crate::opener::opener;
 use crate::picture::picture;
 use crate::replay::replay;
+use crate::risk::risk;
 use crate::show::Show;
 use crate::tables_json::{TablesJson, write_tables_json};
 use crate::trial::trial;
@@ -47,11 +48,13 @@ use std::hash::BuildHasher;
 /// received addresses, and writes the log that is left. `show --net CHAIN` lists what peers.dat
 /// has, and `picture --net CHAIN` draws its tables. As JSON, `raw --net CHAIN` prints its records
 /// by their slots, `info --net CHAIN` how many each network has, and `groups --net CHAIN` how many
-/// each group. `ban SUBNET NOW UNTIL` and `unban SUBNET` change the list of bans in banlist.json,
-/// `banned PEER NOW` writes which ban covers the peer's address, and `bans NOW` the bans that are
-/// not over, as JSON. `gen START LINES` writes a generated log, and `trial START LINES` carries it
-/// out from empty tables and writes one line about the replies. `help COMMAND` writes the page of a
-/// command, and `help` the list of all; `version` writes the version and the toolchain.
+/// each group. `risk source --net CHAIN` writes which part of the picks falls to each source group,
+/// at most; `risk peer` and `risk network` do so for other groups. `ban SUBNET NOW UNTIL` and
+/// `unban SUBNET` change the list of bans in banlist.json, `banned PEER NOW` writes which ban covers
+/// the peer's address, and `bans NOW` the bans that are not over, as JSON. `gen START LINES` writes
+/// a generated log, and `trial START LINES` carries it out from empty tables and writes one line
+/// about the replies. `help COMMAND` writes the page of a command, and `help` the list of all;
+/// `version` writes the version and the toolchain.
 pub fn run<L: Source, F: Folder, K: Sink, H: BuildHasher + Drop>(
     alloc: Global,
     hasher: H,
@@ -161,6 +164,7 @@ fn carry_out<L: Source, F: Folder, K: Sink, H: BuildHasher + Drop>(
                 learned,
             )
         }
+        Request::Risk { by, kind } => risk(alloc, hasher, by, kind, folder, out, learned),
         Request::Ban { subnet, now, until } => {
             change_bans(
                 alloc,

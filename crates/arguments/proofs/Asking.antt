@@ -23,14 +23,16 @@ use Rattle.net_addr.specs.declared.peer.Peer.{Peer}
 use Rattle.peers_file.specs.declared.chain.Chain.{Chain}
 use Rattle.placing.specs.declared.sum.SumRule.{SumRule}
 use Rattle.placing.specs.declared.sum.SumRule.TheVariants.{Bytes}
-use Rattle.arguments.specs.Options.{HasRule, IsAfterPeers, IsListingOptions, IsNet, IsOpeningOptions}
-use Rattle.arguments.specs.Table.{AddressOrLines, Asks, Fields, Form, HasNoValues, IsAddressIn, IsProperRequest, Listing, Network, OfCommand, OfSubnet, Opening, PeerOrLines, Period, Reads, Records, TheAddress, TheKind, TheCommand, TheFields, TheListing, TheOpening, ThePeriod, TheRecords, TheSubnet, Values, form_of, name_of, plain_word, request_values, command_word}
+use Rattle.arguments.specs.Options.{HasRule, IsAfterGrouping, IsAfterPeers, IsListingOptions, IsNet, IsOpeningOptions}
+use Rattle.arguments.specs.Table.{AddressOrLines, Asks, Fields, Form, Grouped, HasNoValues, IsAddressIn, IsProperRequest, Listing, Network, OfCommand, OfSubnet, Opening, PeerOrLines, Period, Reads, Records, TheAddress, TheKind, TheCommand, TheFields, TheGroups, TheListing, TheOpening, ThePeriod, TheRecords, TheSubnet, Values, form_of, name_of, plain_word, request_values, command_word}
+use Rattle.arguments.specs.declared.grouping.Grouping.{Grouping}
 use Rattle.arguments.specs.declared.name.CommandName.{CommandName}
 use Rattle.arguments.specs.declared.name.CommandName.TheVariants as name
 use Rattle.arguments.specs.declared.name.TheConstants.{NAMES}
 use Rattle.arguments.specs.declared.request.Request.{Request}
-use Rattle.arguments.specs.declared.request.Request.TheVariants.{Replay, Opener, Compile, Check, Decompile, Diff, Limit, Lookup, LookupLines, Address, AddressLines, Show, Picture, Raw, Info, Groups, Ban, Unban, Banned, Bans, Gen, Trial, Help, Version}
+use Rattle.arguments.specs.declared.request.Request.TheVariants.{Replay, Opener, Compile, Check, Decompile, Diff, Limit, Lookup, LookupLines, Address, AddressLines, Show, Picture, Raw, Info, Groups, Risk, Ban, Unban, Banned, Bans, Gen, Trial, Help, Version}
 use Rattle.arguments.proofs.WithCore.{no_file_kind, no_listing_kind, no_opening_kind, no_peers, one_file_kind, one_listing_kind, one_opening_kind, one_peers}
+use Rattle.arguments.proofs.Groupings.{no_grouping_kind, one_grouping_kind}
 use Rattle.arguments.proofs.Names.{name_found, one_command}
 
 -- THE VALUES
@@ -87,6 +89,9 @@ one_values Listing texts v w is h k =
     let same = one_listing_kind texts h.0 k.0 h.1 k.1 h.3 k.3 in
     h.2 ∙ (λ i. TheListing (same.0 i) (same.1 i)) ∙ sym k.2
 one_values Records texts v w is h k = h.1 ∙ ap TheRecords (one_peers texts h.0 k.0 h.2 k.2) ∙ sym k.1
+one_values Grouped texts v w is h k =
+    let same = one_grouping_kind texts h.0 k.0 h.1 k.1 h.3 k.3 in
+    h.2 ∙ (λ i. TheGroups (same.0 i) (same.1 i)) ∙ sym k.2
 one_values OfSubnet texts v w is h k =
     let same = ap (λ ts. get_or ts 0 []) (sym h.3 ∙ k.3) in
     h.2 ∙ ap TheSubnet (one_subnet k.0 h.1 k.1 (subst (λ t. IsSubnetText t h.1) same h.4) k.4) ∙ sym k.2
@@ -117,6 +122,7 @@ request_by name.Picture (TheKind kind) = Picture kind
 request_by name.Raw (TheKind kind) = Raw kind
 request_by name.Info (TheKind kind) = Info kind
 request_by name.Groups (TheKind kind) = Groups kind
+request_by name.Risk (TheGroups by kind) = Risk by kind
 request_by name.Ban (ThePeriod subnet now until) = Ban subnet now until
 request_by name.Unban (TheSubnet subnet) = Unban subnet
 request_by name.Banned (TheFields (ThePeer peer ∷ TheNumber now ∷ [])) = Banned peer now
@@ -307,6 +313,10 @@ module _ (texts rest : List (List ℕ)) (rule : SumRule) (has : HasRule rule res
   pub no_listing : (r : Option (Bool × Chain)) → r ≡ None → ((keyed : Bool) (chain : Chain) → IsListingOptions keyed rest chain → r ≡ Some (keyed, chain)) → HasNoValues Listing texts
   unfolding HasNoValues
   no_listing r is only v reads = no_listing_kind texts rest rule has none (λ keyed chain chosen. none-some (keyed, chain) (sym is ∙ only keyed chain chosen)) reads.0 reads.1 reads.3
+
+  pub no_grouping : (r : Option (Grouping × Chain)) → r ≡ None → ((by : Grouping) (chain : Chain) → IsAfterGrouping by rest chain → r ≡ Some (by, chain)) → HasNoValues Grouped texts
+  unfolding HasNoValues
+  no_grouping r is only v reads = no_grouping_kind texts rest rule has none (λ by chain chosen. none-some (by, chain) (sym is ∙ only by chain chosen)) reads.0 reads.1 reads.3
 
   pub no_records : (r : Option Chain) → (texts ≡ [] → ⊥) → r ≡ None → ((chain : Chain) → IsAfterPeers rest chain → r ≡ Some chain) → HasNoValues Records texts
   unfolding HasNoValues

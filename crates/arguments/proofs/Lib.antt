@@ -1,5 +1,6 @@
 pub mod Choosing
 pub mod WithCore
+pub mod Groupings
 pub mod Asking
 pub mod Names
 mod OptionExamples

@@ -57,7 +57,7 @@ module _ {X : Type 0} (IsChosen : X → List (List ℕ) → Chain → Type 0)
       let same = one left x y a b (subst (λ ts. IsChosen x ts a) (ap (drop 1) (sym h ∙ k)) p) q in
       (refl, same.0, same.1)
 
-  one_kind : (texts : List (List ℕ)) (x y : X) (a b : FileKind) → IsFileOptions (IsChosen x) texts a → IsFileOptions (IsChosen y) texts b → (x ≡ y) × (a ≡ b)
+  pub one_kind : (texts : List (List ℕ)) (x y : X) (a b : FileKind) → IsFileOptions (IsChosen x) texts a → IsFileOptions (IsChosen y) texts b → (x ≡ y) × (a ≡ b)
   one_kind texts x y a b (rest, h, p) (left, k, q) =
       let same = one_by texts rest left a.rule b.rule x y a.chain b.chain h k p q in
       (same.1, λ i. record { chain = same.2 i; rule = same.0 i })
@@ -70,7 +70,7 @@ module _ {X : Type 0} (IsChosen : X → List (List ℕ) → Chain → Type 0)
   not_by words rest left Bits Bits x chain h none never k p = never x chain (subst (λ ts. IsChosen x ts chain) (ap (drop 1) (sym k ∙ h)) p)
 
   -- if the others choose nothing, all choose nothing
-  not_read : (words rest : List (List ℕ)) (r : SumRule) → HasRule r rest words → (r ≡ Bytes → (tail : List (List ℕ)) → words ≡ codes "--core" ∷ tail → ⊥)
+  pub not_read : (words rest : List (List ℕ)) (r : SumRule) → HasRule r rest words → (r ≡ Bytes → (tail : List (List ℕ)) → words ≡ codes "--core" ∷ tail → ⊥)
       → ((y : X) (c : Chain) → IsChosen y rest c → ⊥) → (x : X) (kind : FileKind) → IsFileOptions (IsChosen x) words kind → ⊥
   not_read words rest r h none never x kind (left, k, p) = not_by words rest left r kind.rule x kind.chain h none never k p
 

@@ -9,6 +9,8 @@ use Rattle.peers_file.specs.declared.chain.Chain.TheVariants.{Main, Test, Testne
 use Rattle.arguments.specs.declared.chain_option.ChainOption.{ChainOption}
 use Rattle.arguments.specs.declared.chain_option.ChainOption.TheVariants.{Net, Magic}
 use Rattle.arguments.specs.declared.file_kind.FileKind.{FileKind}
+use Rattle.arguments.specs.declared.grouping.Grouping.{Grouping}
+use Rattle.arguments.specs.declared.grouping.Grouping.TheVariants.{Source, Peer, Network}
 
 -- a key of 32 bytes, as 64 hexadecimal digits in either case
 abbrev pub IsKey : List ℕ → List ℕ → Type 0
@@ -76,6 +78,17 @@ IsOpeningOptions key options chain =
 abbrev pub IsAfterPeers : List (List ℕ) → Chain → Type 0
 IsAfterPeers options chain =
     (rest : List (List ℕ)) × (options ≡ codes "--peers" ∷ rest) × IsNet rest chain
+
+-- what makes records one group, as people write it
+abbrev pub grouping_word : Grouping → List ℕ
+grouping_word Source = codes "source"
+grouping_word Peer = codes "peer"
+grouping_word Network = codes "network"
+
+-- the arguments ask for groups of the records of a file of this chain
+abbrev pub IsAfterGrouping : Grouping → List (List ℕ) → Chain → Type 0
+IsAfterGrouping by options chain =
+    (rest : List (List ℕ)) × (options ≡ grouping_word by ∷ rest) × IsNet rest chain
 
 -- the arguments begin with `--core`, which chooses Bitcoin Core's checksum of an asmap, or do not;
 -- the others are the rest

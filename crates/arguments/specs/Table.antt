@@ -9,12 +9,13 @@ use Rattle.grammar.specs.Fields.{AllMean, Kind, Number, OfPeer, Value, TheNumber
 use Rattle.names.specs.Text.{IsTextOf}
 use Rattle.net_addr.specs.Address.{Address as NetAddress}
 use Rattle.net_addr.specs.declared.peer.Peer.{Peer}
-use Rattle.arguments.specs.Options.{IsFileOptions, IsListingOptions, IsNet, IsOpeningOptions, IsPeersOption}
+use Rattle.arguments.specs.Options.{IsAfterGrouping, IsFileOptions, IsListingOptions, IsNet, IsOpeningOptions, IsPeersOption}
 use Rattle.arguments.specs.declared.file_kind.FileKind.{FileKind}
+use Rattle.arguments.specs.declared.grouping.Grouping.{Grouping}
 use Rattle.arguments.specs.declared.name.CommandName.{CommandName}
 use Rattle.arguments.specs.declared.name.CommandName.TheVariants as name
 use Rattle.arguments.specs.declared.request.Request.{Request}
-use Rattle.arguments.specs.declared.request.Request.TheVariants.{Replay, Opener, Compile, Check, Decompile, Diff, Limit, Lookup, LookupLines, Address, AddressLines, Show, Picture, Raw, Info, Groups, Ban, Unban, Banned, Bans, Gen, Trial, Help, Version}
+use Rattle.arguments.specs.declared.request.Request.TheVariants.{Replay, Opener, Compile, Check, Decompile, Diff, Limit, Lookup, LookupLines, Address, AddressLines, Show, Picture, Raw, Info, Groups, Risk, Ban, Unban, Banned, Bans, Gen, Trial, Help, Version}
 
 -- THE NAME
 
@@ -28,6 +29,7 @@ command_word name.Picture = codes "picture"
 command_word name.Raw = codes "raw"
 command_word name.Info = codes "info"
 command_word name.Groups = codes "groups"
+command_word name.Risk = codes "risk"
 command_word name.Compile = codes "compile"
 command_word name.Decompile = codes "decompile"
 command_word name.Diff = codes "diff"
@@ -60,16 +62,17 @@ NameCommand texts None = texts ≡ []
 NameCommand texts (Some name) = texts ≡ command_word name ∷ []
 
 -- What comes after the name of a command: fields of these kinds; the options `--key` and `--net`;
--- only `--net`; `--net` and `--no-key`; `--peers` and `--net`, or nothing; a subnet; a subnet and
--- two times, the earlier one first; the name of a command or nothing; `-` or a peer; or `-`, or
--- else what people write for an address. `--magic` with digits may be in the place of `--net`, and
--- `--core` before all options.
+-- only `--net`; `--net` and `--no-key`; `--peers` and `--net`, or nothing; what makes records one
+-- group, and `--net`; a subnet; a subnet and two times, the earlier one first; the name of a
+-- command or nothing; `-` or a peer; or `-`, or else what people write for an address. `--magic`
+-- with digits may be in the place of `--net`, and `--core` before all options.
 pub data Form : Type 0 where
   Fields : List Kind → Form
   Opening : Form
   Network : Form
   Listing : Form
   Records : Form
+  Grouped : Form
   OfSubnet : Form
   Period : Form
   OfCommand : Form
@@ -83,6 +86,7 @@ pub data Values : Type 0 where
   TheKind : FileKind → Values
   TheListing : Bool → FileKind → Values
   TheRecords : Option FileKind → Values
+  TheGroups : Grouping → FileKind → Values
   TheSubnet : Subnet → Values
   ThePeriod : Subnet → ℕ → ℕ → Values
   TheCommand : Option CommandName → Values
@@ -105,6 +109,9 @@ Reads Listing texts v =
     × IsFileOptions (IsListingOptions keyed) texts kind
 Reads Records texts v =
     (peers : Option FileKind) × (v ≡ TheRecords peers) × IsPeersOption texts peers
+Reads Grouped texts v =
+    (by : Grouping) × (kind : FileKind) × (v ≡ TheGroups by kind)
+    × IsFileOptions (IsAfterGrouping by) texts kind
 Reads OfSubnet texts v =
     (text : List ℕ) × (subnet : Subnet) × (v ≡ TheSubnet subnet)
     × (texts ≡ text ∷ []) × IsSubnetText text subnet
@@ -139,6 +146,7 @@ form_of name.Picture = Network
 form_of name.Raw = Network
 form_of name.Info = Network
 form_of name.Groups = Network
+form_of name.Risk = Grouped
 form_of name.Diff = Records
 form_of name.Ban = Period
 form_of name.Unban = OfSubnet
@@ -167,6 +175,7 @@ name_of (Picture kind) = name.Picture
 name_of (Raw kind) = name.Raw
 name_of (Info kind) = name.Info
 name_of (Groups kind) = name.Groups
+name_of (Risk by kind) = name.Risk
 name_of (Ban subnet now until) = name.Ban
 name_of (Unban subnet) = name.Unban
 name_of (Banned peer now) = name.Banned
@@ -187,6 +196,7 @@ request_values (Picture kind) = TheKind kind
 request_values (Raw kind) = TheKind kind
 request_values (Info kind) = TheKind kind
 request_values (Groups kind) = TheKind kind
+request_values (Risk by kind) = TheGroups by kind
 request_values (Diff peers) = TheRecords peers
 request_values (Ban subnet now until) = ThePeriod subnet now until
 request_values (Unban subnet) = TheSubnet subnet

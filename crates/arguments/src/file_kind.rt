@@ -1,8 +1,10 @@
 ghost use Rattle.std.specs.Prelude.{◌≡◌, ◌≢◌, ℕ, List, ◌∷◌, codes, map, string_bytes, IfSome, IfNone};
-ghost use Rattle.arguments.specs.Options.{HasRule, IsFileOptions, IsListingOptions, IsNet, IsOpeningOptions, IsPeersOption};
-ghost use Rattle.arguments.specs.Table.{HasNoValues, Listing, Network, Opening, Records};
+ghost use Rattle.arguments.specs.Options.{HasRule, IsAfterGrouping, IsFileOptions, IsListingOptions, IsNet, IsOpeningOptions, IsPeersOption};
+ghost use Rattle.arguments.specs.Table.{Grouped, HasNoValues, Listing, Network, Opening, Records};
 ghost use Rattle.placing.specs.declared.sum.SumRule.TheVariants.{Bytes};
 
+use crate::Grouping;
+use crate::grouping::read_after_grouping;
 use crate::options::{after_flag, read_after_peers, read_listing, read_net, read_opening};
 use peers_file::Chain;
 use placing::SumRule;
@@ -67,6 +69,20 @@ pub(crate) fn read_listing_kind(words: &[String]) -> Option<(bool, FileKind)>
     let (rule, rest) = cut_rule(words);
     match read_listing(rest) {
         Some((keyed, chain)) => Some((keyed, FileKind { chain, rule })),
+        None => None,
+    }
+}
+
+/// Reads the arguments after `risk`: `--core`, and after it what makes records one group, and the
+/// arguments that choose a chain.
+pub(crate) fn read_grouping_kind(words: &[String]) -> Option<(Grouping, FileKind)>
+    ensures found { IfSome result (λ o.
+        IsFileOptions (IsAfterGrouping o.0) (map string_bytes words.now) o.1) }
+    ensures none { IfNone result (HasNoValues Grouped (map string_bytes words.now)) }
+{
+    let (rule, rest) = cut_rule(words);
+    match read_after_grouping(rest) {
+        Some((by, chain)) => Some((by, FileKind { chain, rule })),
         None => None,
     }
 }

@@ -14,6 +14,7 @@ mod bans;
 mod chain_option;
 mod commands;
 mod file_kind;
+mod grouping;
 mod help;
 mod name;
 mod options;
@@ -22,6 +23,7 @@ mod read;
 mod request;
 
 pub use file_kind::FileKind;
+pub use grouping::Grouping;
 pub use help::help_text;
 pub use name::CommandName;
 pub use read::read_request;

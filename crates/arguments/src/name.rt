@@ -17,6 +17,7 @@ pub enum CommandName {
     Raw,
     Info,
     Groups,
+    Risk,
     Compile,
     Decompile,
     Diff,
@@ -34,7 +35,7 @@ pub enum CommandName {
 }
 
 /// All names, each once, in the order in which the help lists them.
-pub const NAMES: [CommandName; 22] = [
+pub const NAMES: [CommandName; 23] = [
     CommandName::Replay,
     CommandName::Opener,
     CommandName::Limit,
@@ -43,6 +44,7 @@ pub const NAMES: [CommandName; 22] = [
     CommandName::Raw,
     CommandName::Info,
     CommandName::Groups,
+    CommandName::Risk,
     CommandName::Compile,
     CommandName::Decompile,
     CommandName::Diff,
@@ -72,6 +74,7 @@ impl Keyword for CommandName {
             CommandName::Raw => b"raw",
             CommandName::Info => b"info",
             CommandName::Groups => b"groups",
+            CommandName::Risk => b"risk",
             CommandName::Compile => b"compile",
             CommandName::Decompile => b"decompile",
             CommandName::Diff => b"diff",
@@ -106,6 +109,7 @@ impl CommandName {
             CommandName::Raw => pages::RAW,
             CommandName::Info => pages::INFO,
             CommandName::Groups => pages::GROUPS,
+            CommandName::Risk => pages::RISK,
             CommandName::Compile => pages::COMPILE,
             CommandName::Decompile => pages::DECOMPILE,
             CommandName::Diff => pages::DIFF,

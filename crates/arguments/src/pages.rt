@@ -130,7 +130,29 @@ pub(crate) const GROUPS: Page = (
     "\
 Reads    peers.dat; asmap.dat, if it is there.
 Writes   for each group its slots, buckets and records; their sums; how many AS numbers
-         asmap.dat gives the records, and how many of these it gives none.
+         asmap.dat gives the records, and how many of these it gives none. Slots
+         are not chances: which part of the picks a group has is printed by risk.
+CHAIN    main, test, testnet4, signet or regtest; main if it is left out. In place of
+         --net may be --magic and the 8 hexadecimal digits that its files begin with.
+FILE     --peers FILE and --asmap FILE are read in the place of peers.dat and asmap.dat.
+--core   takes the checksum of asmap.dat in peers.dat as Bitcoin Core 24 to 30 does.
+Codes    0 done, 2 bad usage, 4 peers.dat is refused, 5 asmap.dat is refused,
+         8 the output cannot be written, 9 the folder failed, 12 out of memory,
+         14 peers.dat is missing.
+",
+);
+
+pub(crate) const RISK: Page = (
+    "risk source|peer|network [--net CHAIN] [--core]",
+    "prints which part of the picks from peers.dat falls to each group, at most",
+    "\
+Reads    peers.dat; asmap.dat, if it is there.
+Writes   a line with the sizes of the tables, and one for each group, by picks: which
+         part of the picks, of those from the new table and of those from the tried
+         one returns its peers, in percent, rounded up.
+source   groups the records by the address that first announced the peer.
+peer     groups them by the peer's own address.
+network  groups them by the network of the peer's address.
 CHAIN    main, test, testnet4, signet or regtest; main if it is left out. In place of
          --net may be --magic and the 8 hexadecimal digits that its files begin with.
 FILE     --peers FILE and --asmap FILE are read in the place of peers.dat and asmap.dat.

@@ -7,7 +7,9 @@ use crate::Request;
 use crate::address::read_address;
 use crate::bans::{read_period, read_subnet};
 use crate::commands::{plain_word, read_command};
-use crate::file_kind::{read_file_kind, read_listing_kind, read_opening_kind, read_records};
+use crate::file_kind::{
+    read_file_kind, read_grouping_kind, read_listing_kind, read_opening_kind, read_records,
+};
 use crate::name::{CommandName, NAMES};
 use crate::options::{first_word, only_word};
 use ban_list::texts_have_one_meaning;
@@ -88,6 +90,10 @@ fn read_after(alloc: Global, name: CommandName, rest: &[String]) -> Option<Reque
         CommandName::Groups => Some(Request::Groups {
             kind: read_file_kind(rest)?,
         }),
+        CommandName::Risk => {
+            let (by, kind) = read_grouping_kind(rest)?;
+            Some(Request::Risk { by, kind })
+        }
         CommandName::Ban => {
             let (subnet, now, until) = read_period(rest)?;
             Some(Request::Ban { subnet, now, until })

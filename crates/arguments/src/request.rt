@@ -1,4 +1,4 @@
-use crate::{CommandName, FileKind};
+use crate::{CommandName, FileKind, Grouping};
 use ban_list::Subnet;
 use net_addr::{NetAddr, Peer};
 
@@ -67,6 +67,12 @@ pub enum Request {
     /// `groups --net CHAIN`: print how many slots, buckets and records of peers.dat, a file of this
     /// chain, each group has, as JSON.
     Groups {
+        kind: FileKind,
+    },
+    /// `risk source --net CHAIN`, `risk peer` and `risk network`: print which part of the picks from
+    /// the tables of peers.dat, a file of this chain, falls to each group, at most.
+    Risk {
+        by: Grouping,
         kind: FileKind,
     },
     /// `ban SUBNET NOW UNTIL`: drop the bans of banlist.json that are over, and ban the subnet

@@ -1,5 +1,5 @@
 /// The forms of the command line, one a command.
-static COMMANDS: [&str; 22] = [
+static COMMANDS: [&str; 23] = [
     "replay [--key HEX64] [--net CHAIN] [--core]",
     "opener [--key HEX64] [--net CHAIN] [--core]",
     "limit",
@@ -8,6 +8,7 @@ static COMMANDS: [&str; 22] = [
     "raw [--net CHAIN] [--core]",
     "info [--net CHAIN] [--core]",
     "groups [--net CHAIN] [--core]",
+    "risk source|peer|network [--net CHAIN] [--core]",
     "compile",
     "decompile",
     "diff [--peers [--net CHAIN] [--core]]",

@@ -1,7 +1,10 @@
-use crate::explain::{explain, unknown_keyword};
+use crate::explain::{expected_text, explain, unknown_keyword};
 use crate::forms::Reader;
 use crate::options::explain_options;
 use std::alloc::{AllocError, Global};
+
+/// What makes records one group in the form of `risk`.
+static GROUPINGS: [&str; 3] = ["source", "peer", "network"];
 
 /// Returns the arguments after `--peers` or `--no-key`, if they begin with it and the form has it.
 /// `--no-key` may come last, too.
@@ -18,6 +21,22 @@ fn is_flag(form: &str, word: &str) -> bool {
     (word == "--peers" || word == "--no-key") && form.contains(word)
 }
 
+/// Says which argument of `risk` is wrong: what makes records one group, or an option after it.
+/// `--core` stands before it.
+fn risk_hint(alloc: Global, form: &'static str, words: &[String]) -> Result<String, AllocError> {
+    let rest = match words {
+        [first, rest @ ..] if first.as_str() == "--core" => rest,
+        _ => words,
+    };
+    match rest {
+        [first, options @ ..] if GROUPINGS.contains(&first.as_str()) => {
+            explain_options(alloc, form, options)
+        }
+        [first, ..] => expected_text(alloc, "source, peer or network", first.as_bytes(), ""),
+        [] => format!(in alloc; "expected \"{form}\""),
+    }
+}
+
 /// An option that names a file to be read, and the commands that have it.
 struct FileOption {
     flag: &'static str,
@@ -28,11 +47,11 @@ struct FileOption {
 static FILE_OPTIONS: [FileOption; 3] = [
     FileOption {
         flag: "--peers",
-        commands: "show, picture, raw, info, groups and diff",
+        commands: "show, picture, raw, info, groups, risk and diff",
     },
     FileOption {
         flag: "--asmap",
-        commands: "picture, raw, info, groups, diff, check, lookup, decompile and address",
+        commands: "picture, raw, info, groups, risk, diff, check, lookup, decompile and address",
     },
     FileOption {
         flag: "--bans",
@@ -78,6 +97,9 @@ pub fn usage_hint(alloc: Global, words: &[String]) -> Result<String, AllocError>
                 command.as_str(),
                 option.commands
             );
+        }
+        if form.starts_with("risk ") {
+            return risk_hint(alloc, form, rest);
         }
         if form.contains("--") {
             return explain_options(alloc, form, after_flag(form, rest));

@@ -1,0 +1,62 @@
+-- What makes records one group, and the arguments after it.
+use Rattle.std.proofs.Common.{◌≡◌, ℕ, List, [], ◌∷◌, codes, drop, find, get_or, Option, Some, refl, sym, ap, subst, ◌∙◌, arith}
+use Rattle.std.specs.Prelude.{bytes_eq, unwrap_or}
+use Rattle.peers_file.specs.declared.chain.Chain.{Chain}
+use Rattle.placing.specs.declared.sum.SumRule.{SumRule}
+use Rattle.placing.specs.declared.sum.SumRule.TheVariants.{Bytes}
+use Rattle.arguments.specs.Options.{HasRule, IsAfterGrouping, IsFileOptions, IsNet, grouping_word}
+use Rattle.arguments.specs.declared.file_kind.FileKind.{FileKind}
+use Rattle.arguments.specs.declared.grouping.Grouping.{Grouping}
+use Rattle.arguments.specs.declared.grouping.Grouping.TheVariants.{Source, Peer, Network}
+use Rattle.arguments.specs.declared.grouping.TheConstants.{GROUPINGS}
+use Rattle.arguments.proofs.Choosing.{one_net}
+use Rattle.arguments.proofs.WithCore.{not_read, one_kind}
+
+-- the one that a word is found to be
+abbrev pub found_by : List ℕ → Option Grouping
+found_by word = find (λ k. bytes_eq (grouping_word k) word) GROUPINGS
+
+found_grouping : (by : Grouping) → found_by (grouping_word by) ≡ Some by
+found_grouping Source = refl
+found_grouping Peer = refl
+found_grouping Network = refl
+
+word_found : (word : List ℕ) (by : Grouping) → word ≡ grouping_word by → found_by word ≡ Some by
+word_found word by is = subst (λ w. found_by w ≡ Some by) (sym is) (found_grouping by)
+
+one_grouping : (a b : Grouping) → grouping_word a ≡ grouping_word b → a ≡ b
+one_grouping a b is = ap (λ o. unwrap_or o a) (sym (found_grouping a) ∙ word_found (grouping_word a) b is)
+
+-- WHAT IS READ
+
+-- the chain is read after the word
+pub only_after : (texts rest : List (List ℕ)) (word : List ℕ) (found : Option Grouping) (by : Grouping) (r : Option Chain) → texts ≡ word ∷ rest → found ≡ found_by word → found ≡ Some by
+    → ((chain : Chain) → IsNet rest chain → r ≡ Some chain) → (other : Grouping) (chain : Chain) → IsAfterGrouping other texts chain → (by ≡ other) × (r ≡ Some chain)
+only_after texts rest word found by r is searched some only other chain (left, begins, net) = (
+  ap (λ o. unwrap_or o by) (sym some ∙ searched ∙ word_found word other (ap (λ ts. get_or ts 0 []) (sym is ∙ begins))),
+  only chain (subst (λ ts. IsNet ts chain) (ap (drop 1) (sym begins ∙ is)) net),
+)
+
+-- `--core` BEFORE IT
+
+one_after : (texts : List (List ℕ)) (x y : Grouping) (a b : Chain) → IsAfterGrouping x texts a → IsAfterGrouping y texts b → (x ≡ y) × (a ≡ b)
+one_after texts x y a b (rest, is, net) (other, same, also) = (
+  one_grouping x y (ap (λ ts. get_or ts 0 []) (sym is ∙ same)),
+  one_net other a b (subst (λ ts. IsNet ts a) (ap (drop 1) (sym is ∙ same)) net) also,
+)
+
+-- no grouping begins as `--core` does
+no_dash : (by : Grouping) → grouping_word by ≡ codes "--core" → ⊥
+no_dash Source is = omega (arith, ap (λ t. get_or t 0 0) is)
+no_dash Peer is = omega (arith, ap (λ t. get_or t 0 0) is)
+no_dash Network is = omega (arith, ap (λ t. get_or t 0 0) is)
+
+apart_after : (by : Grouping) (texts rest : List (List ℕ)) (chain : Chain) → texts ≡ codes "--core" ∷ rest → IsAfterGrouping by texts chain → ⊥
+apart_after by texts rest chain is (left, begins, net) = no_dash by (ap (λ ts. get_or ts 0 []) (sym begins ∙ is))
+
+pub one_grouping_kind : (texts : List (List ℕ)) (x y : Grouping) (a b : FileKind) → IsFileOptions (IsAfterGrouping x) texts a → IsFileOptions (IsAfterGrouping y) texts b → (x ≡ y) × (a ≡ b)
+one_grouping_kind texts x y a b h k = one_kind IsAfterGrouping one_after apart_after texts x y a b h k
+
+pub no_grouping_kind : (words rest : List (List ℕ)) (r : SumRule) → HasRule r rest words → (r ≡ Bytes → (tail : List (List ℕ)) → words ≡ codes "--core" ∷ tail → ⊥)
+    → ((by : Grouping) (c : Chain) → IsAfterGrouping by rest c → ⊥) → (by : Grouping) (kind : FileKind) → IsFileOptions (IsAfterGrouping by) words kind → ⊥
+no_grouping_kind words rest r h none never by kind is = not_read IsAfterGrouping one_after apart_after words rest r h none never by kind is
