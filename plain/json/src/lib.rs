@@ -1,4 +1,8 @@
-//! Writing JSON with a line for each item and member, a token at a time.
+//! Writing JSON with a line for each item and member, a token at a time, and reading it as a tree.
+
+mod read;
+
+pub use read::{Error, Scratch, Value};
 
 use plain_std::alloc::{AllocError, Global};
 use plain_std::vec::Vec;

@@ -1,6 +1,6 @@
 //! Tests by many calls: the slots, the order of records and the tables beside plain lists, full
 //! containers, calls that run out of memory, tables of prefixes and their asmaps beside a walk over
-//! all rows, and the largest of them.
+//! all rows, the largest of them, and texts of records, printed and read.
 #![cfg(test)]
 
 mod entries;
@@ -16,6 +16,7 @@ mod lookups;
 mod orders;
 mod plain;
 mod random_tables;
+mod raw_texts;
 mod samples;
 mod table_texts;
 
@@ -120,4 +121,16 @@ fn one_row_more_is_too_many() {
 #[test]
 fn an_asmap_of_more_rows_than_a_table_has_does_not_come_back() {
     assert!(full_asmaps::more_rows_than_a_table_do_not_come_back(Global));
+}
+
+#[test]
+fn what_raw_prints_is_read_as_the_slots_and_records() {
+    for seed in 1..=12 {
+        assert!(raw_texts::is_read_back(Global, seed), "{seed}");
+    }
+}
+
+#[test]
+fn the_first_fault_of_a_text_is_named_with_its_place() {
+    assert_eq!(raw_texts::wrong_faults(Global), "");
 }
