@@ -2,3 +2,4 @@ pub mod SlotNames
 pub mod FieldLaws
 pub mod RowLaws
 pub mod RawLaws
+mod OneFault

@@ -25,12 +25,12 @@ one_line text a b (inl h) (inr k) = absurd (k.1 a h)
 one_line text a b (inr h) (inl k) = absurd (h.1 b k)
 one_line text a b (inr h) (inr k) = sym h.0 ∙ k.0
 
-one_json : (bytes : List ℕ) (i j : Json) → IsJson bytes i → IsJson bytes j → i ≡ j
+pub one_json : (bytes : List ℕ) (i j : Json) → IsJson bytes i → IsJson bytes j → i ≡ j
 one_json bytes i j h k =
     let line = one_line bytes h.line k.line h.without_end k.without_end in
     same_some i j (sym h.value ∙ ap document line ∙ k.value)
 
-one_tables : (i j : Json) (a b c d : List Member) → i ≡ j → HasTables i a b → HasTables j c d → (a ≡ c) × (b ≡ d)
+pub one_tables : (i j : Json) (a b c d : List Member) → i ≡ j → HasTables i a b → HasTables j c d → (a ≡ c) × (b ≡ d)
 one_tables i j a b c d same h k =
     let t = subst (λ v. HasTables v a b) same h in
     (same_some a c (sym t.of_new ∙ k.of_new), same_some b d (sym t.of_tried ∙ k.of_tried))

@@ -30,7 +30,7 @@ rows-more table from [] (r ∷ rows) m row h is after = absurd (omega (arith, ap
 rows-more table from (k ∷ ms) [] m row h is after = absurd h
 rows-more table from (k ∷ ms) (r ∷ rows) m row h is after = (h.0, h.1, rows-more table (number r + 1) ms rows m row h.2 is after)
 
-one_row : (table : RawTable) (m : Member) (a b : RawRow) → IsRow table m a → IsRow table m b → a ≡ b
+pub one_row : (table : RawTable) (m : Member) (a b : RawRow) → IsRow table m a → IsRow table m b → a ≡ b
 one_row table m a b h k =
     let slot = one_slot table m.0 _ _ _ _ h.slot k.slot in
     let rec = one_rec m.1 a.rec b.rec h.rec k.rec in
@@ -65,7 +65,7 @@ row-at table from (m ∷ ms) bad later (r ∷ rows) h =
     record { rows = r ∷ rest.rows; are = (h.0, h.1, rest.are); row = rest.row; is = rest.is; after = rest.after }
 
 -- a member with a row has no fault
-no_row_fault : (table : RawTable) (from count : ℕ) (m : Member) (row : RawRow) (fault : RawFault) → IsRow table m row → from ≤ number row → HasRowFault table from count m fault → ⊥
+pub no_row_fault : (table : RawTable) (from count : ℕ) (m : Member) (row : RawRow) (fault : RawFault) → IsRow table m row → from ≤ number row → HasRowFault table from count m fault → ⊥
 no_row_fault table from count m row (Slot at index) is after h = omega (arith, after, h.2 row.bucket row.position is.slot)
 no_row_fault table from count m row (Row at bucket position field) is after h = h.3.1 (has_fields m.1 row.rec field is.rec)
 no_row_fault table from count m row no_json is after h = h

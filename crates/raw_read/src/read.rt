@@ -5,6 +5,7 @@ ghost use Rattle.json.specs.Value.{members_view, value_view};
 ghost use Rattle.raw_read.specs.Inside.{member_view};
 ghost use Rattle.raw_read.specs.Raw.{HasRawFault, HasTables, IsJson, IsRaw, IsWithoutEnd};
 ghost use Rattle.raw_read.specs.Rows.{Member};
+ghost use Rattle.raw_read.specs.declared.fault.RawFault.{RawFault};
 ghost use Rattle.raw_read.specs.declared.fault.RawFault.TheVariants as faults;
 ghost use Rattle.raw_read.specs.declared.read.TheConstants.{MAX_TEXT};
 ghost use Rattle.raw_read.specs.declared.row.Raw.{Raw};
@@ -104,6 +105,8 @@ pub fn read_raw(alloc: Global, bytes: &[u8]) -> Result<Raw, RawFault>
     ensures only { (raw : Raw) → IsRaw bytes.now raw → result ≢ Err faults.Memory
         → result ≡ Ok raw }
     ensures cause { IfErr result (λ fault. fault ≢ faults.Memory → HasRawFault bytes.now fault) }
+    ensures exact { (fault : RawFault) → HasRawFault bytes.now fault → result ≢ Err faults.Memory
+        → result ≡ Err fault }
     ensures max_text { MAX_TEXT ≡ 67108864 }
 {
     read_tables(alloc, bytes)
