@@ -16,7 +16,8 @@ use crate::input::{Input, load_input};
 use crate::output::{save_then_write, write_line};
 use crate::{Learned, Memory, Status};
 use ban_list::{
-    Ban, BanFault, BanReply, Bans, Subnet, passed_over, put_subnet, read_bans, write_bans,
+    Ban, BanFault, BanReply, BanRule, Bans, Subnet, passed_over, put_subnet, read_bans,
+    write_bans,
 };
 use host_io::{Bytes, Folder, Name, Sink};
 use net_addr::{NetAddr, Peer, put_number};
@@ -37,7 +38,7 @@ fn read_list(alloc: Global, bytes: Bytes, learned: &mut Learned) -> Result<Bans,
 {
     match read_bans(alloc, bytes.items()) {
         Ok(bans) => {
-            learned.passed_over = passed_over(alloc, bytes.items()).unwrap_or(0);
+            learned.passed_over = passed_over(alloc, BanRule::Labels, bytes.items()).unwrap_or(0);
             Ok(bans)
         }
         Err(BanFault::Memory) => Err(Status::Memory),

@@ -7,70 +7,72 @@ use Rattle.serde_json.specs.Data.{Data, Items, no_items, item}
 use Rattle.serde_json.specs.Find.{get, as_array}
 use Rattle.serde_json.specs.View.{items_of}
 use Rattle.ban_list.specs.Bans.{put}
-use Rattle.ban_list.specs.BanFile.{IsElement, AreElements, merged, IsJson, HasElements, IsBanFile, HasNoForm, HasTooMany, HasBanFault}
-use Rattle.ban_list.specs.SubnetText.{IsSubnetText}
+use Rattle.ban_list.specs.BanFile.{IsElement, AreElements, merged, IsJson, HasElements, IsListFile, HasNoForm, HasTooMany, HasListFault}
+use Rattle.ban_list.specs.SubnetText.{IsSubnetTextBy}
 use Rattle.ban_list.specs.declared.ban.Ban.{Ban}
 use Rattle.ban_list.specs.declared.bans.TheConstants.{MAX_BANS}
 use Rattle.ban_list.specs.declared.fault.BanFault.{BanFault}
 use Rattle.ban_list.specs.declared.fault.BanFault.TheVariants.{Json, Form, TooMany, TooLarge, Memory}
-use Rattle.ban_list.proofs.Forms.{same_some, one_subnet}
+use Rattle.ban_list.specs.declared.rule.BanRule.{BanRule}
+use Rattle.ban_list.proofs.Forms.{same_some}
+use Rattle.ban_list.proofs.Named.{one_subnet_by}
 
 pub same_ban : (a b : Ban) → a.subnet ≡ b.subnet → a.created ≡ b.created → a.until ≡ b.until → a ≡ b
 same_ban a b e f g = λ i. record { subnet = e i; created = f i; until = g i }
 
 -- an element is that of one ban at most
-pub one_element : (d : Data) (a b : Ban) → IsElement d a → IsElement d b → a ≡ b
-one_element d a b h k =
+pub one_element : (rule : BanRule) (d : Data) (a b : Ban) → IsElement rule d a → IsElement rule d b → a ≡ b
+one_element rule d a b h k =
     let text = same_some h.address k.address (sym h.address_text ∙ k.address_text) in
-    same_ban a b (one_subnet k.address a.subnet b.subnet (subst (λ t. IsSubnetText t a.subnet) text h.subnet) k.subnet)
+    same_ban a b (one_subnet_by rule k.address a.subnet b.subnet (subst (λ t. IsSubnetTextBy rule t a.subnet) text h.subnet) k.subnet)
     (same_some a.created b.created (sym h.created ∙ k.created)) (same_some a.until b.until (sym h.until ∙ k.until))
 
 -- one element more, which is passed over or counts
-pub elements_pass : (ds : List Data) (bans : List Ban) (d : Data) → AreElements ds bans → ((ban : Ban) → IsElement d ban → ⊥) → AreElements (ds ++ d ∷ []) bans
+pub elements_pass : (rule : BanRule) (ds : List Data) (bans : List Ban) (d : Data) → AreElements rule ds bans → ((ban : Ban) → IsElement rule d ban → ⊥) → AreElements rule (ds ++ d ∷ []) bans
 unfolding AreElements
-elements_pass [] [] d h none = (none, refl)
-elements_pass [] (ban ∷ bans) d h none = cc
-elements_pass (e ∷ ds) [] d h none = (h.0, elements_pass ds [] d h.1 none)
-elements_pass (e ∷ ds) (ban ∷ bans) d (inl h) none = inl (h.0, elements_pass ds (ban ∷ bans) d h.1 none)
-elements_pass (e ∷ ds) (ban ∷ bans) d (inr h) none = inr (h.0, elements_pass ds bans d h.1 none)
+elements_pass rule [] [] d h none = (none, refl)
+elements_pass rule [] (ban ∷ bans) d h none = cc
+elements_pass rule (e ∷ ds) [] d h none = (h.0, elements_pass rule ds [] d h.1 none)
+elements_pass rule (e ∷ ds) (ban ∷ bans) d (inl h) none = inl (h.0, elements_pass rule ds (ban ∷ bans) d h.1 none)
+elements_pass rule (e ∷ ds) (ban ∷ bans) d (inr h) none = inr (h.0, elements_pass rule ds bans d h.1 none)
 
-pub elements_count : (ds : List Data) (bans : List Ban) (d : Data) (new : Ban) → AreElements ds bans → IsElement d new → AreElements (ds ++ d ∷ []) (bans ++ new ∷ [])
+pub elements_count : (rule : BanRule) (ds : List Data) (bans : List Ban) (d : Data) (new : Ban) → AreElements rule ds bans → IsElement rule d new → AreElements rule (ds ++ d ∷ []) (bans ++ new ∷ [])
 unfolding AreElements
-elements_count [] [] d new h is = inr (is, refl)
-elements_count [] (ban ∷ bans) d new h is = cc
-elements_count (e ∷ ds) [] d new h is = inl (h.0, elements_count ds [] d new h.1 is)
-elements_count (e ∷ ds) (ban ∷ bans) d new (inl h) is = inl (h.0, elements_count ds (ban ∷ bans) d new h.1 is)
-elements_count (e ∷ ds) (ban ∷ bans) d new (inr h) is = inr (h.0, elements_count ds bans d new h.1 is)
+elements_count rule [] [] d new h is = inr (is, refl)
+elements_count rule [] (ban ∷ bans) d new h is = cc
+elements_count rule (e ∷ ds) [] d new h is = inl (h.0, elements_count rule ds [] d new h.1 is)
+elements_count rule (e ∷ ds) (ban ∷ bans) d new (inl h) is = inl (h.0, elements_count rule ds (ban ∷ bans) d new h.1 is)
+elements_count rule (e ∷ ds) (ban ∷ bans) d new (inr h) is = inr (h.0, elements_count rule ds bans d new h.1 is)
 
 -- no more elements count than there are
-pub fewer : (ds : List Data) (bans : List Ban) → AreElements ds bans → length bans ≤ length ds
+pub fewer : (rule : BanRule) (ds : List Data) (bans : List Ban) → AreElements rule ds bans → length bans ≤ length ds
 unfolding AreElements
-fewer [] bans h = omega (arith, ap length h)
-fewer (d ∷ ds) [] h = omega arith
-fewer (d ∷ ds) (ban ∷ bans) (inl pass) = omega (arith, fewer ds (ban ∷ bans) pass.1)
-fewer (d ∷ ds) (ban ∷ bans) (inr is) = omega (arith, fewer ds bans is.1)
+fewer rule [] bans h = omega (arith, ap length h)
+fewer rule (d ∷ ds) [] h = omega arith
+fewer rule (d ∷ ds) (ban ∷ bans) (inl pass) = omega (arith, fewer rule ds (ban ∷ bans) pass.1)
+fewer rule (d ∷ ds) (ban ∷ bans) (inr is) = omega (arith, fewer rule ds bans is.1)
 
 taken : {V : Type 0} (f : V → Data) (i : ℕ) (es : List V) → length (map f (take i es)) ≤ length es
 taken f zero es = omega arith
 taken f (suc i) [] = omega arith
 taken f (suc i) (e ∷ es) = omega (arith, taken f i es)
 
-pub fewer_taken : {V : Type 0} (f : V → Data) (i : ℕ) (es : List V) (bans : List Ban) → AreElements (map f (take i es)) bans → length bans ≤ length es
-fewer_taken f i es bans h = omega (arith, fewer (map f (take i es)) bans h, taken f i es)
+pub fewer_taken : {V : Type 0} (rule : BanRule) (f : V → Data) (i : ℕ) (es : List V) (bans : List Ban) → AreElements rule (map f (take i es)) bans → length bans ≤ length es
+fewer_taken rule f i es bans h = omega (arith, fewer rule (map f (take i es)) bans h, taken f i es)
 
 -- the bans of the elements are known from these
-pub elements_one : (ds : List Data) (a b : List Ban) → AreElements ds a → AreElements ds b → a ≡ b
+pub elements_one : (rule : BanRule) (ds : List Data) (a b : List Ban) → AreElements rule ds a → AreElements rule ds b → a ≡ b
 unfolding AreElements
-elements_one [] a b h k = h ∙ sym k
-elements_one (d ∷ ds) [] [] h k = refl
-elements_one (d ∷ ds) [] (b ∷ bs) h (inl k) = elements_one ds [] (b ∷ bs) h.1 k.1
-elements_one (d ∷ ds) [] (b ∷ bs) h (inr k) = absurd (h.0 b k.0)
-elements_one (d ∷ ds) (a ∷ xs) [] (inl h) k = elements_one ds (a ∷ xs) [] h.1 k.1
-elements_one (d ∷ ds) (a ∷ xs) [] (inr h) k = absurd (k.0 a h.0)
-elements_one (d ∷ ds) (a ∷ xs) (b ∷ bs) (inl h) (inl k) = elements_one ds (a ∷ xs) (b ∷ bs) h.1 k.1
-elements_one (d ∷ ds) (a ∷ xs) (b ∷ bs) (inl h) (inr k) = absurd (h.0 b k.0)
-elements_one (d ∷ ds) (a ∷ xs) (b ∷ bs) (inr h) (inl k) = absurd (k.0 a h.0)
-elements_one (d ∷ ds) (a ∷ xs) (b ∷ bs) (inr h) (inr k) = λ i. one_element d a b h.0 k.0 i ∷ elements_one ds xs bs h.1 k.1 i
+elements_one rule [] a b h k = h ∙ sym k
+elements_one rule (d ∷ ds) [] [] h k = refl
+elements_one rule (d ∷ ds) [] (b ∷ bs) h (inl k) = elements_one rule ds [] (b ∷ bs) h.1 k.1
+elements_one rule (d ∷ ds) [] (b ∷ bs) h (inr k) = absurd (h.0 b k.0)
+elements_one rule (d ∷ ds) (a ∷ xs) [] (inl h) k = elements_one rule ds (a ∷ xs) [] h.1 k.1
+elements_one rule (d ∷ ds) (a ∷ xs) [] (inr h) k = absurd (k.0 a h.0)
+elements_one rule (d ∷ ds) (a ∷ xs) (b ∷ bs) (inl h) (inl k) = elements_one rule ds (a ∷ xs) (b ∷ bs) h.1 k.1
+elements_one rule (d ∷ ds) (a ∷ xs) (b ∷ bs) (inl h) (inr k) = absurd (h.0 b k.0)
+elements_one rule (d ∷ ds) (a ∷ xs) (b ∷ bs) (inr h) (inl k) = absurd (k.0 a h.0)
+elements_one rule (d ∷ ds) (a ∷ xs) (b ∷ bs) (inr h) (inr k) = λ i. one_element rule d a b h.0 k.0 i ∷ elements_one rule ds xs bs h.1 k.1 i
 
 abbrev pub list_of : Items → List Data
 list_of no_items = []
@@ -91,14 +93,14 @@ pub one_elements : (d e : Data) (ds es : List Data) → d ≡ e → HasElements 
 one_elements d e ds es same h k =
     one_items ds es (same_some (items_of ds) (items_of es) (sym h ∙ ap (λ x. option_and_then as_array (get (codes "banned_nets") x)) same ∙ k))
 
-pub one_counted : (bytes : List ℕ) (d e : Data) (ds es : List Data) (a b : List Ban) → IsJson bytes d → IsJson bytes e → HasElements d ds → HasElements e es → AreElements ds a → AreElements es b → a ≡ b
-one_counted bytes d e ds es a b h k hs ks ha kb =
+pub one_counted : (rule : BanRule) (bytes : List ℕ) (d e : Data) (ds es : List Data) (a b : List Ban) → IsJson bytes d → IsJson bytes e → HasElements d ds → HasElements e es → AreElements rule ds a → AreElements rule es b → a ≡ b
+one_counted rule bytes d e ds es a b h k hs ks ha kb =
     let same = one_elements d e ds es (one_value bytes d e h k) hs ks in
-    elements_one es a b (subst (λ xs. AreElements xs a) same ha) kb
+    elements_one rule es a b (subst (λ xs. AreElements rule xs a) same ha) kb
 
-pub one_file : (bytes : List ℕ) (a b : List Ban) → IsBanFile bytes a → IsBanFile bytes b → a ≡ b
-one_file bytes a b h k =
-    h.made ∙ ap merged (one_counted bytes h.value k.value h.elements k.elements h.counted k.counted h.json k.json h.form k.form h.are_counted k.are_counted) ∙ sym k.made
+pub one_file : (rule : BanRule) (bytes : List ℕ) (a b : List Ban) → IsListFile rule bytes a → IsListFile rule bytes b → a ≡ b
+one_file rule bytes a b h k =
+    h.made ∙ ap merged (one_counted rule bytes h.value k.value h.elements k.elements h.counted k.counted h.json k.json h.form k.form h.are_counted k.are_counted) ∙ sym k.made
 
 no_form_and_elements : (bytes : List ℕ) (d : Data) (ds : List Data) → HasNoForm bytes → IsJson bytes d → HasElements d ds → ⊥
 no_form_and_elements bytes d ds h k hs =
@@ -107,38 +109,38 @@ no_form_and_elements bytes d ds h k hs =
     cc
 
 -- a file of a list has no fault
-pub no_fault : (bytes : List ℕ) (bans : List Ban) (f : BanFault) → IsBanFile bytes bans → HasBanFault bytes f → ⊥
-no_fault bytes bans Json h k = k h.value h.json
-no_fault bytes bans Form h k = no_form_and_elements bytes h.value h.elements k h.json h.form
-no_fault bytes bans TooMany h k =
-    let same = one_counted bytes h.value k.value h.elements k.elements h.counted k.counted h.json k.json h.form k.form h.are_counted k.are_counted in
+pub no_fault : (rule : BanRule) (bytes : List ℕ) (bans : List Ban) (f : BanFault) → IsListFile rule bytes bans → HasListFault rule bytes f → ⊥
+no_fault rule bytes bans Json h k = k h.value h.json
+no_fault rule bytes bans Form h k = no_form_and_elements bytes h.value h.elements k h.json h.form
+no_fault rule bytes bans TooMany h k =
+    let same = one_counted rule bytes h.value k.value h.elements k.elements h.counted k.counted h.json k.json h.form k.form h.are_counted k.are_counted in
     omega (arith, h.few, k.many, ap length same)
-no_fault bytes bans (TooLarge size) h k = k
-no_fault bytes bans Memory h k = k
+no_fault rule bytes bans (TooLarge size) h k = k
+no_fault rule bytes bans Memory h k = k
 
 -- a file has one fault at most
-pub one_fault : (bytes : List ℕ) (f g : BanFault) → HasBanFault bytes f → HasBanFault bytes g → f ≡ g
-one_fault bytes Json Json h k = refl
-one_fault bytes Json Form h k = absurd (h k.value k.json)
-one_fault bytes Json TooMany h k = absurd (h k.value k.json)
-one_fault bytes Form Json h k = absurd (k h.value h.json)
-one_fault bytes Form Form h k = refl
-one_fault bytes Form TooMany h k = absurd (no_form_and_elements bytes k.value k.elements h k.json k.form)
-one_fault bytes TooMany Json h k = absurd (k h.value h.json)
-one_fault bytes TooMany Form h k = absurd (no_form_and_elements bytes h.value h.elements k h.json h.form)
-one_fault bytes TooMany TooMany h k = refl
-one_fault bytes (TooLarge size) g h k = absurd h
-one_fault bytes Memory g h k = absurd h
-one_fault bytes Json (TooLarge size) h k = absurd k
-one_fault bytes Form (TooLarge size) h k = absurd k
-one_fault bytes TooMany (TooLarge size) h k = absurd k
-one_fault bytes Json Memory h k = absurd k
-one_fault bytes Form Memory h k = absurd k
-one_fault bytes TooMany Memory h k = absurd k
+pub one_fault : (rule : BanRule) (bytes : List ℕ) (f g : BanFault) → HasListFault rule bytes f → HasListFault rule bytes g → f ≡ g
+one_fault rule bytes Json Json h k = refl
+one_fault rule bytes Json Form h k = absurd (h k.value k.json)
+one_fault rule bytes Json TooMany h k = absurd (h k.value k.json)
+one_fault rule bytes Form Json h k = absurd (k h.value h.json)
+one_fault rule bytes Form Form h k = refl
+one_fault rule bytes Form TooMany h k = absurd (no_form_and_elements bytes k.value k.elements h k.json k.form)
+one_fault rule bytes TooMany Json h k = absurd (k h.value h.json)
+one_fault rule bytes TooMany Form h k = absurd (no_form_and_elements bytes h.value h.elements k h.json h.form)
+one_fault rule bytes TooMany TooMany h k = refl
+one_fault rule bytes (TooLarge size) g h k = absurd h
+one_fault rule bytes Memory g h k = absurd h
+one_fault rule bytes Json (TooLarge size) h k = absurd k
+one_fault rule bytes Form (TooLarge size) h k = absurd k
+one_fault rule bytes TooMany (TooLarge size) h k = absurd k
+one_fault rule bytes Json Memory h k = absurd k
+one_fault rule bytes Form Memory h k = absurd k
+one_fault rule bytes TooMany Memory h k = absurd k
 
 -- what was read, by its parts
-pub file_of : (bytes : List ℕ) (value : Data) (elements : List Data) (counted bans : List Ban) → IsJson bytes value → HasElements value elements → AreElements elements counted → length counted ≤ MAX_BANS → bans ≡ merged counted → IsBanFile bytes bans
-file_of bytes value elements counted bans json form are few made = record {
+pub file_of : (rule : BanRule) (bytes : List ℕ) (value : Data) (elements : List Data) (counted bans : List Ban) → IsJson bytes value → HasElements value elements → AreElements rule elements counted → length counted ≤ MAX_BANS → bans ≡ merged counted → IsListFile rule bytes bans
+file_of rule bytes value elements counted bans json form are few made = record {
   value = value;
   json = json;
   elements = elements;
@@ -149,8 +151,8 @@ file_of bytes value elements counted bans json form are few made = record {
   made = made;
 }
 
-pub many_of : (bytes : List ℕ) (value : Data) (elements : List Data) (counted : List Ban) → IsJson bytes value → HasElements value elements → AreElements elements counted → MAX_BANS < length counted → HasTooMany bytes
-many_of bytes value elements counted json form are many = record {
+pub many_of : (rule : BanRule) (bytes : List ℕ) (value : Data) (elements : List Data) (counted : List Ban) → IsJson bytes value → HasElements value elements → AreElements rule elements counted → MAX_BANS < length counted → HasTooMany rule bytes
+many_of rule bytes value elements counted json form are many = record {
   value = value;
   json = json;
   elements = elements;
@@ -161,9 +163,9 @@ many_of bytes value elements counted json form are many = record {
 }
 
 -- no elements have no bans
-pub elements_none : (bans : List Ban) → bans ≡ [] → AreElements [] bans
+pub elements_none : (rule : BanRule) (bans : List Ban) → bans ≡ [] → AreElements rule [] bans
 unfolding AreElements
-elements_none bans e = e
+elements_none rule bans e = e
 
 pub map-append : {X Y : Type 0} (f : X → Y) (xs ys : List X) → map f (xs ++ ys) ≡ map f xs ++ map f ys
 map-append f [] ys = refl
@@ -173,11 +175,11 @@ pub next_elements : {X : Type 0} (f : X → Data) (xs : List X) (i : ℕ) (x : X
 next_elements f xs i x lt is =
     ap (map f) ((take_at_read xs i x lt).1 ∙ ap (λ y. take i xs ++ y ∷ []) (sym is)) ∙ map-append f (take i xs) (x ∷ [])
 
-pub read_pass : {X : Type 0} (f : X → Data) (xs : List X) (i : ℕ) (x : X) (bans : List Ban) → i < length xs → x ≡ get_or xs i x → AreElements (map f (take i xs)) bans → ((ban : Ban) → IsElement (f x) ban → ⊥) → AreElements (map f (take (i + 1) xs)) bans
-read_pass f xs i x bans lt is h none = subst (λ ds. AreElements ds bans) (sym (next_elements f xs i x lt is)) (elements_pass (map f (take i xs)) bans (f x) h none)
+pub read_pass : {X : Type 0} (rule : BanRule) (f : X → Data) (xs : List X) (i : ℕ) (x : X) (bans : List Ban) → i < length xs → x ≡ get_or xs i x → AreElements rule (map f (take i xs)) bans → ((ban : Ban) → IsElement rule (f x) ban → ⊥) → AreElements rule (map f (take (i + 1) xs)) bans
+read_pass rule f xs i x bans lt is h none = subst (λ ds. AreElements rule ds bans) (sym (next_elements f xs i x lt is)) (elements_pass rule (map f (take i xs)) bans (f x) h none)
 
-pub read_count : {X : Type 0} (f : X → Data) (xs : List X) (i : ℕ) (x : X) (bans : List Ban) (new : Ban) → i < length xs → x ≡ get_or xs i x → AreElements (map f (take i xs)) bans → IsElement (f x) new → AreElements (map f (take (i + 1) xs)) (bans ++ new ∷ [])
-read_count f xs i x bans new lt is h k = subst (λ ds. AreElements ds (bans ++ new ∷ [])) (sym (next_elements f xs i x lt is)) (elements_count (map f (take i xs)) bans (f x) new h k)
+pub read_count : {X : Type 0} (rule : BanRule) (f : X → Data) (xs : List X) (i : ℕ) (x : X) (bans : List Ban) (new : Ban) → i < length xs → x ≡ get_or xs i x → AreElements rule (map f (take i xs)) bans → IsElement rule (f x) new → AreElements rule (map f (take (i + 1) xs)) (bans ++ new ∷ [])
+read_count rule f xs i x bans new lt is h k = subst (λ ds. AreElements rule ds (bans ++ new ∷ [])) (sym (next_elements f xs i x lt is)) (elements_count rule (map f (take i xs)) bans (f x) new h k)
 
 -- one ban more of those that are left
 pub merged_step : (done : List Ban) (bans : List Ban) (i : ℕ) (ban : Ban) → i < length bans → ban ≡ get_or bans i ban → fold (λ list b. put b list) (put ban done) (drop (i + 1) bans) ≡ fold (λ list b. put b list) done (drop i bans)

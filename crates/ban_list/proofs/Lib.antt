@@ -8,4 +8,7 @@ pub mod Masks
 pub mod WriteLaws
 pub mod MeaningLaws
 pub mod Merging
+pub mod Named
+mod OneName
+pub mod NewLaws
 pub mod ProperTexts

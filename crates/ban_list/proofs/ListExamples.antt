@@ -6,8 +6,9 @@ use Rattle.net_addr.specs.Ranges.{in_range}
 use Rattle.net_addr.specs.Same.{same_address}
 use Rattle.net_addr.specs.declared.net.Net.TheVariants.{Ipv4}
 use Rattle.serde_json.specs.Data.{Data, object, member, no_members, number, unsigned, negative, boolean}
-use Rattle.ban_list.specs.Bans.{put, stops, after_ban, ban_of, Outcome}
+use Rattle.ban_list.specs.Bans.{put, stops, after_ban, ban_of, current_by, Outcome}
 use Rattle.ban_list.specs.BanFile.{merged, time_at}
+use Rattle.ban_list.specs.declared.rule.BanRule.TheVariants.{Labels, Names}
 use Rattle.ban_list.specs.declared.subnet.Subnet.{Subnet}
 use Rattle.ban_list.specs.declared.ban.Ban.{Ban}
 use Rattle.ban_list.specs.declared.bans.BanReply.{BanReply}
@@ -44,6 +45,13 @@ later_end = refl
 unlisted : after_ban (ban_of small 1500 1501) (ban_of large 0 3000 ∷ []) ≡ outcome Added (ban_of large 0 3000 ∷ ban_of small 1500 1501 ∷ [])
 unfolding same_address put
 unlisted = refl
+
+-- a ban that ends now is over, but not in a list by names
+dropped : current_by Labels 2000 (ban_of small 0 2000 ∷ ban_of large 0 2001 ∷ []) ≡ ban_of large 0 2001 ∷ []
+dropped = refl
+
+not_swept : current_by Names 2000 (ban_of small 0 2000 ∷ ban_of large 0 1999 ∷ []) ≡ ban_of small 0 2000 ∷ []
+not_swept = refl
 
 -- the first ban that covers 1.2.3.99 and is not over
 first_of_two : find (stops (address Ipv4 (1 ∷ 2 ∷ 3 ∷ 99 ∷ [])) 1999) (ban_of small 0 2000 ∷ ban_of large 0 3000 ∷ []) ≡ Some (ban_of small 0 2000)

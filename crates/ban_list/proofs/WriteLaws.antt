@@ -11,13 +11,14 @@ use Rattle.ban_list.specs.Bans.{put, AreBans}
 use Rattle.ban_list.specs.BanFile.{IsElement, AreElements, IsReadBack, IsBanFile, ban_data, file_data, max_time}
 use Rattle.ban_list.specs.SubnetText.{subnet_text}
 use Rattle.ban_list.specs.declared.ban.Ban.{Ban}
+use Rattle.ban_list.specs.declared.rule.BanRule.TheVariants.{Labels}
 use Rattle.ban_list.proofs.BanLaws.{Apart, pairs_head, pairs_tail}
 use Rattle.ban_list.proofs.FileLaws.{file_of}
 
 time_back : (n : ℕ) → n ≤ max_time → Some (min n max_time) ≡ Some n
 time_back n h = let e : min n max_time ≡ n = omega arith in ap Some e
 
-element_back : (ban : Ban) → IsReadBack ban → IsElement (ban_data ban) ban
+element_back : (ban : Ban) → IsReadBack ban → IsElement Labels (ban_data ban) ban
 element_back ban h = record {
   version = refl;
   address = subnet_text ban.subnet;
@@ -27,7 +28,7 @@ element_back ban h = record {
   until = time_back ban.until h.until;
 }
 
-elements_back : (bans : List Ban) → All IsReadBack bans → AreElements (map ban_data bans) bans
+elements_back : (bans : List Ban) → All IsReadBack bans → AreElements Labels (map ban_data bans) bans
 unfolding AreElements
 elements_back [] h = refl
 elements_back (ban ∷ bans) h = inr (element_back ban (All-head IsReadBack ban bans h), elements_back bans (All-tail IsReadBack ban bans h))
@@ -71,4 +72,4 @@ file_whole bans = rw (elements_whole bans) refl
 
 pub file_back : (bytes : List ℕ) (bans : List Ban) → AreBans bans → All IsReadBack bans → IsUtf8 bytes → read bytes ≡ Some (file_data bans) → IsBanFile bytes bans
 file_back bytes bans h back utf8 e =
-    file_of bytes (file_data bans) (map ban_data bans) bans bans (utf8, e) refl (elements_back bans back) h.few (sym (merged_onto [] bans h.distinct))
+    file_of Labels bytes (file_data bans) (map ban_data bans) bans bans (utf8, e) refl (elements_back bans back) h.few (sym (merged_onto [] bans h.distinct))

@@ -7,11 +7,13 @@ use Rattle.serde_json.specs.Read.{read}
 use Rattle.serde_json.specs.View.{items_of}
 use Rattle.serde_json.specs.Written.{compact_text}
 use Rattle.ban_list.specs.Bans.{put}
-use Rattle.ban_list.specs.SubnetText.{IsSubnetText, subnet_text}
+use Rattle.ban_list.specs.SubnetText.{IsSubnetText, IsSubnetTextBy, subnet_text, subnet_text_by}
 use Rattle.ban_list.specs.declared.ban.Ban.{Ban}
 use Rattle.ban_list.specs.declared.bans.TheConstants.{MAX_BANS}
 use Rattle.ban_list.specs.declared.fault.BanFault.{BanFault}
 use Rattle.ban_list.specs.declared.fault.BanFault.TheVariants.{Json, Form, TooMany, TooLarge, Memory}
+use Rattle.ban_list.specs.declared.rule.BanRule.{BanRule}
+use Rattle.ban_list.specs.declared.rule.BanRule.TheVariants.{Labels}
 
 -- the greatest time
 abbrev pub max_time : ℕ
@@ -31,22 +33,22 @@ number_at name d = option_and_then as_number (get name d)
 abbrev pub time_at : List ℕ → Data → Option ℕ
 time_at name d = option_and_then clamped (number_at name d)
 
--- an element that counts, and its ban. All other elements are passed over
-pub record IsElement (d : Data) (ban : Ban) : Type 0 where
+-- an element that counts by the rule of a list, and its ban. All other elements are passed over
+pub record IsElement (rule : BanRule) (d : Data) (ban : Ban) : Type 0 where
   pub version : option_and_then as_u64 (number_at (codes "version") d) ≡ Some 1
   pub address : List ℕ
   pub address_text : option_and_then as_str (get (codes "address") d) ≡ Some address
-  pub subnet : IsSubnetText address ban.subnet
+  pub subnet : IsSubnetTextBy rule address ban.subnet
   pub created : time_at (codes "ban_created") d ≡ Some ban.created
   pub until : time_at (codes "banned_until") d ≡ Some ban.until
 
 -- the bans of the elements that count, in their order
-unfoldable pub AreElements : List Data → List Ban → Type 0
-AreElements [] bans = bans ≡ []
-AreElements (d ∷ ds) [] = ((ban : Ban) → IsElement d ban → ⊥) × AreElements ds []
-AreElements (d ∷ ds) (ban ∷ bans) =
-    (((other : Ban) → IsElement d other → ⊥) × AreElements ds (ban ∷ bans))
-    ⊎ (IsElement d ban × AreElements ds bans)
+unfoldable pub AreElements : BanRule → List Data → List Ban → Type 0
+AreElements rule [] bans = bans ≡ []
+AreElements rule (d ∷ ds) [] = ((ban : Ban) → IsElement rule d ban → ⊥) × AreElements rule ds []
+AreElements rule (d ∷ ds) (ban ∷ bans) =
+    (((other : Ban) → IsElement rule d other → ⊥) × AreElements rule ds (ban ∷ bans))
+    ⊎ (IsElement rule d ban × AreElements rule ds bans)
 
 -- one ban for each subnet: a later one takes the place of an earlier one
 abbrev pub merged : List Ban → List Ban
@@ -60,25 +62,28 @@ IsJson bytes d = IsUtf8 bytes × (read bytes ≡ Some d)
 abbrev pub HasElements : Data → List Data → Type 0
 HasElements d ds = option_and_then as_array (get (codes "banned_nets") d) ≡ Some (items_of ds)
 
--- the file is that of the list
-pub record IsBanFile (bytes : List ℕ) (bans : List Ban) : Type 0 where
+-- the file is that of the list, by the rule
+pub record IsListFile (rule : BanRule) (bytes : List ℕ) (bans : List Ban) : Type 0 where
   pub value : Data
   pub json : IsJson bytes value
   pub elements : List Data
   pub form : HasElements value elements
   pub counted : List Ban
-  pub are_counted : AreElements elements counted
+  pub are_counted : AreElements rule elements counted
   pub few : length counted ≤ MAX_BANS
   pub made : bans ≡ merged counted
 
+abbrev pub IsBanFile : List ℕ → List Ban → Type 0
+IsBanFile bytes bans = IsListFile Labels bytes bans
+
 -- this many elements of the file do not count
-pub record PassesOver (bytes : List ℕ) (count : ℕ) : Type 0 where
+pub record PassesOver (rule : BanRule) (bytes : List ℕ) (count : ℕ) : Type 0 where
   pub value : Data
   pub json : IsJson bytes value
   pub elements : List Data
   pub form : HasElements value elements
   pub counted : List Ban
-  pub are_counted : AreElements elements counted
+  pub are_counted : AreElements rule elements counted
   pub rest : length counted + count ≡ length elements
 
 -- an object without such an array, or no object
@@ -88,39 +93,50 @@ pub record HasNoForm (bytes : List ℕ) : Type 0 where
   pub none : option_and_then as_array (get (codes "banned_nets") value) ≡ None
 
 -- more elements count than a list has
-pub record HasTooMany (bytes : List ℕ) : Type 0 where
+pub record HasTooMany (rule : BanRule) (bytes : List ℕ) : Type 0 where
   pub value : Data
   pub json : IsJson bytes value
   pub elements : List Data
   pub form : HasElements value elements
   pub counted : List Ban
-  pub are_counted : AreElements elements counted
+  pub are_counted : AreElements rule elements counted
   pub many : MAX_BANS < length counted
 
 -- the fault of a file
+abbrev pub HasListFault : BanRule → List ℕ → BanFault → Type 0
+HasListFault rule bytes Json = (d : Data) → IsJson bytes d → ⊥
+HasListFault rule bytes Form = HasNoForm bytes
+HasListFault rule bytes TooMany = HasTooMany rule bytes
+HasListFault rule bytes (TooLarge size) = ⊥
+HasListFault rule bytes Memory = ⊥
+
 abbrev pub HasBanFault : List ℕ → BanFault → Type 0
-HasBanFault bytes Json = (d : Data) → IsJson bytes d → ⊥
-HasBanFault bytes Form = HasNoForm bytes
-HasBanFault bytes TooMany = HasTooMany bytes
-HasBanFault bytes (TooLarge size) = ⊥
-HasBanFault bytes Memory = ⊥
+HasBanFault bytes fault = HasListFault Labels bytes fault
 
 -- The bytes are the file of one list or have one fault, and never both; that memory runs out is no
 -- fault of bytes. That they are neither is impossible; which of the two holds, `read_bans` says.
-pub record HasOneMeaning (bytes : List ℕ) : Type 0 where
-  pub some : ((bans : List Ban) → ¬ IsBanFile bytes bans)
-      → ((f : BanFault) → ¬ HasBanFault bytes f) → ⊥
-  pub one_list : (a b : List Ban) → IsBanFile bytes a → IsBanFile bytes b → a ≡ b
-  pub one_fault : (f g : BanFault) → HasBanFault bytes f → HasBanFault bytes g → f ≡ g
-  pub never_both : (a : List Ban) (f : BanFault) → IsBanFile bytes a → HasBanFault bytes f → ⊥
+pub record HasOneMeaning (rule : BanRule) (bytes : List ℕ) : Type 0 where
+  pub some : ((bans : List Ban) → ¬ IsListFile rule bytes bans)
+      → ((f : BanFault) → ¬ HasListFault rule bytes f) → ⊥
+  pub one_list : (a b : List Ban) → IsListFile rule bytes a → IsListFile rule bytes b → a ≡ b
+  pub one_fault : (f g : BanFault) → HasListFault rule bytes f → HasListFault rule bytes g → f ≡ g
+  pub never_both : (a : List Ban) (f : BanFault) → IsListFile rule bytes a →
+      HasListFault rule bytes f → ⊥
 
--- the element that is written for a ban
-abbrev pub ban_data : Ban → Data
-ban_data ban =
-    object (member (codes "address") (string (subnet_text ban.subnet))
+-- the element that is written for a ban with this text of its subnet
+abbrev pub ban_data_with : List ℕ → Ban → Data
+ban_data_with text ban =
+    object (member (codes "address") (string text)
     (member (codes "ban_created") (number (unsigned ban.created))
     (member (codes "banned_until") (number (unsigned ban.until))
     (member (codes "version") (number (unsigned 1)) no_members))))
+
+-- the element that is written for a ban by the rule of a list
+abbrev pub ban_data_by : BanRule → Ban → Data
+ban_data_by rule ban = ban_data_with (subnet_text_by rule ban.subnet) ban
+
+abbrev pub ban_data : Ban → Data
+ban_data ban = ban_data_by Labels ban
 
 abbrev pub file_data : List Ban → Data
 file_data bans =

@@ -5,6 +5,8 @@ use Rattle.net_addr.specs.Same.{same_address}
 use Rattle.ban_list.specs.Subnet.{IsProper, covers}
 use Rattle.ban_list.specs.declared.subnet.Subnet.{Subnet}
 use Rattle.ban_list.specs.declared.ban.Ban.{Ban}
+use Rattle.ban_list.specs.declared.rule.BanRule.{BanRule}
+use Rattle.ban_list.specs.declared.rule.BanRule.TheVariants.{Labels, Names}
 use Rattle.ban_list.specs.declared.bans.BanReply.{BanReply}
 use Rattle.ban_list.specs.declared.bans.BanReply.TheVariants.{Added, Kept, Full}
 use Rattle.ban_list.specs.declared.bans.TheConstants.{MAX_BANS}
@@ -34,9 +36,19 @@ ban_of subnet created until = record { subnet = subnet; created = created; until
 abbrev pub listed : Subnet → List Ban → Option Ban
 listed subnet bans = find (is_of subnet) bans
 
+-- the ban is not over: it is over at its end, or by Bitcoin Core's rule after it
+-- (`BanMan::SweepBanned` in banman.cpp)
+abbrev pub lasts : BanRule → ℕ → Ban → Bool
+lasts Labels now ban = nat_lt now ban.until
+lasts Names now ban = nat_le now ban.until
+
+-- the bans that are not over by a rule
+abbrev pub current_by : BanRule → ℕ → List Ban → List Ban
+current_by rule now bans = filter (lasts rule now) bans
+
 -- the bans that are not over
 abbrev pub current : ℕ → List Ban → List Ban
-current now bans = filter (λ ban. nat_lt now ban.until) bans
+current now bans = current_by Labels now bans
 
 -- the bans of other subnets
 abbrev pub without_ban : Subnet → List Ban → List Ban
@@ -65,6 +77,10 @@ outcome_by None new bans =
 abbrev pub reply_outcome : Ban → List Ban → Outcome
 reply_outcome new bans = outcome_by (listed new.subnet bans) new bans
 
+-- the bans that are over by a rule are dropped first
+abbrev pub after_ban_by : BanRule → Ban → List Ban → Outcome
+after_ban_by rule new bans = reply_outcome new (current_by rule new.created bans)
+
 -- the bans that are over are dropped first
 abbrev pub after_ban : Ban → List Ban → Outcome
-after_ban new bans = reply_outcome new (current new.created bans)
+after_ban new bans = after_ban_by Labels new bans

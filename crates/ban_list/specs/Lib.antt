@@ -2,4 +2,5 @@ pub mod Subnet
 pub mod SubnetText
 pub mod Bans
 pub mod BanFile
+pub mod NewFile
 pub mod FaultTexts

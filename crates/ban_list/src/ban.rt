@@ -1,4 +1,4 @@
-use crate::Subnet;
+use crate::{BanRule, Subnet};
 use net_addr::NetAddr;
 
 /// A subnet that is banned for a time, in seconds since 1970 (`CBanEntry` in net_types.h of Bitcoin
@@ -14,7 +14,7 @@ pub struct Ban {
 
 impl Ban {
     ghost use Rattle.std.specs.Prelude.{◌≡◌, nat_le};
-    ghost use Rattle.ban_list.specs.Bans.{is_of, stops};
+    ghost use Rattle.ban_list.specs.Bans.{is_of, lasts, stops};
 
     /// Returns `true` if the ban is of the subnet.
     pub(crate) fn is_of(&self, subnet: &Subnet) -> bool
@@ -28,6 +28,17 @@ impl Ban {
         ensures { result ≡ nat_le until self.now.until }
     {
         until <= self.until
+    }
+
+    /// Returns `true` if the ban is not over at a time, by a rule: it is over at its end, or after
+    /// it (`BanMan::SweepBanned` in banman.cpp of Bitcoin Core).
+    pub fn lasts(&self, rule: BanRule, now: u32) -> bool
+        ensures { result ≡ lasts rule now self.now }
+    {
+        match rule {
+            BanRule::Labels => now < self.until,
+            BanRule::Names => now <= self.until,
+        }
     }
 
     /// Returns `true` if the ban covers the address and is not over.

@@ -3,7 +3,7 @@ ghost use Rattle.ban_list.specs.Bans.{stops};
 
 use crate::edits::{drop_over, drop_subnet, index_of, put_longer};
 use crate::merge::merge;
-use crate::{Ban, Memory, Subnet};
+use crate::{Ban, BanRule, Memory, Subnet};
 use net_addr::NetAddr;
 use std::alloc::Global;
 use std::marker::Model;
@@ -44,7 +44,7 @@ impl Bans {
     ghost use Rattle.std.specs.Prelude.{◌≡◌, [], IfOk, IfSome, OnOk, OnErr, option_map, find, is_some, All, length, ◌≤◌};
     ghost use Rattle.ban_list.specs.BanFile.{merged};
     ghost use Rattle.ban_list.specs.Subnet.{IsProper};
-    ghost use Rattle.ban_list.specs.Bans.{AreBans, after_ban, ban_of, listed, without_ban, stops};
+    ghost use Rattle.ban_list.specs.Bans.{AreBans, after_ban, after_ban_by, ban_of, listed, without_ban, stops};
     ghost use Rattle.ban_list.specs.declared.bans.TheConstants.{MAX_BANS};
 
     /// Makes an empty list.
@@ -89,8 +89,26 @@ impl Bans {
         ensures err { OnErr result (self.new ≡ self.old) }
         ensures max_bans { MAX_BANS ≡ 100000 }
     {
+        self.ban_by(BanRule::Labels, subnet, now, until)
+    }
+
+    /// Does what `ban` does, where the bans that are over by a rule are dropped.
+    pub fn ban_by(
+        &mut self,
+        rule: BanRule,
+        subnet: Subnet,
+        now: u32,
+        until: u32,
+    ) -> Result<BanReply, Memory>
+        requires { IsProper subnet }
+        ensures reply { IfOk result (λ reply.
+            reply ≡ (after_ban_by rule (ban_of subnet now until) self.old).reply) }
+        ensures bans { OnOk result (self.new
+            ≡ (after_ban_by rule (ban_of subnet now until) self.old).bans) }
+        ensures err { OnErr result (self.new ≡ self.old) }
+    {
         self.bans.reserve(1)?;
-        drop_over(&mut self.bans, now);
+        drop_over(&mut self.bans, rule, now);
         let ban = Ban {
             subnet,
             created: now,

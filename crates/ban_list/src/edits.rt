@@ -1,19 +1,19 @@
 ghost use Rattle.std.specs.Prelude.{◌≡◌, ◌<◌, ◌≤◌, length, Some, None, IfSome, IfNone, is_some, slice_index_or};
 ghost use Rattle.std.specs.List.{position_or_len};
 ghost use Rattle.std.specs.Vec.{vec_len, vec_capacity};
-ghost use Rattle.ban_list.specs.Bans.{reply_outcome, current, without_ban, is_of, listed};
+ghost use Rattle.ban_list.specs.Bans.{reply_outcome, current_by, without_ban, is_of, listed};
 ghost use Rattle.ban_list.specs.declared.ban.Ban.{Ban};
 ghost use Rattle.ban_list.specs.declared.bans.TheConstants.{MAX_BANS};
 
-use crate::{Ban, BanReply, MAX_BANS, Subnet};
+use crate::{Ban, BanReply, BanRule, MAX_BANS, Subnet};
 
-/// Drops the bans that are over.
-pub(crate) fn drop_over(bans: &mut Vec<Ban>, now: u32)
-    ensures items { bans.new.items ≡ current now bans.old.items }
+/// Drops the bans that are over by a rule.
+pub(crate) fn drop_over(bans: &mut Vec<Ban>, rule: BanRule, now: u32)
+    ensures items { bans.new.items ≡ current_by rule now bans.old.items }
     ensures len { vec_len bans.new ≤ vec_len bans.old }
     ensures capacity { vec_capacity bans.new ≡ vec_capacity bans.old }
 {
-    bans.retain(|ban| now < ban.until);
+    bans.retain(|ban| ban.lasts(rule, now));
 }
 
 /// Drops the bans of a subnet.

@@ -5,21 +5,21 @@ ghost use Rattle.ban_list.specs.Subnet.{IsProper};
 ghost use Rattle.ban_list.specs.BanFile.{IsElement, time_at, number_at, clamped, max_time};
 ghost use Rattle.ban_list.specs.declared.ban.Ban.{Ban};
 
-use crate::{Ban, parse_subnet};
+use crate::{Ban, BanRule, parse_subnet_by};
 use serde_json::Value;
 
-/// Returns the ban of an element, or `None` if the element does not count.
-pub(crate) fn element_of(value: &Value) -> Option<Ban>
-    ensures found { IfSome result (IsElement (view value.now)) }
+/// Returns the ban of an element, or `None` if the element does not count by the rule of the list.
+pub(crate) fn element_of(rule: BanRule, value: &Value) -> Option<Ban>
+    ensures found { IfSome result (IsElement rule (view value.now)) }
     ensures proper { IfSome result (λ ban. IsProper ban.subnet) }
-    ensures only { (ban : Ban) → IsElement (view value.now) ban → result ≡ Some ban }
+    ensures only { (ban : Ban) → IsElement rule (view value.now) ban → result ≡ Some ban }
 {
     if !is_version_one(value) {
         return None;
     }
     let text = address_of(value)?;
     Some(Ban {
-        subnet: parse_subnet(text.as_bytes())?,
+        subnet: parse_subnet_by(rule, text.as_bytes())?,
         created: created_of(value)?,
         until: until_of(value)?,
     })

@@ -6,12 +6,17 @@
 //! a file, and that what is written reads as the list. Bytes are the file of one list or have one
 //! fault, never both, and they cannot be neither (`files_have_one_meaning`).
 //!
+//! By the rule `Names` a list is read and written as Bitcoin Core does: addresses of Tor v3, I2P and
+//! CJDNS have names, and what else the file has stays in it (`write_bans_by`). That such a file reads
+//! as the list is not proved.
+//!
 //! Seen in the code only: reading takes one look-up for each element, and `covering` looks at each
 //! ban.
 #![tactic(auto)]
 
 mod ban;
 mod bans;
+mod by_name;
 mod edits;
 mod element;
 mod fault;
@@ -21,16 +26,21 @@ mod merge;
 mod print;
 mod read;
 mod read_file;
+mod rule;
 mod subnet;
+mod write_by_name;
 mod write_file;
 
 pub use ban::Ban;
 pub use bans::{BanReply, Bans, MAX_BANS};
+pub use by_name::{parse_subnet_by, put_subnet_by, subnet_name};
 pub use fault::BanFault;
 pub use law::{files_have_one_meaning, texts_have_one_meaning};
 pub use net_addr::Memory;
 pub use print::put_subnet;
 pub use read::parse_subnet;
-pub use read_file::{MAX_FILE, passed_over, read_bans};
+pub use read_file::{MAX_FILE, passed_over, read_bans, read_bans_by};
+pub use rule::BanRule;
 pub use subnet::Subnet;
+pub use write_by_name::write_bans_by;
 pub use write_file::write_bans;

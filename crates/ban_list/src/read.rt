@@ -1,9 +1,9 @@
-ghost use Rattle.std.specs.Prelude.{◌≡◌, ◌≢◌, ◌≤◌, Some, None, IfSome, length, true, false};
+ghost use Rattle.std.specs.Prelude.{◌≡◌, ◌≢◌, ◌≤◌, Some, None, IfSome, IfNone, length, true, false};
 ghost use Rattle.net_addr.specs.Address.{Address, IsAddress};
 ghost use Rattle.net_addr.specs.declared.net.Net.{Net};
 ghost use Rattle.net_addr.specs.declared.net.Net.TheVariants.{Ipv6};
 ghost use Rattle.ban_list.specs.Subnet.{IsProper, IsMasked, IsWhole, width};
-ghost use Rattle.ban_list.specs.SubnetText.{IsIpText, IsMaskedFrom, IsSubnetText, IsWholeSubnet};
+ghost use Rattle.ban_list.specs.SubnetText.{IsIpText, IsMaskedFrom, IsSubnetText, IsWholeOf, IsWholeSubnet};
 ghost use Rattle.ban_list.specs.declared.subnet.Subnet.{Subnet};
 
 use crate::Subnet;
@@ -40,7 +40,16 @@ fn parse_whole(text: &[u8]) -> Option<Subnet>
     ensures proper { IfSome result IsProper }
     ensures only { (s : Subnet) → IsWholeSubnet text.now s → result ≡ Some s }
 {
-    let addr = parse_addr(text)?;
+    whole_of(parse_addr(text)?)
+}
+
+/// Returns the subnet of an address that is banned whole, or `None` if its network has subnets.
+pub(crate) fn whole_of(addr: NetAddr) -> Option<Subnet>
+    requires { IsAddress addr }
+    ensures found { IfSome result (IsWholeOf addr) }
+    ensures proper { IfSome result IsProper }
+    ensures none { IfNone result (IsWhole addr.net → ⊥) }
+{
     if !is_whole(addr.net()) {
         return None;
     }
@@ -91,7 +100,7 @@ fn is_ipv6(net: Net) -> bool
 }
 
 /// Returns `true` for the networks whose addresses are banned whole.
-fn is_whole(net: Net) -> bool
+pub(crate) fn is_whole(net: Net) -> bool
     ensures yes { result ≡ true → IsWhole net }
     ensures no { result ≡ false → IsWhole net → ⊥ }
 {

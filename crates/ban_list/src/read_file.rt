@@ -1,9 +1,10 @@
 ghost use Rattle.std.specs.Prelude.{◌≡◌, ◌⊎◌, List, ◌≤◌, ◌<◌, true, false, codes, map, length, All, IfOk, IfErr, IfSome, IsErrAnd, MatchResult, option_and_then, option_map};
-ghost use Rattle.serde_json.specs.Data.{Data};
+ghost use Rattle.serde_json.specs.Data.{Data, depth};
 ghost use Rattle.serde_json.specs.Find.{get, as_array};
+ghost use Rattle.serde_json.specs.Read.{max_depth};
 ghost use Rattle.serde_json.specs.View.{view, items_view};
 ghost use Rattle.ban_list.specs.Subnet.{IsProper};
-ghost use Rattle.ban_list.specs.BanFile.{AreElements, HasBanFault, IsBanFile, IsJson, PassesOver};
+ghost use Rattle.ban_list.specs.BanFile.{AreElements, HasBanFault, HasListFault, IsBanFile, IsJson, IsListFile, PassesOver};
 ghost use Rattle.ban_list.specs.declared.ban.Ban.{Ban};
 ghost use Rattle.ban_list.specs.declared.fault.BanFault.{BanFault};
 ghost use Rattle.ban_list.specs.declared.fault.BanFault.TheVariants as faults;
@@ -11,7 +12,7 @@ ghost use Rattle.ban_list.specs.declared.bans.TheConstants.{MAX_BANS};
 ghost use Rattle.ban_list.specs.declared.read_file.TheConstants.{MAX_FILE};
 
 use crate::element::element_of;
-use crate::{Ban, BanFault, Bans, MAX_BANS};
+use crate::{Ban, BanFault, BanRule, Bans, MAX_BANS};
 use serde_json::Value;
 use std::alloc::{AllocError, Global};
 
@@ -32,6 +33,19 @@ pub fn read_bans(alloc: Global, bytes: &[u8]) -> Result<Bans, BanFault>
         → IsErrAnd result (λ fault. (fault ≡ faults.Memory) ⊎ (fault ≡ first)) }
     ensures max_file { MAX_FILE ≡ 33554432 }
 {
+    read_bans_by(alloc, BanRule::Labels, bytes)
+}
+
+/// Does what `read_bans` does, where the rule of the list says which elements count.
+pub fn read_bans_by(alloc: Global, rule: BanRule, bytes: &[u8]) -> Result<Bans, BanFault>
+    ensures found { IfOk result (IsListFile rule bytes.now) }
+    ensures cause { IfErr result (λ fault.
+        (fault ≡ faults.Memory) ⊎ HasListFault rule bytes.now fault) }
+    ensures only { (bans : List Ban) → IsListFile rule bytes.now bans
+        → MatchResult result (λ read. read ≡ bans) (λ fault. fault ≡ faults.Memory) }
+    ensures exact { (first : BanFault) → HasListFault rule bytes.now first
+        → IsErrAnd result (λ fault. (fault ≡ faults.Memory) ⊎ (fault ≡ first)) }
+{
     let value = match parse(alloc, bytes) {
         Ok(value) => value,
         Err(fault) => return Err(fault),
@@ -39,7 +53,7 @@ pub fn read_bans(alloc: Global, bytes: &[u8]) -> Result<Bans, BanFault>
     let Some(elements) = elements_of(&value) else {
         return Err(BanFault::Form);
     };
-    let counted = counted_of(alloc, elements)?;
+    let counted = counted_of(alloc, rule, elements)?;
     if is_too_many(counted.len()) {
         return Err(BanFault::TooMany);
     }
@@ -48,8 +62,8 @@ pub fn read_bans(alloc: Global, bytes: &[u8]) -> Result<Bans, BanFault>
 
 /// Returns how many elements of a file of bans do not count, and so are passed over. `None` if the
 /// file has no list of elements, or if memory runs out.
-pub fn passed_over(alloc: Global, bytes: &[u8]) -> Option<usize>
-    ensures { IfSome result (PassesOver bytes.now) }
+pub fn passed_over(alloc: Global, rule: BanRule, bytes: &[u8]) -> Option<usize>
+    ensures { IfSome result (PassesOver rule bytes.now) }
 {
     let value = match parse(alloc, bytes) {
         Ok(value) => value,
@@ -58,15 +72,16 @@ pub fn passed_over(alloc: Global, bytes: &[u8]) -> Option<usize>
     let Some(elements) = elements_of(&value) else {
         return None;
     };
-    match counted_of(alloc, elements) {
+    match counted_of(alloc, rule, elements) {
         Ok(counted) => Some(elements.len() - counted.len()),
         Err(_) => None,
     }
 }
 
 /// Parses a JSON text.
-fn parse(alloc: Global, bytes: &[u8]) -> Result<Value, BanFault>
+pub(crate) fn parse(alloc: Global, bytes: &[u8]) -> Result<Value, BanFault>
     ensures ok { IfOk result (λ value. IsJson bytes.now (view value)) }
+    ensures shallow { IfOk result (λ value. depth (view value) ≤ max_depth) }
     ensures err { IfErr result (λ fault. (fault ≡ faults.Memory)
         ⊎ ((fault ≡ faults.Json) × ((d : Data) → IsJson bytes.now d → ⊥))) }
 {
@@ -83,7 +98,7 @@ fn parse(alloc: Global, bytes: &[u8]) -> Result<Value, BanFault>
 }
 
 /// Returns the elements of the array under `banned_nets`, if there is one.
-fn elements_of(value: &Value) -> Option<&[Value]>
+pub(crate) fn elements_of(value: &Value) -> Option<&[Value]>
     ensures { option_map (λ items. items_view items.now) result
         ≡ option_and_then as_array (get (codes "banned_nets") (view value.now)) }
 {
@@ -92,14 +107,14 @@ fn elements_of(value: &Value) -> Option<&[Value]>
 }
 
 /// Returns the bans of the elements that count, in their order.
-fn counted_of(alloc: Global, elements: &[Value]) -> Result<Vec<Ban>, AllocError>
-    ensures counted { IfOk result (λ bans. AreElements (map view elements.now) bans.items) }
+fn counted_of(alloc: Global, rule: BanRule, elements: &[Value]) -> Result<Vec<Ban>, AllocError>
+    ensures counted { IfOk result (λ bans. AreElements rule (map view elements.now) bans.items) }
     ensures proper { IfOk result (λ bans. All (λ ban. IsProper ban.subnet) bans.items) }
     ensures few { IfOk result (λ bans. length bans.items ≤ length elements.now) }
 {
     let mut counted = Vec::with_capacity(alloc, elements.len().min(MAX_BANS))?;
     for element in elements {
-        if let Some(ban) = element_of(element) {
+        if let Some(ban) = element_of(rule, element) {
             counted.push(ban)?;
         }
     }

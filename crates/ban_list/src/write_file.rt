@@ -1,9 +1,9 @@
-ghost use Rattle.std.specs.Prelude.{◌≡◌, ◌<◌, All, IfOk, map, codes, string_bytes, IsUtf8};
+ghost use Rattle.std.specs.Prelude.{◌≡◌, ◌<◌, ◌≤◌, All, IfOk, map, codes, string_bytes, IsUtf8};
 ghost use Rattle.serde_json.specs.Data.{object, member, array, no_members};
 ghost use Rattle.serde_json.specs.View.{view, items_view};
 ghost use Rattle.ban_list.specs.Subnet.{IsProper};
 ghost use Rattle.ban_list.specs.SubnetText.{IsSubnetText, subnet_text};
-ghost use Rattle.ban_list.specs.BanFile.{IsBanFile, IsReadBack, ban_data, bans_text};
+ghost use Rattle.ban_list.specs.BanFile.{IsBanFile, IsReadBack, ban_data, ban_data_with, bans_text, max_time};
 
 use crate::{Ban, Bans, Memory, Subnet, put_subnet};
 use host_io::Bytes;
@@ -22,7 +22,7 @@ pub fn write_bans(alloc: Global, bans: &Bans) -> Result<Bytes, Memory>
 }
 
 /// Returns the bytes of a text.
-fn bytes_of(text: String) -> Bytes
+pub(crate) fn bytes_of(text: String) -> Bytes
     ensures value { result ≡ string_bytes text }
     ensures utf8 { IsUtf8 result }
 {
@@ -61,9 +61,18 @@ fn element_of(ban: &Ban, alloc: Global) -> Result<Value, Memory>
     ensures value { IfOk result (λ value. view value ≡ ban_data ban.now) }
     ensures reads_back { IfOk result (λ _. IsReadBack ban.now) }
 {
+    let address = text_of(&ban.subnet, alloc)?;
+    element_with(alloc, address, ban)
+}
+
+/// Returns the element of a ban with this text of its subnet.
+pub(crate) fn element_with(alloc: Global, address: String, ban: &Ban) -> Result<Value, Memory>
+    ensures value { IfOk result (λ value. view value
+        ≡ ban_data_with (string_bytes address) ban.now) }
+    ensures times { (ban.now.created ≤ max_time) × (ban.now.until ≤ max_time) }
+{
     let created = ban.created;
     let until = ban.until;
-    let address = text_of(&ban.subnet, alloc)?;
     Ok(json!(in alloc; {
         "address": address,
         "ban_created": created,

@@ -7,6 +7,7 @@ mod read;
 mod tokens;
 
 use plain_std::alloc::{AllocError, Global};
+use plain_std::ext::TryClone;
 use plain_std::string::String;
 use plain_std::vec::Vec;
 
@@ -39,7 +40,7 @@ pub enum Number {
 }
 
 /// The members of an object, by name, in the order of the names.
-pub struct Map(Vec<(String, Value)>);
+pub struct Map<K = String, V = Value>(Vec<(K, V)>);
 
 /// Why there is no value.
 #[derive(Clone, Copy, Debug, PartialEq, Eq)]
@@ -133,6 +134,25 @@ impl Map {
             .binary_search_by(|member| member.0.as_str().cmp(name))
             .ok()?;
         Some(&self.0[at].1)
+    }
+}
+
+impl TryClone for Value {
+    fn try_clone(&self) -> Result<Value, AllocError> {
+        match self {
+            Value::Null => Ok(Value::Null),
+            Value::Bool(truth) => Ok(Value::Bool(*truth)),
+            Value::Number(number) => Ok(Value::Number(*number)),
+            Value::String(text) => Ok(Value::String(text.try_clone()?)),
+            Value::Array(items) => Ok(Value::Array(items.try_clone()?)),
+            Value::Object(members) => {
+                let mut copy = Map(Vec::with_capacity(Global, members.0.len())?);
+                for (name, value) in &members.0 {
+                    copy.0.push((name.try_clone()?, value.try_clone()?))?;
+                }
+                Ok(Value::Object(copy))
+            }
+        }
     }
 }
 

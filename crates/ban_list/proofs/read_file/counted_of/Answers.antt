@@ -16,7 +16,7 @@ none_is ban e = cc
 
 pub loop-element-init : goal.loop-element-init
 loop-element-init c = record {
-  counted = elements_none _ c.in_ok-counted.ensures.items;
+  counted = elements_none c.args.rule _ c.in_ok-counted.ensures.items;
   proper = subst (All HasProper) (sym c.in_ok-counted.ensures.items) (All-nil HasProper);
 }
 
@@ -31,16 +31,16 @@ loop-element-preserved c =
           let ban = w.in-Some.ban in
           let items : c.match-element_of.counted.items ≡ done ++ ban ∷ [] = ap (λ v. v.items) w.counted-is ∙ w.in_ok-push.ensures.items in
           record {
-            counted = subst (AreElements (map view (take (i + 1) es))) (sym items) (read_count view es i e done ban c.loop-element-test.true c.element-item.is c.loop-element.invariant.counted w.in-Some.ensures.found);
+            counted = subst (AreElements c.args.rule (map view (take (i + 1) es))) (sym items) (read_count c.args.rule view es i e done ban c.loop-element-test.true c.element-item.is c.loop-element.invariant.counted w.in-Some.ensures.found);
             proper = subst (All HasProper) (sym items) (All-append HasProper done (ban ∷ []) c.loop-element.invariant.proper (All-cons HasProper ban [] w.in-Some.ensures.proper (All-nil HasProper)));
           }
       | in_default w ↦
           let items : c.match-element_of.counted.items ≡ done = ap (λ v. v.items) w.counted-is in
           record {
-            counted = subst (AreElements (map view (take (i + 1) es))) (sym items) (read_pass view es i e done c.loop-element-test.true c.element-item.is c.loop-element.invariant.counted (λ ban is. none_is ban (w.in_default.ensures.only ban is)));
+            counted = subst (AreElements c.args.rule (map view (take (i + 1) es))) (sym items) (read_pass c.args.rule view es i e done c.loop-element-test.true c.element-item.is c.loop-element.invariant.counted (λ ban is. none_is ban (w.in_default.ensures.only ban is)));
             proper = subst (All HasProper) (sym items) c.loop-element.invariant.proper;
           }
     ]
 
 pub returns-clause-few : goal.returns-clause-few
-returns-clause-few c = fewer_taken view _ c.args.elements.now c.loop-element.counted.items c.loop-element.invariant.counted
+returns-clause-few c = fewer_taken c.args.rule view _ c.args.elements.now c.loop-element.counted.items c.loop-element.invariant.counted

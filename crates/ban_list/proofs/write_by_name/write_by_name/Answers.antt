@@ -1,0 +1,27 @@
+use Rattle.std.proofs.Common.{◌≤◌, ◌++◌, Some, codes, map, sym, ap, ◌∙◌, subst}
+use Rattle.std.specs.List.Sorted.{IsPermutation}
+use Rattle.serde_json.specs.Data.{array, depth, object, put}
+use Rattle.serde_json.specs.Read.{max_depth, read}
+use Rattle.serde_json.specs.View.{items_of, members_view, view}
+use Rattle.ban_list.specs.BanFile.{ban_data_by}
+use Rattle.ban_list.specs.declared.rule.BanRule.TheVariants.{Names}
+use Rattle.ban_list.proofs.NewLaws.{file_depth}
+use Rattle.ban_list.proofs.write_by_name.write_by_name.Goals as goal
+
+pub returns : goal.returns
+returns c =
+    let rest = c.in_ok-rest.rest in
+    let members = members_view rest.members.entries in
+    let others = map view rest.others.items in
+    let list = c.in_ok-list.list.items in
+    let value = c.in_ok-file.ensures ∙ ap (λ bans. object (put (codes "banned_nets") (array (items_of (map (ban_data_by Names) bans ++ others))) members)) c.as_slice.ensures.value in
+    let shallow = subst (λ d. depth d ≤ max_depth) (sym value) (file_depth Names c.args.old.now list members others c.in_ok-rest.ensures.rest c.in_ok-rest.ensures.shallow) in
+    record {
+      members = members;
+      others = others;
+      rest = c.in_ok-rest.ensures.rest;
+      sorted = list;
+      same = subst (λ bans. IsPermutation bans list) c.bans.ensures.value c.in_ok-list.ensures.same;
+      order = c.in_ok-list.ensures.order;
+      json = (c.bytes_of.ensures.utf8, ap read c.bytes_of.ensures.value ∙ c.in_ok-text.ensures.reads_back shallow ∙ ap Some value);
+    }
