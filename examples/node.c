@@ -12,7 +12,7 @@
  *
  * OWN is the node's address and port, as 8.8.4.4:18401. The node then listens at that port of
  * 127.0.0.1, and reaches each other peer at its port there. It connects to PEER if that is given,
- * and else to peers of its tables, and ends by SIGTERM, or after ten seconds.
+ * and else to peers of its tables, and ends by SIGTERM, or when nothing came for ten seconds.
  */
 #include "addrman.h"
 #include "loopback.h"
@@ -341,6 +341,7 @@ static void serve(int listener)
             waits[1 + i] = (struct pollfd){ connections[i].link.socket, POLLIN, 0 };
         fflush(stdout);
         if (poll(waits, 1 + MAX_CONNECTIONS, 100) <= 0) continue;
+        alarm(10);
         for (int i = 0; i < MAX_CONNECTIONS; i++)
             if (waits[1 + i].revents && !receive(&connections[i])) drop(&connections[i]);
         if (waits[0].revents) {
@@ -366,7 +367,6 @@ int main(int argc, char **argv)
         own = peer_of(argv[2]);
         signal(SIGTERM, end);
         signal(SIGALRM, end);
-        alarm(10);
         listener = listen_at(own.port);
         if (listener < 0) stop("listen", errno);
         printf("listens\n");
@@ -377,7 +377,10 @@ int main(int argc, char **argv)
     } else {
         connect_all(argc == 3);
     }
-    if (argc > 2) serve(listener);
+    if (argc > 2) {
+        alarm(10);
+        serve(listener);
+    }
     save(argv[1]);
     if (addrman_size(&am, &counts)) stop("size", 0);
     printf("%u peers in the new table, %u in the tried table\n", counts.new_count,
