@@ -1,11 +1,11 @@
 -- The groups of the sources in order: each is there once, and none after it has more slots.
-use Rattle.std.proofs.Common.{◌≡◌, ℕ, zero, suc, ◌+◌, ◌<◌, ◌≤◌, ◌==◌, ◌||◌, not, Bool, true, false, cond, List, [], ◌∷◌, length, map, take, drop, refl, sym, ap, ◌∙◌, arith}
+use Rattle.std.proofs.Common.{◌≡◌, ℕ, zero, suc, ◌+◌, ◌<◌, ◌≤◌, ◌==◌, ◌||◌, not, Bool, true, false, cond, List, [], ◌∷◌, length, map, take, drop, refl, ap, ◌∙◌, arith}
 use Rattle.std.specs.Prelude.{bytes_eq, nat_lt}
 use Rattle.std.specs.Cmp.Lexicographic.{slice_cmp}
 use Rattle.std.specs.List.{AllByRecursion, count_by, list_any}
 use Rattle.std.specs.Ordering.{is_lt, nat_cmp, ordering_then}
 use Rattle.std.specs.declared.cmp.Ordering.TheVariants.{Less, Equal, Greater}
-use Rattle.std.proofs.lemmas.Bool.{both_ways, eq-eqb, eqb-true, ltb-false}
+use Rattle.std.proofs.lemmas.Bool.{both_ways, ltb-false}
 use Rattle.std.proofs.lemmas.List.{length-map, length-take, take-map}
 use Rattle.std.proofs.lemmas.List.Sums.{sum_by-take-le}
 use Rattle.table_groups.specs.Order.{comes_before, in_order}
@@ -20,15 +20,6 @@ use Rattle.table_groups.proofs.Visits.{count-cons, count-map, one_if}
 use Rattle.table_machine.specs.State.{State}
 use Rattle.table_picture.specs.Picture.{listed_of}
 use Rattle.picture_laws.specs.Slots.{listed_groups}
-
-pub eqb-flip : (a b : ℕ) → (a == b) ≡ (b == a)
-eqb-flip a b = by (a == b) refl (b == a) refl
-  where
-    by : (s : Bool) → (a == b) ≡ s → (t : Bool) → (b == a) ≡ t → s ≡ t
-    by true e true f = refl
-    by false e false f = refl
-    by true e false f = absurd (both_ways (b == a) f (eq-eqb b a (sym (eqb-true a b e))))
-    by false e true f = absurd (both_ways (a == b) e (eq-eqb a b (sym (eqb-true b a f))))
 
 pub map-map : {A B C : Type 0} (f : B → C) (g : A → B) (xs : List A) → map f (map g xs) ≡ map (λ x. f (g x)) xs
 map-map f g [] = refl

@@ -1,5 +1,4 @@
-ghost use Rattle.std.specs.Prelude.{◌≡◌, ◌≢◌, ◌<◌, ℕ, true, List, All, Some, codes};
-ghost use Rattle.net_addr.specs.Address.{Address, IsAddress};
+ghost use Rattle.std.specs.Prelude.{◌≡◌, ◌<◌, ℕ, true, List, All, Some, codes};
 ghost use Rattle.peer_rec.specs.declared.rec.Rec.{Rec};
 ghost use Rattle.picture_laws.specs.Counts.{CountsSlots, CountsWide, IsBehind};
 ghost use Rattle.picture_laws.specs.Dots.{DrawsSlots};
@@ -8,10 +7,9 @@ ghost use Rattle.table_groups.specs.Slots.{all_slots, is_of};
 ghost use Rattle.table_groups.specs.declared.sources.Source.{Source};
 ghost use Rattle.picture_text.specs.Markup.{IsPlain, IsTree};
 ghost use Rattle.picture_text.specs.Picture.{picture_text};
-ghost use Rattle.placing.specs.Places.{Places, group};
+ghost use Rattle.placing.specs.Places.{group};
 ghost use Rattle.table_machine.specs.Sound.{IsSound};
 ghost use Rattle.table_machine.specs.State.{State};
-ghost use Rattle.table_picture.specs.Keys.{group_key};
 ghost use Rattle.table_picture.specs.Picture.{picture_of};
 
 use dot_runs::one_dot;
@@ -26,14 +24,6 @@ pub fn picture_is_a_tree()
 /// So the picture of the tables is always the text of such a tree.
 pub fn pictures_are_trees()
     ensures { (st : State) → IsSound st → IsTree (codes "svg") (picture_of st) }
-{}
-
-/// Addresses of different groups have different keys, none of which is that of a free slot.
-pub fn keys_tell_groups()
-    ensures one { (places : Places) (a b : Address) → IsAddress a → IsAddress b →
-        group_key (group places a) ≡ group_key (group places b) → group places a ≡ group places b }
-    ensures some { (places : Places) (a : Address) → IsAddress a →
-        group_key (group places a) ≢ 0 }
 {}
 
 /// The numbers of the list and of the titles count slots and buckets of the tables by the groups of

@@ -1,10 +1,8 @@
 //! The picture of the tables: the mark of each slot's group, and the names of the groups.
 #![tactic(auto)]
 
-mod keys;
 mod marks;
 mod picture;
 
-pub use keys::group_key;
 pub use picture::put_picture;
 pub use picture_text::Memory;

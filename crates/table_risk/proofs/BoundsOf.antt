@@ -24,7 +24,7 @@ use Rattle.table_machine.specs.Picks.{candidates, candidates_of, candidates_of_e
 use Rattle.table_machine.specs.Sound.{IsSound}
 use Rattle.table_machine.specs.State.{State}
 use Rattle.table_machine.proofs.Lists.{All-from_Contains}
-use Rattle.table_risk.specs.Keys.{key_by}
+use Rattle.table_risk.specs.Grouping.{is_in}
 use Rattle.table_risk.specs.Rows.{AreOfGroup, millionths, search, share_in, wanted_in}
 use Rattle.table_risk.specs.Shares.{group_kinds, share_of}
 use Rattle.table_risk.specs.declared.by.By.{By}
@@ -80,25 +80,25 @@ rounded a w b whole some low few =
 
 -- ---- the set of a group's peers has its kinds
 
-module _ (st : State) (by : By) (now key : ℕ) (theirs : Peer → Bool) (are : AreOfGroup st by key theirs) where
-  starts_same : (in_new : Bool) (c : ℕ) → starts_for st in_new all now (λ r. theirs r.peer) c ≡ starts_for st in_new all now (λ r. key_by by st.places r == key) c
+module _ (st : State) (by : By) (now : ℕ) (g : List ℕ) (theirs : Peer → Bool) (are : AreOfGroup st by g theirs) where
+  starts_same : (in_new : Bool) (c : ℕ) → starts_for st in_new all now (λ r. theirs r.peer) c ≡ starts_for st in_new all now (λ r. is_in by st.places g r) c
   starts_same in_new c =
       sum_filter (leading_starts st in_new all) (λ r. theirs r.peer && is_wanted all r && chance r now == c) st.records
       ∙ sum_agree (λ r. cond (theirs r.peer && is_wanted all r && chance r now == c) (leading_starts st in_new all r) 0)
-      (λ r. cond (key_by by st.places r == key && is_wanted all r && chance r now == c) (leading_starts st in_new all r) 0) st.records
+      (λ r. cond (is_in by st.places g r && is_wanted all r && chance r now == c) (leading_starts st in_new all r) 0) st.records
       (All-from_Contains (λ r. cond (theirs r.peer && is_wanted all r && chance r now == c) (leading_starts st in_new all r) 0
-      ≡ cond (key_by by st.places r == key && is_wanted all r && chance r now == c) (leading_starts st in_new all r) 0) st.records
+      ≡ cond (is_in by st.places g r && is_wanted all r && chance r now == c) (leading_starts st in_new all r) 0) st.records
       (λ r has. ap (λ b. cond (b && is_wanted all r && chance r now == c) (leading_starts st in_new all r) 0) (are r has)))
-      ∙ sym (sum_filter (leading_starts st in_new all) (λ r. key_by by st.places r == key && is_wanted all r && chance r now == c) st.records)
+      ∙ sym (sum_filter (leading_starts st in_new all) (λ r. is_in by st.places g r && is_wanted all r && chance r now == c) st.records)
 
-  kinds_same : (in_new : Bool) → kinds_of st in_new all now (λ r. theirs r.peer) ≡ group_kinds st (search in_new by now) key
+  kinds_same : (in_new : Bool) → kinds_of st in_new all now (λ r. theirs r.peer) ≡ group_kinds st (search in_new by now) g
   kinds_same in_new = λ i. map (λ c. record {
     chance = c;
     all = starts_for st in_new all now (λ r. true) c;
     theirs = starts_same in_new c i;
   }) chances
 
-  bound_same : (in_new : Bool) → bound_of st in_new all now theirs (2 ^ 64) 48 ≡ share_of st (search in_new by now) key
+  bound_same : (in_new : Bool) → bound_of st in_new all now theirs (2 ^ 64) 48 ≡ share_of st (search in_new by now) g
   unfolding share_of
   bound_same in_new = λ i. most_by (kinds_same in_new i) (starts_of (kinds_same in_new i) * 2 ^ 30) (2 ^ 64) 48 first_factor
 
@@ -150,23 +150,23 @@ pub kinds_there : (st : State) (in_new : Bool) (now : ℕ) (test : Rec → Bool)
 kinds_there st true now test sound some = kinds_new st all now test sound some
 kinds_there st false now test sound some = kinds_tried st all now test sound some
 
-searched : (st : State) (by : By) (in_new : Bool) (now key n : ℕ) (theirs : Peer → Bool) → IsSound st → AreOfGroup st by key theirs → 0 < wanted_in st in_new
-    → searching_lists st in_new all now theirs first_factor n * 2 ^ 64 ≤ word_lists n * min (share_of st (search in_new by now) key) (2 ^ 64)
-searched st by in_new now key n theirs sound are some =
+searched : (st : State) (by : By) (in_new : Bool) (now : ℕ) (g : List ℕ) (n : ℕ) (theirs : Peer → Bool) → IsSound st → AreOfGroup st by g theirs → 0 < wanted_in st in_new
+    → searching_lists st in_new all now theirs first_factor n * 2 ^ 64 ≤ word_lists n * min (share_of st (search in_new by now) g) (2 ^ 64)
+searched st by in_new now g n theirs sound are some =
     let test : Rec → Bool = λ r. theirs r.peer in
     let busy = starts_of (kinds_of st in_new all now test) * 2 ^ 30 in
-    below_min (searching_lists st in_new all now theirs first_factor n) (word_lists n) (share_of st (search in_new by now) key) (2 ^ 64) (searches_low st in_new all now first_factor n theirs)
+    below_min (searching_lists st in_new all now theirs first_factor n) (word_lists n) (share_of st (search in_new by now) g) (2 ^ 64) (searches_low st in_new all now first_factor n theirs)
     (subst (λ k. searching_lists st in_new all now theirs first_factor n * 2 ^ 64 ≤ word_lists n * k)
-    (by_bound st in_new all now busy (2 ^ 64) 48 first_factor test sound ∙ bound_same st by now key theirs are in_new)
+    (by_bound st in_new all now busy (2 ^ 64) 48 first_factor test sound ∙ bound_same st by now g theirs are in_new)
     (by_search st in_new all now (2 ^ 64) busy 48 n first_factor theirs sound (some_rounds _ (kinds_there st in_new now test sound some).some)
     (by_whole st in_new all now test sound)))
 
-module _ (st : State) (by : By) (now key : ℕ) (theirs : Peer → Bool) (sound : IsSound st) (are : AreOfGroup st by key theirs) where
+module _ (st : State) (by : By) (now : ℕ) (g : List ℕ) (theirs : Peer → Bool) (sound : IsSound st) (are : AreOfGroup st by g theirs) where
   abbrev new_share : ℕ
-  new_share = min (share_of st (search true by now) key) (2 ^ 64)
+  new_share = min (share_of st (search true by now) g) (2 ^ 64)
 
   abbrev tried_share : ℕ
-  tried_share = min (share_of st (search false by now) key) (2 ^ 64)
+  tried_share = min (share_of st (search false by now) g) (2 ^ 64)
 
   abbrev picked : Bool → ℕ → ℕ
   picked new_only n = selecting_lists st new_only all now theirs n
@@ -176,11 +176,11 @@ module _ (st : State) (by : By) (now key : ℕ) (theirs : Peer → Bool) (sound 
   IsSearch new_only in_new = (words : List ℕ) → select st new_only all words now ≡ first_accepted now first_factor (candidates st in_new all words)
 
   by_one : (new_only in_new : Bool) (n : ℕ) → IsSearch new_only in_new → 0 < wanted_in st in_new
-      → picked new_only n * 2 ^ 64 ≤ (2 ^ 64) ^ n * min (share_of st (search in_new by now) key) (2 ^ 64)
+      → picked new_only n * 2 ^ 64 ≤ (2 ^ 64) ^ n * min (share_of st (search in_new by now) g) (2 ^ 64)
   by_one new_only in_new n is some =
-      subst (λ k. k * 2 ^ 64 ≤ (2 ^ 64) ^ n * min (share_of st (search in_new by now) key) (2 ^ 64)) (sym (λ i. sum_words (2 ^ 64) n (λ ws. one_if (is_theirs theirs (is ws i)))))
-      (subst (λ k. searching_lists st in_new all now theirs first_factor n * 2 ^ 64 ≤ k * min (share_of st (search in_new by now) key) (2 ^ 64)) (all_lists_are n)
-      (searched st by in_new now key n theirs sound are some))
+      subst (λ k. k * 2 ^ 64 ≤ (2 ^ 64) ^ n * min (share_of st (search in_new by now) g) (2 ^ 64)) (sym (λ i. sum_words (2 ^ 64) n (λ ws. one_if (is_theirs theirs (is ws i)))))
+      (subst (λ k. searching_lists st in_new all now theirs first_factor n * 2 ^ 64 ≤ k * min (share_of st (search in_new by now) g) (2 ^ 64)) (all_lists_are n)
+      (searched st by in_new now g n theirs sound are some))
 
   is_new : (new_only : Bool) → (wanted_new st all == 0) ≡ false → (new_only || wanted_tried st all == 0) ≡ true → IsSearch new_only true
   is_new new_only one two words i =
@@ -208,10 +208,10 @@ module _ (st : State) (by : By) (now key : ℕ) (theirs : Peer → Bool) (sound 
       subst (λ k. picked false (suc n) * (2 * 2 ^ 64) ≤ k * (new_share + tried_share)) (all_lists_are (suc n))
       (halves (2 ^ 63) (searching_lists st true all now theirs first_factor n) (searching_lists st false all now theirs first_factor n) (2 ^ 64) (word_lists n) new_share tried_share (word_lists (suc n)) (2 ^ 64) (picked false (suc n))
       (by_either_lists st all now n theirs has also) (one_more_word (2 ^ 64) n) refl
-      (searched st by true now key n theirs sound are has) (searched st by false now key n theirs sound are also))
+      (searched st by true now g n theirs sound are has) (searched st by false now g n theirs sound are also))
 
   pub by_picks : (n : ℕ) → picked false n * 10 ^ 6
-      ≤ (2 ^ 64) ^ n * millionths (share_in st (search true by now) key + share_in st (search false by now) key) (if wanted_new st all == 0 || wanted_tried st all == 0 then 2 ^ 64 else 2 ^ 65)
+      ≤ (2 ^ 64) ^ n * millionths (share_in st (search true by now) g + share_in st (search false by now) g) (if wanted_new st all == 0 || wanted_tried st all == 0 then 2 ^ 64 else 2 ^ 65)
   by_picks n = cases (wanted_new st all == 0) refl (wanted_tried st all == 0) refl
     where
       low : picked false n ≤ (2 ^ 64) ^ n
@@ -233,7 +233,7 @@ module _ (st : State) (by : By) (now key : ℕ) (theirs : Peer → Bool) (sound 
           rounded (picked false n) ((2 ^ 64) ^ n) (new_share + tried_share) (2 ^ 65) (omega arith) low
           (doubled (picked false n) ((2 ^ 64) ^ n * (new_share + tried_share)) (by_two n (not_none (wanted_new st all) one) (not_none (wanted_tried st all) two)))
 
-  pub by_new : (n : ℕ) → picked true n * 10 ^ 6 ≤ (2 ^ 64) ^ n * millionths (share_in st (search true by now) key) (2 ^ 64)
+  pub by_new : (n : ℕ) → picked true n * 10 ^ 6 ≤ (2 ^ 64) ^ n * millionths (share_in st (search true by now) g) (2 ^ 64)
   by_new n = cases (wanted_new st all == 0) refl
     where
       cases : (a : Bool) → (wanted_new st all == 0) ≡ a → picked true n * 10 ^ 6 ≤ (2 ^ 64) ^ n * millionths (if a then 0 else new_share) (2 ^ 64)

@@ -1,4 +1,3 @@
-pub mod FromEnd
 pub mod MaskGaps
 pub mod KindsOf
 pub mod BoundsOf

@@ -1,135 +1,143 @@
 -- The sides of both tables give the rows.
-use Rattle.std.proofs.Common.{◌≡◌, ℕ, zero, suc, ◌+◌, ◌*◌, ◌^◌, ◌≤◌, ◌<◌, min, Bool, true, false, ◌||◌, ◌==◌, List, [], ◌∷◌, ◌++◌, All, get_or, length, map, refl, sym, ap, subst, ◌∙◌, arith, if◌then◌else◌}
-use Rattle.std.specs.List.{flat_map, position_or_len, range_with_len}
-use Rattle.std.proofs.lemmas.List.Elements.{All-get_or, All-map, All-weaker}
-use Rattle.std.proofs.lemmas.List.{append-nil, map-id}
-use Rattle.std.proofs.lemmas.List.Concat.{flat_map-append}
-use Rattle.std.proofs.lemmas.List.FromFn.{map-range_with_len_more}
-use Rattle.net_addr.specs.Address.{net_number}
+use Rattle.std.proofs.Common.{◌≡◌, ℕ, suc, ◌+◌, ◌*◌, ◌^◌, ◌≤◌, ◌<◌, min, Bool, true, false, cond, not, ◌||◌, ◌==◌, List, [], ◌∷◌, ◌++◌, fold, get_or, length, map, take, refl, sym, ap, subst, ◌∙◌, arith, if◌then◌else◌}
+use Rattle.std.specs.Prelude.{bytes_eq}
+use Rattle.std.specs.List.{position_or_len}
+use Rattle.std.proofs.lemmas.List.{length-take, take_more}
+use Rattle.std.proofs.lemmas.List.Sums.{fold-append}
+use Rattle.arrayvec.specs.ArrayVec.{ArrayVec}
 use Rattle.net_addr.specs.NetSet.{all}
-use Rattle.peer_rec.specs.Rec.{IsRec, network}
 use Rattle.peer_rec.specs.declared.rec.Rec.{Rec}
-use Rattle.picture_laws.proofs.Groups.{group-is, key-some}
-use Rattle.placing.specs.Places.{group}
+use Rattle.placing.specs.Places.{Places}
 use Rattle.risk_laws.specs.Classes.{chances}
 use Rattle.risk_sum.specs.Kinds.{AreKinds, most_by, starts_of}
+use Rattle.table_groups.proofs.Values.{after_visit, groups-are, values-are}
+use Rattle.table_groups.specs.Tally.{by_bytes, groups_of, noted, once, tally_of, value_in}
 use Rattle.table_machine.specs.Picks.{first_factor, wanted_new, wanted_tried}
 use Rattle.table_machine.specs.Sound.{IsSound}
 use Rattle.table_machine.specs.State.{State}
-use Rattle.table_risk.specs.Keys.{key_by}
-use Rattle.table_risk.specs.Inside.{AreFirsts, Counts, FitsSide, Sides, class_by, classes_share, first_at, kind_in, row_in, side_by, side_share}
-use Rattle.table_risk.specs.Rows.{keys_of, millionths, row_at, row_by, rows_at, rows_of, search, share_in, wanted_in}
+use Rattle.table_risk.specs.Grouping.{group_by, is_in}
+use Rattle.table_risk.specs.Inside.{Counts, FitsSide, Sides, class_by, classes_share, firsts_by, index_visits, kind_in, lower, row_in, side_by, side_share}
+use Rattle.table_risk.specs.Rows.{first_in, millionths, row_by, rows_of, search, share_in, wanted_in}
 use Rattle.table_risk.specs.Shares.{share_of}
 use Rattle.table_risk.specs.declared.by.By.{By}
-use Rattle.table_risk.specs.declared.by.By.TheVariants.{Source, Peer, Network}
 use Rattle.table_risk.specs.declared.classes.Search.{Search}
 use Rattle.table_risk.specs.declared.rows.Row.{Row}
 use Rattle.table_risk.proofs.BoundsOf.{kinds_there, not_none}
 use Rattle.table_risk.proofs.KindsOf.{kinds_are}
 
--- no record has the key 0
-some_key : (st : State) (by : By) (r : Rec) → IsRec r → key_by by st.places r ≡ 0 → ⊥
-some_key st Source r is = key-some (group st.places r.source) (group-is st.places r.source is.source)
-some_key st Peer r is = key-some (group st.places r.peer.addr) (group-is st.places r.peer.addr is.addr)
-some_key st Network r is = after (net_number (network r))
-  where
-    after : (n : ℕ) → n + 1 ≡ 0 → ⊥
-    after n e = omega (arith, e)
-
-keys_some : (st : State) (by : By) → IsSound st → All (λ k. (k ≡ 0 → ⊥)) (keys_of st.places by st.records)
-keys_some st by sound =
-    All-map (λ k. (k ≡ 0 → ⊥)) (key_by by st.places) st.records
-    (All-weaker IsRec (λ r. (key_by by st.places r ≡ 0 → ⊥)) (some_key st by) st.records sound.records)
-
-fits : (st : State) (what : Search) (key : ℕ) → IsSound st → (key ≡ 0 → ⊥) → FitsSide (side_by st what) key
-fits st what key sound some = record {
+fits : (st : State) (what : Search) (g : List ℕ) → IsSound st → FitsSide (side_by st what) g
+fits st what g sound = record {
   few = let is : length (map (class_by st what) chances) ≡ 18 = refl in omega (arith, is);
-  kinds = λ there. subst AreKinds (sym (kinds_are st what key some))
-      (kinds_there st what.in_new what.now (λ r. key_by what.by st.places r == key) sound (not_none (wanted_in st what.in_new) there));
+  kinds = λ there. subst AreKinds (sym (kinds_are st what g))
+      (kinds_there st what.in_new what.now (is_in what.by st.places g) sound (not_none (wanted_in st what.in_new) there));
 }
 
-pub all_fit : (st : State) (by : By) (what : Search) → IsSound st → (keys : List ℕ) → keys ≡ keys_of st.places by st.records
-    → (side : Sides) → side ≡ side_by st what → All (FitsSide side) keys
-all_fit st by what sound keys are side is =
-    subst (λ s. All (FitsSide s) keys) (sym is)
-    (subst (All (FitsSide (side_by st what))) (sym are)
-    (All-weaker (λ k. (k ≡ 0 → ⊥)) (FitsSide (side_by st what)) (λ k some. fits st what k sound some) (keys_of st.places by st.records) (keys_some st by sound)))
+pub all_fit : (st : State) (what : Search) → IsSound st → (side : Sides) → side ≡ side_by st what → (g : List ℕ) → FitsSide side g
+all_fit st what sound side is g = subst (λ s. FitsSide s g) (sym is) (fits st what g sound)
 
-share_same : (st : State) (what : Search) (key : ℕ) → (key ≡ 0 → ⊥) → side_share (side_by st what) key ≡ share_in st what key
+share_same : (st : State) (what : Search) (g : List ℕ) → side_share (side_by st what) g ≡ share_in st what g
 unfolding share_of classes_share
-share_same st what key some =
+share_same st what g =
     λ i. if wanted_in st what.in_new == 0 then 0
-    else min (most_by (kinds_are st what key some i) (starts_of (kinds_are st what key some i) * 2 ^ 30) (2 ^ 64) 48 first_factor) (2 ^ 64)
+    else min (most_by (kinds_are st what g i) (starts_of (kinds_are st what g i) * 2 ^ 30) (2 ^ 64) 48 first_factor) (2 ^ 64)
 
-row_same : (st : State) (by : By) (now key first : ℕ) → (key ≡ 0 → ⊥)
-    → row_in (side_by st (search true by now)) (side_by st (search false by now)) key first ≡ row_by st by now key first
-row_same st by now key first some =
-    let new = share_same st (search true by now) key some in
-    let tried = share_same st (search false by now) key some in
+row_same : (st : State) (by : By) (now : ℕ) (g : List ℕ) (first : ℕ) → row_in (side_by st (search true by now)) (side_by st (search false by now)) g first ≡ row_by st by now g first
+row_same st by now g first =
+    let new = share_same st (search true by now) g in
+    let tried = share_same st (search false by now) g in
     λ i. record {
-      key = key;
+      group = record { items = g };
       first = first;
       picks = millionths (new i + tried i) (if wanted_new st all == 0 || wanted_tried st all == 0 then 2 ^ 64 else 2 ^ 65);
       new = millionths (new i) (2 ^ 64);
       tried = millionths (tried i) (2 ^ 64);
     }
 
-each_agree : {X : Type 0} (f g : ℕ → List X) (from n : ℕ) → ((i : ℕ) → i < from + n → f i ≡ g i) → flat_map f (range_with_len from n) ≡ flat_map g (range_with_len from n)
-each_agree f g from zero same = refl
-each_agree f g from (suc n) same =
-    λ j. same from (omega arith) j ++ each_agree f g (from + 1) n (λ i low. same i (omega (arith, low))) j
+-- ---- the first record of each group
 
-agree_at : (f g : ℕ → ℕ → Row) (keys : List ℕ) → ((i : ℕ) → i < length keys → f (get_or keys i 0) i ≡ g (get_or keys i 0) i) → rows_at f keys ≡ rows_at g keys
-agree_at f g keys same =
-    each_agree (row_at f keys) (row_at g keys) 0 (length keys)
-    (λ i low. λ j. if position_or_len (λ k. k == get_or keys i 0) keys == i then same i (omega (arith, low)) j ∷ [] else [])
+module _ (f : Rec → List ℕ) where
+  position_low : (g : List ℕ) (recs : List Rec) → position_or_len (λ r. bytes_eq g (f r)) recs ≤ length recs
+  position_low g [] = omega arith
+  position_low g (r ∷ recs) = by (bytes_eq g (f r)) (position_low g recs)
+    where
+      by : (b : Bool) → position_or_len (λ r. bytes_eq g (f r)) recs ≤ length recs → cond (not b) (1 + position_or_len (λ r. bytes_eq g (f r)) recs) 0 ≤ length (r ∷ recs)
+      by true low = omega arith
+      by false low = omega (arith, low)
 
-pub rows_are : (st : State) (by : By) (now : ℕ) → IsSound st → (new tried : Sides) → new ≡ side_by st (search true by now) → tried ≡ side_by st (search false by now)
-    → (keys : List ℕ) → keys ≡ keys_of st.places by st.records → rows_at (row_in new tried) keys ≡ rows_of st by now
+  lowest : (g : List ℕ) (recs : List Rec) (i n : ℕ) → n ≤ i + length recs → fold (after_visit lower g) n (index_visits f i recs) ≡ min n (i + position_or_len (λ r. bytes_eq g (f r)) recs)
+  lowest g [] i n low = omega (arith, low)
+  lowest g (r ∷ recs) i n low = by (bytes_eq g (f r)) (lowest g recs (i + 1) (min n i) (omega arith)) (lowest g recs (i + 1) n (omega (arith, low)))
+    where
+      by : (b : Bool) → fold (after_visit lower g) (min n i) (index_visits f (i + 1) recs) ≡ min (min n i) (i + 1 + position_or_len (λ r. bytes_eq g (f r)) recs)
+          → fold (after_visit lower g) n (index_visits f (i + 1) recs) ≡ min n (i + 1 + position_or_len (λ r. bytes_eq g (f r)) recs)
+          → fold (after_visit lower g) (cond b (min n i) n) (index_visits f (i + 1) recs) ≡ min n (i + cond (not b) (1 + position_or_len (λ r. bytes_eq g (f r)) recs) 0)
+      by true own other = own ∙ omega arith
+      by false own other = other ∙ omega arith
+
+  first_is : (recs : List Rec) (g : List ℕ) → value_in (length recs) (tally_of (length recs) lower (index_visits f 0 recs)) g ≡ position_or_len (λ r. bytes_eq g (f r)) recs
+  first_is recs g =
+      values-are (length recs) lower (index_visits f 0 recs) g ∙ lowest g recs 0 (length recs) (omega arith)
+      ∙ omega (arith, position_low g recs)
+
+  visit_groups : (recs : List Rec) (i : ℕ) → map (λ (v : List ℕ × ℕ). v.0) (index_visits f i recs) ≡ map f recs
+  visit_groups [] i = refl
+  visit_groups (r ∷ recs) i = ap (λ (gs : List (List ℕ)). f r ∷ gs) (visit_groups recs (i + 1))
+
+  -- one record more
+  visits_append : (recs : List Rec) (r : Rec) (i : ℕ) → index_visits f i (recs ++ r ∷ []) ≡ index_visits f i recs ++ (f r, i + length recs) ∷ []
+  visits_append [] r i = λ j. (f r, plus-none i j) ∷ []
+    where
+      plus-none : (n : ℕ) → n ≡ n + 0
+      plus-none n = omega arith
+  visits_append (q ∷ recs) r i =
+      ap (λ (t : List (List ℕ × ℕ)). (f q, i) ∷ t) (visits_append recs r (i + 1) ∙ ap (λ (n : ℕ). index_visits f (i + 1) recs ++ (f r, n) ∷ []) up)
+    where
+      up : i + 1 + length recs ≡ i + suc (length recs)
+      up = omega arith
+
+pub index_more : (places : Places) (by : By) (recs : List Rec) (i count : ℕ) (rec : Rec) (now next : List (List ℕ × ℕ)) → i < length recs → rec ≡ get_or recs i rec
+    → now ≡ firsts_by places by count (take i recs) → next ≡ noted count lower now (group_by by places rec, i) → next ≡ firsts_by places by count (take (i + 1) recs)
+index_more places by recs i count rec now next within is so_far more =
+    let f : Rec → List ℕ = group_by by places in
+    let taken : take (i + 1) recs ≡ take i recs ++ rec ∷ [] = take_more recs i rec within ∙ ap (λ (r : Rec). take i recs ++ r ∷ []) (sym is) in
+    let long : 0 + length (take i recs) ≡ i = omega (arith, within, length-take i recs) in
+    more ∙ ap (λ (es : List (List ℕ × ℕ)). noted count lower es (f rec, i)) so_far
+    ∙ sym (ap (λ (rs : List Rec). tally_of count lower (index_visits f 0 rs)) taken
+    ∙ ap (tally_of count lower) (visits_append f (take i recs) rec 0 ∙ ap (λ (n : ℕ). index_visits f 0 (take i recs) ++ (f rec, n) ∷ []) long)
+    ∙ fold-append (noted count lower) [] (index_visits f 0 (take i recs)) ((f rec, i) ∷ []))
+
+-- ---- all rows
+
+keys_bytes : (h : List ℕ → Row) (es : List (ArrayVec ℕ × ℕ)) → map (λ k. h k.items) (map (λ e. e.0) es) ≡ map h (groups_of (by_bytes es))
+keys_bytes h [] = refl
+keys_bytes h (e ∷ es) = ap (λ (rows : List Row). h e.0.items ∷ rows) (keys_bytes h es)
+
+pub rows_are : (st : State) (by : By) (now count : ℕ) (new tried : Sides) → new ≡ side_by st (search true by now) → tried ≡ side_by st (search false by now) → count ≡ length st.records
+    → (es : List (ArrayVec ℕ × ℕ)) → by_bytes es ≡ firsts_by st.places by count st.records → (rows : List Row)
+    → rows ≡ map (λ k. row_in new tried k.items (value_in count (by_bytes es) k.items)) (map (λ e. e.0) es) → rows ≡ rows_of st by now
 unfolding rows_of
-rows_are st by now sound new tried one two keys are =
-    (λ i. rows_at (row_in (one i) (two i)) (are i))
-    ∙ agree_at (row_in (side_by st (search true by now)) (side_by st (search false by now))) (row_by st by now) (keys_of st.places by st.records)
-    (λ i low. row_same st by now (get_or (keys_of st.places by st.records) i 0) i
-    (All-get_or (λ k. (k ≡ 0 → ⊥)) (keys_of st.places by st.records) i 0 low (keys_some st by sound)))
+rows_are st by now count new tried one two all es are rows is =
+    let f : Rec → List ℕ = group_by by st.places in
+    let vs : List (List ℕ × ℕ) = index_visits f 0 st.records in
+    is ∙ keys_bytes (λ g. row_in new tried g (value_in count (by_bytes es) g)) es
+    ∙ (λ i. map (λ g. row_in (one i) (two i) g (value_in count (are i) g)) (groups_of (are i)))
+    ∙ (λ i. map (λ g. row_same st by now g (value_in (all i) (tally_of (all i) lower vs) g) i) (groups_of (tally_of (all i) lower vs)))
+    ∙ (λ i. map (λ g. row_by st by now g (first_is f st.records g i)) (groups-are (length st.records) lower vs i))
+    ∙ (λ i. map (λ g. row_by st by now g (first_in st by g)) (once (visit_groups f st.records 0 i)))
 
 -- ---- one side
 
-pub below_whole : (side : Sides) (key share : ℕ) → (side.wanted == 0) ≡ false → share ≡ classes_share side.classes key → share < 2 ^ 64 → share ≡ side_share side key
-below_whole side key share there is low =
+pub below_whole : (side : Sides) (g : List ℕ) (share : ℕ) → (side.wanted == 0) ≡ false → share ≡ classes_share side.classes g → share < 2 ^ 64 → share ≡ side_share side g
+below_whole side g share there is low =
     let least : share ≡ min share (2 ^ 64) = omega (arith, low) in
-    least ∙ ap (λ n. min n (2 ^ 64)) is ∙ (λ i. if sym there i then 0 else min (classes_share side.classes key) (2 ^ 64))
+    least ∙ ap (λ n. min n (2 ^ 64)) is ∙ (λ i. if sym there i then 0 else min (classes_share side.classes g) (2 ^ 64))
 
-pub whole : (side : Sides) (key share : ℕ) → (side.wanted == 0) ≡ false → share ≡ classes_share side.classes key → 2 ^ 64 ≤ share → 2 ^ 64 ≡ side_share side key
-whole side key share there is high =
+pub whole : (side : Sides) (g : List ℕ) (share : ℕ) → (side.wanted == 0) ≡ false → share ≡ classes_share side.classes g → 2 ^ 64 ≤ share → 2 ^ 64 ≡ side_share side g
+whole side g share there is high =
     let least : 2 ^ 64 ≡ min share (2 ^ 64) = omega (arith, high) in
-    least ∙ ap (λ n. min n (2 ^ 64)) is ∙ (λ i. if sym there i then 0 else min (classes_share side.classes key) (2 ^ 64))
+    least ∙ ap (λ n. min n (2 ^ 64)) is ∙ (λ i. if sym there i then 0 else min (classes_share side.classes g) (2 ^ 64))
 
-pub is_share : (classes : List Counts) (key share : ℕ)
-    → share ≡ most_by (map (kind_in key) classes) (starts_of (map (kind_in key) classes) * 2 ^ 30) (2 ^ 64) 48 (2 ^ 30) → share ≡ classes_share classes key
+pub is_share : (classes : List Counts) (g : List ℕ) (share : ℕ)
+    → share ≡ most_by (map (kind_in g) classes) (starts_of (map (kind_in g) classes) * 2 ^ 30) (2 ^ 64) 48 (2 ^ 30) → share ≡ classes_share classes g
 unfolding classes_share
-is_share classes key share is = is
-
--- ---- one row more
-
-pub more_rows : (row : ℕ → List Row) (i : ℕ) (old new : List Row) → old ≡ flat_map row (range_with_len 0 i) → new ≡ old ++ row i → new ≡ flat_map row (range_with_len 0 (i + 1))
-more_rows row i old new so_far more =
-    let listed : range_with_len 0 (i + 1) ≡ range_with_len 0 i ++ i ∷ [] =
-    sym (map-id (range_with_len 0 (i + 1))) ∙ map-range_with_len_more (λ (k : ℕ). k) 0 i i (omega arith) ∙ ap (λ (l : List ℕ). l ++ i ∷ []) (map-id (range_with_len 0 i)) in
-    more ∙ ap (λ (t : List Row). t ++ row i) so_far
-    ∙ sym (ap (flat_map row) listed ∙ flat_map-append row (range_with_len 0 i) (i ∷ []) ∙ ap (λ (t : List Row). flat_map row (range_with_len 0 i) ++ t) (append-nil (row i)))
-
--- the first index of a key has its row
-test_is : (keys : List ℕ) (es : List (ℕ × ℕ)) (index first : ℕ) (b : Bool) → AreFirsts es keys → first ≡ first_at es (length keys) (get_or keys index 0) → (first == index) ≡ b
-    → (position_or_len (λ k. k == get_or keys index 0) keys == index) ≡ b
-test_is keys es index first b are is found = ap (λ n. n == index) (sym (is ∙ are (get_or keys index 0))) ∙ found
-
-pub at_first : (row : ℕ → ℕ → Row) (keys : List ℕ) (es : List (ℕ × ℕ)) (index first : ℕ) (own : Row) → AreFirsts es keys → first ≡ first_at es (length keys) (get_or keys index 0)
-    → (first == index) ≡ true → own ≡ row (get_or keys index 0) index → own ∷ [] ≡ row_at row keys index
-at_first row keys es index first own are is found made =
-    (λ i. made i ∷ []) ∙ (λ i. if sym (test_is keys es index first true are is found) i then row (get_or keys index 0) index ∷ [] else [])
-
-pub not_first : (row : ℕ → ℕ → Row) (keys : List ℕ) (es : List (ℕ × ℕ)) (index first : ℕ) → AreFirsts es keys → first ≡ first_at es (length keys) (get_or keys index 0)
-    → (first == index) ≡ false → [] ≡ row_at row keys index
-not_first row keys es index first are is found =
-    λ i. if sym (test_is keys es index first false are is found) i then row (get_or keys index 0) index ∷ [] else []
+is_share classes g share is = is

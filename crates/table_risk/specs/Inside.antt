@@ -1,10 +1,8 @@
--- What only private contracts cite: the slots of a mask, where keys occur first, classes of starts,
--- and the sides of both tables.
+-- What only private contracts cite: the slots of a mask, the first records of groups, classes of
+-- starts, and the sides of both tables.
 use Rattle.std.specs.Int.{bit_at}
-use Rattle.std.specs.List.{flat_map, position_or_len}
-use Rattle.std.specs.Map.{lookup}
-use Rattle.std.specs.Prelude.{ℕ, ◌*◌, ◌^◌, ◌==◌, Bool, false, List, [], length, map, replicate, ◌≡◌, ◌+◌, ◌≤◌, ◌||◌, min, if◌then◌else◌, unwrap_or}
-use Rattle.group_counts.specs.Tally.{count_in, tally_of}
+use Rattle.std.specs.List.{flat_map}
+use Rattle.std.specs.Prelude.{ℕ, ◌*◌, ◌^◌, ◌==◌, Bool, false, List, [], ◌∷◌, length, map, ◌≡◌, ◌+◌, ◌≤◌, ◌||◌, min, sum_by, if◌then◌else◌}
 use Rattle.net_addr.specs.NetSet.{all}
 use Rattle.peer_rec.specs.Rec.{chance}
 use Rattle.peer_rec.specs.declared.rec.Rec.{Rec}
@@ -14,7 +12,10 @@ use Rattle.risk_sum.specs.declared.kinds.Kind.{Kind}
 use Rattle.table_laws.specs.Odds.{leading_starts}
 use Rattle.table_machine.specs.Picks.{first_factor}
 use Rattle.table_machine.specs.State.{State}
-use Rattle.table_risk.specs.Keys.{key_by}
+use Rattle.placing.specs.Places.{Places}
+use Rattle.table_groups.specs.Tally.{by_bytes, tally_of, value_in}
+use Rattle.table_risk.specs.Grouping.{group_by}
+use Rattle.table_risk.specs.declared.by.By.{By}
 use Rattle.table_risk.specs.declared.classes.Class.{Class}
 use Rattle.table_risk.specs.declared.classes.Search.{Search}
 use Rattle.table_risk.specs.declared.rows.Row.{Row}
@@ -26,41 +27,54 @@ use Rattle.table_risk.specs.Rows.{wanted_in, millionths}
 abbrev pub in_mask : ℕ → ℕ → Bool
 in_mask mask slot = bit_at mask slot == 1
 
--- the index of a key, `none` if it has none
-abbrev pub first_at : List (ℕ × ℕ) → ℕ → ℕ → ℕ
-first_at es none key = unwrap_or (lookup (λ k. key == k) es) none
+-- ---- the first record of each group
 
--- each key of the list has the index of its first occurrence, and no other key has one
-abbrev pub AreFirsts : List (ℕ × ℕ) → List ℕ → Type 0
-AreFirsts es keys = (key : ℕ) →
-    first_at es (length keys) key ≡ position_or_len (λ k. k == key) keys
+abbrev pub lower : ℕ → ℕ → ℕ
+lower n index = min n index
 
--- the key of a record of the chance, once for each start that leads to it
-abbrev pub keys_for : State → Search → ℕ → Rec → List ℕ
-keys_for st what likely r =
+-- the groups of records, with their indices, counted on from one
+abbrev pub index_visits : (Rec → List ℕ) → ℕ → List Rec → List (List ℕ × ℕ)
+index_visits f index [] = []
+index_visits f index (r ∷ recs) = (f r, index) ∷ index_visits f (index + 1) recs
+
+-- each group of the records with the index of its first one, which is below `count`
+abbrev pub firsts_by : Places → By → ℕ → List Rec → List (List ℕ × ℕ)
+firsts_by places by count recs = tally_of count lower (index_visits (group_by by places) 0 recs)
+
+-- ---- the starts that lead to the records of each chance
+
+abbrev pub plus : ℕ → ℕ → ℕ
+plus n starts = n + starts
+
+-- the group of a record of the chance, with how many starts lead to it
+abbrev pub visits_for : State → Search → ℕ → Rec → List (List ℕ × ℕ)
+visits_for st what likely r =
     if chance r what.now == likely
-    then replicate (leading_starts st what.in_new all r) (key_by what.by st.places r)
-    else []
+    then (group_by what.by st.places r, leading_starts st what.in_new all r) ∷ [] else []
 
-unfoldable pub class_keys : State → Search → ℕ → List ℕ
-class_keys st what likely = flat_map (keys_for st what likely) st.records
+unfoldable pub class_visits : State → Search → ℕ → List (List ℕ × ℕ)
+class_visits st what likely = flat_map (visits_for st what likely) st.records
 
 -- what a class says
 pub record Counts : Type 0 where
   pub chance : ℕ
   pub all : ℕ
-  pub groups : List (ℕ × ℕ)
+  pub groups : List (List ℕ × ℕ)
 
 abbrev pub class_value : {H G : Type 0} → Class H G → Counts
-class_value c = record { chance = c.chance; all = c.all; groups = c.groups.entries }
+class_value c = record { chance = c.chance; all = c.all; groups = by_bytes c.groups.entries }
+
+-- how many starts some visits have
+abbrev pub starts_in : List (List ℕ × ℕ) → ℕ
+starts_in visits = sum_by (λ v. v.1) visits
 
 abbrev pub class_by : State → Search → ℕ → Counts
 class_by st what likely =
-    let keys = class_keys st what likely in
-    record { chance = likely; all = length keys; groups = tally_of keys }
+    let visits = class_visits st what likely in
+    record { chance = likely; all = starts_in visits; groups = tally_of 0 plus visits }
 
-abbrev pub kind_in : ℕ → Counts → Kind
-kind_in key c = record { chance = c.chance; all = c.all; theirs = count_in c.groups key }
+abbrev pub kind_in : List ℕ → Counts → Kind
+kind_in g c = record { chance = c.chance; all = c.all; theirs = value_in 0 c.groups g }
 
 -- what a side says of its table
 pub record Sides : Type 0 where
@@ -75,25 +89,25 @@ side_by st what =
     record { classes = map (class_by st what) chances; wanted = wanted_in st what.in_new }
 
 -- with records, a side and a group have kinds
-pub record FitsSide (side : Sides) (key : ℕ) : Type 0 where
+pub record FitsSide (side : Sides) (g : List ℕ) : Type 0 where
   pub few : length side.classes ≤ 18
-  pub kinds : (side.wanted == 0) ≡ false → AreKinds (map (kind_in key) side.classes)
+  pub kinds : (side.wanted == 0) ≡ false → AreKinds (map (kind_in g) side.classes)
 
-unfoldable pub classes_share : List Counts → ℕ → ℕ
-classes_share classes key =
-    let kinds = map (kind_in key) classes in
+unfoldable pub classes_share : List Counts → List ℕ → ℕ
+classes_share classes g =
+    let kinds = map (kind_in g) classes in
     most_by kinds (starts_of kinds * 2 ^ 30) (2 ^ 64) AHEAD first_factor
 
-abbrev pub side_share : Sides → ℕ → ℕ
-side_share side key =
-    if side.wanted == 0 then 0 else min (classes_share side.classes key) (2 ^ 64)
+abbrev pub side_share : Sides → List ℕ → ℕ
+side_share side g =
+    if side.wanted == 0 then 0 else min (classes_share side.classes g) (2 ^ 64)
 
-abbrev pub row_in : Sides → Sides → ℕ → ℕ → Row
-row_in new tried key first =
-    let in_new = side_share new key in
-    let in_tried = side_share tried key in
+abbrev pub row_in : Sides → Sides → List ℕ → ℕ → Row
+row_in new tried g first =
+    let in_new = side_share new g in
+    let in_tried = side_share tried g in
     record {
-      key = key;
+      group = record { items = g };
       first = first;
       picks = millionths (in_new + in_tried)
           (if new.wanted == 0 || tried.wanted == 0 then 2 ^ 64 else 2 ^ 65);

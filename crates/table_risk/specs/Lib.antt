@@ -1,4 +1,4 @@
-pub mod Keys
+pub mod Grouping
 pub mod Shares
 pub mod Rows
 pub mod Texts

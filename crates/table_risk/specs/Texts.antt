@@ -81,7 +81,7 @@ heading new tried new_buckets tried_buckets =
     ++ (numbers_text (codes " buckets") new_buckets tried_buckets ++ codes "\n")
 
 -- The text at a time: how many records and used buckets the tables have, and the rows of all
--- groups, those with more picks first, and of two with as many the one with the lower key.
+-- groups, those with more picks first, and of two with as many the one with the lower bytes.
 pub record IsRiskText (st : State) (by : By) (now : ℕ) (text : List ℕ) : Type 0 where
   pub rows : List Row
   pub all : IsPermutation (rows_of st by now) rows

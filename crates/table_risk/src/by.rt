@@ -1,10 +1,9 @@
 ghost use Rattle.std.specs.Prelude.{◌≡◌};
-ghost use Rattle.table_risk.specs.Keys.{key_by};
+ghost use Rattle.table_risk.specs.Grouping.{group_by};
 
-use net_addr::Net;
 use peer_rec::Rec;
 use placing::Placer;
-use table_picture::group_key;
+use table_groups::Group;
 
 /// What makes records one group.
 #[derive(Clone, Copy)]
@@ -18,23 +17,25 @@ pub enum By {
 }
 
 impl By {
-    /// Returns the key of a record's group.
-    pub fn key(self, placer: &Placer<'_>, rec: &Rec) -> u128
-        ensures { result ≡ key_by self placer.now rec.now }
+    /// Returns the bytes of a record's group.
+    pub fn group(self, placer: &Placer<'_>, rec: &Rec) -> Group
+        ensures { result.items ≡ group_by self placer.now rec.now }
     {
         match self {
-            By::Source => group_key(placer.group(&rec.source).as_slice()),
-            By::Peer => group_key(placer.group(&rec.peer.addr).as_slice()),
-            By::Network => network_key(rec.network()),
+            By::Source => placer.group(&rec.source),
+            By::Peer => placer.group(&rec.peer.addr),
+            By::Network => network_group(rec),
         }
     }
 }
 
-ghost use Rattle.table_risk.specs.Keys.{network_key};
+ghost use Rattle.table_risk.specs.Grouping.{network_group};
 
-/// Returns the key of a network.
-fn network_key(net: Net) -> u128
-    ensures { result ≡ network_key net }
+/// Returns the group of the network of a record: the number of the network, a byte.
+fn network_group(rec: &Rec) -> Group
+    ensures { result.items ≡ network_group rec.now }
 {
-    u128::from(net.number()) + 1
+    let mut group = Group::new();
+    group.push(rec.network().number());
+    group
 }

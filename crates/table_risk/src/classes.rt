@@ -1,20 +1,22 @@
-ghost use Rattle.std.specs.Prelude.{◌≡◌, ◌≤◌, ◌<◌, ◌++◌, All, IfOk, OnOk, length, map, replicate};
+ghost use Rattle.std.specs.Prelude.{◌≡◌, ◌≤◌, ◌<◌, ◌+◌, ◌^◌, ℕ, List, All, IfOk, OnOk, length, map};
 ghost use Rattle.peer_rec.specs.Rec.{buckets_of};
 ghost use Rattle.risk_laws.specs.Classes.{chances};
+ghost use Rattle.table_groups.specs.Tally.{by_bytes, noted, value_in};
 ghost use Rattle.table_machine.specs.Sound.{IsSound};
 ghost use Rattle.slot_grid.specs.declared.sizes.TheConstants.{NEW_BUCKETS, NEW_SLOTS};
-ghost use Rattle.table_risk.specs.Inside.{class_by, class_keys, class_value, keys_for, kind_in};
+ghost use Rattle.table_risk.specs.Inside.{class_by, class_value, class_visits, kind_in, plus, starts_in};
 
 use crate::starts::starts_of;
 use crate::{By, Memory};
 use arrayvec::ArrayVec;
-use group_counts::{Tally, count_of, tally};
+use indexmap::IndexMap;
 use peer_rec::Rec;
 use risk_sum::Kind;
-use std::alloc::Global;
+use std::alloc::{AllocError, Global};
 use std::hash::BuildHasher;
 use std::sync::ledger::Ledger;
 use steps::Steps;
+use table_groups::{Group, Lent, Tally, put_value, value_of};
 use tables::Tables;
 
 /// The chances that a record can have, in parts of 2^30: after no try to eight tries, and the same
@@ -57,61 +59,25 @@ pub(crate) struct Class<'a, H: BuildHasher> {
     /// to all records
     all: u32,
     /// to those of each group
-    groups: Tally<'a, H>,
+    groups: Tally<'a, u32, H>,
 }
 
-/// Appends a key so many times.
-fn put_times(key: u128, times: u32, out: &mut Vec<u128>) -> Result<(), Memory>
-    ensures { OnOk result (out.new.items ≡ out.old.items ++ replicate times key) }
+/// Adds starts to those of a group.
+fn add_starts<H: BuildHasher>(
+    tally: &mut Tally<'_, u32, H>,
+    group: Group,
+    starts: u32,
+) -> Result<(), AllocError>
+    requires { (g : List ℕ) → value_in 0 (by_bytes tally.old.entries) g + starts < 2 ^ 32 }
+    ensures { OnOk result (by_bytes tally.new.entries
+        ≡ noted 0 plus (by_bytes tally.old.entries) (group.items, starts)) }
 {
-    for _ in 0..times {
-        out.push(key)?;
-    }
-    Ok(())
-}
-
-/// Appends the key of a record for each start that leads to it, if it has the chance.
-fn put_keys<H: BuildHasher, L: Ledger>(
-    tables: &Tables<'_, H>,
-    what: Search,
-    chance: u32,
-    rec: &Rec,
-    out: &mut Vec<u128>,
-    steps: &mut Steps<L>,
-) -> Result<(), Memory>
-    requires buckets { All (λ b. b < NEW_BUCKETS) (buckets_of rec.now) }
-    ensures { OnOk result (out.new.items
-        ≡ out.old.items ++ keys_for tables.now what chance rec.now) }
-{
-    if rec.chance(what.now) == u64::from(chance) {
-        let times = starts_of(tables, what.in_new, rec, steps);
-        put_times(what.by.key(tables.placer(), rec), times, out)?;
-    }
-    Ok(())
-}
-
-/// Returns, for each start of the table that leads to a record of the chance, the record's key.
-#[tactic(auto, unfolding(crate::specs::Inside::class_keys))]
-fn class_keys<H: BuildHasher, L: Ledger>(
-    alloc: Global,
-    tables: &Tables<'_, H>,
-    recs: &[Rec],
-    what: Search,
-    chance: u32,
-    steps: &mut Steps<L>,
-) -> Result<Vec<u128>, Memory>
-    requires recs { recs.now ≡ tables.now.records }
-    requires buckets { All (λ r. All (λ b. b < NEW_BUCKETS) (buckets_of r)) recs.now }
-    ensures { IfOk result (λ keys. keys.items ≡ class_keys tables.now what chance) }
-{
-    let mut keys = Vec::new(alloc);
-    for rec in recs {
-        put_keys(tables, what, chance, rec, &mut keys, steps)?;
-    }
-    Ok(keys)
+    let sum = value_of(tally, &group, 0) + starts;
+    put_value(tally, group, sum)
 }
 
 /// Returns how many starts of the table lead to records of the chance.
+#[tactic(auto, unfolding(crate::specs::Inside::class_visits))]
 fn class_of<'a, H: BuildHasher, G: BuildHasher, L: Ledger>(
     alloc: Global,
     hasher: &'a G,
@@ -123,14 +89,21 @@ fn class_of<'a, H: BuildHasher, G: BuildHasher, L: Ledger>(
 ) -> Result<Class<'a, G>, Memory>
     requires recs { recs.now ≡ tables.now.records }
     requires buckets { All (λ r. All (λ b. b < NEW_BUCKETS) (buckets_of r)) recs.now }
-    requires few { length (class_keys tables.now what chance) ≤ NEW_SLOTS }
+    requires few { starts_in (class_visits tables.now what chance) ≤ NEW_SLOTS }
     ensures { IfOk result (λ class. class_value class ≡ class_by tables.now what chance) }
 {
-    let keys = class_keys(alloc, tables, recs, what, chance, steps)?;
-    let groups = tally(alloc, hasher, keys.as_slice())?;
+    let mut groups = IndexMap::with_hasher(alloc, Lent::of(hasher));
+    let mut all = 0;
+    for rec in recs {
+        if rec.chance(what.now) == u64::from(chance) {
+            let starts = starts_of(tables, what.in_new, rec, steps);
+            all += starts;
+            add_starts(&mut groups, what.by.group(tables.placer(), rec), starts)?;
+        }
+    }
     Ok(Class {
         chance,
-        all: keys.len() as u32,
+        all,
         groups,
     })
 }
@@ -157,24 +130,27 @@ pub(crate) fn classes_of<'a, H: BuildHasher, G: BuildHasher, L: Ledger>(
 }
 
 /// Returns the starts of a class, and those that lead to records of a group.
-fn kind_in<H: BuildHasher>(class: &Class<'_, H>, key: u128) -> Kind
-    ensures { result ≡ kind_in key (class_value class.now) }
+fn kind_in<H: BuildHasher>(class: &Class<'_, H>, group: &Group) -> Kind
+    ensures { result ≡ kind_in group.now.items (class_value class.now) }
 {
     Kind {
         chance: class.chance,
         all: class.all,
-        theirs: count_of(&class.groups, key),
+        theirs: value_of(&class.groups, group, 0),
     }
 }
 
 /// Returns the same of each class.
-pub(crate) fn kinds_in<H: BuildHasher>(classes: &[Class<'_, H>], key: u128) -> ArrayVec<Kind, 18>
+pub(crate) fn kinds_in<H: BuildHasher>(
+    classes: &[Class<'_, H>],
+    group: &Group,
+) -> ArrayVec<Kind, 18>
     requires { length classes.now ≤ 18 }
-    ensures { result.items ≡ map (kind_in key) (map class_value classes.now) }
+    ensures { result.items ≡ map (kind_in group.now.items) (map class_value classes.now) }
 {
     let mut kinds = ArrayVec::new();
     for class in classes {
-        kinds.push(kind_in(class, key));
+        kinds.push(kind_in(class, group));
     }
     kinds
 }

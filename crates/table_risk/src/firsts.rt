@@ -1,38 +1,44 @@
-ghost use Rattle.std.specs.Prelude.{◌≡◌, IfOk};
-ghost use Rattle.table_risk.specs.Inside.{AreFirsts, first_at};
+ghost use Rattle.std.specs.Prelude.{◌≡◌, IfOk, OnOk, length};
+ghost use Rattle.table_groups.specs.Tally.{by_bytes, noted};
+ghost use Rattle.table_risk.specs.Inside.{firsts_by, lower};
 
-use crate::Memory;
-use group_counts::Lent;
+use crate::{By, Memory};
 use indexmap::IndexMap;
-use std::alloc::Global;
+use peer_rec::Rec;
+use placing::Placer;
+use std::alloc::{AllocError, Global};
 use std::hash::BuildHasher;
+use table_groups::{Group, Lent, Tally, put_value, value_of};
 
-/// The index of the first occurrence of each key.
-pub(crate) type Firsts<'a, H> = IndexMap<u128, usize, Lent<'a, H>>;
+/// Notes that a record of a group has this index; `none` stands for no record.
+fn note_index<H: BuildHasher>(
+    firsts: &mut Tally<'_, usize, H>,
+    group: Group,
+    none: usize,
+    index: usize,
+) -> Result<(), AllocError>
+    ensures { OnOk result (by_bytes firsts.new.entries
+        ≡ noted none lower (by_bytes firsts.old.entries) (group.items, index)) }
+{
+    let first = value_of(firsts, &group, none).min(index);
+    put_value(firsts, group, first)
+}
 
-/// Finds the first occurrence of each key: the last one that is written, from the end on.
+/// Finds the index of the first record of each group.
 pub(crate) fn find_firsts<'a, H: BuildHasher>(
     alloc: Global,
     hasher: &'a H,
-    keys: &[u128],
-) -> Result<Firsts<'a, H>, Memory>
-    ensures { IfOk result (λ firsts. AreFirsts firsts.entries keys.now) }
+    placer: &Placer<'_>,
+    by: By,
+    recs: &[Rec],
+) -> Result<Tally<'a, usize, H>, Memory>
+    ensures { IfOk result (λ firsts. by_bytes firsts.entries
+        ≡ firsts_by placer.now by (length recs.now) recs.now) }
 {
     let mut firsts = IndexMap::with_hasher(alloc, Lent::of(hasher));
-    let mut index = keys.len();
-    while 0 < index {
-        index -= 1;
-        firsts.insert(keys[index], index)?;
+    for index in 0..recs.len() {
+        let group = by.group(placer, &recs[index]);
+        note_index(&mut firsts, group, recs.len(), index)?;
     }
     Ok(firsts)
-}
-
-/// Returns the index of the first occurrence of a key, `none` if it does not occur.
-pub(crate) fn first_of<H: BuildHasher>(firsts: &Firsts<'_, H>, key: u128, none: usize) -> usize
-    ensures { result ≡ first_at firsts.now.entries none key }
-{
-    match firsts.get(&key) {
-        Some(index) => *index,
-        None => none,
-    }
 }

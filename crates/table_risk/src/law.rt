@@ -1,4 +1,4 @@
-ghost use Rattle.std.specs.Prelude.{ℕ, ◌*◌, ◌^◌, ◌≤◌, Bool, true, false};
+ghost use Rattle.std.specs.Prelude.{ℕ, ◌*◌, ◌^◌, ◌≤◌, Bool, true, false, List};
 ghost use Rattle.net_addr.specs.NetSet.{all};
 ghost use Rattle.net_addr.specs.declared.peer.Peer.{Peer};
 ghost use Rattle.risk_laws.specs.Lists.{selecting_lists};
@@ -11,12 +11,12 @@ ghost use Rattle.table_risk.specs.declared.by.By.{By};
 /// most the part that its row says, in parts of a million: from both tables, or from the new one
 /// alone.
 pub fn rows_are_bounds()
-    ensures picks { (st : State) (by : By) (now key first n : ℕ) (theirs : Peer → Bool) →
-        IsSound st → AreOfGroup st by key theirs →
+    ensures picks { (st : State) (by : By) (g : List ℕ) (now first n : ℕ) (theirs : Peer → Bool) →
+        IsSound st → AreOfGroup st by g theirs →
         selecting_lists st false all now theirs n * 10 ^ 6
-        ≤ (2 ^ 64) ^ n * (row_by st by now key first).picks }
-    ensures new { (st : State) (by : By) (now key first n : ℕ) (theirs : Peer → Bool) →
-        IsSound st → AreOfGroup st by key theirs →
+        ≤ (2 ^ 64) ^ n * (row_by st by now g first).picks }
+    ensures new { (st : State) (by : By) (g : List ℕ) (now first n : ℕ) (theirs : Peer → Bool) →
+        IsSound st → AreOfGroup st by g theirs →
         selecting_lists st true all now theirs n * 10 ^ 6
-        ≤ (2 ^ 64) ^ n * (row_by st by now key first).new }
+        ≤ (2 ^ 64) ^ n * (row_by st by now g first).new }
 {}

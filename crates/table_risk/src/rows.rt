@@ -1,21 +1,23 @@
-ghost use Rattle.std.specs.Prelude.{◌≡◌, ◌≤◌, ◌<◌, ◌^◌, All, IfOk};
+ghost use Rattle.std.specs.Prelude.{◌≡◌, ◌≤◌, ◌<◌, ◌^◌, ℕ, List, IfOk, map};
+ghost use Rattle.indexmap.specs.IndexMap.{keys};
 ghost use Rattle.std.specs.List.Sorted.{IsPermutation, IsSortedBy};
 ghost use Rattle.table_machine.specs.Sound.{IsSound};
-ghost use Rattle.table_risk.specs.Inside.{AreFirsts, FitsSide, row_in, side_by, side_share, side_value};
-ghost use Rattle.table_risk.specs.Rows.{comes_before, keys_of, millionths, rank_cmp, rows_at, rows_of, wanted_in};
+ghost use Rattle.table_risk.specs.Inside.{FitsSide, row_in, side_by, side_share, side_value};
+ghost use Rattle.table_risk.specs.Rows.{comes_before, millionths, rank_cmp, rows_of, wanted_in};
+ghost use Rattle.table_groups.specs.Tally.{by_bytes, value_in};
 
 use crate::classes::{Class, Search, classes_of};
-use crate::firsts::{Firsts, find_firsts, first_of};
+use crate::firsts::find_firsts;
 use crate::shares::{AHEAD, share};
 use crate::{By, Memory};
 use net_addr::NetSet;
 use peer_rec::Rec;
-use placing::Placer;
 use std::alloc::{AllocError, Global};
 use std::cmp::Ordering;
 use std::hash::BuildHasher;
 use std::sync::ledger::Ledger;
 use steps::Steps;
+use table_groups::{Group, Tally, copy_of, value_of};
 use tables::Tables;
 
 /// The searches that shares are parts of.
@@ -23,12 +25,12 @@ const WHOLE: u128 = 18_446_744_073_709_551_616;
 /// The parts in which shares are printed.
 const MILLION: u128 = 1_000_000;
 
-/// A group: its key, the index of its first record, and which part falls to it, at most, of the
-/// picks from both tables, of those from the new table alone, and of a search of the tried table,
-/// in parts of a million.
-#[derive(Clone, Copy)]
+/// A group, the index of its first record, and which part falls to it, at most, of the picks from
+/// both tables, of those from the new table alone, and of a search of the tried table, in parts of a
+/// million.
+#[derive(Drop)]
 pub struct Row {
-    pub key: u128,
+    pub group: Group,
     pub first: usize,
     pub picks: u32,
     pub new: u32,
@@ -57,33 +59,39 @@ fn millionths(share: u128, whole: u128) -> u32
 
 /// Returns how many of 2^64 searches of a table end at records of a group, at most. Without
 /// records none do.
-fn share_in<H: BuildHasher>(side: &Side<'_, H>, key: u128) -> u128
-    requires { FitsSide (side_value side.now) key }
-    ensures is { result ≡ side_share (side_value side.now) key }
+fn share_in<H: BuildHasher>(side: &Side<'_, H>, group: &Group) -> u128
+    requires { FitsSide (side_value side.now) group.now.items }
+    ensures is { result ≡ side_share (side_value side.now) group.now.items }
     ensures few { result ≤ 2 ^ 64 }
 {
     if side.wanted == 0 {
         return 0;
     }
-    let share = share(side.classes.as_slice(), key, AHEAD);
+    let share = share(side.classes.as_slice(), group, AHEAD);
     if share < WHOLE { share } else { WHOLE }
 }
 
 /// Returns the row of a group. With records in both tables, half of the picks come from each.
-fn row_in<H: BuildHasher>(new: &Side<'_, H>, tried: &Side<'_, H>, key: u128, first: usize) -> Row
-    requires new { FitsSide (side_value new.now) key }
-    requires tried { FitsSide (side_value tried.now) key }
-    ensures { result ≡ row_in (side_value new.now) (side_value tried.now) key first }
+fn row_in<H: BuildHasher>(
+    new: &Side<'_, H>,
+    tried: &Side<'_, H>,
+    group: &Group,
+    first: usize,
+) -> Row
+    requires new { FitsSide (side_value new.now) group.now.items }
+    requires tried { FitsSide (side_value tried.now) group.now.items }
+    ensures { result
+        ≡ row_in (side_value new.now) (side_value tried.now) group.now.items first }
 {
-    let in_new = share_in(new, key);
-    let in_tried = share_in(tried, key);
+    let in_new = share_in(new, group);
+    let in_tried = share_in(tried, group);
     let whole = if new.wanted == 0 || tried.wanted == 0 {
         WHOLE
     } else {
         2 * WHOLE
     };
     Row {
-        key,
+        group: copy_of(group),
         first,
         picks: millionths(in_new + in_tried, whole),
         new: millionths(in_new, WHOLE),
@@ -91,40 +99,25 @@ fn row_in<H: BuildHasher>(new: &Side<'_, H>, tried: &Side<'_, H>, key: u128, fir
     }
 }
 
-/// Returns the rows of the groups of some keys, each where its key occurs first.
-fn rows_at<H: BuildHasher>(
+/// Returns the rows of some groups, each with the index of its first record.
+fn rows_in<H: BuildHasher>(
     alloc: Global,
     new: &Side<'_, H>,
     tried: &Side<'_, H>,
-    keys: &[u128],
-    firsts: &Firsts<'_, H>,
+    firsts: &Tally<'_, usize, H>,
+    none: usize,
 ) -> Result<Vec<Row>, AllocError>
-    requires firsts { AreFirsts firsts.now.entries keys.now }
-    requires new { All (FitsSide (side_value new.now)) keys.now }
-    requires tried { All (FitsSide (side_value tried.now)) keys.now }
+    requires new { (g : List ℕ) → FitsSide (side_value new.now) g }
+    requires tried { (g : List ℕ) → FitsSide (side_value tried.now) g }
     ensures { IfOk result (λ rows. rows.items
-        ≡ rows_at (row_in (side_value new.now) (side_value tried.now)) keys.now) }
+        ≡ map (λ g. row_in (side_value new.now) (side_value tried.now) g.items
+        (value_in none (by_bytes firsts.now.entries) g.items)) (keys firsts.now)) }
 {
     let mut rows = Vec::new(alloc);
-    for index in 0..keys.len() {
-        let key = keys[index];
-        if first_of(firsts, key, keys.len()) == index {
-            rows.push(row_in(new, tried, key, index))?;
-        }
+    for group in firsts.keys() {
+        rows.push(row_in(new, tried, group, value_of(firsts, group, none)))?;
     }
     Ok(rows)
-}
-
-/// Returns the keys of some records.
-fn keys_of(
-    alloc: Global,
-    placer: &Placer<'_>,
-    recs: &[Rec],
-    by: By,
-) -> Result<Vec<u128>, AllocError>
-    ensures { IfOk result (λ keys. keys.items ≡ keys_of placer.now by recs.now) }
-{
-    recs.iter().map(|rec| by.key(placer, rec)).collect(alloc)
 }
 
 /// Returns how many records a table has.
@@ -167,8 +160,7 @@ fn rows_of<H: BuildHasher, G: BuildHasher, L: Ledger>(
     requires sound { IsSound tables.now }
     ensures { IfOk result (λ rows. rows.items ≡ rows_of tables.now by now) }
 {
-    let keys = keys_of(alloc, tables.placer(), recs, by)?;
-    let firsts = find_firsts(alloc, hasher, keys.as_slice())?;
+    let firsts = find_firsts(alloc, hasher, tables.placer(), by, recs)?;
     let in_new = Search {
         in_new: true,
         by,
@@ -181,15 +173,17 @@ fn rows_of<H: BuildHasher, G: BuildHasher, L: Ledger>(
     };
     let new = side_of(alloc, hasher, tables, recs, in_new, steps)?;
     let tried = side_of(alloc, hasher, tables, recs, in_tried, steps)?;
-    Ok(rows_at(alloc, &new, &tried, keys.as_slice(), &firsts)?)
+    Ok(rows_in(alloc, &new, &tried, &firsts, recs.len())?)
 }
 
 /// Compares two rows: the one with more picks comes first, and of two with as many the one with the
-/// lower key.
+/// lower bytes.
 fn rank_cmp(a: &Row, b: &Row) -> Ordering
     ensures { result ≡ rank_cmp a.now b.now }
 {
-    b.picks.cmp(&a.picks).then(a.key.cmp(&b.key))
+    b.picks
+        .cmp(&a.picks)
+        .then(a.group.as_slice().cmp(&b.group.as_slice()))
 }
 
 /// Returns the rows of the groups of all records, those with more picks first.

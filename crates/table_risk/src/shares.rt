@@ -5,18 +5,19 @@ ghost use Rattle.table_risk.specs.Inside.{class_value, kind_in};
 use crate::classes::{Class, kinds_in};
 use risk_sum::most;
 use std::hash::BuildHasher;
+use table_groups::Group;
 
 /// How many refusals of a search are looked ahead: with eight failures and a try just now a record
 /// is accepted at the 45th.
 pub const AHEAD: u32 = 48;
 
 /// Returns how many of 2^64 searches of a table end at records of a group, at most.
-pub(crate) fn share<H: BuildHasher>(classes: &[Class<'_, H>], key: u128, ahead: u32) -> u128
+pub(crate) fn share<H: BuildHasher>(classes: &[Class<'_, H>], group: &Group, ahead: u32) -> u128
     requires few { length classes.now ≤ 18 }
     requires ahead { ahead ≤ 64 }
-    requires kinds { AreKinds (map (kind_in key) (map class_value classes.now)) }
-    ensures { let kinds = map (kind_in key) (map class_value classes.now) in
+    requires kinds { AreKinds (map (kind_in group.now.items) (map class_value classes.now)) }
+    ensures { let kinds = map (kind_in group.now.items) (map class_value classes.now) in
         result ≡ most_by kinds (starts_of kinds * 2 ^ 30) (2 ^ 64) ahead (2 ^ 30) }
 {
-    most(kinds_in(classes, key).as_slice(), ahead)
+    most(kinds_in(classes, group).as_slice(), ahead)
 }

@@ -111,8 +111,8 @@ fn put_name_in(
 
 /// Appends the bounds of a row.
 #[tactic(auto, unfolding(crate::specs::Texts::tail_text))]
-fn put_tail(row: Row, out: &mut Vec<u8>) -> Result<(), Memory>
-    ensures { OnOk result (out.new.items ≡ out.old.items ++ tail_text row) }
+fn put_tail(row: &Row, out: &mut Vec<u8>) -> Result<(), Memory>
+    ensures { OnOk result (out.new.items ≡ out.old.items ++ tail_text row.now) }
 {
     put_part(b": picks ", row.picks, out)?;
     put_part(b" new ", row.new, out)?;
@@ -135,11 +135,11 @@ fn put_row(
     placer: &Placer<'_>,
     by: By,
     recs: &[Rec],
-    row: Row,
+    row: &Row,
     out: &mut Vec<u8>,
 ) -> Result<(), Memory>
     ensures { OnOk result (out.new.items
-        ≡ out.old.items ++ row_text placer.now by recs.now row) }
+        ≡ out.old.items ++ row_text placer.now by recs.now row.now) }
 {
     put_text(word_of(by), out)?;
     put_name_in(alloc, placer, by, rec_at(recs, row.first), out)?;
@@ -160,7 +160,7 @@ fn put_rows(
         ≡ out.old.items ++ flat_map (row_text placer.now by recs.now) rows.now) }
 {
     for row in rows {
-        put_row(alloc, placer, by, recs, *row, out)?;
+        put_row(alloc, placer, by, recs, row, out)?;
     }
     Ok(())
 }

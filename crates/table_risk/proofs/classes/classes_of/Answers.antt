@@ -1,8 +1,8 @@
-use Rattle.table_risk.proofs.KindsOf.{classes_more, few_keys}
+use Rattle.table_risk.proofs.KindsOf.{classes_more, few_starts}
 use Rattle.table_risk.proofs.classes.classes_of.Goals as goal
 
 pub class_of-requires-clause-few : goal.class_of-requires-clause-few
-class_of-requires-clause-few g c = few_keys c.args.tables.now c.args.what c.requires.sound c.loop-chance.chance-index c.loop-chance-test.true
+class_of-requires-clause-few g c = few_starts c.args.tables.now c.args.what c.requires.sound c.loop-chance.chance-index c.loop-chance-test.true
 
 pub loop-chance-preserved : goal.loop-chance-preserved
 loop-chance-preserved g c =

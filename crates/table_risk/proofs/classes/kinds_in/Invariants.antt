@@ -5,6 +5,6 @@ use Rattle.table_risk.proofs.classes.kinds_in.Given as goal
 
 abbrev pub invariant-loop-class : goal.invariant-loop-class
 invariant-loop-class g l = record {
-  kinds : l.kinds.items ≡ map (kind_in l.key) (map class_value (take l.class-index l.classes));
+  kinds : l.kinds.items ≡ map (kind_in l.group.items) (map class_value (take l.class-index l.classes));
   few : array_vec_len l.kinds ≡ l.class-index;
 }

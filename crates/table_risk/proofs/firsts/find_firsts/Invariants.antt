@@ -1,14 +1,8 @@
-use Rattle.std.proofs.Common.{◌≡◌, ℕ, ◌+◌, ◌≤◌, ◌==◌, drop, length}
-use Rattle.std.specs.List.{position_or_len}
-use Rattle.table_risk.specs.Inside.{first_at}
+use Rattle.std.proofs.Common.{◌≡◌, length, take}
+use Rattle.table_groups.specs.Tally.{by_bytes}
+use Rattle.table_risk.specs.Inside.{firsts_by}
 use Rattle.table_risk.proofs.firsts.find_firsts.Given as goal
 
--- the first occurrences from this index on
+-- the records before this one are noted
 abbrev pub invariant-loop-index : goal.invariant-loop-index
-invariant-loop-index g l = record {
-  within : l.index ≤ length l.keys;
-  firsts : (key : ℕ) → first_at l.firsts.entries (length l.keys) key ≡ l.index + position_or_len (λ k. k == key) (drop l.index l.keys);
-}
-
-abbrev pub decreases-loop-index : goal.decreases-loop-index
-decreases-loop-index g l = l.index
+invariant-loop-index g l = by_bytes l.firsts.entries ≡ firsts_by l.placer l.by (length l.recs) (take l.index l.recs)

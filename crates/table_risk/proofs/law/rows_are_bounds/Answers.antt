@@ -2,7 +2,7 @@ use Rattle.table_risk.proofs.BoundsOf.{by_new, by_picks}
 use Rattle.table_risk.proofs.law.rows_are_bounds.Goals as goal
 
 pub returns-clause-picks : goal.returns-clause-picks
-returns-clause-picks c = λ st by now key first n theirs sound are. by_picks st by now key theirs sound are n
+returns-clause-picks c = λ st by g now first n theirs sound are. by_picks st by now g theirs sound are n
 
 pub returns-clause-new : goal.returns-clause-new
-returns-clause-new c = λ st by now key first n theirs sound are. by_new st by now key theirs sound are n
+returns-clause-new c = λ st by g now first n theirs sound are. by_new st by now g theirs sound are n

@@ -1,20 +1,21 @@
-use Rattle.std.proofs.Common.{◌∙◌}
-use Rattle.table_risk.specs.Rows.{keys_of}
+use Rattle.std.proofs.Common.{◌≡◌, List, ℕ, length, ap, ◌∙◌}
+use Rattle.peer_rec.specs.declared.rec.Rec.{Rec}
+use Rattle.table_groups.specs.Tally.{by_bytes}
+use Rattle.table_risk.specs.Inside.{firsts_by}
 use Rattle.table_risk.proofs.RowsOf.{all_fit, rows_are}
 use Rattle.table_risk.proofs.rows.rows_of.Goals as goal
 
-pub rows_at-requires-clause-new : goal.rows_at-requires-clause-new
-rows_at-requires-clause-new g c =
-    all_fit c.args.tables.now c.args.by _ c.requires.sound _ (c.as_slice-2.ensures.value ∙ c.in_ok-keys.ensures ∙ (λ i. keys_of (c.placer.ensures i) c.args.by (c.requires.recs i))) _
-    c.in_ok-new.ensures
+pub rows_in-requires-clause-new : goal.rows_in-requires-clause-new
+rows_in-requires-clause-new g c = all_fit c.args.tables.now _ c.requires.sound _ c.in_ok-new.ensures
 
-pub rows_at-requires-clause-tried : goal.rows_at-requires-clause-tried
-rows_at-requires-clause-tried g c =
-    all_fit c.args.tables.now c.args.by _ c.requires.sound _ (c.as_slice-2.ensures.value ∙ c.in_ok-keys.ensures ∙ (λ i. keys_of (c.placer.ensures i) c.args.by (c.requires.recs i))) _
-    c.in_ok-tried.ensures
+pub rows_in-requires-clause-tried : goal.rows_in-requires-clause-tried
+rows_in-requires-clause-tried g c = all_fit c.args.tables.now _ c.requires.sound _ c.in_ok-tried.ensures
 
 pub returns : goal.returns
 returns g c =
-    c.in_ok-rows_at.ensures
-    ∙ rows_are c.args.tables.now c.args.by c.args.now c.requires.sound _ _ c.in_ok-new.ensures c.in_ok-tried.ensures _
-    (c.as_slice-2.ensures.value ∙ c.in_ok-keys.ensures ∙ (λ i. keys_of (c.placer.ensures i) c.args.by (c.requires.recs i)))
+    let st = c.args.tables.now in
+    let count : ℕ = length c.args.recs.now in
+    let firsts : by_bytes c.in_ok-firsts.firsts.entries ≡ firsts_by st.places c.args.by count st.records =
+    c.in_ok-firsts.ensures ∙ (λ i. firsts_by (c.placer.ensures i) c.args.by count (c.requires.recs i)) in
+    rows_are st c.args.by c.args.now count _ _ c.in_ok-new.ensures c.in_ok-tried.ensures (ap (λ (recs : List Rec). length recs) c.requires.recs)
+    c.in_ok-firsts.firsts.entries firsts _ c.in_ok-rows_in.ensures

@@ -6,12 +6,12 @@ use Rattle.table_risk.proofs.rows.share_in.Goals as goal
 
 pub returns-then-share-lt-WHOLE-clause-is : goal.returns-then-share-lt-WHOLE-clause-is
 returns-then-share-lt-WHOLE-clause-is g c =
-    below_whole (side_value c.args.side.now) c.args.key c.share-share.result (ne_eqb c.args.side.now.wanted 0 c.if-side-eq0.false)
-    (is_share (map class_value c.as_slice.result.now) c.args.key c.share-share.result c.share-share.ensures ∙ ap (λ cs. classes_share (map class_value cs) c.args.key) c.as_slice.ensures.value)
+    below_whole (side_value c.args.side.now) c.args.group.now.items c.share-share.result (ne_eqb c.args.side.now.wanted 0 c.if-side-eq0.false)
+    (is_share (map class_value c.as_slice.result.now) c.args.group.now.items c.share-share.result c.share-share.ensures ∙ ap (λ cs. classes_share (map class_value cs) c.args.group.now.items) c.as_slice.ensures.value)
     c.if-share-lt-WHOLE.true
 
 pub returns-else-share-lt-WHOLE-clause-is : goal.returns-else-share-lt-WHOLE-clause-is
 returns-else-share-lt-WHOLE-clause-is g c =
-    whole (side_value c.args.side.now) c.args.key c.share-share.result (ne_eqb c.args.side.now.wanted 0 c.if-side-eq0.false)
-    (is_share (map class_value c.as_slice.result.now) c.args.key c.share-share.result c.share-share.ensures ∙ ap (λ cs. classes_share (map class_value cs) c.args.key) c.as_slice.ensures.value)
+    whole (side_value c.args.side.now) c.args.group.now.items c.share-share.result (ne_eqb c.args.side.now.wanted 0 c.if-side-eq0.false)
+    (is_share (map class_value c.as_slice.result.now) c.args.group.now.items c.share-share.result c.share-share.ensures ∙ ap (λ cs. classes_share (map class_value cs) c.args.group.now.items) c.as_slice.ensures.value)
     c.if-share-lt-WHOLE.false
