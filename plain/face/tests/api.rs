@@ -62,13 +62,14 @@ fn values_go_to_other_threads() {
 }
 
 #[test]
-fn memory_has_one_text_in_each_error() {
+fn errors_that_no_row_shows_have_texts() {
     let texts = [
         addrman::TableFault::Memory.to_string(),
         addrman::BanFault::Memory.to_string(),
         addrman::FileFault::Memory.to_string(),
     ];
     assert_eq!(texts, ["out of memory"; 3]);
+    assert_eq!(addrman::TableFault::TooMany.to_string(), "too-many");
 }
 
 #[test]
