@@ -16,8 +16,7 @@ use crate::input::{Input, load_input};
 use crate::output::{save_then_write, write_line};
 use crate::{Learned, Memory, Status};
 use ban_list::{
-    Ban, BanFault, BanReply, BanRule, Bans, Subnet, passed_over, put_subnet, read_bans,
-    write_bans,
+    Ban, BanFault, BanReply, BanRule, Bans, Subnet, passed_over, put_subnet, read_bans, write_bans,
 };
 use host_io::{Bytes, Folder, Name, Sink};
 use net_addr::{NetAddr, Peer, put_number};
