@@ -9,7 +9,8 @@
 //!   the first that the bytes show, unless memory runs out.
 //! - For each chain, a list of bytes has exactly one of the two meanings, and memory is no fault of
 //!   bytes (`files_have_one_meaning`).
-//! - What `write_file` writes is read as the same list, has no fault, and is shorter than the limit.
+//! - What `write_file` writes is read as the same list, has no fault, and is shorter than
+//!   `MAX_FILE`.
 //! - `anchors_text` is exactly the text that lists the anchors.
 //!
 //! Tested only: what `Display` writes of the faults.
@@ -22,7 +23,7 @@ mod read;
 mod write;
 
 pub use fault::{AnchorCause, AnchorsFault};
-pub use law::files_have_one_meaning;
+pub use law::{files_have_one_meaning, limits};
 pub use listing::anchors_text;
 pub use read::{Anchors, MAX_ANCHORS, MAX_FILE, read_file};
 pub use write::write_file;

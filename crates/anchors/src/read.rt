@@ -40,8 +40,8 @@ fn take_number(index: u32, bytes: &[u8]) -> Result<(u32, &[u8]), AnchorsFault>
     }
 }
 
-/// Takes the first field of an anchor, of which all but the low 19 bits say that its address is laid
-/// out as in `addrv2`.
+/// Takes the first field of an anchor, of which all but the low 19 bits say that its address is
+/// laid out as in `addrv2`.
 #[tactic(auto, unfolding(crate::specs::Readings::layout_at))]
 fn take_layout(index: u32, bytes: &[u8]) -> Result<(u32, &[u8]), AnchorsFault>
     ensures { Gives (λ x. (x.0, x.1.now)) result (layout_at index bytes.now) }
