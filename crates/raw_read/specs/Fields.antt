@@ -1,5 +1,6 @@
--- What a value says of a record (`AddrmanEntryToJSON` in rpc/net.cpp of Bitcoin Core). Other members
--- count for nothing, and of two members of one name the last one counts (RFC 8259, section 4).
+-- What a value says of a record (`AddrmanEntryToJSON` in rpc/net.cpp of Bitcoin Core). Other
+-- members count for nothing, and of two members of one name the last one counts (RFC 8259, section
+-- 4).
 use Rattle.std.specs.Prelude.{◌≡◌, ℕ, ◌≤◌, List, Bool, true, false, codes, decimal, bytes_eq, Option, Some, None, option_and_then}
 use Rattle.std.specs.Int.{w128, to_be_bytes}
 use Rattle.json.specs.Json.{Json}
