@@ -1,5 +1,5 @@
 -- Values of JSON whose members have a stated order, and their text.
-use Rattle.std.specs.Prelude.{◌≡◌, ℕ, List, [], ◌∷◌, ◌++◌, Some, decimal, codes, ◌==◌, if◌then◌else◌}
+use Rattle.std.specs.Prelude.{◌≡◌, ℕ, List, [], ◌∷◌, ◌++◌, Some, decimal, codes, ◌==◌, if◌then◌else◌, IsUtf8}
 use Rattle.json.specs.Json.{Json, Items, Members, number, object, array, no_members, member, no_items, item, document}
 use Rattle.json.specs.Layout.{pretty}
 use Rattle.json.specs.Tree.{json_tokens}
@@ -36,7 +36,9 @@ unless_zero name n = if n == 0 then [] else (name, json_number n) ∷ []
 abbrev pub json_text : Json → List ℕ
 json_text value = pretty (json_tokens value) ++ codes "\n"
 
--- The text of a value, which without its line feed reads as the value, by the grammar of RFC 8259.
+-- The text of a value, which is UTF-8, and without its line feed reads as the value, by the grammar
+-- of RFC 8259.
 pub record IsJsonText (value : Json) (text : List ℕ) : Type 0 where
   pub whole : text ≡ json_text value
+  pub utf8 : IsUtf8 (pretty (json_tokens value))
   pub reads : document (pretty (json_tokens value)) ≡ Some value

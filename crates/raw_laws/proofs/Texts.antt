@@ -92,7 +92,7 @@ read_back st text h = record {
   json = record {
     line = pretty (json_tokens (raw_json st));
     without_end = inl h.json.whole;
-    utf8 = h.utf8;
+    utf8 = h.json.utf8;
     value = h.json.reads;
   };
   new = table_members New st;

@@ -1,8 +1,6 @@
 -- The slots and records of tables, as `raw` prints them and `raw_read` reads them.
-use Rattle.std.specs.Prelude.{◌≡◌, ℕ, ◌<◌, ◌^◌, List, [], ◌∷◌, All, Option, Some, None, slice_index, IsUtf8, ⊤}
+use Rattle.std.specs.Prelude.{◌≡◌, ℕ, ◌<◌, ◌^◌, List, [], ◌∷◌, All, Option, Some, None, slice_index, ⊤}
 use Rattle.std.specs.List.{flat_map, range_with_len}
-use Rattle.json.specs.Layout.{pretty}
-use Rattle.json.specs.Tree.{json_tokens}
 use Rattle.net_addr.specs.Address.{Address, IsAddress}
 use Rattle.net_addr.specs.declared.net.Net.{Net}
 use Rattle.net_addr.specs.declared.net.Net.TheVariants.{Cjdns}
@@ -77,4 +75,3 @@ pub record IsPrintable (r : Rec) : Type 0 where
 pub record IsPrinted (st : State) (text : List ℕ) : Type 0 where
   pub records : All IsPrintable st.records
   pub json : IsJsonText (raw_json st) text
-  pub utf8 : IsUtf8 (pretty (json_tokens (raw_json st)))
