@@ -1,6 +1,7 @@
 ghost use Rattle.std.specs.Prelude.{◌≡◌, ◌≢◌, ◌⊎◌, ℕ, List, [], ◌∷◌, ◌++◌, true, length, ◌*◌, ◌+◌, ◌-◌, ◌≤◌};
 ghost use Rattle.std.specs.List.{AllByRecursion};
-ghost use Rattle.addr_answers.specs.Answers.{Answer, answer_at, least_of};
+ghost use Rattle.net_addr.specs.declared.net.Net.{Net};
+ghost use Rattle.addr_answers.specs.Answers.{Answer, answer_at, key_of, least_of};
 ghost use Rattle.addr_answers.specs.Runs.{Ask, is_made, told, after_ask, after_asks, IsWithin, IsOneOf, IsBetween, makers, AreApart};
 ghost use Rattle.addr_answers.specs.declared.answers.TheConstants.{MAX_KEYS, MAX_TOLD};
 ghost use Rattle.addr_answers.specs.declared.kept.TheConstants.{KEPT_SECONDS, EXTRA_SECONDS, FEW_RECORDS, FEW_SECONDS};
@@ -34,6 +35,12 @@ pub fn answers_stay()
         AllByRecursion (λ a. a.key ≡ first.key → IsWithin first a.now) between →
         IsWithin first again.now →
         told (after_asks (after_ask kept first) between) again ≡ first.fresh }
+{}
+
+/// Each network class and local socket has a key of its own.
+pub fn keys_are_distinct()
+    ensures { (net other : Net) (socket another : ℕ) →
+        key_of net socket ≡ key_of other another → (net ≡ other) × (socket ≡ another) }
 {}
 
 /// Requests of other keys change nothing of what is kept of a key.

@@ -9,7 +9,8 @@
 //! - After a request for which an answer was made, each request of its key within 21 hours, before
 //!   or after by the clock, gets the same one, whatever came between; within an hour, if it was
 //!   made of few records (`answers_stay`).
-//! - What is kept of a key does not depend on requests of other keys (`keys_are_apart`).
+//! - Each network class and local socket has a key of its own (`keys_are_distinct`), and what is
+//!   kept of a key does not depend on requests of other keys (`keys_are_apart`).
 //! - An answer is empty or what was sampled at one request of its key (`answers_are_samples`).
 //! - While the clock does not go back, the samples that requests of a key show are 21 hours apart,
 //!   or an hour after one of few records (`samples_are_rare`).
@@ -25,5 +26,7 @@ pub use answers::{Answers, MAX_KEYS, MAX_TOLD};
 pub use hiding::{EXTRA_AGE, MIN_AGE, told_time};
 pub use kept::{EXTRA_SECONDS, FEW_RECORDS, FEW_SECONDS, KEPT_SECONDS};
 pub use key::key_of;
-pub use law::{answers_are_samples, answers_stay, keys_are_apart, limits, samples_are_rare};
+pub use law::{
+    answers_are_samples, answers_stay, keys_are_apart, keys_are_distinct, limits, samples_are_rare,
+};
 pub use net_addr::Memory;
