@@ -11,8 +11,8 @@ use crate::{
     EXTRA_AGE, EXTRA_SECONDS, FEW_RECORDS, FEW_SECONDS, KEPT_SECONDS, MAX_KEYS, MAX_TOLD, MIN_AGE,
 };
 
-/// How much is kept and told, for how many seconds, and by how many seconds a time that hides those
-/// of the records comes before an answer.
+/// How many answers are kept and how many entries they have, for how many seconds, and by how many
+/// seconds a time that hides those of the records comes before an answer.
 pub fn limits()
     ensures keys { MAX_KEYS ≡ 64 }
     ensures told { MAX_TOLD ≡ 1000 }

@@ -1,4 +1,4 @@
-/// How a list of bans stands in its file.
+/// How a list of bans is written in its file, and when a ban is over.
 #[derive(Clone, Copy)]
 pub enum BanRule {
     /// Addresses of Tor v3, I2P and CJDNS have the labels that the lines of a log have, elements

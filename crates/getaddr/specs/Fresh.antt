@@ -18,7 +18,7 @@ use Rattle.getaddr.specs.declared.asking.TheConstants.{MAX_PERCENT}
 use Rattle.getaddr.specs.declared.times.Times.{Times}
 use Rattle.getaddr.specs.declared.times.Times.TheVariants.{Hidden, Own}
 
--- the networks whose peers are told
+-- the networks whose peers are announced
 abbrev pub told_nets : List ℕ
 told_nets =
     with_net (with_net (with_net (with_net (with_net none Ipv4) Ipv6) Onion) I2p) Cjdns

@@ -20,7 +20,7 @@ use tables::Tables;
 /// net_processing.cpp of Bitcoin Core).
 pub const MAX_PERCENT: u32 = 23;
 
-/// Returns the networks whose peers are told.
+/// Returns the networks whose peers are announced.
 fn told_nets() -> NetSet
     ensures { result ≡ told_nets }
 {

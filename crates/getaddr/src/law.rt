@@ -15,7 +15,7 @@ ghost use Rattle.getaddr.specs.declared.times.Times.TheVariants.{Hidden};
 
 use crate::MAX_PERCENT;
 
-/// The part of the records that is told.
+/// How many percent of the records an answer has, at most.
 pub fn limits()
     ensures { MAX_PERCENT ≡ 23 }
 {}

@@ -23,7 +23,7 @@ pub record IsNumberAt (name : List ℕ) (most : ℕ) (j : Json) (n : ℕ) : Type
   pub below : n ≤ most
   pub digits : option_and_then as_number (get name j) ≡ Some (decimal n)
 
--- the network is said to be none that is routed
+-- the address is said not to be routable
 abbrev pub is_local : Option (List ℕ) → Bool
 is_local None = false
 is_local (Some network) = bytes_eq network (codes "not_publicly_routable")
