@@ -1,13 +1,14 @@
 -- The tokens and the depth of a list of bans.
-use Rattle.std.proofs.Common.{◌≡◌, ℕ, ◌+◌, ◌<◌, ◌≤◌, nat_lt, List, [], ◌∷◌, ◌++◌, length, take, get_or, map, refl, ap, sym, ◌∙◌, arith, append_assoc}
+use Rattle.std.proofs.Common.{◌≡◌, ℕ, ◌+◌, ◌<◌, ◌≤◌, List, [], ◌∷◌, ◌++◌, length, take, get_or, map, refl, ap, sym, ◌∙◌, arith, append_assoc}
 use Rattle.std.proofs.Math.Nat.{max-le}
 use Rattle.std.proofs.lemmas.List.{map-append, take_more}
 use Rattle.std.proofs.lemmas.List.Elements.{filter-append}
 use Rattle.json.specs.Token.{Token}
 use Rattle.json.specs.Json.{Json}
 use Rattle.json.specs.Tree.{json_tokens, items_tokens, depth, items_depth}
-use Rattle.ban_list.specs.Bans.{current}
+use Rattle.ban_list.specs.Bans.{current_by, lasts}
 use Rattle.ban_list.specs.declared.ban.Ban.{Ban}
+use Rattle.ban_list.specs.declared.rule.BanRule.{BanRule}
 use Rattle.node_json.specs.Bans.{ban_json, bans_json}
 use Rattle.node_json.specs.Inside.{items_tokens_of}
 use Rattle.node_json.specs.Value.{array_of, items_of}
@@ -28,20 +29,20 @@ array_value js old begun inside new b i n =
     ∙ append_assoc old (Token.begin_array ∷ items_tokens_of js) (Token.end_array ∷ [])
     ∙ ap (λ ts. old ++ Token.begin_array ∷ ts) (sym (items_end js))
 
-current-append : (now : ℕ) (xs ys : List Ban) → current now (xs ++ ys) ≡ current now xs ++ current now ys
-current-append now xs ys = filter-append (λ (ban : Ban). nat_lt now ban.until) xs ys
+current-append : (rule : BanRule) (now : ℕ) (xs ys : List Ban) → current_by rule now (xs ++ ys) ≡ current_by rule now xs ++ current_by rule now ys
+current-append rule now xs ys = filter-append (λ (ban : Ban). lasts rule now ban) xs ys
 
 -- the bans of one position more
-pub one_ban_more : (now : ℕ) (bans : List Ban) (i : ℕ) (ban : Ban) (first at next : List Token) → i < length bans → ban ≡ get_or bans i ban
-    → at ≡ first ++ items_tokens_of (map (ban_json now) (current now (take i bans)))
-    → next ≡ at ++ items_tokens_of (map (ban_json now) (current now (ban ∷ [])))
-    → next ≡ first ++ items_tokens_of (map (ban_json now) (current now (take (i + 1) bans)))
-one_ban_more now bans i ban first at next lt is e f =
-    let before = current now (take i bans) in
-    let here = current now (ban ∷ []) in
+pub one_ban_more : (rule : BanRule) (now : ℕ) (bans : List Ban) (i : ℕ) (ban : Ban) (first at next : List Token) → i < length bans → ban ≡ get_or bans i ban
+    → at ≡ first ++ items_tokens_of (map (ban_json now) (current_by rule now (take i bans)))
+    → next ≡ at ++ items_tokens_of (map (ban_json now) (current_by rule now (ban ∷ [])))
+    → next ≡ first ++ items_tokens_of (map (ban_json now) (current_by rule now (take (i + 1) bans)))
+one_ban_more rule now bans i ban first at next lt is e f =
+    let before = current_by rule now (take i bans) in
+    let here = current_by rule now (ban ∷ []) in
     let taken : take (i + 1) bans ≡ take i bans ++ ban ∷ [] = take_more bans i ban lt ∙ ap (λ b. take i bans ++ b ∷ []) (sym is) in
-    let all : items_tokens_of (map (ban_json now) (current now (take (i + 1) bans))) ≡ items_tokens_of (map (ban_json now) before) ++ items_tokens_of (map (ban_json now) here) =
-    ap (λ bs. items_tokens_of (map (ban_json now) bs)) (ap (current now) taken ∙ current-append now (take i bans) (ban ∷ []))
+    let all : items_tokens_of (map (ban_json now) (current_by rule now (take (i + 1) bans))) ≡ items_tokens_of (map (ban_json now) before) ++ items_tokens_of (map (ban_json now) here) =
+    ap (λ bs. items_tokens_of (map (ban_json now) bs)) (ap (current_by rule now) taken ∙ current-append rule now (take i bans) (ban ∷ []))
     ∙ ap items_tokens_of (map-append (ban_json now) before here) ∙ items-append (map (ban_json now) before) (map (ban_json now) here) in
     f ∙ ap (λ ts. ts ++ items_tokens_of (map (ban_json now) here)) e ∙ append_assoc first (items_tokens_of (map (ban_json now) before)) (items_tokens_of (map (ban_json now) here)) ∙ ap (λ ts. first ++ ts) (sym all)
 
@@ -49,6 +50,6 @@ shallow_items : (now : ℕ) (bans : List Ban) → items_depth (items_of (map (ba
 shallow_items now [] = omega arith
 shallow_items now (b ∷ bans) = max-le (omega arith) (shallow_items now bans)
 
-pub bans_depth : (now : ℕ) (bans : List Ban) → depth (bans_json now bans) ≤ 128
+pub bans_depth : (rule : BanRule) (now : ℕ) (bans : List Ban) → depth (bans_json rule now bans) ≤ 128
 unfolding bans_json
-bans_depth now bans = omega (arith, shallow_items now (current now bans))
+bans_depth rule now bans = omega (arith, shallow_items now (current_by rule now bans))

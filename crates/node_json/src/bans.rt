@@ -1,34 +1,14 @@
-ghost use Rattle.std.specs.Prelude.{◌≡◌, ◌<◌, [], ◌∷◌, ◌++◌, IfOk, OnOk, map};
-ghost use Rattle.std.specs.String.{string_bytes};
+ghost use Rattle.std.specs.Prelude.{◌≡◌, [], ◌∷◌, ◌++◌, IfOk, OnOk, map};
 ghost use Rattle.json.specs.Tree.{json_tokens};
-ghost use Rattle.ban_list.specs.Bans.{current};
-ghost use Rattle.node_json.specs.Bans.{ban_json, bans_json, subnet_name};
+ghost use Rattle.ban_list.specs.Bans.{current_by};
+ghost use Rattle.node_json.specs.Bans.{ban_json, bans_json};
 ghost use Rattle.node_json.specs.Inside.{items_tokens_of, span_tokens, time_tokens};
 ghost use Rattle.node_json.specs.Value.{IsJsonText};
 
 use crate::put::{put_number, put_string, with_end};
-use ban_list::{Ban, Subnet};
-use itoa::Buffer;
+use ban_list::{Ban, BanRule, subnet_name};
 use json::{Pretty, Token};
-use names::name_of;
-use net_addr::Net;
 use std::alloc::{AllocError, Global};
-
-/// Returns the name of a subnet.
-fn subnet_name(alloc: Global, subnet: &Subnet) -> Result<String, AllocError>
-    ensures { IfOk result (λ text. string_bytes text ≡ subnet_name subnet.now) }
-{
-    let len = subnet.len;
-    let mut text = name_of(alloc, &subnet.addr)?;
-    match subnet.addr.net() {
-        Net::Ipv4 | Net::Ipv6 => {
-            text.push_str("/")?;
-            text.push_str(Buffer::new().format(len))?;
-            Ok(text)
-        }
-        _ => Ok(text),
-    }
-}
 
 /// Appends when a ban was made, when it is over, how long it lasts, and for how long still.
 #[tactic(auto, unfolding(crate::specs::Inside::span_tokens))]
@@ -72,44 +52,67 @@ fn put_ban(alloc: Global, json: &mut Pretty, now: u32, ban: &Ban) -> Result<(), 
     Ok(())
 }
 
-/// Appends a ban unless it is over.
-fn put_current(alloc: Global, json: &mut Pretty, now: u32, ban: &Ban) -> Result<(), AllocError>
+/// Appends a ban unless it is over by a rule.
+fn put_current(
+    alloc: Global,
+    json: &mut Pretty,
+    rule: BanRule,
+    now: u32,
+    ban: &Ban,
+) -> Result<(), AllocError>
     ensures { OnOk result (json.new
-        ≡ json.old ++ items_tokens_of (map (ban_json now) (current now (ban.now ∷ [])))) }
+        ≡ json.old ++ items_tokens_of (map (ban_json now) (current_by rule now (ban.now ∷ [])))) }
 {
-    if now < ban.until {
+    if ban.lasts(rule, now) {
         put_ban(alloc, json, now, ban)?;
         return Ok(());
     }
     Ok(())
 }
 
-/// Appends the bans that are not over.
-fn put_list(alloc: Global, json: &mut Pretty, now: u32, bans: &[Ban]) -> Result<(), AllocError>
+/// Appends the bans that are not over by a rule.
+fn put_list(
+    alloc: Global,
+    json: &mut Pretty,
+    rule: BanRule,
+    now: u32,
+    bans: &[Ban],
+) -> Result<(), AllocError>
     ensures { OnOk result (json.new
-        ≡ json.old ++ items_tokens_of (map (ban_json now) (current now bans.now))) }
+        ≡ json.old ++ items_tokens_of (map (ban_json now) (current_by rule now bans.now))) }
 {
     for ban in bans {
-        put_current(alloc, json, now, ban)?;
+        put_current(alloc, json, rule, now, ban)?;
     }
     Ok(())
 }
 
-/// Appends the array of the bans that are not over.
-fn put_bans(alloc: Global, json: &mut Pretty, now: u32, bans: &[Ban]) -> Result<(), AllocError>
-    ensures { OnOk result (json.new ≡ json.old ++ json_tokens (bans_json now bans.now)) }
+/// Appends the array of the bans that are not over by a rule.
+fn put_bans(
+    alloc: Global,
+    json: &mut Pretty,
+    rule: BanRule,
+    now: u32,
+    bans: &[Ban],
+) -> Result<(), AllocError>
+    ensures { OnOk result (json.new ≡ json.old ++ json_tokens (bans_json rule now bans.now)) }
 {
     json.token(Token::BeginArray)?;
-    put_list(alloc, json, now, bans)?;
+    put_list(alloc, json, rule, now, bans)?;
     json.token(Token::EndArray)?;
     Ok(())
 }
 
-/// Returns the text of the bans that are not over at `now`, in their order.
-pub fn bans_text(alloc: Global, now: u32, bans: &[Ban]) -> Result<Vec<u8>, AllocError>
-    ensures { IfOk result (λ text. IsJsonText (bans_json now bans.now) text.items) }
+/// Returns the text of the bans that are not over by a rule at `now`, in their order.
+pub fn bans_text(
+    alloc: Global,
+    rule: BanRule,
+    now: u32,
+    bans: &[Ban],
+) -> Result<Vec<u8>, AllocError>
+    ensures { IfOk result (λ text. IsJsonText (bans_json rule now bans.now) text.items) }
 {
     let mut json = Pretty::new(alloc);
-    put_bans(alloc, &mut json, now, bans)?;
+    put_bans(alloc, &mut json, rule, now, bans)?;
     with_end(json)
 }

@@ -8,7 +8,8 @@ use Rattle.node_json.proofs.bans.bans_text.Goals as goal
 
 pub returns : goal.returns
 returns c =
+    let rule = c.args.rule in
     let now = c.args.now in
     let bans = c.args.bans.now in
-    if_ok _ (λ text. IsJsonText (bans_json now bans) text.items) c.with_end.result
-    (λ text h. h (bans_json now bans) (c.in_ok-put_bans.ensures ∙ ap (λ ts. ts ++ json_tokens (bans_json now bans)) c.new-json.ensures) (bans_depth now bans)) c.with_end.ensures
+    if_ok _ (λ text. IsJsonText (bans_json rule now bans) text.items) c.with_end.result
+    (λ text h. h (bans_json rule now bans) (c.in_ok-put_bans.ensures ∙ ap (λ ts. ts ++ json_tokens (bans_json rule now bans)) c.new-json.ensures) (bans_depth rule now bans)) c.with_end.ensures
