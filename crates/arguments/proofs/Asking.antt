@@ -1,14 +1,12 @@
 -- Arguments ask for one request at most.
 use Rattle.std.proofs.Common.{◌≡◌, ◌≢◌, ◌≤◌, ◌<◌, ℕ, Bool, true, List, [], ◌∷◌, ◌++◌, codes, length, drop, get_or, decimal, find, Option, Some, None, refl, sym, ap, subst, inl, inr, ◌∙◌, arith}
 use Rattle.std.specs.Prelude.{◌↔◌, IfSome, IfNone, IsTrue, false, bytes_eq, unwrap_or}
-use Rattle.std.proofs.lemmas.Fmt.{decimal_injective}
 use Rattle.std.proofs.lemmas.Bool.{iff_false}
 use Rattle.std.proofs.lemmas.Option.{none-some}
-use Rattle.ban_list.proofs.Forms.{one_subnet}
 use Rattle.ban_list.specs.Subnet.{IsProper}
-use Rattle.ban_list.specs.SubnetText.{IsSubnetText}
+use Rattle.ban_list.specs.SubnetText.{IsSubnetTextBy}
+use Rattle.ban_list.specs.declared.rule.BanRule.{BanRule}
 use Rattle.ban_list.specs.declared.subnet.Subnet.{Subnet}
-use Rattle.ban_list.specs.BanFile.{max_time}
 use Rattle.gen_load.specs.declared.generated.TheConstants.{MAX_LINES}
 use Rattle.grammar.specs.Fields.{AllMean, AreAtFault, Kind, Number, OfPeer, TheNumber, ThePeer, Value, u64_field}
 use Rattle.grammar.specs.Table.{all_definite}
@@ -24,13 +22,14 @@ use Rattle.peers_file.specs.declared.chain.Chain.{Chain}
 use Rattle.placing.specs.declared.sum.SumRule.{SumRule}
 use Rattle.placing.specs.declared.sum.SumRule.TheVariants.{Bytes}
 use Rattle.arguments.specs.Options.{HasRule, IsAfterGrouping, IsAfterPeers, IsListingOptions, IsNet, IsOpeningOptions}
-use Rattle.arguments.specs.Table.{AddressOrLines, Asks, Fields, Form, Grouped, HasNoValues, IsAddressIn, IsProperRequest, Listing, Network, OfCommand, OfSubnet, Opening, PeerOrLines, Period, Reads, Records, TheAddress, TheKind, TheCommand, TheFields, TheGroups, TheListing, TheOpening, ThePeriod, TheRecords, TheSubnet, Values, form_of, name_of, plain_word, request_values, command_word}
+use Rattle.arguments.specs.Table.{AddressOrLines, Asks, Fields, ForBans, Form, Grouped, HasNoValues, IsAddressIn, IsProperRequest, Listing, Network, OfCommand, OfSubnet, Opening, PeerOrLines, Period, Reads, Records, TheAddress, TheBanFields, TheKind, TheCommand, TheFields, TheGroups, TheListing, TheOpening, ThePeriod, TheRecords, TheSubnet, Values, form_of, name_of, plain_word, request_values, command_word}
 use Rattle.arguments.specs.declared.grouping.Grouping.{Grouping}
 use Rattle.arguments.specs.declared.name.CommandName.{CommandName}
 use Rattle.arguments.specs.declared.name.CommandName.TheVariants as name
 use Rattle.arguments.specs.declared.name.TheConstants.{NAMES}
 use Rattle.arguments.specs.declared.request.Request.{Request}
 use Rattle.arguments.specs.declared.request.Request.TheVariants.{Replay, Opener, Compile, Check, Decompile, Diff, Limit, Lookup, LookupLines, Address, AddressLines, Show, Picture, Raw, Info, Groups, Risk, Ban, Unban, Banned, Bans, Gen, Trial, Help, Version}
+use Rattle.arguments.proofs.BanForms.{one_ban_fields, one_period, one_subnet_in}
 use Rattle.arguments.proofs.WithCore.{no_file_kind, no_listing_kind, no_opening_kind, no_peers, one_file_kind, one_listing_kind, one_opening_kind, one_peers}
 use Rattle.arguments.proofs.Groupings.{no_grouping_kind, one_grouping_kind}
 use Rattle.arguments.proofs.Names.{name_found, one_command}
@@ -69,15 +68,8 @@ one_addresses texts v w (inr (h, (a, is, in_texts))) (inr (k, (b, same, other)))
 -- the fields of the form are definite, as a test
 abbrev definite_form : Form → Bool
 definite_form (Fields kinds) = all_definite kinds
+definite_form (ForBans kinds) = all_definite kinds
 definite_form other = true
-
-one_period : (texts : List (List ℕ)) (v w : Values) → Reads Period texts v → Reads Period texts w → v ≡ w
-one_period texts v w h k =
-    let e = sym h.5 ∙ k.5 in
-    let subnets = one_subnet k.0 h.1 k.1 (subst (λ t. IsSubnetText t h.1) (ap (λ ts. get_or ts 0 []) e) h.6) k.6 in
-    let nows = decimal_injective h.2 k.2 (omega (arith, h.7, h.8)) (omega (arith, k.7, k.8)) (ap (λ ts. get_or ts 1 []) e) in
-    let untils = decimal_injective h.3 k.3 (omega (arith, h.8)) (omega (arith, k.8)) (ap (λ ts. get_or ts 2 []) e) in
-    h.4 ∙ (λ i. ThePeriod (subnets i) (nows i) (untils i)) ∙ sym k.4
 
 one_values : (form : Form) (texts : List (List ℕ)) (v w : Values) → definite_form form ≡ true → Reads form texts v → Reads form texts w → v ≡ w
 one_values (Fields kinds) texts v w is h k = h.1 ∙ ap TheFields (one_list kinds texts h.0 k.0 is h.2 k.2) ∙ sym k.1
@@ -92,10 +84,9 @@ one_values Records texts v w is h k = h.1 ∙ ap TheRecords (one_peers texts h.0
 one_values Grouped texts v w is h k =
     let same = one_grouping_kind texts h.0 k.0 h.1 k.1 h.3 k.3 in
     h.2 ∙ (λ i. TheGroups (same.0 i) (same.1 i)) ∙ sym k.2
-one_values OfSubnet texts v w is h k =
-    let same = ap (λ ts. get_or ts 0 []) (sym h.3 ∙ k.3) in
-    h.2 ∙ ap TheSubnet (one_subnet k.0 h.1 k.1 (subst (λ t. IsSubnetText t h.1) same h.4) k.4) ∙ sym k.2
+one_values OfSubnet texts v w is h k = one_subnet_in texts v w h k
 one_values Period texts v w is h k = one_period texts v w h k
+one_values (ForBans kinds) texts v w is h k = one_ban_fields kinds texts v w is h k
 one_values PeerOrLines texts v w is h k = one_lookup texts v w h k
 one_values AddressOrLines texts v w is h k = one_addresses texts v w h k
 one_values OfCommand texts v w is h k = h.1 ∙ ap TheCommand (one_command texts h.0 k.0 h.2 k.2) ∙ sym k.1
@@ -123,10 +114,10 @@ request_by name.Raw (TheKind kind) = Raw kind
 request_by name.Info (TheKind kind) = Info kind
 request_by name.Groups (TheKind kind) = Groups kind
 request_by name.Risk (TheGroups by kind) = Risk by kind
-request_by name.Ban (ThePeriod subnet now until) = Ban subnet now until
-request_by name.Unban (TheSubnet subnet) = Unban subnet
-request_by name.Banned (TheFields (ThePeer peer ∷ TheNumber now ∷ [])) = Banned peer now
-request_by name.Bans (TheFields (TheNumber now ∷ [])) = Bans now
+request_by name.Ban (ThePeriod rule subnet now until) = Ban rule subnet now until
+request_by name.Unban (TheSubnet rule subnet) = Unban rule subnet
+request_by name.Banned (TheBanFields rule (ThePeer peer ∷ TheNumber now ∷ [])) = Banned rule peer now
+request_by name.Bans (TheBanFields rule (TheNumber now ∷ [])) = Bans rule now
 request_by name.Gen (TheFields (TheNumber start ∷ TheNumber lines ∷ [])) = Gen start lines
 request_by name.Trial (TheFields (TheNumber start ∷ TheNumber lines ∷ [])) = Trial start lines
 request_by name.Help (TheCommand command) = Help command
@@ -191,8 +182,8 @@ none_asked words texts word plain found is of_word searched none request asks =
 -- WHAT A REQUEST PROMISES
 
 subnet_in : Values → Subnet → Subnet
-subnet_in (TheSubnet subnet) other = subnet
-subnet_in (ThePeriod subnet now until) other = subnet
+subnet_in (TheSubnet rule subnet) other = subnet
+subnet_in (ThePeriod rule subnet now until) other = subnet
 subnet_in values other = other
 
 numbers_in : List Value → ℕ
@@ -217,18 +208,18 @@ few_lines texts start lines reads = by texts reads.0 (ap fields_in reads.1) read
     by (a ∷ b ∷ c ∷ texts) (v ∷ w ∷ values) is all = absurd all.1.1
     by (a ∷ b ∷ []) (v ∷ w ∷ x ∷ values) is all = absurd all.1.1
 
-module _ (law : (text : List ℕ) (s : Subnet) → IsSubnetText text s → IsProper s) where
-  proper_period : (texts : List (List ℕ)) (s : Subnet) (now until : ℕ) → Reads Period texts (ThePeriod s now until) → IsProper s
+module _ (law : (rule : BanRule) (text : List ℕ) (s : Subnet) → IsSubnetTextBy rule text s → IsProper s) where
+  proper_period : (texts : List (List ℕ)) (rule : BanRule) (s : Subnet) (now until : ℕ) → Reads Period texts (ThePeriod rule s now until) → IsProper s
   unfolding subnet_in
-  proper_period texts s now until reads = subst IsProper (sym (ap (λ v. subnet_in v s) reads.4)) (law reads.0 reads.1 reads.6)
+  proper_period texts rule s now until (r, rest, found, n, u, is, has, (text, all, means, less, most)) = subst IsProper (sym (ap (λ v. subnet_in v s) is)) (law r text found means)
 
-  proper_subnet : (texts : List (List ℕ)) (s : Subnet) → Reads OfSubnet texts (TheSubnet s) → IsProper s
+  proper_subnet : (texts : List (List ℕ)) (rule : BanRule) (s : Subnet) → Reads OfSubnet texts (TheSubnet rule s) → IsProper s
   unfolding subnet_in
-  proper_subnet texts s reads = subst IsProper (sym (ap (λ v. subnet_in v s) reads.2)) (law reads.0 reads.1 reads.4)
+  proper_subnet texts rule s (r, rest, found, is, has, (text, alone, means)) = subst IsProper (sym (ap (λ v. subnet_in v s) is)) (law r text found means)
 
   proper : (request : Request) (texts : List (List ℕ)) → Reads (form_of (name_of request)) texts (request_values request) → IsProperRequest request
-  proper (Ban subnet now until) texts reads = proper_period texts subnet now until reads
-  proper (Unban subnet) texts reads = proper_subnet texts subnet reads
+  proper (Ban rule subnet now until) texts reads = proper_period texts rule subnet now until reads
+  proper (Unban rule subnet) texts reads = proper_subnet texts rule subnet reads
   proper (Gen start lines) texts reads = few_lines texts start lines reads
   proper (Trial start lines) texts reads = few_lines texts start lines reads
   proper other texts reads = tt
@@ -251,20 +242,6 @@ unfolding HasNoValues
 no_lookup texts is_dash iff not_it none v (inl dash) = iff_false iff not_it dash.1
 no_lookup texts is_dash iff not_it none v (inr peer) = none v (ThePeer peer.0 ∷ [], peer.1, peer.2)
 
-pub no_subnet : (texts : List (List ℕ)) (word : List ℕ) (r : Option Subnet) → texts ≡ word ∷ [] → ((s : Subnet) → IsSubnetText word s → r ≡ Some s) → IfNone r (HasNoValues OfSubnet texts)
-unfolding HasNoValues
-no_subnet texts word None is only = λ v reads.
-    none-some reads.1 (only reads.1 (subst (λ t. IsSubnetText t reads.1) (ap (λ ts. get_or ts 0 []) (sym reads.3 ∙ is)) reads.4))
-no_subnet texts word (Some s) is only = tt
-
-pub no_word : (texts : List (List ℕ)) → ((word : List ℕ) → texts ≡ word ∷ [] → ⊥) → HasNoValues OfSubnet texts
-unfolding HasNoValues
-no_word texts none v reads = none reads.0 reads.3
-
-pub found_subnet : (texts : List (List ℕ)) (word : List ℕ) (r : Option Subnet) → texts ≡ word ∷ [] → IfSome r (IsSubnetText word) → IfSome r (λ s. Reads OfSubnet texts (TheSubnet s))
-found_subnet texts word None is found = tt
-found_subnet texts word (Some s) is found = (word, s, refl, is, found)
-
 pub found_address : (texts : List (List ℕ)) (word : List ℕ) (r : Option NetAddress) → texts ≡ word ∷ [] → IfSome r (IsTextOf word) → IfSome r (IsAddressIn texts)
 found_address texts word None is found = tt
 found_address texts word (Some a) is found = (word, is, found)
@@ -282,23 +259,6 @@ pub no_addresses : (texts : List (List ℕ)) (is_dash : Bool) (r : Option NetAdd
 unfolding HasNoValues
 no_addresses texts is_dash r iff not_it only none v (inl dash) = iff_false iff not_it dash.0
 no_addresses texts is_dash r iff not_it only none v (inr (other, (a, is, in_texts))) = none-some a (sym none ∙ only a in_texts)
-
-pub no_period : (texts : List (List ℕ)) (a b d : List ℕ) (r : Option (Subnet × ℕ × ℕ)) → texts ≡ a ∷ b ∷ d ∷ [] →
-    ((s : Subnet) (n u : ℕ) → IsSubnetText a s → b ≡ decimal n → d ≡ decimal u → n < u → u ≤ max_time → r ≢ None) → IfNone r (HasNoValues Period texts)
-unfolding HasNoValues
-no_period texts a b d None is only = λ v reads.
-    let e = sym is ∙ reads.5 in
-    only reads.1 reads.2 reads.3 (subst (λ t. IsSubnetText t reads.1) (ap (λ ts. get_or ts 0 []) (sym e)) reads.6) (ap (λ ts. get_or ts 1 []) e) (ap (λ ts. get_or ts 2 []) e) reads.7 reads.8 refl
-no_period texts a b d (Some ban) is only = tt
-
-pub no_words : (texts : List (List ℕ)) → ((a b d : List ℕ) → texts ≡ a ∷ b ∷ d ∷ [] → ⊥) → HasNoValues Period texts
-unfolding HasNoValues
-no_words texts none v reads = none reads.0 (decimal reads.2) (decimal reads.3) reads.5
-
-pub found_period : (texts : List (List ℕ)) (a b d : List ℕ) (r : Option (Subnet × ℕ × ℕ)) → texts ≡ a ∷ b ∷ d ∷ [] →
-    IfSome r (λ ban. IsSubnetText a ban.0 × (b ≡ decimal ban.1) × (d ≡ decimal ban.2) × (ban.1 < ban.2) × (ban.2 ≤ max_time)) → IfSome r (λ ban. Reads Period texts (ThePeriod ban.0 ban.1 ban.2))
-found_period texts a b d None is found = tt
-found_period texts a b d (Some ban) is found = (a, ban.0, ban.1, ban.2, refl, is ∙ (λ i. a ∷ found.1 i ∷ found.2 i ∷ []), found.0, found.3, found.4)
 
 -- what `--core` leaves to be read
 module _ (texts rest : List (List ℕ)) (rule : SumRule) (has : HasRule rule rest texts) (none : rule ≡ Bytes → (tail : List (List ℕ)) → texts ≡ codes "--core" ∷ tail → ⊥) where

@@ -3,6 +3,8 @@ use Rattle.std.specs.Prelude.{◌≡◌, ◌⊎◌, ℕ, ◌<◌, ◌^◌, List,
 use Rattle.std.specs.Int.{w32, to_be_bytes}
 use Rattle.hex.specs.Hex.{decode_of}
 use Rattle.peers_file.specs.declared.chain.Chain.{Chain}
+use Rattle.ban_list.specs.declared.rule.BanRule.{BanRule}
+use Rattle.ban_list.specs.declared.rule.BanRule.TheVariants.{Labels, Names}
 use Rattle.placing.specs.declared.sum.SumRule.{SumRule}
 use Rattle.placing.specs.declared.sum.SumRule.TheVariants.{Bytes, Bits}
 use Rattle.peers_file.specs.declared.chain.Chain.TheVariants.{Main, Test, Testnet4, Signet, Regtest, Other}
@@ -105,3 +107,9 @@ IsFileOptions IsChosen options kind =
 abbrev pub IsPeersOption : List (List ℕ) → Option FileKind → Type 0
 IsPeersOption options None = options ≡ []
 IsPeersOption options (Some kind) = IsFileOptions IsAfterPeers options kind
+
+-- the arguments begin with `--core`, which has a list of bans read and written as Bitcoin Core does,
+-- or do not; the others are the rest
+abbrev pub HasBanRule : BanRule → List (List ℕ) → List (List ℕ) → Type 0
+HasBanRule Labels rest options = options ≡ rest
+HasBanRule Names rest options = options ≡ codes "--core" ∷ rest

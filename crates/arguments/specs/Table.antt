@@ -2,14 +2,15 @@
 use Rattle.std.specs.Prelude.{◌≡◌, ◌≢◌, ◌⊎◌, ◌<◌, ◌≤◌, ℕ, Bool, List, [], ◌∷◌, Option, Some, None, codes, decimal, bytes_eq, if◌then◌else◌, ⊤}
 use Rattle.ban_list.specs.BanFile.{max_time}
 use Rattle.ban_list.specs.Subnet.{IsProper}
-use Rattle.ban_list.specs.SubnetText.{IsSubnetText}
+use Rattle.ban_list.specs.SubnetText.{IsSubnetTextBy}
+use Rattle.ban_list.specs.declared.rule.BanRule.{BanRule}
 use Rattle.ban_list.specs.declared.subnet.Subnet.{Subnet}
 use Rattle.gen_load.specs.declared.generated.TheConstants.{MAX_LINES}
 use Rattle.grammar.specs.Fields.{AllMean, Kind, Number, OfPeer, Value, TheNumber, ThePeer, u64_field}
 use Rattle.names.specs.Text.{IsTextOf}
 use Rattle.net_addr.specs.Address.{Address as NetAddress}
 use Rattle.net_addr.specs.declared.peer.Peer.{Peer}
-use Rattle.arguments.specs.Options.{IsAfterGrouping, IsFileOptions, IsListingOptions, IsNet, IsOpeningOptions, IsPeersOption}
+use Rattle.arguments.specs.Options.{HasBanRule, IsAfterGrouping, IsFileOptions, IsListingOptions, IsNet, IsOpeningOptions, IsPeersOption}
 use Rattle.arguments.specs.declared.file_kind.FileKind.{FileKind}
 use Rattle.arguments.specs.declared.grouping.Grouping.{Grouping}
 use Rattle.arguments.specs.declared.name.CommandName.{CommandName}
@@ -63,9 +64,10 @@ NameCommand texts (Some name) = texts ≡ command_word name ∷ []
 
 -- What comes after the name of a command: fields of these kinds; the options `--key` and `--net`;
 -- only `--net`; `--net` and `--no-key`; `--peers` and `--net`, or nothing; what makes records one
--- group, and `--net`; a subnet; a subnet and two times, the earlier one first; the name of a
--- command or nothing; `-` or a peer; or `-`, or else what people write for an address. `--magic`
--- with digits may be in the place of `--net`, and `--core` before all options.
+-- group, and `--net`; a subnet; a subnet and two times, the earlier one first; fields of these kinds
+-- for a list of bans; the name of a command or nothing; `-` or a peer; or `-`, or else what people
+-- write for an address. `--magic` with digits may be in the place of `--net`, and `--core` before
+-- all options, and before what is for a list of bans.
 pub data Form : Type 0 where
   Fields : List Kind → Form
   Opening : Form
@@ -75,6 +77,7 @@ pub data Form : Type 0 where
   Grouped : Form
   OfSubnet : Form
   Period : Form
+  ForBans : List Kind → Form
   OfCommand : Form
   PeerOrLines : Form
   AddressOrLines : Form
@@ -87,14 +90,26 @@ pub data Values : Type 0 where
   TheListing : Bool → FileKind → Values
   TheRecords : Option FileKind → Values
   TheGroups : Grouping → FileKind → Values
-  TheSubnet : Subnet → Values
-  ThePeriod : Subnet → ℕ → ℕ → Values
+  TheSubnet : BanRule → Subnet → Values
+  ThePeriod : BanRule → Subnet → ℕ → ℕ → Values
+  TheBanFields : BanRule → List Value → Values
   TheCommand : Option CommandName → Values
   TheAddress : NetAddress → Values
 
 -- the only text is what people write for this address
 abbrev pub IsAddressIn : List (List ℕ) → NetAddress → Type 0
 IsAddressIn texts addr = (text : List ℕ) × (texts ≡ text ∷ []) × IsTextOf text addr
+
+-- the only text is the subnet, by the rule of the list of bans
+abbrev pub IsSubnetIn : BanRule → List (List ℕ) → Subnet → Type 0
+IsSubnetIn rule texts subnet =
+    (text : List ℕ) × (texts ≡ text ∷ []) × IsSubnetTextBy rule text subnet
+
+-- the texts are the subnet, by the rule of the list of bans, and two times, the earlier one first
+abbrev pub IsPeriod : BanRule → List (List ℕ) → Subnet → ℕ → ℕ → Type 0
+IsPeriod rule texts subnet now until =
+    (text : List ℕ) × (texts ≡ text ∷ decimal now ∷ decimal until ∷ [])
+    × IsSubnetTextBy rule text subnet × (now < until) × (until ≤ max_time)
 
 -- the arguments after a name are of the form and have these values
 abbrev pub Reads : Form → List (List ℕ) → Values → Type 0
@@ -113,12 +128,15 @@ Reads Grouped texts v =
     (by : Grouping) × (kind : FileKind) × (v ≡ TheGroups by kind)
     × IsFileOptions (IsAfterGrouping by) texts kind
 Reads OfSubnet texts v =
-    (text : List ℕ) × (subnet : Subnet) × (v ≡ TheSubnet subnet)
-    × (texts ≡ text ∷ []) × IsSubnetText text subnet
+    (rule : BanRule) × (rest : List (List ℕ)) × (subnet : Subnet) × (v ≡ TheSubnet rule subnet)
+    × HasBanRule rule rest texts × IsSubnetIn rule rest subnet
 Reads Period texts v =
-    (text : List ℕ) × (subnet : Subnet) × (now : ℕ) × (until : ℕ) × (v ≡ ThePeriod subnet now until)
-    × (texts ≡ text ∷ decimal now ∷ decimal until ∷ []) × IsSubnetText text subnet
-    × (now < until) × (until ≤ max_time)
+    (rule : BanRule) × (rest : List (List ℕ)) × (subnet : Subnet) × (now : ℕ) × (until : ℕ)
+    × (v ≡ ThePeriod rule subnet now until) × HasBanRule rule rest texts
+    × IsPeriod rule rest subnet now until
+Reads (ForBans kinds) texts v =
+    (rule : BanRule) × (rest : List (List ℕ)) × (values : List Value)
+    × (v ≡ TheBanFields rule values) × HasBanRule rule rest texts × AllMean kinds rest values
 Reads PeerOrLines texts v =
     ((v ≡ TheFields []) × (texts ≡ codes "-" ∷ []))
     ⊎ ((peer : Peer) × (v ≡ TheFields (ThePeer peer ∷ []))
@@ -150,8 +168,8 @@ form_of name.Risk = Grouped
 form_of name.Diff = Records
 form_of name.Ban = Period
 form_of name.Unban = OfSubnet
-form_of name.Banned = Fields (OfPeer ∷ Number 0 max_time ∷ [])
-form_of name.Bans = Fields (Number 0 max_time ∷ [])
+form_of name.Banned = ForBans (OfPeer ∷ Number 0 max_time ∷ [])
+form_of name.Bans = ForBans (Number 0 max_time ∷ [])
 form_of name.Gen = Fields (u64_field ∷ Number 1 MAX_LINES ∷ [])
 form_of name.Trial = Fields (u64_field ∷ Number 1 MAX_LINES ∷ [])
 form_of name.Help = OfCommand
@@ -176,10 +194,10 @@ name_of (Raw kind) = name.Raw
 name_of (Info kind) = name.Info
 name_of (Groups kind) = name.Groups
 name_of (Risk by kind) = name.Risk
-name_of (Ban subnet now until) = name.Ban
-name_of (Unban subnet) = name.Unban
-name_of (Banned peer now) = name.Banned
-name_of (Bans now) = name.Bans
+name_of (Ban rule subnet now until) = name.Ban
+name_of (Unban rule subnet) = name.Unban
+name_of (Banned rule peer now) = name.Banned
+name_of (Bans rule now) = name.Bans
 name_of (Gen start lines) = name.Gen
 name_of (Trial start lines) = name.Trial
 name_of (Help command) = name.Help
@@ -198,10 +216,10 @@ request_values (Info kind) = TheKind kind
 request_values (Groups kind) = TheKind kind
 request_values (Risk by kind) = TheGroups by kind
 request_values (Diff peers) = TheRecords peers
-request_values (Ban subnet now until) = ThePeriod subnet now until
-request_values (Unban subnet) = TheSubnet subnet
-request_values (Banned peer now) = TheFields (ThePeer peer ∷ TheNumber now ∷ [])
-request_values (Bans now) = TheFields (TheNumber now ∷ [])
+request_values (Ban rule subnet now until) = ThePeriod rule subnet now until
+request_values (Unban rule subnet) = TheSubnet rule subnet
+request_values (Banned rule peer now) = TheBanFields rule (ThePeer peer ∷ TheNumber now ∷ [])
+request_values (Bans rule now) = TheBanFields rule (TheNumber now ∷ [])
 request_values (Gen start lines) = TheFields (TheNumber start ∷ TheNumber lines ∷ [])
 request_values (Trial start lines) = TheFields (TheNumber start ∷ TheNumber lines ∷ [])
 request_values (Help command) = TheCommand command
@@ -218,8 +236,8 @@ Asks words request =
 
 -- the subnet of a request, if it has one, is proper, and a generated log is within its limit
 abbrev pub IsProperRequest : Request → Type 0
-IsProperRequest (Ban subnet now until) = IsProper subnet
-IsProperRequest (Unban subnet) = IsProper subnet
+IsProperRequest (Ban rule subnet now until) = IsProper subnet
+IsProperRequest (Unban rule subnet) = IsProper subnet
 IsProperRequest (Gen start lines) = lines ≤ MAX_LINES
 IsProperRequest (Trial start lines) = lines ≤ MAX_LINES
 IsProperRequest other = ⊤

@@ -1,45 +1,78 @@
-ghost use Rattle.std.specs.Prelude.{◌≡◌, ◌≢◌, ◌<◌, ◌≤◌, ℕ, List, [], ◌∷◌, decimal, map, string_bytes, None, Some, IfSome, IfNone};
+ghost use Rattle.std.specs.Prelude.{◌≡◌, ◌≢◌, ◌<◌, ◌≤◌, ℕ, List, [], ◌∷◌, decimal, length, map, string_bytes, None, Some, IfSome, IfNone};
 ghost use Rattle.ban_list.specs.BanFile.{max_time};
-ghost use Rattle.ban_list.specs.SubnetText.{IsSubnetText};
+ghost use Rattle.ban_list.specs.SubnetText.{IsSubnetTextBy};
+ghost use Rattle.ban_list.specs.declared.rule.BanRule.{BanRule};
 ghost use Rattle.ban_list.specs.declared.subnet.Subnet.{Subnet};
+ghost use Rattle.arguments.specs.Options.{HasBanRule};
 ghost use Rattle.arguments.specs.Table.{HasNoValues, OfSubnet, Period, Reads, ThePeriod, TheSubnet};
 
-use crate::options::only_word;
-use ban_list::{Subnet, parse_subnet};
+use crate::options::{after_flag, only_word};
+use ban_list::{BanRule, Subnet, parse_subnet_by};
 use net_addr::parse_number;
 
-/// Reads the argument after `unban`, a subnet.
-pub(crate) fn read_subnet(words: &[String]) -> Option<Subnet>
-    ensures found { IfSome result (λ subnet.
-        Reads OfSubnet (map string_bytes words.now) (TheSubnet subnet)) }
+/// Cuts `--core` off the arguments that begin with it and have `count` others, and returns the rule
+/// that it chooses and the rest.
+pub(crate) fn cut_ban_rule(words: &[String], count: usize) -> (BanRule, &[String])
+    ensures found { HasBanRule result.0
+        (map string_bytes result.1.now) (map string_bytes words.now) }
+    ensures only { (rule : BanRule) (rest : List (List ℕ)) →
+        HasBanRule rule rest (map string_bytes words.now) → length rest ≡ count →
+        (rule ≡ result.0) × (rest ≡ map string_bytes result.1.now) }
+{
+    match after_flag(words, b"--core") {
+        Some(rest) => {
+            if rest.len() == count {
+                (BanRule::Names, rest)
+            } else {
+                (BanRule::Labels, words)
+            }
+        }
+        None => (BanRule::Labels, words),
+    }
+}
+
+/// Reads the arguments after `unban`: `--core`, if the list is Bitcoin Core's, and a subnet.
+pub(crate) fn read_subnet(words: &[String]) -> Option<(BanRule, Subnet)>
+    ensures found { IfSome result (λ unban.
+        Reads OfSubnet (map string_bytes words.now) (TheSubnet unban.0 unban.1)) }
     ensures none { IfNone result (HasNoValues OfSubnet (map string_bytes words.now)) }
 {
-    let Some(word) = only_word(words) else {
+    let (rule, rest) = cut_ban_rule(words, 1);
+    let Some(word) = only_word(rest) else {
         return None;
     };
-    parse_subnet(word)
+    match parse_subnet_by(rule, word) {
+        Some(subnet) => Some((rule, subnet)),
+        None => None,
+    }
 }
 
-/// Reads the arguments after `ban`: a subnet and two times, the earlier one first.
-pub(crate) fn read_period(words: &[String]) -> Option<(Subnet, u32, u32)>
+/// Reads the arguments after `ban`: `--core`, if the list is Bitcoin Core's, a subnet and two times,
+/// the earlier one first.
+pub(crate) fn read_period(words: &[String]) -> Option<(BanRule, Subnet, u32, u32)>
     ensures found { IfSome result (λ ban.
-        Reads Period (map string_bytes words.now) (ThePeriod ban.0 ban.1 ban.2)) }
+        Reads Period (map string_bytes words.now) (ThePeriod ban.0 ban.1 ban.2 ban.3)) }
     ensures none { IfNone result (HasNoValues Period (map string_bytes words.now)) }
 {
-    let Some((subnet, now, until)) = three_words(words) else {
+    let (rule, rest) = cut_ban_rule(words, 3);
+    let Some((subnet, now, until)) = three_words(rest) else {
         return None;
     };
-    period_of(subnet, now, until)
+    match period_of(rule, subnet, now, until) {
+        Some((subnet, now, until)) => Some((rule, subnet, now, until)),
+        None => None,
+    }
 }
 
-/// Reads a subnet and two times, the earlier one first.
-fn period_of(subnet: &[u8], now: &[u8], until: &[u8]) -> Option<(Subnet, u32, u32)>
-    ensures found { IfSome result (λ ban. IsSubnetText subnet.now ban.0 × (now.now ≡ decimal ban.1)
-        × (until.now ≡ decimal ban.2) × (ban.1 < ban.2) × (ban.2 ≤ max_time)) }
-    ensures only { (s : Subnet) (n u : ℕ) → IsSubnetText subnet.now s → now.now ≡ decimal n →
-        until.now ≡ decimal u → n < u → u ≤ max_time → result ≢ None }
+/// Reads a subnet, by the rule of the list, and two times, the earlier one first.
+fn period_of(rule: BanRule, subnet: &[u8], now: &[u8], until: &[u8]) -> Option<(Subnet, u32, u32)>
+    ensures found { IfSome result (λ ban. IsSubnetTextBy rule subnet.now ban.0
+        × (now.now ≡ decimal ban.1) × (until.now ≡ decimal ban.2) × (ban.1 < ban.2)
+        × (ban.2 ≤ max_time)) }
+    ensures only { (s : Subnet) (n u : ℕ) → IsSubnetTextBy rule subnet.now s →
+        now.now ≡ decimal n → until.now ≡ decimal u → n < u → u ≤ max_time → result ≢ None }
 {
-    let Some(subnet) = parse_subnet(subnet) else {
+    let Some(subnet) = parse_subnet_by(rule, subnet) else {
         return None;
     };
     let now = read_time(now)?;

@@ -252,53 +252,64 @@ Codes    0 done, 2 bad usage, 3 a line has an error, 5 asmap.dat is refused, 7 t
 );
 
 pub(crate) const BAN: Page = (
-    "ban SUBNET NOW UNTIL",
+    "ban SUBNET NOW UNTIL [--core]",
     "bans a subnet in banlist.json until a time",
     "\
 Reads    banlist.json, if it is there.
 Writes   banlist.json, by way of banlist.tmp, without the bans that are over at NOW;
          and `ban added`, or `ban kept` or `ban full` if nothing is saved.
 SUBNET   an address without a port or brackets, and a length, as 1.2.3.0/24.
-NOW      a time in seconds since 1970, before UNTIL.
+NOW      the time from which the ban counts, in seconds since 1970, as `date +%s`
+         prints it; before UNTIL, which is such a time, too.
+--core   has banlist.json read and written as Bitcoin Core does: addresses of Tor v3, I2P
+         and CJDNS are names, and what is no ban stays in the file.
 Codes    0 done, 2 bad usage, 8 the output cannot be written, 9 the folder failed,
          12 out of memory, 16 banlist.json is refused.
 ",
 );
 
 pub(crate) const UNBAN: Page = (
-    "unban SUBNET",
+    "unban SUBNET [--core]",
     "takes a ban out of banlist.json",
     "\
 Reads    banlist.json, if it is there.
 Writes   banlist.json, by way of banlist.tmp, and `removed`; or `absent`.
 SUBNET   an address without a port or brackets, and a length, as 1.2.3.0/24.
+--core   has banlist.json read and written as Bitcoin Core does: addresses of Tor v3, I2P
+         and CJDNS are names, and what is no ban stays in the file.
 Codes    0 done, 2 bad usage, 8 the output cannot be written, 9 the folder failed,
          12 out of memory, 16 banlist.json is refused.
 ",
 );
 
 pub(crate) const BANNED: Page = (
-    "banned PEER NOW",
+    "banned PEER NOW [--core]",
     "prints the ban that covers an address, or `free`",
     "\
 Reads    banlist.json, if it is there.
 Writes   `banned`, the subnet and the time until which it is banned; or `free`.
 PEER     an address with a port, as 1.2.3.4:8333 or [2001:470::1]:8333.
-NOW      a time in seconds since 1970.
+NOW      the time at which bans are to count, in seconds since 1970, as `date +%s`
+         prints it.
 FILE     --bans FILE is read in the place of banlist.json.
+--core   has banlist.json read as Bitcoin Core does: addresses of Tor v3, I2P and CJDNS
+         are names.
 Codes    0 done, 2 bad usage, 8 the output cannot be written, 9 the folder failed,
          12 out of memory, 16 banlist.json is refused.
 ",
 );
 
 pub(crate) const BANS: Page = (
-    "bans NOW",
+    "bans NOW [--core]",
     "prints the bans that are not over, as JSON",
     "\
 Reads    banlist.json, if it is there.
 Writes   what Bitcoin Core's listbanned returns.
-NOW      a time in seconds since 1970.
+NOW      the time at which bans are to count, in seconds since 1970, as `date +%s`
+         prints it.
 FILE     --bans FILE is read in the place of banlist.json.
+--core   has banlist.json read as Bitcoin Core does: addresses of Tor v3, I2P and CJDNS
+         are names.
 Codes    0 done, 2 bad usage, 8 the output cannot be written, 9 the folder failed,
          12 out of memory, 16 banlist.json is refused.
 ",

@@ -1,18 +1,18 @@
-ghost use Rattle.std.specs.Prelude.{◌≡◌, ◌↔◌, [], ◌∷◌, codes, map, string_bytes, Some, IfSome, IfNone, IsTrue};
-ghost use Rattle.arguments.specs.Table.{AddressOrLines, Asks, Fields, HasNoValues, IsProperRequest, PeerOrLines, Reads, TheFields, form_of, name_of, request_values};
+ghost use Rattle.std.specs.Prelude.{◌≡◌, ◌↔◌, [], ◌∷◌, codes, length, map, string_bytes, Some, IfSome, IfNone, IsTrue};
+ghost use Rattle.arguments.specs.Table.{AddressOrLines, Asks, Fields, HasNoValues, IsProperRequest, PeerOrLines, Reads, ForBans, TheBanFields, TheFields, form_of, name_of, request_values};
 ghost use Rattle.arguments.specs.declared.name.CommandName.TheVariants as name;
 ghost use Rattle.arguments.specs.declared.request.Request.{Request};
 
 use crate::Request;
 use crate::address::read_address;
-use crate::bans::{read_period, read_subnet};
+use crate::bans::{cut_ban_rule, read_period, read_subnet};
 use crate::commands::{plain_word, read_command};
 use crate::file_kind::{
     read_file_kind, read_grouping_kind, read_listing_kind, read_opening_kind, read_records,
 };
 use crate::name::{CommandName, NAMES};
 use crate::options::{first_word, only_word};
-use ban_list::texts_have_one_meaning;
+use ban_list::{BanRule, texts_have_one_meaning};
 use gen_load::MAX_LINES;
 use grammar::{Between, Fields, LongBetween, OnePeer, find_keyword, read_fields};
 use std::alloc::Global;
@@ -95,19 +95,25 @@ fn read_after(alloc: Global, name: CommandName, rest: &[String]) -> Option<Reque
             Some(Request::Risk { by, kind })
         }
         CommandName::Ban => {
-            let (subnet, now, until) = read_period(rest)?;
-            Some(Request::Ban { subnet, now, until })
+            let (rule, subnet, now, until) = read_period(rest)?;
+            Some(Request::Ban {
+                rule,
+                subnet,
+                now,
+                until,
+            })
         }
-        CommandName::Unban => Some(Request::Unban {
-            subnet: read_subnet(rest)?,
-        }),
+        CommandName::Unban => {
+            let (rule, subnet) = read_subnet(rest)?;
+            Some(Request::Unban { rule, subnet })
+        }
         CommandName::Banned => {
-            let (peer, (now, ())) = read_values::<(OnePeer, (Time, ()))>(alloc, rest)?;
-            Some(Request::Banned { peer, now })
+            let (rule, (peer, (now, ()))) = read_for_bans::<(OnePeer, (Time, ()))>(alloc, 2, rest)?;
+            Some(Request::Banned { rule, peer, now })
         }
         CommandName::Bans => {
-            let (now, ()) = read_values::<(Time, ())>(alloc, rest)?;
-            Some(Request::Bans { now })
+            let (rule, (now, ())) = read_for_bans::<(Time, ())>(alloc, 1, rest)?;
+            Some(Request::Bans { rule, now })
         }
         CommandName::Gen => {
             let (start, (lines, ())) = read_values::<Load>(alloc, rest)?;
@@ -176,6 +182,25 @@ fn read_values<'a, R: Fields<&'a [String]>>(alloc: Global, rest: &'a [String]) -
     match read_fields::<&'a [String], R>(alloc, rest) {
         Ok(values) => Some(values),
         Err(_) => None,
+    }
+}
+
+/// Reads arguments for a list of bans: `--core`, if the list is Bitcoin Core's, and `count` fields.
+fn read_for_bans<'a, R: Fields<&'a [String]>>(
+    alloc: Global,
+    count: usize,
+    words: &'a [String],
+) -> Option<(BanRule, R::Out)>
+    requires memory { ¬ R.can_run_out }
+    requires count { length R.kinds ≡ count }
+    ensures found { IfSome result (λ o. Reads (ForBans R.kinds) (map string_bytes words.now)
+        (TheBanFields o.0 (R.values o.1))) }
+    ensures none { IfNone result (HasNoValues (ForBans R.kinds) (map string_bytes words.now)) }
+{
+    let (rule, rest) = cut_ban_rule(words, count);
+    match read_values::<R>(alloc, rest) {
+        Some(values) => Some((rule, values)),
+        None => None,
     }
 }
 

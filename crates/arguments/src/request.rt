@@ -1,5 +1,5 @@
 use crate::{CommandName, FileKind, Grouping};
-use ban_list::Subnet;
+use ban_list::{BanRule, Subnet};
 use net_addr::{NetAddr, Peer};
 
 /// What the arguments ask for.
@@ -77,22 +77,27 @@ pub enum Request {
     },
     /// `ban SUBNET NOW UNTIL`: drop the bans of banlist.json that are over, and ban the subnet
     /// until a later time, unless it is banned until then or later already, or the list is full.
+    /// By the rule `Names` with `--core`, and else `Labels`, as all that is done with the list.
     Ban {
+        rule: BanRule,
         subnet: Subnet,
         now: u32,
         until: u32,
     },
     /// `unban SUBNET`: take the subnet's ban out of banlist.json.
     Unban {
+        rule: BanRule,
         subnet: Subnet,
     },
     /// `banned PEER NOW`: say which ban of banlist.json covers the peer's address.
     Banned {
+        rule: BanRule,
         peer: Peer,
         now: u32,
     },
     /// `bans NOW`: print the bans of banlist.json that are not over, as JSON.
     Bans {
+        rule: BanRule,
         now: u32,
     },
     /// `gen START LINES`: write the generated log of a number with this many lines.

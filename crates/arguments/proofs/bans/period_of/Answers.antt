@@ -4,5 +4,5 @@ use Rattle.arguments.proofs.bans.period_of.Goals as goal
 
 pub returns-in_default-clause-only : goal.returns-in_default-clause-only
 returns-in_default-clause-only c = λ s n u text first second less few same.
-    let none : c.parse_subnet.result ≡ None = search rules in
-    none-some s (sym none ∙ c.parse_subnet.ensures.only s text)
+    let none : c.parse_subnet_by.result ≡ None = search rules in
+    none-some s (sym none ∙ c.parse_subnet_by.ensures.only s text)
