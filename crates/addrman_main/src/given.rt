@@ -12,9 +12,10 @@ const KEY_DIGITS: usize = 64;
 /// How many bytes of a file with a key are read at once: more than it may have.
 const PIECE: usize = 80;
 
-/// The commands that read peers.dat.
-static PEERS_COMMANDS: [&str; 9] = [
-    "replay", "opener", "show", "picture", "raw", "info", "groups", "risk", "diff",
+/// The commands that take `--core`: those that read peers.dat or banlist.json.
+static CORE_COMMANDS: [&str; 13] = [
+    "replay", "opener", "show", "picture", "raw", "info", "groups", "risk", "diff", "ban", "unban",
+    "banned", "bans",
 ];
 
 /// The commands that take `--peers FILE`.
@@ -81,7 +82,7 @@ pub(crate) fn folder_of(words: &[String]) -> Option<(&str, usize)> {
 impl<'a> Given<'a> {
     /// Makes the arguments of a run: `help COMMAND` if an option asks for it, `version` for `-V`,
     /// and for `--key-file FILE` the key in the file, so that the list of processes doesn't have it.
-    /// `--core` comes first among the options, wherever it was. Options that name a file to be read
+    /// `--core` comes first among the arguments, wherever it was. Options that name a file to be read
     /// are left out.
     pub(crate) fn of<R: Files>(
         alloc: Global,
@@ -115,7 +116,7 @@ impl<'a> Given<'a> {
         command: &str,
         rest: &'a [String],
     ) -> Result<(), AllocError> {
-        let mut is_core = is_among(&PEERS_COMMANDS, command) && has_core(rest);
+        let mut is_core = is_among(&CORE_COMMANDS, command) && has_core(rest);
         if is_core {
             self.add(alloc, "--core")?;
         }

@@ -71,7 +71,7 @@ fn put_lines(
         put_line(hint.as_str(), text)?;
     }
     if *status == Status::Done {
-        let hint = passed_over_hint(alloc, facts.learned.passed_over())?;
+        let hint = passed_over_hint(alloc, facts.learned)?;
         put_line(hint.as_str(), text)?;
     }
     let hint = saves_hint(alloc, facts.saves)?;
@@ -188,12 +188,18 @@ fn fit_text(fit: SumFit) -> &'static str {
 }
 
 /// Returns what is said of elements of banlist.json that are no bans, if there are some.
-fn passed_over_hint(alloc: Global, count: usize) -> Result<String, AllocError> {
+fn passed_over_hint(alloc: Global, learned: &Learned) -> Result<String, AllocError> {
+    let count = learned.passed_over();
     if count == 0 {
         return Ok(String::new(alloc));
     }
+    let after_save = if learned.is_rest_kept() {
+        "which a save keeps"
+    } else {
+        "which a save leaves out"
+    };
     format!(in alloc;
-        "elements of banlist.json passed over, which a save leaves out: {count}; a ban has version 1, a subnet and two times"
+        "elements of banlist.json passed over, {after_save}: {count}; a ban has version 1, a subnet and two times"
     )
 }
 

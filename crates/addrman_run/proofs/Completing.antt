@@ -6,6 +6,7 @@ use Rattle.std.proofs.lemmas.List.Elements.{All-head, All-tail}
 use Rattle.addr_limit.specs.Laws.{no_fault as no_limit_fault}
 use Rattle.addr_limit.specs.Lines.{FaultAfter, HasEventFault, SaysAfter}
 use Rattle.ban_list.specs.declared.ban.Ban.{Ban}
+use Rattle.ban_list.specs.declared.rule.BanRule.{BanRule}
 use Rattle.host_io.specs.Faults.{Rose, RoseBy}
 use Rattle.host_io.specs.Lines.{lines_of, onto_first}
 use Rattle.host_io.specs.Outside.{Outside}
@@ -255,12 +256,12 @@ compile_done old new DiskFault ends cause fine calm = absurd (no_disk_fault old 
 compile_done old new (NoFile file) ends cause fine calm = absurd (fine.0 ends.text.1)
 compile_done old new other ends cause fine calm = absurd (fine.1 other ends.text.0)
 
-bans_done : (change : List Ban → Change) (old new : Outside) (answer : Status) → BansEnds change old new answer → HasCause old new answer → NoRefusal (ReportsBans old.past) → NothingFails old new → IsDone answer
-bans_done change old new Done ends cause fine calm = inl refl
-bans_done change old new Memory ends cause fine calm = inr refl
-bans_done change old new WriteFault ends cause fine calm = absurd (no_write_fault old new cause calm)
-bans_done change old new DiskFault ends cause fine calm = absurd (no_disk_fault old new cause calm ends.left.0)
-bans_done change old new other ends cause fine calm = absurd (fine other ends.text.0)
+bans_done : (rule : BanRule) (change : List Ban → Change) (old new : Outside) (answer : Status) → BansEnds rule change old new answer → HasCause old new answer → NoRefusal (ReportsBans rule old.past) → NothingFails old new → IsDone answer
+bans_done rule change old new Done ends cause fine calm = inl refl
+bans_done rule change old new Memory ends cause fine calm = inr refl
+bans_done rule change old new WriteFault ends cause fine calm = absurd (no_write_fault old new cause calm)
+bans_done rule change old new DiskFault ends cause fine calm = absurd (no_disk_fault old new cause calm ends.left.0)
+bans_done rule change old new other ends cause fine calm = absurd (fine other ends.text.0)
 
 gen_done : (first count : ℕ) (old new : Outside) (answer : Status) → GenText first count old.written new.written answer → HasCause old new answer → NothingFails old new → IsDone answer
 gen_done first count old new Done text cause calm = inl refl
@@ -305,10 +306,10 @@ done (request.Raw kind) old new answer ends cause fine calm = text_done _ _ old 
 done (request.Info kind) old new answer ends cause fine calm = text_done _ _ old new answer ends.ends cause fine calm
 done (request.Groups kind) old new answer ends cause fine calm = text_done _ _ old new answer ends.ends cause fine calm
 done (request.Risk by kind) old new answer ends cause fine calm = text_done _ _ old new answer ends.ends cause fine calm
-done (request.Ban subnet now until) old new answer ends cause fine calm = bans_done _ old new answer ends cause fine calm
-done (request.Unban subnet) old new answer ends cause fine calm = bans_done _ old new answer ends cause fine calm
-done (request.Banned peer now) old new answer ends cause fine calm = bans_done _ old new answer ends cause fine calm
-done (request.Bans now) old new answer ends cause fine calm = text_done _ _ old new answer ends cause fine calm
+done (request.Ban rule subnet now until) old new answer ends cause fine calm = bans_done _ _ old new answer ends cause fine calm
+done (request.Unban rule subnet) old new answer ends cause fine calm = bans_done _ _ old new answer ends cause fine calm
+done (request.Banned rule peer now) old new answer ends cause fine calm = bans_done _ _ old new answer ends cause fine calm
+done (request.Bans rule now) old new answer ends cause fine calm = text_done _ _ old new answer ends cause fine calm
 done (request.Gen first count) old new answer ends cause fine calm = gen_done first count old new answer ends.text cause calm
 done (request.Trial first count) old new answer ends cause fine calm = one_text_done _ old new answer ends.text cause calm
 done (request.Help command) old new answer ends cause fine calm = one_text_done _ old new answer ends.text cause calm

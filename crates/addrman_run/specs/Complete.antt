@@ -104,10 +104,10 @@ NothingIsWrong (Raw kind) at = NoRefusal (ReportsTables kind.chain at.past)
 NothingIsWrong (Info kind) at = NoRefusal (ReportsTables kind.chain at.past)
 NothingIsWrong (Groups kind) at = NoRefusal (ReportsTables kind.chain at.past)
 NothingIsWrong (Risk by kind) at = NoRefusal (ReportsTables kind.chain at.past)
-NothingIsWrong (Ban subnet now until) at = NoRefusal (ReportsBans at.past)
-NothingIsWrong (Unban subnet) at = NoRefusal (ReportsBans at.past)
-NothingIsWrong (Banned peer now) at = NoRefusal (ReportsBans at.past)
-NothingIsWrong (Bans now) at = NoRefusal (ReportsBans at.past)
+NothingIsWrong (Ban rule subnet now until) at = NoRefusal (ReportsBans rule at.past)
+NothingIsWrong (Unban rule subnet) at = NoRefusal (ReportsBans rule at.past)
+NothingIsWrong (Banned rule peer now) at = NoRefusal (ReportsBans rule at.past)
+NothingIsWrong (Bans rule now) at = NoRefusal (ReportsBans rule at.past)
 NothingIsWrong other at = ⊤
 
 -- No count of faults rose; that of the folder may have risen after bytes of the log were taken.

@@ -1,5 +1,5 @@
 -- Words of private contracts.
-use Rattle.std.specs.Prelude.{◌≡◌, ◌≢◌, ◌⊎◌, ℕ, List, ◌++◌, length, Option, Some, None, ⊤, option_map}
+use Rattle.std.specs.Prelude.{◌≡◌, ◌≢◌, ◌⊎◌, ℕ, Bool, true, false, List, ◌++◌, length, Option, Some, None, ⊤}
 use Rattle.host_io.specs.Past.{Past}
 use Rattle.host_io.specs.Writing.{Appended, AppendedPart}
 use Rattle.host_io.specs.declared.name.Name.{Name}
@@ -11,12 +11,14 @@ use Rattle.asmap_vm.specs.declared.fault.CodeFault.TheVariants as code
 use Rattle.bit_code.specs.declared.bits.TheConstants.{MAX_ASMAP}
 use Rattle.peers_file.specs.declared.fault.FileFault.TheVariants as peers
 use Rattle.peers_file.specs.declared.read.TheConstants.{MAX_FILE}
-use Rattle.ban_list.specs.BanFile.{HasBanFault, bans_text}
+use Rattle.ban_list.specs.BanFile.{HasListFault}
+use Rattle.ban_list.specs.NewFile.{IsWritten}
 use Rattle.ban_list.specs.declared.ban.Ban.{Ban}
 use Rattle.ban_list.specs.declared.fault.BanFault.{BanFault}
 use Rattle.ban_list.specs.declared.fault.BanFault.TheVariants as ban
 use Rattle.ban_list.specs.declared.read_file.TheConstants as bans
-use Rattle.addrman_run.specs.Bans.{AreBansIn, RefusesBans, Change}
+use Rattle.ban_list.specs.declared.rule.BanRule.{BanRule}
+use Rattle.addrman_run.specs.Bans.{IsListIn, RefusesBans, Change}
 use Rattle.addrman_run.specs.Diff.{AsksRecords, RefusesRecords, ReportsDiff}
 use Rattle.addrman_run.specs.Compile.{IsCompiled, IsInPlace, compile_text}
 use Rattle.addrman_run.specs.InFolder.{IsFileIn, IsAbsent, IsTooLarge}
@@ -190,22 +192,34 @@ IsNoRecords peers past (PeersRefused fault) = RefusesRecords peers past fault
 IsNoRecords peers past other = ⊥
 
 -- why the bytes of banlist.json are not read: memory ran out, or their fault
-abbrev pub IsNoList : List ℕ → Status → Type 0
-IsNoList bytes status =
+abbrev pub IsNoList : BanRule → List ℕ → Status → Type 0
+IsNoList rule bytes status =
     (status ≡ Memory)
-    ⊎ ((fault : BanFault) × (status ≡ BansRefused fault) × HasBanFault bytes fault)
+    ⊎ ((fault : BanFault) × (status ≡ BansRefused fault) × HasListFault rule bytes fault)
 
 -- why there is no list of bans: the folder failed, memory ran out, or banlist.json is refused
-abbrev pub IsNoBans : Option Past → Status → Type 0
-IsNoBans past status =
+abbrev pub IsNoBans : BanRule → Option Past → Status → Type 0
+IsNoBans rule past status =
     (status ≡ DiskFault) ⊎ ((status ≡ Memory)
-    ⊎ ((fault : BanFault) × (status ≡ BansRefused fault) × RefusesBans past fault))
+    ⊎ ((fault : BanFault) × (status ≡ BansRefused fault) × RefusesBans rule past fault))
+
+-- the list, if it is saved
+abbrev pub saved_if : Bool → List Ban → Option (List Ban)
+saved_if true bans = Some bans
+saved_if false bans = None
+
+-- the file that is made of a list to be saved, if there is one, from the old file
+abbrev pub IsMade : BanRule → Option (List ℕ) → Option (List Ban) → Option (List ℕ) → Type 0
+IsMade rule old None file = file ≡ None
+IsMade rule old (Some bans) None = ⊥
+IsMade rule old (Some bans) (Some text) = IsWritten rule old bans text
 
 -- the line and the file that a command makes of the folder's list
-abbrev pub IsAnswer : (List Ban → Change) → Option Past → List ℕ → Option (List ℕ) → Type 0
-IsAnswer change past line file =
-    (bans : List Ban) × AreBansIn past bans × (line ≡ (change bans).line)
-    × (file ≡ option_map bans_text (change bans).saved)
+abbrev pub IsAnswer : BanRule → (List Ban → Change) → Option Past → List ℕ → Option (List ℕ) →
+    Type 0
+IsAnswer rule change past line file =
+    (old : Option (List ℕ)) × (bans : List Ban) × IsListIn rule past old bans
+    × (line ≡ (change bans).line) × IsMade rule old (change bans).saved file
 
 -- how the saving of a file, if there is one, and the line end
 abbrev pub AnswerEnds : List ℕ → Option (List ℕ) → Option Past → Option Past →

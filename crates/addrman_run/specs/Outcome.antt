@@ -51,11 +51,12 @@ Ends (Raw kind) old new answer = TablesJsonEnds json.Raw kind old new answer
 Ends (Info kind) old new answer = TablesJsonEnds json.Info kind old new answer
 Ends (Groups kind) old new answer = TablesJsonEnds json.Groups kind old new answer
 Ends (Risk by kind) old new answer = RiskEnds by kind old new answer
-Ends (Ban subnet now until) old new answer =
-    BansEnds (ban_change (ban_of subnet now until)) old new answer
-Ends (Unban subnet) old new answer = BansEnds (unban_change subnet) old new answer
-Ends (Banned peer now) old new answer = BansEnds (banned_change peer.addr now) old new answer
-Ends (Bans now) old new answer = ListEnds now old new answer
+Ends (Ban rule subnet now until) old new answer =
+    BansEnds rule (ban_change rule (ban_of subnet now until)) old new answer
+Ends (Unban rule subnet) old new answer = BansEnds rule (unban_change subnet) old new answer
+Ends (Banned rule peer now) old new answer =
+    BansEnds rule (banned_change rule peer.addr now) old new answer
+Ends (Bans rule now) old new answer = ListEnds rule now old new answer
 Ends (Gen start lines) old new answer = GenEnds start lines old new answer
 Ends (Trial start lines) old new answer = TrialEnds start lines old new answer
 Ends (Help command) old new answer = HelpEnds command old new answer

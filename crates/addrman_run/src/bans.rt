@@ -1,14 +1,15 @@
-ghost use Rattle.std.specs.Prelude.{◌≡◌, ℕ, List, Err, Some, IfOk, IfErr, option_map, ⊤};
-ghost use Rattle.ban_list.specs.BanFile.{IsBanFile, bans_text};
+ghost use Rattle.std.specs.Prelude.{◌≡◌, ℕ, List, Err, Some, IfOk, IfErr, ⊤};
+ghost use Rattle.ban_list.specs.BanFile.{IsListFile};
 ghost use Rattle.ban_list.specs.Bans.{ban_of};
 ghost use Rattle.ban_list.specs.Subnet.{IsProper};
 ghost use Rattle.host_io.specs.Past.{Always};
 ghost use Rattle.host_io.specs.declared.name.Name.TheVariants as name;
 ghost use Rattle.save_store.specs.Saves.{PublishesOrNot};
 ghost use Rattle.ban_list.specs.declared.ban.Ban.{Ban};
-ghost use Rattle.addrman_run.specs.Bans.{AreBansIn, BansText, Change, IsBansText, IsOldOrNewList, ReportsBans};
+ghost use Rattle.ban_list.specs.declared.rule.BanRule.{BanRule};
+ghost use Rattle.addrman_run.specs.Bans.{BansText, Change, IsBansText, IsListIn, IsOldOrNewList, ReportsBans};
 ghost use Rattle.addrman_run.specs.Bans.{ban_change, banned_change, found_text, reply_text, saved_by, unban_change};
-ghost use Rattle.addrman_run.specs.Inside.{AnswerEnds, IsNoBans, IsNoList};
+ghost use Rattle.addrman_run.specs.Inside.{AnswerEnds, IsMade, IsNoBans, IsNoList, saved_if};
 ghost use Rattle.addrman_run.specs.TextOut.{TextOut};
 ghost use Rattle.log_run.specs.Counts.{IsCounted};
 
@@ -16,29 +17,55 @@ use crate::input::{Input, load_input};
 use crate::output::{save_then_write, write_line};
 use crate::{Learned, Memory, Status};
 use ban_list::{
-    Ban, BanFault, BanReply, BanRule, Bans, Subnet, passed_over, put_subnet, read_bans, write_bans,
+    Ban, BanFault, BanReply, BanRule, Bans, Subnet, passed_over, put_subnet_by, read_bans_by,
+    write_bans_by,
 };
 use host_io::{Bytes, Folder, Name, Sink};
 use net_addr::{NetAddr, Peer, put_number};
 use node_json::bans_text;
 use std::alloc::Global;
 
-/// The line that a command writes, and the file that it saves first, if the list is a new one.
+/// The list of the folder's banlist.json, and that file, if there is one.
+#[derive(Drop)]
+struct Listed {
+    bans: Bans,
+    file: Option<Bytes>,
+}
+
+/// What a command answers: the line that it writes, and whether the list is a new one, to be saved
+/// before.
 #[derive(Drop)]
 pub(crate) struct Answer {
+    line: Vec<u8>,
+    is_saved: bool,
+}
+
+/// A line, and the file that is saved before it is written, if there is one.
+#[derive(Drop)]
+struct Output {
     line: Vec<u8>,
     file: Option<Bytes>,
 }
 
 /// Reads the bytes of banlist.json.
-fn read_list(alloc: Global, bytes: Bytes, learned: &mut Learned) -> Result<Bans, Status>
-    ensures found { IfOk result (IsBanFile bytes) }
-    ensures cause { IfErr result (IsNoList bytes) }
+fn read_list(
+    alloc: Global,
+    rule: BanRule,
+    bytes: Bytes,
+    learned: &mut Learned,
+) -> Result<Listed, Status>
+    ensures file { IfOk result (λ listed. listed.file ≡ Some bytes) }
+    ensures found { IfOk result (λ listed. IsListFile rule bytes listed.bans) }
+    ensures cause { IfErr result (IsNoList rule bytes) }
 {
-    match read_bans(alloc, bytes.items()) {
+    match read_bans_by(alloc, rule, bytes.items()) {
         Ok(bans) => {
-            learned.passed_over = passed_over(alloc, BanRule::Labels, bytes.items()).unwrap_or(0);
-            Ok(bans)
+            learned.passed_over = passed_over(alloc, rule, bytes.items()).unwrap_or(0);
+            learned.ban_rule = rule;
+            Ok(Listed {
+                bans,
+                file: Some(bytes),
+            })
         }
         Err(BanFault::Memory) => Err(Status::Memory),
         Err(fault) => {
@@ -51,18 +78,23 @@ fn read_list(alloc: Global, bytes: Bytes, learned: &mut Learned) -> Result<Bans,
 /// Loads the list of the folder's banlist.json, which is empty if there is no such file.
 fn load_bans<F: Folder>(
     alloc: Global,
+    rule: BanRule,
     folder: &mut F,
     learned: &mut Learned,
-) -> Result<Bans, Status>
-    ensures found { IfOk result (AreBansIn (F.past folder.old)) }
-    ensures cause { IfErr result (IsNoBans (F.past folder.old)) }
+) -> Result<Listed, Status>
+    ensures found { IfOk result (λ listed.
+        IsListIn rule (F.past folder.old) listed.file listed.bans) }
+    ensures cause { IfErr result (IsNoBans rule (F.past folder.old)) }
     ensures disk { IsCounted (Err Status.DiskFault)
         (F.faults folder.old) (F.faults folder.new) result }
     ensures same { F.past folder.new ≡ F.past folder.old }
 {
     match load_input(alloc, Input::Bans, folder) {
-        Ok(Some(bytes)) => read_list(alloc, bytes, learned),
-        Ok(None) => Ok(Bans::make(alloc)),
+        Ok(Some(bytes)) => read_list(alloc, rule, bytes, learned),
+        Ok(None) => Ok(Listed {
+            bans: Bans::make(alloc),
+            file: None,
+        }),
         Err(status) => Err(status),
     }
 }
@@ -78,54 +110,60 @@ fn reply_line(reply: BanReply) -> &'static [u8]
     }
 }
 
-/// Returns the file that is saved after a reply.
-fn file_after(alloc: Global, reply: BanReply, bans: &Bans) -> Result<Option<Bytes>, Memory>
-    ensures { IfOk result (λ file. file ≡ option_map bans_text (saved_by reply bans.now)) }
+/// Returns whether the list is saved after a reply.
+fn is_saved(reply: BanReply) -> bool
+    ensures { (bans : List Ban) → saved_by reply bans ≡ saved_if result bans }
 {
     match reply {
-        BanReply::Added => Ok(Some(write_bans(alloc, bans)?)),
-        BanReply::Kept => Ok(None),
-        BanReply::Full => Ok(None),
+        BanReply::Added => true,
+        BanReply::Kept => false,
+        BanReply::Full => false,
     }
 }
 
 /// Returns the line about a ban that is found.
-fn banned_line(alloc: Global, ban: &Ban) -> Result<Vec<u8>, Memory>
+fn banned_line(alloc: Global, rule: BanRule, ban: &Ban) -> Result<Vec<u8>, Memory>
     requires { IsProper ban.now.subnet }
-    ensures { IfOk result (λ text. text.items ≡ found_text (Some ban.now)) }
+    ensures { IfOk result (λ text. text.items ≡ found_text rule (Some ban.now)) }
 {
     let mut text = Vec::from_slice(alloc, b"banned ")?;
-    put_subnet(&ban.subnet, &mut text)?;
+    put_subnet_by(rule, &ban.subnet, &mut text)?;
     put_number(b" ", u64::from(ban.until), &mut text)?;
     text.extend_from_slice(b"\n")?;
     Ok(text)
 }
 
 /// Finds the ban that covers an address, and returns the line about it.
-fn find_line(alloc: Global, addr: &NetAddr, now: u32, bans: &Bans) -> Result<Vec<u8>, Memory>
-    ensures { IfOk result (λ text. text.items ≡ (banned_change addr.now now bans.now).line) }
+fn find_line(
+    alloc: Global,
+    rule: BanRule,
+    addr: &NetAddr,
+    now: u32,
+    bans: &Bans,
+) -> Result<Vec<u8>, Memory>
+    ensures { IfOk result (λ text. text.items ≡ (banned_change rule addr.now now bans.now).line) }
 {
     match bans.covering(addr, now) {
-        Some(ban) => banned_line(alloc, ban),
+        Some(ban) => banned_line(alloc, rule, ban),
         None => Ok(Vec::from_slice(alloc, b"free\n")?),
     }
 }
 
 /// A command on the list of bans.
 pub(crate) trait BanCommand {
-    /// What it does to the list.
-    ghost change: { Self → List Ban → Change };
+    /// What it does to the list, by the rule of the list.
+    ghost change: { BanRule → Self → List Ban → Change };
 
     /// What it needs: the subnet, if it has one, is proper.
     ghost is_proper: { Self → Type 0 };
 
     /// Carries it out on the list.
-    fn answer(&self, alloc: Global, bans: &mut Bans) -> Result<Answer, Memory>
+    fn answer(&self, alloc: Global, rule: BanRule, bans: &mut Bans) -> Result<Answer, Memory>
         requires { is_proper self.now }
         ensures line { IfOk result (λ answer. answer.line.items
-            ≡ (change self.now bans.old).line) }
-        ensures file { IfOk result (λ answer. answer.file
-            ≡ option_map bans_text (change self.now bans.old).saved) };
+            ≡ (change rule self.now bans.old).line) }
+        ensures saved { IfOk result (λ answer. (change rule self.now bans.old).saved
+            ≡ saved_if answer.is_saved bans.new) };
 }
 
 /// The command that bans a subnet from `now` until a later time.
@@ -137,15 +175,15 @@ pub(crate) struct BanSubnet {
 }
 
 impl BanCommand for BanSubnet {
-    ghost change = { λ ban. ban_change (ban_of ban.subnet ban.now ban.until) };
+    ghost change = { λ rule ban. ban_change rule (ban_of ban.subnet ban.now ban.until) };
 
     ghost is_proper = { λ ban. IsProper ban.subnet };
 
-    fn answer(&self, alloc: Global, bans: &mut Bans) -> Result<Answer, Memory> {
-        let reply = bans.ban(self.subnet, self.now, self.until)?;
+    fn answer(&self, alloc: Global, rule: BanRule, bans: &mut Bans) -> Result<Answer, Memory> {
+        let reply = bans.ban_by(rule, self.subnet, self.now, self.until)?;
         let line = Vec::from_slice(alloc, reply_line(reply))?;
-        let file = file_after(alloc, reply, bans)?;
-        Ok(Answer { line, file })
+        let is_saved = is_saved(reply);
+        Ok(Answer { line, is_saved })
     }
 }
 
@@ -156,18 +194,23 @@ pub(crate) struct UnbanSubnet {
 }
 
 impl BanCommand for UnbanSubnet {
-    ghost change = { λ unban. unban_change unban.subnet };
+    ghost change = { λ _ unban. unban_change unban.subnet };
 
     ghost is_proper = { λ unban. IsProper unban.subnet };
 
-    fn answer(&self, alloc: Global, bans: &mut Bans) -> Result<Answer, Memory> {
+    fn answer(&self, alloc: Global, _rule: BanRule, bans: &mut Bans) -> Result<Answer, Memory> {
         if bans.unban(&self.subnet) {
             let line = Vec::from_slice(alloc, b"removed\n")?;
-            let file = Some(write_bans(alloc, bans)?);
-            Ok(Answer { line, file })
+            Ok(Answer {
+                line,
+                is_saved: true,
+            })
         } else {
             let line = Vec::from_slice(alloc, b"absent\n")?;
-            Ok(Answer { line, file: None })
+            Ok(Answer {
+                line,
+                is_saved: false,
+            })
         }
     }
 }
@@ -180,32 +223,71 @@ pub(crate) struct FindBan {
 }
 
 impl BanCommand for FindBan {
-    ghost change = { λ find. banned_change find.peer.addr find.now };
+    ghost change = { λ rule find. banned_change rule find.peer.addr find.now };
 
     ghost is_proper = { λ _. ⊤ };
 
-    fn answer(&self, alloc: Global, bans: &mut Bans) -> Result<Answer, Memory> {
-        let line = find_line(alloc, &self.peer.addr, self.now, bans)?;
-        Ok(Answer { line, file: None })
+    fn answer(&self, alloc: Global, rule: BanRule, bans: &mut Bans) -> Result<Answer, Memory> {
+        let line = find_line(alloc, rule, &self.peer.addr, self.now, bans)?;
+        Ok(Answer {
+            line,
+            is_saved: false,
+        })
     }
 }
 
-/// Saves the file of an answer, if it has one, and then writes its line.
-fn write_answer<F: Folder, K: Sink>(answer: &Answer, folder: &mut F, out: &mut K) -> Status
-    ensures ends { AnswerEnds answer.now.line.items answer.now.file (F.past folder.old)
+/// Returns the new file of a list, if it is saved, from the old file.
+fn file_of(
+    alloc: Global,
+    rule: BanRule,
+    old: &Option<Bytes>,
+    is_saved: bool,
+    bans: &Bans,
+) -> Result<Option<Bytes>, Memory>
+    ensures { IfOk result (IsMade rule old.now (saved_if is_saved bans.now)) }
+{
+    if is_saved {
+        Ok(Some(write_bans_by(alloc, rule, old, bans)?))
+    } else {
+        Ok(None)
+    }
+}
+
+/// Carries out a command on a list, and returns what is saved and written.
+fn output_of<C: BanCommand>(
+    alloc: Global,
+    rule: BanRule,
+    command: &C,
+    listed: Listed,
+) -> Result<Output, Memory>
+    requires { C.is_proper command.now }
+    ensures line { IfOk result (λ output. output.line.items
+        ≡ (C.change rule command.now listed.bans).line) }
+    ensures file { IfOk result (λ output. IsMade rule listed.file
+        (C.change rule command.now listed.bans).saved output.file) }
+{
+    let Listed { mut bans, file } = listed;
+    let Answer { line, is_saved } = command.answer(alloc, rule, &mut bans)?;
+    let file = file_of(alloc, rule, &file, is_saved, &bans)?;
+    Ok(Output { line, file })
+}
+
+/// Saves the file of an output, if it has one, and then writes its line.
+fn write_output<F: Folder, K: Sink>(output: &Output, folder: &mut F, out: &mut K) -> Status
+    ensures ends { AnswerEnds output.now.line.items output.now.file (F.past folder.old)
         (F.past folder.new) (K.written out.old) (K.written out.new) result }
-    ensures any_moment { (file : List ℕ) → answer.now.file ≡ Some file →
+    ensures any_moment { (file : List ℕ) → output.now.file ≡ Some file →
         Always (F.past folder.old) (F.past folder.new)
         (PublishesOrNot name.BansTemp name.Bans file) }
     ensures disk { IsCounted Status.DiskFault (F.faults folder.old) (F.faults folder.new) result }
     ensures write { IsCounted Status.WriteFault (K.faults out.old) (K.faults out.new) result }
 {
-    match &answer.file {
+    match &output.file {
         Some(file) => {
-            let line = answer.line.as_slice();
+            let line = output.line.as_slice();
             save_then_write(Name::BansTemp, Name::Bans, file.items(), line, folder, out)
         }
-        None => write_line(answer.line.as_slice(), out),
+        None => write_line(output.line.as_slice(), out),
     }
 }
 
@@ -213,25 +295,26 @@ fn write_answer<F: Folder, K: Sink>(answer: &Answer, folder: &mut F, out: &mut K
 /// one, and then writes the answer.
 pub(crate) fn change_bans<F: Folder, K: Sink, C: BanCommand>(
     alloc: Global,
+    rule: BanRule,
     command: &C,
     folder: &mut F,
     out: &mut K,
     learned: &mut Learned,
 ) -> Status
     requires { C.is_proper command.now }
-    ensures text { BansText (C.change command.now) (F.past folder.old) (F.past folder.new)
-        (K.written out.old) (K.written out.new) result }
+    ensures text { BansText rule (C.change rule command.now) (F.past folder.old)
+        (F.past folder.new) (K.written out.old) (K.written out.new) result }
     ensures any_moment { Always (F.past folder.old) (F.past folder.new)
-        (IsOldOrNewList (C.change command.now) (F.past folder.old)) }
+        (IsOldOrNewList rule (C.change rule command.now) (F.past folder.old)) }
     ensures disk { IsCounted Status.DiskFault (F.faults folder.old) (F.faults folder.new) result }
     ensures write { IsCounted Status.WriteFault (K.faults out.old) (K.faults out.new) result }
 {
-    let mut bans = match load_bans(alloc, folder, learned) {
-        Ok(bans) => bans,
+    let listed = match load_bans(alloc, rule, folder, learned) {
+        Ok(listed) => listed,
         Err(status) => return status,
     };
-    match command.answer(alloc, &mut bans) {
-        Ok(answer) => write_answer(&answer, folder, out),
+    match output_of(alloc, rule, command, listed) {
+        Ok(output) => write_output(&output, folder, out),
         Err(_) => Status::Memory,
     }
 }
@@ -239,22 +322,23 @@ pub(crate) fn change_bans<F: Folder, K: Sink, C: BanCommand>(
 /// Writes the bans of the folder's banlist.json that are not over at `now`, as JSON.
 pub(crate) fn list_bans<F: Folder, K: Sink>(
     alloc: Global,
+    rule: BanRule,
     now: u32,
     folder: &mut F,
     out: &mut K,
     learned: &mut Learned,
 ) -> Status
-    ensures text { TextOut (IsBansText now) ReportsBans
+    ensures text { TextOut (IsBansText rule now) (ReportsBans rule)
         (F.past folder.old) (K.written out.old) (K.written out.new) result }
     ensures disk { IsCounted Status.DiskFault (F.faults folder.old) (F.faults folder.new) result }
     ensures write { IsCounted Status.WriteFault (K.faults out.old) (K.faults out.new) result }
     ensures same { F.past folder.new ≡ F.past folder.old }
 {
-    let bans = match load_bans(alloc, folder, learned) {
-        Ok(bans) => bans,
+    let listed = match load_bans(alloc, rule, folder, learned) {
+        Ok(listed) => listed,
         Err(status) => return status,
     };
-    match bans_text(alloc, now, bans.bans()) {
+    match bans_text(alloc, rule, now, listed.bans.bans()) {
         Ok(text) => write_line(text.as_slice(), out),
         Err(_) => Status::Memory,
     }

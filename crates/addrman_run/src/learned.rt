@@ -1,3 +1,4 @@
+use ban_list::BanRule;
 use host_io::Bytes;
 use std::alloc::Global;
 
@@ -31,6 +32,7 @@ pub struct Learned {
     /// The bytes of the text file that is refused.
     pub(crate) text: Option<Bytes>,
     pub(crate) passed_over: usize,
+    pub(crate) ban_rule: BanRule,
     pub(crate) is_key_unused: bool,
     pub(crate) sum_fit: SumFit,
     pub(crate) left_out: usize,
@@ -44,6 +46,7 @@ impl Learned {
             head: Vec::new(alloc),
             text: None,
             passed_over: 0,
+            ban_rule: BanRule::Labels,
             is_key_unused: false,
             sum_fit: SumFit::Same,
             left_out: 0,
@@ -72,6 +75,14 @@ impl Learned {
     /// Returns how many elements of banlist.json were passed over.
     pub fn passed_over(&self) -> usize {
         self.passed_over
+    }
+
+    /// Returns whether the elements of banlist.json that were passed over stay in it.
+    pub fn is_rest_kept(&self) -> bool {
+        match self.ban_rule {
+            BanRule::Labels => false,
+            BanRule::Names => true,
+        }
     }
 
     /// Returns whether the arguments have a key and peers.dat another one, which is the tables'.

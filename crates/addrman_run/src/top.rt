@@ -51,10 +51,11 @@ use std::hash::BuildHasher;
 /// each group. `risk source --net CHAIN` writes which part of the picks falls to each source group,
 /// at most; `risk peer` and `risk network` do so for other groups. `ban SUBNET NOW UNTIL` and
 /// `unban SUBNET` change the list of bans in banlist.json, `banned PEER NOW` writes which ban covers
-/// the peer's address, and `bans NOW` the bans that are not over, as JSON. `gen START LINES` writes
-/// a generated log, and `trial START LINES` carries it out from empty tables and writes one line
-/// about the replies. `help COMMAND` writes the page of a command, and `help` the list of all;
-/// `version` writes the version and the toolchain.
+/// the peer's address, and `bans NOW` the bans that are not over, as JSON; after `--core` all four
+/// read and write banlist.json as Bitcoin Core does. `gen START LINES` writes a generated log, and
+/// `trial START LINES` carries it out from empty tables and writes one line about the replies.
+/// `help COMMAND` writes the page of a command, and `help` the list of all; `version` writes the
+/// version and the toolchain.
 pub fn run<L: Source, F: Folder, K: Sink, H: BuildHasher + Drop>(
     alloc: Global,
     hasher: H,
@@ -165,30 +166,22 @@ fn carry_out<L: Source, F: Folder, K: Sink, H: BuildHasher + Drop>(
             )
         }
         Request::Risk { by, kind } => risk(alloc, hasher, by, kind, folder, out, learned),
-        Request::Ban { subnet, now, until } => {
-            change_bans(
-                alloc,
-                &BanSubnet { subnet, now, until },
-                folder,
-                out,
-                learned,
-            )
+        Request::Ban {
+            rule,
+            subnet,
+            now,
+            until,
+        } => {
+            let command = BanSubnet { subnet, now, until };
+            change_bans(alloc, rule, &command, folder, out, learned)
         }
-        Request::Unban { subnet } => change_bans(
-            alloc,
-            &UnbanSubnet { subnet },
-            folder,
-            out,
-            learned,
-        ),
-        Request::Banned { peer, now } => change_bans(
-            alloc,
-            &FindBan { peer, now },
-            folder,
-            out,
-            learned,
-        ),
-        Request::Bans { now } => list_bans(alloc, now, folder, out, learned),
+        Request::Unban { rule, subnet } => {
+            change_bans(alloc, rule, &UnbanSubnet { subnet }, folder, out, learned)
+        }
+        Request::Banned { rule, peer, now } => {
+            change_bans(alloc, rule, &FindBan { peer, now }, folder, out, learned)
+        }
+        Request::Bans { rule, now } => list_bans(alloc, rule, now, folder, out, learned),
         Request::Gen { start, lines } => generate(alloc, start, lines, out),
         Request::Trial { start, lines } => trial(alloc, hasher, start, lines, out),
         Request::Help { command } => help(alloc, command, out),
