@@ -2,6 +2,7 @@ use crate::forms::{Reader, keyword_of};
 use crate::nearest::nearest;
 use crate::shown::quoted;
 use crate::wanted::find_wanted;
+use ban_list::BanRule;
 use std::alloc::{AllocError, Global};
 
 /// What is said of a text that `lookup` does not read.
@@ -61,8 +62,8 @@ fn explain_field(
         return Ok(Some(expected_text(alloc, expected.as_str(), field, "")?));
     }
     match find_wanted(name) {
-        Some(wanted) if !wanted.has(alloc, field) => {
-            let usual = wanted.usual_error(field).unwrap_or("");
+        Some(wanted) if !wanted.has(alloc, rule_of(form), field) => {
+            let usual = wanted.usual_error(rule_of(form), field).unwrap_or("");
             let mut text = expected_text(alloc, wanted.text, field, usual)?;
             if keyword_of(form) == "lookup" {
                 text.push_str(LOOKUP)?;
@@ -70,6 +71,15 @@ fn explain_field(
             Ok(Some(text))
         }
         _ => Ok(None),
+    }
+}
+
+/// Returns the rule of the list of bans that a form is for.
+fn rule_of(form: &str) -> BanRule {
+    if form.contains("--core") {
+        BanRule::Names
+    } else {
+        BanRule::Labels
     }
 }
 
@@ -98,7 +108,7 @@ fn other_count(
     if has_empty(fields) {
         return format!(in alloc; "expected one space before each field, as in \"{form}\"");
     }
-    let what = if reader == Reader::Arguments {
+    let what = if reader == Reader::Arguments || reader == Reader::CoreBans {
         "arguments"
     } else {
         "fields"

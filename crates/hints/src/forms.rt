@@ -25,6 +25,14 @@ static COMMANDS: [&str; 23] = [
     "version",
 ];
 
+/// The forms of the commands on a list of bans that is Bitcoin Core's. `--core` comes first.
+static CORE_BANS: [&str; 4] = [
+    "ban --core SUBNET NOW UNTIL",
+    "unban --core SUBNET",
+    "banned --core PEER NOW",
+    "bans --core NOW",
+];
+
 /// How many of `LINES` only an opener's log has: the first ones.
 const ONLY_OPENER: usize = 3;
 
@@ -72,6 +80,8 @@ static LIMIT: [&str; 7] = [
 pub(crate) enum Reader {
     /// The command line.
     Arguments,
+    /// That of a command on a list of bans, with `--core`.
+    CoreBans,
     /// A line of a replay's log.
     Replay,
     /// A line of an opener's log.
@@ -96,7 +106,7 @@ impl Reader {
 
     /// Returns another reader of logs, which knows this keyword. The command line has none.
     pub(crate) fn that_knows(self, keyword: &[u8]) -> Option<Reader> {
-        if self == Reader::Arguments {
+        if self == Reader::Arguments || self == Reader::CoreBans {
             return None;
         }
         for reader in LOGS {
@@ -110,7 +120,7 @@ impl Reader {
     /// Returns what a keyword is called.
     pub(crate) fn keyword_name(self) -> &'static str {
         match self {
-            Reader::Arguments => "command",
+            Reader::Arguments | Reader::CoreBans => "command",
             _ => "keyword",
         }
     }
@@ -118,7 +128,7 @@ impl Reader {
     /// Returns the command that reads a log in this way.
     pub(crate) fn command(self) -> &'static str {
         match self {
-            Reader::Arguments => "addrman",
+            Reader::Arguments | Reader::CoreBans => "addrman",
             Reader::Replay => "replay",
             Reader::Opener => "opener",
             Reader::Limit => "limit",
@@ -129,6 +139,7 @@ impl Reader {
     pub(crate) fn forms(self) -> &'static [&'static str] {
         match self {
             Reader::Arguments => &COMMANDS,
+            Reader::CoreBans => &CORE_BANS,
             Reader::Replay => &LINES[ONLY_OPENER..],
             Reader::Opener => &LINES[..LINES.len() - ONLY_REPLAY],
             Reader::Limit => &LIMIT,

@@ -206,10 +206,20 @@ fn no_option(alloc: Global, form: &'static str, word: &str) -> Result<String, Al
     if word.starts_with("--") && form.contains(word) {
         return format!(in alloc; "{shown} comes once, and not here; expected \"{form}\"");
     }
-    if word.starts_with("-") || !(command == "replay" || command == "opener") {
-        return format!(in alloc; "{shown} is no option of {command}; expected \"{form}\"");
+    if !word.starts_with("-") && (command == "replay" || command == "opener") {
+        return format!(in alloc;
+            "{shown} is no option: {command} reads its log from standard input, as < FILE"
+        );
     }
-    format!(in alloc;
-        "{shown} is no option: {command} reads its log from standard input, as < FILE"
-    )
+    let file = if is_path(word) {
+        ", which reads another file with --peers FILE"
+    } else {
+        ""
+    };
+    format!(in alloc; "{shown} is no option of {command}{file}; expected \"{form}\"")
+}
+
+/// Returns whether an argument looks like the path of a file.
+fn is_path(word: &str) -> bool {
+    !word.starts_with("-") && (word.contains(".") || word.contains("/"))
 }

@@ -83,10 +83,22 @@ fn fault_text(alloc: Global, fault: &FileFault, head: &[u8]) -> Result<String, A
     }
 }
 
+/// Returns whether what comes after the first bytes of a file is as in a peers.dat: a format that
+/// there is, or a newer one, and a compat byte.
+fn is_as_peers(head: &[u8]) -> bool {
+    match head {
+        [_, _, _, _, format, compat, ..] => *format < 32 && *compat >= 32 && *compat < 64,
+        _ => false,
+    }
+}
+
 /// Says of which chain a file is that has another one's first bytes.
 fn magic_text(alloc: Global, head: &[u8]) -> Result<String, AllocError> {
     match chain_of(head) {
         Some(chain) => format!(in alloc; "another chain was asked for; --net {chain} reads it"),
+        None if !is_as_peers(head) => {
+            String::from_str(alloc, "it does not begin as a peers.dat of any chain")
+        }
         None => {
             let mut text = Vec::new(alloc);
             let first = head.get(..4).unwrap_or(head);

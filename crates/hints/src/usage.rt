@@ -74,6 +74,19 @@ fn file_option(form: &str, words: &[String]) -> Option<&'static FileOption> {
     None
 }
 
+/// Returns what the arguments of a command are read as.
+fn reader_of(command: &[u8], rest: &[String]) -> Reader {
+    let is_core = match rest {
+        [first, ..] => first.as_str() == "--core",
+        [] => false,
+    };
+    if is_core && Reader::CoreBans.find_form(command).is_some() {
+        Reader::CoreBans
+    } else {
+        Reader::Arguments
+    }
+}
+
 /// Says which argument is wrong, and what is wanted there. The arguments are not those of a
 /// command.
 pub fn usage_hint(alloc: Global, words: &[String]) -> Result<String, AllocError> {
@@ -116,7 +129,7 @@ pub fn usage_hint(alloc: Global, words: &[String]) -> Result<String, AllocError>
     }
     let wrong = explain(
         alloc,
-        Reader::Arguments,
+        reader_of(command.as_bytes(), rest),
         command.as_bytes(),
         fields.as_slice(),
     )?;

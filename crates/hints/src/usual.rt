@@ -8,6 +8,7 @@ enum Usual {
     LongFour,
     LongSix,
     Subnet,
+    Label,
     NoBrackets,
     Brackets,
     LargePart,
@@ -17,28 +18,26 @@ enum Usual {
 }
 
 /// The errors, the texts in whose place they are looked for (`A` an address, `P` a peer, `S` a
-/// subnet, `T` any text that `address` reads), and what is said.
-static USUAL: [(Usual, &str, &str); 13] = [
-    (Usual::Zone, "APST", "an address has no zone"),
-    (Usual::OldName, "APST", "Tor v2 names are no longer in use"),
+/// subnet, `N` a subnet after `--core`, `T` any text that `address` reads), and what is said.
+static USUAL: [(Usual, &str, &str); 15] = [
+    (Usual::Zone, "APSNT", "an address has no zone"),
+    (Usual::OldName, "APSNT", "Tor v2 names are no longer in use"),
     (
         Usual::WrongName,
-        "T",
+        "NT",
         "its letters or its checksum are wrong",
     ),
-    (
-        Usual::Name,
-        "APS",
-        "names are read by addrman address alone",
-    ),
+    (Usual::Name, "AP", "names are read by addrman address alone"),
+    (Usual::Name, "S", "names are read with --core"),
+    (Usual::Label, "N", "with --core it is a name"),
     (
         Usual::LongFour,
-        "S",
+        "SN",
         "the length of an IPv4 subnet is at most 32",
     ),
     (
         Usual::LongSix,
-        "S",
+        "SN",
         "the length of an IPv6 subnet is at most 128",
     ),
     (Usual::Subnet, "APT", "a subnet is no address"),
@@ -47,15 +46,19 @@ static USUAL: [(Usual, &str, &str); 13] = [
         "P",
         "an IPv6 address before a port is in brackets",
     ),
-    (Usual::Brackets, "S", "a subnet has no brackets and no port"),
+    (
+        Usual::Brackets,
+        "SN",
+        "a subnet has no brackets and no port",
+    ),
     (
         Usual::LargePart,
-        "APST",
+        "APSNT",
         "a part of an IPv4 address is at most 255",
     ),
     (Usual::LargePort, "PT", "a port is at most 65535"),
     (Usual::NoPort, "P", "no port"),
-    (Usual::Port, "AS", "a port is too much here"),
+    (Usual::Port, "ASN", "a port is too much here"),
 ];
 
 /// Returns which usual error a text has, if it has one. It is none of the texts of this kind.
@@ -81,6 +84,11 @@ impl Usual {
             Usual::LongFour => count_of(text, b':') == 0 && number_after(text, b'/') > 32,
             Usual::LongSix => count_of(text, b':') > 0 && number_after(text, b'/') > 128,
             Usual::Subnet => count_of(text, b'/') > 0,
+            Usual::Label => {
+                text.starts_with(b"onion:")
+                    || text.starts_with(b"i2p:")
+                    || text.starts_with(b"cjdns:")
+            }
             Usual::NoBrackets => count_of(text, b':') > 1 && count_of(text, b'[') == 0,
             Usual::Brackets => count_of(text, b'[') > 0,
             Usual::LargePart => has_large_part(host),

@@ -1,5 +1,5 @@
 use crate::usual::usual_error;
-use ban_list::parse_subnet;
+use ban_list::{BanRule, parse_subnet_by};
 use gen_load::MAX_LINES;
 use grammar::{AddrClasses, Field, Networks, Payload, Random};
 use names::parse_text;
@@ -146,12 +146,12 @@ pub(crate) fn find_wanted(name: &str) -> Option<&'static Wanted> {
 }
 
 impl Wanted {
-    /// Returns whether this text is one of those.
-    pub(crate) fn has(&self, alloc: Global, text: &[u8]) -> bool {
+    /// Returns whether this text is one of those, a subnet by the rule of a list of bans.
+    pub(crate) fn has(&self, alloc: Global, rule: BanRule, text: &[u8]) -> bool {
         match self.kind {
             Kind::Addr => parse_addr(text).is_some(),
             Kind::Peer => parse_peer(text).is_some(),
-            Kind::Subnet => parse_subnet(text).is_some(),
+            Kind::Subnet => parse_subnet_by(rule, text).is_some(),
             Kind::Text => parse_text(text).is_some(),
             Kind::Bytes => Payload::read(alloc, text).is_ok(),
             Kind::Words => Random::read(alloc, text).is_ok(),
@@ -165,12 +165,13 @@ impl Wanted {
     }
 
     /// Returns which usual error a text has that is none of those.
-    pub(crate) fn usual_error(&self, text: &[u8]) -> Option<&'static str> {
-        let kind = match self.kind {
-            Kind::Addr => "A",
-            Kind::Peer => "P",
-            Kind::Subnet => "S",
-            Kind::Text => "T",
+    pub(crate) fn usual_error(&self, rule: BanRule, text: &[u8]) -> Option<&'static str> {
+        let kind = match (self.kind, rule) {
+            (Kind::Addr, _) => "A",
+            (Kind::Peer, _) => "P",
+            (Kind::Subnet, BanRule::Labels) => "S",
+            (Kind::Subnet, BanRule::Names) => "N",
+            (Kind::Text, _) => "T",
             _ => return None,
         };
         usual_error(kind, text)
