@@ -1,7 +1,7 @@
 //! Printing, without spaces.
 
 use crate::{Map, Number, Value};
-use std::fmt::{Display, Formatter, Result, Write};
+use std::fmt::{Display, Error, Formatter, Result, Write};
 
 impl Display for Value {
     fn fmt(&self, f: &mut Formatter<'_>) -> Result {
@@ -10,10 +10,68 @@ impl Display for Value {
             Value::Bool(value) => value.fmt(f),
             Value::Number(Number::Positive(number)) => number.fmt(f),
             Value::Number(Number::Negative(number)) => number.fmt(f),
-            Value::Number(Number::Float(number)) => write!(f, "{number:?}"),
+            Value::Number(Number::Float(number)) => write_float(f, *number),
             Value::String(text) => write_text(f, text),
             Value::Array(items) => write_items(f, items),
             Value::Object(map) => write_members(f, map),
+        }
+    }
+}
+
+/// The text of a number with an exponent, which is at most 24 bytes long.
+#[derive(Default)]
+struct Digits {
+    bytes: [u8; 32],
+    length: usize,
+}
+
+impl Write for Digits {
+    fn write_str(&mut self, text: &str) -> Result {
+        let end = self.length + text.len();
+        let place = self.bytes.get_mut(self.length..end).ok_or(Error)?;
+        place.copy_from_slice(text.as_bytes());
+        self.length = end;
+        Ok(())
+    }
+}
+
+/// Writes the shortest digits that are read as the number: without an exponent from 0.00001 up to
+/// 10^16, else with one that has a sign.
+fn write_float(f: &mut Formatter<'_>, number: f64) -> Result {
+    let mut text = Digits::default();
+    write!(text, "{:e}", number.abs())?;
+    let text = str::from_utf8(&text.bytes[..text.length]).map_err(|_| Error)?;
+    let (mantissa, exponent) = text.split_once('e').ok_or(Error)?;
+    let exponent: i32 = exponent.parse().map_err(|_| Error)?;
+    let (first, rest) = mantissa.split_at(1);
+    let rest = rest.strip_prefix('.').unwrap_or("");
+    if number.is_sign_negative() {
+        f.write_char('-')?;
+    }
+    match exponent {
+        -5..0 => {
+            f.write_str("0.")?;
+            for _ in exponent..-1 {
+                f.write_char('0')?;
+            }
+            f.write_str(first)?;
+            f.write_str(rest)
+        }
+        0..16 => {
+            let whole = exponent as usize;
+            f.write_str(first)?;
+            for index in 0..whole {
+                f.write_str(rest.get(index..=index).unwrap_or("0"))?;
+            }
+            f.write_char('.')?;
+            f.write_str(rest.get(whole..).filter(|rest| !rest.is_empty()).unwrap_or("0"))
+        }
+        _ => {
+            f.write_str(first)?;
+            if !rest.is_empty() {
+                write!(f, ".{rest}")?;
+            }
+            write!(f, "e{exponent:+}")
         }
     }
 }
