@@ -6,12 +6,15 @@ from addresses import (
     CJDNS, I2P, INTERNAL, IPV4, IPV6, ONION, Address, address_text, from_sixteen, ipv4_text,
     ipv6_text, read_address, read_ipv4, read_ipv6,
 )
-from json_text import read_json
+from json_text import read_json, written_json
+from names import name_of, read_name
 from text import Fault, read_number
 
 MAXIMUM_BYTES = 33_554_432
 MAXIMUM_BANS = 100_000
 LARGEST_TIME = 4294967295
+WHOLE = (ONION, I2P, CJDNS)
+ORDER = (IPV4, IPV6, ONION, I2P, CJDNS)
 
 
 class Subnet(NamedTuple):
@@ -33,16 +36,25 @@ class Ban(NamedTuple):
     until: int
 
 
+class BanList(NamedTuple):
+    """A list, what its file has besides it, and whether it is read and written as Bitcoin Core does."""
+
+    bans: dict[Subnet, Ban]
+    members: dict
+    others: list
+    core: bool
+
+
 def cleared(data: bytes, length: int) -> bytes:
     """The bytes with only their first bits left."""
     shift = 8 * len(data) - length
     return (int.from_bytes(data, "big") >> shift << shift).to_bytes(len(data), "big")
 
 
-def read_subnet(written: bytes) -> Subnet | None:
+def read_subnet(written: bytes, core: bool) -> Subnet | None:
     """The subnet that a text writes."""
-    address = read_address(written)
-    if address is not None and address.network in (ONION, I2P, CJDNS):
+    address = read_name(written) if core else read_address(written)
+    if address is not None and address.network in WHOLE:
         return Subnet(address.network, address.data, 8 * len(address.data))
     host, slash, length_text = written.partition(b"/")
     data = read_ipv4(host)
@@ -64,8 +76,16 @@ def read_subnet(written: bytes) -> Subnet | None:
     return Subnet(network, data, length)
 
 
-def subnet_text(subnet: Subnet) -> str:
+def subnet_name(subnet: Subnet) -> str:
+    """The name of a subnet: only IPv4 and IPv6 have a length."""
+    length = f"/{subnet.length}" if subnet.network in (IPV4, IPV6) else ""
+    return name_of(Address(subnet.network, subnet.data)) + length
+
+
+def subnet_text(subnet: Subnet, core: bool) -> str:
     """A subnet as it is printed."""
+    if core:
+        return subnet_name(subnet)
     if subnet.network == IPV4:
         return f"{ipv4_text(subnet.data)}/{subnet.length}"
     if subnet.network == IPV6:
@@ -73,7 +93,7 @@ def subnet_text(subnet: Subnet) -> str:
     return address_text(Address(subnet.network, subnet.data))
 
 
-def read_element(element) -> tuple[Subnet, Ban] | None:
+def read_element(element, core: bool) -> tuple[Subnet, Ban] | None:
     """The subnet and the ban of an element that counts."""
     if not isinstance(element, dict):
         return None
@@ -83,37 +103,47 @@ def read_element(element) -> tuple[Subnet, Ban] | None:
         return None
     if any(type(time) is not int for time in times):
         return None
-    subnet = read_subnet(address.encode())
+    subnet = read_subnet(address.encode(), core)
     if subnet is None:
         return None
     return subnet, Ban(*(min(max(time, 0), LARGEST_TIME) for time in times))
 
 
-def read_list(data: bytes) -> tuple[dict[Subnet, Ban], int]:
-    """The bans of a file, in its order, and how many elements are passed over; raises Fault."""
+def read_list(data: bytes, core: bool) -> BanList:
+    """The list of a file, in its order; raises Fault."""
     value = read_json(data)
     elements = value.get("banned_nets") if isinstance(value, dict) else None
     if type(elements) is not list:
         raise Fault("form")
-    pairs = [pair for element in elements if (pair := read_element(element)) is not None]
+    read = [(element, read_element(element, core)) for element in elements]
+    pairs = [pair for _, pair in read if pair is not None]
     if len(pairs) > MAXIMUM_BANS:
         raise Fault("too-many")
-    return dict(pairs), len(elements) - len(pairs)
+    return BanList(dict(pairs), value, [element for element, pair in read if pair is None], core)
 
 
-def written_list(bans: dict[Subnet, Ban]) -> bytes:
+def place(pair: tuple[Subnet, Ban]) -> tuple:
+    """Where Bitcoin Core has a ban in its list: by network, address and length."""
+    network, data, length = pair[0]
+    return ORDER.index(network), data, length
+
+
+def written_list(listed: BanList) -> bytes:
     """The file of a list."""
+    pairs = sorted(listed.bans.items(), key=place) if listed.core else listed.bans.items()
     elements = [
-        f'{{"address":"{subnet_text(subnet)}","ban_created":{ban.made}'
-        f',"banned_until":{ban.until},"version":1}}'
-        for subnet, ban in bans.items()
+        {"address": subnet_text(subnet, listed.core), "ban_created": ban.made, "banned_until": ban.until, "version": 1}
+        for subnet, ban in pairs
     ]
-    return f'{{"banned_nets":[{",".join(elements)}]}}'.encode()
+    if listed.core:
+        return written_json({**listed.members, "banned_nets": elements + listed.others}).encode()
+    return written_json({"banned_nets": elements}).encode()
 
 
-def ban(bans: dict[Subnet, Ban], subnet: Subnet, now: int, until: int) -> str:
+def ban(listed: BanList, subnet: Subnet, now: int, until: int) -> str:
     """Bans a subnet; the answer, after which the list is only valid if it is `ban added`."""
-    for own in [own for own, old in bans.items() if old.until <= now]:
+    bans = listed.bans
+    for own in [own for own, old in bans.items() if old.until + listed.core <= now]:
         del bans[own]
     if subnet in bans and bans[subnet].until >= until:
         return "ban kept"
@@ -123,9 +153,9 @@ def ban(bans: dict[Subnet, Ban], subnet: Subnet, now: int, until: int) -> str:
     return "ban added"
 
 
-def banned(bans: dict[Subnet, Ban], address: Address, now: int) -> str:
+def banned(listed: BanList, address: Address, now: int) -> str:
     """The first ban that covers an address and ends after a time."""
-    for subnet, own in bans.items():
+    for subnet, own in listed.bans.items():
         if subnet.covers(address) and own.until > now:
-            return f"banned {subnet_text(subnet)} {own.until}"
+            return f"banned {subnet_text(subnet, listed.core)} {own.until}"
     return "free"

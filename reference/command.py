@@ -34,6 +34,7 @@ OPTIONS = {"replay": ("--key", *CHAIN), "opener": ("--key", *CHAIN), "picture": 
 GROUPINGS = ("source", "peer", "network")
 NO_KEY = b"--no-key"
 CORE = b"--core"
+BAN_COMMANDS = ("ban", "unban", "banned", "bans")
 
 
 class FileKind(NamedTuple):
@@ -189,7 +190,7 @@ class Run:
 
     def __init__(self, read, write, folder: Folder):
         self.read, self.write, self.folder = read, write, folder
-        self.passed_over = 0
+        self.passed_over = ""
         self.sum_said = ""
 
     def emit(self, data: bytes):
@@ -227,9 +228,13 @@ class Run:
             key, start = key_and_chain(read_options(options, OPTIONS[name]))
             method(key, FileKind(start, core))
             return
-        if len(arguments) != method.__code__.co_argcount:
+        given = arguments[1:]
+        if name in BAN_COMMANDS:
+            left, core = without_core(given)
+            given = [core, *left]
+        if len(given) + 1 != method.__code__.co_argcount:
             usage()
-        method(*arguments[1:])
+        method(*given)
 
     def each_line(self, answer):
         """Prints the answer to each line of the log."""
@@ -407,38 +412,41 @@ class Run:
         for line in described(address, asmap):
             self.print(line)
 
-    def ban_list(self) -> dict:
+    def ban_list(self, core: bool) -> bans.BanList:
         """The folder's list of bans."""
-        read = self.load("banlist.json", bans.MAXIMUM_BYTES, 16, bans.read_list)
-        listed, self.passed_over = read or ({}, 0)
+        read = self.load("banlist.json", bans.MAXIMUM_BYTES, 16, lambda data: bans.read_list(data, core))
+        listed = bans.BanList({}, {}, [], core) if read is None else read
+        if listed.others:
+            after_save = "which a save keeps" if core else "which a save leaves out"
+            self.passed_over = f"elements of banlist.json passed over, {after_save}: {len(listed.others)}; "
         return listed
 
-    def ban(self, subnet_text: bytes, now_text: bytes, until_text: bytes):
-        subnet, now, until = usage(bans.read_subnet(subnet_text)), time(now_text), time(until_text)
+    def ban(self, core: bool, subnet_text: bytes, now_text: bytes, until_text: bytes):
+        subnet, now, until = usage(bans.read_subnet(subnet_text, core)), time(now_text), time(until_text)
         if now >= until:
             usage()
-        listed = self.ban_list()
+        listed = self.ban_list(core)
         answer = bans.ban(listed, subnet, now, until)
         if answer == "ban added":
             self.put("banlist.tmp", "banlist.json", bans.written_list(listed))
         self.print(answer)
 
-    def unban(self, subnet_text: bytes):
-        subnet = usage(bans.read_subnet(subnet_text))
-        listed = self.ban_list()
-        if listed.pop(subnet, None) is None:
+    def unban(self, core: bool, subnet_text: bytes):
+        subnet = usage(bans.read_subnet(subnet_text, core))
+        listed = self.ban_list(core)
+        if listed.bans.pop(subnet, None) is None:
             self.print("absent")
             return
         self.put("banlist.tmp", "banlist.json", bans.written_list(listed))
         self.print("removed")
 
-    def banned(self, peer_text: bytes, now_text: bytes):
+    def banned(self, core: bool, peer_text: bytes, now_text: bytes):
         address, now = usage(read_peer(peer_text)).address, time(now_text)
-        self.print(bans.banned(self.ban_list(), address, now))
+        self.print(bans.banned(self.ban_list(core), address, now))
 
-    def bans(self, now_text: bytes):
+    def bans(self, core: bool, now_text: bytes):
         now = time(now_text)
-        self.print(node_json.banned(self.ban_list(), now))
+        self.print(node_json.banned(self.ban_list(core), now))
 
 
 def run(arguments: list[str], read, write, folder: Folder, said: list[str] | None = None) -> tuple[int, str]:
@@ -455,6 +463,5 @@ def run(arguments: list[str], read, write, folder: Folder, said: list[str] | Non
     if said is not None and carried_out.sum_said:
         said.append(carried_out.sum_said)
     if said is not None and carried_out.passed_over:
-        said.append(f"elements of banlist.json passed over, which a save leaves out: {carried_out.passed_over}; "
-                    "a ban has version 1, a subnet and two times")
+        said.append(carried_out.passed_over + "a ban has version 1, a subnet and two times")
     return 0, ""

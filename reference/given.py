@@ -5,7 +5,7 @@ import os
 from folder import Stop
 from text import read_digits
 
-READ_PEERS = ("replay", "opener", "show", "picture", "raw", "info", "groups", "risk", "diff")
+TAKE_CORE = "replay opener show picture raw info groups risk diff ban unban banned bans".split()
 # The options that name a file: in whose place it is read, and the commands that take the option.
 OTHER_FILES = {"--peers": ("peers.dat", "show picture raw info groups risk diff".split()),
                "--asmap": ("asmap.dat", "picture raw info groups risk diff check lookup decompile address".split()),
@@ -85,7 +85,7 @@ def plain_words(arguments: list[str], paths: dict[str, str]) -> list[str]:
         return ["help", command]
     if command == "-V":
         command = "version"
-    if command in READ_PEERS and "--core" in rest:
+    if command in TAKE_CORE and "--core" in rest:
         at = rest.index("--core")
         rest = ["--core", *rest[:at], *rest[at + 1:]]
     if command in ("replay", "opener"):

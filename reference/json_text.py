@@ -2,6 +2,7 @@
 
 import json
 import math
+from decimal import Decimal
 
 from text import Fault
 
@@ -49,6 +50,32 @@ def depth(value) -> int:
     if isinstance(value, Members):
         value = value.every
     return 1 + max(map(depth, value), default=0) if isinstance(value, list) else 0
+
+
+def number_text(value: float) -> str:
+    """A number that is no integer of 64 bits as it is written: the shortest digits that are read as it."""
+    sign, digits, exponent = Decimal(repr(value)).normalize().as_tuple()
+    letters, point = "".join(map(str, digits)), len(digits) + exponent
+    minus = "-" if sign else ""
+    if value == 0:
+        return minus + "0.0"
+    if 0 <= exponent and point <= 16:
+        return f"{minus}{letters}{'0' * exponent}.0"
+    if 0 < point <= 16:
+        return f"{minus}{letters[:point]}.{letters[point:]}"
+    if -5 < point <= 0:
+        return f"{minus}0.{'0' * -point}{letters}"
+    return f"{minus}{letters[0]}{'.' * (len(letters) > 1)}{letters[1:]}e{point - 1:+d}"
+
+
+def written_json(value) -> str:
+    """The text of a value, without spaces, and the members of an object by their names."""
+    if isinstance(value, dict):
+        pairs = sorted(value.items(), key=lambda pair: pair[0].encode())
+        return "{%s}" % ",".join(f"{written_json(name)}:{written_json(part)}" for name, part in pairs)
+    if isinstance(value, list):
+        return "[%s]" % ",".join(map(written_json, value))
+    return number_text(value) if isinstance(value, float) else json.dumps(value, ensure_ascii=False)
 
 
 def read_json(data: bytes):

@@ -3,7 +3,7 @@
 import json
 
 from addresses import CJDNS, I2P, IPV4, IPV6, ONION, UNROUTABLE, Address, class_of, routable
-from bans import Ban, Subnet
+from bans import BanList, subnet_name
 from names import name_of
 from picture import name as group_name
 from places import group
@@ -127,14 +127,8 @@ def groups(tables: Tables) -> str:
     }, indent=2)
 
 
-def subnet_name(subnet: Subnet) -> str:
-    """The name of a subnet."""
-    name = name_of(Address(subnet.network, subnet.data))
-    return f"{name}/{subnet.length}" if subnet.network in (IPV4, IPV6) else name
-
-
-def banned(bans: dict[Subnet, Ban], now: int) -> str:
-    """The bans that end after a time."""
+def banned(listed: BanList, now: int) -> str:
+    """The bans that end after a time, or by Bitcoin Core's rule at it."""
     return json.dumps([
         {
             "address": subnet_name(subnet),
@@ -143,5 +137,5 @@ def banned(bans: dict[Subnet, Ban], now: int) -> str:
             "ban_duration": max(0, ban.until - ban.made),
             "time_remaining": ban.until - now,
         }
-        for subnet, ban in bans.items() if ban.until > now
+        for subnet, ban in listed.bans.items() if ban.until + listed.core > now
     ], indent=2)
