@@ -46,7 +46,8 @@ _addrman() {
             ;;
         diff) mapfile -t COMPREPLY < <(compgen -W "--peers --net --magic --core --asmap" -- "$word") ;;
         check | lookup | decompile | address) mapfile -t COMPREPLY < <(compgen -W "--asmap" -- "$word") ;;
-        banned | bans) mapfile -t COMPREPLY < <(compgen -W "--bans" -- "$word") ;;
+        ban | unban) mapfile -t COMPREPLY < <(compgen -W "--core" -- "$word") ;;
+        banned | bans) mapfile -t COMPREPLY < <(compgen -W "--bans --core" -- "$word") ;;
         help | --help | -h) mapfile -t COMPREPLY < <(compgen -W "$commands" -- "$word") ;;
     esac
 }
