@@ -1,1 +1,2 @@
 mod Shuffled
+mod Found

@@ -1,10 +1,12 @@
 -- What a node takes of a message that has a use for some entries only, as Bitcoin Core does
 -- (`PeerManagerImpl::ProcessMessage` in net_processing.cpp): the entries are shuffled, the first of
--- them are let through, and of these the useful ones are added.
-use Rattle.std.specs.Prelude.{◌≡◌, ◌≢◌, ◌⊎◌, ℕ, ◌+◌, ◌-◌, ◌%◌, ◌<◌, List, [], ◌∷◌, length, min, take, drop, map, swap, Bool, ◌&&◌, ◌==◌, not, nat_lt, bit_and, Option, Some, None, if◌then◌else◌}
+-- them are let through, and of these the useful ones are added whose addresses are not banned.
+use Rattle.std.specs.Prelude.{◌≡◌, ◌≢◌, ◌⊎◌, ℕ, ◌+◌, ◌-◌, ◌%◌, ◌<◌, List, [], ◌∷◌, length, min, take, drop, map, swap, Bool, ◌&&◌, ◌==◌, not, nat_lt, bit_and, find, is_none, Option, Some, None, if◌then◌else◌}
 use Rattle.addr_codecs.specs.Layout.{IsMessage, HasMessageFault}
 use Rattle.addr_codecs.specs.declared.fault.MsgFault.TheVariants as msg
 use Rattle.addr_codecs.specs.declared.form.Form.{Form}
+use Rattle.ban_list.specs.Bans.{stops}
+use Rattle.ban_list.specs.declared.ban.Ban.{Ban}
 use Rattle.net_addr.specs.Address.{Address}
 use Rattle.net_addr.specs.NetSet.{has}
 use Rattle.net_addr.specs.Ranges.{is_routable}
@@ -35,53 +37,59 @@ abbrev pub is_useful : ℕ → List ℕ → Entry → Bool
 is_useful services nets e =
     not (bit_and e.services services == 0) && has nets (network_of e.peer.addr)
 
+-- no ban covers its address now
+abbrev pub is_free : List Ban → ℕ → Entry → Bool
+is_free bans now e = is_none (find (stops e.peer.addr now) bans)
+
 -- other entries are skipped
-abbrev pub useful : ℕ → List ℕ → Option Entry → Option Entry
-useful services nets None = None
-useful services nets (Some e) = if is_useful services nets e then Some e else None
+abbrev pub useful : ℕ → List ℕ → List Ban → ℕ → Option Entry → Option Entry
+useful services nets bans now None = None
+useful services nets bans now (Some e) =
+    if is_free bans now e && is_useful services nets e then Some e else None
 
 -- what is taken of the entries of a message, as many as are let through
-abbrev pub chosen : ℕ → ℕ → List ℕ → List ℕ → List (Option Entry) → List (Option Entry)
-chosen most services nets words entries =
-    map (useful services nets) (take most (shuffled entries 0 words))
+abbrev pub chosen : ℕ → ℕ → List ℕ → List Ban → ℕ → List ℕ → List (Option Entry)
+    → List (Option Entry)
+chosen most services nets bans now words entries =
+    map (useful services nets bans now) (take most (shuffled entries 0 words))
 
 -- how many random words they need: one for each entry, and one more for each that is let through
 abbrev pub words_for : ℕ → List (Option Entry) → ℕ
 words_for most entries = length entries + min most (length entries)
 
 -- the chosen entries of a message are added, with the words that are left after the shuffle
-abbrev pub AreChosen : ℕ → ℕ → List ℕ → List (Option Entry) → State → ℕ → Address → List ℕ → Added
-    → State → Type 0
-AreChosen most services nets entries old now source words added new =
-    AreAdded (chosen most services nets words entries) old now source
+abbrev pub AreChosen : ℕ → ℕ → List ℕ → List Ban → List (Option Entry) → State → ℕ → Address
+    → List ℕ → Added → State → Type 0
+AreChosen most services nets bans entries old now source words added new =
+    AreAdded (chosen most services nets bans now words entries) old now source
     (drop (length entries) words) added new
 
 -- why they are not, and what is left: too few random words, and then the tables are as before; or
 -- no memory, and then some of them may be added
-abbrev pub AreNotChosen : ℕ → ℕ → List ℕ → List (Option Entry) → State → ℕ → Address → List ℕ
-    → MessageFault → State → Type 0
-AreNotChosen most services nets entries old now source words Memory new =
-    (new ≡ old) ⊎ HasFirst (chosen most services nets words entries) old now source
+abbrev pub AreNotChosen : ℕ → ℕ → List ℕ → List Ban → List (Option Entry) → State → ℕ → Address
+    → List ℕ → MessageFault → State → Type 0
+AreNotChosen most services nets bans entries old now source words Memory new =
+    (new ≡ old) ⊎ HasFirst (chosen most services nets bans now words entries) old now source
     (drop (length entries) words) new
-AreNotChosen most services nets entries old now source words (Refused fault) new = ⊥
-AreNotChosen most services nets entries old now source words (ShortWords need have) new =
+AreNotChosen most services nets bans entries old now source words (Refused fault) new = ⊥
+AreNotChosen most services nets bans entries old now source words (ShortWords need have) new =
     (need ≡ words_for most entries) × (have ≡ length words) × (have < need) × (new ≡ old)
 
 -- the payload is a message, and its chosen entries are added
-abbrev pub IsChosenAdded : Form → List ℕ → ℕ → ℕ → List ℕ → State → ℕ → Address → List ℕ → Added
-    → State → Type 0
-IsChosenAdded form payload most services nets old now source words added new =
+abbrev pub IsChosenAdded : Form → List ℕ → ℕ → ℕ → List ℕ → List Ban → State → ℕ → Address
+    → List ℕ → Added → State → Type 0
+IsChosenAdded form payload most services nets bans old now source words added new =
     (entries : List (Option Entry)) × IsMessage form payload entries
-    × AreChosen most services nets entries old now source words added new
+    × AreChosen most services nets bans entries old now source words added new
 
 -- why not: the payload's first fault, no memory to read it, or what keeps the entries out
-abbrev pub IsChosenFault : Form → List ℕ → ℕ → ℕ → List ℕ → State → ℕ → Address → List ℕ
-    → MessageFault → State → Type 0
-IsChosenFault form payload most services nets old now source words (Refused fault) new =
+abbrev pub IsChosenFault : Form → List ℕ → ℕ → ℕ → List ℕ → List Ban → State → ℕ → Address
+    → List ℕ → MessageFault → State → Type 0
+IsChosenFault form payload most services nets bans old now source words (Refused fault) new =
     HasMessageFault form payload fault × (fault ≢ msg.Memory) × (new ≡ old)
-IsChosenFault form payload most services nets old now source words Memory new =
+IsChosenFault form payload most services nets bans old now source words Memory new =
     (new ≡ old) ⊎ ((entries : List (Option Entry)) × IsMessage form payload entries
-    × AreNotChosen most services nets entries old now source words Memory new)
-IsChosenFault form payload most services nets old now source words (ShortWords need have) new =
+    × AreNotChosen most services nets bans entries old now source words Memory new)
+IsChosenFault form payload most services nets bans old now source words (ShortWords need have) new =
     (entries : List (Option Entry)) × IsMessage form payload entries
-    × AreNotChosen most services nets entries old now source words (ShortWords need have) new
+    × AreNotChosen most services nets bans entries old now source words (ShortWords need have) new

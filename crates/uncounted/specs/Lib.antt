@@ -1,2 +1,3 @@
 pub mod Chosen
 pub mod First
+pub mod Picked

@@ -1,9 +1,10 @@
-ghost use Rattle.std.specs.Prelude.{◌≡◌, ◌≤◌, ◌<◌, ◌^◌, length, map, min, IfOk, IfErr};
+ghost use Rattle.std.specs.Prelude.{◌≡◌, ◌≤◌, ◌<◌, ◌^◌, [], length, map, min, IfOk, IfErr};
 ghost use Rattle.addr_codecs.specs.declared.message.TheConstants.{MAX_ENTRIES};
-ghost use Rattle.uncounted.specs.Chosen.{AreChosen, AreNotChosen, IsChosenAdded, IsChosenFault, chosen, is_useful, network_of, shuffled, useful};
+ghost use Rattle.uncounted.specs.Chosen.{AreChosen, AreNotChosen, IsChosenAdded, IsChosenFault, chosen, is_free, is_useful, network_of, shuffled, useful};
 
 use crate::first::take_entries;
 use addr_codecs::{Form, MsgFault, read_message};
+use ban_list::Bans;
 use net_addr::{Entry, Net, NetAddr, NetSet};
 use std::alloc::Global;
 use std::hash::BuildHasher;
@@ -29,16 +30,43 @@ pub fn take_chosen<H: BuildHasher>(
     now: u32,
 ) -> Result<Added, MessageFault>
     requires room { tables.old.next_number < 2 ^ 62 }
-    ensures added { IfOk result (λ added. IsChosenAdded form payload.now most services nets
+    ensures added { IfOk result (λ added. IsChosenAdded form payload.now most services nets []
+        tables.old now source.now words.now added tables.new) }
+    ensures cause { IfErr result (λ fault. IsChosenFault form payload.now most services nets []
+        tables.old now source.now words.now fault tables.new) }
+{
+    let none = Bans::make(alloc);
+    take_unbanned(
+        alloc, tables, &none, form, payload, source, most, services, nets, words, now,
+    )
+}
+
+/// Does the same, and skips the entries whose addresses are banned now, too. It looks at each ban
+/// for each entry that is let through.
+pub fn take_unbanned<H: BuildHasher>(
+    alloc: Global,
+    tables: &mut Tables<'_, H>,
+    bans: &Bans,
+    form: Form,
+    payload: &[u8],
+    source: &NetAddr,
+    most: usize,
+    services: u64,
+    nets: NetSet,
+    words: &[u64],
+    now: u32,
+) -> Result<Added, MessageFault>
+    requires room { tables.old.next_number < 2 ^ 62 }
+    ensures added { IfOk result (λ added. IsChosenAdded form payload.now most services nets bans.now
         tables.old now source.now words.now added tables.new) }
     ensures cause { IfErr result (λ fault. IsChosenFault form payload.now most services nets
-        tables.old now source.now words.now fault tables.new) }
+        bans.now tables.old now source.now words.now fault tables.new) }
 {
     match read_message(alloc, form, payload) {
         Ok(entries) => {
             let entries = entries.items();
             take_some(
-                alloc, tables, entries, source, most, services, nets, words, now,
+                alloc, tables, bans, entries, source, most, services, nets, words, now,
             )
         }
         Err(MsgFault::Memory) => Err(MessageFault::Memory),
@@ -50,6 +78,7 @@ pub fn take_chosen<H: BuildHasher>(
 fn take_some<H: BuildHasher>(
     alloc: Global,
     tables: &mut Tables<'_, H>,
+    bans: &Bans,
     entries: &[Option<Entry>],
     source: &NetAddr,
     most: usize,
@@ -60,10 +89,10 @@ fn take_some<H: BuildHasher>(
 ) -> Result<Added, MessageFault>
     requires more { tables.old.next_number < 2 ^ 62 }
     requires few { length entries.now ≤ MAX_ENTRIES }
-    ensures added { IfOk result (λ added. AreChosen most services nets entries.now tables.old now
-        source.now words.now added tables.new) }
-    ensures cause { IfErr result (λ fault. AreNotChosen most services nets entries.now tables.old
-        now source.now words.now fault tables.new) }
+    ensures added { IfOk result (λ added. AreChosen most services nets bans.now entries.now
+        tables.old now source.now words.now added tables.new) }
+    ensures cause { IfErr result (λ fault. AreNotChosen most services nets bans.now entries.now
+        tables.old now source.now words.now fault tables.new) }
 {
     let need = entries.len() + most.min(entries.len());
     if words.len() < need {
@@ -72,7 +101,7 @@ fn take_some<H: BuildHasher>(
             have: words.len() as u32,
         });
     }
-    let Ok(found) = chosen(alloc, entries, most, services, nets, words) else {
+    let Ok(found) = chosen(alloc, entries, most, services, nets, bans, now, words) else {
         return Err(MessageFault::Memory);
     };
     let rest = &words[entries.len()..];
@@ -92,17 +121,19 @@ fn chosen(
     most: usize,
     services: u64,
     nets: NetSet,
+    bans: &Bans,
+    now: u32,
     words: &[u64],
 ) -> Result<Vec<Option<Entry>>, Memory>
     requires enough { length entries.now ≤ length words.now }
     ensures found { IfOk result (λ es. es.items
-        ≡ chosen most services nets words.now entries.now) }
+        ≡ chosen most services nets bans.now now words.now entries.now) }
     ensures count { IfOk result (λ es. length es.items ≡ min most (length entries.now)) }
 {
     let mut all = Vec::from_slice(alloc, entries)?;
     shuffle(all.as_mut_slice(), words);
     let first = &all[..most.min(all.len())];
-    useful_of(alloc, first, services, nets)
+    useful_of(alloc, first, services, nets, bans, now)
 }
 
 /// Exchanges each entry in turn with one from its position on, which its random word selects.
@@ -125,25 +156,43 @@ fn useful_of(
     entries: &[Option<Entry>],
     services: u64,
     nets: NetSet,
+    bans: &Bans,
+    now: u32,
 ) -> Result<Vec<Option<Entry>>, Memory>
-    ensures found { IfOk result (λ es. es.items ≡ map (useful services nets) entries.now) }
+    ensures found { IfOk result (λ es. es.items
+        ≡ map (useful services nets bans.now now) entries.now) }
     ensures count { IfOk result (λ es. length es.items ≡ length entries.now) }
 {
     let mut found = Vec::with_capacity(alloc, entries.len())?;
     for entry in entries {
-        found.push(useful(entry, services, nets))?;
+        found.push(useful(entry, services, nets, bans, now))?;
     }
     Ok(found)
 }
 
-/// Returns the entry if it is useful.
-fn useful(entry: &Option<Entry>, services: u64, nets: NetSet) -> Option<Entry>
-    ensures { result ≡ useful services nets entry.now }
+/// Returns the entry if it is useful, and its address is not banned now.
+fn useful(
+    entry: &Option<Entry>,
+    services: u64,
+    nets: NetSet,
+    bans: &Bans,
+    now: u32,
+) -> Option<Entry>
+    ensures { result ≡ useful services nets bans.now now entry.now }
 {
     match entry {
-        Some(entry) if is_useful(entry, services, nets) => Some(*entry),
+        Some(entry) if is_free(bans, entry, now) && is_useful(entry, services, nets) => {
+            Some(*entry)
+        }
         _ => None,
     }
+}
+
+/// Returns `true` if no ban covers the address of the entry now.
+fn is_free(bans: &Bans, entry: &Entry, now: u32) -> bool
+    ensures { result ≡ is_free bans.now now entry.now }
+{
+    bans.covering(&entry.peer.addr, now).is_none()
 }
 
 /// Returns `true` if the entry has one of the services, and the network of its address is in the

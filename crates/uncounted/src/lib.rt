@@ -2,8 +2,9 @@
 //! counter of its own, so that the caller names no ledger and has no condition on it.
 //!
 //! Proved: each call returns and leaves what the call with a count of steps does. `take_first` does
-//! so with the first entries of a message (`IsFirstAdded`, `IsFirstFault`), and `take_chosen` with
-//! those that a node has a use for, after a shuffle (`IsChosenAdded`, `IsChosenFault`).
+//! so with the first entries of a message (`IsFirstAdded`, `IsFirstFault`), and `take_chosen` and
+//! `take_unbanned` with those that a node has a use for, after a shuffle (`IsChosenAdded`,
+//! `IsChosenFault`). A peer that `select` picks has a record (`record`, `known`).
 #![tactic(auto)]
 
 mod chosen;
@@ -13,7 +14,7 @@ mod marks;
 mod picks;
 mod reads;
 
-pub use chosen::take_chosen;
+pub use chosen::{take_chosen, take_unbanned};
 pub use entries::{add, take_message};
 pub use first::take_first;
 pub use marks::{attempt, connected, good, services};

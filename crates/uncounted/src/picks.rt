@@ -1,4 +1,8 @@
-ghost use Rattle.std.specs.Prelude.{◌≡◌, ℕ, ◌≤◌, ◌<◌, ◌^◌, length, Err, IfOk, OnOk, OnErr};
+ghost use Rattle.std.specs.Prelude.{◌≡◌, ℕ, ◌≤◌, ◌<◌, ◌^◌, length, Err, IfOk, OnOk, OnErr, IsSome};
+ghost use Rattle.net_addr.specs.declared.peer.Peer.{Peer};
+ghost use Rattle.peer_rec.specs.declared.picked.Picked.TheVariants.{One};
+ghost use Rattle.table_machine.specs.State.{find_peer};
+ghost use Rattle.uncounted.specs.Picked.{IsPicked};
 ghost use Rattle.table_machine.specs.Picks.{select, sample};
 ghost use Rattle.table_machine.specs.Clashes.{resolve, clash_pick};
 
@@ -22,6 +26,10 @@ pub fn select<H: BuildHasher>(
     now: u32,
 ) -> Picked
     ensures picked { result ≡ select tables.now new_only nets words.now now }
+    ensures record { (peer : Peer) (last_try : ℕ) → result ≡ One peer last_try →
+        IsPicked tables.now nets peer last_try }
+    ensures known { (peer : Peer) (last_try : ℕ) → result ≡ One peer last_try →
+        IsSome (find_peer tables.now peer) }
 {
     count_select::<H, Brand>(tables, new_only, nets, words, now, Blank::new(1))
 }

@@ -4,4 +4,4 @@ use Rattle.uncounted.proofs.chosen.useful_of.Given as goal
 
 -- those of the first entries
 abbrev pub invariant-loop-entry : goal.invariant-loop-entry
-invariant-loop-entry l = l.found.items ≡ map (useful l.services l.nets) (take l.entry-index l.entries)
+invariant-loop-entry l = l.found.items ≡ map (useful l.services l.nets l.bans l.now) (take l.entry-index l.entries)
