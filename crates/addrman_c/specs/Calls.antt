@@ -1,10 +1,11 @@
 -- What the calls on tables return, write and leave. A call's definition ends with the state
 -- before, the code, the outputs and the state after.
-use Rattle.std.specs.Prelude.{◌≡◌, ◌⊎◌, ℕ, ◌<◌, ◌≤◌, ◌^◌, List, drop, length, Bool, true, false, Option, Some, None, Result, Ok, Err, MatchOption, MatchResult}
+use Rattle.std.specs.Prelude.{◌≡◌, ◌⊎◌, ⊥, ℕ, ◌<◌, ◌≤◌, ◌^◌, List, drop, length, Bool, true, false, Option, Some, None, Result, Ok, Err, MatchOption, MatchResult}
 use Rattle.net_addr.specs.Address.{Address}
 use Rattle.net_addr.specs.declared.entry.Entry.{Entry}
 use Rattle.net_addr.specs.declared.peer.Peer.{Peer}
 use Rattle.addr_codecs.specs.declared.form.Form.{Form}
+use Rattle.ban_list.specs.declared.ban.Ban.{Ban}
 use Rattle.addr_codecs.specs.declared.form.Form.TheVariants.{Addr, Addrv2}
 use Rattle.peer_rec.specs.declared.rec.Rec.{Rec}
 use Rattle.peer_rec.specs.declared.good.Good.{Good}
@@ -113,17 +114,17 @@ FirstCall form payload (Some source) most words now old code added fault new =
     × Tells answer code added fault))
 
 -- a message, of which those of the first entries after a shuffle are taken that a node has a use
--- for; None is no address
-abbrev pub ChosenCall : Form → List ℕ → Option Address → ℕ → ℕ → List ℕ → List ℕ → ℕ → State → ℕ
-    → AddrmanAdded → AddrmanFault → State → Type 0
-ChosenCall form payload None most services nets words now old code added fault new =
+-- for and that are not banned; None is no address
+abbrev pub ChosenCall : Form → List ℕ → Option Address → ℕ → ℕ → List ℕ → List Ban → List ℕ → ℕ
+    → State → ℕ → AddrmanAdded → AddrmanFault → State → Type 0
+ChosenCall form payload None most services nets bans words now old code added fault new =
     Refuses ARGUMENT old code new
-ChosenCall form payload (Some source) most services nets words now old code added fault new =
+ChosenCall form payload (Some source) most services nets bans words now old code added fault new =
     ((most_records ≤ old.next_number) × Refuses FULL old code new)
     ⊎ ((old.next_number < most_records) × ((answer : Result Added MessageFault)
     × MatchResult answer
-    (λ taken. IsChosenAdded form payload most services nets old now source words taken new)
-    (λ why. IsChosenFault form payload most services nets old now source words why new)
+    (λ taken. IsChosenAdded form payload most services nets bans old now source words taken new)
+    (λ why. IsChosenFault form payload most services nets bans old now source words why new)
     × Tells answer code added fault))
 
 -- the code and the output for a pick
@@ -153,8 +154,9 @@ RecordsCall recs code old new count =
     × (((length old < length recs) × (code ≡ SHORT_BUFFER) × (new ≡ old))
     ⊎ ((code ≡ OK) × AreRecords new recs × (drop (length recs) new ≡ drop (length recs) old))))
 
--- the code and the record for a pick
+-- the code and the record for a pick: a peer that is picked has one
 abbrev pub PickRecordCall : Picked → State → ℕ → AddrmanRecord → Type 0
-PickRecordCall (One peer last_try) st code out = FindCall (Some peer) st code out
+PickRecordCall (One peer last_try) st code out =
+    MatchOption (find_peer st peer) ⊥ (λ r. (code ≡ OK) × IsRecord out r)
 PickRecordCall Nothing st code out = code ≡ NONE
 PickRecordCall Exhausted st code out = code ≡ EXHAUSTED

@@ -42,7 +42,7 @@ pub use bans::{
     addrman_bans_add, addrman_bans_close, addrman_bans_covering, addrman_bans_open,
     addrman_bans_remove, addrman_bans_write, addrman_subnet_parse,
 };
-pub use choosing::addrman_take_chosen;
+pub use choosing::{addrman_take_chosen, addrman_take_unbanned};
 pub use entries::{addrman_add, addrman_take_first, addrman_take_message};
 pub use group::{addrman_asmap_check, addrman_asn, addrman_group};
 pub use kinds::{
