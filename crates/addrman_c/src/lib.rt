@@ -26,6 +26,7 @@ mod messages;
 mod opener;
 mod opening;
 mod picks;
+mod printing;
 mod records;
 mod sampling;
 mod saves;

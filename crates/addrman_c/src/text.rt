@@ -3,13 +3,14 @@ ghost use Rattle.net_addr.specs.Address.{Address};
 ghost use Rattle.net_addr.specs.Text.{IsAddrText, IsPeerText, addr_text, peer_text};
 ghost use Rattle.net_addr.specs.declared.peer.Peer.{Peer};
 ghost use Rattle.c_values.specs.Values.{address_in, peer_in};
-ghost use Rattle.names.specs.Name.{IsName, name_text};
-ghost use Rattle.addrman_c.specs.Texts.{TextCall};
+ghost use Rattle.names.specs.Name.{IsName};
+ghost use Rattle.addrman_c.specs.Texts.{NameCall, TextCall};
 
+use crate::printing::{addr_text, peer_text};
 use c_values::code::{ARGUMENT, MEMORY, OK, SHORT_BUFFER};
 use c_values::{AddrmanAddr, AddrmanPeer, put_all, read_addr, read_peer, write_addr, write_peer};
 use names::{name_of, parse_name};
-use net_addr::{NetAddr, Peer, parse_addr, parse_peer, put_addr, put_peer};
+use net_addr::{NetAddr, Peer, parse_addr, parse_peer};
 use std::alloc::Global;
 
 /// Parses the text of an address.
@@ -47,61 +48,43 @@ pub extern "C" fn addrman_peer_parse(text: &[u8], out: &mut AddrmanPeer) -> u32
 }
 
 /// Writes the text of an address, whole or not at all, and its length.
-fn put_addr_text(alloc: Global, addr: Option<NetAddr>, out: &mut [u8], length: &mut usize) -> u32
+fn put_addr_text(addr: Option<NetAddr>, out: &mut [u8], length: &mut usize) -> u32
     ensures call { TextCall addr_text addr result out.old out.new length.new }
     ensures length { result ≢ OK → result ≢ SHORT_BUFFER → length.new ≡ length.old }
 {
-    let Some(addr) = addr else {
-        return ARGUMENT;
-    };
-    let mut text = Vec::new(alloc);
-    match put_addr(&addr, &mut text) {
-        Ok(()) => put_all(out, text.as_slice(), length),
-        Err(_) => MEMORY,
+    match addr {
+        Some(addr) => put_all(out, addr_text(&addr).as_slice(), length),
+        None => ARGUMENT,
     }
 }
 
 /// Writes the text of a peer, whole or not at all, and its length.
-fn put_peer_text(alloc: Global, peer: Option<Peer>, out: &mut [u8], length: &mut usize) -> u32
+fn put_peer_text(peer: Option<Peer>, out: &mut [u8], length: &mut usize) -> u32
     ensures call { TextCall peer_text peer result out.old out.new length.new }
     ensures length { result ≢ OK → result ≢ SHORT_BUFFER → length.new ≡ length.old }
 {
-    let Some(peer) = peer else {
-        return ARGUMENT;
-    };
-    let mut text = Vec::new(alloc);
-    match put_peer(&peer, &mut text) {
-        Ok(()) => put_all(out, text.as_slice(), length),
-        Err(_) => MEMORY,
+    match peer {
+        Some(peer) => put_all(out, peer_text(&peer).as_slice(), length),
+        None => ARGUMENT,
     }
 }
 
 /// Writes the text of an address, and its length.
 #[unsafe(no_mangle)]
-pub extern "C" fn addrman_addr_text(
-    alloc: Global,
-    addr: &AddrmanAddr,
-    out: &mut [u8],
-    length: &mut usize,
-) -> u32
+pub extern "C" fn addrman_addr_text(addr: &AddrmanAddr, out: &mut [u8], length: &mut usize) -> u32
     ensures call { TextCall addr_text (address_in addr.now) result out.old out.new length.new }
     ensures length { result ≢ OK → result ≢ SHORT_BUFFER → length.new ≡ length.old }
 {
-    put_addr_text(alloc, read_addr(addr), out, length)
+    put_addr_text(read_addr(addr), out, length)
 }
 
 /// Writes the text of a peer, and its length.
 #[unsafe(no_mangle)]
-pub extern "C" fn addrman_peer_text(
-    alloc: Global,
-    peer: &AddrmanPeer,
-    out: &mut [u8],
-    length: &mut usize,
-) -> u32
+pub extern "C" fn addrman_peer_text(peer: &AddrmanPeer, out: &mut [u8], length: &mut usize) -> u32
     ensures call { TextCall peer_text (peer_in peer.now) result out.old out.new length.new }
     ensures length { result ≢ OK → result ≢ SHORT_BUFFER → length.new ≡ length.old }
 {
-    put_peer_text(alloc, read_peer(peer), out, length)
+    put_peer_text(read_peer(peer), out, length)
 }
 
 /// Parses the name of an address as people write it.
@@ -123,7 +106,7 @@ pub extern "C" fn addrman_name_parse(text: &[u8], out: &mut AddrmanAddr) -> u32
 
 /// Writes the name of an address, whole or not at all, and its length.
 fn put_name(alloc: Global, addr: Option<NetAddr>, out: &mut [u8], length: &mut usize) -> u32
-    ensures call { TextCall name_text addr result out.old out.new length.new }
+    ensures call { NameCall addr result out.old out.new length.new }
     ensures length { result ≢ OK → result ≢ SHORT_BUFFER → length.new ≡ length.old }
 {
     let Some(addr) = addr else {
@@ -143,7 +126,7 @@ pub extern "C" fn addrman_name_text(
     out: &mut [u8],
     length: &mut usize,
 ) -> u32
-    ensures call { TextCall name_text (address_in addr.now) result out.old out.new length.new }
+    ensures call { NameCall (address_in addr.now) result out.old out.new length.new }
     ensures length { result ≢ OK → result ≢ SHORT_BUFFER → length.new ≡ length.old }
 {
     put_name(alloc, read_addr(addr), out, length)
