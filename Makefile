@@ -17,7 +17,8 @@
 # make rows       runs the cases of crates/addrman/rows with the built program
 # make endings    tries the exit codes of the built program and their texts
 # make mistakes   makes some hundred mistakes with it, and compares what standard error says
-# make lib        proves the library for C, and builds bin/lib/libaddrman.a and libaddrman.so.1
+# make lib        proves the library for C, and builds bin/lib/libaddrman.a and libaddrman.so.1; with
+#                 BACKEND=rattle by Rattle's own compiler, with what a debugger needs for a backtrace
 # make lib-test   tries it from C, C++ and Python, beside the built program
 # make ci-lib-test  the same with what rt ci has just proved and built in this clone
 # make ci-program-test  rows, endings, mistakes and examples with what rt ci has just proved and built in this clone
@@ -156,10 +157,10 @@ figures:
 	tools/figures
 
 lib:
-	cd crates/addrman_c && rt lib
+	cd crates/addrman_c && rt lib $(if $(BACKEND),--backend $(BACKEND))
 	$(MAKE) archive
 
-# The calls that close take NULL too, by bindings/close.c, which stands before the proved ones.
+# The calls that close take NULL too, and what is freed is wiped, by bindings/edges.c.
 CLOSES := addrman_close addrman_save_close addrman_bans_close addrman_limiter_close addrman_answers_close
 
 # One object, with the allocator in it and only addrman_* to be seen.
@@ -169,16 +170,19 @@ archive:
 	mkdir -p bin/lib
 	ld -r -o bin/lib/proved.o $(OBJECTS)
 	objcopy --strip-unneeded --remove-section=.llvmbc --remove-section=.llvmcmd \
-		$(foreach it,$(CLOSES),--redefine-sym $(it)=open_$(it)) bin/lib/proved.o
-	gcc -std=c99 -O2 -fPIC -c -o bin/lib/close.o bindings/close.c
-	ld -r -o bin/lib/addrman.o bin/lib/proved.o bin/lib/close.o
+		--keep-section=.debug_frame --keep-section=.rela.debug_frame \
+		--redefine-sym free=wiping_free --redefine-sym realloc=wiping_realloc \
+		$(foreach it,$(CLOSES),--redefine-sym $(it)=proved_$(it)) bin/lib/proved.o
+	gcc -std=gnu99 -O2 -fPIC -Wall -Wextra -DADDRMAN_VERSION='"$(VERSION)"' -c -o bin/lib/edges.o \
+		bindings/edges.c
+	ld -r -o bin/lib/addrman.o bin/lib/proved.o bin/lib/edges.o
 	objcopy --wildcard --keep-global-symbol='addrman_*' bin/lib/addrman.o
 	rm -f bin/lib/libaddrman.a
 	ar rcs bin/lib/libaddrman.a bin/lib/addrman.o
 	gcc -shared -o bin/lib/libaddrman.so.1 -Wl,-soname,libaddrman.so.1 -Wl,-z,defs -Wl,-z,now \
 		-Wl,-z,relro -Wl,--version-script=bindings/addrman.map bin/lib/addrman.o
 	ln -sf libaddrman.so.1 bin/lib/libaddrman.so
-	rm bin/lib/addrman.o bin/lib/proved.o bin/lib/close.o
+	rm bin/lib/addrman.o bin/lib/proved.o bin/lib/edges.o
 
 lib-test: bin/addrman lib
 	tools/lib_test

@@ -11,11 +11,11 @@
  *   closed object, or of NULL, does nothing; of the other calls, those that open the object open
  *   it, and all others return ADDRMAN_ERR_CLOSED. Nothing that a call returns has to be freed:
  *   results go into memory of the caller's.
- * Memory. The library allocates by malloc, realloc and free alone. A call that can run out of
- *   memory returns ADDRMAN_ERR_MEMORY, and says what it then leaves. No call aborts.
- * Arguments. No pointer is NULL, but for those of the calls that close. One with a length of 0 may
- *   be any other pointer: pass the address of any object. Texts have no zero at their end. What a
- *   call writes overlaps nothing else that is passed to it. A bool is 0 or 1.
+ * Memory. The library allocates by malloc and free alone, and wipes what it frees. A call that can
+ *   run out of memory returns ADDRMAN_ERR_MEMORY, and says what it then leaves. No call aborts.
+ * Arguments. A pointer that has a length after it may be NULL if that is 0, and so may those of the
+ *   calls that close; no other is NULL. Texts have no zero at their end, unless a call says so. What
+ *   a call writes overlaps nothing else that is passed to it. A bool is 0 or 1.
  * Threads. There is no global state. Two calls at the same time never use one object, not even two
  *   that only read: hold a lock for each object. It may go to another thread between calls.
  * Time and randomness. No call reads a clock or draws a random number. Times are seconds since
@@ -35,8 +35,9 @@
  * for all arguments that keep these rules. "Proved:" names the definitions of the clause. The rule
  * "Results" is a clause of each call, too. No proof sees the caller: that pointers are valid for
  * their lengths, that an open object is not copied, and that this header says what the functions'
- * signatures say, are trusted, as are the compiler, the C library, and the test for NULL before the
- * calls that close (bindings/close.c).
+ * signatures say, are trusted, as are the compiler, which makes NULL with the length 0 a list without
+ * elements, the C library, and bindings/edges.c: its texts, what wipes memory, and the test for NULL
+ * before the calls that close.
  */
 #ifndef ADDRMAN_H
 #define ADDRMAN_H
@@ -56,11 +57,15 @@ extern "C" {
 #elif defined(__GNUC__) && __GNUC__ >= 4
 #define ADDRMAN_API __attribute__((visibility("default")))
 #define ADDRMAN_NONNULL __attribute__((nonnull))
-#define ADDRMAN_CALL ADDRMAN_API ADDRMAN_NONNULL __attribute__((warn_unused_result))
+#define ADDRMAN_RESULT ADDRMAN_API __attribute__((warn_unused_result))
+#define ADDRMAN_CALL ADDRMAN_RESULT ADDRMAN_NONNULL
+#define ADDRMAN_CALL_OF(...) ADDRMAN_RESULT __attribute__((nonnull(__VA_ARGS__)))
 #else
 #define ADDRMAN_API
 #define ADDRMAN_NONNULL
+#define ADDRMAN_RESULT
 #define ADDRMAN_CALL
+#define ADDRMAN_CALL_OF(...)
 #endif
 
 #if defined(__cplusplus)
@@ -73,6 +78,9 @@ extern "C" {
 
 /* Returns ADDRMAN_ABI of the library that is linked. */
 ADDRMAN_API uint32_t addrman_abi(void);
+
+/* Returns its version, as 0.1.0: a text that stays, with a zero at its end. */
+ADDRMAN_API const char *addrman_version(void);
 
 /* ---------------------------------------------------------------------------------- results */
 
@@ -127,6 +135,12 @@ typedef struct {
 } addrman_fault;
 ADDRMAN_SIZE(addrman_fault, 16);
 
+/* Return a few words about a result, and the word that the program prints for a kind of fault, for
+ * people: texts that stay, with a zero at their end. That of a number without a meaning is
+ * "unknown". */
+ADDRMAN_API const char *addrman_result_text(addrman_result code);
+ADDRMAN_API const char *addrman_fault_text(uint32_t kind);
+
 /* ----------------------------------------------------------------------------------- values */
 
 typedef uint8_t addrman_network;
@@ -173,30 +187,30 @@ ADDRMAN_SIZE(addrman_record, 128);
  * internal:HEX; HEX is its bytes) or of a peer, which has a colon and the port after it.
  * ADDRMAN_ERR_ARGUMENT: the text is none. Proved: `IsAddrText`, `IsPeerText`.
  * Codes: ARGUMENT. */
-ADDRMAN_CALL addrman_result addrman_addr_parse(const char *text, size_t length,
+ADDRMAN_CALL_OF(3) addrman_result addrman_addr_parse(const char *text, size_t length,
     addrman_addr *addr);
-ADDRMAN_CALL addrman_result addrman_peer_parse(const char *text, size_t length,
+ADDRMAN_CALL_OF(3) addrman_result addrman_peer_parse(const char *text, size_t length,
     addrman_peer *peer);
 
 /* Write the text, which has no zero at its end, and its length: at most 70 bytes for an address and
- * 76 for a peer. Proved: TextCall (`addr_text`, `peer_text`).
- * Codes: ARGUMENT, MEMORY, SHORT_BUFFER. */
-ADDRMAN_CALL addrman_result addrman_addr_text(const addrman_addr *addr, char *out,
+ * 76 for a peer. They take no memory. Proved: TextCall (`addr_text`, `peer_text`).
+ * Codes: ARGUMENT, SHORT_BUFFER. */
+ADDRMAN_CALL_OF(1, 4) addrman_result addrman_addr_text(const addrman_addr *addr, char *out,
     size_t capacity, size_t *length);
-ADDRMAN_CALL addrman_result addrman_peer_text(const addrman_peer *peer, char *out,
+ADDRMAN_CALL_OF(1, 4) addrman_result addrman_peer_text(const addrman_peer *peer, char *out,
     size_t capacity, size_t *length);
 
 /* Parse the name of an address as people write it: 9.9.9.9, 2001:db8::1, the 56 letters of Tor v3
  * before .onion, those of I2P before .b32.i2p. One of fc00::/8 is of CJDNS.
  * ADDRMAN_ERR_ARGUMENT: the text is none, or has a port. Proved: `IsName`.
  * Codes: ARGUMENT. */
-ADDRMAN_CALL addrman_result addrman_name_parse(const char *text, size_t length,
+ADDRMAN_CALL_OF(3) addrman_result addrman_name_parse(const char *text, size_t length,
     addrman_addr *addr);
 
-/* Write the name, which has no zero at its end, and its length: at most 62 bytes. Proved: TextCall
+/* Write the name, which has no zero at its end, and its length: at most 62 bytes. Proved: NameCall
  * (`name_text`).
  * Codes: ARGUMENT, MEMORY, SHORT_BUFFER. */
-ADDRMAN_CALL addrman_result addrman_name_text(const addrman_addr *addr, char *out,
+ADDRMAN_CALL_OF(1, 4) addrman_result addrman_name_text(const addrman_addr *addr, char *out,
     size_t capacity, size_t *length);
 
 /* Whether an address is one that can be reached from anywhere: *routable is 1 or 0. Proved:
@@ -241,7 +255,7 @@ enum { ADDRMAN_MAIN, ADDRMAN_TEST, ADDRMAN_SIGNET, ADDRMAN_REGTEST, ADDRMAN_TEST
  *   ADDRMAN_ERR_REFUSED  the asmap is not sane, or has more than 8,388,608 bytes
  * Proved: OpenCall (`empty_state`).
  * Codes: REFUSED, MEMORY. */
-ADDRMAN_CALL addrman_result addrman_open(addrman *am, const uint8_t key[32],
+ADDRMAN_CALL_OF(1, 2, 3) addrman_result addrman_open(addrman *am, const uint8_t key[32],
     const uint64_t seed[2], const uint8_t *asmap, size_t asmap_length);
 
 /* Opens the tables that the bytes of a peers.dat (formats 1 to 4) have, under the key in the file.
@@ -249,7 +263,7 @@ ADDRMAN_CALL addrman_result addrman_open(addrman *am, const uint8_t key[32],
  *   ADDRMAN_ERR_REFUSED  *fault says why
  * Proved: LoadCall (`IsFile`, `restored`, `HasFileFault`, `duplicate`).
  * Codes: ARGUMENT (there is no such chain), REFUSED (the asmap), MEMORY or REFUSED. */
-ADDRMAN_CALL addrman_result addrman_open_file(addrman *am, const uint8_t *bytes,
+ADDRMAN_CALL_OF(1, 5, 8) addrman_result addrman_open_file(addrman *am, const uint8_t *bytes,
     size_t length, addrman_chain chain, const uint64_t seed[2], const uint8_t *asmap,
     size_t asmap_length, addrman_fault *fault);
 
@@ -258,22 +272,25 @@ ADDRMAN_CALL addrman_result addrman_open_file(addrman *am, const uint8_t *bytes,
  * (docs/FORMATS.md). It is that of the object: addrman_write_file and addrman_save_begin write it.
  * Proved: OpenCall, LoadCall (`sum_by` with `Bits`).
  * Codes: REFUSED, MEMORY. */
-ADDRMAN_CALL addrman_result addrman_open_core(addrman *am, const uint8_t key[32],
+ADDRMAN_CALL_OF(1, 2, 3) addrman_result addrman_open_core(addrman *am, const uint8_t key[32],
     const uint64_t seed[2], const uint8_t *asmap, size_t asmap_length);
 /* Codes: as of addrman_open_file. */
-ADDRMAN_CALL addrman_result addrman_open_file_core(addrman *am, const uint8_t *bytes,
+ADDRMAN_CALL_OF(1, 5, 8) addrman_result addrman_open_file_core(addrman *am, const uint8_t *bytes,
     size_t length, addrman_chain chain, const uint64_t seed[2], const uint8_t *asmap,
     size_t asmap_length, addrman_fault *fault);
 
 /* Frees all memory of the object, and closes it. Proved: the object is closed. */
 ADDRMAN_API void addrman_close(addrman *am);
 
+/* How many bytes the file of so many records has at most: room for it, so that it is made once. */
+#define ADDRMAN_FILE_ROOM(records) ((size_t)4210 + (size_t)131 * (records))
+
 /* Writes the file that keeps the tables (format 4) and how many bytes it has. addrman_save_begin
  * says how a node puts them in the place of its peers.dat.
- *   ADDRMAN_ERR_SHORT_BUFFER  nothing is written but *length
+ *   ADDRMAN_ERR_SHORT_BUFFER  nothing is written but *length, which costs as much as the file does
  * Proved: WriteCall (`file_text` of `snapshot_of`); the tables are as they were.
  * Codes: CLOSED, ARGUMENT (there is no such chain), MEMORY, SHORT_BUFFER. */
-ADDRMAN_CALL addrman_result addrman_write_file(addrman *am, addrman_chain chain,
+ADDRMAN_CALL_OF(1, 5) addrman_result addrman_write_file(addrman *am, addrman_chain chain,
     uint8_t *out, size_t capacity, size_t *length);
 
 /* ------------------------------------------------------------------------------------ saves */
@@ -313,7 +330,7 @@ ADDRMAN_CALL addrman_result addrman_save_begin(addrman_save *save, addrman *am,
  *   ADDRMAN_ERR_SHORT_BUFFER  only *request and *length are written: call it with more room
  * Proved: NextCall; the save is as it was.
  * Codes: CLOSED, NONE, SHORT_BUFFER. */
-ADDRMAN_CALL addrman_result addrman_save_next(addrman_save *save,
+ADDRMAN_CALL_OF(1, 2, 5) addrman_result addrman_save_next(addrman_save *save,
     addrman_request *request, uint8_t *out, size_t capacity, size_t *length);
 
 /* What was to be done has succeeded, or has failed: then the save is over, and closed. Proved:
@@ -340,7 +357,7 @@ ADDRMAN_SIZE(addrman_added, 8);
  *   ADDRMAN_ERR_MEMORY       some of the first entries may have been added, and the others not
  * Proved: MessageCall (`IsMessage`, `take_entries`, `HasMessageFault`).
  * Codes: CLOSED, ARGUMENT, FULL, then REFUSED, SHORT_WORDS or MEMORY. */
-ADDRMAN_CALL addrman_result addrman_take_message(addrman *am, bool is_v2,
+ADDRMAN_CALL_OF(1, 5, 9, 10) addrman_result addrman_take_message(addrman *am, bool is_v2,
     const uint8_t *payload, size_t payload_length, const addrman_addr *source,
     const uint64_t *words, size_t word_count, uint32_t now, addrman_added *added,
     addrman_fault *fault);
@@ -349,7 +366,7 @@ ADDRMAN_CALL addrman_result addrman_take_message(addrman *am, bool is_v2,
  * addrman_limiter_admit lets through of addrman_message_count. Then added->total, and how many
  * words are needed, is the number of these. Proved: FirstCall (`IsFirstAdded`, `IsFirstFault`).
  * Codes: as of addrman_take_message. */
-ADDRMAN_CALL addrman_result addrman_take_first(addrman *am, bool is_v2,
+ADDRMAN_CALL_OF(1, 5, 10, 11) addrman_result addrman_take_first(addrman *am, bool is_v2,
     const uint8_t *payload, size_t payload_length, const addrman_addr *source, uint32_t most,
     const uint64_t *words, size_t word_count, uint32_t now, addrman_added *added,
     addrman_fault *fault);
@@ -364,7 +381,7 @@ ADDRMAN_CALL addrman_result addrman_take_first(addrman *am, bool is_v2,
  *                            added->accepted is 0
  * Proved: ChosenCall (`chosen`, `IsChosenAdded`, `IsChosenFault`).
  * Codes: as of addrman_take_message. */
-ADDRMAN_CALL addrman_result addrman_take_chosen(addrman *am, bool is_v2,
+ADDRMAN_CALL_OF(1, 5, 12, 13) addrman_result addrman_take_chosen(addrman *am, bool is_v2,
     const uint8_t *payload, size_t payload_length, const addrman_addr *source, uint32_t most,
     uint64_t services, uint32_t nets, const uint64_t *words, size_t word_count, uint32_t now,
     addrman_added *added, addrman_fault *fault);
@@ -373,7 +390,7 @@ ADDRMAN_CALL addrman_result addrman_take_chosen(addrman *am, bool is_v2,
  * them, as addrman_limiter_admit wants it. Proved: CountCall (`IsMessage`, `HasMessageFault`).
  *   ADDRMAN_ERR_REFUSED  *fault says why
  * Codes: REFUSED or MEMORY. */
-ADDRMAN_CALL addrman_result addrman_message_count(bool is_v2, const uint8_t *payload,
+ADDRMAN_CALL_OF(4, 5) addrman_result addrman_message_count(bool is_v2, const uint8_t *payload,
     size_t payload_length, uint32_t *count, addrman_fault *fault);
 
 /* An entry of a message. Its time is as the message has it. */
@@ -390,7 +407,7 @@ ADDRMAN_SIZE(addrman_entry, 48);
  *   ADDRMAN_ERR_SHORT_BUFFER  nothing is written but *length
  * Proved: ReadMessageCall (`IsMessage`, `known`, `HasMessageFault`).
  * Codes: REFUSED or MEMORY, SHORT_BUFFER. */
-ADDRMAN_CALL addrman_result addrman_read_message(bool is_v2, const uint8_t *payload,
+ADDRMAN_CALL_OF(6, 7) addrman_result addrman_read_message(bool is_v2, const uint8_t *payload,
     size_t payload_length, addrman_entry *entries, size_t capacity, size_t *length,
     addrman_fault *fault);
 
@@ -400,7 +417,7 @@ ADDRMAN_CALL addrman_result addrman_read_message(bool is_v2, const uint8_t *payl
  *   ADDRMAN_ERR_SHORT_BUFFER  nothing is written but *length
  * Proved: WriteMessageCall (`entries_in`, `fits`, `IsMessage`).
  * Codes: ARGUMENT (the count), MEMORY, ARGUMENT (an address), MEMORY, SHORT_BUFFER. */
-ADDRMAN_CALL addrman_result addrman_write_message(bool is_v2, const addrman_entry *entries,
+ADDRMAN_CALL_OF(6) addrman_result addrman_write_message(bool is_v2, const addrman_entry *entries,
     size_t count, uint8_t *payload, size_t capacity, size_t *length);
 
 /* Adds one entry that `source` announced, with a penalty in seconds and a random word: for seeds,
@@ -448,15 +465,14 @@ ADDRMAN_SIZE(addrman_picked, 40);
  *   ADDRMAN_EXHAUSTED  call with more words
  * Proved: PickCall (`select`); the tables are as they were.
  * Codes: CLOSED, then NONE or EXHAUSTED. */
-ADDRMAN_CALL addrman_result addrman_select(addrman *am, bool new_only,
-    uint32_t nets, const uint64_t *words, size_t word_count, uint32_t now, addrman_picked *picked);
+ADDRMAN_CALL_OF(1, 7) addrman_result addrman_select(addrman *am, bool new_only, uint32_t nets,
+    const uint64_t *words, size_t word_count, uint32_t now, addrman_picked *picked);
 
 /* The same, and writes the record of the peer that is picked: its services, times and places, too.
  * Proved: PickRecordCall (`select`, `find_peer`); the tables are as they were.
  * Codes: as of addrman_select. */
-ADDRMAN_CALL addrman_result addrman_select_record(addrman *am, bool new_only,
-    uint32_t nets, const uint64_t *words, size_t word_count, uint32_t now,
-    addrman_record *record);
+ADDRMAN_CALL_OF(1, 7) addrman_result addrman_select_record(addrman *am, bool new_only,
+    uint32_t nets, const uint64_t *words, size_t word_count, uint32_t now, addrman_record *record);
 
 /* Samples peers to announce to another node: at most `max`, and at most `percent` percent of all
  * records; 0 is no limit. `classes` is a set of networks, ADDRMAN_UNROUTABLE among them. *length is
@@ -469,15 +485,15 @@ ADDRMAN_CALL addrman_result addrman_select_record(addrman *am, bool new_only,
  *   ADDRMAN_ERR_MEMORY        nothing changes
  * Proved: SampleCall (`sample`).
  * Codes: CLOSED, ARGUMENT, SHORT_WORDS, MEMORY, SHORT_BUFFER. */
-ADDRMAN_CALL addrman_result addrman_sample(addrman *am, uint32_t max,
-    uint32_t percent, uint32_t classes, const uint64_t *words, size_t word_count, uint32_t now,
-    addrman_peer *peers, size_t capacity, size_t *length);
+ADDRMAN_CALL_OF(1, 10) addrman_result addrman_sample(addrman *am, uint32_t max, uint32_t percent,
+    uint32_t classes, const uint64_t *words, size_t word_count, uint32_t now, addrman_peer *peers,
+    size_t capacity, size_t *length);
 
 /* The same, and writes entries: the peers with the times and services of their records.
  *   ADDRMAN_ERR_MEMORY  the order may have changed
  * Proved: SampleEntriesCall (`sample`, `entries_of`).
  * Codes: as of addrman_sample. */
-ADDRMAN_CALL addrman_result addrman_sample_entries(addrman *am, uint32_t max,
+ADDRMAN_CALL_OF(1, 10) addrman_result addrman_sample_entries(addrman *am, uint32_t max,
     uint32_t percent, uint32_t classes, const uint64_t *words, size_t word_count, uint32_t now,
     addrman_entry *entries, size_t capacity, size_t *length);
 
@@ -527,7 +543,7 @@ ADDRMAN_CALL addrman_result addrman_find(addrman *am, const addrman_peer *peer,
  *   ADDRMAN_ERR_SHORT_BUFFER  nothing is written but *length
  * Proved: RecordsCall.
  * Codes: CLOSED, MEMORY, SHORT_BUFFER. */
-ADDRMAN_CALL addrman_result addrman_records(addrman *am, addrman_record *records,
+ADDRMAN_CALL_OF(1, 4) addrman_result addrman_records(addrman *am, addrman_record *records,
     size_t capacity, size_t *length);
 
 /* ----------------------------------------------------------------------------------- groups */
@@ -535,7 +551,7 @@ ADDRMAN_CALL addrman_result addrman_records(addrman *am, addrman_record *records
 /* Whether bytes are a sane asmap of at most 8,388,608 bytes: ADDRMAN_OK or ADDRMAN_ERR_REFUSED.
  * Proved: CheckCall (`IsSaneFile`).
  * Codes: REFUSED. */
-ADDRMAN_CALL addrman_result addrman_asmap_check(const uint8_t *asmap, size_t length);
+ADDRMAN_RESULT addrman_result addrman_asmap_check(const uint8_t *asmap, size_t length);
 
 /* Compiles a table of prefixes into an asmap, and writes that and how many bytes it has. A line of
  * the table is a prefix and a number (1.2.3.0/24 AS5, 2001:db8::/32 AS6). The output is as it was
@@ -543,8 +559,8 @@ ADDRMAN_CALL addrman_result addrman_asmap_check(const uint8_t *asmap, size_t len
  *   ADDRMAN_ERR_REFUSED  *fault says why
  * Proved: CompileCall (`IsTableText`, `IsFault`, `compiled`, `best`).
  * Codes: REFUSED or MEMORY, SHORT_BUFFER. */
-ADDRMAN_CALL addrman_result addrman_asmap_compile(const char *table,
-    size_t table_length, uint8_t *out, size_t capacity, size_t *length, addrman_fault *fault);
+ADDRMAN_CALL_OF(5, 6) addrman_result addrman_asmap_compile(const char *table, size_t table_length,
+    uint8_t *out, size_t capacity, size_t *length, addrman_fault *fault);
 
 /* Turns an asmap back into a table whose longest prefixes give each address the number that the
  * asmap gives, and writes its text and how many bytes that has.
@@ -552,7 +568,7 @@ ADDRMAN_CALL addrman_result addrman_asmap_compile(const char *table,
  *                        2,000,000 rows
  * Proved: BackCall (`rows_back`, `table_text`).
  * Codes: REFUSED or MEMORY, SHORT_BUFFER. */
-ADDRMAN_CALL addrman_result addrman_asmap_decompile(const uint8_t *asmap,
+ADDRMAN_CALL_OF(5, 6) addrman_result addrman_asmap_decompile(const uint8_t *asmap,
     size_t asmap_length, char *out, size_t capacity, size_t *length, addrman_fault *fault);
 
 /* The number of the autonomous system that announces an address by the object's asmap, 0 if none is
@@ -563,8 +579,8 @@ ADDRMAN_CALL addrman_result addrman_asn(addrman *am, const addrman_addr *addr, u
 /* Writes the network group of an address, at most 11 bytes, and its length. Proved: GroupCall
  * (`group`).
  * Codes: CLOSED, ARGUMENT, SHORT_BUFFER. */
-ADDRMAN_CALL addrman_result addrman_group(addrman *am, const addrman_addr *addr, uint8_t *out,
-    size_t capacity, size_t *length);
+ADDRMAN_CALL_OF(1, 2, 5) addrman_result addrman_group(addrman *am, const addrman_addr *addr,
+    uint8_t *out, size_t capacity, size_t *length);
 
 /* The slot that a peer has in a bucket of the new table, from 0 to 63. A record is at this slot of
  * each of its buckets.
@@ -613,8 +629,8 @@ ADDRMAN_CALL addrman_result addrman_opener_remove(addrman *am, const addrman_pee
  * Proved: OpenPeersCall (`peers`); the object is as it was.
  *   ADDRMAN_ERR_SHORT_BUFFER  nothing is written but *length
  * Codes: CLOSED, MEMORY, SHORT_BUFFER. */
-ADDRMAN_CALL addrman_result addrman_opener_peers(addrman *am, addrman_peer *peers, size_t capacity,
-    size_t *length);
+ADDRMAN_CALL_OF(1, 4) addrman_result addrman_opener_peers(addrman *am, addrman_peer *peers,
+    size_t capacity, size_t *length);
 
 /* ------------------------------------------------------------------------------------- bans */
 
@@ -638,7 +654,7 @@ ADDRMAN_SIZE(addrman_ban, 48);
 /* Parses the text of a subnet (1.2.3.0/24, 2001:db8::/32, onion:HEX): its address, and how many of
  * its bits count. ADDRMAN_ERR_ARGUMENT: the text is none. Proved: SubnetCall (`IsSubnetText`).
  * Codes: ARGUMENT. */
-ADDRMAN_CALL addrman_result addrman_subnet_parse(const char *text, size_t length,
+ADDRMAN_CALL_OF(3, 4) addrman_result addrman_subnet_parse(const char *text, size_t length,
     addrman_addr *base, uint32_t *prefix);
 
 /* Opens the list that the bytes of a banlist.json have, or an empty one (length 0). What the object
@@ -646,15 +662,15 @@ ADDRMAN_CALL addrman_result addrman_subnet_parse(const char *text, size_t length
  *   ADDRMAN_ERR_REFUSED  *fault says why
  * Proved: ReadCall (`IsBanFile`, `HasBanFault`).
  * Codes: REFUSED or MEMORY. */
-ADDRMAN_CALL addrman_result addrman_bans_open(addrman_bans *bans,
-    const char *json, size_t length, addrman_fault *fault);
+ADDRMAN_CALL_OF(1, 4) addrman_result addrman_bans_open(addrman_bans *bans, const char *json,
+    size_t length, addrman_fault *fault);
 
 /* Frees all memory of the object, and closes it. */
 ADDRMAN_API void addrman_bans_close(addrman_bans *bans);
 
 /* Writes the banlist.json that keeps the list, and how many bytes it has. Proved: PrintCall.
  * Codes: CLOSED, MEMORY, SHORT_BUFFER. */
-ADDRMAN_CALL addrman_result addrman_bans_write(addrman_bans *bans, char *out,
+ADDRMAN_CALL_OF(1, 4) addrman_result addrman_bans_write(addrman_bans *bans, char *out,
     size_t capacity, size_t *length);
 
 /* Drops the bans that are over, and bans the subnet of a text (as addrman_subnet_parse reads it)
@@ -663,13 +679,13 @@ ADDRMAN_CALL addrman_result addrman_bans_write(addrman_bans *bans, char *out,
  *   ADDRMAN_ERR_MEMORY    nothing changes
  * Proved: BanCall (`after_ban`).
  * Codes: CLOSED, ARGUMENT, MEMORY. */
-ADDRMAN_CALL addrman_result addrman_bans_add(addrman_bans *bans,
-    const char *subnet, size_t length, uint32_t now, uint32_t until, uint32_t *reply);
+ADDRMAN_CALL_OF(1, 6) addrman_result addrman_bans_add(addrman_bans *bans, const char *subnet,
+    size_t length, uint32_t now, uint32_t until, uint32_t *reply);
 
 /* Takes the ban of a subnet out of the list. *known is 1 if it had one, else 0. Proved: UnbanCall
  * (`without_ban`).
  * Codes: CLOSED, ARGUMENT. */
-ADDRMAN_CALL addrman_result addrman_bans_remove(addrman_bans *bans, const char *subnet,
+ADDRMAN_CALL_OF(1, 4) addrman_result addrman_bans_remove(addrman_bans *bans, const char *subnet,
     size_t length, uint32_t *known);
 
 /* Writes the first ban that covers an address and is not over. ADDRMAN_NONE: the address is free.
@@ -677,6 +693,17 @@ ADDRMAN_CALL addrman_result addrman_bans_remove(addrman_bans *bans, const char *
  * Codes: CLOSED, ARGUMENT, NONE. */
 ADDRMAN_CALL addrman_result addrman_bans_covering(addrman_bans *bans, const addrman_addr *addr,
     uint32_t now, addrman_ban *ban);
+
+/* Takes a message as addrman_take_chosen does, and skips the entries whose addresses a ban of the
+ * list covers that is not over, too. It looks at each ban for each entry that is let through.
+ *   ADDRMAN_ERR_CLOSED  one of the two objects is not open
+ * Proved: OnTwo, ChosenCall (`is_free`); the list is as it was.
+ * Codes: as of addrman_take_message. */
+ADDRMAN_CALL_OF(1, 2, 6, 13, 14) addrman_result addrman_take_unbanned(addrman *am,
+    addrman_bans *bans, bool is_v2, const uint8_t *payload, size_t payload_length,
+    const addrman_addr *source, uint32_t most, uint64_t services, uint32_t nets,
+    const uint64_t *words, size_t word_count, uint32_t now, addrman_added *added,
+    addrman_fault *fault);
 
 /* ------------------------------------------------------------- the limit on received addresses */
 
@@ -784,7 +811,7 @@ ADDRMAN_CALL addrman_result addrman_answers_forget(addrman_answers *answers);
  * Proved: OnThree, AnswerCall (`request`, `after_ask`, `told`, `IsMessage`), and of many requests
  * the laws of the crates addr_answers and getaddr (docs/NODE.md).
  * Codes: CLOSED, ARGUMENT, NONE, SHORT_WORDS, MEMORY, SHORT_BUFFER. */
-ADDRMAN_CALL addrman_result addrman_answer(addrman_answers *answers, addrman *am,
+ADDRMAN_CALL_OF(1, 2, 3, 13) addrman_result addrman_answer(addrman_answers *answers, addrman *am,
     addrman_bans *bans, addrman_network requester, uint32_t socket, bool is_v2, bool own_times,
     uint32_t now, const uint64_t *words, size_t word_count, uint8_t *payload, size_t capacity,
     size_t *length);

@@ -27,11 +27,15 @@ using key = std::array<std::uint8_t, 32>;
 using seed = std::array<std::uint64_t, 2>;
 using words = std::vector<std::uint64_t>;
 
+// The version of the library that is linked.
+inline std::string_view version() { return addrman_version(); }
+
 // Bytes are no message, file or asmap: the first fault.
 struct refused : std::runtime_error {
     addrman_fault fault;
     explicit refused(addrman_fault f)
-        : std::runtime_error("addrman: refused, fault " + std::to_string(f.kind)), fault(f) {}
+        : std::runtime_error(std::string("addrman: refused, ") + addrman_fault_text(f.kind)),
+          fault(f) {}
 };
 
 // There are fewer random words than this.
@@ -45,13 +49,12 @@ struct short_words : std::runtime_error {
 // Elements that a call reads: of a vector, an array, a span of C++20 or a list in braces. It is a
 // parameter alone, since it keeps nothing of what it is made of.
 template <class T> class view {
-    static constexpr T none_{};
-    const T *data_ = &none_; // the C calls want a pointer that is not null, also to no elements
+    const T *data_ = nullptr;
     std::size_t size_ = 0;
 
 public:
     view() = default;
-    view(const T *data, std::size_t size) : data_(size ? data : &none_), size_(size) {}
+    view(const T *data, std::size_t size) : data_(data), size_(size) {}
     view(std::initializer_list<T> list) : view(list.begin(), list.size()) {}
     template <class C, class = decltype(static_cast<const T *>(std::declval<const C &>().data()))>
     view(const C &from) : view(from.data(), from.size()) {}
@@ -71,7 +74,7 @@ inline void check(addrman_result code, const addrman_fault &fault = {}, std::siz
     case ADDRMAN_ERR_SHORT_WORDS: throw short_words(need);
     case ADDRMAN_ERR_ARGUMENT: throw std::invalid_argument("addrman: an argument has no meaning");
     case ADDRMAN_ERR_CLOSED: throw std::logic_error("addrman: the object is closed");
-    default: throw std::runtime_error("addrman: code " + std::to_string(code));
+    default: throw std::runtime_error(std::string("addrman: ") + addrman_result_text(code));
     }
 }
 
@@ -79,7 +82,7 @@ inline void check(addrman_result code, const addrman_fault &fault = {}, std::siz
 template <class Out, class Call>
 Out filled(std::size_t room, Call call, const addrman_fault &fault = {})
 {
-    Out out(room ? room : 1, typename Out::value_type{});
+    Out out(room, typename Out::value_type{});
     std::size_t length = 0;
     addrman_result code;
     while ((code = call(out.data(), out.size(), &length)) == ADDRMAN_ERR_SHORT_BUFFER)
@@ -88,9 +91,6 @@ Out filled(std::size_t room, Call call, const addrman_fault &fault = {})
     out.resize(length);
     return out;
 }
-
-// A pointer to a text that is not null, also to an empty one.
-inline const char *raw(std::string_view text) { return text.empty() ? "" : text.data(); }
 
 // An object of C's, which is moved and closed with its owner.
 template <class T, void (*close)(T *)> class owner {
@@ -116,14 +116,14 @@ public:
 inline addrman_peer parse_peer(std::string_view text)
 {
     addrman_peer out{};
-    detail::check(addrman_peer_parse(detail::raw(text), text.size(), &out));
+    detail::check(addrman_peer_parse(text.data(), text.size(), &out));
     return out;
 }
 
 inline addrman_addr parse_addr(std::string_view text)
 {
     addrman_addr out{};
-    detail::check(addrman_addr_parse(detail::raw(text), text.size(), &out));
+    detail::check(addrman_addr_parse(text.data(), text.size(), &out));
     return out;
 }
 
@@ -145,7 +145,7 @@ inline std::string text_of(const addrman_addr &addr)
 inline addrman_addr parse_name(std::string_view text)
 {
     addrman_addr out{};
-    detail::check(addrman_name_parse(detail::raw(text), text.size(), &out));
+    detail::check(addrman_name_parse(text.data(), text.size(), &out));
     return out;
 }
 
@@ -173,6 +173,28 @@ inline addrman_addr from_v1(const std::array<std::uint8_t, 16> &v1)
     return out;
 }
 
+// Whether an address can be reached from anywhere.
+inline bool is_routable(const addrman_addr &addr)
+{
+    std::uint32_t out = 0;
+    detail::check(addrman_addr_routable(&addr, &out));
+    return out != 0;
+}
+
+// The address of a subnet's text, and how many of its bits count.
+inline std::pair<addrman_addr, std::uint32_t> parse_subnet(std::string_view text)
+{
+    std::pair<addrman_addr, std::uint32_t> out{};
+    detail::check(addrman_subnet_parse(text.data(), text.size(), &out.first, &out.second));
+    return out;
+}
+
+// Whether bytes are a sane asmap.
+inline bool is_asmap(view<std::uint8_t> asmap)
+{
+    return addrman_asmap_check(asmap.data(), asmap.size()) == ADDRMAN_OK;
+}
+
 // The network that an address is reached through.
 inline std::uint32_t network_of(const addrman_addr &addr)
 {
@@ -180,6 +202,8 @@ inline std::uint32_t network_of(const addrman_addr &addr)
     detail::check(addrman_addr_class(&addr, &out));
     return out;
 }
+
+class bans;
 
 // The tables, and the outbound peers that are open. One call at a time, also of two that only read:
 // therefore no member is const.
@@ -243,6 +267,11 @@ public:
         detail::check(code, fault, added.total);
         return added;
     }
+
+    // Takes those of them whose addresses are not banned.
+    addrman_added take_unbanned(bans &list, bool is_v2, view<std::uint8_t> payload,
+        const addrman_addr &source, std::uint32_t most, std::uint64_t services, std::uint32_t nets,
+        view<std::uint64_t> w, std::uint32_t now);
 
     bool add(const addrman_peer &peer, const addrman_addr &source, std::uint32_t time,
         std::uint64_t services, std::uint32_t penalty, std::uint64_t word, std::uint32_t now)
@@ -380,7 +409,9 @@ public:
     // The bytes of the peers.dat that keeps the tables.
     bytes file(addrman_chain chain)
     {
-        return detail::filled<bytes>(0, [&](auto *p, auto n, auto *l) {
+        auto counts = size();
+        std::size_t records = std::size_t(counts.new_count) + counts.tried_count;
+        return detail::filled<bytes>(ADDRMAN_FILE_ROOM(records), [&](auto *p, auto n, auto *l) {
             return addrman_write_file(am_.get(), chain, p, n, l);
         });
     }
@@ -447,19 +478,20 @@ public:
 class bans {
     detail::owner<addrman_bans, addrman_bans_close> bans_;
     friend class answers;
+    friend class tables;
 
 public:
     explicit bans(std::string_view json = {})
     {
         addrman_fault fault{};
-        detail::check(addrman_bans_open(bans_.get(), detail::raw(json), json.size(), &fault),
+        detail::check(addrman_bans_open(bans_.get(), json.data(), json.size(), &fault),
             fault);
     }
 
     std::uint32_t add(std::string_view subnet, std::uint32_t now, std::uint32_t until)
     {
         std::uint32_t reply = 0;
-        detail::check(addrman_bans_add(bans_.get(), detail::raw(subnet), subnet.size(), now, until,
+        detail::check(addrman_bans_add(bans_.get(), subnet.data(), subnet.size(), now, until,
             &reply));
         return reply;
     }
@@ -467,7 +499,7 @@ public:
     bool remove(std::string_view subnet)
     {
         std::uint32_t known = 0;
-        detail::check(addrman_bans_remove(bans_.get(), detail::raw(subnet), subnet.size(), &known));
+        detail::check(addrman_bans_remove(bans_.get(), subnet.data(), subnet.size(), &known));
         return known != 0;
     }
 
@@ -483,11 +515,23 @@ public:
     // The bytes of the banlist.json that keeps the list.
     std::string file()
     {
-        return detail::filled<std::string>(0, [&](auto *p, auto n, auto *l) {
+        return detail::filled<std::string>(1 << 16, [&](auto *p, auto n, auto *l) {
             return addrman_bans_write(bans_.get(), p, n, l);
         });
     }
 };
+
+inline addrman_added tables::take_unbanned(bans &list, bool is_v2, view<std::uint8_t> payload,
+    const addrman_addr &source, std::uint32_t most, std::uint64_t services, std::uint32_t nets,
+    view<std::uint64_t> w, std::uint32_t now)
+{
+    addrman_added added{};
+    addrman_fault fault{};
+    auto code = addrman_take_unbanned(am_.get(), list.bans_.get(), is_v2, payload.data(),
+        payload.size(), &source, most, services, nets, w.data(), w.size(), now, &added, &fault);
+    detail::check(code, fault, added.total);
+    return added;
+}
 
 // The limit on received addresses.
 class limiter {
@@ -622,8 +666,8 @@ inline bytes write_message(bool is_v2, view<addrman_entry> entries)
 inline bytes compile_asmap(std::string_view table)
 {
     addrman_fault fault{};
-    return detail::filled<bytes>(0, [&](auto *p, auto n, auto *l) {
-        return addrman_asmap_compile(detail::raw(table), table.size(), p, n, l, &fault);
+    return detail::filled<bytes>(table.size(), [&](auto *p, auto n, auto *l) {
+        return addrman_asmap_compile(table.data(), table.size(), p, n, l, &fault);
     }, fault);
 }
 
@@ -631,7 +675,7 @@ inline bytes compile_asmap(std::string_view table)
 inline std::string decompile_asmap(view<std::uint8_t> asmap)
 {
     addrman_fault fault{};
-    return detail::filled<std::string>(0, [&](auto *p, auto n, auto *l) {
+    return detail::filled<std::string>(16 * asmap.size(), [&](auto *p, auto n, auto *l) {
         return addrman_asmap_decompile(asmap.data(), asmap.size(), p, n, l, &fault);
     }, fault);
 }

@@ -129,6 +129,16 @@ def check_chosen():
         theirs = second.take_message(True, bytes([len(taken)]) + b"".join(taken), "1.2.3.4", drawn[count:], NOW)
         same("what a message adds", ours, theirs)
         same("the tables after a message", first.file(), second.file())
+        # The same message to a list of bans: what they cover is skipped, too.
+        third, fourth, bans = addrman.AddrMan(KEY, SEED), addrman.AddrMan(KEY, SEED), addrman.Bans()
+        for _, text, _ in listed[::3]:
+            if text[0].isdigit():
+                bans.add(draw.choice((text, text.rsplit(".", 1)[0] + ".0/24")), NOW - 10, draw.choice((NOW, NOW + 1, NOW + 10)))
+        free = [skipped if bans.covering(text, NOW) else entry for entry, (_, text, _) in zip(taken, listed)]
+        ours = third.take_unbanned(bans, True, payload, "1.2.3.4", most, SERVICES, nets, drawn, NOW)
+        theirs = fourth.take_message(True, bytes([len(free)]) + b"".join(free), "1.2.3.4", drawn[count:], NOW)
+        same("what a message adds without the banned", ours, theirs)
+        same("the tables after it", third.file(), fourth.file())
 
 
 def main():

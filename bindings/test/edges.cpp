@@ -66,6 +66,26 @@ int main()
     two.open_peer(peer);
     want(text_of(two.open_peers().at(0)) == "8.8.8.8:8333" && two.close_peer(peer) && two.open_peers().empty(), "open peers are others");
     want(two.take_chosen(true, message, source, 1, 8, ADDRMAN_ALL_NETS, {1, 2}, 1700000000).total == 1, "no entry is chosen");
+    want(two.take_first(true, message, source, 1, {1}, 1700000000).total == 1, "no first entry is taken");
+    const auto free = two.take_unbanned(other, true, message, source, 1, 8, ADDRMAN_ALL_NETS, {1, 2}, 1500).total;
+    want(free == 1 && is_closed([&] { two.take_unbanned(list, true, message, source, 1, 8, ADDRMAN_ALL_NETS, {1, 2}, 1500); }),
+        "no entry is free");
+    want(version() == ADDRMAN_WANTED && addrman_abi() == ADDRMAN_ABI, "the version is another");
+    want(is_routable(source) && network_of(source) == ADDRMAN_IPV4 && from_v1(*to_v1(source)).bytes[3] == 4, "an address is another");
+    want(parse_subnet("1.2.3.0/24").second == 24 && addrman_judge_feeler(0, 1700000000, 1) == ADDRMAN_TAKE, "a subnet is another");
+    const auto map = compile_asmap("1.2.3.0/24 AS5\n1.2.4.0/24 AS6\n");
+    want(is_asmap(map) && !is_asmap({}) && decompile_asmap(map) == "1.2.3.0/24 AS5\n1.2.4.0/24 AS6\n", "an asmap is another");
+    tables mapped(key{}, s, map);
+    want(mapped.asn(source) == 5 && mapped.group(source).size() == 5, "a number is another");
+    want(two.judge({peer, 0}, 1700000000, 1) == ADDRMAN_TAKE, "a peer is not taken");
+    want(limits.getaddr(1) == ADDRMAN_GETADDR_GRANTED && limits.admit(1, 1000, 1000) == 1000u && !limits.admit(2, 1, 1000), "a limit is another");
+    want(other.remove("1.2.3.0/24") && !other.remove("1.2.3.0/24"), "a ban is not removed");
+    try {
+        read_message(true, bytes{2});
+        want(false, "a message is read that ends early");
+    } catch (const refused &fault) {
+        want(fault.what() == std::string("addrman: refused, truncated"), "a fault has another text");
+    }
     want(name_of(parse_name("2001:DB8::1")) == "2001:db8::1", "a name is another");
     tables core(key{}, s, {}, true);
     want(core.file(ADDRMAN_MAIN) == tables(key{}, s).file(ADDRMAN_MAIN), "no asmap has a checksum");

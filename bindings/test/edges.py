@@ -32,6 +32,23 @@ def closed(call):
     raise SystemExit(f"{tried}: the object is not closed")
 
 
+def others():
+    """The calls that no other test of the module makes."""
+    table = "1.2.3.0/24 AS5\n1.2.4.0/24 AS6\n"
+    asmap = addrman.compile_asmap(table)
+    with addrman.AddrMan(KEY, SEED, asmap) as am, addrman.Bans() as bans, addrman.Limiter() as limiter:
+        found = [addrman.decompile_asmap(asmap) == table, addrman.asmap_is_sane(asmap), not addrman.asmap_is_sane(b""), am.asn(SOURCE) == 5,
+                 addrman.network(SOURCE) == addrman.IPV4, addrman.from_v1(addrman.to_v1(SOURCE)) == SOURCE,
+                 addrman.subnet("1.2.3.0/24") == ("1.2.3.0", 24), bans.add("1.2.3.0/24", 1, 9) == "added", bans.covering(SOURCE, 8) is not None,
+                 bans.remove("1.2.3.0/24"), not bans.remove("1.2.3.0/24"), limiter.add(1, SOURCE, False, NOW), limiter.getaddr(1) == "granted",
+                 limiter.admit(1, 1000, NOW) == 1000, limiter.admit(2, 1, NOW) is None, limiter.stat(1).processed == 1000, limiter.remove(1),
+                 am.judge(PEER, 0, NOW, 1) == "take", am.add(PEER, SOURCE, NOW, 1, 0, 0, NOW), am.attempt(PEER, True, NOW),
+                 am.connected(PEER, NOW), am.set_services(PEER, 9), am.find(PEER).services == 9, am.resolve_collisions(NOW) == (0, 0, 0),
+                 am.select_collision(1) is None]
+    if not all(found):
+        raise SystemExit(f"answer {found.index(False)} is another")
+
+
 def main():
     refuses(TypeError, lambda: addrman.AddrMan("0" * 32, SEED))
     refuses(ValueError, lambda: addrman.AddrMan(bytes(31), SEED))
@@ -122,6 +139,16 @@ def main():
         closed(call)
     with addrman.Bans() as bans, addrman.Limiter():
         bans.file()
+        refuses(TypeError, lambda: am.take_unbanned(am, True, b"\0", SOURCE, 1, 1, addrman.ALL_NETS, [], NOW))
+        closed(lambda: am.take_unbanned(bans, True, b"\0", SOURCE, 1, 1, addrman.ALL_NETS, [], NOW))
+    with addrman.AddrMan(KEY, SEED) as am:
+        closed(lambda: am.take_unbanned(bans, True, b"\0", SOURCE, 1, 1, addrman.ALL_NETS, [], NOW))
+        if am.take_first(True, b"\0", SOURCE, 1, [], NOW) != (0, 0) or addrman.judge_feeler(0, NOW, 1) != "take":
+            raise SystemExit("an empty message, or a feeler, is another")
+    if not addrman.version().startswith("0.") or addrman.FAULTS[40] != "form" or len(addrman.FAULTS) != 26 or not addrman.asmap_is_sane(asmap):
+        raise SystemExit("a text is another")
+    refuses(ValueError, lambda: addrman.judge_feeler(0, NOW, -1))
+    others()
     print(f"Python: {tried} calls with wrong arguments or objects, and four threads on one object")
 
 

@@ -30,11 +30,11 @@ void *__wrap_realloc(void *old, size_t size)
     return fails() ? NULL : __real_realloc(old, size);
 }
 
-enum { CALLS = 23 };
+enum { CALLS = 24 };
 static const char *names[CALLS] = { "open", "take_message", "good", "add", "select", "sample", "records", "peer_text",
                                     "write_file", "open_file", "save_begin", "asmap_compile", "asmap_decompile",
                                     "bans_open", "answers_open", "answer", "message_count", "read_message", "write_message",
-                                    "name_text", "sample_entries", "take_chosen", "opener_peers" };
+                                    "name_text", "sample_entries", "take_chosen", "opener_peers", "take_unbanned" };
 
 /* An addr message of three entries. */
 static size_t fill(uint8_t *out)
@@ -115,6 +115,8 @@ int main(void)
         code[20] = addrman_sample_entries(&a, 0, 0, ADDRMAN_ALL_NETS, words, 12, 1700000006, some, 9, &length);
         code[21] = addrman_take_chosen(&a, false, payload, payload_length, &source, 3, 1, ADDRMAN_ALL_NETS, words, 6, 1700000007, &added,
                                        &fault);
+        code[23] = addrman_take_unbanned(&a, &bans, false, payload, payload_length, &source, 3, 1, ADDRMAN_ALL_NETS, words, 6, 1700000007,
+                                         &added, &fault);
         answer = addrman_opener_add(&a, &peer);
         code[22] = answer ? 0 : addrman_opener_peers(&a, peers, 9, &length);
         bool reached = left == 0;
@@ -125,7 +127,7 @@ int main(void)
                 wanted[i]++;
                 failed++;
             } else if (code[i] && code[i] != ADDRMAN_NONE && code[i] != ADDRMAN_EXHAUSTED
-                       && !((code[0] || (i == 15 && (code[13] || code[14]))) && code[i] == ADDRMAN_ERR_CLOSED)) {
+                       && !((code[0] || ((i == 15 || i == 23) && (code[13] || code[14]))) && code[i] == ADDRMAN_ERR_CLOSED)) {
                 printf("allocation %ld: %s returned %u\n", fail, names[i], code[i]);
                 return 1;
             }

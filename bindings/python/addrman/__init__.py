@@ -24,10 +24,6 @@ OUTCOMES = ("unknown", "already", "clash", "moved")
 VERDICTS = ("take", "same-group", "recent")
 BAN_REPLIES = ("added", "kept", "full")
 ASKED = ("unknown", "already", "granted")
-FAULTS = {1: "truncated", 2: "non-canonical", 3: "too-many", 4: "bad-length", 5: "too-long", 6: "trailing",
-          10: "bad-magic", 11: "bad-sum", 12: "compat", 13: "version", 14: "count", 15: "record", 16: "buckets",
-          17: "time", 18: "attempts", 19: "too-large", 20: "duplicate", 21: "asmap",
-          30: "json", 31: "form", 40: "form", 41: "number", 42: "host-bits", 43: "repeated", 44: "empty", 45: "code-too-large"}
 REQUESTS = ("create", "append", "sync", "rename", "sync-folder")
 
 BytesLike = Union[bytes, bytearray, memoryview]
@@ -161,7 +157,7 @@ _MAX_PAYLOAD = 49_003  # bytes of a message of 1000 entries
 _U32, _U64, _SIZE, _BOOL = c.c_uint32, c.c_uint64, c.c_size_t, c.c_bool
 _P = c.c_void_p
 _SIGNATURES = {
-    "abi": [], "judge_feeler": [_U32, _U32, _U32],
+    "abi": [], "version": [], "result_text": [_U32], "fault_text": [_U32], "judge_feeler": [_U32, _U32, _U32],
     "addr_parse": [_P, _SIZE, _P], "peer_parse": [_P, _SIZE, _P],
     "addr_text": [_P, _P, _SIZE, _P], "peer_text": [_P, _P, _SIZE, _P], "addr_routable": [_P, _P],
     "name_parse": [_P, _SIZE, _P], "name_text": [_P, _P, _SIZE, _P],
@@ -172,6 +168,7 @@ _SIGNATURES = {
     "take_message": [_P, _BOOL, _P, _SIZE, _P, _P, _SIZE, _U32, _P, _P],
     "take_first": [_P, _BOOL, _P, _SIZE, _P, _U32, _P, _SIZE, _U32, _P, _P],
     "take_chosen": [_P, _BOOL, _P, _SIZE, _P, _U32, _U64, _U32, _P, _SIZE, _U32, _P, _P],
+    "take_unbanned": [_P, _P, _BOOL, _P, _SIZE, _P, _U32, _U64, _U32, _P, _SIZE, _U32, _P, _P],
     "message_count": [_BOOL, _P, _SIZE, _P, _P], "read_message": [_BOOL, _P, _SIZE, _P, _SIZE, _P, _P],
     "write_message": [_BOOL, _P, _SIZE, _P, _SIZE, _P],
     "add": [_P, _P, _P, _U32, _U64, _U32, _U64, _U32, _P],
@@ -199,8 +196,11 @@ _SIGNATURES = {
 for _name, _arguments in _SIGNATURES.items():
     _call = getattr(_lib, "addrman_" + _name)
     _call.argtypes, _call.restype = _arguments, None if _name.endswith(("close", "from_v1")) else _U32
+for _name in ("version", "result_text", "fault_text"):
+    getattr(_lib, "addrman_" + _name).restype = c.c_char_p
 if _lib.addrman_abi() != ABI:
     raise ImportError("libaddrman has another ABI")
+FAULTS = {kind: text for kind in range(64) if (text := _lib.addrman_fault_text(kind).decode()) != "unknown"}
 
 
 def _check(code: int, fault: Optional[_Fault] = None, need: int = 0) -> None:
@@ -213,7 +213,12 @@ def _check(code: int, fault: Optional[_Fault] = None, need: int = 0) -> None:
     if code == ARGUMENT:
         raise ValueError("an argument has no meaning")
     if code != OK:
-        raise Error(code, {CLOSED: "closed", FULL: "full"}.get(code, f"code {code}"))
+        raise Error(code, {CLOSED: "closed", FULL: "full"}.get(code) or _lib.addrman_result_text(code).decode())
+
+
+def version() -> str:
+    """The version of the library."""
+    return _lib.addrman_version().decode()
 
 
 def _filled(kind, room: int, call: Callable, fault: Optional[_Fault] = None) -> list:
@@ -353,6 +358,11 @@ def subnet(text: str) -> tuple[str, int]:
     return _addr_text(base), prefix.value
 
 
+def judge_feeler(last_try: int, now: int, tries: int) -> str:
+    """The verdict on a connection that only tests whether a peer answers: one of VERDICTS."""
+    return VERDICTS[_lib.addrman_judge_feeler(_number("last_try", last_try), _number("now", now), _number("tries", tries))]
+
+
 def asmap_is_sane(asmap: BytesLike) -> bool:
     """Whether the bytes are a sane asmap of at most 8,388,608 bytes."""
     raw = _raw("asmap", asmap)
@@ -384,13 +394,13 @@ def write_message(is_v2: bool, entries: Sequence[Entry]) -> bytes:
 def compile_asmap(table: str) -> bytes:
     """Compiles the text of a table of prefixes (lines as `1.2.3.0/24 AS5`) into an asmap."""
     fault, raw = _Fault(), _text("table", table)
-    return bytes(_filled(c.c_uint8, 0, lambda p, n, l: _lib.addrman_asmap_compile(raw, len(raw), p, n, l, c.byref(fault)), fault))
+    return bytes(_filled(c.c_uint8, len(raw), lambda p, n, l: _lib.addrman_asmap_compile(raw, len(raw), p, n, l, c.byref(fault)), fault))
 
 
 def decompile_asmap(asmap: BytesLike) -> str:
     """The text of a table of prefixes that means the same as an asmap."""
     fault, raw = _Fault(), _raw("asmap", asmap)
-    return bytes(_filled(c.c_uint8, 0, lambda p, n, l: _lib.addrman_asmap_decompile(
+    return bytes(_filled(c.c_uint8, 16 * len(raw), lambda p, n, l: _lib.addrman_asmap_decompile(
         raw, len(raw), p, n, l, c.byref(fault)), fault)).decode()
 
 
@@ -456,7 +466,9 @@ class AddrMan(_Object):
 
     def file(self, chain: int = MAIN) -> bytes:
         """The bytes of the peers.dat that keeps the tables."""
-        return bytes(self._filled(c.c_uint8, 0, "write_file", _number("chain", chain)))
+        with self._lock:
+            size = self.size()
+            return bytes(self._filled(c.c_uint8, 4210 + 131 * (size.new + size.tried), "write_file", _number("chain", chain)))
 
     def take_message(self, is_v2: bool, payload: BytesLike, source: str, words: Sequence[int], now: int) -> tuple[int, int]:
         """Takes a message that `source` sent. Returns how many entries got a slot, and how many there are."""
@@ -484,6 +496,19 @@ class AddrMan(_Object):
         code = self._call("take_chosen", _flag("is_v2", is_v2), raw, len(raw), c.byref(_addr(source)), _number("most", most),
                           _number("services", services, 64), _number("nets", nets), *_words(words), _number("now", now),
                           c.byref(added), c.byref(fault))
+        _check(code, fault, added.total)
+        return added.accepted, added.total
+
+    def take_unbanned(self, bans: Bans, is_v2: bool, payload: BytesLike, source: str, most: int, services: int, nets: int,
+                      words: Sequence[int], now: int) -> tuple[int, int]:
+        """Does the same, and skips those whose addresses are banned, too."""
+        if not isinstance(bans, Bans):
+            raise TypeError(f"bans is of Bans, not of {type(bans).__name__}")
+        added, fault, raw = _Added(), _Fault(), _raw("payload", payload)
+        with self._lock, bans._lock:
+            code = self._call("take_unbanned", c.byref(bans._h), _flag("is_v2", is_v2), raw, len(raw), c.byref(_addr(source)),
+                              _number("most", most), _number("services", services, 64), _number("nets", nets), *_words(words),
+                              _number("now", now), c.byref(added), c.byref(fault))
         _check(code, fault, added.total)
         return added.accepted, added.total
 
@@ -630,7 +655,7 @@ class Bans(_Object):
 
     def file(self) -> bytes:
         """The bytes of the banlist.json that keeps the list."""
-        return bytes(self._filled(c.c_uint8, 0, "bans_write"))
+        return bytes(self._filled(c.c_uint8, 1 << 16, "bans_write"))
 
     def add(self, subnet: str, now: int, until: int) -> str:
         """Drops the bans that are over, and bans a subnet: one of BAN_REPLIES."""
