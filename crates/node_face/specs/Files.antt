@@ -6,7 +6,7 @@ use Rattle.host_io.specs.Files.{Files}
 use Rattle.host_io.specs.PerName.{under}
 use Rattle.host_io.specs.declared.name.Name.TheVariants.{Peers}
 use Rattle.peer_rec.specs.Snapshot.{Snapshot}
-use Rattle.placing.specs.declared.sum.SumRule.TheVariants.{Bytes}
+use Rattle.placing.specs.declared.sum.SumRule.{SumRule}
 use Rattle.table_machine.specs.State.{State, empty_state}
 use Rattle.table_machine.specs.Restoring.{restored, duplicate}
 use Rattle.peers_file.specs.Layout.{IsFile, HasFileFault}
@@ -16,16 +16,16 @@ use Rattle.peers_file.specs.declared.fault.FileFault.TheVariants as file
 use Rattle.node_face.specs.declared.files.OpenFault.{OpenFault}
 use Rattle.node_face.specs.declared.files.OpenFault.TheVariants.{Disk, TooLarge, File, Duplicate, Memory}
 
--- empty tables of the key and the asmap
-abbrev pub IsOpened : List ℕ → Option Asmap → State → Type 0
-IsOpened key map st = st ≡ empty_state (record { key = key; map = map; rule = Bytes })
+-- empty tables of the key and the asmap, with the rule for its checksum
+abbrev pub IsOpened : List ℕ → Option Asmap → SumRule → State → Type 0
+IsOpened key map rule st = st ≡ empty_state (record { key = key; map = map; rule = rule })
 
--- the tables of the file that the bytes are, with its key and the asmap; no two of its valid records
--- have one peer
-abbrev pub IsLoaded : Chain → List ℕ → Option Asmap → State → Type 0
-IsLoaded chain bytes map st =
+-- the tables of the file that the bytes are, with its key, the asmap and the rule for its checksum;
+-- no two of its valid records have one peer
+abbrev pub IsLoaded : Chain → List ℕ → Option Asmap → SumRule → State → Type 0
+IsLoaded chain bytes map rule st =
     (snap : Snapshot) × IsFile chain bytes snap × (duplicate snap ≡ None)
-    × (st ≡ restored snap (record { key = snap.key; map = map; rule = Bytes }))
+    × (st ≡ restored snap (record { key = snap.key; map = map; rule = rule }))
 
 -- why bytes have no tables: memory, their first fault as a file, or two valid records of one peer
 abbrev pub IsOpenFault : Chain → List ℕ → OpenFault → Type 0
@@ -41,9 +41,9 @@ abbrev pub IsPeersFile : Option Files → List ℕ → Type 0
 IsPeersFile known bytes = IfSome known (λ files. under files Peers ≡ Some bytes)
 
 -- the tables of the folder's peers.dat
-abbrev pub IsFromFolder : Option Files → Chain → Option Asmap → State → Type 0
-IsFromFolder known chain map st =
-    (bytes : List ℕ) × IsPeersFile known bytes × IsLoaded chain bytes map st
+abbrev pub IsFromFolder : Option Files → Chain → Option Asmap → SumRule → State → Type 0
+IsFromFolder known chain map rule st =
+    (bytes : List ℕ) × IsPeersFile known bytes × IsLoaded chain bytes map rule st
 
 -- why the folder's peers.dat has no tables: the folder or memory, its size, or what is wrong with
 -- its bytes

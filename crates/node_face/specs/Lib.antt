@@ -1,3 +1,5 @@
+pub mod Answering
+pub mod BanFiles
 pub mod Files
 pub mod Sampling
 pub mod Taking

@@ -64,6 +64,7 @@ pub fn take_message<H: BuildHasher>(
 ) -> Result<Added, TakeFault>
     ensures added { IfOk result (λ added. IsAdded form payload.now tables.old now source.now
         words.now added tables.new) }
+    ensures full { result ≡ Err TakeFault.Full ↔ 2 ^ 62 ≤ tables.old.next_number }
     ensures cause { IfErr result (λ fault. IsTakeFault form payload.now tables.old now
         source.now words.now fault tables.new) }
 {

@@ -6,13 +6,12 @@ ghost use Rattle.host_io.specs.PerName.{under};
 ghost use Rattle.host_io.specs.declared.name.Name.TheVariants.{Peers};
 ghost use Rattle.peers_file.specs.declared.read.TheConstants.{MAX_FILE};
 ghost use Rattle.placing.specs.Inside.{map_of};
-ghost use Rattle.placing.specs.declared.sum.SumRule.TheVariants.{Bytes};
 ghost use Rattle.node_face.specs.Files.{IsOpened, IsLoaded, IsOpenFault, IsFromFolder, IsFolderFault};
 
 use asmap_vm::Sane;
 use host_io::{Folder, Name};
 use peers_file::{Chain, FileFault, MAX_FILE, read_file};
-use placing::Placer;
+use placing::{Placer, SumRule};
 use save_store::LoadFault;
 use std::alloc::Global;
 use std::hash::BuildHasher;
@@ -33,42 +32,50 @@ pub enum OpenFault {
     Memory,
 }
 
-/// Makes a placer that has a copy of the asmap.
-fn placer_of(alloc: Global, key: [u8; 32], map: Option<Sane<'_>>) -> Result<Placer<'static>, Memory>
+/// Makes a placer that has a copy of the asmap and a rule for its checksum.
+fn placer_of(
+    alloc: Global,
+    key: [u8; 32],
+    map: Option<Sane<'_>>,
+    rule: SumRule,
+) -> Result<Placer<'static>, Memory>
     ensures { IfOk result (λ placer.
-        placer ≡ record { key = key; map = map_of map.entry; rule = Bytes }) }
+        placer ≡ record { key = key; map = map_of map.entry; rule = rule }) }
 {
     let Some(map) = map else {
-        return Ok(Placer::make(key, None));
+        return Ok(Placer::make(key, None).with_rule(rule));
     };
     match Placer::with_copy(alloc, key, &map) {
-        Ok(placer) => Ok(placer),
+        Ok(placer) => Ok(placer.with_rule(rule)),
         Err(_) => Err(Memory),
     }
 }
 
-/// Makes empty tables, which keep a copy of the asmap.
+/// Makes empty tables, which keep a copy of the asmap and the rule for its checksum.
 pub fn open<H: BuildHasher + Drop>(
     alloc: Global,
     key: [u8; 32],
     map: Option<Sane<'_>>,
+    rule: SumRule,
     hasher: H,
 ) -> Result<Tables<'static, H>, Memory>
-    ensures { IfOk result (IsOpened key (map_of map.entry)) }
+    ensures { IfOk result (IsOpened key (map_of map.entry) rule) }
 {
-    let placer = placer_of(alloc, key, map)?;
+    let placer = placer_of(alloc, key, map, rule)?;
     Tables::open(alloc, placer, hasher)
 }
 
-/// Makes the tables that the bytes of a `peers.dat` have.
+/// Makes the tables that the bytes of a `peers.dat` have. If the file was placed by another asmap,
+/// by the checksums of this rule, the new records are placed again.
 pub fn read<H: BuildHasher + Drop>(
     alloc: Global,
     bytes: &[u8],
     chain: Chain,
     map: Option<Sane<'_>>,
+    rule: SumRule,
     hasher: H,
 ) -> Result<Tables<'static, H>, OpenFault>
-    ensures found { IfOk result (λ t. IsLoaded chain bytes.now (map_of map.entry) t) }
+    ensures found { IfOk result (λ t. IsLoaded chain bytes.now (map_of map.entry) rule t) }
     ensures cause { IfErr result (IsOpenFault chain bytes.now) }
 {
     let snap = match read_file(alloc, bytes, chain) {
@@ -76,7 +83,7 @@ pub fn read<H: BuildHasher + Drop>(
         Err(FileFault::Memory) => return Err(OpenFault::Memory),
         Err(fault) => return Err(OpenFault::File(fault)),
     };
-    let Ok(placer) = placer_of(alloc, snap.key(), map) else {
+    let Ok(placer) = placer_of(alloc, snap.key(), map, rule) else {
         return Err(OpenFault::Memory);
     };
     match uncounted::restore(alloc, &snap, placer, hasher) {
@@ -93,6 +100,7 @@ pub fn load<F: Folder, H: BuildHasher + Drop>(
     folder: &mut F,
     chain: Chain,
     map: Option<Sane<'_>>,
+    rule: SumRule,
     hasher: H,
 ) -> Result<Option<Tables<'static, H>>, OpenFault>
     ensures absent { result ≡ Ok None → IfSome (files_of (F.past folder.old)) (λ files.
@@ -103,7 +111,7 @@ pub fn load<F: Folder, H: BuildHasher + Drop>(
         MAX_FILE < length bytes → (result ≡ Err (OpenFault.TooLarge (length bytes)))
         ⊎ (result ≡ Err OpenFault.Disk)) }
     ensures found { IfOk result (λ loaded. IfSome loaded
-        (λ t. IsFromFolder (files_of (F.past folder.old)) chain (map_of map.entry) t)) }
+        (λ t. IsFromFolder (files_of (F.past folder.old)) chain (map_of map.entry) rule t)) }
     ensures cause { IfErr result (IsFolderFault (files_of (F.past folder.old)) chain) }
     ensures disk { result ≡ Err OpenFault.Disk →
         Rose (F.faults folder.old) (F.faults folder.new) }
@@ -119,7 +127,7 @@ pub fn load<F: Folder, H: BuildHasher + Drop>(
         }
         Err(LoadFault::Memory) => return Err(OpenFault::Memory),
     };
-    match read(alloc, bytes.items(), chain, map, hasher) {
+    match read(alloc, bytes.items(), chain, map, rule, hasher) {
         Ok(tables) => Ok(Some(tables)),
         Err(fault) => Err(fault),
     }

@@ -9,6 +9,8 @@
 //! calls.
 #![tactic(auto)]
 
+mod answering;
+mod ban_files;
 mod banning;
 mod entries;
 mod files;
@@ -22,6 +24,8 @@ mod saving;
 mod subnet;
 mod take_fault;
 
+pub use answering::{AnswerFault, answer};
+pub use ban_files::{ListFault, load_bans, save_bans};
 pub use banning::ban;
 pub use entries::{AddFault, MAX_RECORDS, add, take_message};
 pub use files::{OpenFault, load, open, read};

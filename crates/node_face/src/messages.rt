@@ -1,4 +1,4 @@
-ghost use Rattle.std.specs.Prelude.{◌≡◌, ◌<◌, Err, IfOk, length, map, filter, Some};
+ghost use Rattle.std.specs.Prelude.{◌≡◌, ◌<◌, ◌↔◌, Err, IfOk, length, map, filter, Some};
 ghost use Rattle.addr_codecs.specs.Layout.{IsAddrMessage, IsAddrv2Message};
 ghost use Rattle.addr_codecs.specs.declared.message.TheConstants.{MAX_ENTRIES};
 ghost use Rattle.getaddr.specs.Messages.{is_old, is_known};
@@ -25,7 +25,7 @@ pub fn write_message(alloc: Global, form: Form, entries: &[Entry]) -> Result<Byt
         IsAddrMessage bytes (map Some (filter is_old entries.now))) }
     ensures addrv2 { form ≡ Form.Addrv2 → IfOk result (λ bytes.
         IsAddrv2Message bytes (map Some (filter is_known entries.now))) }
-    ensures too_many { result ≡ Err WriteFault.TooMany → MAX_ENTRIES < length entries.now }
+    ensures too_many { result ≡ Err WriteFault.TooMany ↔ MAX_ENTRIES < length entries.now }
 {
     if entries.len() as u64 > MAX_ENTRIES {
         return Err(WriteFault::TooMany);

@@ -1,4 +1,4 @@
-ghost use Rattle.std.specs.Prelude.{◌≡◌, ◌≤◌, length, Contains, Err, OnOk, OnErr};
+ghost use Rattle.std.specs.Prelude.{◌≡◌, ◌≤◌, ◌<◌, ◌↔◌, length, Contains, Err, OnOk, OnErr};
 ghost use Rattle.placing.specs.Places.{group};
 ghost use Rattle.peer_open.specs.Groups.{groups, with_peer};
 ghost use Rattle.peer_open.specs.declared.opener.TheConstants.{MAX_OUTBOUND};
@@ -25,9 +25,9 @@ pub fn add_outbound(
 ) -> Result<(), OutboundFault>
     ensures open { OnOk result (opener.new
         ≡ with_peer peer.now (group placer.now peer.now.addr) opener.old) }
-    ensures full { result ≡ Err OutboundFault.Full → MAX_OUTBOUND ≤ length opener.old }
-    ensures group { result ≡ Err OutboundFault.SameGroup →
-        Contains (groups opener.old) (group placer.now peer.now.addr) }
+    ensures full { result ≡ Err OutboundFault.Full ↔ MAX_OUTBOUND ≤ length opener.old }
+    ensures group { result ≡ Err OutboundFault.SameGroup ↔ (length opener.old < MAX_OUTBOUND)
+        × Contains (groups opener.old) (group placer.now peer.now.addr) }
     ensures err { OnErr result (opener.new ≡ opener.old) }
 {
     if opener.len() == MAX_OUTBOUND {

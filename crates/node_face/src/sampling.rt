@@ -10,7 +10,7 @@ use tables::{Memory, Tables};
 
 /// Draws random words.
 #[tactic(auto, using(crate::proofs::Words::words_more))]
-fn words_of<R: Rng>(alloc: Global, count: u32, rng: &mut R) -> Result<Vec<u64>, Memory>
+pub(crate) fn words_of<R: Rng>(alloc: Global, count: u32, rng: &mut R) -> Result<Vec<u64>, Memory>
     ensures count { IfOk result (λ words. length words.items ≡ count) }
     ensures words { IfOk result (λ words. words.items ≡ next_words count (R.stream rng.old)) }
 {
