@@ -2,7 +2,10 @@
 //!
 //!     cargo run --example node -- FOLDER
 
-use addrman::{AddrMan, Chain, Entry, Form, Networks, Opener, Peer, Verdict, encode};
+use addrman::{
+    AddrMan, Answers, Bans, Chain, Entry, Form, Network, Networks, Opener, Peer, Request, Verdict,
+    decode, encode,
+};
 use rand_xoshiro::Xoshiro256PlusPlus;
 use rand_xoshiro::rand_core::{RngCore, SeedableRng};
 use std::error::Error;
@@ -51,6 +54,7 @@ fn main() -> Result<(), Box<dyn Error>> {
         Some(peers) => peers,
         None => AddrMan::new(&mut rng)?,
     };
+    let bans = Bans::load(&folder)?.unwrap_or_default();
     let payload = message(now, &mut rng)?;
     let source = Ipv4Addr::new(1, 2, 3, 4);
     let added = peers.take_message(Form::Addrv2, &payload, source, now, &mut rng)?;
@@ -58,9 +62,13 @@ fn main() -> Result<(), Box<dyn Error>> {
     let opener = connect(&mut peers, now, &mut rng)?;
     println!("{} connections", opener.len());
     peers.resolve_collisions(now);
-    let answer = peers.get_addr(Some(1000), Some(23), Networks::ALL, now, &mut rng)?;
-    println!("{} peers for another node", answer.len());
+    let mut answers = Answers::new();
+    let request = Request::new(Network::Ipv4, 0, Form::Addrv2);
+    let answer = answers.answer(&mut peers, &bans, &request, now, &mut rng)?;
+    let told = decode(Form::Addrv2, &answer)?.len();
+    println!("{told} peers for another node");
     peers.save(&folder, Chain::Main)?;
+    bans.save(&folder)?;
     let size = AddrMan::load(&folder, Chain::Main, None)?
         .ok_or("no file")?
         .size();

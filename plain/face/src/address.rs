@@ -10,11 +10,26 @@ use std::str::FromStr;
 use thiserror::Error;
 
 /// The text is that of no address, peer or subnet.
+///
+/// ```
+/// use addrman::{ParseError, Peer};
+///
+/// assert_eq!("8.8.8.8".parse::<Peer>(), Err(ParseError));
+/// assert_eq!(ParseError.to_string(), "the text has another form");
+/// ```
 #[derive(Clone, Copy, Debug, PartialEq, Eq, Error)]
 #[error("the text has another form")]
 pub struct ParseError;
 
 /// The peer is of a network without IP addresses.
+///
+/// ```
+/// use addrman::{Address, Network, NoSocket, Peer};
+/// use std::net::SocketAddr;
+///
+/// let onion = Address::of(Network::Onion, &[7; 32]).unwrap();
+/// assert_eq!(SocketAddr::try_from(Peer::new(onion, 8333)), Err(NoSocket));
+/// ```
 #[derive(Clone, Copy, Debug, PartialEq, Eq, Error)]
 #[error("the peer has no IP address")]
 pub struct NoSocket;

@@ -7,6 +7,11 @@ use plain_std::alloc::Global;
 use thiserror::Error;
 
 /// Why an `anchors.dat` is not read.
+///
+/// ```
+/// let error = addrman::read_anchors(b"short", [0xf9, 0xbe, 0xb4, 0xd9]).unwrap_err();
+/// assert_eq!(error.to_string(), "the file is no anchors.dat: truncated");
+/// ```
 #[derive(Clone, Copy, Debug, PartialEq, Eq, Error)]
 pub enum AnchorsError {
     /// It is no such file: its first fault.

@@ -1,12 +1,15 @@
 //! The list of banned subnets.
 
+use crate::folder::{InFolder, cause};
 use crate::message::copied;
-use crate::{Address, BanReply, BansError, Memory, ParseError};
+use crate::{Address, BanReply, BansError, Memory, ParseError, SaveError};
+use host_io::DirFolder;
 use node_face::{ProperBan, ProperSubnet};
 use plain_std::alloc::Global;
 use plain_std::vec;
 use std::fmt;
 use std::ops::Range;
+use std::path::Path;
 use std::str::FromStr;
 
 /// The addresses of a network that begin with the same bits.
@@ -64,6 +67,13 @@ fn show(subnet: &ProperSubnet, f: &mut fmt::Formatter<'_>) -> fmt::Result {
 }
 
 /// A subnet that is banned for a time.
+///
+/// ```
+/// # let mut bans = addrman::Bans::new();
+/// bans.ban(&"10.0.0.0/8".parse().unwrap(), 5, 10).unwrap();
+/// let ban = bans.iter().next().unwrap();
+/// assert_eq!(ban.to_string(), "10.0.0.0/8");
+/// ```
 #[derive(Clone, Copy, Debug, PartialEq, Eq)]
 pub struct Ban(ProperBan);
 
@@ -123,7 +133,7 @@ impl fmt::Display for Ban {
 /// assert_eq!(Bans::from_json(&json).unwrap().iter().count(), 1);
 /// ```
 #[derive(Debug)]
-pub struct Bans(ban_list::Bans);
+pub struct Bans(pub(crate) ban_list::Bans);
 
 impl Default for Bans {
     fn default() -> Bans {
@@ -165,6 +175,55 @@ impl Bans {
     /// ```
     pub fn to_json(&self) -> Result<Vec<u8>, Memory> {
         copied(ban_list::write_bans(Global, &self.0)?.items())
+    }
+
+    /// Reads the `banlist.json` of a folder, or returns `None` if there is no such file.
+    ///
+    /// # Errors
+    ///
+    /// The file cannot be read, or is no list of bans, or there is no memory.
+    ///
+    /// ```
+    /// use addrman::Bans;
+    ///
+    /// let folder = std::env::temp_dir().join("addrman-doc-load-bans");
+    /// std::fs::create_dir_all(&folder)?;
+    /// # let _ = std::fs::remove_file(folder.join("banlist.json"));
+    /// assert!(Bans::load(&folder)?.is_none());
+    /// # Ok::<(), Box<dyn std::error::Error>>(())
+    /// ```
+    pub fn load(folder: impl AsRef<Path>) -> Result<Option<Bans>, BansError> {
+        let files = InFolder(folder.as_ref());
+        let mut folder = DirFolder::make(&files);
+        match node_face::load_bans(Global, &mut folder) {
+            Ok(bans) => Ok(bans.map(Bans)),
+            Err(fault) => Err(BansError::of(fault, cause(&folder))),
+        }
+    }
+
+    /// Saves the list as the `banlist.json` of a folder, as [`AddrMan::save`](crate::AddrMan::save)
+    /// saves the tables: until this returns `Ok`, a crash leaves the old file or the new one.
+    ///
+    /// # Errors
+    ///
+    /// Another program is saving there, a call of the system failed, or there is no memory.
+    ///
+    /// ```
+    /// use addrman::Bans;
+    ///
+    /// let folder = std::env::temp_dir().join("addrman-doc-save-bans");
+    /// std::fs::create_dir_all(&folder)?;
+    /// let mut bans = Bans::new();
+    /// bans.ban(&"10.0.0.0/8".parse()?, 1_700_000_000, 1_700_086_400)?;
+    /// bans.save(&folder)?;
+    /// assert_eq!(Bans::load(&folder)?.ok_or("no file")?.iter().len(), 1);
+    /// # Ok::<(), Box<dyn std::error::Error>>(())
+    /// ```
+    pub fn save(&self, folder: impl AsRef<Path>) -> Result<(), SaveError> {
+        let files = InFolder(folder.as_ref());
+        let mut folder = DirFolder::make(&files);
+        node_face::save_bans(Global, &self.0, &mut folder)
+            .map_err(|fault| SaveError::of(fault, folder.is_in_use(), cause(&folder)))
     }
 
     /// Drops the bans that are over, and bans a subnet until a time. A ban that ends as late or

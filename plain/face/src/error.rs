@@ -3,12 +3,19 @@
 use crate::{BanFault, CodeFault, FileFault, MsgFault, TableFault};
 use asmap_back::BackFault;
 use asmap_compile::CompileFault;
-use node_face::{AddFault, AdmitFault, OpenFault, OutboundFault, SaveFault, TakeFault, WriteFault};
+use node_face::{
+    AddFault, AdmitFault, AnswerFault, ListFault, OpenFault, OutboundFault, SaveFault, TakeFault,
+    WriteFault,
+};
 use std::fmt;
 use std::io;
 use thiserror::Error;
 
 /// Out of memory.
+///
+/// ```
+/// assert_eq!(addrman::Memory.to_string(), "out of memory");
+/// ```
 #[derive(Clone, Copy, Debug, PartialEq, Eq, Error)]
 #[error("out of memory")]
 pub struct Memory;
@@ -32,6 +39,10 @@ impl From<std::collections::TryReserveError> for Memory {
 }
 
 /// Why an entry is not added.
+///
+/// ```
+/// assert_eq!(addrman::AddError::Full.to_string(), "the numbers of records are used up");
+/// ```
 #[derive(Clone, Copy, Debug, PartialEq, Eq, Error)]
 pub enum AddError {
     /// The numbers of records are used up: 2^62 records were made.
@@ -52,6 +63,13 @@ impl From<AddFault> for AddError {
 }
 
 /// Why a message is not taken.
+///
+/// ```
+/// use addrman::{Form, decode};
+///
+/// let error = decode(Form::Addrv2, &[2]).unwrap_err();
+/// assert_eq!(error.to_string(), "the payload is no message: truncated");
+/// ```
 #[derive(Clone, Copy, Debug, PartialEq, Eq, Error)]
 pub enum MessageError {
     /// The numbers of records are used up: 2^62 records were made.
@@ -87,6 +105,14 @@ impl From<MsgFault> for MessageError {
 }
 
 /// Why a message is not written.
+///
+/// ```
+/// use addrman::{EncodeError, Entry, Form, Peer, encode};
+///
+/// let peer: Peer = "8.8.8.8:8333".parse().unwrap();
+/// let entries = vec![Entry::new(peer, 1, 1_700_000_000); 1001];
+/// assert_eq!(encode(Form::Addr, &entries), Err(EncodeError::TooMany));
+/// ```
 #[derive(Clone, Copy, Debug, PartialEq, Eq, Error)]
 pub enum EncodeError {
     /// A message has at most [`MAX_ENTRIES`](crate::MAX_ENTRIES) entries.
@@ -107,6 +133,11 @@ impl From<WriteFault> for EncodeError {
 }
 
 /// Why a search ends without an answer.
+///
+/// ```
+/// let error = addrman::SelectError::Exhausted;
+/// assert_eq!(error.to_string(), "the random words lead to no record");
+/// ```
 #[derive(Clone, Copy, Debug, PartialEq, Eq, Error)]
 pub enum SelectError {
     /// 2^20 random words led to no record. With a generator whose words are random, this does not
@@ -125,6 +156,13 @@ impl From<std::collections::TryReserveError> for SelectError {
 }
 
 /// Why tables are not read.
+///
+/// ```
+/// use addrman::{AddrMan, Chain};
+///
+/// let error = AddrMan::from_bytes(&[], Chain::Main, None).unwrap_err();
+/// assert_eq!(error.to_string(), "no peers.dat of this chain: truncated");
+/// ```
 #[derive(Debug, Error)]
 pub enum LoadError {
     /// A call of the system failed.
@@ -158,6 +196,14 @@ impl LoadError {
 }
 
 /// Why a file is not saved. The one that was there is as it was, or the new one.
+///
+/// ```
+/// use addrman::{AddrMan, Chain, SaveError};
+///
+/// let peers = AddrMan::with_key([7; 32], None).unwrap();
+/// let nowhere = std::env::temp_dir().join("addrman-doc-no-folder");
+/// assert!(matches!(peers.save(nowhere, Chain::Main), Err(SaveError::Io(_))));
+/// ```
 #[derive(Debug, Error)]
 pub enum SaveError {
     /// Another program was saving in the folder.
@@ -183,6 +229,11 @@ impl SaveError {
 }
 
 /// Why bytes are no asmap.
+///
+/// ```
+/// let error = addrman::Asmap::new(&[0xff]).unwrap_err();
+/// assert_eq!(error.to_string(), "no asmap: insane");
+/// ```
 #[derive(Clone, Copy, PartialEq, Eq)]
 pub struct AsmapError(pub(crate) CodeFault);
 
@@ -215,6 +266,11 @@ impl fmt::Display for AsmapError {
 impl std::error::Error for AsmapError {}
 
 /// Why a text is not compiled to an asmap.
+///
+/// ```
+/// let error = addrman::Asmap::compile(b"8.8.8.0/24\n").unwrap_err();
+/// assert!(error.to_string().starts_with("no table of prefixes: "));
+/// ```
 #[derive(Clone, Copy, Debug, PartialEq, Eq, Error)]
 pub enum CompileError {
     /// The text is that of no table of prefixes: the fault of its first line that has one.
@@ -254,6 +310,11 @@ impl From<CompileFault> for CompileError {
 }
 
 /// Why an asmap is not turned back into a table of prefixes.
+///
+/// ```
+/// let error = addrman::DecompileError::TooMany;
+/// assert_eq!(error.to_string(), "the table would have too many rows");
+/// ```
 #[derive(Clone, Copy, Debug, PartialEq, Eq, Error)]
 pub enum DecompileError {
     /// The table would have too many rows.
@@ -274,8 +335,16 @@ impl From<BackFault> for DecompileError {
 }
 
 /// Why a list of bans is not read.
+///
+/// ```
+/// let error = addrman::Bans::from_json(b"{}").unwrap_err();
+/// assert_eq!(error.to_string(), "no list of bans: form");
+/// ```
 #[derive(Debug, Error)]
 pub enum BansError {
+    /// A call of the system failed.
+    #[error("banlist.json cannot be read: {0}")]
+    Io(#[source] io::Error),
     /// The bytes are no list of bans.
     #[error("no list of bans: {0}")]
     File(BanFault),
@@ -293,7 +362,49 @@ impl From<BanFault> for BansError {
     }
 }
 
+impl BansError {
+    /// The error of a fault, with the system's error if the folder failed.
+    pub(crate) fn of(fault: ListFault, cause: io::Error) -> BansError {
+        match fault {
+            ListFault::Disk => BansError::Io(cause),
+            ListFault::TooLarge { size } => BansError::File(BanFault::TooLarge { size }),
+            ListFault::File(fault) => fault.into(),
+            ListFault::Memory => BansError::Memory(Memory),
+        }
+    }
+}
+
+/// Why a request for addresses has no answer.
+///
+/// ```
+/// assert_eq!(addrman::AnswerError::NoRoom.to_string(), "there is no room for an answer");
+/// ```
+#[derive(Clone, Copy, Debug, PartialEq, Eq, Error)]
+pub enum AnswerError {
+    /// [`MAX_KEYS`](crate::MAX_KEYS) others have answers, those that are over among them.
+    #[error("there is no room for an answer")]
+    NoRoom,
+    /// Out of memory. A new answer may be kept.
+    #[error(transparent)]
+    Memory(Memory),
+}
+
+impl From<AnswerFault> for AnswerError {
+    fn from(fault: AnswerFault) -> AnswerError {
+        match fault {
+            AnswerFault::NoRoom => AnswerError::NoRoom,
+            AnswerFault::Memory => AnswerError::Memory(Memory),
+        }
+    }
+}
+
 /// Why no entries of a message are admitted.
+///
+/// ```
+/// use addrman::{AdmitError, Limiter};
+///
+/// assert_eq!(Limiter::new().admit(7, 1001, 0), Err(AdmitError::TooMany));
+/// ```
 #[derive(Clone, Copy, Debug, PartialEq, Eq, Error)]
 pub enum AdmitError {
     /// The number has no connection.
@@ -314,6 +425,10 @@ impl From<AdmitFault> for AdmitError {
 }
 
 /// Why a peer is not noted as open.
+///
+/// ```
+/// assert_eq!(addrman::OpenedError::Full.to_string(), "ten peers are open");
+/// ```
 #[derive(Clone, Copy, Debug, PartialEq, Eq, Error)]
 pub enum OpenedError {
     /// [`MAX_OUTBOUND`](crate::MAX_OUTBOUND) peers are open.

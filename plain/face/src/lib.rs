@@ -35,9 +35,10 @@
 //! random bits takes a generator. A call that needs memory and gets none says so, and leaves what
 //! it was called on as it was, unless it says otherwise.
 //!
-//! A `peers.dat` is written and read with this crate's own checksum of the asmap. So a file of a
-//! Bitcoin Core node that uses an asmap is read as one that was placed by another asmap, and its
-//! new records are placed again.
+//! A `peers.dat` is written and read with this crate's own checksum of the asmap, unless the asmap
+//! is one [with Bitcoin Core's](Asmap::with_core_checksum). Without that a file of a Bitcoin Core
+//! node that uses an asmap is read as one that was placed by another asmap, and its new records are
+//! placed again.
 //!
 //! # What is proved
 //!
@@ -55,6 +56,7 @@
 
 mod address;
 mod anchors;
+mod answers;
 mod asmap;
 mod bans;
 mod error;
@@ -71,11 +73,12 @@ mod words;
 
 pub use address::{Address, NoSocket, ParseError, Peer};
 pub use anchors::{AnchorsError, read_anchors, write_anchors};
+pub use answers::{Answers, Request};
 pub use asmap::Asmap;
 pub use bans::{Ban, Bans, Subnet};
 pub use error::{
-    AddError, AdmitError, AsmapError, BansError, CompileError, DecompileError, EncodeError,
-    LoadError, Memory, MessageError, OpenedError, SaveError, SelectError,
+    AddError, AdmitError, AnswerError, AsmapError, BansError, CompileError, DecompileError,
+    EncodeError, LoadError, Memory, MessageError, OpenedError, SaveError, SelectError,
 };
 pub use limiter::{Connection, Limiter};
 pub use manager::AddrMan;
@@ -84,6 +87,7 @@ pub use networks::Networks;
 pub use opener::Opener;
 pub use record::{Added, Entry, Pick, Record};
 
+pub use addr_answers::MAX_KEYS;
 pub use addr_codecs::{Form, MAX_ENTRIES, MsgFault};
 pub use anchors_crate::{AnchorCause, AnchorsFault};
 pub use asmap_vm::CodeFault;

@@ -5,6 +5,13 @@ use plain_std::alloc::Global;
 use plain_std::hash::RandomState;
 
 /// What is known of a connection.
+///
+/// ```
+/// # let mut limiter = addrman::Limiter::new();
+/// limiter.open(7, "1.2.3.4".parse().unwrap(), false, 1_700_000_000).unwrap();
+/// let connection = limiter.find(7).unwrap();
+/// assert_eq!((connection.tenths, connection.processed, connection.limited), (10, 0, 0));
+/// ```
 #[derive(Clone, Copy, Debug, PartialEq, Eq)]
 pub struct Connection {
     /// The other node's address.

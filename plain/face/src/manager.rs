@@ -1,5 +1,6 @@
 //! The tables of a node.
 
+use crate::asmap::parts;
 use crate::error::{LoadError, SaveError};
 use crate::folder::{InFolder, cause};
 use crate::message::copied;
@@ -59,7 +60,8 @@ impl AddrMan {
         AddrMan::with_key(key, None)
     }
 
-    /// Makes empty tables. The key decides on buckets, and is the node's secret.
+    /// Makes empty tables. The key decides on buckets, and is the node's secret. The tables keep a
+    /// copy of the asmap.
     ///
     /// # Errors
     ///
@@ -69,12 +71,13 @@ impl AddrMan {
     /// assert!(addrman::AddrMan::with_key([7; 32], None).is_ok());
     /// ```
     pub fn with_key(key: [u8; 32], asmap: Option<&Asmap<'_>>) -> Result<AddrMan, Memory> {
-        let map = asmap.map(|asmap| asmap.0);
-        let tables = node_face::open(Global, key, map, RandomState::of_process())?;
+        let (map, rule) = parts(asmap);
+        let tables = node_face::open(Global, key, map, rule, RandomState::of_process())?;
         Ok(AddrMan { tables })
     }
 
-    /// Makes the tables that the bytes of a `peers.dat` keep.
+    /// Makes the tables that the bytes of a `peers.dat` keep. If the file was placed by another
+    /// asmap, as its checksum says, the new records are placed again.
     ///
     /// # Errors
     ///
@@ -93,8 +96,8 @@ impl AddrMan {
         chain: Chain,
         asmap: Option<&Asmap<'_>>,
     ) -> Result<AddrMan, LoadError> {
-        let map = asmap.map(|asmap| asmap.0);
-        match node_face::read(Global, bytes, chain, map, RandomState::of_process()) {
+        let ((map, rule), hasher) = (parts(asmap), RandomState::of_process());
+        match node_face::read(Global, bytes, chain, map, rule, hasher) {
             Ok(tables) => Ok(AddrMan { tables }),
             Err(fault) => Err(LoadError::of(fault, std::io::ErrorKind::Other.into())),
         }
@@ -139,10 +142,10 @@ impl AddrMan {
         chain: Chain,
         asmap: Option<&Asmap<'_>>,
     ) -> Result<Option<AddrMan>, LoadError> {
-        let (map, hasher) = (asmap.map(|asmap| asmap.0), RandomState::of_process());
+        let ((map, rule), hasher) = (parts(asmap), RandomState::of_process());
         let files = InFolder(folder.as_ref());
         let mut folder = DirFolder::make(&files);
-        match node_face::load(Global, &mut folder, chain, map, hasher) {
+        match node_face::load(Global, &mut folder, chain, map, rule, hasher) {
             Ok(tables) => Ok(tables.map(|tables| AddrMan { tables })),
             Err(fault) => Err(LoadError::of(fault, cause(&folder))),
         }
@@ -341,8 +344,7 @@ impl AddrMan {
     /// all. `None` is no limit. Bitcoin Core answers getaddr with at most 1000 and 23 percent.
     ///
     /// Do not answer each request by a new sample: whoever asks often enough then sees most of the
-    /// tables. Keep one sample for all that ask over one network and socket, and make the next a
-    /// day later, as Bitcoin Core does.
+    /// tables. [`Answers`](crate::Answers) keeps one for all that ask over one network and socket.
     ///
     /// # Errors
     ///

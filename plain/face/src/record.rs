@@ -53,6 +53,17 @@ impl Entry {
 }
 
 /// How many entries a message has, and how many of them got a slot.
+///
+/// ```
+/// use addrman::{AddrMan, Added, Address, Form};
+/// # use rand_xoshiro::{Xoshiro256PlusPlus, rand_core::SeedableRng};
+///
+/// # let mut rng = Xoshiro256PlusPlus::seed_from_u64(1);
+/// let mut peers = AddrMan::new(&mut rng).unwrap();
+/// let source: Address = "1.2.3.4".parse().unwrap();
+/// let added = peers.take_message(Form::Addr, &[0], source, 1_700_000_000, &mut rng);
+/// assert_eq!(added, Ok(Added { total: 0, accepted: 0 }));
+/// ```
 #[derive(Clone, Copy, Debug, PartialEq, Eq)]
 pub struct Added {
     /// How many entries the message has.
@@ -62,6 +73,13 @@ pub struct Added {
 }
 
 /// A peer that was selected.
+///
+/// ```
+/// use addrman::Pick;
+///
+/// let pick = Pick { peer: "8.8.8.8:8333".parse().unwrap(), last_try: None };
+/// assert_eq!(pick.peer.port(), 8333);
+/// ```
 #[derive(Clone, Copy, Debug, PartialEq, Eq)]
 #[cfg_attr(feature = "serde", derive(serde::Serialize, serde::Deserialize))]
 pub struct Pick {
@@ -82,6 +100,20 @@ impl Pick {
 
 /// What is known of a peer. Times are in seconds since 1970, and `None` if the event has not
 /// happened.
+///
+/// ```
+/// use addrman::{AddrMan, Address, Entry, Peer};
+/// # use rand_xoshiro::{Xoshiro256PlusPlus, rand_core::SeedableRng};
+///
+/// # let mut rng = Xoshiro256PlusPlus::seed_from_u64(1);
+/// let (mut peers, now) = (AddrMan::new(&mut rng).unwrap(), 1_700_000_000);
+/// let (peer, source): (Peer, Address) = ("8.8.8.8:8333".parse().unwrap(), "1.2.3.4".parse().unwrap());
+/// peers.add(&Entry::new(peer, 9, now), source, 7200, now, &mut rng).unwrap();
+/// peers.attempt(&peer, true, now + 60);
+/// let record = peers.find(&peer).unwrap();
+/// assert_eq!((record.services, record.time, record.attempts), (9, now - 7200, 1));
+/// assert_eq!((record.last_try, record.last_success), (Some(now + 60), None));
+/// ```
 #[derive(Clone, Copy, Debug, PartialEq, Eq)]
 #[cfg_attr(feature = "serde", derive(serde::Serialize, serde::Deserialize))]
 pub struct Record {

@@ -1,8 +1,9 @@
 //! What a node does with the crate.
 
 use addrman::{
-    AddrMan, Address, Bans, Chain, Entry, Form, Good, Limiter, LoadError, Networks, Opener, Peer,
-    SaveError, Verdict, decode, encode,
+    AddrMan, Address, AnswerError, Answers, Asmap, BanFault, Bans, BansError, Chain, Entry, Form,
+    Good, Limiter, LoadError, Network, Networks, Opener, Peer, Request, SaveError, Verdict, decode,
+    encode,
 };
 use rand_xoshiro::Xoshiro256PlusPlus;
 use rand_xoshiro::rand_core::SeedableRng;
@@ -48,17 +49,41 @@ fn folder(name: &str) -> PathBuf {
 fn values_go_to_other_threads() {
     fn is<T: Send + Sync + 'static>() {}
     is::<AddrMan>();
+    is::<Answers>();
+    is::<Asmap<'static>>();
     is::<Bans>();
     is::<Limiter>();
     is::<Opener>();
-    is::<LoadError>();
-    is::<SaveError>();
+    is::<addrman::Ban>();
+    is::<addrman::Connection>();
+    is::<addrman::Record>();
+    is::<addrman::Subnet>();
+    is::<Entry>();
+    is::<Networks>();
+    is::<Peer>();
+    is::<Request>();
+}
+
+#[test]
+fn errors_are_those_of_std() {
     fn is_error<T: Error + Send + Sync + 'static>() {}
-    is_error::<LoadError>();
-    is_error::<SaveError>();
     is_error::<addrman::AddError>();
+    is_error::<addrman::AdmitError>();
+    is_error::<addrman::AnchorsError>();
+    is_error::<AnswerError>();
     is_error::<addrman::AsmapError>();
+    is_error::<BansError>();
+    is_error::<addrman::CompileError>();
+    is_error::<addrman::DecompileError>();
+    is_error::<addrman::EncodeError>();
+    is_error::<LoadError>();
     is_error::<addrman::Memory>();
+    is_error::<addrman::MessageError>();
+    is_error::<addrman::NoSocket>();
+    is_error::<addrman::OpenedError>();
+    is_error::<addrman::ParseError>();
+    is_error::<SaveError>();
+    is_error::<addrman::SelectError>();
 }
 
 #[test]
@@ -212,6 +237,144 @@ fn a_folder_in_use_is_not_saved_in() {
 }
 
 #[test]
+fn a_folder_keeps_the_bans() {
+    let folder = folder("bans");
+    assert!(Bans::load(&folder).unwrap().is_none());
+    let mut bans = Bans::new();
+    for text in ["10.0.0.0/8", "2001:db8::/32"] {
+        bans.ban(&text.parse().unwrap(), NOW, NOW + 9).unwrap();
+    }
+    bans.save(&folder).unwrap();
+    bans.save(&folder).unwrap();
+    let file = folder.join("banlist.json");
+    assert_eq!(std::fs::read(&file).unwrap(), bans.to_json().unwrap());
+    assert_eq!(std::fs::read_dir(&folder).unwrap().count(), 1);
+    let back = Bans::load(&folder).unwrap().unwrap();
+    assert!(back.iter().eq(bans.iter()));
+    for (text, fault) in [
+        ("", BanFault::Json),
+        ("{}", BanFault::Form),
+        ("[", BanFault::Json),
+    ] {
+        std::fs::write(&file, text).unwrap();
+        let read = Bans::load(&folder);
+        assert!(matches!(read, Err(BansError::File(found)) if found == fault));
+    }
+    let size = 33_554_433;
+    std::fs::File::create(&file).unwrap().set_len(size).unwrap();
+    let read = Bans::load(&folder);
+    assert!(matches!(read, Err(BansError::File(BanFault::TooLarge { size: found })) if found == size));
+    std::fs::remove_file(&file).unwrap();
+    std::fs::create_dir(&file).unwrap();
+    assert!(matches!(Bans::load(&folder), Err(BansError::Io(_))));
+    assert!(matches!(bans.save(&folder), Err(SaveError::Io(_))));
+    std::fs::remove_dir_all(&folder).unwrap();
+    assert!(matches!(bans.save(&folder), Err(SaveError::Io(_))));
+    assert!(Bans::load(&folder).unwrap().is_none());
+}
+
+/// The asmap of Bitcoin Core's own tests, whose checksum its functional test feature_asmap.py
+/// states, the last byte first.
+const CORE_ASMAP: &str = "fb03ec0fb03fc0fe00fb03ec0fb03fc0fe00fb03ec0fb0fffffeffedb0ffd486e628\
+    290000400000400040990100800180040000050006001cf039";
+const CORE_SUM: &str = "fec61fa21a9f46f3b17bdcd660d7f4cd90b966aad3aec593c99b35f0aca15853";
+
+/// The bytes of hexadecimal digits.
+fn bytes_of(digits: &str) -> Vec<u8> {
+    let byte = |at| u8::from_str_radix(&digits[at..at + 2], 16).unwrap();
+    (0..digits.len()).step_by(2).map(byte).collect()
+}
+
+/// The checksum of the asmap in a file: it stands before that of the file.
+fn sum_in(file: &[u8]) -> &[u8] {
+    &file[file.len() - 64..file.len() - 32]
+}
+
+#[test]
+fn a_file_has_the_checksum_of_its_asmap() {
+    let bytes = bytes_of(CORE_ASMAP);
+    let ours = Asmap::new(&bytes).unwrap();
+    let core = ours.with_core_checksum();
+    let mut sum = bytes_of(CORE_SUM);
+    sum.reverse();
+    assert_eq!(core.checksum().to_vec(), sum);
+    let mut rng = rng(7);
+    for asmap in [ours, core] {
+        let mut peers = AddrMan::with_key([7; 32], Some(&asmap)).unwrap();
+        for number in 0..500 {
+            let source = Ipv4Addr::from(0x0c00_0001 + number * 65_536);
+            let entry = Entry::new(peer(number), 1, NOW);
+            peers.add(&entry, source, 0, NOW, &mut rng).unwrap();
+        }
+        let file = peers.to_bytes(Chain::Main).unwrap();
+        assert_eq!(sum_in(&file), asmap.checksum());
+        // By its own checksum the tables are as they were.
+        let back = AddrMan::from_bytes(&file, Chain::Main, Some(&asmap)).unwrap();
+        assert_eq!(back.to_bytes(Chain::Main).unwrap(), file);
+        let folder = folder("sum");
+        peers.save(&folder, Chain::Main).unwrap();
+        assert_eq!(std::fs::read(folder.join("peers.dat")).unwrap(), file);
+        let back = AddrMan::load(&folder, Chain::Main, Some(&asmap)).unwrap();
+        assert_eq!(back.unwrap().to_bytes(Chain::Main).unwrap(), file);
+        std::fs::remove_dir_all(&folder).unwrap();
+    }
+    // By the other one the file says another asmap.
+    let peers = AddrMan::with_key([7; 32], Some(&core)).unwrap();
+    let file = peers.to_bytes(Chain::Main).unwrap();
+    let read = AddrMan::from_bytes(&file, Chain::Main, Some(&ours)).unwrap();
+    assert_ne!(read.to_bytes(Chain::Main).unwrap(), file);
+    assert_eq!(sum_in(&read.to_bytes(Chain::Main).unwrap()), ours.checksum());
+    let none = AddrMan::with_key([7; 32], None).unwrap();
+    assert_eq!(sum_in(&none.to_bytes(Chain::Main).unwrap()), [0; 32]);
+}
+
+#[test]
+fn all_that_ask_get_one_answer_for_21_hours() {
+    let (mut peers, mut rng) = (many(3000), rng(8));
+    let (mut answers, mut bans) = (Answers::new(), Bans::new());
+    let request = Request::new(Network::Ipv4, 0, Form::Addrv2);
+    let mut ask = |peers: &mut AddrMan, bans: &Bans, request: &Request, now| {
+        answers.answer(peers, bans, request, now, &mut rng)
+    };
+    let first = ask(&mut peers, &bans, &request, NOW).unwrap();
+    let entries: Vec<_> = decode(Form::Addrv2, &first).unwrap().into_iter().flatten().collect();
+    let size = peers.size();
+    let most = (size.new_count + size.tried_count) as usize * 23 / 100;
+    assert!(!entries.is_empty() && entries.len() <= most);
+    // One time hides those of the records.
+    assert!(entries.iter().all(|entry| entry.time == entries[0].time));
+    let age = NOW - entries[0].time;
+    assert!((8 * 86_400..=12 * 86_400).contains(&age));
+    // Whatever changes, the answer stays.
+    bans.ban(&"0.0.0.0/3".parse().unwrap(), NOW, NOW + 200_000).unwrap();
+    let again = ask(&mut peers, &bans, &request, NOW + 75_599);
+    assert!(again.is_ok_and(|payload| payload == first));
+    let old = Request::new(Network::Ipv4, 0, Form::Addr);
+    let old = ask(&mut peers, &bans, &old, NOW + 1).unwrap();
+    assert_eq!(decode(Form::Addr, &old).unwrap().len(), entries.len());
+    // After 27 hours there is a new one, without the banned peers, which are all.
+    assert!(ask(&mut peers, &bans, &request, NOW + 97_200).is_ok_and(|payload| payload == [0]));
+    // Others get an answer of their own, and trusted ones the times of the records.
+    bans = Bans::new();
+    let trusted = Request {
+        own_times: true,
+        ..Request::new(Network::Ipv4, 1, Form::Addrv2)
+    };
+    let own = ask(&mut peers, &bans, &trusted, NOW).unwrap();
+    for entry in decode(Form::Addrv2, &own).unwrap().into_iter().flatten() {
+        assert_eq!(entry.time, peers.find(&entry.peer).unwrap().time);
+    }
+    for socket in 2..64 {
+        let request = Request::new(Network::Onion, socket, Form::Addrv2);
+        assert!(ask(&mut peers, &bans, &request, NOW).is_ok());
+    }
+    let more = Request::new(Network::Onion, 64, Form::Addrv2);
+    assert!(ask(&mut peers, &bans, &more, NOW).is_err_and(|error| error == AnswerError::NoRoom));
+    answers.forget();
+    assert!(answers.answer(&mut peers, &bans, &more, NOW, &mut rng).is_ok());
+}
+
+#[test]
 fn a_message_is_taken_as_its_entries() {
     let mut rng = rng(5);
     let mut peers = AddrMan::new(&mut rng).unwrap();
@@ -296,6 +459,25 @@ fn sockets_are_those_of_std() {
     let onion = Address::of(addrman::Network::Onion, &[7; 32]).unwrap();
     assert!(SocketAddr::try_from(Peer::new(onion, 1)).is_err());
     assert_eq!(onion.to_string().parse(), Ok(onion));
+}
+
+#[cfg(feature = "serde")]
+#[test]
+fn serde_has_entries_and_picks() {
+    let entry = Entry::new(peer(1), 9, NOW);
+    let json = serde_json::to_string(&entry).unwrap();
+    assert_eq!(json, r#"{"peer":"11.0.255.241:8333","services":9,"time":1700000000}"#);
+    assert_eq!(serde_json::from_str::<Entry>(&json).unwrap(), entry);
+    let pick = addrman::Pick {
+        peer: peer(1),
+        last_try: None,
+    };
+    let json = serde_json::to_string(&pick).unwrap();
+    assert_eq!(serde_json::from_str::<addrman::Pick>(&json).unwrap(), pick);
+    let address: Address = "[2001:db8::1]".parse().unwrap();
+    let json = serde_json::to_string(&address).unwrap();
+    assert_eq!(json, r#""[2001:db8::1]""#);
+    assert_eq!(serde_json::from_str::<Address>(&json).unwrap(), address);
 }
 
 #[cfg(feature = "serde")]

@@ -1,9 +1,9 @@
 //! Each allocation of a node's calls fails in turn.
 
 use addrman::{
-    AddError, AddrMan, Address, Asmap, Bans, BansError, Chain, CompileError, DecompileError,
-    EncodeError, Entry, Form, Limiter, LoadError, Memory, MessageError, Networks, Peer, SaveError,
-    SelectError, decode, encode,
+    AddError, AddrMan, Address, AnswerError, Answers, Asmap, Bans, BansError, Chain, CompileError,
+    DecompileError, EncodeError, Entry, Form, Limiter, LoadError, Memory, MessageError, Network,
+    Networks, Peer, Request, SaveError, SelectError, decode, encode,
 };
 use rand_xoshiro::Xoshiro256PlusPlus;
 use rand_xoshiro::rand_core::SeedableRng;
@@ -203,6 +203,27 @@ fn out_of_load(folder: &Path) -> Result<(), ()> {
 }
 
 #[test]
+fn each_call_on_answers_says_that_memory_ran_out() {
+    let mut rng = Xoshiro256PlusPlus::seed_from_u64(3);
+    let mut peers = AddrMan::new(&mut rng).unwrap();
+    for entry in entries(200) {
+        let source = Ipv4Addr::new(1, 2, 3, 4);
+        peers.add(&entry, source, 0, NOW, &mut rng).unwrap();
+    }
+    let (mut answers, bans) = (Answers::new(), Bans::new());
+    for socket in 0..3 {
+        let request = Request::new(Network::Ipv4, socket, Form::Addrv2);
+        let mut ask = || {
+            let payload = answers.answer(&mut peers, &bans, &request, NOW, &mut rng);
+            memory!(payload, AnswerError::Memory(_))
+        };
+        assert!(each(&mut ask) > 0);
+        // An answer that is kept takes memory for its message only.
+        assert!(each(&mut ask) > 0);
+    }
+}
+
+#[test]
 fn each_call_on_bans_and_limits_says_that_memory_ran_out() {
     let (mut bans, mut limiter) = (Bans::new(), Limiter::new());
     for number in 0..100u8 {
@@ -221,4 +242,18 @@ fn each_call_on_bans_and_limits_says_that_memory_ran_out() {
     let json = bans.to_json().unwrap();
     assert!(each(|| memory!(Bans::from_json(&json), BansError::Memory(_))) > 0);
     assert!(limiter.find(99).is_some());
+    let folder = std::env::temp_dir().join(format!("addrman-memory-bans-{}", std::process::id()));
+    std::fs::create_dir_all(&folder).unwrap();
+    assert!(each(|| out_of_folder(bans.save(&folder))) > 0);
+    let load = || match Bans::load(&folder) {
+        Ok(found) => found.map(|_| ()).ok_or(()),
+        Err(BansError::Memory(_)) => Err(()),
+        Err(BansError::Io(error)) if error.kind() == std::io::ErrorKind::OutOfMemory => Err(()),
+        Err(error) => panic!("{error}"),
+    };
+    assert!(each(load) > 0);
+    assert_eq!(std::fs::read(folder.join("banlist.json")).unwrap(), json);
+    std::fs::remove_dir_all(&folder).unwrap();
+    let core = asmap.with_core_checksum();
+    assert!(each(|| lacks(AddrMan::with_key([1; 32], Some(&core)))) > 0);
 }
