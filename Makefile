@@ -126,6 +126,7 @@ bin/page.html:
 page-test:
 	page/colours
 	node page/test/same.mjs bin/page-work/addrman.wasm bin/addrman
+	node page/test/memory.mjs bin/page-work/addrman.wasm
 	page/test/test_page.py bin/addrman
 
 rows: bin/addrman

@@ -33,6 +33,7 @@ function takeAttack(asked, found) {
   $("set").value = attackerSet(asked, found.rows);
   $("set-of").value = "source";
   $("mode").value = "set";
+  $("core").checked = false;
   $("sort").checked = true;
 }
 

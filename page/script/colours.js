@@ -14,10 +14,16 @@ function colour(name) {
   return getComputedStyle(probe).color.match(/[\d.]+/g).slice(0, 3).map(Number);
 }
 
-// The group that the place of a slot depends on: that of the source in the new table, its peer's in
-// the tried one.
-const placedBy = i => (i < NEW_SLOTS ? data.sourceGroup : data.group)[data.slots[i]];
-const groupAt = i => data.names[placedBy(i)];
+// The groups of records: that which the place depends on, which is the source's in the new table
+// and the peer's in the tried one; that of the source; that of the peer; and the network.
+const GROUPINGS = {
+  placed: (view, r) => (view.table[r] ? view.group : view.sourceGroup)[r],
+  source: (view, r) => view.sourceGroup[r],
+  group: (view, r) => view.group[r],
+  network: (view, r) => view.network[r],
+};
+const namesBy = (view, by) => by === "network" ? NETWORKS : view.names;
+const groupName = (view, by, r) => namesBy(view, by)[GROUPINGS[by](view, r)];
 const ageClass = (newest, time) => AGES.findIndex(([, days]) => newest - time < days * DAY);
 
 // Whether the slot has the same peer as in the file before.
@@ -28,15 +34,14 @@ function isAsBefore(i) {
 
 // The class of a slot by when its peer was reached last.
 function successClass(i) {
-  const time = data.success ? data.success[data.slots[i]] : -1;
-  if (time < 0) return AGES.length + 1;
+  if (!data.success) return AGES.length + 1;
+  const time = data.success[data.slots[i]];
   return time ? ageClass(data.newest, time) : AGES.length;
 }
 
 // The class of a slot by the failed tries of its peer.
 function triesClass(i) {
-  const count = data.tries ? data.tries[data.slots[i]] : -1;
-  return count < 0 ? 4 : Math.min(3, count);
+  return data.tries ? Math.min(3, data.tries[data.slots[i]]) : 4;
 }
 
 const OTHERS = [["never", "--other"], ["not known", "--other"]];
@@ -44,7 +49,7 @@ const TRIES = [["none", "--a1"], ["1", "--a2"], ["2", "--a3"], ["3 or more", "--
 const IN_SET = [["in my prefixes", "--lit"], ["others", "--rest"]];
 const CHANGES =
   [["came since", "--lit"], ["as before", "--rest"], ["free since", "--gone"]];
-const NETS = NETWORKS.map((name, k) => [name, k < LISTED ? `--c${k}` : "--other"]);
+const NETS = NETWORKS.map((name, k) => [name, k ? `--c${k - 1}` : "--other"]);
 const STEPS_OF_AGE = AGES.map(([name], k) => [name, `--a${k}`]);
 const SUCCESSES = [...STEPS_OF_AGE.map(([name, paint]) => [name + " ago", paint]), ...OTHERS];
 
@@ -56,24 +61,24 @@ const MODES = {
   tries: () => [TRIES, triesClass],
   set: () => [IN_SET, i => setMask && setMask[data.slots[i]] ? 0 : 1],
   change: () => [CHANGES, i => !data.before || isAsBefore(i) ? 1 : 0],
-  source: () => groupClasses(i => data.sourceGroup[data.slots[i]]),
-  group: () => groupClasses(i => data.group[data.slots[i]]),
-  placed: () => groupClasses(placedBy),
+  source: () => groupClasses("source"),
+  group: () => groupClasses("group"),
+  placed: () => groupClasses("placed"),
 };
 
 // The six groups with most slots, and all others.
-function groupClasses(pick) {
-  const counts = new Map();
-  for (let i = 0; i < CELLS; i++)
-    if (data.slots[i] >= 0) counts.set(pick(i), (counts.get(pick(i)) || 0) + 1);
-  const most = [...counts]
-                 .sort((a, b) => b[1] - a[1] || (data.names[a[0]] < data.names[b[0]] ? -1 : 1))
-                 .slice(0, LISTED)
-                 .map(([g]) => g);
-  const rank = new Map(most.map((g, k) => [g, k])), rest = counts.size - most.length;
+function groupClasses(by) {
+  const counts = new Uint32Array(data.names.length), groupOf = GROUPINGS[by];
+  for (const r of data.slots)
+    if (r >= 0) counts[groupOf(data, r)]++;
+  const used = Array.from(counts.keys()).filter(g => counts[g]), { names } = data;
+  used.sort((a, b) => counts[b] - counts[a] || (names[a] < names[b] ? -1 : 1));
+  const most = used.slice(0, LISTED);
+  const rank = new Uint8Array(counts.length).fill(most.length), rest = used.length - most.length;
+  most.forEach((g, k) => { rank[g] = k; });
   const list = most.map((g, k) => [data.names[g], `--c${k}`]);
   if (rest) list.push([`${number(rest)} other group${rest === 1 ? "" : "s"}`, "--other"]);
-  return [list, i => rank.get(pick(i)) ?? most.length];
+  return [list, i => rank[groupOf(data, data.slots[i])]];
 }
 
 function classify() {
@@ -91,7 +96,7 @@ function classify() {
       if (i < NEW_SLOTS && last[of[i]] !== i >> 6) one.buckets++;
       last[of[i]] = i >> 6;
     }
-  const counted = new Uint8Array(data.name.length);
+  const counted = new Uint8Array(data.count);
   if (data.share)
     for (let i = 0; i < CELLS; i++) {
       const rec = data.slots[i];
@@ -107,7 +112,9 @@ function isLit(i) {
   if (!highlight) return true;
   if (highlight.kind === "class") return classes.of[i] === highlight.index;
   if (data.slots[i] < 0) return false;
-  return highlight.kind === "group" ? groupAt(i) === highlight.name : matched.has(data.slots[i]);
+  const r = data.slots[i];
+  return highlight.kind === "group" ? groupName(data, highlight.by, r) === highlight.name :
+                                      matched.has(r);
 }
 
 // Whether lit slots have one colour, since their own may be too like that of the others.

@@ -16,21 +16,29 @@ function usageFacts() {
   const inNew = `${number(used.new)} slots for ${number(newPeers)} peers`;
   const inTried = `${number(used.tried)} slots`;
   return [
-    fact(number(data.name.length), `peers${of}: ${networksText()}`),
+    fact(number(data.count), `peers${of}: ${networksText()}`),
     fact(percent(used.new, NEW_SLOTS), `of the new table in use: ${inNew}`),
     fact(percent(used.tried, CELLS - NEW_SLOTS), `of the tried table in use: ${inTried}`),
   ];
 }
 
+// What the groups of the list are, in words.
+const GROUP_WORDS = {
+  placed: name => `that ${name} placed`,
+  source: name => `that ${name} announced first`,
+  group: name => `of ${name}`,
+  network: name => `of ${name}`,
+};
+
 // The group with the largest share of picks; of slots, where shares are not known.
 function topFact() {
-  const top = data.rows[0], count = number(data.rows.length);
+  const rows = listedRows(), top = rows[0], count = number(rows.length), by = $("by").value;
   if (!top) return fact("none", "no group");
+  const words = `peers ${GROUP_WORDS[by](top.group)}, first of ${count}`;
   if (top.share !== undefined)
-    return fact(shareText(top.share), `of the picks are peers that ${top.group} placed, ` +
-      `first of ${count} groups`);
+    return fact(millionthsText(top.share), `of the picks, at most, are ${words}`);
   const share = percent(slotsOf(top), data.used.new + data.used.tried);
-  return fact(share, `of all slots are of ${top.group}, the largest of ${count} groups`);
+  return fact(share, `of all slots have ${words}`);
 }
 
 // A share of the attacker's, with its counts.
@@ -58,22 +66,18 @@ function showFacts() {
 
 const NOTES = {
   differs: "The counts of this page differ from those that the program prints. Please report this.",
-  noAsmap: "The file was saved with an asmap, which is not here: peers are placed anew, by the " +
-    "group of their first source. Drop that asmap.dat to see the tables as they were.",
-  asmap: "The file was saved with an asmap. If that was another than this one, or if Bitcoin " +
-    "Core saved it, peers are placed anew, by the group of their first source.",
   json: "What getrawaddrman prints has no tries and no last success, so there are no shares of " +
     "picks. Slots are those of the node; groups are those of the asmap, if one is here.",
-  tries: "Of some peers the tries are not known here.",
 };
+
+// What the program says besides: how the asmap of the file fits the one that is here.
+const saidText = said => said.replace(/^addrman: (.)/, (_, first) => first.toUpperCase());
 
 function showNote() {
   const notes = [];
   if (data.agrees === false) notes.push(NOTES.differs);
-  if (data.hasAsmap && !asmap) notes.push(NOTES.noAsmap);
-  else if (data.hasAsmap && !attack) notes.push(NOTES.asmap);
+  if (data.said) notes.push(saidText(data.said) + ".");
   if (!data.chain) notes.push(NOTES.json);
-  if (data.tries && data.tries.some(count => count < 0)) notes.push(NOTES.tries);
   $("note").textContent = notes.join(" ");
   $("note").hidden = !notes.length;
 }

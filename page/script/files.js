@@ -3,6 +3,8 @@
 let snaps = [], asmap = null, bans = null, attack = null;
 const MAGICS = ["f9beb4d9", "0b110907", "1c163f28", "0a03cf40", "fabfb5da"];
 const MAX_SIZE = 256e6;
+// Whether an asmap's checksum is that which Bitcoin Core takes, as with the option --core.
+const isCore = () => $("core").checked;
 
 // What a JSON text of a node is, by the first of its member names.
 function kindOfJson(bytes) {
@@ -34,8 +36,10 @@ function dateOf(path, changed) {
   return Number.isNaN(time) ? changed : time;
 }
 
-// The files of a folder that was dropped.
-async function entriesOf(entry) {
+const isOfNode = ({ path }) => /peers|asmap|banlist|rawaddrman/i.test(fileName(path));
+
+// The files of a folder that was dropped, as Firefox gives it.
+async function filesOfEntry(entry) {
   if (entry.isFile) {
     const file = await new Promise((done, fail) => entry.file(done, fail));
     return [{ file, path: entry.fullPath }];
@@ -44,9 +48,30 @@ async function entriesOf(entry) {
   for (;;) {
     const some = await new Promise((done, fail) => reader.readEntries(done, fail));
     if (!some.length) break;
-    for (const child of some) all.push(...await entriesOf(child));
+    for (const child of some) all.push(...await filesOfEntry(child));
   }
-  return all.filter(({ path }) => /peers|asmap|banlist|rawaddrman/i.test(fileName(path)));
+  return all.filter(isOfNode);
+}
+
+// The same as Chromium gives it: a page from a disk may read no entries there.
+async function filesOfHandle(handle, path) {
+  if (handle.kind === "file") return [{ file: await handle.getFile(), path }];
+  const all = [];
+  for await (const child of handle.values())
+    all.push(...await filesOfHandle(child, `${path}/${child.name}`));
+  return all.filter(isOfNode);
+}
+
+// The files of what was dropped. A browser tells of folders only until the event ends.
+async function filesDropped({ items, files }) {
+  const entries = [...items].map(item => item.webkitGetAsEntry?.()).filter(Boolean);
+  if (!entries.some(entry => entry.isDirectory))
+    return [...files].map(file => ({ file, path: file.name }));
+  const handles = [...items].map(item => item.getAsFileSystemHandle?.()).filter(Boolean);
+  const found = handles.length ?
+    (await Promise.all(handles)).map(handle => filesOfHandle(handle, handle.name)) :
+    entries.map(filesOfEntry);
+  return (await Promise.all(found)).flat();
 }
 
 // Reads the files, and tells those of peers from an asmap and a list of bans.
@@ -92,12 +117,8 @@ async function take(given) {
 async function onDrop(event) {
   event.preventDefault();
   document.body.classList.remove("over");
-  const { items, files } = event.dataTransfer;
-  const entries = [...items].map(item => item.webkitGetAsEntry?.()).filter(Boolean);
-  let given = [...files].map(file => ({ file, path: file.name }));
   try {
-    if (entries.some(entry => entry.isDirectory))
-      given = (await Promise.all(entries.map(entriesOf))).flat();
+    const given = await filesDropped(event.dataTransfer);
     if (given.length) await take(given);
     else fail("There is no file of a node in it: peers.dat, asmap.dat or banlist.json.");
   } catch (error) { fail(error.message); }

@@ -28,8 +28,23 @@ on("time", "input", () => {
   stop();
   show(Number($("time").value));
 });
+on("core", "change", () => {
+  for (const snap of snaps) snap.view = null;
+  if (snaps.length) show(at);
+});
+on("by", "change", () => {
+  if (!data) return;
+  showGroups();
+  showChanges();
+  showFacts();
+  learnShares();
+});
 on("mode", "change", () => {
   if (highlight && highlight.kind === "class") highlight = null;
+  if (GROUPINGS[$("mode").value] && $("by").value !== $("mode").value) {
+    $("by").value = $("mode").value;
+    learnShares();
+  }
   if (!data) return;
   if ($("mode").value === "set") return applySet();
   if (needsBefore() && !data.before) return show(at);
@@ -59,7 +74,7 @@ on("key", "click", event => {
 });
 on("groups", "click", event => {
   const row = event.target.closest("tr"), button = row && row.querySelector("button");
-  if (button) setHighlight({ kind: "group", name: button.dataset.group });
+  if (button) setHighlight({ kind: "group", by: $("by").value, name: button.dataset.group });
 });
 on("hits", "click", event => {
   const button = event.target.closest("button");

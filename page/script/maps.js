@@ -175,7 +175,9 @@ function onMapKey(table, event) {
 function chooseGroup() {
   if (cursor === null || !data || data.slots[cursor] < 0) return;
   if (!highlight || highlight.kind === "group")
-    setHighlight({ kind: "group", name: groupAt(cursor) });
+    setHighlight({
+      kind: "group", by: $("by").value, name: groupName(data, $("by").value, data.slots[cursor])
+    });
 }
 
 function onPointer(table, event) {

@@ -2,20 +2,19 @@
 const PAGE = 50;
 let firstPeer = 0;
 
-const isKnown = (list, r) => !!list && list[r] >= 0;
-
 function peerText(r) {
+  if (!data.hasTexts) return "…";
   const name = data.name[r];
   return `${name.includes(":") ? `[${name}]` : name}:${data.port[r]}`;
 }
 
 function reachedText(r) {
-  if (!isKnown(data.success, r)) return "not known";
+  if (!data.success) return "not known";
   return data.success[r] ? when(data.success[r]) : "never";
 }
 
-const triesText = r => isKnown(data.tries, r) ? String(data.tries[r]) : "not known";
-const groupText = g => data.names[g] ?? "not known yet";
+const triesText = r => data.tries ? String(data.tries[r]) : "not known";
+const sourceText = r => data.hasTexts ? data.source[r] : "…";
 
 // The buckets that a record is in, by rising number.
 function bucketsOf(r) {
@@ -31,8 +30,8 @@ function peerFacts(r) {
   const facts = [
     ["peer", peerText(r)],
     ["network", NETWORKS[data.network[r]]],
-    ["group", groupText(data.group[r])],
-    ["source", data.source[r]],
+    ["group", data.names[data.group[r]]],
+    ["source", sourceText(r)],
     ["its group", data.names[data.sourceGroup[r]]],
     ["seen", `${when(data.time[r])}, ${age} before the newest`],
     ["services", servicesText(data.services[r])],
@@ -68,9 +67,9 @@ function litPeers() {
 // The row of a peer.
 function peerRow(r) {
   const table = data.table[r] ? "tried" : "new", network = NETWORKS[data.network[r]];
-  const group = groupText(data.group[r]), sourceGroup = data.names[data.sourceGroup[r]];
+  const group = data.names[data.group[r]], sourceGroup = data.names[data.sourceGroup[r]];
   const texts = [
-    table, bucketsOf(r).join(", "), network, group, data.source[r], sourceGroup,
+    table, bucketsOf(r).join(", "), network, group, sourceText(r), sourceGroup,
     when(data.time[r]), reachedText(r)
   ];
   return `<tr>${headCell(peerText(r))}${joined(texts, textCell)}${numberCell(triesText(r))}</tr>`;

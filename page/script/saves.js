@@ -13,7 +13,9 @@ const stem = () => (fileName(snaps[at].name) || "peers").replace(/\.(dat|json)$/
 
 async function saveOutput(command, name, type, more) {
   try {
-    const text = await ask("outputOfPeers", { command, files: peersFiles(), more });
+    const text = await ask("outputOfPeers", {
+      command, files: peersFiles(), isCore: isCore(), more
+    });
     download(name, text, type);
   } catch (error) { fail(error.message); }
 }
@@ -33,7 +35,9 @@ async function showPicture() {
   const snap = snaps[at];
   if (!$("picture-box").open || !data || !data.chain) return;
   try {
-    const text = await ask("outputOfPeers", { command: "picture", files: peersFiles() });
+    const text = await ask("outputOfPeers", {
+      command: "picture", files: peersFiles(), isCore: isCore()
+    });
     if (snap !== snaps[at]) return;
     const before = $("picture").src;
     $("picture").src = URL.createObjectURL(new Blob([text], { type: "image/svg+xml" }));

@@ -30,7 +30,7 @@ async function findMatches() {
   } else {
     const part = words.replace(/^\[|\]$/g, "").replace(/\](:\d+)$/, "$1");
     const findBy = fits => {
-      for (let r = 0; r < view.name.length; r++)
+      for (let r = 0; r < view.count; r++)
         if (fits(`${view.name[r]}:${view.port[r]}`) || fits(view.form[r])) matched.add(r);
     };
     findBy(text => text.startsWith(part));
@@ -46,7 +46,7 @@ function hitItem(r) {
 }
 
 async function search() {
-  if (!data) return;
+  if (!data || !data.hasTexts) return;
   const words = $("search").value;
   if (!words.trim()) return setHighlight(null);
   try {
@@ -77,8 +77,10 @@ async function readSet() {
         numbers = new Set(words.filter(isAs).map(word => word.toUpperCase()));
   const forms = isPeer ? view.form : view.sourceForm, of = isPeer ? view.group : view.sourceGroup,
         prefixes = words.filter(word => !isAs(word));
-  const mask = new Uint8Array(view.name.length);
+  const mask = new Uint8Array(view.count);
   setMask = mask;
+  if (numbers.size && !asmap)
+    throw new Error("AS numbers come from an asmap: drop asmap.dat here to use them.");
   for (let r = 0; r < mask.length; r++)
     if (numbers.has(view.names[of[r]])) mask[r] = 1;
   if (!prefixes.length) return;

@@ -5,68 +5,67 @@ let highlight = null, matched = null, setMask = null;
 // How often something was asked for: an answer is dropped if something else was meanwhile.
 let wanted = 0;
 const KEPT_VIEWS = 12;
-// How long a file is shown, in milliseconds, before its counts are compared with the program's. The
-// engine loads the file once more for that, and nobody waits for it.
+// How long a file is shown, in milliseconds, before the program is asked for shares of picks and
+// counts, while files are played one after another: longer than a step.
 const CHECK_AFTER = 700;
 let checking = 0;
-// What can be shown before tries, successes and the groups of all peers are known.
-const EARLY_MODES = ["placed", "source", "network", "age"];
+// What can be shown before the texts of addresses are known.
+const NEEDS_TEXTS = ["set", "change"];
+const TEXTS = ["name", "form", "source", "sourceForm"];
+const decoder = new TextDecoder();
 
 // The slots and records that count for a group, and the order by their number.
 const slotsOf = row => row.new_slots + row.tried_records;
 const bySlots = (a, b) => slotsOf(b) - slotsOf(a) || (a.group < b.group ? -1 : 1);
+const linesOf = text => text.split("\n").slice(0, -1);
 
-// The view of a file with its columns, without the details.
-function viewFrom(told) {
-  const lines = text => told.port.length ? text.split("\n") : [];
+// The view of a file with what is known as soon as its tables are open.
+function viewFrom(told, snap, map) {
   const found = {
     ...told,
-    name: lines(told.name),
-    form: lines(told.form),
-    source: lines(told.source),
-    sourceForm: lines(told.sourceForm),
-    services: lines(told.services)
+    names: linesOf(told.names),
+    peers: snap.bytes,
+    asmap: map,
+    isCore: isCore(),
+    count: told.port.length,
+    share: null,
+    rows: {},
+    shares: {},
+    said: ""
   };
-  found.tries = found.success = found.share = null;
+  if (!told.chain) found.tries = found.success = null;
   found.newest = found.time.reduce((a, b) => Math.max(a, b), 0);
   found.used = { new: 0, tried: 0 };
   for (const table of TABLES)
     for (let i = FIRST[table]; i < END[table]; i++)
       if (found.slots[i] >= 0) found.used[table]++;
-  found.rows.sort(bySlots);
-  found.rows = found.rows.filter(row => slotsOf(row));
   return found;
 }
 
-// Asks for the view of a file. `tell` gets it once there are slots and the groups that their places
-// depend on; the rest is there when the promise is kept.
+// Adds the texts of addresses, as lists that are made when somebody reads them.
+function addTexts(view, texts) {
+  for (const name of TEXTS) {
+    let list = null;
+    Object.defineProperty(view, name, { get: () => list ||= linesOf(decoder.decode(texts[name])) });
+  }
+  view.hasTexts = true;
+}
+
+// Asks for the view of a file. `tell` gets it once its tables are open; texts and shares are there
+// when the promise is kept.
 async function readView(snap, tell) {
   const map = asmap && asmap.bytes;
   let found = null;
-  const details = await ask(
-    "view", { [snap.isJson ? "json" : "peers"]: snap.bytes, asmap: map },
+  const rest = await ask(
+    "view", { [snap.isJson ? "json" : "peers"]: snap.bytes, asmap: map, isCore: isCore() },
     told => {
-      found = { ...viewFrom(told), peers: snap.bytes, asmap: map };
+      found = viewFrom(told, snap, map);
       if (tell) tell(found);
     }
   );
-  Object.assign(found, details);
-  if (details.services !== undefined) found.services = details.services.split("\n");
-  countShares(found);
+  found.share = rest.share;
+  addTexts(found, rest.texts);
   return found;
-}
-
-// The share of picks of each group that `groups` would list: a record counts as its slots do.
-function countShares(view) {
-  if (!view.share) return;
-  const shares = new Float64Array(view.names.length);
-  view.share.forEach((share, r) => {
-    shares[view.table[r] ? view.group[r] : view.sourceGroup[r]] += share;
-  });
-  const byName = new Map();
-  view.names.forEach((name, g) => byName.set(name, (byName.get(name) || 0) + shares[g]));
-  for (const row of view.rows) row.share = byName.get(row.group);
-  view.rows.sort((a, b) => b.share - a.share || bySlots(a, b));
 }
 
 async function viewOf(i, tell) {
@@ -100,9 +99,28 @@ async function checkCounts() {
   const view = data;
   if (!view || !view.chain || view.agrees !== undefined) return;
   try {
-    const { peers, asmap, rows } = view;
-    view.agrees = await ask("agrees", { peers, asmap, rows });
+    const { peers, asmap, isCore } = view, rows = rowsBy(view, "placed");
+    view.agrees = await ask("agrees", { peers, asmap, isCore, rows });
     if (view === data) showNote();
+  } catch (error) { fail(error.message); }
+}
+
+// Has the program say which part of the picks falls to the groups that are listed.
+async function learnShares() {
+  const view = data;
+  if (!view || !view.chain) return;
+  try {
+    for (const by of RISKS[$("by").value]) {
+      if (view.shares[by]) continue;
+      const { peers, asmap, isCore } = view;
+      const { shares, errors } = await ask("risk", { peers, asmap, isCore, by });
+      view.shares[by] = new Map(shares.map(([group, ...parts]) => [group, parts]));
+      view.said = errors.trim();
+      if (view !== data) return;
+    }
+    showFacts();
+    showNote();
+    showGroups();
   } catch (error) { fail(error.message); }
 }
 
@@ -119,7 +137,7 @@ async function show(i) {
   showTime();
   try {
     const found = await viewOf(i, early => {
-      if (isOld() || needsBefore() || !EARLY_MODES.includes($("mode").value)) return;
+      if (isOld() || needsBefore() || NEEDS_TEXTS.includes($("mode").value)) return;
       data = early;
       showAll();
       setState("drawn");
@@ -133,7 +151,7 @@ async function show(i) {
     if (isOld()) return;
     showAll();
     setState("ready");
-    checking = setTimeout(checkCounts, CHECK_AFTER);
+    checking = setTimeout(() => learnShares().then(checkCounts), timer ? CHECK_AFTER : 0);
   } catch (error) {
     if (isOld()) return;
     data = null;

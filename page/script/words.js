@@ -4,7 +4,8 @@ const NEW_SLOTS = 65536, CELLS = 81920, DAY = 86400;
 const TABLES = ["new", "tried"], SIDE = { new: 32, tried: 16 };
 // Where the slots of each table begin and end among all slots.
 const FIRST = { new: 0, tried: NEW_SLOTS }, END = { new: NEW_SLOTS, tried: CELLS };
-const NETWORKS = ["ipv4", "ipv6", "onion", "i2p", "cjdns", "internal", "not publicly routable"];
+// By their numbers in the engine.
+const NETWORKS = ["not publicly routable", "ipv4", "ipv6", "onion", "i2p", "cjdns", "internal"];
 const SERVICES = {
   0: "NETWORK",
   2: "BLOOM",
@@ -36,15 +37,11 @@ function lengthText(seconds) {
 }
 
 // The services of a peer by their names.
-function servicesText(text) {
-  let bits;
-  try {
-    bits = BigInt(text);
-  } catch { return text; }
+function servicesText(bits) {
   const names = [];
   for (let i = 0n; i < 64n; i++)
     if (bits >> i & 1n) names.push(SERVICES[i] || `bit ${i}`);
-  return text + (names.length ? ` (${names.join(", ")})` : "");
+  return bits + (names.length ? ` (${names.join(", ")})` : "");
 }
 
 // The texts that are made of the elements of a list, one after another.

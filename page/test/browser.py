@@ -21,6 +21,9 @@ class Ended(Exception):
 
 
 class Browser:
+    # Whether `drop` can drop a folder.
+    drops_folders = False
+
     def wait(self, holds, limit=LIMIT):
         """Waits until an expression of the page holds."""
         end = time.time() + limit

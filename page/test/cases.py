@@ -1,6 +1,7 @@
 """What the page has to do, with a browser and a program to compare it with."""
 import json
 import os
+import re
 import time
 import xml.etree.ElementTree as ElementTree
 
@@ -9,12 +10,13 @@ import made
 TOP = os.path.dirname(os.path.dirname(os.path.dirname(os.path.abspath(__file__))))
 EXAMPLES = os.path.join(TOP, "examples")
 COUNTS = ("new_slots", "new_buckets", "new_records", "tried_records")
+RISK = re.compile(r"\w+ (.*): picks ([\d.]+) % new ([\d.]+) % tried ([\d.]+) %")
 SVG = "{http://www.w3.org/2000/svg}"
 NO_RAW = [
-    (b'{"new": {}}', 'there is no member "tried"'),
-    (b'{"new": {"1024/0": {}}, "tried": {}}', '"1024/0" is no place of the new table'),
-    (b'{"new": {"1/0": {}}, "tried": {}}', "1/0 of the new table is no record"),
-    (b'{"new": ', "not what getrawaddrman prints"),
+    (b'{"new": {}}', "form"),
+    (b'{"new": {"1024/0": {}}, "tried": {}}', "new member 0: slot"),
+    (b'{"new": {"1/0": {}}, "tried": {}}', "new/1/0: address"),
+    (b'{"new": ', "json"),
 ]
 
 
@@ -32,9 +34,9 @@ def records_of(raw):
     return [rec for table in raw.values() for rec in table.values()]
 
 
-def same_slots(browser, program, folder):
+def same_slots(browser, program, folder, options=()):
     """Compares slots and groups of the page with those of the program. Returns what that says."""
-    raw, groups, shown = made.said_of(program, folder)
+    raw, groups, shown = made.said_of(program, folder, options)
     slots = browser.js("return look.slots()")
     for table in ("new", "tried"):
         wanted = {
@@ -42,7 +44,7 @@ def same_slots(browser, program, folder):
             for place, rec in raw[table].items()
         }
         assert slots[table] == wanted, (folder, table)
-    assert rows_of(browser.js("return data.rows")) == rows_of(groups["groups"]), folder
+    assert rows_of(browser.js("return look.rows('placed')")) == rows_of(groups["groups"]), folder
     return raw, shown
 
 
@@ -62,6 +64,39 @@ def same_numbers(browser, program, folder):
     assert found.keys() == exact.keys(), folder
     worst = max((abs(found[peer] - share) for peer, share in exact.items()), default=0)
     assert worst < 1e-12, (folder, float(worst))
+
+
+def same_shares(browser, program, folder, options=()):
+    """Compares the shares of picks in the list of groups with what `risk` prints."""
+    parts, used = {}, {}
+    for by in ("source", "peer", "network"):
+        text = made.output(program, ["risk", by, *options], folder).decode()
+        words = text.splitlines()[0].split(" ")
+        used = {"new": int(words[2]), "tried": int(words[4])}
+        lines = [RISK.fullmatch(line).groups() for line in text.splitlines()[1:]]
+        parts[by] = {group: texts for group, *texts in lines}
+    for by, name in (("source", "source"), ("group", "peer"), ("network", "network")):
+        wanted = {group: texts[0] + " %" for group, texts in parts[name].items()}
+        assert dict(browser.js("return look.shares(arguments[0])", by)) == wanted, (folder, by)
+    info = json.loads(made.output(program, ["info", *options], folder))
+    by_network = browser.js("return look.rows('network')")
+    found = {row["group"]: [row["new_records"], row["tried_records"]] for row in by_network}
+    found.pop("not publicly routable", None)
+    wanted = {name: [of["new"], of["tried"]] for name, of in info.items() if of["total"]}
+    wanted.pop("all_networks", None)
+    assert found == wanted, (folder, found, wanted)
+    for by in ("source", "group", "network"):
+        slots = [row["new_slots"] for row in browser.js("return look.rows(arguments[0])", by)]
+        assert sum(slots) == browser.js("return data.used.new"), (folder, by)
+    wanted, none = {}, ["0.0000"] * 3
+    for group in parts["source"].keys() | parts["peer"].keys():
+        new = parts["source"].get(group, none)[1].replace(".", "")
+        tried = parts["peer"].get(group, none)[2].replace(".", "")
+        of = [int(part) for part, table in ((new, "new"), (tried, "tried")) if used[table]]
+        wanted[group] = f"{-(-sum(of) // len(of)) / 10000:.4f} %"
+    found = dict(browser.js("return look.shares('placed')"))
+    assert found == {group: wanted[group] for group in found}, folder
+    assert all(wanted[group] == "0.0000 %" for group in wanted.keys() - found.keys()), folder
 
 
 def moves(then, now):
@@ -113,6 +148,7 @@ class Cases:
             self.forget_asmap()
             (b.drop if i % 3 else b.give)(path, *with_asmap)
             same_numbers(b, self.program, folder)
+            same_shares(b, self.program, folder)
             assert not b.text("error"), name
         self.shot("made")
 
@@ -175,6 +211,28 @@ class Cases:
         b.key("/")
         assert b.js("return document.activeElement.id") == "search"
 
+    def test_the_pointer_shows_a_slot(self):
+        b, new = self.browser, self.raw_of("large")["new"]
+        for place in sorted(new)[:3]:
+            bucket, slot = map(int, place.split("/"))
+            b.js("look.point(arguments[0])", 64 * bucket + slot)
+            rec, said = new[place], b.text("slot")
+            day = time.strftime("%Y-%m-%d %H:%M", time.gmtime(rec["time"]))
+            for words in (f"bucket {bucket}, slot {slot}", made.text_of(rec), rec["source"], day):
+                assert words in said, (words, said)
+            lit = b.js("return look.litByTile('new').reduce((a, b) => a + b, 0)")
+            group = b.js("return highlight.name")
+            rows = b.js("return look.rows('placed')")
+            assert lit == next(row["new_slots"] for row in rows if row["group"] == group)
+            b.js("setHighlight(null)")
+
+    def test_a_folder_is_dropped(self):
+        b = self.browser
+        self.forget_asmap()
+        if b.drops_folders:
+            b.drop(os.path.join(self.folder, "large"))
+            same_slots(b, self.program, os.path.join(self.folder, "large"))
+
     def test_tables_are_read_as_text(self):
         b = self.browser
         b.js("$('peers-box').open = true")
@@ -188,7 +246,8 @@ class Cases:
 
     def test_sorting_puts_the_chosen_first(self):
         b = self.browser
-        b.js("$('sort').click(); setHighlight({ kind: 'group', name: data.rows[0].group })")
+        first = "{ kind: 'group', by: 'placed', name: look.rows('placed')[0].group }"
+        b.js(f"$('sort').click(); setHighlight({first})")
         for table in ("new", "tried"):
             counts = b.js("return look.litByTile(arguments[0])", table)
             assert counts == sorted(counts, reverse=True)
@@ -271,6 +330,25 @@ class Cases:
         assert b.text("error").strip() == native
         self.forget_asmap()
         b.drop(path)
+
+    def test_a_file_of_bitcoin_core_is_read_with_its_asmap(self):
+        b, folder = self.browser, os.path.join(self.folder, "core")
+        asmap = made.write(folder, "asmap.dat", made.read(os.path.join(EXAMPLES, "asmap.dat")))
+        log, words = made.read(os.path.join(EXAMPLES, "all-networks.log")), ("--core",)
+        b.drop(made.replayed(self.program, folder, log, words), asmap)
+        b.wait("data.said")
+        assert "Peers.dat was written by Bitcoin Core" in b.text("note"), b.text("note")
+        same_slots(b, self.program, folder)
+        b.begin("$('core').click()")
+        same_slots(b, self.program, folder, words)
+        same_shares(b, self.program, folder, words)
+        assert counts_agree(b) and not b.text("note")
+        b.js("look.keepDownloads(); $('save-picture').click()")
+        b.wait("window.kept")
+        picture = b.js("return window.kept.text()").encode()
+        assert picture == made.output(self.program, ["picture", *words], folder)
+        b.begin("$('core').click()")
+        self.forget_asmap()
 
     def test_saves_are_what_the_program_prints(self):
         b, folder = self.browser, os.path.join(self.folder, "large")

@@ -35,6 +35,7 @@ KEYS = {
 
 class Chromium(Browser):
     name = "chromium"
+    drops_folders = True
 
     def __init__(self, dark=False):
         self.folder = tempfile.mkdtemp(prefix="page-chromium-")

@@ -13,9 +13,60 @@ window.look = {
 
   // Each peer with its tries, last success, services and share of picks.
   peers() {
-    const of = (form, r) => [data.tries[r], data.success[r], data.services[r], data.share[r]];
-    return data.form.map((form, r) => [`${form}:${data.port[r]}`, ...of(form, r)]);
+    const of = r => [data.tries[r], data.success[r], String(data.services[r]), data.share[r]];
+    return data.form.map((form, r) => [`${form}:${data.port[r]}`, ...of(r)]);
   },
+
+  // The rows of the list of groups by what it is of.
+  rows: by => rowsBy(data, by),
+
+  // What the list shows as shares of picks, by the names of the groups, once it is by this.
+  async shares(by) {
+    const before = $("by").value;
+    $("by").value = by;
+    await learnShares();
+    const found = listedRows().map(row => [riskName(row.group), millionthsText(row.share)]);
+    $("by").value = before;
+    showGroups();
+    return found;
+  },
+
+  // Notes in `watched` how many milliseconds after the next drop tables are on the screen, all is
+  // known, and the shares of picks are there.
+  watch() {
+    window.watched = {};
+    let from = 0;
+    const note = name => { watched[name] ||= performance.now() - from; };
+    const afterFrame = work => requestAnimationFrame(() => setTimeout(work));
+    document.addEventListener("drop", () => { from = performance.now(); }, true);
+    const states = new MutationObserver(() => {
+      const { state } = document.documentElement.dataset;
+      if (!from || !data || state !== "drawn" && state !== "ready") return;
+      afterFrame(() => {
+        note("drawn");
+        if (document.documentElement.dataset.state === "ready") note("ready");
+      });
+    });
+    states.observe(document.documentElement, { attributes: true });
+    const rows = new MutationObserver(() => {
+      if (from && data && data.shares.peer) note("shares");
+    });
+    rows.observe($("groups"), { childList: true });
+  },
+
+  // How many milliseconds the middle one of so many calls takes.
+  middle(work, count) {
+    const times = Array.from({ length: count }, () => {
+      const from = performance.now();
+      work();
+      return performance.now() - from;
+    });
+    return times.sort((a, b) => a - b)[count >> 1];
+  },
+
+  // The same for drawing both maps anew, and for moving the cursor to another slot.
+  redraw: () => look.middle(() => showMode(), 25),
+  move: () => look.middle(() => moveTo((cursor || 0) + 4099 & 65535), 99),
 
   slotsInUse: () => data.used.new + data.used.tried,
   slotsOfClasses: () => classes.list.reduce((sum, one) => sum + one.count, 0),
@@ -42,6 +93,15 @@ window.look = {
   slotAtDot(x, y) {
     const box = $("new").getBoundingClientRect(), middle = at => scale.new * (at + 0.5);
     return slotUnder("new", { clientX: box.left + middle(x), clientY: box.top + middle(y) });
+  },
+
+  // Moves the pointer to a slot of the map of the new table, and clicks.
+  point(i) {
+    const box = $("new").getBoundingClientRect(), middle = at => scale.new * (at + 0.5);
+    const [x, y] = dotOf("new", i);
+    const where = { clientX: box.left + middle(x), clientY: box.top + middle(y), bubbles: true };
+    $("new").dispatchEvent(new PointerEvent("pointermove", where));
+    $("new").dispatchEvent(new MouseEvent("click", where));
   },
 
   // Keeps what would be downloaded in place of a download.

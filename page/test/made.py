@@ -75,6 +75,19 @@ def log_of(seed, messages, entries):
     return "".join([f"now {now}\n", *told, *tried]).encode()
 
 
+def full_log():
+    """A log that fills nearly all slots."""
+    draw, now, lines = random.Random(1), 1_700_000_000, ["now 1700000000\n"]
+    for _ in range(1200):
+        source = [draw.randrange(20, 90), draw.randrange(256), draw.randrange(256), 1]
+        peers = [[draw.randrange(20, 220), *draw.randbytes(2), 1 + draw.randrange(250)]
+                 for _ in range(400)]
+        entries = [entry_of(now - draw.randrange(20 * 86400), peer) for peer in peers]
+        lines.append(message_of(source, entries, draw.randrange(1 << 30)))
+        lines += [f"good {dotted(peer)}:8333 test\n" for peer in peers[:40]]
+    return "".join(lines).encode()
+
+
 def with_sum(body):
     """A file of this body with the sum that its bytes have."""
     return body + hashlib.sha256(hashlib.sha256(body).digest()).digest()
@@ -136,10 +149,10 @@ def text_of(rec):
     return (f"[{name}]" if ":" in name else name) + f":{rec['port']}"
 
 
-def said_of(program, folder):
+def said_of(program, folder, options=()):
     """What the program says of the files of a folder: raw, groups, show."""
     return (
-        json.loads(output(program, ["raw"], folder)),
-        json.loads(output(program, ["groups"], folder)),
-        output(program, ["show"], folder).decode(),
+        json.loads(output(program, ["raw", *options], folder)),
+        json.loads(output(program, ["groups", *options], folder)),
+        output(program, ["show", *options], folder).decode(),
     )

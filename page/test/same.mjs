@@ -41,6 +41,7 @@ function byEngine(words, files, log) {
   });
   most = Math.max(most, x.memory.buffer.byteLength);
   return {
+    memory: x.memory.buffer.byteLength,
     status,
     output: bytesAt(x.output_at(), x.output_len()),
     errors: bytesAt(x.errors_at(), x.errors_len()),
@@ -148,10 +149,22 @@ function withSaves(seed) {
   same(["replay", ...KEY], {}, [...log, "size", "dump", ""].join("\n"));
 }
 
+// Many saves: the folder keeps each file as it is, and nothing of what it was.
+function manySaves(count) {
+  const text = same(["gen", "3", "20000"]).output.toString();
+  const { files, memory } = same(["replay", ...KEY], {}, text + "save\n".repeat(count));
+  const all = count * files["peers.dat"].length;
+  if (memory > all / 4) {
+    different++;
+    console.log(`${count} saves of ${all / count} bytes took ${memory} bytes of memory`);
+  }
+}
+
 const imports = WebAssembly.Module.imports(module).length;
 examples();
 for (let seed = 1; seed <= Number(count); seed++) generated(seed);
 for (const seed of [1, 2]) withSaves(seed);
+manySaves(300);
 fs.rmSync(folder, { recursive: true });
 console.log(
   `${runs} runs, ${different} different; ${imports} imports; at most ${Math.ceil(most / 1e6)} MB`

@@ -2,6 +2,7 @@
 const JOBS = {
   view,
   agrees,
+  risk,
   covered,
   output,
   outputOfPeers,

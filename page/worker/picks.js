@@ -16,7 +16,7 @@ function chanceOf(tries) {
 
 // How many slots of its bucket a round may begin at so that it comes to each record.
 function startsOf(view, first, end) {
-  const starts = new Float64Array(view.name.length);
+  const starts = new Float64Array(view.tries.length);
   for (let bucket = first; bucket < end; bucket += 64) {
     const used = [];
     for (let slot = 0; slot < 64; slot++)
@@ -55,9 +55,9 @@ function weightsOf(starts, tries) {
   return total ? weights : null;
 }
 
-// The share of the picks that each record has; null if the tries of one are not known.
-function sharesOf(view, tries) {
-  if (tries.some(count => count < 0)) return null;
+// The share of the picks that each record has.
+function sharesOf(view) {
+  const { tries } = view;
   const shares = new Float64Array(tries.length), parts = [];
   for (const [first, end] of [[0, NEW_SLOTS], [NEW_SLOTS, CELLS]]) {
     const starts = startsOf(view, first, end), weights = weightsOf(starts, tries);

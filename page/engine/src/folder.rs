@@ -29,6 +29,11 @@ impl Files {
         self.files.get(name)?.as_deref()
     }
 
+    /// Returns the bytes of the file of this name.
+    pub fn file_of(&self, name: Name) -> Option<&[u8]> {
+        self.get(position(name))
+    }
+
     /// Removes all files.
     pub fn clear(&mut self) {
         *self = Files::new();

@@ -3,20 +3,27 @@
 //!
 //! The module has no import, so it can reach neither a file nor the network. A caller takes room
 //! with `room`, writes bytes there, and gives them away by `add_argument`, `set_log` or `set_file`.
-//! `run` uses up the arguments and the log, and changes the files as the program would. The calls
-//! of one instance are made one after another.
+//! `run` uses up the arguments and the log, and changes the files as the program would.
+//!
+//! What a page draws comes without a text between: `open_peers` and `open_raw` read a file by the
+//! same crates, and leave it as columns. The calls of one instance are made one after another.
 
+mod columns;
 mod folder;
+mod groups;
 mod keyed;
+mod open;
 // The program's own lines for standard error; the build puts the file there. What is in it of
 // output that nobody reads any more is of no use here.
 #[allow(dead_code)]
 #[path = "../second.rs"]
 mod second;
 mod state;
+mod texts;
 
 use crate::keyed::Keyed;
 use crate::state::state;
+use placing::SumRule;
 
 /// Takes room for `len` bytes. Returns 0 if there is no memory.
 #[unsafe(no_mangle)]
@@ -139,4 +146,43 @@ pub extern "C" fn file_len(name: u32) -> usize {
 #[unsafe(no_mangle)]
 pub extern "C" fn clear_output() {
     state().output = Vec::new();
+}
+
+/// Opens `peers.dat` under `asmap.dat`, if that is there, as columns; `is_core` is the option
+/// `--core`. Returns whether that was possible. If not, `run` of a command that reads both says
+/// why.
+#[unsafe(no_mangle)]
+pub extern "C" fn open_peers(is_core: bool) -> bool {
+    let rule = if is_core {
+        SumRule::Bits
+    } else {
+        SumRule::Bytes
+    };
+    state().open_peers(rule)
+}
+
+/// Opens the log, which is what `getrawaddrman` printed, as columns, with groups by `asmap.dat`.
+/// Returns whether that was possible. If not, the lines for standard error say why, unless they are
+/// empty: then `asmap.dat` is refused, and `run` says why.
+#[unsafe(no_mangle)]
+pub extern "C" fn open_raw() -> bool {
+    state().open_raw()
+}
+
+/// Writes the texts of the opened file's addresses. Returns whether there was memory.
+#[unsafe(no_mangle)]
+pub extern "C" fn write_texts() -> bool {
+    state().columns.write_texts().is_ok()
+}
+
+/// Returns where the bytes of a column of the opened file are.
+#[unsafe(no_mangle)]
+pub extern "C" fn column_at(column: u32) -> *const u8 {
+    state().columns.get(column as usize).as_ptr()
+}
+
+/// Returns how many bytes a column of the opened file has.
+#[unsafe(no_mangle)]
+pub extern "C" fn column_len(column: u32) -> usize {
+    state().columns.get(column as usize).len()
 }

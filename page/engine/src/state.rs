@@ -1,10 +1,13 @@
+use crate::columns::Columns;
 use crate::folder::{Files, Output};
 use crate::keyed::Keyed;
+use crate::open::{open_peers, open_raw};
 use crate::second::{Facts, second_lines};
 use addrman_run::{Learned, code, run_learning, status_line};
 use arguments::help_text;
-use hints::Saves;
+use hints::{Paths, Saves};
 use host_io::StdSource;
+use placing::SumRule;
 use plain_std::alloc::{AllocError, Global};
 use plain_std::string::String as Text;
 use plain_std::vec::Vec as Items;
@@ -32,6 +35,8 @@ pub struct State {
     /// The lines of the last run for standard error.
     pub errors: Vec<u8>,
     pub files: Files,
+    /// The tables that were opened last.
+    pub columns: Columns,
 }
 
 static mut STATE: State = State::new();
@@ -54,6 +59,7 @@ impl State {
             output: Vec::new(),
             errors: Vec::new(),
             files: Files::new(),
+            columns: Columns::new(),
         }
     }
 
@@ -68,6 +74,32 @@ impl State {
                 MEMORY
             }
         }
+    }
+
+    /// Opens `peers.dat` as columns, and returns whether that was possible. If not, a run says why.
+    pub fn open_peers(&mut self, rule: SumRule) -> bool {
+        self.columns = Columns::new();
+        match open_peers(&self.files, rule, self.key) {
+            Some(columns) => self.columns = columns,
+            None => return false,
+        }
+        true
+    }
+
+    /// Opens the log, which is what `getrawaddrman` printed, as columns. If that is not possible,
+    /// the lines for standard error say why, or a run does.
+    pub fn open_raw(&mut self) -> bool {
+        self.columns = Columns::new();
+        self.errors.clear();
+        let text = std::mem::take(&mut self.log);
+        match open_raw(&self.files, &text, self.key) {
+            Ok(columns) => self.columns = columns,
+            Err(why) => {
+                self.errors = why.into_bytes();
+                return false;
+            }
+        }
+        true
     }
 
     fn run_over(&mut self) -> Result<u32, AllocError> {
@@ -96,6 +128,7 @@ impl State {
             words,
             hint: "",
             learned: &learned,
+            paths: &Paths::none(),
             input: None,
             output: None,
             failure: "",

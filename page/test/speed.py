@@ -1,0 +1,74 @@
+#!/usr/bin/env python3
+"""speed.py [--only BROWSER] PROGRAM: how long the page takes for a file whose tables are full.
+
+Makes such a file, drops it on bin/page.html five times, and prints the middle one of each time in
+milliseconds: until the first picture is on the screen, until all is known, until the shares of
+picks are there; and for drawing both maps anew, and for moving the cursor to another slot. Ends
+with status 1 if the first picture takes more than a second, or if a move takes more than a frame of
+60 in a second.
+"""
+import argparse
+import json
+import os
+import statistics
+import sys
+import tempfile
+
+sys.dont_write_bytecode = True
+sys.path.insert(0, os.path.dirname(os.path.abspath(__file__)))
+
+import made  # noqa: E402
+from chromium import Chromium  # noqa: E402
+from firefox import Firefox  # noqa: E402
+from test_page import PAGE  # noqa: E402
+
+NAMES = ("first picture", "all known", "shares of picks", "maps drawn anew", "cursor moved")
+MOST = {"first picture": 1000, "cursor moved": 1000 / 60}
+
+
+def full_file(program, folder):
+    """A file with nearly all slots in use."""
+    path = made.replayed(program, folder, made.full_log())
+    raw = json.loads(made.output(program, ["raw"], folder))
+    print(f"{len(raw['new'])} slots of the new table and {len(raw['tried'])} of the tried one")
+    return path
+
+
+def times_of(browser, path):
+    """The times of one drop."""
+    browser.open(PAGE)
+    browser.js("look.watch()")
+    browser.drop(path)
+    browser.wait("watched.shares")
+    found = browser.js("return [watched.drawn, watched.ready, watched.shares]")
+    return [*found, *browser.js("return [look.redraw(), look.move()]")]
+
+
+def main():
+    parser = argparse.ArgumentParser(
+        description=__doc__, formatter_class=argparse.RawDescriptionHelpFormatter
+    )
+    parser.add_argument("--only", choices=["chromium", "firefox"])
+    parser.add_argument("program", type=os.path.abspath)
+    asked = parser.parse_args()
+    slow = 0
+    with tempfile.TemporaryDirectory(prefix="page-speed-") as folder:
+        path = full_file(asked.program, folder)
+        for kind in (Chromium, Firefox):
+            if asked.only not in (None, kind.name):
+                continue
+            browser = kind()
+            try:
+                browser.look(1280, 1000)
+                found = [times_of(browser, path) for _ in range(5)]
+            finally:
+                browser.end()
+            for name, times in zip(NAMES, zip(*found)):
+                middle = statistics.median(times)
+                slow += middle > MOST.get(name, middle)
+                print(f"{kind.name}: {name}: {middle:.0f} ms, {min(times):.0f} to {max(times):.0f}")
+    return 1 if slow else 0
+
+
+if __name__ == "__main__":
+    sys.exit(main())
