@@ -43,6 +43,7 @@ on("mode", "change", () => {
   if (highlight && highlight.kind === "class") highlight = null;
   if (GROUPINGS[$("mode").value] && $("by").value !== $("mode").value) {
     $("by").value = $("mode").value;
+    if (data) showFacts();
     learnShares();
   }
   if (!data) return;

@@ -31,23 +31,30 @@ function dotOf(table, i) {
   return [9 * (tile % SIDE[table]) + (slot & 7), 9 * Math.floor(tile / SIDE[table]) + (slot >> 3)];
 }
 
+// A colour as a pixel of an image, whose bytes are red, green, blue and how opaque it is.
+const pixelOf = ([red, green, blue]) => (255 << 24 | blue << 16 | green << 8 | red) >>> 0;
+
+// A table as an image, a pixel for each dot.
+function imageOf(table, paints, empty, faded) {
+  const size = sizeOf(table), image = new ImageData(size, size), side = SIDE[table];
+  const pixels = new Uint32Array(image.data.buffer), { of } = classes;
+  for (let i = FIRST[table]; i < END[table]; i++) {
+    const k = i - FIRST[table], tile = tileOf[table][k >> 6], slot = k & 63, c = of[i];
+    const x = 9 * (tile % side) + (slot & 7), y = 9 * (tile / side | 0) + (slot >> 3);
+    pixels[y * size + x] = c < 0 ? empty : !highlight || isLit(i) ? paints[c] : faded;
+  }
+  return image;
+}
+
 function drawMaps() {
   sortBuckets();
-  const paints = classes.list.map(c => colour(isOneColour() ? "--lit" : c.paint));
-  const empty = colour("--empty"), faded = colour("--faded");
+  const pixel = name => pixelOf(colour(name));
+  const paints = classes.list.map(c => pixel(isOneColour() ? "--lit" : c.paint));
+  const empty = pixel("--empty"), faded = pixel("--faded");
   for (const table of TABLES) {
-    const size = sizeOf(table), image = new ImageData(size, size), bytes = image.data;
-    for (let i = FIRST[table]; i < END[table]; i++) {
-      const [x, y] = dotOf(table, i), c = classes.of[i], p = 4 * (y * size + x);
-      const [red, green, blue] = c < 0 ? empty : isLit(i) ? paints[c] : faded;
-      bytes[p] = red;
-      bytes[p + 1] = green;
-      bytes[p + 2] = blue;
-      bytes[p + 3] = 255;
-    }
-    const bitmap = bitmaps[table] ||= document.createElement("canvas");
+    const size = sizeOf(table), bitmap = bitmaps[table] ||= document.createElement("canvas");
     bitmap.width = bitmap.height = size;
-    bitmap.getContext("2d").putImageData(image, 0, 0);
+    bitmap.getContext("2d").putImageData(imageOf(table, paints, empty, faded), 0, 0);
   }
   $("new-title").textContent = `New table: ${number(data.used.new)} of 65,536 slots`;
   $("tried-title").textContent = `Tried table: ${number(data.used.tried)} of 16,384 slots`;

@@ -9,22 +9,26 @@ const CHAINS = {
 };
 const NEW_SLOTS = 65536, CELLS = 81920;
 
-// The options that peers.dat is read with: its chain by its first bytes, and whether an asmap has
-// the checksum that Bitcoin Core takes. A signet of one's own has other bytes; of what cannot be
-// read that way either the program speaks as of a file of the main chain.
-function optionsOf({ "peers.dat": peers }, isCore) {
+// The option for the chain of peers.dat, by its first bytes. A signet of one's own has others; of
+// what cannot be read that way either the program speaks as of a file of the main chain.
+function chainOf(peers) {
   const magic = hexOf(peers.subarray(0, 4)), chain = CHAINS[magic];
-  const words = chain ? ["--net", chain] : ["--magic", magic];
-  return [...peers.length < 4 ? ["--net", "main"] : words, ...isCore ? ["--core"] : []];
+  if (chain || peers.length < 4) return ["--net", chain || "main"];
+  return ["--magic", magic];
 }
 
-// Opens peers.dat as columns. If the program refuses a file, the error is what it says.
+// The arguments of a command that reads peers.dat; `--core` comes first among the options.
+function wordsOf([command, ...rest], files, isCore) {
+  return [command, ...isCore ? ["--core"] : [], ...rest, ...chainOf(files["peers.dat"])];
+}
+
+// Opens peers.dat as columns, and returns its chain. If the program refuses a file, the error is
+// what it says.
 function openPeers(engine, files, isCore) {
-  const options = optionsOf(files, isCore);
+  const [option, chain] = chainOf(files["peers.dat"]);
   engine.setFiles(files);
-  if (engine.exports.open_peers(isCore)) return options;
-  const isKnown = options[0] === "--net";
-  engine.text(["info", ...isKnown ? options : ["--net", "main"]], files);
+  if (engine.exports.open_peers(isCore)) return chain;
+  engine.text(["info", "--net", option === "--net" ? chain : "main"], files);
   throw new Refused(12, "addrman: out of memory");
 }
 
@@ -32,7 +36,7 @@ function openPeers(engine, files, isCore) {
 function openRaw(engine, json, files) {
   engine.setFiles(files);
   engine.exports.set_log(...engine.give(json));
-  if (engine.exports.open_raw()) return;
+  if (engine.exports.open_raw()) return null;
   const errors = engine.errors();
   if (!errors) engine.text(["check"], files);
   throw new Refused(4, errors);
@@ -42,9 +46,9 @@ function openRaw(engine, json, files) {
 // and the texts of addresses.
 function view({ peers, json, asmap, isCore }, tell) {
   const engine = new Engine(), files = { "peers.dat": peers, "asmap.dat": asmap };
-  const options = json ? openRaw(engine, json, files) : openPeers(engine, files, isCore);
+  const chain = json ? openRaw(engine, json, files) : openPeers(engine, files, isCore);
   const columns = engine.columns();
-  tell({ ...columns, names: decoder.decode(columns.names), chain: options ? options[1] : null });
+  tell({ ...columns, names: decoder.decode(columns.names), chain });
   return { share: json ? null : sharesOf(columns), texts: engine.texts() };
 }
 
@@ -61,7 +65,7 @@ function isSameCounts(rows, printed) {
 // Whether the program counts the groups of a file so.
 function agrees({ peers, asmap, isCore, rows }) {
   const engine = new Engine(), files = { "peers.dat": peers, "asmap.dat": asmap };
-  const printed = engine.text(["groups", ...optionsOf(files, isCore)], files);
+  const printed = engine.text(wordsOf(["groups"], files, isCore), files);
   return isSameCounts(rows, JSON.parse(printed).groups);
 }
 
@@ -71,7 +75,7 @@ const LINE = /^\w+ (.*): picks ([\d.]+) % new ([\d.]+) % tried ([\d.]+) %$/;
 // from the tried one, in millionths; and what standard error says besides.
 function risk({ peers, asmap, isCore, by }) {
   const engine = new Engine(), files = { "peers.dat": peers, "asmap.dat": asmap };
-  const { text, errors } = engine.output(["risk", by, ...optionsOf(files, isCore)], files);
+  const { text, errors } = engine.output(wordsOf(["risk", by], files, isCore), files);
   const millionths = word => Number(word.replace(".", ""));
   const rows = text.split("\n").map(line => LINE.exec(line)).filter(Boolean);
   const shares =
@@ -104,5 +108,5 @@ const output = ({ words, files }) => new Engine().text(words, files);
 
 // The same of a command that takes the options of peers.dat, and other arguments after them.
 function outputOfPeers({ command, files, isCore, more }) {
-  return new Engine().text([command, ...optionsOf(files, isCore), ...(more || [])], files);
+  return new Engine().text([...wordsOf([command], files, isCore), ...(more || [])], files);
 }

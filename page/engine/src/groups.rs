@@ -59,7 +59,10 @@ impl<'a> Groups<'a> {
         if let Some(number) = self.numbers.get(&bytes) {
             return Ok(*number);
         }
-        let (number, name) = (self.numbers.len() as u32, name_of(Global, self.placer, addr)?);
+        let (number, name) = (
+            self.numbers.len() as u32,
+            name_of(Global, self.placer, addr)?,
+        );
         self.names.try_reserve(name.len() + 1)?;
         self.names.extend_from_slice(name.as_slice());
         self.names.push(b'\n');
