@@ -2,12 +2,12 @@
 use Rattle.std.proofs.Common.{◌≡◌, ℕ, suc, cond, ◌+◌, ◌≤◌, Bool, true, false, List, [], ◌∷◌, length, count_by, not, refl, ◌∙◌, arith}
 use Rattle.std.proofs.lemmas.List.Sums.{sum_by-cons}
 use Rattle.json.specs.Tree.{depth}
-use Rattle.table_machine.specs.State.{State}
 use Rattle.node_json.specs.Info.{info_json}
+use Rattle.table_groups.specs.View.{View}
 
-pub info_depth : (st : State) → depth (info_json st) ≤ 128
+pub info_depth : (view : View) → depth (info_json view) ≤ 128
 unfolding info_json
-info_depth st = omega arith
+info_depth view = omega arith
 
 one_more : (b : Bool) (n m l : ℕ) → n + m ≡ l → (cond (not b) 1 0 + n) + (cond b 1 0 + m) ≡ suc l
 one_more true n m l h = omega (arith, h)

@@ -15,9 +15,9 @@ use Rattle.table_groups.specs.Groups.{counted_address, counted_group, counted_of
 use Rattle.table_groups.specs.Tally.{once}
 use Rattle.table_groups.specs.declared.order.Counted.{Counted}
 use Rattle.table_machine.proofs.Lists.{Contains-head, Contains-tail, find-IsSome, find-None, find-Some}
-use Rattle.table_machine.specs.State.{State}
 use Rattle.node_json.specs.Groups.{ListsGroups, group_members, group_object, groups_array, items_by, row_items}
 use Rattle.node_json.specs.Value.{array_of, object_of}
+use Rattle.table_groups.specs.View.{View}
 
 -- a record, if there is one
 abbrev listed : Option Rec → List Rec
@@ -46,117 +46,117 @@ any-map k f (r ∷ recs) = by (bytes_eq k (f r)) (any-map k f recs)
     by true more = refl
     by false more = more
 
-module _ (st : State) where
+module _ (view : View) where
   abbrev pub groups : List (List ℕ)
-  groups = once (map (counted_group st.places) st.records)
+  groups = once (map (counted_group view.places) view.records)
 
   -- the first record of a group
   abbrev first_in : List ℕ → Option Rec
-  first_in g = find (counts_for st.places g) st.records
+  first_in g = find (counts_for view.places g) view.records
 
   -- those of some groups
   abbrev firsts : List Counted → List Rec
-  firsts cs = flat_map (λ c. listed (find (counts_for st.places c.group.items) st.records)) cs
+  firsts cs = flat_map (λ c. listed (find (counts_for view.places c.group.items) view.records)) cs
 
-  pub own : (r : Rec) → Contains st.records r → IsSome (find (counts_for st.places (counted_group st.places r)) st.records)
+  pub own : (r : Rec) → Contains view.records r → IsSome (find (counts_for view.places (counted_group view.places r)) view.records)
   own r known =
-      find-IsSome (counts_for st.places (counted_group st.places r)) st.records r known ((bytes_eq-Decides (counted_group st.places r) (counted_group st.places r)).1 refl)
+      find-IsSome (counts_for view.places (counted_group view.places r)) view.records r known ((bytes_eq-Decides (counted_group view.places r) (counted_group view.places r)).1 refl)
 
   -- a group that a record counts for is once among them
-  pub once-group : (r : Rec) → Contains st.records r → count_by (bytes_eq (counted_group st.places r)) groups ≡ 1
+  pub once-group : (r : Rec) → Contains view.records r → count_by (bytes_eq (counted_group view.places r)) groups ≡ 1
   once-group r known =
-      once-count (counted_group st.places r) (map (counted_group st.places) st.records)
-      ∙ ap one_if (any-map (counted_group st.places r) (counted_group st.places) st.records ∙ own r known)
+      once-count (counted_group view.places r) (map (counted_group view.places) view.records)
+      ∙ ap one_if (any-map (counted_group view.places r) (counted_group view.places) view.records ∙ own r known)
 
   -- ---- the text
 
-  row-is : (c : Counted) → row_items st.places (row_of st c) ≡ map (group_object st) (listed (find (counts_for st.places c.group.items) st.records))
-  row-is c = by (find (counts_for st.places c.group.items) st.records) refl
+  row-is : (c : Counted) → row_items view.places (row_of view c) ≡ map (group_object view) (listed (find (counts_for view.places c.group.items) view.records))
+  row-is c = by (find (counts_for view.places c.group.items) view.records) refl
     where
-      by : (o : Option Rec) → find (counts_for st.places c.group.items) st.records ≡ o
-          → items_by st.places (numbers_of st c.group.items) (option_map counted_address o) ≡ map (group_object st) (listed o)
+      by : (o : Option Rec) → find (counts_for view.places c.group.items) view.records ≡ o
+          → items_by view.places (numbers_of view c.group.items) (option_map counted_address o) ≡ map (group_object view) (listed o)
       by None e = refl
       by (Some r) e =
-          ap (λ (g : List ℕ). object_of (group_members st.places (numbers_of st g) (counted_address r)) ∷ [])
-          ((bytes_eq-Decides c.group.items (counted_group st.places r)).0 (find-Some (counts_for st.places c.group.items) st.records r e).1)
+          ap (λ (g : List ℕ). object_of (group_members view.places (numbers_of view g) (counted_address r)) ∷ [])
+          ((bytes_eq-Decides c.group.items (counted_group view.places r)).0 (find-Some (counts_for view.places c.group.items) view.records r e).1)
 
-  rows-are : (cs : List Counted) → flat_map (row_items st.places) (map (row_of st) cs) ≡ map (group_object st) (firsts cs)
+  rows-are : (cs : List Counted) → flat_map (row_items view.places) (map (row_of view) cs) ≡ map (group_object view) (firsts cs)
   rows-are [] = refl
   rows-are (c ∷ cs) =
-      (λ i. row-is c i ++ rows-are cs i) ∙ sym (map-append (group_object st) (listed (find (counts_for st.places c.group.items) st.records)) (firsts cs))
+      (λ i. row-is c i ++ rows-are cs i) ∙ sym (map-append (group_object view) (listed (find (counts_for view.places c.group.items) view.records)) (firsts cs))
 
-  array-is : groups_array st ≡ array_of (map (group_object st) (firsts (groups_in st)))
+  array-is : groups_array view ≡ array_of (map (group_object view) (firsts (groups_in view)))
   unfolding groups_array rows_of
-  array-is = ap array_of (rows-are (groups_in st))
+  array-is = ap array_of (rows-are (groups_in view))
 
   -- ---- the records
 
-  known-firsts : (cs : List Counted) → AllByRecursion (Contains st.records) (firsts cs)
+  known-firsts : (cs : List Counted) → AllByRecursion (Contains view.records) (firsts cs)
   known-firsts [] = tt
-  known-firsts (c ∷ cs) = by (find (counts_for st.places c.group.items) st.records) refl (known-firsts cs)
+  known-firsts (c ∷ cs) = by (find (counts_for view.places c.group.items) view.records) refl (known-firsts cs)
     where
-      by : (o : Option Rec) → find (counts_for st.places c.group.items) st.records ≡ o → AllByRecursion (Contains st.records) (firsts cs)
-          → AllByRecursion (Contains st.records) (listed o ++ firsts cs)
+      by : (o : Option Rec) → find (counts_for view.places c.group.items) view.records ≡ o → AllByRecursion (Contains view.records) (firsts cs)
+          → AllByRecursion (Contains view.records) (listed o ++ firsts cs)
       by None e more = more
-      by (Some r) e more = ((find-Some (counts_for st.places c.group.items) st.records r e).0, more)
+      by (Some r) e more = ((find-Some (counts_for view.places c.group.items) view.records r e).0, more)
 
   -- a group that a record counts for is that of as many first records as there are such groups
-  firsts-count : (r : Rec) → Contains st.records r → (cs : List Counted)
-      → count_by (λ q. bytes_eq (counted_group st.places q) (counted_group st.places r)) (firsts cs) ≡ count_by (λ c. bytes_eq c.group.items (counted_group st.places r)) cs
+  firsts-count : (r : Rec) → Contains view.records r → (cs : List Counted)
+      → count_by (λ q. bytes_eq (counted_group view.places q) (counted_group view.places r)) (firsts cs) ≡ count_by (λ c. bytes_eq c.group.items (counted_group view.places r)) cs
   firsts-count r known [] = refl
   firsts-count r known (c ∷ cs) =
-      sum_by-append (λ q. one_if (bytes_eq (counted_group st.places q) (counted_group st.places r))) (listed (find (counts_for st.places c.group.items) st.records)) (firsts cs)
-      ∙ (λ i. by (find (counts_for st.places c.group.items) st.records) refl (bytes_eq c.group.items (counted_group st.places r)) refl i + firsts-count r known cs i)
-      ∙ sym (count-cons (λ (d : Counted). bytes_eq d.group.items (counted_group st.places r)) c cs)
+      sum_by-append (λ q. one_if (bytes_eq (counted_group view.places q) (counted_group view.places r))) (listed (find (counts_for view.places c.group.items) view.records)) (firsts cs)
+      ∙ (λ i. by (find (counts_for view.places c.group.items) view.records) refl (bytes_eq c.group.items (counted_group view.places r)) refl i + firsts-count r known cs i)
+      ∙ sym (count-cons (λ (d : Counted). bytes_eq d.group.items (counted_group view.places r)) c cs)
     where
-      by : (o : Option Rec) → find (counts_for st.places c.group.items) st.records ≡ o → (b : Bool) → bytes_eq c.group.items (counted_group st.places r) ≡ b
-          → count_by (λ q. bytes_eq (counted_group st.places q) (counted_group st.places r)) (listed o) ≡ one_if (bytes_eq c.group.items (counted_group st.places r))
+      by : (o : Option Rec) → find (counts_for view.places c.group.items) view.records ≡ o → (b : Bool) → bytes_eq c.group.items (counted_group view.places r) ≡ b
+          → count_by (λ q. bytes_eq (counted_group view.places q) (counted_group view.places r)) (listed o) ≡ one_if (bytes_eq c.group.items (counted_group view.places r))
       by None e false f = sym (ap one_if f)
-      by None e true f = absurd (both_ways (counts_for st.places c.group.items r) (find-None (counts_for st.places c.group.items) st.records r e known) f)
+      by None e true f = absurd (both_ways (counts_for view.places c.group.items r) (find-None (counts_for view.places c.group.items) view.records r e known) f)
       by (Some q) e b f =
-          let same : c.group.items ≡ counted_group st.places q = (bytes_eq-Decides c.group.items (counted_group st.places q)).0 (find-Some (counts_for st.places c.group.items) st.records q e).1 in
-          count-cons (λ q. bytes_eq (counted_group st.places q) (counted_group st.places r)) q []
-          ∙ ap (λ (g : List ℕ). one_if (bytes_eq g (counted_group st.places r)) + 0) (sym same) ∙ omega arith
+          let same : c.group.items ≡ counted_group view.places q = (bytes_eq-Decides c.group.items (counted_group view.places q)).0 (find-Some (counts_for view.places c.group.items) view.records q e).1 in
+          count-cons (λ q. bytes_eq (counted_group view.places q) (counted_group view.places r)) q []
+          ∙ ap (λ (g : List ℕ). one_if (bytes_eq g (counted_group view.places r)) + 0) (sym same) ∙ omega arith
 
-  once-first : (r : Rec) → Contains st.records r → count_by (λ q. bytes_eq (counted_group st.places q) (counted_group st.places r)) (firsts (groups_in st)) ≡ 1
+  once-first : (r : Rec) → Contains view.records r → count_by (λ q. bytes_eq (counted_group view.places q) (counted_group view.places r)) (firsts (groups_in view)) ≡ 1
   unfolding groups_in
   once-first r known =
-      let k : List ℕ = counted_group st.places r in
-      firsts-count r known (groups_in st)
-      ∙ order-sum (λ (c : Counted). one_if (bytes_eq c.group.items k)) (map (counted_of st) groups) [] ∙ omega arith
-      ∙ count-map (λ (c : Counted). bytes_eq c.group.items k) (counted_of st) groups
+      let k : List ℕ = counted_group view.places r in
+      firsts-count r known (groups_in view)
+      ∙ order-sum (λ (c : Counted). one_if (bytes_eq c.group.items k)) (map (counted_of view) groups) [] ∙ omega arith
+      ∙ count-map (λ (c : Counted). bytes_eq c.group.items k) (counted_of view) groups
       ∙ (λ i. count_by (λ g. same-back g k i) groups)
       ∙ once-group r known
 
   -- ---- as many as there are groups
 
   abbrev IsFound : Counted → Type 0
-  IsFound c = IsSome (find (counts_for st.places c.group.items) st.records)
+  IsFound c = IsSome (find (counts_for view.places c.group.items) view.records)
 
-  all-found : AllByRecursion IsFound (groups_in st)
+  all-found : AllByRecursion IsFound (groups_in view)
   unfolding groups_in
   all-found =
-      order-all IsFound (map (counted_of st) groups) []
-      (counted-all IsFound (counted_of st) groups
-      (once-all (λ g. IsSome (find (counts_for st.places g) st.records)) (map (counted_group st.places) st.records)
-      (map-all (λ g. IsSome (find (counts_for st.places g) st.records)) (Contains st.records) (counted_group st.places) st.records own (each-known st.records))))
+      order-all IsFound (map (counted_of view) groups) []
+      (counted-all IsFound (counted_of view) groups
+      (once-all (λ g. IsSome (find (counts_for view.places g) view.records)) (map (counted_group view.places) view.records)
+      (map-all (λ g. IsSome (find (counts_for view.places g) view.records)) (Contains view.records) (counted_group view.places) view.records own (each-known view.records))))
       tt
 
   firsts-length : (cs : List Counted) → AllByRecursion IsFound cs → length (firsts cs) ≡ length cs
   firsts-length [] each = refl
   firsts-length (c ∷ cs) each =
-      length-append (listed (find (counts_for st.places c.group.items) st.records)) (firsts cs)
-      ∙ omega (arith, by (find (counts_for st.places c.group.items) st.records) each.0, firsts-length cs each.1)
+      length-append (listed (find (counts_for view.places c.group.items) view.records)) (firsts cs)
+      ∙ omega (arith, by (find (counts_for view.places c.group.items) view.records) each.0, firsts-length cs each.1)
     where
       by : (o : Option Rec) → IsSome o → length (listed o) ≡ 1
       by None is = absurd (both_ways false refl is)
       by (Some r) is = refl
 
-  pub lists-groups : ListsGroups st
+  pub lists-groups : ListsGroups view
   lists-groups = record {
-    recs = firsts (groups_in st);
-    known = All-from_recursion (Contains st.records) (firsts (groups_in st)) (known-firsts (groups_in st));
+    recs = firsts (groups_in view);
+    known = All-from_recursion (Contains view.records) (firsts (groups_in view)) (known-firsts (groups_in view));
     once = once-first;
     array = array-is;
-    count = firsts-length (groups_in st) all-found;
+    count = firsts-length (groups_in view) all-found;
   }

@@ -17,7 +17,6 @@ use Rattle.table_groups.specs.Groups.{rows_of}
 use Rattle.table_groups.specs.Names.{name_of}
 use Rattle.table_groups.specs.Plain.{IsPlain, is_plain}
 use Rattle.placing.specs.Places.{Places, asn}
-use Rattle.table_machine.specs.State.{State}
 use Rattle.table_groups.specs.declared.row.Numbers.{Numbers}
 use Rattle.table_groups.specs.declared.row.Row.{Row}
 use Rattle.node_json.specs.Groups.{group_members, groups_array, groups_json, groups_members, health_members, is_clearnet, items_by, number_members, row_items, totals_by}
@@ -25,6 +24,7 @@ use Rattle.node_json.specs.Inside.{items_tokens_of, tokens_of}
 use Rattle.node_json.specs.Value.{array_of, items_of, json_number, unless_zero}
 use Rattle.node_json.proofs.Items.{array_value, items-append}
 use Rattle.node_json.proofs.Tokens.{AreShallow, shallow-append, shallow_object, shallow_unless}
+use Rattle.table_groups.specs.View.{View}
 
 -- ---- texts
 
@@ -89,9 +89,9 @@ shallow_rows places (row ∷ rows) =
     items_depth-append 1 (row_items places row) (flat_map (row_items places) rows)
     (shallow_items places row.numbers row.first) (shallow_rows places rows)
 
-pub groups_depth : (st : State) → depth (groups_json st) ≤ 128
+pub groups_depth : (view : View) → depth (groups_json view) ≤ 128
 unfolding groups_json groups_members groups_array health_members totals_by
-groups_depth st = omega (arith, shallow_rows st.places (rows_of st))
+groups_depth view = omega (arith, shallow_rows view.places (rows_of view))
 
 -- ---- lengths
 

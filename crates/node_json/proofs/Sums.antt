@@ -1,6 +1,6 @@
 -- The slots and records of all groups are all of them.
 use Rattle.std.proofs.Common.{◌≡◌, ℕ, ◌+◌, ◌==◌, ◌&&◌, not, Bool, true, false, cond, List, [], length, map, refl, ap, subst, ◌∙◌, arith}
-use Rattle.std.specs.Prelude.{Contains, Option, Some, None, bytes_eq, is_some}
+use Rattle.std.specs.Prelude.{Contains, IfSome, Option, Some, None, bytes_eq, is_some}
 use Rattle.std.specs.List.{count_by, list_any, range_with_len, sum_by}
 use Rattle.std.proofs.lemmas.Bool.{and_parts, both_ways}
 use Rattle.peer_rec.specs.Rec.{buckets_by, buckets_of, is_tried, tried_by}
@@ -19,54 +19,64 @@ use Rattle.table_machine.proofs.Lists.{find-Some}
 use Rattle.table_machine.specs.State.{State, is_new_at, new_rec_at}
 use Rattle.node_json.proofs.Counts.{counts_all}
 use Rattle.node_json.proofs.Firsts.{each-known, groups, once-group}
+use Rattle.table_groups.specs.View.{View, view_of}
+use Rattle.node_json.specs.Groups.{ListsSlots}
 
 -- a record that has a bucket is of the new table
 new-if-bucket : (p : Place) (b : ℕ) → list_any (λ n. n == b) (buckets_by p) ≡ true → tried_by p ≡ false
 new-if-bucket (place.New bs) b any = refl
 new-if-bucket place.Tried b any = absurd (both_ways false refl any)
 
-module _ (st : State) where
-  -- the record of a slot is of one group
-  one-of-slot : (b s : ℕ) → sum_by (λ g. one_if (is_of st.places g (new_rec_at st b s))) (groups st) ≡ one_if (is_some (new_rec_at st b s))
-  one-of-slot b s = by (new_rec_at st b s) refl
-    where
-      by : (o : Option Rec) → new_rec_at st b s ≡ o → sum_by (λ g. one_if (is_of st.places g o)) (groups st) ≡ one_if (is_some o)
-      by None e = sum-none (groups st)
-      by (Some r) e =
-          let found = find-Some (is_new_at st.places b s) st.records r e in
-          let new : is_tried r ≡ false = new-if-bucket r.place b (and_parts (list_any (λ n. n == b) (buckets_of r)) (new_slot st.places r.peer b == s) found.1).0 in
-          let same : counted_group st.places r ≡ group st.places r.source = ap (λ (t : Bool). group st.places (cond t r.peer.addr r.source)) new in
-          subst (λ (k : List ℕ). count_by (bytes_eq k) (groups st) ≡ 1) same (once-group st r found.0)
+-- the records in the slots of a state's new table are listed
+pub lists-slots : (st : State) → ListsSlots (view_of st)
+lists-slots st bucket slot = by (new_rec_at st bucket slot) refl
+  where
+    by : (o : Option Rec) → new_rec_at st bucket slot ≡ o → IfSome o (λ r. Contains st.records r × (is_tried r ≡ false))
+    by None e = tt
+    by (Some r) e =
+        let found = find-Some (is_new_at st.places bucket slot) st.records r e in
+        (found.0, new-if-bucket r.place bucket (and_parts (list_any (λ n. n == bucket) (buckets_of r)) (new_slot st.places r.peer bucket == slot) found.1).0)
 
-  all-slots : sum_by (λ g. new_slots (is_of st.places g) st) (groups st) ≡ new_slots is_some st
+module _ (view : View) (listed : ListsSlots view) where
+  -- the record of a slot is of one group
+  one-of-slot : (b s : ℕ) → sum_by (λ g. one_if (is_of view.places g (view.new b s))) (groups view) ≡ one_if (is_some (view.new b s))
+  one-of-slot b s = by (view.new b s) (listed b s)
+    where
+      by : (o : Option Rec) → IfSome o (λ r. Contains view.records r × (is_tried r ≡ false)) → sum_by (λ g. one_if (is_of view.places g o)) (groups view) ≡ one_if (is_some o)
+      by None known = sum-none (groups view)
+      by (Some r) known =
+          let same : counted_group view.places r ≡ group view.places r.source = ap (λ (t : Bool). group view.places (cond t r.peer.addr r.source)) known.1 in
+          subst (λ (k : List ℕ). count_by (bytes_eq k) (groups view) ≡ 1) same (once-group view r known.0)
+
+  all-slots : sum_by (λ g. new_slots (is_of view.places g) view) (groups view) ≡ new_slots is_some view
   unfolding new_slots
   all-slots =
-      sum-turned (λ g b. count_by (λ s. is_of st.places g (new_rec_at st b s)) (range_with_len 0 64)) (groups st) (range_with_len 0 1024)
-      ∙ (λ i. sum_by (λ b. sum-turned (λ g s. one_if (is_of st.places g (new_rec_at st b s))) (groups st) (range_with_len 0 64) i) (range_with_len 0 1024))
+      sum-turned (λ g b. count_by (λ s. is_of view.places g (view.new b s)) (range_with_len 0 64)) (groups view) (range_with_len 0 1024)
+      ∙ (λ i. sum_by (λ b. sum-turned (λ g s. one_if (is_of view.places g (view.new b s))) (groups view) (range_with_len 0 64) i) (range_with_len 0 1024))
       ∙ (λ i. sum_by (λ b. sum_by (λ s. one-of-slot b s i) (range_with_len 0 64)) (range_with_len 0 1024))
 
   -- a record of the tried table is of one group
-  one-of-record : (r : Rec) → Contains st.records r → sum_by (λ g. one_if (is_tried r && counts_for st.places g r)) (groups st) ≡ one_if (is_tried r)
+  one-of-record : (r : Rec) → Contains view.records r → sum_by (λ g. one_if (is_tried r && counts_for view.places g r)) (groups view) ≡ one_if (is_tried r)
   one-of-record r known = by (is_tried r)
     where
-      by : (t : Bool) → sum_by (λ g. one_if (t && bytes_eq g (counted_group st.places r))) (groups st) ≡ one_if t
-      by false = sum-none (groups st)
-      by true = (λ i. sum_by (λ g. one_if (same-back g (counted_group st.places r) i)) (groups st)) ∙ once-group st r known
+      by : (t : Bool) → sum_by (λ g. one_if (t && bytes_eq g (counted_group view.places r))) (groups view) ≡ one_if t
+      by false = sum-none (groups view)
+      by true = (λ i. sum_by (λ g. one_if (same-back g (counted_group view.places r) i)) (groups view)) ∙ once-group view r known
 
-  all-tried : sum_by (λ g. count_by (λ r. is_tried r && counts_for st.places g r) st.records) (groups st) ≡ count_by is_tried st.records
+  all-tried : sum_by (λ g. count_by (λ r. is_tried r && counts_for view.places g r) view.records) (groups view) ≡ count_by is_tried view.records
   all-tried =
-      sum-turned (λ g r. one_if (is_tried r && counts_for st.places g r)) (groups st) st.records
-      ∙ sum-same (Contains st.records) (λ r. sum_by (λ g. one_if (is_tried r && counts_for st.places g r)) (groups st)) (λ r. one_if (is_tried r)) st.records
-      (each-known st.records) one-of-record
+      sum-turned (λ g r. one_if (is_tried r && counts_for view.places g r)) (groups view) view.records
+      ∙ sum-same (Contains view.records) (λ r. sum_by (λ g. one_if (is_tried r && counts_for view.places g r)) (groups view)) (λ r. one_if (is_tried r)) view.records
+      (each-known view.records) one-of-record
 
-  pub rows_add_up : sum_by (λ row. row.numbers.slots + row.numbers.tried) (rows_of st) ≡ new_slots is_some st + count_by is_tried st.records
+  pub rows_add_up : sum_by (λ row. row.numbers.slots + row.numbers.tried) (rows_of view) ≡ new_slots is_some view + count_by is_tried view.records
   unfolding rows_of groups_in
   rows_add_up =
-      let f : Counted → ℕ = λ c. (numbers_of st c.group.items).slots + (numbers_of st c.group.items).tried in
-      sum-map (λ (row : Row). row.numbers.slots + row.numbers.tried) (row_of st) (groups_in st)
-      ∙ order-sum f (map (counted_of st) (groups st)) [] ∙ omega arith
-      ∙ sum-map f (counted_of st) (groups st)
-      ∙ sum-both (λ g. new_slots (is_of st.places g) st) (λ g. count_by (λ r. is_tried r && counts_for st.places g r) st.records) (groups st)
+      let f : Counted → ℕ = λ c. (numbers_of view c.group.items).slots + (numbers_of view c.group.items).tried in
+      sum-map (λ (row : Row). row.numbers.slots + row.numbers.tried) (row_of view) (groups_in view)
+      ∙ order-sum f (map (counted_of view) (groups view)) [] ∙ omega arith
+      ∙ sum-map f (counted_of view) (groups view)
+      ∙ sum-both (λ g. new_slots (is_of view.places g) view) (λ g. count_by (λ r. is_tried r && counts_for view.places g r) view.records) (groups view)
       ∙ (λ i. all-slots i + all-tried i)
 
 -- those with an AS number and those without are all

@@ -1,5 +1,5 @@
 -- The groups of the tables: how many slots, buckets and records each has.
-use Rattle.std.specs.Prelude.{◌≡◌, ℕ, All, Bool, Contains, true, false, not, List, [], ◌∷◌, ◌++◌, length, map, Option, Some, None, bytes_eq, codes, count_by, filter, fold, if◌then◌else◌, is_some, ◌==◌, ◌||◌}
+use Rattle.std.specs.Prelude.{◌≡◌, ℕ, All, Bool, Contains, IfSome, true, false, not, List, [], ◌∷◌, ◌++◌, length, map, Option, Some, None, bytes_eq, codes, count_by, filter, fold, if◌then◌else◌, is_some, ◌==◌, ◌||◌}
 use Rattle.std.specs.List.{flat_map, list_any}
 use Rattle.json.specs.Json.{Json, string}
 use Rattle.net_addr.specs.Address.{Address}
@@ -14,8 +14,8 @@ use Rattle.table_groups.specs.Names.{name_of}
 use Rattle.table_groups.specs.Slots.{new_slots}
 use Rattle.table_groups.specs.declared.row.Numbers.{Numbers}
 use Rattle.table_groups.specs.declared.row.Row.{Row}
-use Rattle.table_machine.specs.State.{State}
 use Rattle.node_json.specs.Value.{Member, array_of, json_number, object_of, unless_zero}
+use Rattle.table_groups.specs.View.{View}
 
 -- A GROUP
 
@@ -39,24 +39,29 @@ items_by places n (Some a) = object_of (group_members places n a) ∷ []
 abbrev pub row_items : Places → Row → List Json
 row_items places row = items_by places row.numbers row.first
 
-unfoldable pub groups_array : State → Json
-groups_array st = array_of (flat_map (row_items st.places) (rows_of st))
+unfoldable pub groups_array : View → Json
+groups_array view = array_of (flat_map (row_items view.places) (rows_of view))
 
 -- the object of this group
-abbrev pub group_object : State → Rec → Json
-group_object st r =
-    object_of (group_members st.places (numbers_of st (counted_group st.places r))
+abbrev pub group_object : View → Rec → Json
+group_object view r =
+    object_of (group_members view.places (numbers_of view (counted_group view.places r))
     (counted_address r))
+
+-- each record in a slot of the new table is one of the records, and not of the tried table
+abbrev pub ListsSlots : View → Type 0
+ListsSlots view = (bucket slot : ℕ) →
+    IfSome (view.new bucket slot) (λ r. Contains view.records r × (is_tried r ≡ false))
 
 -- The array has one object for each group that a record counts for, and no other: those of some
 -- records, of which one has the group of each record. There are as many as the totals say.
-pub record ListsGroups (st : State) : Type 0 where
+pub record ListsGroups (view : View) : Type 0 where
   pub recs : List Rec
-  pub known : All (Contains st.records) recs
-  pub once : (r : Rec) → Contains st.records r →
-      count_by (λ q. bytes_eq (counted_group st.places q) (counted_group st.places r)) recs ≡ 1
-  pub array : groups_array st ≡ array_of (map (group_object st) recs)
-  pub count : length recs ≡ length (groups_in st)
+  pub known : All (Contains view.records) recs
+  pub once : (r : Rec) → Contains view.records r →
+      count_by (λ q. bytes_eq (counted_group view.places q) (counted_group view.places r)) recs ≡ 1
+  pub array : groups_array view ≡ array_of (map (group_object view) recs)
+  pub count : length recs ≡ length (groups_in view)
 
 -- THE WHOLE
 
@@ -66,10 +71,10 @@ totals_by groups slots records tried =
     (codes "groups", json_number groups) ∷ (codes "new_slots", json_number slots)
     ∷ (codes "new_records", json_number records) ∷ (codes "tried_records", json_number tried) ∷ []
 
-abbrev pub totals_members : State → List Member
-totals_members st =
-    totals_by (length (groups_in st)) (new_slots is_some st)
-    (count_by (λ r. not (is_tried r)) st.records) (count_by is_tried st.records)
+abbrev pub totals_members : View → List Member
+totals_members view =
+    totals_by (length (groups_in view)) (new_slots is_some view)
+    (count_by (λ r. not (is_tried r)) view.records) (count_by is_tried view.records)
 
 -- the records whose address an asmap can map
 abbrev pub is_clearnet_class : Net → Bool
@@ -81,9 +86,9 @@ abbrev pub is_clearnet : Rec → Bool
 is_clearnet r = is_clearnet_class (net_class r.peer.addr)
 
 -- the AS number of each of these records, 0 if it has none
-unfoldable pub clearnet_numbers : State → List ℕ
-clearnet_numbers st =
-    map (λ r. asn st.places.map r.peer.addr) (filter is_clearnet st.records)
+unfoldable pub clearnet_numbers : View → List ℕ
+clearnet_numbers view =
+    map (λ r. asn view.places.map r.peer.addr) (filter is_clearnet view.records)
 
 -- a number more, unless it is 0 or there
 abbrev pub with_number : List ℕ → ℕ → List ℕ
@@ -100,10 +105,10 @@ health_members numbers =
     ∷ (codes "as_numbers", json_number (length (known_numbers numbers)))
     ∷ (codes "unmapped", json_number (count_by (λ n. n == 0) numbers)) ∷ []
 
-unfoldable pub groups_members : State → List Member
-groups_members st =
-    (codes "groups", groups_array st) ∷ (codes "totals", object_of (totals_members st))
-    ∷ (codes "asmap", object_of (health_members (clearnet_numbers st))) ∷ []
+unfoldable pub groups_members : View → List Member
+groups_members view =
+    (codes "groups", groups_array view) ∷ (codes "totals", object_of (totals_members view))
+    ∷ (codes "asmap", object_of (health_members (clearnet_numbers view))) ∷ []
 
-unfoldable pub groups_json : State → Json
-groups_json st = object_of (groups_members st)
+unfoldable pub groups_json : View → Json
+groups_json view = object_of (groups_members view)

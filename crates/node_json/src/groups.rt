@@ -22,8 +22,7 @@ use std::alloc::{AllocError, Global};
 use std::hash::BuildHasher;
 use std::sync::ledger::Ledger;
 use steps::Steps;
-use table_groups::{Lent, Numbers, Row, name_of, names_are_plain, new_slots, rows_of};
-use tables::Tables;
+use table_groups::{Lent, Numbers, Row, TableView, name_of, names_are_plain, new_slots, rows_of};
 
 /// Appends the numbers of a group.
 #[tactic(auto, unfolding(crate::specs::Groups::number_members))]
@@ -270,43 +269,37 @@ fn put_array(
 }
 
 /// Appends the members of the whole, from all records.
-fn put_members<L: Ledger, H: BuildHasher, G: BuildHasher>(
+fn put_members<L: Ledger, T: TableView, G: BuildHasher>(
     alloc: Global,
     hasher: &G,
     json: &mut Pretty,
-    tables: &Tables<'_, H>,
+    tables: &T,
     recs: &[Rec],
     steps: &mut Steps<L>,
 ) -> Result<(), Memory>
-    requires { recs.now ≡ tables.now.records }
-    ensures { OnOk result (json.new ≡ json.old ++ tokens_of (groups_members tables.now)) }
+    requires { recs.now ≡ (T.view tables.now).records }
+    ensures { OnOk result (json.new ≡ json.old ++ tokens_of (groups_members (T.view tables.now))) }
 {
-    let counts = tables.counts();
+    let counts = tables.sizes();
     let rows = rows_of(alloc, hasher, tables, recs, steps)?;
     let slots = new_slots(tables, steps);
-    let numbers = clearnet_numbers(alloc, tables.placer(), recs)?;
-    put_array(alloc, json, tables.placer(), rows.as_slice())?;
-    put_totals(
-        json,
-        rows.len() as u64,
-        slots,
-        counts.new_count,
-        counts.tried_count,
-    )?;
+    let numbers = clearnet_numbers(alloc, tables.places(), recs)?;
+    put_array(alloc, json, tables.places(), rows.as_slice())?;
+    put_totals(json, rows.len() as u64, slots, counts.0, counts.1)?;
     put_asmap(alloc, hasher, json, numbers.as_slice())?;
     Ok(())
 }
 
 /// Returns the text of the groups of the tables.
-pub fn groups_text<L: Ledger, H: BuildHasher, G: BuildHasher>(
+pub fn groups_text<L: Ledger, T: TableView, G: BuildHasher>(
     alloc: Global,
     hasher: &G,
-    tables: &Tables<'_, H>,
+    tables: &T,
     steps: &mut Steps<L>,
 ) -> Result<Vec<u8>, Memory>
-    ensures { IfOk result (λ text. IsJsonText (groups_json tables.now) text.items) }
+    ensures { IfOk result (λ text. IsJsonText (groups_json (T.view tables.now)) text.items) }
 {
-    let recs = tables.recs(steps)?;
+    let recs = tables.records(steps)?;
     let mut json = Pretty::new(alloc);
     json.token(Token::BeginObject)?;
     put_members(alloc, hasher, &mut json, tables, recs.items(), steps)?;

@@ -17,9 +17,9 @@ use Rattle.table_groups.specs.declared.sources.Source.{Source}
 use Rattle.table_groups.proofs.Once.{once-count, same-back}
 use Rattle.table_groups.proofs.Sorted.{IsUp, order-all, order-sum, order-up}
 use Rattle.table_groups.proofs.Visits.{count-cons, count-map, one_if}
-use Rattle.table_machine.specs.State.{State}
 use Rattle.table_picture.specs.Picture.{listed_of}
 use Rattle.picture_laws.specs.Slots.{listed_groups}
+use Rattle.table_groups.specs.View.{View}
 
 pub map-map : {A B C : Type 0} (f : B → C) (g : A → B) (xs : List A) → map f (map g xs) ≡ map (λ x. f (g x)) xs
 map-map f g [] = refl
@@ -114,55 +114,55 @@ first-have p m (suc n) (x ∷ xs) up some own =
     let slots : found.0.slots ≡ m = found.2.1 found.1 in
     (omega (arith, slots, no-more found.0 x found.2.0), first-have p m n xs up.1 some own.1)
 
-module _ (st : State) where
+module _ (view : View) where
   abbrev pub ordered : List Counted
-  ordered = in_order (map (counted_source st) (once (slot_groups st)))
+  ordered = in_order (map (counted_source view) (once (slot_groups view)))
 
   pub ordered-up : IsUp ordered
-  ordered-up = order-up (map (counted_source st) (once (slot_groups st))) [] tt
+  ordered-up = order-up (map (counted_source view) (once (slot_groups view))) [] tt
 
   -- each has the slots of its group
-  pub ordered-own : AllByRecursion (λ c. c.slots ≡ all_slots (is_of st.places c.group.items) st) ordered
+  pub ordered-own : AllByRecursion (λ c. c.slots ≡ all_slots (is_of view.places c.group.items) view) ordered
   ordered-own =
-      order-all (λ c. c.slots ≡ all_slots (is_of st.places c.group.items) st) (map (counted_source st) (once (slot_groups st))) []
-      (all-map (λ c. c.slots ≡ all_slots (is_of st.places c.group.items) st) (counted_source st) (once (slot_groups st)) (own (once (slot_groups st)))) tt
+      order-all (λ c. c.slots ≡ all_slots (is_of view.places c.group.items) view) (map (counted_source view) (once (slot_groups view))) []
+      (all-map (λ c. c.slots ≡ all_slots (is_of view.places c.group.items) view) (counted_source view) (once (slot_groups view)) (own (once (slot_groups view)))) tt
     where
-      own : (gs : List (List ℕ)) → AllByRecursion (λ g. all_slots (is_of st.places g) st ≡ all_slots (is_of st.places g) st) gs
+      own : (gs : List (List ℕ)) → AllByRecursion (λ g. all_slots (is_of view.places g) view ≡ all_slots (is_of view.places g) view) gs
       own [] = tt
       own (g ∷ gs) = (refl, own gs)
 
   -- each group is once among them, if a slot is of it
-  pub ordered-once : (g : List ℕ) → count_by (λ c. bytes_eq c.group.items g) ordered ≡ one_if (list_any (bytes_eq g) (slot_groups st))
+  pub ordered-once : (g : List ℕ) → count_by (λ c. bytes_eq c.group.items g) ordered ≡ one_if (list_any (bytes_eq g) (slot_groups view))
   ordered-once g =
-      order-sum (λ (c : Counted). one_if (bytes_eq c.group.items g)) (map (counted_source st) (once (slot_groups st))) [] ∙ omega arith
-      ∙ count-map (λ (c : Counted). bytes_eq c.group.items g) (counted_source st) (once (slot_groups st))
-      ∙ (λ i. count_by (λ h. same-back h g i) (once (slot_groups st)))
-      ∙ once-count g (slot_groups st)
+      order-sum (λ (c : Counted). one_if (bytes_eq c.group.items g)) (map (counted_source view) (once (slot_groups view))) [] ∙ omega arith
+      ∙ count-map (λ (c : Counted). bytes_eq c.group.items g) (counted_source view) (once (slot_groups view))
+      ∙ (λ i. count_by (λ h. same-back h g i) (once (slot_groups view)))
+      ∙ once-count g (slot_groups view)
 
   -- the listed ones are the first six
-  pub listed-are : listed_of st ≡ map (source_of st) (take 6 ordered)
+  pub listed-are : listed_of view ≡ map (source_of view) (take 6 ordered)
   unfolding listed_of sources_of
-  listed-are = take-map (source_of st) 6 ordered
+  listed-are = take-map (source_of view) 6 ordered
 
-  pub groups-are : listed_groups st ≡ map (λ c. c.group.items) (take 6 ordered)
-  groups-are = ap (map (λ (s : Source). s.group.items)) listed-are ∙ map-map (λ (s : Source). s.group.items) (source_of st) (take 6 ordered)
+  pub groups-are : listed_groups view ≡ map (λ c. c.group.items) (take 6 ordered)
+  groups-are = ap (map (λ (s : Source). s.group.items)) listed-are ∙ map-map (λ (s : Source). s.group.items) (source_of view) (take 6 ordered)
 
-  pub groups-few : length (listed_groups st) ≤ 6
+  pub groups-few : length (listed_groups view) ≤ 6
   groups-few = omega (arith, ap length groups-are, length-map (take 6 ordered) (λ (c : Counted). c.group.items), length-take 6 ordered)
 
-  pub groups-times : (g : List ℕ) → count_by (λ h. bytes_eq h g) (listed_groups st) ≡ count_by (λ c. bytes_eq c.group.items g) (take 6 ordered)
+  pub groups-times : (g : List ℕ) → count_by (λ h. bytes_eq h g) (listed_groups view) ≡ count_by (λ c. bytes_eq c.group.items g) (take 6 ordered)
   groups-times g = ap (count_by (λ h. bytes_eq h g)) groups-are ∙ count-map (λ h. bytes_eq h g) (λ (c : Counted). c.group.items) (take 6 ordered)
 
   few-if : (b : Bool) → one_if b ≤ 1
   few-if true = omega arith
   few-if false = omega arith
 
-  pub groups-once : (g : List ℕ) → count_by (λ h. bytes_eq h g) (listed_groups st) ≤ 1
+  pub groups-once : (g : List ℕ) → count_by (λ h. bytes_eq h g) (listed_groups view) ≤ 1
   groups-once g =
       omega (
         arith,
         groups-times g,
         sum_by-take-le (λ (c : Counted). one_if (bytes_eq c.group.items g)) ordered 6,
         ordered-once g,
-        few-if (list_any (bytes_eq g) (slot_groups st)),
+        few-if (list_any (bytes_eq g) (slot_groups view)),
       )

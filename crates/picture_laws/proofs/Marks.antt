@@ -15,11 +15,11 @@ use Rattle.table_groups.specs.Slots.{all_slots, new_slots, tried_slots}
 use Rattle.table_groups.specs.declared.sources.Source.{Source}
 use Rattle.table_groups.proofs.Once.{same-back}
 use Rattle.table_groups.proofs.Visits.{count-flat, count-map, one_if}
-use Rattle.table_machine.specs.Picks.{bucket_count, occupant_at}
-use Rattle.table_machine.specs.State.{State, new_rec_at, tried_rec_at}
+use Rattle.table_machine.specs.Picks.{bucket_count}
 use Rattle.table_picture.specs.Marks.{marks_by, rec_mark, table_marks}
 use Rattle.table_picture.proofs.Slots.{bucket-length, table-length}
 use Rattle.picture_laws.specs.Slots.{is_other}
+use Rattle.table_groups.specs.View.{View, occupant_at}
 
 -- ---- the mark of a record
 
@@ -79,48 +79,48 @@ at_slot f a (suc n) (suc b) s each lt slot =
     ∙ at_slot f (a + 1) n b s each (omega arith) slot
     ∙ ap (λ (k : ℕ). get_or (f k) s 0) (omega arith)
 
-module _ (st : State) (listed : List Source) where
+module _ (view : View) (listed : List Source) where
   abbrev mark : Option Rec → ℕ
-  mark o = rec_mark st.places listed o
+  mark o = rec_mark view.places listed o
 
   -- the mark of one slot
-  pub mark-at : (in_new : Bool) (b s : ℕ) → b < bucket_count in_new → s < 64 → get_or (table_marks st listed in_new) (64 * b + s) 0 ≡ mark (occupant_at st in_new b s)
+  pub mark-at : (in_new : Bool) (b s : ℕ) → b < bucket_count in_new → s < 64 → get_or (table_marks view listed in_new) (64 * b + s) 0 ≡ mark (occupant_at view in_new b s)
   unfolding table_marks
   mark-at in_new b s bucket slot =
-      at_slot (λ k. map (λ i. mark (occupant_at st in_new k i)) (range_with_len 0 64)) 0 (bucket_count in_new) b s (bucket-length st listed in_new) bucket slot
-      ∙ ap (λ (k : ℕ). get_or (map (λ i. mark (occupant_at st in_new k i)) (range_with_len 0 64)) s 0) (omega arith)
-      ∙ get_or-map-range_with_len (λ i. mark (occupant_at st in_new b i)) 0 64 s s 0 slot (omega arith)
+      at_slot (λ k. map (λ i. mark (occupant_at view in_new k i)) (range_with_len 0 64)) 0 (bucket_count in_new) b s (bucket-length view listed in_new) bucket slot
+      ∙ ap (λ (k : ℕ). get_or (map (λ i. mark (occupant_at view in_new k i)) (range_with_len 0 64)) s 0) (omega arith)
+      ∙ get_or-map-range_with_len (λ i. mark (occupant_at view in_new b i)) 0 64 s s 0 slot (omega arith)
 
-  new-length : 65536 ≡ length (table_marks st listed true)
-  new-length = omega (arith, table-length st listed true)
+  new-length : 65536 ≡ length (table_marks view listed true)
+  new-length = omega (arith, table-length view listed true)
 
-  pub in-new : in_new (marks_by st listed) ≡ table_marks st listed true
+  pub in-new : in_new (marks_by view listed) ≡ table_marks view listed true
   unfolding in_new marks_by
   in-new =
-      ap (λ (n : ℕ). take n (table_marks st listed true ++ table_marks st listed false)) new-length
-      ∙ take-append_seam (table_marks st listed true) (table_marks st listed false)
+      ap (λ (n : ℕ). take n (table_marks view listed true ++ table_marks view listed false)) new-length
+      ∙ take-append_seam (table_marks view listed true) (table_marks view listed false)
 
-  pub in-tried : in_tried (marks_by st listed) ≡ table_marks st listed false
+  pub in-tried : in_tried (marks_by view listed) ≡ table_marks view listed false
   unfolding in_tried marks_by
   in-tried =
-      ap (λ (n : ℕ). drop n (table_marks st listed true ++ table_marks st listed false)) new-length
-      ∙ drop-front (table_marks st listed true) (table_marks st listed false)
+      ap (λ (n : ℕ). drop n (table_marks view listed true ++ table_marks view listed false)) new-length
+      ∙ drop-front (table_marks view listed true) (table_marks view listed false)
 
   module _ (p : ℕ → Bool) (test : Option Rec → Bool) (same : (o : Option Rec) → p (mark o) ≡ test o) where
-    count-new : count_by p (table_marks st listed true) ≡ new_slots test st
+    count-new : count_by p (table_marks view listed true) ≡ new_slots test view
     unfolding table_marks new_slots
-    count-new = count-buckets p (λ b s. mark (new_rec_at st b s)) (λ b s. test (new_rec_at st b s)) (range_with_len 0 64) (range_with_len 0 1024) (λ b s. same (new_rec_at st b s))
+    count-new = count-buckets p (λ b s. mark (view.new b s)) (λ b s. test (view.new b s)) (range_with_len 0 64) (range_with_len 0 1024) (λ b s. same (view.new b s))
 
-    count-tried : count_by p (table_marks st listed false) ≡ tried_slots test st
+    count-tried : count_by p (table_marks view listed false) ≡ tried_slots test view
     unfolding table_marks tried_slots
-    count-tried = count-buckets p (λ b s. mark (tried_rec_at st b s)) (λ b s. test (tried_rec_at st b s)) (range_with_len 0 64) (range_with_len 0 256) (λ b s. same (tried_rec_at st b s))
+    count-tried = count-buckets p (λ b s. mark (view.tried b s)) (λ b s. test (view.tried b s)) (range_with_len 0 64) (range_with_len 0 256) (λ b s. same (view.tried b s))
 
-    pub count-all : count_by p (marks_by st listed) ≡ all_slots test st
+    pub count-all : count_by p (marks_by view listed) ≡ all_slots test view
     unfolding marks_by
-    count-all = sum_by-append (λ m. one_if (p m)) (table_marks st listed true) (table_marks st listed false) ∙ (λ i. count-new i + count-tried i)
+    count-all = sum_by-append (λ m. one_if (p m)) (table_marks view listed true) (table_marks view listed false) ∙ (λ i. count-new i + count-tried i)
 
-    pub count-in-new : count_by p (in_new (marks_by st listed)) ≡ new_slots test st
+    pub count-in-new : count_by p (in_new (marks_by view listed)) ≡ new_slots test view
     count-in-new = ap (count_by p) in-new ∙ count-new
 
-    pub count-in-tried : count_by p (in_tried (marks_by st listed)) ≡ tried_slots test st
+    pub count-in-tried : count_by p (in_tried (marks_by view listed)) ≡ tried_slots test view
     count-in-tried = ap (count_by p) in-tried ∙ count-tried

@@ -7,9 +7,9 @@ use Rattle.placing.specs.Places.{Places, group}
 use Rattle.table_groups.specs.Slots.{is_of, new_slots, tried_slots}
 use Rattle.table_groups.proofs.Once.{sum-both, sum-none, sum-turned}
 use Rattle.table_groups.proofs.Visits.{one_if}
-use Rattle.table_machine.specs.State.{State, new_rec_at, tried_rec_at}
 use Rattle.picture_laws.specs.Slots.{is_other}
 use Rattle.picture_laws.proofs.Listed.{there-or-not}
+use Rattle.table_groups.specs.View.{View}
 
 module _ (places : Places) (gs : List (List ℕ)) (once : (g : List ℕ) → count_by (bytes_eq g) gs ≤ 1) where
   -- a record is of one of the groups, or another one
@@ -31,10 +31,10 @@ module _ (places : Places) (gs : List (List ℕ)) (once : (g : List ℕ) → cou
         ∙ sym (sum-both (λ b. sum_by (λ g. count_by (λ s. is_of places g (rec_at b s)) slots) gs) (λ b. count_by (λ s. is_other places gs (rec_at b s)) slots) buckets)
         ∙ (λ i. sum_by (λ b. of-bucket b i) buckets)
 
-  pub new-parts : (st : State) → sum_by (λ g. new_slots (is_of places g) st) gs + new_slots (is_other places gs) st ≡ new_slots is_some st
+  pub new-parts : (view : View) → sum_by (λ g. new_slots (is_of places g) view) gs + new_slots (is_other places gs) view ≡ new_slots is_some view
   unfolding new_slots
-  new-parts st = of-table (new_rec_at st) (range_with_len 0 64) (range_with_len 0 1024)
+  new-parts view = of-table (view.new) (range_with_len 0 64) (range_with_len 0 1024)
 
-  pub tried-parts : (st : State) → sum_by (λ g. tried_slots (is_of places g) st) gs + tried_slots (is_other places gs) st ≡ tried_slots is_some st
+  pub tried-parts : (view : View) → sum_by (λ g. tried_slots (is_of places g) view) gs + tried_slots (is_other places gs) view ≡ tried_slots is_some view
   unfolding tried_slots
-  tried-parts st = of-table (tried_rec_at st) (range_with_len 0 64) (range_with_len 0 256)
+  tried-parts view = of-table (view.tried) (range_with_len 0 64) (range_with_len 0 256)

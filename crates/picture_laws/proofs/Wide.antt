@@ -14,9 +14,9 @@ use Rattle.table_groups.specs.declared.order.Counted.{Counted}
 use Rattle.table_groups.specs.declared.sources.Source.{Source}
 use Rattle.table_groups.proofs.Buckets.{groups-count}
 use Rattle.table_groups.proofs.Visits.{count-cons, count-map, one_if}
-use Rattle.table_machine.specs.State.{State, new_rec_at}
 use Rattle.picture_laws.specs.Counts.{CountsWide}
 use Rattle.picture_laws.proofs.Listed.{ordered, ordered-once, some-any}
+use Rattle.table_groups.specs.View.{View}
 
 any-counts : (p : ℕ → Bool) (xs : List ℕ) → one_if (list_any p xs) ≤ count_by p xs
 any-counts p [] = omega arith
@@ -38,9 +38,9 @@ fewer-buckets test slots (b ∷ bs) =
       fewer-buckets test slots bs,
     )
 
-fewer : (st : State) (test : Option Rec → Bool) → new_buckets test st ≤ new_slots test st
+fewer : (view : View) (test : Option Rec → Bool) → new_buckets test view ≤ new_slots test view
 unfolding new_buckets new_slots
-fewer st test = fewer-buckets (λ b s. test (new_rec_at st b s)) (range_with_len 0 64) (range_with_len 0 1024)
+fewer view test = fewer-buckets (λ b s. test (view.new b s)) (range_with_len 0 64) (range_with_len 0 1024)
 
 filter-length : (p : List ℕ → Bool) (gs : List (List ℕ)) → length (filter p gs) ≡ count_by p gs
 filter-length p [] = refl
@@ -71,15 +71,15 @@ filter-times p g (h ∷ gs) =
     by true e true f false i whole kept more = absurd (both_ways (p g) i (ap p (sym ((bytes_eq-Decides h g).0 f)) ∙ e))
     by false e b f false i whole kept more = more ∙ ap (λ (t : Bool). cond t (count_by (λ k. bytes_eq k g) gs) 0) i
 
-module _ (st : State) where
+module _ (view : View) where
   abbrev is_wide : List ℕ → Bool
-  is_wide g = nat_lt 32 (new_buckets (is_of st.places g) st)
+  is_wide g = nat_lt 32 (new_buckets (is_of view.places g) view)
 
   abbrev all : List (List ℕ)
-  all = map (λ c. c.group.items) (ordered st)
+  all = map (λ c. c.group.items) (ordered view)
 
-  times : (g : List ℕ) → count_by (λ h. bytes_eq h g) all ≡ one_if (list_any (bytes_eq g) (slot_groups st))
-  times g = count-map (λ h. bytes_eq h g) (λ (c : Counted). c.group.items) (ordered st) ∙ ordered-once st g
+  times : (g : List ℕ) → count_by (λ h. bytes_eq h g) all ≡ one_if (list_any (bytes_eq g) (slot_groups view))
+  times g = count-map (λ h. bytes_eq h g) (λ (c : Counted). c.group.items) (ordered view) ∙ ordered-once view g
 
   each : (g : List ℕ) → count_by (λ h. bytes_eq h g) (filter is_wide all) ≡ cond (is_wide g) 1 0
   each g = filter-times is_wide g all ∙ by (is_wide g) refl
@@ -87,15 +87,15 @@ module _ (st : State) where
       by : (b : Bool) → is_wide g ≡ b → cond b (count_by (λ h. bytes_eq h g) all) 0 ≡ cond b 1 0
       by false e = refl
       by true e =
-          let many = ltb-true 32 (new_buckets (is_of st.places g) st) e in
-          times g ∙ ap one_if (some-any (bytes_eq g) (slot_groups st) (omega (arith, many, fewer st (is_of st.places g), groups-count st g)))
+          let many = ltb-true 32 (new_buckets (is_of view.places g) view) e in
+          times g ∙ ap one_if (some-any (bytes_eq g) (slot_groups view) (omega (arith, many, fewer view (is_of view.places g), groups-count view g)))
 
-  line : wide_of (sources_of st) ≡ length (filter is_wide all)
+  line : wide_of (sources_of view) ≡ length (filter is_wide all)
   unfolding sources_of
   line =
-      count-map (λ (s : Source). nat_lt 32 s.buckets) (source_of st) (ordered st)
-      ∙ sym (count-map is_wide (λ (c : Counted). c.group.items) (ordered st))
+      count-map (λ (s : Source). nat_lt 32 s.buckets) (source_of view) (ordered view)
+      ∙ sym (count-map is_wide (λ (c : Counted). c.group.items) (ordered view))
       ∙ sym (filter-length is_wide all)
 
-  pub counts-wide : CountsWide st
+  pub counts-wide : CountsWide view
   counts-wide = record { groups = filter is_wide all; each = each; line = ap wide_text line }

@@ -5,10 +5,10 @@ use Rattle.dot_runs.specs.Rects.{dot_x, dot_y, dots_over, table_rects}
 use Rattle.dot_runs.specs.Runs.{Run, rect_text}
 use Rattle.dot_runs.specs.Tables.{path_text}
 use Rattle.slot_grid.specs.declared.sizes.TheConstants.{NEW_BUCKETS, SLOTS, TRIED_BUCKETS}
-use Rattle.table_machine.specs.State.{State, new_rec_at, tried_rec_at}
 use Rattle.picture_text.specs.Picture.{in_new, in_tried}
 use Rattle.table_picture.specs.Marks.{rec_mark}
 use Rattle.table_picture.specs.Picture.{listed_of, marks_of}
+use Rattle.table_groups.specs.View.{View}
 
 -- the marks of the rectangles that cover the dot of a slot in a map, `side` tiles wide
 abbrev pub marks_at : ℕ → List ℕ → ℕ → ℕ → List ℕ
@@ -25,12 +25,12 @@ rects_of mark side marks = filter (λ p. p.1.mark == mark) (table_rects side mar
 
 -- Of the rectangles of all marks one covers the dot of each slot, and it has the mark of the slot's
 -- record. The path of a mark draws the rectangles of this mark; no path has the mark 0.
-pub record DrawsSlots (st : State) : Type 0 where
+pub record DrawsSlots (view : View) : Type 0 where
   pub new : (bucket slot : ℕ) → bucket < NEW_BUCKETS → slot < SLOTS →
-      marks_at 32 (in_new (marks_of st)) bucket slot
-      ≡ rec_mark st.places (listed_of st) (new_rec_at st bucket slot) ∷ []
+      marks_at 32 (in_new (marks_of view)) bucket slot
+      ≡ rec_mark view.places (listed_of view) (view.new bucket slot) ∷ []
   pub tried : (bucket slot : ℕ) → bucket < TRIED_BUCKETS → slot < SLOTS →
-      marks_at 16 (in_tried (marks_of st)) bucket slot
-      ≡ rec_mark st.places (listed_of st) (tried_rec_at st bucket slot) ∷ []
+      marks_at 16 (in_tried (marks_of view)) bucket slot
+      ≡ rec_mark view.places (listed_of view) (view.tried bucket slot) ∷ []
   pub paths : (mark side : ℕ) (marks : List ℕ) →
       path_text mark side marks ≡ flat_map rect_of (rects_of mark side marks)

@@ -9,7 +9,6 @@ use Rattle.std.proofs.lemmas.List.Folds.{list_any-append}
 use Rattle.std.proofs.lemmas.List.Sums.{fold-append, sum_by-append, sum_by-cons}
 use Rattle.peer_rec.specs.declared.rec.Rec.{Rec}
 use Rattle.placing.specs.Places.{Places, group}
-use Rattle.table_machine.specs.State.{State, new_rec_at, tried_rec_at}
 use Rattle.table_groups.specs.Inside.{all_by, slots_by}
 use Rattle.table_groups.specs.Slots.{is_of, new_buckets, new_slots, tried_slots}
 use Rattle.table_groups.specs.Sources.{bucket_groups, slot_groups, source_groups}
@@ -19,6 +18,7 @@ use Rattle.table_groups.specs.declared.slot_numbers.SlotNumbers.{SlotNumbers}
 use Rattle.table_groups.proofs.Once.{same-back}
 use Rattle.table_groups.proofs.Values.{all-written, groups-are}
 use Rattle.table_groups.proofs.Visits.{after-tried, buckets-are, count-cons, count-flat, few-slots, none-tried, one_if, slots-are, visit-groups}
+use Rattle.table_groups.specs.View.{View}
 
 module _ (places : Places) (g : List ℕ) where
   -- a slot is one of the group, or none
@@ -43,64 +43,64 @@ module _ (places : Places) (g : List ℕ) where
       list_any-append (bytes_eq g) (source_groups places (rec_at s)) (flat_map (λ t. source_groups places (rec_at t)) slots)
       ∙ (λ i. any-slot (rec_at s) i || any-slots rec_at slots i)
 
-pub slots-of : (st : State) (g : List ℕ) → (value_in no_slots (slots_by st) g).slots ≡ new_slots (is_of st.places g) st
+pub slots-of : (view : View) (g : List ℕ) → (value_in no_slots (slots_by view) g).slots ≡ new_slots (is_of view.places g) view
 unfolding slots_by new_slots
-slots-of st g = slots-are (bucket_groups st true) 1024 g ∙ (λ i. sum_by (λ b. count-slots st.places g (new_rec_at st b) (range_with_len 0 64) i) (range_with_len 0 1024))
+slots-of view g = slots-are (bucket_groups view true) 1024 g ∙ (λ i. sum_by (λ b. count-slots view.places g (view.new b) (range_with_len 0 64) i) (range_with_len 0 1024))
 
-pub buckets-of : (st : State) (g : List ℕ) → (value_in no_slots (slots_by st) g).buckets ≡ new_buckets (is_of st.places g) st
+pub buckets-of : (view : View) (g : List ℕ) → (value_in no_slots (slots_by view) g).buckets ≡ new_buckets (is_of view.places g) view
 unfolding slots_by new_buckets
-buckets-of st g = buckets-are (bucket_groups st true) 1024 g ∙ (λ i. count_by (λ b. any-slots st.places g (new_rec_at st b) (range_with_len 0 64) i) (range_with_len 0 1024))
+buckets-of view g = buckets-are (bucket_groups view true) 1024 g ∙ (λ i. count_by (λ b. any-slots view.places g (view.new b) (range_with_len 0 64) i) (range_with_len 0 1024))
 
 none-plus : (n : ℕ) → 0 + n ≡ n
 none-plus n = omega arith
 
 -- the numbers of a group in both tables
-module _ (st : State) (g : List ℕ) where
+module _ (view : View) (g : List ℕ) where
   abbrev before : SlotNumbers
-  before = value_in no_slots (slots_by st) g
+  before = value_in no_slots (slots_by view) g
 
   abbrev tried-visits : ℕ
-  tried-visits = sum_by (λ b. count_by (bytes_eq g) (bucket_groups st false b)) (range_with_len 0 256)
+  tried-visits = sum_by (λ b. count_by (bytes_eq g) (bucket_groups view false b)) (range_with_len 0 256)
 
-  all-is : value_in no_slots (all_by st) g ≡ record { slots = before.slots; buckets = before.buckets; tried = before.tried + tried-visits; last = before.last }
+  all-is : value_in no_slots (all_by view) g ≡ record { slots = before.slots; buckets = before.buckets; tried = before.tried + tried-visits; last = before.last }
   unfolding all_by
-  all-is = after-tried (slots_by st) (bucket_groups st false) 256 g
+  all-is = after-tried (slots_by view) (bucket_groups view false) 256 g
 
-  pub all-slots-of : (value_in no_slots (all_by st) g).slots ≡ new_slots (is_of st.places g) st
-  all-slots-of = ap (λ (m : SlotNumbers). m.slots) all-is ∙ slots-of st g
+  pub all-slots-of : (value_in no_slots (all_by view) g).slots ≡ new_slots (is_of view.places g) view
+  all-slots-of = ap (λ (m : SlotNumbers). m.slots) all-is ∙ slots-of view g
 
-  pub all-buckets-of : (value_in no_slots (all_by st) g).buckets ≡ new_buckets (is_of st.places g) st
-  all-buckets-of = ap (λ (m : SlotNumbers). m.buckets) all-is ∙ buckets-of st g
+  pub all-buckets-of : (value_in no_slots (all_by view) g).buckets ≡ new_buckets (is_of view.places g) view
+  all-buckets-of = ap (λ (m : SlotNumbers). m.buckets) all-is ∙ buckets-of view g
 
   none-before : before.tried ≡ 0
   unfolding slots_by
-  none-before = none-tried (visits_of (bucket_groups st true) 0 1024) g
+  none-before = none-tried (visits_of (bucket_groups view true) 0 1024) g
 
-  pub all-tried-of : (value_in no_slots (all_by st) g).tried ≡ tried_slots (is_of st.places g) st
+  pub all-tried-of : (value_in no_slots (all_by view) g).tried ≡ tried_slots (is_of view.places g) view
   unfolding tried_slots
   all-tried-of =
       ap (λ (m : SlotNumbers). m.tried) all-is ∙ ap (λ (n : ℕ). n + tried-visits) none-before ∙ none-plus tried-visits
-      ∙ (λ i. sum_by (λ b. count-slots st.places g (tried_rec_at st b) (range_with_len 0 64) i) (range_with_len 0 256))
+      ∙ (λ i. sum_by (λ b. count-slots view.places g (view.tried b) (range_with_len 0 64) i) (range_with_len 0 256))
 
 -- the groups of the slots of both tables, each once
-pub all-groups : (st : State) → groups_of (all_by st) ≡ once (slot_groups st)
+pub all-groups : (view : View) → groups_of (all_by view) ≡ once (slot_groups view)
 unfolding all_by slots_by slot_groups
-all-groups st =
-    let new : List (List ℕ × ℕ) = visits_of (bucket_groups st true) 0 1024 in
-    let tried : List (List ℕ × ℕ) = visits_of (bucket_groups st false) 0 256 in
-    all-written no_slots (with_slot false) tried (slots_by st)
-    ∙ (λ i. fold with_group (groups-are no_slots (with_slot true) new i) (visit-groups (bucket_groups st false) 0 256 i))
-    ∙ (λ i. fold with_group (once (visit-groups (bucket_groups st true) 0 1024 i)) (flat_map (bucket_groups st false) (range_with_len 0 256)))
-    ∙ sym (fold-append with_group [] (flat_map (bucket_groups st true) (range_with_len 0 1024)) (flat_map (bucket_groups st false) (range_with_len 0 256)))
+all-groups view =
+    let new : List (List ℕ × ℕ) = visits_of (bucket_groups view true) 0 1024 in
+    let tried : List (List ℕ × ℕ) = visits_of (bucket_groups view false) 0 256 in
+    all-written no_slots (with_slot false) tried (slots_by view)
+    ∙ (λ i. fold with_group (groups-are no_slots (with_slot true) new i) (visit-groups (bucket_groups view false) 0 256 i))
+    ∙ (λ i. fold with_group (once (visit-groups (bucket_groups view true) 0 1024 i)) (flat_map (bucket_groups view false) (range_with_len 0 256)))
+    ∙ sym (fold-append with_group [] (flat_map (bucket_groups view true) (range_with_len 0 1024)) (flat_map (bucket_groups view false) (range_with_len 0 256)))
 
 -- the slots of a group among those of all
-pub groups-count : (st : State) (g : List ℕ) → count_by (bytes_eq g) (slot_groups st) ≡ new_slots (is_of st.places g) st + tried_slots (is_of st.places g) st
+pub groups-count : (view : View) (g : List ℕ) → count_by (bytes_eq g) (slot_groups view) ≡ new_slots (is_of view.places g) view + tried_slots (is_of view.places g) view
 unfolding slot_groups new_slots tried_slots
-groups-count st g =
-    sum_by-append (λ h. one_if (bytes_eq g h)) (flat_map (bucket_groups st true) (range_with_len 0 1024)) (flat_map (bucket_groups st false) (range_with_len 0 256))
-    ∙ (λ i. count-flat (bytes_eq g) (bucket_groups st true) (range_with_len 0 1024) i + count-flat (bytes_eq g) (bucket_groups st false) (range_with_len 0 256) i)
-    ∙ (λ i. sum_by (λ b. count-slots st.places g (new_rec_at st b) (range_with_len 0 64) i) (range_with_len 0 1024)
-    + sum_by (λ b. count-slots st.places g (tried_rec_at st b) (range_with_len 0 64) i) (range_with_len 0 256))
+groups-count view g =
+    sum_by-append (λ h. one_if (bytes_eq g h)) (flat_map (bucket_groups view true) (range_with_len 0 1024)) (flat_map (bucket_groups view false) (range_with_len 0 256))
+    ∙ (λ i. count-flat (bytes_eq g) (bucket_groups view true) (range_with_len 0 1024) i + count-flat (bytes_eq g) (bucket_groups view false) (range_with_len 0 256) i)
+    ∙ (λ i. sum_by (λ b. count-slots view.places g (view.new b) (range_with_len 0 64) i) (range_with_len 0 1024)
+    + sum_by (λ b. count-slots view.places g (view.tried b) (range_with_len 0 64) i) (range_with_len 0 256))
 
 -- ---- the loops
 

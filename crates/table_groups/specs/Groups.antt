@@ -5,13 +5,13 @@ use Rattle.net_addr.specs.Address.{Address}
 use Rattle.peer_rec.specs.Rec.{is_tried}
 use Rattle.peer_rec.specs.declared.rec.Rec.{Rec}
 use Rattle.placing.specs.Places.{Places, group}
-use Rattle.table_machine.specs.State.{State}
 use Rattle.table_groups.specs.Order.{in_order}
 use Rattle.table_groups.specs.Slots.{is_of, new_buckets, new_slots}
 use Rattle.table_groups.specs.Tally.{once}
 use Rattle.table_groups.specs.declared.order.Counted.{Counted}
 use Rattle.table_groups.specs.declared.row.Numbers.{Numbers}
 use Rattle.table_groups.specs.declared.row.Row.{Row}
+use Rattle.table_groups.specs.View.{View}
 
 -- WHAT COUNTS
 
@@ -32,33 +32,37 @@ counts_for places g r = bytes_eq g (counted_group places r)
 
 -- its slots and buckets of the new table, by the sources of the records there, and its records of
 -- either table
-abbrev pub numbers_of : State → List ℕ → Numbers
-numbers_of st g = record {
-  slots = new_slots (is_of st.places g) st;
-  buckets = new_buckets (is_of st.places g) st;
-  records = count_by (λ r. not (is_tried r) && counts_for st.places g r) st.records;
-  tried = count_by (λ r. is_tried r && counts_for st.places g r) st.records;
+abbrev pub numbers_of : View → List ℕ → Numbers
+numbers_of view g = record {
+  slots = new_slots (is_of view.places g) view;
+  buckets = new_buckets (is_of view.places g) view;
+  records = count_by (λ r. not (is_tried r) && counts_for view.places g r) view.records;
+  tried = count_by (λ r. is_tried r && counts_for view.places g r) view.records;
 }
 
 -- the address of its first record
-abbrev pub first_of : State → List ℕ → Option Address
-first_of st g = option_map counted_address (find (counts_for st.places g) st.records)
+abbrev pub first_of : View → List ℕ → Option Address
+first_of view g = option_map counted_address (find (counts_for view.places g) view.records)
 
 -- THE GROUPS IN ORDER
 
 -- the group, and how many slots of the new table and records of the tried one it has
-abbrev pub counted_of : State → List ℕ → Counted
-counted_of st g = record {
+abbrev pub counted_of : View → List ℕ → Counted
+counted_of view g = record {
   group = record { items = g };
-  slots = (numbers_of st g).slots + (numbers_of st g).tried;
+  slots = (numbers_of view g).slots + (numbers_of view g).tried;
 }
 
 -- the groups that a record counts for
-unfoldable pub groups_in : State → List Counted
-groups_in st = in_order (map (counted_of st) (once (map (counted_group st.places) st.records)))
+unfoldable pub groups_in : View → List Counted
+groups_in view =
+    in_order (map (counted_of view) (once (map (counted_group view.places) view.records)))
 
-abbrev pub row_of : State → Counted → Row
-row_of st c = record { first = first_of st c.group.items; numbers = numbers_of st c.group.items }
+abbrev pub row_of : View → Counted → Row
+row_of view c = record {
+  first = first_of view c.group.items;
+  numbers = numbers_of view c.group.items;
+}
 
-unfoldable pub rows_of : State → List Row
-rows_of st = map (row_of st) (groups_in st)
+unfoldable pub rows_of : View → List Row
+rows_of view = map (row_of view) (groups_in view)

@@ -5,7 +5,6 @@ use Rattle.peer_rec.specs.Rec.{is_tried}
 use Rattle.peer_rec.specs.declared.rec.Rec.{Rec}
 use Rattle.placing.specs.Places.{Places}
 use Rattle.slot_grid.specs.declared.sizes.TheConstants.{NEW_BUCKETS, TRIED_BUCKETS}
-use Rattle.table_machine.specs.State.{State}
 use Rattle.table_groups.specs.Groups.{counted_address, counted_group}
 use Rattle.table_groups.specs.Sources.{bucket_groups}
 use Rattle.table_groups.specs.Tally.{noted, tally_of, value_in}
@@ -15,6 +14,7 @@ use Rattle.table_groups.specs.declared.record_numbers.RecordNumbers.{RecordNumbe
 use Rattle.table_groups.specs.declared.row.Row.{Row}
 use Rattle.table_groups.specs.declared.slot_numbers.SlotNumbers.{SlotNumbers}
 use Rattle.table_groups.specs.declared.sources.Source.{Source}
+use Rattle.table_groups.specs.View.{View}
 
 -- RECORDS
 
@@ -46,14 +46,15 @@ AreFewRecords n es = (g : List ℕ) → ((value_in no_records es g).new ≤ n)
 -- SLOTS
 
 -- what the slots of the new table add
-unfoldable pub slots_by : State → List (List ℕ × SlotNumbers)
-slots_by st = tally_of no_slots (with_slot true) (visits_of (bucket_groups st true) 0 NEW_BUCKETS)
+unfoldable pub slots_by : View → List (List ℕ × SlotNumbers)
+slots_by view =
+    tally_of no_slots (with_slot true) (visits_of (bucket_groups view true) 0 NEW_BUCKETS)
 
 -- the same, and those of the tried table after them
-unfoldable pub all_by : State → List (List ℕ × SlotNumbers)
-all_by st =
-    fold (noted no_slots (with_slot false)) (slots_by st)
-    (visits_of (bucket_groups st false) 0 TRIED_BUCKETS)
+unfoldable pub all_by : View → List (List ℕ × SlotNumbers)
+all_by view =
+    fold (noted no_slots (with_slot false)) (slots_by view)
+    (visits_of (bucket_groups view false) 0 TRIED_BUCKETS)
 
 -- BOTH
 

@@ -1,4 +1,5 @@
 pub mod Plain
+pub mod View
 pub mod Names
 pub mod Tally
 pub mod Order

@@ -4,7 +4,7 @@ use Rattle.std.specs.List.{count_by, list_any, range_with_len, sum_by}
 use Rattle.peer_rec.specs.declared.rec.Rec.{Rec}
 use Rattle.placing.specs.Places.{Places, group}
 use Rattle.slot_grid.specs.declared.sizes.TheConstants.{NEW_BUCKETS, SLOTS, TRIED_BUCKETS}
-use Rattle.table_machine.specs.State.{State, new_rec_at, tried_rec_at}
+use Rattle.table_groups.specs.View.{View}
 
 -- how many slots of a bucket pass a test of their record
 abbrev pub slots_in : (Option Rec → Bool) → (ℕ → Option Rec) → ℕ
@@ -15,23 +15,23 @@ abbrev pub some_in : (Option Rec → Bool) → (ℕ → Option Rec) → Bool
 some_in test rec_at = list_any (λ slot. test (rec_at slot)) (range_with_len 0 SLOTS)
 
 -- how many slots of the new table do
-unfoldable pub new_slots : (Option Rec → Bool) → State → ℕ
-new_slots test st =
-    sum_by (λ bucket. slots_in test (new_rec_at st bucket)) (range_with_len 0 NEW_BUCKETS)
+unfoldable pub new_slots : (Option Rec → Bool) → View → ℕ
+new_slots test view =
+    sum_by (λ bucket. slots_in test (view.new bucket)) (range_with_len 0 NEW_BUCKETS)
 
 -- how many of the tried table do
-unfoldable pub tried_slots : (Option Rec → Bool) → State → ℕ
-tried_slots test st =
-    sum_by (λ bucket. slots_in test (tried_rec_at st bucket)) (range_with_len 0 TRIED_BUCKETS)
+unfoldable pub tried_slots : (Option Rec → Bool) → View → ℕ
+tried_slots test view =
+    sum_by (λ bucket. slots_in test (view.tried bucket)) (range_with_len 0 TRIED_BUCKETS)
 
 -- how many of both do
-abbrev pub all_slots : (Option Rec → Bool) → State → ℕ
-all_slots test st = new_slots test st + tried_slots test st
+abbrev pub all_slots : (Option Rec → Bool) → View → ℕ
+all_slots test view = new_slots test view + tried_slots test view
 
 -- how many buckets of the new table have such a slot
-unfoldable pub new_buckets : (Option Rec → Bool) → State → ℕ
-new_buckets test st =
-    count_by (λ bucket. some_in test (new_rec_at st bucket)) (range_with_len 0 NEW_BUCKETS)
+unfoldable pub new_buckets : (Option Rec → Bool) → View → ℕ
+new_buckets test view =
+    count_by (λ bucket. some_in test (view.new bucket)) (range_with_len 0 NEW_BUCKETS)
 
 -- there is a record, and its source is in the group
 abbrev pub is_of : Places → List ℕ → Option Rec → Bool

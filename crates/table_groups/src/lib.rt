@@ -21,6 +21,7 @@ mod rows;
 mod slot_numbers;
 mod slots;
 mod sources;
+mod table_view;
 mod tally;
 
 pub use law::names_are_plain;
@@ -30,6 +31,7 @@ pub use net_addr::Memory;
 pub use order::{Counted, Group, copy_of};
 pub use row::{Numbers, Row};
 pub use rows::rows_of;
-pub use slots::{bucket_count, new_slots, rec_at};
+pub use slots::{bucket_count, new_slots};
 pub use sources::{Source, sources_of};
+pub use table_view::TableView;
 pub use tally::{Tally, put_value, value_of};

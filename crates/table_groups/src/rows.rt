@@ -11,13 +11,12 @@ use crate::records::tally_records;
 use crate::slot_numbers::SlotNumbers;
 use crate::slots::tally_slots;
 use crate::tally::{Tally, value_of};
-use crate::{Group, Memory, Numbers, Row};
+use crate::{Group, Memory, Numbers, Row, TableView};
 use peer_rec::Rec;
 use std::alloc::Global;
 use std::hash::BuildHasher;
 use std::sync::ledger::Ledger;
 use steps::Steps;
-use tables::Tables;
 
 /// Returns a group with the numbers of its slots and records.
 fn counted_in<H: BuildHasher>(
@@ -96,18 +95,18 @@ fn list_rows<H: BuildHasher>(
 /// Returns the groups that the records count for, in order: the one with the most slots of the new
 /// table and records of the tried one first, and of two with as many the one with the lower bytes.
 /// It takes two steps a slot of the new table.
-pub fn rows_of<H: BuildHasher, G: BuildHasher, L: Ledger>(
+pub fn rows_of<T: TableView, G: BuildHasher, L: Ledger>(
     alloc: Global,
     hasher: &G,
-    tables: &Tables<'_, H>,
+    tables: &T,
     recs: &[Rec],
     steps: &mut Steps<L>,
 ) -> Result<Vec<Row>, Memory>
-    requires all { recs.now ≡ tables.now.records }
+    requires all { recs.now ≡ (T.view tables.now).records }
     requires few { length recs.now ≤ ALL_SLOTS }
-    ensures { IfOk result (λ rows. rows.items ≡ rows_of tables.now) }
+    ensures { IfOk result (λ rows. rows.items ≡ rows_of (T.view tables.now)) }
 {
-    let records = tally_records(alloc, hasher, tables.placer(), recs)?;
+    let records = tally_records(alloc, hasher, tables.places(), recs)?;
     let slots = tally_slots(alloc, hasher, tables, steps)?;
     let mut groups = list_groups(alloc, &records, &slots)?;
     put_in_order(&mut groups);

@@ -5,12 +5,11 @@ ghost use Rattle.table_groups.specs.Sources.{bucket_groups, source_groups};
 ghost use Rattle.table_groups.specs.Tally.{by_bytes, noted};
 ghost use Rattle.table_groups.specs.Visits.{AreFewSlots, in_bucket, no_slots, slots_before, visits_of, with_slot};
 ghost use Rattle.table_groups.specs.Slots.{new_slots, slots_in};
-ghost use Rattle.table_machine.specs.Picks.{bucket_count, occupant_at};
-ghost use Rattle.table_machine.specs.State.{new_rec_at};
+ghost use Rattle.table_machine.specs.Picks.{bucket_count};
 
 use crate::slot_numbers::SlotNumbers;
 use crate::tally::{Tally, put_value, value_of};
-use crate::{Lent, Memory};
+use crate::{Lent, Memory, TableView};
 use indexmap::IndexMap;
 use peer_rec::Rec;
 use placing::Placer;
@@ -19,33 +18,12 @@ use std::alloc::{AllocError, Global};
 use std::hash::BuildHasher;
 use std::sync::ledger::Ledger;
 use steps::Steps;
-use tables::Tables;
 
 /// Returns how many buckets a table has.
 pub fn bucket_count(in_new: bool) -> u16
     ensures { result ≡ bucket_count in_new }
 {
     if in_new { NEW_BUCKETS } else { TRIED_BUCKETS }
-}
-
-/// Returns the record in a slot of the new table or of the tried one, or `None` if the slot is
-/// empty.
-pub fn rec_at<'a, H: BuildHasher, L: Ledger>(
-    tables: &'a Tables<'_, H>,
-    in_new: bool,
-    bucket: u16,
-    slot: u8,
-    steps: &mut Steps<L>,
-) -> Option<&'a Rec>
-    requires bucket { bucket < bucket_count in_new }
-    requires slot { slot < SLOTS }
-    ensures { option_map (λ r. r.now) result ≡ occupant_at tables.now in_new bucket slot }
-{
-    if in_new {
-        tables.new_rec_at(bucket, slot, steps)
-    } else {
-        tables.tried_rec_at(bucket, slot, steps)
-    }
 }
 
 /// Counts a slot of a bucket for the group of the source in its record, if it has one.
@@ -70,9 +48,9 @@ fn note_slot<H: BuildHasher>(
 }
 
 /// Counts the slots of a bucket for their groups.
-fn note_bucket<H: BuildHasher, G: BuildHasher, L: Ledger>(
+fn note_bucket<T: TableView, G: BuildHasher, L: Ledger>(
     tally: &mut Tally<'_, SlotNumbers, G>,
-    tables: &Tables<'_, H>,
+    tables: &T,
     in_new: bool,
     bucket: u16,
     steps: &mut Steps<L>,
@@ -81,28 +59,28 @@ fn note_bucket<H: BuildHasher, G: BuildHasher, L: Ledger>(
     requires few { AreFewSlots (slots_before in_new bucket) (by_bytes tally.old.entries) }
     ensures visits { OnOk result (by_bytes tally.new.entries
         ≡ fold (noted no_slots (with_slot in_new)) (by_bytes tally.old.entries)
-        (in_bucket (bucket_groups tables.now in_new) bucket)) }
+        (in_bucket (bucket_groups (T.view tables.now) in_new) bucket)) }
     ensures few { OnOk result (AreFewSlots (slots_before in_new (bucket + 1))
         (by_bytes tally.new.entries)) }
 {
     for slot in 0..SLOTS {
-        let rec = rec_at(tables, in_new, bucket, slot, steps);
-        note_slot(tally, tables.placer(), in_new, bucket, rec)?;
+        let rec = tables.occupant(in_new, bucket, slot, steps);
+        note_slot(tally, tables.places(), in_new, bucket, rec)?;
     }
     Ok(())
 }
 
 /// Counts the slots of a table for their groups, by rising bucket. The new table comes first.
-pub(crate) fn note_table<H: BuildHasher, G: BuildHasher, L: Ledger>(
+pub(crate) fn note_table<T: TableView, G: BuildHasher, L: Ledger>(
     tally: &mut Tally<'_, SlotNumbers, G>,
-    tables: &Tables<'_, H>,
+    tables: &T,
     in_new: bool,
     steps: &mut Steps<L>,
 ) -> Result<(), AllocError>
     requires few { AreFewSlots (slots_before in_new 0) (by_bytes tally.old.entries) }
     ensures visits { OnOk result (by_bytes tally.new.entries
         ≡ fold (noted no_slots (with_slot in_new)) (by_bytes tally.old.entries)
-        (visits_of (bucket_groups tables.now in_new) 0 (bucket_count in_new))) }
+        (visits_of (bucket_groups (T.view tables.now) in_new) 0 (bucket_count in_new))) }
     ensures few { OnOk result (AreFewSlots (slots_before in_new (bucket_count in_new))
         (by_bytes tally.new.entries)) }
 {
@@ -113,13 +91,13 @@ pub(crate) fn note_table<H: BuildHasher, G: BuildHasher, L: Ledger>(
 }
 
 /// Counts the slots of the new table for their groups, by rising bucket.
-pub(crate) fn tally_slots<'a, H: BuildHasher, G: BuildHasher, L: Ledger>(
+pub(crate) fn tally_slots<'a, T: TableView, G: BuildHasher, L: Ledger>(
     alloc: Global,
     hasher: &'a G,
-    tables: &Tables<'_, H>,
+    tables: &T,
     steps: &mut Steps<L>,
 ) -> Result<Tally<'a, SlotNumbers, G>, Memory>
-    ensures visits { IfOk result (λ tally. by_bytes tally.entries ≡ slots_by tables.now) }
+    ensures visits { IfOk result (λ tally. by_bytes tally.entries ≡ slots_by (T.view tables.now)) }
     ensures few { IfOk result (λ tally. AreFewSlots NEW_SLOTS (by_bytes tally.entries)) }
 {
     let mut tally = IndexMap::with_hasher(alloc, Lent::of(hasher));
@@ -139,26 +117,22 @@ fn one_if(rec: Option<&Rec>) -> u32
 }
 
 /// Returns how many slots of a bucket of the new table are occupied.
-fn slots_in<H: BuildHasher, L: Ledger>(
-    tables: &Tables<'_, H>,
-    bucket: u16,
-    steps: &mut Steps<L>,
-) -> u32
+fn slots_in<T: TableView, L: Ledger>(tables: &T, bucket: u16, steps: &mut Steps<L>) -> u32
     requires { bucket < NEW_BUCKETS }
-    ensures count { result ≡ slots_in is_some (new_rec_at tables.now bucket) }
+    ensures count { result ≡ slots_in is_some ((T.view tables.now).new bucket) }
     ensures few { result ≤ SLOTS }
 {
     let mut count = 0;
     for slot in 0..SLOTS {
-        count += one_if(tables.new_rec_at(bucket, slot, steps));
+        count += one_if(tables.occupant(true, bucket, slot, steps));
     }
     count
 }
 
 /// Returns how many slots of the new table are occupied.
 #[tactic(auto, unfolding(crate::specs::Slots::new_slots))]
-pub fn new_slots<H: BuildHasher, L: Ledger>(tables: &Tables<'_, H>, steps: &mut Steps<L>) -> u32
-    ensures count { result ≡ new_slots is_some tables.now }
+pub fn new_slots<T: TableView, L: Ledger>(tables: &T, steps: &mut Steps<L>) -> u32
+    ensures count { result ≡ new_slots is_some (T.view tables.now) }
     ensures few { result ≤ NEW_SLOTS }
 {
     let mut count = 0;

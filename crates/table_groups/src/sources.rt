@@ -8,12 +8,11 @@ use crate::order::{Counted, copy_of, put_in_order};
 use crate::slot_numbers::SlotNumbers;
 use crate::slots::{note_table, tally_slots};
 use crate::tally::{Tally, value_of};
-use crate::{Group, Memory};
+use crate::{Group, Memory, TableView};
 use std::alloc::Global;
 use std::hash::BuildHasher;
 use std::sync::ledger::Ledger;
 use steps::Steps;
-use tables::Tables;
 
 /// A group of sources: how many slots of each table have a record whose source is in it, and how
 /// many buckets of the new table have such a slot.
@@ -83,13 +82,13 @@ fn list_sources<H: BuildHasher>(
 
 /// Returns the groups of the sources in the slots of both tables, in order: the one with the most
 /// slots first, and of two with as many the one with the lower bytes. It takes two steps a slot.
-pub fn sources_of<H: BuildHasher, G: BuildHasher, L: Ledger>(
+pub fn sources_of<T: TableView, G: BuildHasher, L: Ledger>(
     alloc: Global,
     hasher: &G,
-    tables: &Tables<'_, H>,
+    tables: &T,
     steps: &mut Steps<L>,
 ) -> Result<Vec<Source>, Memory>
-    ensures { IfOk result (λ sources. sources.items ≡ sources_of tables.now) }
+    ensures { IfOk result (λ sources. sources.items ≡ sources_of (T.view tables.now)) }
 {
     let mut tally = tally_slots(alloc, hasher, tables, steps)?;
     note_table(&mut tally, tables, false, steps)?;

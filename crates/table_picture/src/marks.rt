@@ -9,11 +9,9 @@ use picture_text::group_mark;
 use placing::Placer;
 use slot_grid::SLOTS;
 use std::alloc::Global;
-use std::hash::BuildHasher;
 use std::sync::ledger::Ledger;
 use steps::Steps;
-use table_groups::{Source, bucket_count, rec_at};
-use tables::Tables;
+use table_groups::{Source, TableView, bucket_count};
 
 /// Returns the mark of a slot with this record.
 fn rec_mark(placer: &Placer<'_>, listed: &[Source], rec: Option<&Rec>) -> u8
@@ -27,8 +25,8 @@ fn rec_mark(placer: &Placer<'_>, listed: &[Source], rec: Option<&Rec>) -> u8
 }
 
 /// Appends the marks of the slots of a bucket.
-fn put_bucket<H: BuildHasher, L: Ledger>(
-    tables: &Tables<'_, H>,
+fn put_bucket<T: TableView, L: Ledger>(
+    tables: &T,
     listed: &[Source],
     in_new: bool,
     bucket: u16,
@@ -38,13 +36,13 @@ fn put_bucket<H: BuildHasher, L: Ledger>(
     requires bucket { bucket < bucket_count in_new }
     requires few { length listed.now ≤ 6 }
     ensures { OnOk result (out.new.items
-        ≡ out.old.items ++ bucket_marks tables.now listed.now in_new bucket) }
+        ≡ out.old.items ++ bucket_marks (T.view tables.now) listed.now in_new bucket) }
 {
     for slot in 0..SLOTS {
         let mark = rec_mark(
-            tables.placer(),
+            tables.places(),
             listed,
-            rec_at(tables, in_new, bucket, slot, steps),
+            tables.occupant(in_new, bucket, slot, steps),
         );
         out.push(mark)?;
     }
@@ -53,8 +51,8 @@ fn put_bucket<H: BuildHasher, L: Ledger>(
 
 /// Appends the marks of the slots of a table.
 #[tactic(auto, unfolding(crate::specs::Marks::table_marks))]
-fn put_table<H: BuildHasher, L: Ledger>(
-    tables: &Tables<'_, H>,
+fn put_table<T: TableView, L: Ledger>(
+    tables: &T,
     listed: &[Source],
     in_new: bool,
     out: &mut Vec<u8>,
@@ -62,7 +60,7 @@ fn put_table<H: BuildHasher, L: Ledger>(
 ) -> Result<(), Memory>
     requires few { length listed.now ≤ 6 }
     ensures { OnOk result (out.new.items
-        ≡ out.old.items ++ table_marks tables.now listed.now in_new) }
+        ≡ out.old.items ++ table_marks (T.view tables.now) listed.now in_new) }
 {
     for bucket in 0..bucket_count(in_new) {
         put_bucket(tables, listed, in_new, bucket, out, steps)?;
@@ -74,14 +72,14 @@ fn put_table<H: BuildHasher, L: Ledger>(
 /// 1 to 6 the listed group at this position, counted from 1, that the source of its record is in,
 /// and 7 any other group.
 #[tactic(auto, unfolding(crate::specs::Marks::marks_by))]
-pub(crate) fn marks_by<H: BuildHasher, L: Ledger>(
+pub(crate) fn marks_by<T: TableView, L: Ledger>(
     alloc: Global,
-    tables: &Tables<'_, H>,
+    tables: &T,
     listed: &[Source],
     steps: &mut Steps<L>,
 ) -> Result<Vec<u8>, Memory>
     requires few { length listed.now ≤ 6 }
-    ensures marks { IfOk result (λ marks. marks.items ≡ marks_by tables.now listed.now) }
+    ensures marks { IfOk result (λ marks. marks.items ≡ marks_by (T.view tables.now) listed.now) }
     ensures long { IfOk result (λ marks. length marks.items ≡ ALL_SLOTS) }
 {
     let mut marks = Vec::new(alloc);

@@ -12,8 +12,7 @@ use std::alloc::Global;
 use std::hash::BuildHasher;
 use std::sync::ledger::Ledger;
 use steps::Steps;
-use table_groups::{name_of, sources_of};
-use tables::Tables;
+use table_groups::{TableView, name_of, sources_of};
 
 /// Returns the index of the first slot that has the mark, and their number if none has.
 fn first_slot(marks: &[u8], mark: u8) -> usize
@@ -32,20 +31,20 @@ fn first_slot(marks: &[u8], mark: u8) -> usize
 }
 
 /// Returns the record in a slot; slots are counted by rising bucket, those of the new table first.
-fn rec_in<'a, H: BuildHasher, L: Ledger>(
-    tables: &'a Tables<'_, H>,
+fn rec_in<'a, T: TableView, L: Ledger>(
+    tables: &'a T,
     slot: usize,
     steps: &mut Steps<L>,
 ) -> Option<&'a Rec>
-    ensures { option_map (λ r. r.now) result ≡ rec_in tables.now slot }
+    ensures { option_map (λ r. r.now) result ≡ rec_in (T.view tables.now) slot }
 {
     let slots = usize::from(SLOTS);
     if slot < NEW_SLOTS {
-        return tables.new_rec_at((slot / slots) as u16, (slot % slots) as u8, steps);
+        return tables.occupant(true, (slot / slots) as u16, (slot % slots) as u8, steps);
     }
     if slot < ALL_SLOTS {
         let slot = slot - NEW_SLOTS;
-        return tables.tried_rec_at((slot / slots) as u16, (slot % slots) as u8, steps);
+        return tables.occupant(false, (slot / slots) as u16, (slot % slots) as u8, steps);
     }
     None
 }
@@ -62,36 +61,36 @@ fn rec_name(alloc: Global, placer: &Placer<'_>, rec: Option<&Rec>) -> Result<Vec
 }
 
 /// Returns the names of the listed groups, of which there are `count`.
-fn names_in<H: BuildHasher, L: Ledger>(
+fn names_in<T: TableView, L: Ledger>(
     alloc: Global,
-    tables: &Tables<'_, H>,
+    tables: &T,
     marks: &[u8],
     count: u8,
     steps: &mut Steps<L>,
 ) -> Result<Vec<Vec<u8>>, Memory>
     requires { count ≤ 6 }
     ensures names { IfOk result (λ names. map (λ v. v.items) names.items
-        ≡ names_in tables.now marks.now count) }
+        ≡ names_in (T.view tables.now) marks.now count) }
     ensures long { IfOk result (λ names. length names.items ≡ count) }
 {
     let mut names = Vec::new(alloc);
     for index in 0..count {
         let rec = rec_in(tables, first_slot(marks, index + 1), steps);
-        names.push(rec_name(alloc, tables.placer(), rec)?)?;
+        names.push(rec_name(alloc, tables.places(), rec)?)?;
     }
     Ok(names)
 }
 
 /// Appends the picture of the tables, an SVG. It takes four steps a slot, and two for each name.
 #[tactic(auto, unfolding(crate::specs::Picture::picture_of, crate::specs::Picture::listed_of))]
-pub fn put_picture<H: BuildHasher, G: BuildHasher, L: Ledger>(
+pub fn put_picture<T: TableView, G: BuildHasher, L: Ledger>(
     alloc: Global,
     hasher: &G,
-    tables: &Tables<'_, H>,
+    tables: &T,
     out: &mut Vec<u8>,
     steps: &mut Steps<L>,
 ) -> Result<(), Memory>
-    ensures text { OnOk result (out.new.items ≡ out.old.items ++ picture_of tables.now) }
+    ensures text { OnOk result (out.new.items ≡ out.old.items ++ picture_of (T.view tables.now)) }
 {
     let sources = sources_of(alloc, hasher, tables, steps)?;
     let listed = listed_in(sources.as_slice());

@@ -8,6 +8,6 @@ use Rattle.node_json.proofs.info.info_text.Goals as goal
 
 pub returns : goal.returns
 returns g c =
-    let st = c.args.tables.now in
-    if_ok _ (λ text. IsJsonText (info_json st) text.items) c.with_end.result
-    (λ text h. h (info_json st) (c.in_ok-put_rows.ensures ∙ ap (λ ts. ts ++ json_tokens (info_json st)) c.new-json.ensures) (info_depth st)) c.with_end.ensures
+    let view = (g.T.TableView.view c.args.tables.now) in
+    if_ok _ (λ text. IsJsonText (info_json view) text.items) c.with_end.result
+    (λ text h. h (info_json view) (c.in_ok-put_rows.ensures ∙ ap (λ ts. ts ++ json_tokens (info_json view)) c.new-json.ensures) (info_depth view)) c.with_end.ensures

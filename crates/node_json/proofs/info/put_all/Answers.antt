@@ -6,4 +6,4 @@ use Rattle.node_json.proofs.info.put_all.Goals as goal
 pub returns : goal.returns
 returns g c =
     c.in_ok-put_row.ensures
-    ∙ (λ i. c.args.json.now ++ tokens_of ((codes "all_networks", counts_json (c.counts-counts.ensures.new i) (c.counts-counts.ensures.tried i)) ∷ []))
+    ∙ (λ i. c.args.json.now ++ tokens_of ((codes "all_networks", counts_json (c.sizes-counts.ensures.new i) (c.sizes-counts.ensures.tried i)) ∷ []))

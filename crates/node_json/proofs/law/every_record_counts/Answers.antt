@@ -3,4 +3,4 @@ use Rattle.node_json.proofs.Counts.{counts_all}
 use Rattle.node_json.proofs.law.every_record_counts.Goals as goal
 
 pub returns : goal.returns
-returns c = λ st. counts_all is_tried st.records
+returns c = λ view. counts_all is_tried view.records

@@ -2,4 +2,4 @@ use Rattle.picture_laws.proofs.Wide.{counts-wide}
 use Rattle.picture_laws.proofs.law.wide_groups_are_counted.Goals as goal
 
 pub returns : goal.returns
-returns c st = counts-wide st
+returns c view = counts-wide view

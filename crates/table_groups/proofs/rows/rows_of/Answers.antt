@@ -9,13 +9,13 @@ use Rattle.table_groups.proofs.rows.rows_of.Goals as goal
 pub returns : goal.returns
 unfolding groups_in
 returns g c =
-    let st = c.args.tables.now in
-    let records : by_bytes c.in_ok-records.records.entries ≡ records_by st.places st.records =
-    c.in_ok-records.ensures ∙ (λ i. records_by (c.placer.ensures i) (c.requires.all i)) in
-    let slots : by_bytes c.in_ok-slots.slots.entries ≡ slots_by st = c.in_ok-slots.ensures.visits in
-    let groups : c.as_slice.result.now ≡ groups_in st =
+    let view = (g.T.TableView.view c.args.tables.now) in
+    let records : by_bytes c.in_ok-records.records.entries ≡ records_by view.places view.records =
+    c.in_ok-records.ensures ∙ (λ i. records_by (c.places.ensures i) (c.requires.all i)) in
+    let slots : by_bytes c.in_ok-slots.slots.entries ≡ slots_by view = c.in_ok-slots.ensures.visits in
+    let groups : c.as_slice.result.now ≡ groups_in view =
     c.as_slice.ensures.value ∙ c.put_in_order.ensures
-    ∙ ap in_order (groups-are-in st c.in_ok-records.records.entries c.in_ok-slots.slots.entries c.in_ok-groups.groups.items records slots c.in_ok-groups.ensures) in
-    if_ok _ (λ rows. rows.items ≡ rows_of st) c.list_rows.result
-    (λ rows h. rows-are-of st c.in_ok-records.records.entries c.in_ok-slots.slots.entries c.as_slice.result.now rows.items records slots groups h)
+    ∙ ap in_order (groups-are-in view c.in_ok-records.records.entries c.in_ok-slots.slots.entries c.in_ok-groups.groups.items records slots c.in_ok-groups.ensures) in
+    if_ok _ (λ rows. rows.items ≡ rows_of view) c.list_rows.result
+    (λ rows h. rows-are-of view c.in_ok-records.records.entries c.in_ok-slots.slots.entries c.as_slice.result.now rows.items records slots groups h)
     c.list_rows.ensures

@@ -7,6 +7,6 @@ use Rattle.table_groups.proofs.slots.note_table.Given as goal
 -- the buckets before this one are counted
 abbrev pub invariant-loop-bucket : goal.invariant-loop-bucket
 invariant-loop-bucket g l = record {
-  counted : by_bytes l.tally.entries ≡ fold (noted no_slots (with_slot l.in_new)) (by_bytes l.initial.tally.entries) (visits_of (bucket_groups l.tables l.in_new) 0 l.bucket);
+  counted : by_bytes l.tally.entries ≡ fold (noted no_slots (with_slot l.in_new)) (by_bytes l.initial.tally.entries) (visits_of (bucket_groups (g.T.TableView.view l.tables) l.in_new) 0 l.bucket);
   few : AreFewSlots (slots_before l.in_new l.bucket) (by_bytes l.tally.entries);
 }

@@ -7,4 +7,4 @@ use Rattle.table_groups.proofs.slots.tally_slots.Goals as goal
 
 pub returns-clause-visits : goal.returns-clause-visits
 unfolding slots_by
-returns-clause-visits g c = c.in_ok-note_table.ensures.visits ∙ ap (λ es. fold (noted no_slots (with_slot true)) (by_bytes es) (visits_of (bucket_groups c.args.tables.now true) 0 1024)) c.with_hasher-tally.ensures.empty
+returns-clause-visits g c = c.in_ok-note_table.ensures.visits ∙ ap (λ es. fold (noted no_slots (with_slot true)) (by_bytes es) (visits_of (bucket_groups (g.T.TableView.view c.args.tables.now) true) 0 1024)) c.with_hasher-tally.ensures.empty

@@ -6,9 +6,9 @@ use Rattle.table_picture.proofs.marks.marks_by.Goals as goal
 pub returns : goal.returns
 unfolding marks_by
 returns g c =
-    let st = c.args.tables.now in
+    let view = (g.T.TableView.view c.args.tables.now) in
     let listed = c.args.listed.now in
-    let all : c.put_table-2.new.out.items ≡ marks_by st listed =
-    c.in_ok-put_table-2.ensures ∙ ap (λ (t : List ℕ). t ++ table_marks st listed false)
-    (c.in_ok-put_table.ensures ∙ ap (λ (t : List ℕ). t ++ table_marks st listed true) c.new-marks.ensures.items) in
-    record { marks = all; long = marks-length st listed c.put_table-2.new.out.items all }
+    let all : c.put_table-2.new.out.items ≡ marks_by view listed =
+    c.in_ok-put_table-2.ensures ∙ ap (λ (t : List ℕ). t ++ table_marks view listed false)
+    (c.in_ok-put_table.ensures ∙ ap (λ (t : List ℕ). t ++ table_marks view listed true) c.new-marks.ensures.items) in
+    record { marks = all; long = marks-length view listed c.put_table-2.new.out.items all }

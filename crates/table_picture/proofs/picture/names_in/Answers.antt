@@ -15,9 +15,9 @@ more f i old new name so_far put is =
 
 pub loop-index-preserved : goal.loop-index-preserved
 loop-index-preserved g c = record {
-  names = more (mark_name c.args.tables.now c.args.marks.now) c.loop-index.index c.loop-index.names.items c.push.new.self.items c.in_ok-rec_name.field-0
+  names = more (mark_name (g.T.TableView.view c.args.tables.now) c.args.marks.now) c.loop-index.index c.loop-index.names.items c.push.new.self.items c.in_ok-rec_name.field-0
       c.loop-index.invariant.names c.in_ok-push.ensures.items
-      (c.in_ok-rec_name.ensures ∙ (λ i. rec_name (c.placer.ensures i) (c.rec_in-rec.ensures i))
-      ∙ ap (λ (slot : ℕ). rec_name c.args.tables.now.places (rec_in c.args.tables.now slot)) c.first_slot.ensures);
+      (c.in_ok-rec_name.ensures ∙ (λ i. rec_name (c.places.ensures i) (c.rec_in-rec.ensures i))
+      ∙ ap (λ (slot : ℕ). rec_name (g.T.TableView.view c.args.tables.now).places (rec_in (g.T.TableView.view c.args.tables.now) slot)) c.first_slot.ensures);
   long = search rules;
 }
