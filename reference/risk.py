@@ -3,9 +3,11 @@
 from fractions import Fraction
 
 from addresses import NETWORKS, UNROUTABLE, routable
+from bans import Subnet, read_subnet, subnet_text
 from picture import name as group_name
 from places import group
 from tables import LARGEST_FACTOR, ONE, Record, Tables, chance
+from text import Fault, read_number
 
 SLOTS = 64
 MILLION = 1_000_000
@@ -103,25 +105,72 @@ def millionths(part: int, whole: int) -> int:
     return -(-min(part, whole) * MILLION // whole)
 
 
+def parts_of(new: int, tried: int, searched: int) -> str:
+    """The parts of a line, by how many of 2^64 searches of each table end at its records, and how many tables are searched."""
+    picks = millionths(new + tried, searched * WHOLE)
+    return f"picks {percent(picks)} new {percent(millionths(new, WHOLE))} tried {percent(millionths(tried, WHOLE))}"
+
+
+def heading(tables: Tables) -> str:
+    """The line with the numbers of the tables."""
+    new, tried = tables.counts()
+    used = [sum(bool(bucket) for bucket in table.values()) for table in (tables.new, tables.tried)]
+    return f"peers new {new} tried {tried} buckets new {used[0]} tried {used[1]}"
+
+
+class Sides:
+    """How many starts of each table lead to records of each chance."""
+
+    def __init__(self, tables: Tables, now: int):
+        self.chances = {number: chance(record, now) for number, record in tables.records.items()}
+        self.leading = [starts(table) for table in (tables.new, tables.tried)]
+        self.all = [by_chance(leads, self.chances, leads) for leads in self.leading]
+        self.searched = max(1, sum(bool(leads) for leads in self.leading))
+
+    def searches(self, numbers: list[int]) -> list[int]:
+        """How many of 2^64 searches of each table end at some records, at most."""
+        return [at_most(whole, by_chance(leads, self.chances, numbers)) for leads, whole in zip(self.leading, self.all)]
+
+
 def risk(tables: Tables, by: str, now: int = RESTARTED) -> str:
     """The numbers of the tables, and a line for each group."""
     members: dict[object, list[Record]] = {}
     for record in sorted(tables.records.values(), key=lambda record: record.number):
         members.setdefault(key(tables, by, record), []).append(record)
-    chances = {number: chance(record, now) for number, record in tables.records.items()}
-    leading = [starts(table) for table in (tables.new, tables.tried)]
-    all_starts = [by_chance(leads, chances, leads) for leads in leading]
-    searched = max(1, sum(bool(leads) for leads in leading))
-
+    sides = Sides(tables, now)
     rows = []
     for own, records in members.items():
-        numbers = [record.number for record in records]
-        new, tried = (at_most(whole, by_chance(leads, chances, numbers)) for leads, whole in zip(leading, all_starts))
-        picks = millionths(new + tried, searched * WHOLE)
-        new, tried = millionths(new, WHOLE), millionths(tried, WHOLE)
-        rows.append((-picks, own, f"{by} {name(tables, by, records[0])}: picks {percent(picks)}"
-                                  f" new {percent(new)} tried {percent(tried)}"))
-    new, tried = tables.counts()
-    used = [sum(bool(bucket) for bucket in table.values()) for table in (tables.new, tables.tried)]
-    head = f"peers new {new} tried {tried} buckets new {used[0]} tried {used[1]}"
-    return "\n".join([head, *(line for _, _, line in sorted(rows, key=lambda row: row[:2]))])
+        new, tried = sides.searches([record.number for record in records])
+        picks = millionths(new + tried, sides.searched * WHOLE)
+        rows.append((-picks, own, f"{by} {name(tables, by, records[0])}: {parts_of(new, tried, sides.searched)}"))
+    return "\n".join([heading(tables), *(line for _, _, line in sorted(rows, key=lambda row: row[:2]))])
+
+
+def read_set(line: bytes) -> Subnet | int | None:
+    """The set of addresses that a line names: a subnet or the number of an AS, None if it is passed over; raises Fault."""
+    if not line or line.startswith(b"#"):
+        return None
+    if line.startswith(b"AS"):
+        found = read_number(line[2:], 2 ** 32 - 1) or None
+    else:
+        found = read_subnet(line)
+    if found is None:
+        raise Fault("peer")
+    return found
+
+
+def is_in(tables: Tables, own: Subnet | int, record: Record) -> bool:
+    """Whether a set has the address of a record's peer."""
+    address = record.peer.address
+    return tables.asmap.number_of(address) == own if isinstance(own, int) else own.covers(address)
+
+
+def sets_risk(tables: Tables, sets: list[Subnet | int], now: int = RESTARTED) -> str:
+    """The numbers of the tables, a line for the peers of each set, and one for those of all."""
+    sides = Sides(tables, now)
+
+    def parts(some) -> str:
+        numbers = [number for number, record in tables.records.items() if any(is_in(tables, own, record) for own in some)]
+        return parts_of(*sides.searches(numbers), sides.searched)
+    lines = [f"set {f'AS{own}' if isinstance(own, int) else subnet_text(own)}: {parts([own])}" for own in sets]
+    return "\n".join([heading(tables), *lines, f"union: {parts(sets)}"])

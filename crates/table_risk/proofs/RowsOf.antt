@@ -9,6 +9,7 @@ use Rattle.net_addr.specs.NetSet.{all}
 use Rattle.peer_rec.specs.declared.rec.Rec.{Rec}
 use Rattle.placing.specs.Places.{Places}
 use Rattle.risk_laws.specs.Classes.{chances}
+use Rattle.risk_parts.specs.Parts.{millionths, wanted_in}
 use Rattle.risk_sum.specs.Kinds.{AreKinds, most_by, starts_of}
 use Rattle.table_groups.proofs.Values.{after_visit, groups-are, values-are}
 use Rattle.table_groups.specs.Tally.{by_bytes, groups_of, noted, once, tally_of, value_in}
@@ -17,12 +18,12 @@ use Rattle.table_machine.specs.Sound.{IsSound}
 use Rattle.table_machine.specs.State.{State}
 use Rattle.table_risk.specs.Grouping.{group_by, is_in}
 use Rattle.table_risk.specs.Inside.{Counts, FitsSide, Sides, class_by, classes_share, firsts_by, index_visits, kind_in, lower, row_in, side_by, side_share}
-use Rattle.table_risk.specs.Rows.{first_in, millionths, row_by, rows_of, search, share_in, wanted_in}
+use Rattle.table_risk.specs.Rows.{first_in, row_by, rows_of, search, share_in}
 use Rattle.table_risk.specs.Shares.{share_of}
 use Rattle.table_risk.specs.declared.by.By.{By}
 use Rattle.table_risk.specs.declared.classes.Search.{Search}
 use Rattle.table_risk.specs.declared.rows.Row.{Row}
-use Rattle.table_risk.proofs.BoundsOf.{kinds_there, not_none}
+use Rattle.risk_parts.proofs.BoundsOf.{kinds_there, not_none}
 use Rattle.table_risk.proofs.KindsOf.{kinds_are}
 
 fits : (st : State) (what : Search) (g : List ℕ) → IsSound st → FitsSide (side_by st what) g

@@ -20,8 +20,8 @@ use Rattle.table_risk.specs.declared.classes.Class.{Class}
 use Rattle.table_risk.specs.declared.classes.Search.{Search}
 use Rattle.table_risk.specs.declared.rows.Row.{Row}
 use Rattle.table_risk.specs.declared.rows.Side.{Side}
-use Rattle.table_risk.specs.declared.shares.TheConstants.{AHEAD}
-use Rattle.table_risk.specs.Rows.{wanted_in, millionths}
+use Rattle.risk_parts.specs.Parts.{millionths, wanted_in}
+use Rattle.risk_parts.specs.declared.parts.TheConstants.{AHEAD}
 
 -- the slot is in the mask
 abbrev pub in_mask : ℕ → ℕ → Bool

@@ -2,4 +2,5 @@ pub mod Grouping
 pub mod Shares
 pub mod Rows
 pub mod Texts
+pub mod SetTexts
 pub mod Inside

@@ -7,7 +7,7 @@ use Rattle.std.specs.declared.cmp.Ordering.{Ordering}
 use Rattle.net_addr.specs.NetSet.{all}
 use Rattle.net_addr.specs.declared.peer.Peer.{Peer}
 use Rattle.peer_rec.specs.declared.rec.Rec.{Rec}
-use Rattle.risk_sum.specs.Kinds.{rounded_up}
+use Rattle.risk_parts.specs.Parts.{millionths, wanted_in}
 use Rattle.table_machine.specs.Picks.{wanted_new, wanted_tried}
 use Rattle.table_machine.specs.State.{State}
 use Rattle.table_groups.specs.Tally.{once}
@@ -20,19 +20,11 @@ use Rattle.table_risk.specs.declared.rows.Row.{Row}
 abbrev pub search : Bool → By → ℕ → Search
 search in_new by now = record { in_new = in_new; by = by; now = now }
 
-abbrev pub wanted_in : State → Bool → ℕ
-wanted_in st true = wanted_new st all
-wanted_in st false = wanted_tried st all
-
 -- of 2^64 searches of a table, how many end at records of the group, at most: none if it has no
 -- records
 abbrev pub share_in : State → Search → List ℕ → ℕ
 share_in st what g =
     if wanted_in st what.in_new == 0 then 0 else min (share_of st what g) (2 ^ 64)
-
--- a share in parts of a million, rounded up
-abbrev pub millionths : ℕ → ℕ → ℕ
-millionths share whole = rounded_up (min share whole * 10 ^ 6) whole
 
 -- A group, whose first record has this index. With records in both tables, half of the picks come
 -- from each.

@@ -8,7 +8,7 @@ use Rattle.table_machine.specs.Picks.{first_factor}
 use Rattle.table_machine.specs.State.{State}
 use Rattle.table_risk.specs.Grouping.{is_in}
 use Rattle.table_risk.specs.declared.classes.Search.{Search}
-use Rattle.table_risk.specs.declared.shares.TheConstants.{AHEAD}
+use Rattle.risk_parts.specs.declared.parts.TheConstants.{AHEAD}
 
 -- how many starts lead to records of each chance, and to those of a group
 abbrev pub group_kinds : State → Search → List ℕ → List Kind

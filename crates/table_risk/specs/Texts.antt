@@ -53,16 +53,16 @@ abbrev pub name_in : By → Places → Option Rec → List ℕ
 name_in by places None = []
 name_in by places (Some r) = name_by by places r
 
-unfoldable pub tail_text : Row → List ℕ
-tail_text row =
-    part_text (codes ": picks ") row.picks
-    ++ (part_text (codes " new ") row.new
-    ++ (part_text (codes " tried ") row.tried ++ codes "\n"))
+unfoldable pub parts_text : ℕ → ℕ → ℕ → List ℕ
+parts_text picks new tried =
+    part_text (codes ": picks ") picks
+    ++ (part_text (codes " new ") new ++ (part_text (codes " tried ") tried ++ codes "\n"))
 
 -- the line of a group, with the name of its first record's
 unfoldable pub row_text : Places → By → List Rec → Row → List ℕ
 row_text places by recs row =
-    word_of by ++ (name_in by places (slice_get recs row.first) ++ tail_text row)
+    word_of by
+    ++ (name_in by places (slice_get recs row.first) ++ parts_text row.picks row.new row.tried)
 
 -- how many buckets of a table have a record
 unfoldable pub used_buckets : State → Bool → ℕ

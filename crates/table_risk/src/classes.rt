@@ -11,6 +11,7 @@ use crate::{By, Memory};
 use arrayvec::ArrayVec;
 use indexmap::IndexMap;
 use peer_rec::Rec;
+use risk_parts::CHANCES;
 use risk_sum::Kind;
 use std::alloc::{AllocError, Global};
 use std::hash::BuildHasher;
@@ -18,29 +19,6 @@ use std::sync::ledger::Ledger;
 use steps::Steps;
 use table_groups::{Group, Lent, Tally, put_value, value_of};
 use tables::Tables;
-
-/// The chances that a record can have, in parts of 2^30: after no try to eight tries, and the same
-/// after a try in the last ten minutes (`AddrInfo::GetChance` in addrman.cpp of Bitcoin Core).
-const CHANCES: [u32; 18] = [
-    1_073_741_824,
-    708_669_603,
-    467_721_938,
-    308_696_479,
-    203_739_676,
-    134_468_186,
-    88_749_003,
-    58_574_342,
-    38_659_065,
-    10_737_418,
-    7_086_696,
-    4_677_219,
-    3_086_964,
-    2_037_396,
-    1_344_681,
-    887_490,
-    585_743,
-    386_590,
-];
 
 /// What is asked about one table.
 #[derive(Clone, Copy)]

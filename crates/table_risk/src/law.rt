@@ -1,15 +1,19 @@
 ghost use Rattle.std.specs.Prelude.{ℕ, ◌*◌, ◌^◌, ◌≤◌, Bool, true, false, List};
 ghost use Rattle.net_addr.specs.NetSet.{all};
 ghost use Rattle.net_addr.specs.declared.peer.Peer.{Peer};
-ghost use Rattle.risk_laws.specs.Lists.{selecting_lists};
+ghost use Rattle.risk_laws.specs.Lists.{searching_lists, selecting_lists};
+ghost use Rattle.risk_parts.specs.Parts.{HasNoTries};
+ghost use Rattle.table_machine.specs.Picks.{first_factor};
 ghost use Rattle.table_machine.specs.Sound.{IsSound};
 ghost use Rattle.table_machine.specs.State.{State};
 ghost use Rattle.table_risk.specs.Rows.{AreOfGroup, row_by};
+ghost use Rattle.table_risk.specs.Texts.{IsRiskText};
 ghost use Rattle.table_risk.specs.declared.by.By.{By};
 
 /// Of the (2^64)^n lists of n random words, for every n, `select` returns a peer of a group for at
 /// most the part that its row says, in parts of a million: from both tables, or from the new one
-/// alone.
+/// alone. A search of the tried table ends at one for at most the part `tried`. If the tables know
+/// of no try, the text is the same at any time from 600 seconds since 1970 on.
 pub fn rows_are_bounds()
     ensures picks { (st : State) (by : By) (g : List ℕ) (now first n : ℕ) (theirs : Peer → Bool) →
         IsSound st → AreOfGroup st by g theirs →
@@ -19,4 +23,10 @@ pub fn rows_are_bounds()
         IsSound st → AreOfGroup st by g theirs →
         selecting_lists st true all now theirs n * 10 ^ 6
         ≤ (2 ^ 64) ^ n * (row_by st by now g first).new }
+    ensures tried { (st : State) (by : By) (g : List ℕ) (now first n : ℕ) (theirs : Peer → Bool) →
+        IsSound st → AreOfGroup st by g theirs →
+        searching_lists st false all now theirs first_factor n * 10 ^ 6
+        ≤ (2 ^ 64) ^ n * (row_by st by now g first).tried }
+    ensures later { (st : State) (by : By) (now later : ℕ) (text : List ℕ) → HasNoTries st →
+        600 ≤ now → 600 ≤ later → IsRiskText st by now text → IsRiskText st by later text }
 {}

@@ -1,17 +1,19 @@
 ghost use Rattle.std.specs.Prelude.{◌≡◌, ◌≤◌, ◌<◌, ◌^◌, ℕ, List, IfOk, map};
 ghost use Rattle.indexmap.specs.IndexMap.{keys};
 ghost use Rattle.std.specs.List.Sorted.{IsPermutation, IsSortedBy};
+ghost use Rattle.risk_parts.specs.Parts.{wanted_in};
 ghost use Rattle.table_machine.specs.Sound.{IsSound};
 ghost use Rattle.table_risk.specs.Inside.{FitsSide, row_in, side_by, side_share, side_value};
-ghost use Rattle.table_risk.specs.Rows.{comes_before, millionths, rank_cmp, rows_of, wanted_in};
+ghost use Rattle.table_risk.specs.Rows.{comes_before, rank_cmp, rows_of};
 ghost use Rattle.table_groups.specs.Tally.{by_bytes, value_in};
 
 use crate::classes::{Class, Search, classes_of};
 use crate::firsts::find_firsts;
-use crate::shares::{AHEAD, share};
+use crate::shares::share;
 use crate::{By, Memory};
 use net_addr::NetSet;
 use peer_rec::Rec;
+use risk_parts::{AHEAD, WHOLE, millionths};
 use std::alloc::{AllocError, Global};
 use std::cmp::Ordering;
 use std::hash::BuildHasher;
@@ -19,11 +21,6 @@ use std::sync::ledger::Ledger;
 use steps::Steps;
 use table_groups::{Group, Tally, copy_of, value_of};
 use tables::Tables;
-
-/// The searches that shares are parts of.
-const WHOLE: u128 = 18_446_744_073_709_551_616;
-/// The parts in which shares are printed.
-const MILLION: u128 = 1_000_000;
 
 /// A group, the index of its first record, and which part falls to it, at most, of the picks from
 /// both tables, of those from the new table alone, and of a search of the tried table, in parts of a
@@ -42,19 +39,6 @@ pub struct Row {
 struct Side<'a, H: BuildHasher> {
     classes: Vec<Class<'a, H>>,
     wanted: u32,
-}
-
-/// Returns a share of `whole` in parts of a million, rounded up.
-fn millionths(share: u128, whole: u128) -> u32
-    requires some { 0 < whole }
-    requires few { whole ≤ 2 ^ 65 }
-    ensures { result ≡ millionths share whole }
-{
-    if share < whole {
-        ((share * MILLION + (whole - 1)) / whole) as u32
-    } else {
-        MILLION as u32
-    }
 }
 
 /// Returns how many of 2^64 searches of a table end at records of a group, at most. Without

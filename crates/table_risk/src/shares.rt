@@ -7,10 +7,6 @@ use risk_sum::most;
 use std::hash::BuildHasher;
 use table_groups::Group;
 
-/// How many refusals of a search are looked ahead: with eight failures and a try just now a record
-/// is accepted at the 45th.
-pub const AHEAD: u32 = 48;
-
 /// Returns how many of 2^64 searches of a table end at records of a group, at most.
 pub(crate) fn share<H: BuildHasher>(classes: &[Class<'_, H>], group: &Group, ahead: u32) -> u128
     requires few { length classes.now ≤ 18 }

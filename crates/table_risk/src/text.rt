@@ -4,7 +4,7 @@ ghost use Rattle.net_addr.specs.NetSet.{all};
 ghost use Rattle.slot_grid.specs.declared.sizes.TheConstants.{NEW_BUCKETS, SLOTS, TRIED_BUCKETS};
 ghost use Rattle.table_laws.specs.Searches.{has_candidate};
 ghost use Rattle.table_risk.specs.Inside.{in_mask};
-ghost use Rattle.table_risk.specs.Texts.{IsRiskText, four_digits, heading, name_by, name_in, network_name, numbers_text, part_text, row_text, tail_text, used_buckets, word_of};
+ghost use Rattle.table_risk.specs.Texts.{IsRiskText, four_digits, heading, name_by, name_in, network_name, numbers_text, part_text, parts_text, row_text, used_buckets, word_of};
 
 use crate::rows::rows_in_order;
 use crate::{By, Memory, Row};
@@ -109,14 +109,14 @@ fn put_name_in(
     }
 }
 
-/// Appends the bounds of a row.
-#[tactic(auto, unfolding(crate::specs::Texts::tail_text))]
-fn put_tail(row: &Row, out: &mut Vec<u8>) -> Result<(), Memory>
-    ensures { OnOk result (out.new.items ≡ out.old.items ++ tail_text row.now) }
+/// Appends three parts of a million.
+#[tactic(auto, unfolding(crate::specs::Texts::parts_text))]
+pub(crate) fn put_parts(picks: u32, new: u32, tried: u32, out: &mut Vec<u8>) -> Result<(), Memory>
+    ensures { OnOk result (out.new.items ≡ out.old.items ++ parts_text picks new tried) }
 {
-    put_part(b": picks ", row.picks, out)?;
-    put_part(b" new ", row.new, out)?;
-    put_part(b" tried ", row.tried, out)?;
+    put_part(b": picks ", picks, out)?;
+    put_part(b" new ", new, out)?;
+    put_part(b" tried ", tried, out)?;
     put_text(b"\n", out)?;
     Ok(())
 }
@@ -143,7 +143,7 @@ fn put_row(
 {
     put_text(word_of(by), out)?;
     put_name_in(alloc, placer, by, rec_at(recs, row.first), out)?;
-    put_tail(row, out)?;
+    put_parts(row.picks, row.new, row.tried, out)?;
     Ok(())
 }
 
@@ -198,7 +198,10 @@ fn is_used_tried<H: BuildHasher, L: Ledger>(
 
 /// Returns how many buckets of the new table have a record.
 #[tactic(auto, unfolding(crate::specs::Texts::used_buckets))]
-fn used_new<H: BuildHasher, L: Ledger>(tables: &Tables<'_, H>, steps: &mut Steps<L>) -> u32
+pub(crate) fn used_new<H: BuildHasher, L: Ledger>(
+    tables: &Tables<'_, H>,
+    steps: &mut Steps<L>,
+) -> u32
     ensures { result ≡ used_buckets tables.now true }
 {
     let mut count = 0;
@@ -212,7 +215,10 @@ fn used_new<H: BuildHasher, L: Ledger>(tables: &Tables<'_, H>, steps: &mut Steps
 
 /// Returns how many buckets of the tried table have a record.
 #[tactic(auto, unfolding(crate::specs::Texts::used_buckets))]
-fn used_tried<H: BuildHasher, L: Ledger>(tables: &Tables<'_, H>, steps: &mut Steps<L>) -> u32
+pub(crate) fn used_tried<H: BuildHasher, L: Ledger>(
+    tables: &Tables<'_, H>,
+    steps: &mut Steps<L>,
+) -> u32
     ensures { result ≡ used_buckets tables.now false }
 {
     let mut count = 0;
@@ -238,7 +244,7 @@ fn put_numbers(label: &[u8], new: u32, tried: u32, out: &mut Vec<u8>) -> Result<
 
 /// Appends the first line, from how many records and used buckets each table has.
 #[tactic(auto, unfolding(crate::specs::Texts::heading))]
-fn put_heading(
+pub(crate) fn put_heading(
     new: u32,
     tried: u32,
     new_buckets: u32,

@@ -1,0 +1,3 @@
+pub mod BoundsOf
+pub mod Sums
+pub mod Untried
