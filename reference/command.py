@@ -31,7 +31,7 @@ IN_PLACE = {b"--help": b"help", b"-h": b"help", b"--version": b"version"}
 CHAIN = ("--net", "--magic")
 OPTIONS = {"replay": ("--key", *CHAIN), "opener": ("--key", *CHAIN), "picture": CHAIN, "raw": CHAIN,
            "info": CHAIN, "groups": CHAIN}
-GROUPINGS = ("source", "peer", "network")
+GROUPINGS = ("source", "peer", "network", "-")
 NO_KEY = b"--no-key"
 CORE = b"--core"
 BAN_COMMANDS = ("ban", "unban", "banned", "bans")
@@ -361,7 +361,19 @@ class Run:
         self.print(node_json.groups(self.saved_tables(kind)))
 
     def risk(self, by: str, kind: FileKind):
-        self.print(risk.risk(self.saved_tables(kind), by))
+        tables = self.saved_tables(kind)
+        if by != "-":
+            self.print(risk.risk(tables, by))
+            return
+        sets = []
+        for count, line in read_lines(self.read):
+            try:
+                own = risk.read_set(line)
+            except Fault as fault:
+                raise Stop(3, f"log line {count}: {fault}")
+            if own is not None:
+                sets.append(own)
+        self.print(risk.sets_risk(tables, sets))
 
     def compile(self):
         rows = self.load("prefixes.txt", prefixes.MAXIMUM_BYTES, 6, prefixes.read_rows)

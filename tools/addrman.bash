@@ -39,7 +39,7 @@ _addrman() {
         replay | opener) mapfile -t COMPREPLY < <(compgen -W "--key --key-file --net --magic --core" -- "$word") ;;
         show) mapfile -t COMPREPLY < <(compgen -W "--net --magic --no-key --core --peers" -- "$word") ;;
         risk)
-            mapfile -t COMPREPLY < <(compgen -W "source peer network --net --magic --core --peers --asmap" -- "$word")
+            mapfile -t COMPREPLY < <(compgen -W "source peer network - --net --magic --core --peers --asmap" -- "$word")
             ;;
         picture | raw | info | groups)
             mapfile -t COMPREPLY < <(compgen -W "--net --magic --core --peers --asmap" -- "$word")

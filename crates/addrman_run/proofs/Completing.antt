@@ -28,10 +28,15 @@ use Rattle.opener_lines.proofs.OneMeaning.{asked_no_fault}
 use Rattle.opener_lines.specs.Grammar.{HasRequestFault}
 use Rattle.peers_file.specs.declared.chain.Chain.{Chain}
 use Rattle.arguments.specs.declared.file_kind.FileKind.{FileKind}
+use Rattle.arguments.specs.declared.grouping.Grouping.{Grouping}
+use Rattle.arguments.specs.declared.grouping.Grouping.TheVariants.{Source, Peer, Network, Sets}
+use Rattle.risk_parts.specs.declared.addr_set.AddrSet.{AddrSet}
 use Rattle.addrman_run.specs.Bans.{BansEnds, Change, ReportsBans}
 use Rattle.addrman_run.specs.Compile.{CompileEnds}
-use Rattle.addrman_run.specs.Complete.{IsAddressLine, IsComplete, IsGoodLog, IsLimitLine, IsLookupLine, IsOpenerLine, IsReplayLine, IsUsable, NoRefusal, NoSaveFails, NothingFails, NothingIsWrong}
-use Rattle.addrman_run.specs.Opening.{ReportsOpening}
+use Rattle.addrman_run.specs.Complete.{IsAddressLine, IsComplete, IsGoodLog, IsLimitLine, IsLookupLine, IsOpenerLine, IsReplayLine, IsSetLine, IsUsable, NoRefusal, NoRiskFault, NoSaveFails, NothingFails, NothingIsWrong}
+use Rattle.addrman_run.specs.Opening.{ReportsOpening, ReportsTables}
+use Rattle.addrman_run.specs.Risk.{RiskEnds}
+use Rattle.addrman_run.specs.RiskLines.{HasSetFault, LacksTables, RiskLinesEnds, RiskedSets, SetStep, SetsRead, Writes, WritesAfter}
 use Rattle.addrman_run.specs.FileLine.{FileLineEnds}
 use Rattle.addrman_run.specs.Generate.{GenText}
 use Rattle.addrman_run.specs.Limit.{LimitEnds, Limited}
@@ -137,6 +142,10 @@ address_line : (line : List ℕ) (fault : LineFault) → IsAddressLine line → 
 address_line line fault (inl passed) why = why.0 passed
 address_line line fault (inr (a, is)) why = why.2 a is
 
+set_line : (line : List ℕ) (fault : LineFault) → IsSetLine line → HasSetFault line fault → ⊥
+set_line line fault (inl passed) why = why.0 passed
+set_line line fault (inr (own, is)) why = why.2 own is
+
 -- the folder did not fail if the log is as it was
 no_disk_fault : (old new : Outside) → HasCause old new DiskFault → NothingFails old new → new.left ≡ old.left → ⊥
 no_disk_fault old new cause calm same = calm.folder same (cause.folder.1 refl)
@@ -229,6 +238,39 @@ address_lines_done old new answer ends cause fine calm =
     (λ run. no_long_log _ _ _ IsAddressLine address_line _ _ fine.0 run.answered.ran)
     (bad_map_done old new answer fine.1 calm)
 
+-- why no tables were opened
+no_tables_done : (kind : FileKind) (old new : Outside) (answer : Status) → NoRefusal (ReportsTables kind.chain old.past) → NothingFails old new → HasCause old new answer
+    → LacksTables kind old.past answer × IsUntouched old new → IsDone answer
+no_tables_done kind old new Memory fine calm cause is = inr refl
+no_tables_done kind old new DiskFault fine calm cause is = absurd (no_disk_fault old new cause calm is.1.log.0)
+no_tables_done kind old new other fine calm cause is = absurd (fine other is.0)
+
+-- an end that no writing has is that of the reading
+module _ (old middle new : Streams) (how : LogEnd) (text : List ℕ) (sets : List AddrSet) (never : (a b : Option (List ℕ)) → Writes text a b how → ⊥) where
+  with_end : (read : LogEnd) → SetsRead old middle sets read → how ≡ read → Ran SetStep HasSetFault [] old middle how
+  with_end read lines is = subst (λ e. Ran SetStep HasSetFault [] old middle e) (sym is) lines.ran
+
+  read_to : (read : LogEnd) → SetsRead old middle sets read → WritesAfter read text middle new how → Ran SetStep HasSetFault [] old middle how
+  read_to end.Done lines is = absurd (never middle.written new.written is.1)
+  read_to (end.Fault n fault) lines is = with_end (end.Fault n fault) lines is.0
+  read_to (end.LineTooLong n) lines is = with_end (end.LineTooLong n) lines is.0
+  read_to end.LogTooLong lines is = with_end end.LogTooLong lines is.0
+  read_to end.ReadFault lines is = with_end end.ReadFault lines is.0
+  read_to end.WriteFault lines is = with_end end.WriteFault lines is.0
+  read_to end.Memory lines is = with_end end.Memory lines is.0
+
+risk_lines_done : (kind : FileKind) (old new : Outside) (answer : Status) → RiskLinesEnds kind old new answer → HasCause old new answer
+    → IsGoodLog IsSetLine old.left → NoRefusal (ReportsTables kind.chain old.past) → NothingFails old new → IsDone answer
+risk_lines_done kind old new answer ends cause fine good calm =
+    log_done (RiskedSets kind old.past (streams_of old) (streams_of new)) (λ other. LacksTables kind old.past other × IsUntouched old new) old new answer ends.outcome cause calm
+    (λ n fault run. no_fault SetStep HasSetFault [] IsSetLine set_line (streams_of old) run.ran.middle fine n fault
+    (read_to (streams_of old) run.ran.middle (streams_of new) (end.Fault n fault) _ run.ran.sets (λ a b none. none) run.ran.read run.ran.lines run.ran.wrote))
+    (λ n run. no_long_line SetStep HasSetFault [] IsSetLine set_line (streams_of old) run.ran.middle fine n
+    (read_to (streams_of old) run.ran.middle (streams_of new) (end.LineTooLong n) _ run.ran.sets (λ a b none. none) run.ran.read run.ran.lines run.ran.wrote))
+    (λ run. no_long_log SetStep HasSetFault [] IsSetLine set_line (streams_of old) run.ran.middle fine
+    (read_to (streams_of old) run.ran.middle (streams_of new) end.LogTooLong _ run.ran.sets (λ a b none. none) run.ran.read run.ran.lines run.ran.wrote))
+    (no_tables_done kind old new answer good calm)
+
 -- a command that loads one file and writes a line about it
 file_line_done : (name : Name) (IsLine : Option Past → List ℕ → Type 0) (Refuses : Option Past → Status → Type 0) (old new : Outside) (answer : Status)
     → FileLineEnds name IsLine Refuses old new answer → HasCause old new answer → IsUsable name Refuses old.past → NothingFails old new → IsDone answer
@@ -247,6 +289,14 @@ text_done IsText Refuses old new Memory ends cause fine calm = inr refl
 text_done IsText Refuses old new WriteFault ends cause fine calm = absurd (no_write_fault old new cause calm)
 text_done IsText Refuses old new DiskFault ends cause fine calm = absurd (no_disk_fault old new cause calm ends.left.0)
 text_done IsText Refuses old new other ends cause fine calm = absurd (fine other ends.text.0)
+
+-- `risk`, for groups or for sets
+risk_done : (by : Grouping) (kind : FileKind) (old new : Outside) (answer : Status) → RiskEnds by kind old new answer → HasCause old new answer
+    → NoRiskFault by old.left → NoRefusal (ReportsTables kind.chain old.past) → NothingFails old new → IsDone answer
+risk_done Source kind old new answer ends cause fine good calm = text_done _ _ old new answer ends.ends cause good calm
+risk_done Peer kind old new answer ends cause fine good calm = text_done _ _ old new answer ends.ends cause good calm
+risk_done Network kind old new answer ends cause fine good calm = text_done _ _ old new answer ends.ends cause good calm
+risk_done Sets kind old new answer ends cause fine good calm = risk_lines_done kind old new answer ends cause fine good calm
 
 compile_done : (old new : Outside) (answer : Status) → CompileEnds old new answer → HasCause old new answer → IsUsable name.Prefixes ReportsTable old.past → NothingFails old new → IsDone answer
 compile_done old new Done ends cause fine calm = inl refl
@@ -305,7 +355,7 @@ done (request.Picture kind) old new answer ends cause fine calm = text_done _ _ 
 done (request.Raw kind) old new answer ends cause fine calm = text_done _ _ old new answer ends.ends cause fine calm
 done (request.Info kind) old new answer ends cause fine calm = text_done _ _ old new answer ends.ends cause fine calm
 done (request.Groups kind) old new answer ends cause fine calm = text_done _ _ old new answer ends.ends cause fine calm
-done (request.Risk by kind) old new answer ends cause fine calm = text_done _ _ old new answer ends.ends cause fine calm
+done (request.Risk by kind) old new answer ends cause fine calm = risk_done by kind old new answer ends cause fine.0 fine.1 calm
 done (request.Ban rule subnet now until) old new answer ends cause fine calm = bans_done _ _ old new answer ends cause fine calm
 done (request.Unban rule subnet) old new answer ends cause fine calm = bans_done _ _ old new answer ends cause fine calm
 done (request.Banned rule peer now) old new answer ends cause fine calm = bans_done _ _ old new answer ends cause fine calm

@@ -51,6 +51,10 @@ module _ {S T : Type 0} (seen : S → T) (step : Steps T) (has_fault : List ℕ 
       ran_as Seen step has_fault start (seen start) old new how r (seen r.now) (run_of r.carried r.replies start r.now r.runs)
       (last_of r.carried r.replies start r.now [] r.runs)
 
+  pub now_of : (start : S) (old new : Streams) (how : LogEnd) (r : Ran Seen has_fault start old new how) → (ran_of start old new how r).now ≡ seen r.now
+  unfolding ran_of
+  now_of start old new how r = refl
+
 -- what holds of a run, by the status of its end
 pub by_status : (ran : LogEnd → Type 0) (not_run : Status → Type 0) (how : LogEnd) → ran how → LogOutcome ran not_run (status_of how)
 by_status ran not_run end.Done r = r

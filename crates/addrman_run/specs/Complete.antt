@@ -3,6 +3,8 @@
 use Rattle.std.specs.Prelude.{◌≡◌, ◌⊎◌, ◌≤◌, ℕ, List, All, length, Option, Some, ⊤, option_map}
 use Rattle.addr_limit.specs.Lines.{SaysEvent}
 use Rattle.addr_limit.specs.declared.event.Event.{Event}
+use Rattle.arguments.specs.declared.grouping.Grouping.{Grouping}
+use Rattle.arguments.specs.declared.grouping.Grouping.TheVariants.{Sets}
 use Rattle.host_io.specs.Faults.{Rose}
 use Rattle.host_io.specs.Lines.{IsPassedOver, lines_of}
 use Rattle.host_io.specs.Outside.{Outside}
@@ -18,6 +20,8 @@ use Rattle.net_addr.specs.Address as net
 use Rattle.net_addr.specs.declared.peer.Peer.{Peer}
 use Rattle.opener_lines.specs.Grammar.{LineAsks}
 use Rattle.opener_lines.specs.declared.request.Request as opener
+use Rattle.risk_parts.specs.Sets.{IsSetText}
+use Rattle.risk_parts.specs.declared.addr_set.AddrSet.{AddrSet}
 use Rattle.session.specs.History.{failed}
 use Rattle.addrman_run.specs.Asmaps.{ReportsAsmap}
 use Rattle.addrman_run.specs.Bans.{ReportsBans}
@@ -59,6 +63,10 @@ IsLookupLine line = IsPassedOver line ⊎ ((peer : Peer) × IsPeerLine line peer
 abbrev pub IsAddressLine : List ℕ → Type 0
 IsAddressLine line = IsPassedOver line ⊎ ((a : net.Address) × IsTextOf line a)
 
+-- a line that `risk -` carries out
+abbrev pub IsSetLine : List ℕ → Type 0
+IsSetLine line = IsPassedOver line ⊎ ((set : AddrSet) × IsSetText line set)
+
 -- Contracts know the log. It is within its limit, each of its lines is within the limit of a line,
 -- and each is one that the command carries out.
 pub record IsGoodLog (IsLine : List ℕ → Type 0) (left : Option (List ℕ)) : Type 0 where
@@ -79,6 +87,11 @@ abbrev pub IsUsable : Name → (Option Past → Status → Type 0) → Option Pa
 IsUsable name Reports past = ¬ IsAbsent name past × NoRefusal (Reports past)
 
 -- THE WHOLE
+
+-- the log is right, if sets are read from it
+abbrev pub NoRiskFault : Grouping → Option (List ℕ) → Type 0
+NoRiskFault Sets left = IsGoodLog IsSetLine left
+NoRiskFault other left = ⊤
 
 -- Nothing is wrong with what the request reads: the log, if it reads one, and its files.
 abbrev pub NothingIsWrong : Request → Outside → Type 0
@@ -103,7 +116,8 @@ NothingIsWrong (Picture kind) at = NoRefusal (ReportsTables kind.chain at.past)
 NothingIsWrong (Raw kind) at = NoRefusal (ReportsTables kind.chain at.past)
 NothingIsWrong (Info kind) at = NoRefusal (ReportsTables kind.chain at.past)
 NothingIsWrong (Groups kind) at = NoRefusal (ReportsTables kind.chain at.past)
-NothingIsWrong (Risk by kind) at = NoRefusal (ReportsTables kind.chain at.past)
+NothingIsWrong (Risk by kind) at =
+    NoRiskFault by at.left × NoRefusal (ReportsTables kind.chain at.past)
 NothingIsWrong (Ban rule subnet now until) at = NoRefusal (ReportsBans rule at.past)
 NothingIsWrong (Unban rule subnet) at = NoRefusal (ReportsBans rule at.past)
 NothingIsWrong (Banned rule peer now) at = NoRefusal (ReportsBans rule at.past)

@@ -23,6 +23,7 @@ pub mod Bans
 pub mod Show
 pub mod Picture
 pub mod Risk
+pub mod RiskLines
 pub mod TablesJson
 pub mod TextOut
 pub mod Generate

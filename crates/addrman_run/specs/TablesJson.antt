@@ -8,6 +8,7 @@ use Rattle.node_json.specs.Info.{info_json}
 use Rattle.node_json.specs.Raw.{raw_json}
 use Rattle.node_json.specs.Value.{IsJsonText}
 use Rattle.arguments.specs.declared.file_kind.FileKind.{FileKind}
+use Rattle.table_groups.specs.View.{view_of}
 use Rattle.table_machine.specs.State.{State}
 use Rattle.addrman_run.specs.Opening.{Opened}
 use Rattle.addrman_run.specs.TextOut.{TablesTextEnds}
@@ -17,8 +18,8 @@ use Rattle.addrman_run.specs.declared.tables_json.TablesJson.TheVariants.{Raw, I
 
 abbrev pub json_of : TablesJson → State → Json
 json_of Raw st = raw_json st
-json_of Info st = info_json st
-json_of Groups st = groups_json st
+json_of Info st = info_json (view_of st)
+json_of Groups st = groups_json (view_of st)
 
 -- a text of the tables that the folder's peers.dat and asmap.dat open
 abbrev pub IsTablesText : TablesJson → FileKind → Option Past → List ℕ → Type 0

@@ -37,6 +37,7 @@ mod picture;
 mod replay;
 mod report;
 mod risk;
+mod risk_lines;
 mod show;
 mod status;
 mod tables_fault;

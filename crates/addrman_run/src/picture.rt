@@ -1,5 +1,6 @@
 ghost use Rattle.std.specs.Prelude.{◌≡◌, ◌≢◌, IfOk};
 ghost use Rattle.log_run.specs.Counts.{IsCounted};
+ghost use Rattle.table_groups.specs.View.{view_of};
 ghost use Rattle.table_picture.specs.Picture.{picture_of};
 ghost use Rattle.addrman_run.specs.InFolder.{ReportsNoPeers};
 ghost use Rattle.addrman_run.specs.Inside.{TextEnds};
@@ -71,7 +72,8 @@ fn write_picture<K: Sink, H: BuildHasher, G: BuildHasher>(
     tables: &Tables<'_, H>,
     out: &mut K,
 ) -> Status
-    ensures text { TextEnds (picture_of tables.now) (K.written out.old) (K.written out.new) result }
+    ensures text { TextEnds (picture_of (view_of tables.now))
+        (K.written out.old) (K.written out.new) result }
     ensures write { IsCounted Status.WriteFault (K.faults out.old) (K.faults out.new) result }
     ensures no_disk { result ≢ Status.DiskFault }
 {
@@ -91,7 +93,7 @@ fn text_of<L: Ledger, H: BuildHasher, G: BuildHasher>(
     requires name { blank.name ≡ L.name }
     requires parts { blank.parts ≡ L.parts }
     requires one { blank.parts ≡ 1 }
-    ensures { IfOk result (λ text. text.items ≡ picture_of tables.now) }
+    ensures { IfOk result (λ text. text.items ≡ picture_of (view_of tables.now)) }
 {
     let mut steps = Steps::<L>::none(blank);
     let mut text = Vec::new(alloc);

@@ -1,16 +1,19 @@
-ghost use Rattle.std.specs.Prelude.{◌≡◌, IfOk};
+ghost use Rattle.std.specs.Prelude.{◌≡◌, ◌≢◌, IfOk};
+ghost use Rattle.host_io.specs.Outside.{outside};
 ghost use Rattle.log_run.specs.Counts.{IsCounted};
+ghost use Rattle.addrman_run.specs.Outcome.{HasCause};
 ghost use Rattle.addrman_run.specs.InFolder.{ReportsNoPeers};
 ghost use Rattle.addrman_run.specs.Opening.{ReportsTables};
-ghost use Rattle.addrman_run.specs.Risk.{IsRisk, by_of};
+ghost use Rattle.addrman_run.specs.Risk.{AsksNoLog, IsRisk, RiskEnds};
 ghost use Rattle.addrman_run.specs.TextOut.{TextOut};
 ghost use Rattle.table_risk.specs.Texts.{IsRiskText};
 
 use crate::opening::open_peers;
 use crate::output::write_line;
+use crate::risk_lines::risk_lines;
 use crate::{Learned, Memory, Status};
 use arguments::{FileKind, Grouping};
-use host_io::{Bytes, Folder, Sink};
+use host_io::{Bytes, Folder, Sink, Source};
 use std::alloc::Global;
 use std::hash::BuildHasher;
 use std::marker::Brand;
@@ -20,45 +23,35 @@ use table_groups::Lent;
 use table_risk::{By, risk_text};
 use tables::Tables;
 
-/// The time of the picks, in seconds since 1970. At any later one the parts are the same: the
-/// tables of a file know of no try, as after a restart.
+/// The time of the picks, in seconds since 1970. The tables of a file know of no try, as after a
+/// restart, and so the text is the same at any later time (`parts_last` of `risk_parts`, and `later`
+/// of `rows_are_bounds`).
 pub const AFTER_RESTART: u32 = 600;
-
-/// Returns what makes records one group.
-fn by_of(by: Grouping) -> By
-    ensures { result ≡ by_of by }
-{
-    match by {
-        Grouping::Source => By::Source,
-        Grouping::Peer => By::Peer,
-        Grouping::Network => By::Network,
-    }
-}
 
 /// Returns which part of the picks from the tables falls to each group. The steps are counted, and
 /// nobody reads how many.
 fn text_of<L: Ledger, H: BuildHasher, G: BuildHasher>(
     alloc: Global,
     hasher: &G,
-    by: Grouping,
+    by: By,
     tables: &Tables<'_, H>,
     blank: Blank,
 ) -> Result<Vec<u8>, Memory>
     requires name { blank.name ≡ L.name }
     requires parts { blank.parts ≡ L.parts }
     requires one { blank.parts ≡ 1 }
-    ensures { IfOk result (λ text. IsRiskText tables.now (by_of by) AFTER_RESTART text.items) }
+    ensures { IfOk result (λ text. IsRiskText tables.now by AFTER_RESTART text.items) }
 {
     let mut steps = Steps::<L>::none(blank);
-    risk_text(alloc, hasher, tables, by_of(by), AFTER_RESTART, &mut steps)
+    risk_text(alloc, hasher, tables, by, AFTER_RESTART, &mut steps)
 }
 
 /// Writes which part of the picks from the tables of the folder's peers.dat, under its asmap, falls
 /// to each group.
-pub(crate) fn risk<F: Folder, K: Sink, H: BuildHasher + Drop>(
+fn risk_by<F: Folder, K: Sink, H: BuildHasher + Drop>(
     alloc: Global,
     hasher: H,
-    by: Grouping,
+    by: By,
     kind: FileKind,
     folder: &mut F,
     out: &mut K,
@@ -79,7 +72,7 @@ pub(crate) fn risk<F: Folder, K: Sink, H: BuildHasher + Drop>(
 fn write_opened<'a, F: Folder, K: Sink, H: BuildHasher + Drop>(
     alloc: Global,
     hasher: &'a H,
-    by: Grouping,
+    by: By,
     kind: FileKind,
     asmap: &'a mut Option<Bytes>,
     folder: &mut F,
@@ -100,5 +93,33 @@ fn write_opened<'a, F: Folder, K: Sink, H: BuildHasher + Drop>(
     match text_of::<Brand, Lent<'_, H>, H>(alloc, hasher, by, &tables, Blank::new(1)) {
         Ok(text) => write_line(text.as_slice(), out),
         Err(_) => Status::Memory,
+    }
+}
+
+/// Writes which part of the picks falls to each group of the records, or to each set of addresses
+/// that the log names.
+pub(crate) fn risk<L: Source, F: Folder, K: Sink, H: BuildHasher + Drop>(
+    alloc: Global,
+    hasher: H,
+    by: Grouping,
+    kind: FileKind,
+    log: &mut L,
+    folder: &mut F,
+    out: &mut K,
+    learned: &mut Learned,
+) -> Status
+    ensures asked { result ≢ Status.Usage }
+    ensures no_log { AsksNoLog by → log.new ≡ log.old }
+    ensures cause { HasCause (outside L.Source F.Folder K.Sink log.old folder.old out.old)
+        (outside L.Source F.Folder K.Sink log.new folder.new out.new) result }
+    ensures outcome { RiskEnds by kind
+        (outside L.Source F.Folder K.Sink log.old folder.old out.old)
+        (outside L.Source F.Folder K.Sink log.new folder.new out.new) result }
+{
+    match by {
+        Grouping::Source => risk_by(alloc, hasher, By::Source, kind, folder, out, learned),
+        Grouping::Peer => risk_by(alloc, hasher, By::Peer, kind, folder, out, learned),
+        Grouping::Network => risk_by(alloc, hasher, By::Network, kind, folder, out, learned),
+        Grouping::Sets => risk_lines(alloc, hasher, kind, log, folder, out, learned),
     }
 }

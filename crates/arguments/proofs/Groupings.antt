@@ -7,7 +7,7 @@ use Rattle.placing.specs.declared.sum.SumRule.TheVariants.{Bytes}
 use Rattle.arguments.specs.Options.{HasRule, IsAfterGrouping, IsFileOptions, IsNet, grouping_word}
 use Rattle.arguments.specs.declared.file_kind.FileKind.{FileKind}
 use Rattle.arguments.specs.declared.grouping.Grouping.{Grouping}
-use Rattle.arguments.specs.declared.grouping.Grouping.TheVariants.{Source, Peer, Network}
+use Rattle.arguments.specs.declared.grouping.Grouping.TheVariants.{Source, Peer, Network, Sets}
 use Rattle.arguments.specs.declared.grouping.TheConstants.{GROUPINGS}
 use Rattle.arguments.proofs.Choosing.{one_net}
 use Rattle.arguments.proofs.WithCore.{not_read, one_kind}
@@ -20,6 +20,7 @@ found_grouping : (by : Grouping) → found_by (grouping_word by) ≡ Some by
 found_grouping Source = refl
 found_grouping Peer = refl
 found_grouping Network = refl
+found_grouping Sets = refl
 
 word_found : (word : List ℕ) (by : Grouping) → word ≡ grouping_word by → found_by word ≡ Some by
 word_found word by is = subst (λ w. found_by w ≡ Some by) (sym is) (found_grouping by)
@@ -50,6 +51,7 @@ no_dash : (by : Grouping) → grouping_word by ≡ codes "--core" → ⊥
 no_dash Source is = omega (arith, ap (λ t. get_or t 0 0) is)
 no_dash Peer is = omega (arith, ap (λ t. get_or t 0 0) is)
 no_dash Network is = omega (arith, ap (λ t. get_or t 0 0) is)
+no_dash Sets is = omega (arith, ap (λ t. get_or t 1 0) is)
 
 apart_after : (by : Grouping) (texts rest : List (List ℕ)) (chain : Chain) → texts ≡ codes "--core" ∷ rest → IsAfterGrouping by texts chain → ⊥
 apart_after by texts rest chain is (left, begins, net) = no_dash by (ap (λ ts. get_or ts 0 []) (sym begins ∙ is))

@@ -12,7 +12,7 @@ use Rattle.arguments.specs.declared.chain_option.ChainOption.{ChainOption}
 use Rattle.arguments.specs.declared.chain_option.ChainOption.TheVariants.{Net, Magic}
 use Rattle.arguments.specs.declared.file_kind.FileKind.{FileKind}
 use Rattle.arguments.specs.declared.grouping.Grouping.{Grouping}
-use Rattle.arguments.specs.declared.grouping.Grouping.TheVariants.{Source, Peer, Network}
+use Rattle.arguments.specs.declared.grouping.Grouping.TheVariants.{Source, Peer, Network, Sets}
 
 -- a key of 32 bytes, as 64 hexadecimal digits in either case
 abbrev pub IsKey : List ℕ → List ℕ → Type 0
@@ -86,6 +86,7 @@ abbrev pub grouping_word : Grouping → List ℕ
 grouping_word Source = codes "source"
 grouping_word Peer = codes "peer"
 grouping_word Network = codes "network"
+grouping_word Sets = codes "-"
 
 -- the arguments ask for groups of the records of a file of this chain
 abbrev pub IsAfterGrouping : Grouping → List (List ℕ) → Chain → Type 0

@@ -7,7 +7,7 @@ use crate::options::{first_word, read_net};
 use grammar::{Keyword, find_keyword};
 use peers_file::Chain;
 
-/// What makes records one group.
+/// What makes records one group, or that the groups are named.
 #[derive(Clone, Copy)]
 pub enum Grouping {
     /// The group of the address that first announced the peer.
@@ -16,10 +16,17 @@ pub enum Grouping {
     Peer,
     /// The network of the peer's address.
     Network,
+    /// The sets of addresses that the lines of the log name.
+    Sets,
 }
 
 /// All of them, each once.
-pub const GROUPINGS: [Grouping; 3] = [Grouping::Source, Grouping::Peer, Grouping::Network];
+pub const GROUPINGS: [Grouping; 4] = [
+    Grouping::Source,
+    Grouping::Peer,
+    Grouping::Network,
+    Grouping::Sets,
+];
 
 impl Keyword for Grouping {
     ghost word = { grouping_word };
@@ -29,6 +36,7 @@ impl Keyword for Grouping {
             Grouping::Source => b"source",
             Grouping::Peer => b"peer",
             Grouping::Network => b"network",
+            Grouping::Sets => b"-",
         }
     }
 }

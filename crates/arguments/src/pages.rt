@@ -143,23 +143,28 @@ Codes    0 done, 2 bad usage, 4 peers.dat is refused, 5 asmap.dat is refused,
 );
 
 pub(crate) const RISK: Page = (
-    "risk source|peer|network [--net CHAIN] [--core]",
+    "risk source|peer|network|- [--net CHAIN] [--core]",
     "prints which part of the picks from peers.dat falls to each group, at most",
     "\
-Reads    peers.dat; asmap.dat, if it is there.
+Reads    peers.dat; asmap.dat, if it is there; with -, prefixes and AS numbers from
+         standard input.
 Writes   a line with the sizes of the tables, and one for each group, by picks: which
          part of the picks, of those from the new table and of those from the tried
          one returns its peers, in percent, rounded up.
 source   groups the records by the address that first announced the peer.
 peer     groups them by the peer's own address.
 network  groups them by the network of the peer's address.
+-        reads a line each: a prefix, as 1.2.0.0/16 or 2001:db8::/32, a whole address, or
+         an AS number, as AS64500. Writes a line for the peers of each, in this order,
+         and one for those of all of them.
 CHAIN    main, test, testnet4, signet or regtest; main if it is left out. In place of
          --net may be --magic and the 8 hexadecimal digits that its files begin with.
 FILE     --peers FILE and --asmap FILE are read in the place of peers.dat and asmap.dat.
 --core   takes the checksum of asmap.dat in peers.dat as Bitcoin Core 24 to 30 does.
-Codes    0 done, 2 bad usage, 4 peers.dat is refused, 5 asmap.dat is refused,
-         8 the output cannot be written, 9 the folder failed, 12 out of memory,
-         14 peers.dat is missing.
+Codes    0 done, 2 bad usage, 3 a line has an error, 4 peers.dat is refused,
+         5 asmap.dat is refused, 7 the log cannot be read, 8 the output cannot be
+         written, 9 the folder failed, 10 the log is too long, 12 out of memory,
+         13 a line is too long, 14 peers.dat is missing.
 ",
 );
 

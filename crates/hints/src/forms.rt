@@ -8,7 +8,7 @@ static COMMANDS: [&str; 23] = [
     "raw [--net CHAIN] [--core]",
     "info [--net CHAIN] [--core]",
     "groups [--net CHAIN] [--core]",
-    "risk source|peer|network [--net CHAIN] [--core]",
+    "risk source|peer|network|- [--net CHAIN] [--core]",
     "compile",
     "decompile",
     "diff [--peers [--net CHAIN] [--core]]",

@@ -1,6 +1,7 @@
-use crate::explain::explain;
+use crate::explain::{expected_text, explain};
 use crate::forms::Reader;
 use crate::shown::{MARKED, is_marked};
+use crate::usual::usual_error;
 use std::alloc::{AllocError, Global};
 
 /// Says what is wrong with a line of a log, which the command of this name refuses, and in which
@@ -23,6 +24,9 @@ pub fn line_hint(
     if line.first() == Some(&b' ') {
         return String::from_str(alloc, "column 1: the line begins with a space");
     }
+    if command == b"risk".as_slice() {
+        return set_hint(alloc, line);
+    }
     let fields = fields_of(alloc, line)?;
     if command == b"lookup".as_slice() || command == b"address".as_slice() {
         let wrong = explain(alloc, Reader::Arguments, command, fields.as_slice())?;
@@ -37,6 +41,14 @@ pub fn line_hint(
     let wrong = explain(alloc, reader, *keyword, rest)?;
     let column = column_of(fields.as_slice(), wrong.index);
     format!(in alloc; "column {column}: {}", wrong.text.as_str())
+}
+
+/// Says what is wrong with a line that names no set of addresses.
+fn set_hint(alloc: Global, line: &[u8]) -> Result<String, AllocError> {
+    let usual = usual_error("S", line).unwrap_or("");
+    let expected = "a prefix, as 1.2.0.0/16 or 2001:470::/32, or an AS number, as AS64500";
+    let said = expected_text(alloc, expected, line, usual)?;
+    format!(in alloc; "column 1: {}", said.as_str())
 }
 
 /// Returns the texts between the spaces of a line.

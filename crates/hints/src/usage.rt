@@ -4,7 +4,7 @@ use crate::options::explain_options;
 use std::alloc::{AllocError, Global};
 
 /// What makes records one group in the form of `risk`.
-static GROUPINGS: [&str; 3] = ["source", "peer", "network"];
+static GROUPINGS: [&str; 4] = ["source", "peer", "network", "-"];
 
 /// Returns the arguments after `--peers` or `--no-key`, if they begin with it and the form has it.
 /// `--no-key` may come last, too.
@@ -32,7 +32,7 @@ fn risk_hint(alloc: Global, form: &'static str, words: &[String]) -> Result<Stri
         [first, options @ ..] if GROUPINGS.contains(&first.as_str()) => {
             explain_options(alloc, form, options)
         }
-        [first, ..] => expected_text(alloc, "source, peer or network", first.as_bytes(), ""),
+        [first, ..] => expected_text(alloc, "source, peer, network or -", first.as_bytes(), ""),
         [] => format!(in alloc; "expected \"{form}\""),
     }
 }

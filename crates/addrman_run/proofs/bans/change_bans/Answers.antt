@@ -12,27 +12,27 @@ returns-in-Err-clause-any_moment g c =
     let R = c.args.rule in
     kept R (g.C.BanCommand.change R c.args.command.now) (g.F.Folder.past c.args.folder.now) (g.F.Folder.past c.load_bans.new.folder) c.load_bans.ensures.same
 
-pub returns-in-Ok-output-clause-text : goal.returns-in-Ok-output-clause-text
-returns-in-Ok-output-clause-text g c =
+pub returns-in-Ok-output_of-clause-text : goal.returns-in-Ok-output_of-clause-text
+returns-in-Ok-output_of-clause-text g c =
     let R = c.args.rule in
     let P = g.F.Folder.past in
-    let a = c.in-Ok-output.output in
+    let a = c.in-Ok-output_of.output in
     let l = c.in-Ok.listed in
-    let is : IsAnswer R (g.C.BanCommand.change R c.args.command.now) (P c.args.folder.now) a.line.items a.file = (l.file, l.bans, c.in-Ok.ensures.found, c.in-Ok-output.ensures.line, c.in-Ok-output.ensures.file) in
+    let is : IsAnswer R (g.C.BanCommand.change R c.args.command.now) (P c.args.folder.now) a.line.items a.file = (l.file, l.bans, c.in-Ok.ensures.found, c.in-Ok-output_of.ensures.line, c.in-Ok-output_of.ensures.file) in
     ended R (g.C.BanCommand.change R c.args.command.now) (P c.args.folder.now) (P c.load_bans.new.folder) (P c.write_output.new.folder) a.line.items a.file
     (g.K.Sink.written c.args.out.now) (g.K.Sink.written c.write_output.new.out) _ c.load_bans.ensures.same is c.write_output.ensures.ends
 
-pub returns-in-Ok-output-clause-any_moment : goal.returns-in-Ok-output-clause-any_moment
-returns-in-Ok-output-clause-any_moment g c =
+pub returns-in-Ok-output_of-clause-any_moment : goal.returns-in-Ok-output_of-clause-any_moment
+returns-in-Ok-output_of-clause-any_moment g c =
     let R = c.args.rule in
     let P = g.F.Folder.past in
-    let a = c.in-Ok-output.output in
+    let a = c.in-Ok-output_of.output in
     let l = c.in-Ok.listed in
-    let is : IsAnswer R (g.C.BanCommand.change R c.args.command.now) (P c.args.folder.now) a.line.items a.file = (l.file, l.bans, c.in-Ok.ensures.found, c.in-Ok-output.ensures.line, c.in-Ok-output.ensures.file) in
+    let is : IsAnswer R (g.C.BanCommand.change R c.args.command.now) (P c.args.folder.now) a.line.items a.file = (l.file, l.bans, c.in-Ok.ensures.found, c.in-Ok-output_of.ensures.line, c.in-Ok-output_of.ensures.file) in
     at_each R (g.C.BanCommand.change R c.args.command.now) (P c.args.folder.now) (P c.load_bans.new.folder) (P c.write_output.new.folder) a.line.items a.file
     (g.K.Sink.written c.args.out.now) (g.K.Sink.written c.write_output.new.out) c.write_output.result c.load_bans.ensures.same is c.write_output.ensures.ends c.write_output.ensures.any_moment
 
-pub returns-clause-any_moment : goal.returns-clause-any_moment
-returns-clause-any_moment g c =
+pub returns-in-Err-output_of-clause-any_moment : goal.returns-in-Err-output_of-clause-any_moment
+returns-in-Err-output_of-clause-any_moment g c =
     let R = c.args.rule in
     kept R (g.C.BanCommand.change R c.args.command.now) (g.F.Folder.past c.args.folder.now) (g.F.Folder.past c.load_bans.new.folder) c.load_bans.ensures.same
