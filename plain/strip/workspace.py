@@ -31,7 +31,8 @@ unused_parens = "allow"
 unused_variables = "allow"
 
 # A loop or a match is proved where a closure or a method would want a proof of its own, an index is
-# what a contract speaks of, and C passes pointers to functions that are not marked unsafe.
+# what a contract speaks of, slices are compared as references, and C passes pointers to functions
+# that are not marked unsafe.
 [lints.clippy]
 collapsible_if = "allow"
 collapsible_match = "allow"
@@ -42,6 +43,7 @@ len_without_is_empty = "allow"
 manual_div_ceil = "allow"
 manual_filter = "allow"
 manual_find = "allow"
+manual_flatten = "allow"
 manual_is_multiple_of = "allow"
 manual_map = "allow"
 manual_ok_err = "allow"
@@ -49,6 +51,7 @@ manual_range_contains = "allow"
 manual_unwrap_or = "allow"
 manual_unwrap_or_default = "allow"
 match_like_matches_macro = "allow"
+needless_borrow = "allow"
 needless_lifetimes = "allow"
 needless_match = "allow"
 needless_question_mark = "allow"

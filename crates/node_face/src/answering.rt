@@ -1,4 +1,4 @@
-ghost use Rattle.std.specs.Prelude.{◌≡◌, ◌↔◌, ◌⊎◌, true, map, filter, Some, Err, IfOk, OnOk, OnErr};
+ghost use Rattle.std.specs.Prelude.{◌≡◌, ◌<◌, ◌↔◌, ◌⊎◌, true, length, map, filter, Some, Err, IfOk, OnOk, OnErr};
 ghost use Rattle.addr_answers.specs.Answers.{key_of};
 ghost use Rattle.addr_answers.specs.Runs.{after_ask, told};
 ghost use Rattle.addr_codecs.specs.Layout.{IsMessage};
@@ -38,6 +38,8 @@ fn words_for<H: BuildHasher, R: Rng>(
 ) -> Result<Vec<u64>, Memory>
     ensures words { IfOk result (λ words. words.items
         ≡ words_for (R.stream rng.old) answers.now tables.now key now) }
+    ensures enough { IfOk result (λ words. wants_answer answers.now key now ≡ true
+        → length tables.now.order < length words.items) }
     ensures err { OnErr result (wants_answer answers.now key now ≡ true) }
 {
     if answers.find(key, now).is_some() || !answers.has_room(key) {

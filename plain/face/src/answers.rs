@@ -54,12 +54,13 @@ impl Request {
 ///
 /// ```
 /// use addrman::{AddrMan, Address, Answers, Bans, Entry, Form, Network, Peer, Request, decode};
+/// use std::net::Ipv4Addr;
 /// # use rand_xoshiro::{Xoshiro256PlusPlus, rand_core::SeedableRng};
 ///
 /// # let mut rng = Xoshiro256PlusPlus::seed_from_u64(1);
 /// let (mut peers, now) = (AddrMan::new(&mut rng).unwrap(), 1_700_000_000);
 /// for number in 1..30 {
-///     let peer = Peer::new([number, 9, 9, 9], 8333);
+///     let peer = Peer::new(Ipv4Addr::new(number, 9, 9, 9), 8333);
 ///     let source: Address = "1.2.3.4".parse().unwrap();
 ///     peers.add(&Entry::new(peer, 1, now), source, 0, now, &mut rng).unwrap();
 /// }

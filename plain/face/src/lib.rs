@@ -67,6 +67,7 @@ mod message;
 mod networks;
 mod opener;
 mod record;
+mod risk;
 #[cfg(feature = "serde")]
 mod serialized;
 mod words;
@@ -86,6 +87,7 @@ pub use message::{decode, encode};
 pub use networks::Networks;
 pub use opener::Opener;
 pub use record::{Added, Entry, Pick, Record};
+pub use risk::AddressSet;
 
 pub use addr_answers::MAX_KEYS;
 pub use addr_codecs::{Form, MAX_ENTRIES, MsgFault};
@@ -98,3 +100,4 @@ pub use peer_open::{MAX_OUTBOUND, MAX_TRIES, Verdict};
 pub use peer_rec::{Counts, Good, Resolved};
 pub use peers_file::{Chain, FileFault, RecordCause, Which};
 pub use prefix_table::TableFault;
+pub use risk_parts::Parts;
