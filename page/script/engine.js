@@ -1,6 +1,8 @@
-// The engine runs in a worker of its own, so that the page answers while it works.
-const jobs = new Map();
-let worker = null, nextJob = 1, engineReady = null;
+// The engine runs in workers of its own, so that the page answers while it works. Jobs that nobody
+// waits for have one for themselves.
+const jobs = new Map(), workers = {};
+const ASIDE = ["agrees", "risk"];
+let nextJob = 1, engineReady = null;
 
 async function inflated(text) {
   const packed = Uint8Array.from(atob(text), c => c.charCodeAt(0));
@@ -8,9 +10,9 @@ async function inflated(text) {
   return new Uint8Array(await new Response(stream).arrayBuffer());
 }
 
-function startEngine() {
+function startWorker(name, wasm) {
   const url = URL.createObjectURL(new Blob([$("worker").textContent], { type: "text/javascript" }));
-  worker = new Worker(url);
+  const worker = workers[name] = new Worker(url);
   worker.onmessage = ({ data: { id, result, error, isRefused, progress } }) => {
     const job = jobs.get(id);
     if (!job) return;
@@ -24,10 +26,15 @@ function startEngine() {
       job.fail(new Error(event.message || "the worker cannot be started"));
     jobs.clear();
   };
-  return inflated($("wasm").textContent).then(wasm => post("start", { wasm }));
+  return post(worker, "start", { wasm });
 }
 
-function post(job, given, tell) {
+async function startEngine() {
+  const wasm = await inflated($("wasm").textContent);
+  return Promise.all([startWorker("main", wasm), startWorker("aside", wasm)]);
+}
+
+function post(worker, job, given, tell) {
   return new Promise((done, fail) => {
     jobs.set(nextJob, { done, fail, tell });
     worker.postMessage({ id: nextJob++, job, ...given });
@@ -37,5 +44,5 @@ function post(job, given, tell) {
 // Asks for a job of the engine. `tell` gets what it tells meanwhile.
 async function ask(job, given, tell) {
   await engineReady;
-  return post(job, given, tell);
+  return post(workers[ASIDE.includes(job) ? "aside" : "main"], job, given, tell);
 }

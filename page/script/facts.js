@@ -32,6 +32,7 @@ const GROUP_WORDS = {
 
 // The group with the largest share of picks; of slots, where shares are not known.
 function topFact() {
+  if (!data.hasTexts) return fact("…", "the groups are counted");
   const rows = listedRows(), top = rows[0], count = number(rows.length), by = $("by").value;
   if (!top) return fact("none", "no group");
   const words = `peers ${GROUP_WORDS[by](top.group)}, first of ${count}`;

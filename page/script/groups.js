@@ -62,7 +62,7 @@ function listedRows() {
   return found.sort((a, b) => (b.share || 0) - (a.share || 0) || bySlots(a, b));
 }
 
-const millionthsText = share => share === undefined ? "" : (share / 10000).toFixed(4) + " %";
+const millionthsText = share => share === undefined ? "…" : (share / 10000).toFixed(4) + " %";
 
 // The row of a group. Its bar has the colour that the group has in the maps.
 function groupRow(row, most, paint) {
@@ -80,6 +80,7 @@ function groupRow(row, most, paint) {
 }
 
 function showGroups() {
+  if (!data.hasTexts) return;
   const part = $("filter").value.trim().toLowerCase(), by = $("by").value, rows = listedRows();
   const all = rows.filter(row => row.group.toLowerCase().includes(part));
   const most = rows.reduce((max, row) => Math.max(max, slotsOf(row)), 1);

@@ -90,7 +90,7 @@ async function readSet() {
 }
 
 async function applySet() {
-  if (!data) return;
+  if (!data || !data.hasTexts) return;
   const turn = ++wanted;
   setState("busy");
   try {

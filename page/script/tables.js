@@ -135,11 +135,13 @@ async function show(i) {
   $("time").value = i;
   if (!snaps[i].view) status(`Reading ${snaps[i].name} …`);
   showTime();
+  let isDrawn = false;
   try {
     const found = await viewOf(i, early => {
       if (isOld() || needsBefore() || NEEDS_TEXTS.includes($("mode").value)) return;
       data = early;
       showAll();
+      isDrawn = true;
       setState("drawn");
     });
     const before = needsBefore() ? await viewBefore(i) : null;
@@ -149,7 +151,8 @@ async function show(i) {
     if (matched) await findMatches();
     if ($("mode").value === "set") await readSet();
     if (isOld()) return;
-    showAll();
+    if (isDrawn && !NEEDS_TEXTS.includes($("mode").value)) showRest();
+    else showAll();
     setState("ready");
     checking = setTimeout(() => learnShares().then(checkCounts), timer ? CHECK_AFTER : 0);
   } catch (error) {
@@ -179,6 +182,16 @@ function givenWords() {
   const name = snaps.length > 1 ? `${snaps.length} files` : snaps[0].name;
   const more = others && ` with ${escape(others)}`;
   return `<strong>${escape(name)}</strong>${more}. Drop other files here at any time.`;
+}
+
+// Shows what the maps are not concerned with.
+function showRest() {
+  showFacts();
+  showKey();
+  showGroups();
+  showChanges();
+  showPeers();
+  showSlot();
 }
 
 function showAll() {

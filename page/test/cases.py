@@ -336,7 +336,7 @@ class Cases:
         asmap = made.write(folder, "asmap.dat", made.read(os.path.join(EXAMPLES, "asmap.dat")))
         log, words = made.read(os.path.join(EXAMPLES, "all-networks.log")), ("--core",)
         b.drop(made.replayed(self.program, folder, log, words), asmap)
-        b.wait("data.said")
+        b.wait("!$('note').hidden")
         assert "Peers.dat was written by Bitcoin Core" in b.text("note"), b.text("note")
         same_slots(b, self.program, folder)
         b.begin("$('core').click()")
