@@ -13,9 +13,9 @@
  *   results go into memory of the caller's.
  * Memory. The library allocates by malloc and free alone, and wipes what it frees. A call that can
  *   run out of memory returns ADDRMAN_ERR_MEMORY, and says what it then leaves. No call aborts.
- * Arguments. A pointer that has a length after it may be NULL if that is 0, and so may those of the
- *   calls that close; no other is NULL. Texts have no zero at their end, unless a call says so. What
- *   a call writes overlaps nothing else that is passed to it. A bool is 0 or 1.
+ * Arguments. A pointer that has a length after it may be NULL if that is 0, as may those of the
+ *   calls that close; no other is NULL. Texts have no zero at their end, unless a call says so.
+ *   What a call writes overlaps nothing else that is passed to it. A bool is 0 or 1.
  * Threads. There is no global state. Two calls at the same time never use one object, not even two
  *   that only read: hold a lock for each object. It may go to another thread between calls.
  * Time and randomness. No call reads a clock or draws a random number. Times are seconds since
@@ -35,9 +35,9 @@
  * for all arguments that keep these rules. "Proved:" names the definitions of the clause. The rule
  * "Results" is a clause of each call, too. No proof sees the caller: that pointers are valid for
  * their lengths, that an open object is not copied, and that this header says what the functions'
- * signatures say, are trusted, as are the compiler, which makes NULL with the length 0 a list without
- * elements, the C library, and bindings/edges.c: its texts, what wipes memory, and the test for NULL
- * before the calls that close.
+ * signatures say, are trusted, as are the compiler, which makes NULL with the length 0 a list of no
+ * elements, the C library, and bindings/edges.c: its texts, what wipes memory, and the test for
+ * NULL before the calls that close.
  */
 #ifndef ADDRMAN_H
 #define ADDRMAN_H

@@ -102,6 +102,18 @@ def check_records(am, peers):
     same("the open peers after one is closed", am.open_peers(), opened[:3] + opened[4:])
 
 
+def check_room():
+    """A file has no more bytes than the header says, also of records whose fields are the largest, in many buckets."""
+    am = addrman.AddrMan(KEY, SEED)
+    for i in range(40):
+        for source in range(60):
+            am.add("onion:%064x:65535" % i, "onion:%064x" % (source << 250), NOW - 60 + source, (1 << 64) - 1, 0, 0, NOW)
+    size, buckets = am.size(), [len(r.buckets) for r in am.records()]
+    same("buckets of a record", max(buckets), 8)
+    same("a file within its room", len(am.file()) <= 4210 + 131 * size.new, True)
+    same("and not much below it", len(am.file()) - 4210, 40 * 99 + 4 * sum(buckets))
+
+
 def check_chosen():
     """A message of which some entries are taken does what one of these alone does."""
     skipped = bytes(4) + b"\1\x63\1\0" + bytes(2)
@@ -146,6 +158,7 @@ def main():
     am, peers = filled(300)
     check_slots(am, peers)
     check_records(am, peers)
+    check_room()
     check_chosen()
     print(f"Python: {compared} answers on names, slots, records, open peers and chosen entries are as they have to be")
 

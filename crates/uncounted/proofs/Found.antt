@@ -104,4 +104,4 @@ module _ (st : State) (nets : List ℕ) where
       by None e =
           absurd (both_ways (same_peer peer is.0.peer) (find-None (λ r. same_peer peer r.peer) st.records is.0 e is.1)
           ((same_peer-Decides peer is.0.peer).1 (sym is.2)))
-      by (Some r) e = tt
+      by (Some r) e = refl

@@ -3,10 +3,10 @@ use Rattle.uncounted.proofs.Found.{picked-known, picked-record}
 use Rattle.uncounted.proofs.picks.select.Goals as goal
 
 pub returns-clause-record : goal.returns-clause-record
-returns-clause-record c = λ peer last_try is.
-    picked-record c.args.tables c.args.nets c.args.new_only c.args.words.now c.args.now peer last_try (sym c.ensures.picked ∙ is)
+returns-clause-record g c = λ peer last_try is.
+    picked-record c.args.tables.now c.args.nets c.args.new_only c.args.words.now c.args.now peer last_try (sym c.count_select.ensures.picked ∙ is)
 
 pub returns-clause-known : goal.returns-clause-known
-returns-clause-known c = λ peer last_try is.
-    picked-known c.args.tables c.args.nets peer last_try
-    (picked-record c.args.tables c.args.nets c.args.new_only c.args.words.now c.args.now peer last_try (sym c.ensures.picked ∙ is))
+returns-clause-known g c = λ peer last_try is.
+    picked-known c.args.tables.now c.args.nets peer last_try
+    (picked-record c.args.tables.now c.args.nets c.args.new_only c.args.words.now c.args.now peer last_try (sym c.count_select.ensures.picked ∙ is))
