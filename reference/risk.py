@@ -153,7 +153,7 @@ def read_set(line: bytes) -> Subnet | int | None:
     if line.startswith(b"AS"):
         found = read_number(line[2:], 2 ** 32 - 1) or None
     else:
-        found = read_subnet(line)
+        found = read_subnet(line, False)
     if found is None:
         raise Fault("peer")
     return found
@@ -172,5 +172,5 @@ def sets_risk(tables: Tables, sets: list[Subnet | int], now: int = RESTARTED) ->
     def parts(some) -> str:
         numbers = [number for number, record in tables.records.items() if any(is_in(tables, own, record) for own in some)]
         return parts_of(*sides.searches(numbers), sides.searched)
-    lines = [f"set {f'AS{own}' if isinstance(own, int) else subnet_text(own)}: {parts([own])}" for own in sets]
+    lines = [f"set {f'AS{own}' if isinstance(own, int) else subnet_text(own, False)}: {parts([own])}" for own in sets]
     return "\n".join([heading(tables), *lines, f"union: {parts(sets)}"])
