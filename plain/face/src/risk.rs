@@ -1,5 +1,5 @@
 //! Which part of the picks returns a peer of somebody's.
-use crate::error::{Memory, ParseError};
+use crate::{Memory, ParseError};
 use crate::manager::AddrMan;
 use plain_std::alloc::Global;
 use plain_std::vec;
