@@ -1,6 +1,6 @@
 -- What the calls on tables return, write and leave. A call's definition ends with the state
 -- before, the code, the outputs and the state after.
-use Rattle.std.specs.Prelude.{◌≡◌, ◌⊎◌, ⊥, ℕ, ◌<◌, ◌≤◌, ◌^◌, List, drop, length, Bool, true, false, Option, Some, None, Result, Ok, Err, MatchOption, MatchResult}
+use Rattle.std.specs.Prelude.{◌≡◌, ◌⊎◌, ℕ, ◌<◌, ◌≤◌, ◌^◌, List, drop, length, Bool, true, false, Option, Some, None, Result, Ok, Err, MatchOption, MatchResult}
 use Rattle.net_addr.specs.Address.{Address}
 use Rattle.net_addr.specs.declared.entry.Entry.{Entry}
 use Rattle.net_addr.specs.declared.peer.Peer.{Peer}
