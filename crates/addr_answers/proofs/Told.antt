@@ -3,7 +3,7 @@ use Rattle.std.proofs.Common.{ℕ, ◌≤◌, Bool, true, false, cond, List, [],
 use Rattle.std.specs.Prelude.{◌&&◌, option_map}
 use Rattle.std.specs.List.{AllByRecursion}
 use Rattle.std.proofs.lemmas.List.Elements.{recursion_from_All}
-use Rattle.net_addr.specs.declared.entry.Entry.{Entry}
+use Rattle.net_addr.specs.declared.peer.Entry.{Entry}
 use Rattle.addr_answers.specs.Answers.{Answer, is_of, is_current, answer_at, AreAnswers}
 use Rattle.addr_answers.specs.Runs.{entries_of}
 use Rattle.addr_answers.specs.declared.answers.TheConstants.{MAX_TOLD}

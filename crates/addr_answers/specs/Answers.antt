@@ -2,7 +2,7 @@
 -- Times are in seconds since 1970.
 use Rattle.std.specs.Prelude.{ℕ, ◌+◌, ◌-◌, ◌*◌, ◌/◌, ◌%◌, ◌≤◌, ◌==◌, ◌++◌, Bool, ◌&&◌, not, nat_lt, List, [], ◌∷◌, All, Option, filter, find, length, if◌then◌else◌}
 use Rattle.net_addr.specs.Address.{net_number}
-use Rattle.net_addr.specs.declared.entry.Entry.{Entry}
+use Rattle.net_addr.specs.declared.peer.Entry.{Entry}
 use Rattle.net_addr.specs.declared.net.Net.{Net}
 use Rattle.addr_answers.specs.declared.answers.TheConstants.{MAX_KEYS, MAX_TOLD}
 use Rattle.addr_answers.specs.declared.kept.TheConstants.{KEPT_SECONDS, EXTRA_SECONDS, FEW_RECORDS, FEW_SECONDS}

@@ -1,6 +1,6 @@
 -- Requests of any keys, one after another.
 use Rattle.std.specs.Prelude.{⊤, ◌≡◌, ℕ, ◌+◌, ◌<◌, ◌≤◌, ◌==◌, Bool, ◌&&◌, List, [], ◌∷◌, Contains, Option, Some, None, is_none, if◌then◌else◌}
-use Rattle.net_addr.specs.declared.entry.Entry.{Entry}
+use Rattle.net_addr.specs.declared.peer.Entry.{Entry}
 use Rattle.addr_answers.specs.Answers.{Answer, answer, answer_at, after_put, has_room, least_of}
 
 -- a request: its key, the time, how many records there are, the random word of an answer that is

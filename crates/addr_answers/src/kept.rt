@@ -1,8 +1,16 @@
-ghost use Rattle.std.specs.Prelude.{◌≡◌, not, ◌==◌, ◌&&◌};
-ghost use Rattle.addr_answers.specs.Answers.{answer, is_of, is_current, least_of, more_of};
+ghost use Rattle.std.specs.Prelude.{◌≡◌, ◌<◌, ◌^◌, not, ◌==◌, ◌&&◌};
+ghost use Rattle.addr_answers.specs.Answers.{key_of, answer, is_of, is_current, least_of, more_of};
 
-use net_addr::Entry;
+use net_addr::{Entry, Net};
 use std::marker::Model;
+
+/// Returns the key of the connections of a network class that came in on a local socket. The node
+/// numbers its sockets.
+pub fn key_of(net: Net, socket: u32) -> u64
+    ensures { result ≡ key_of net socket }
+{
+    u64::from(socket) * 8 + u64::from(net.number())
+}
 
 /// Seconds for which an answer is kept at least: 21 hours (`CConnman::GetAddresses` in net.cpp of
 /// Bitcoin Core).

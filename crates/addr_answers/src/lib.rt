@@ -19,13 +19,11 @@
 mod answers;
 mod hiding;
 mod kept;
-mod key;
 mod law;
 
 pub use answers::{Answers, MAX_KEYS, MAX_TOLD};
 pub use hiding::{EXTRA_AGE, MIN_AGE, told_time};
-pub use kept::{EXTRA_SECONDS, FEW_RECORDS, FEW_SECONDS, KEPT_SECONDS};
-pub use key::key_of;
+pub use kept::{EXTRA_SECONDS, FEW_RECORDS, FEW_SECONDS, KEPT_SECONDS, key_of};
 pub use law::{
     answers_are_samples, answers_stay, keys_are_apart, keys_are_distinct, limits, samples_are_rare,
 };

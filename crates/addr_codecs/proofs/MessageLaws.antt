@@ -3,7 +3,7 @@ use Rattle.std.proofs.Common.{◌≡◌, ◌≢◌, ℕ, cond, leb, List, Option
 use Rattle.std.specs.Prelude.{option_map, IfOk, IfErr}
 use Rattle.std.specs.Int.{w16, w32, w64, to_le_bytes, to_be_bytes, from_le_bytes, from_be_bytes}
 use Rattle.net_addr.specs.OldForm.{from_v1}
-use Rattle.net_addr.specs.declared.entry.Entry.{Entry}
+use Rattle.net_addr.specs.declared.peer.Entry.{Entry}
 use Rattle.wire_num.specs.declared.fault.WireFault.{WireFault}
 use Rattle.wire_num.specs.Format.{Format, sequence, value, check, times, map_fault, HasFault}
 use Rattle.wire_num.specs.Fields.{some_bytes, le, be, compact}

@@ -8,7 +8,7 @@ use Rattle.std.proofs.lemmas.List.{take_more, take_all, flat_map_more}
 use Rattle.std.proofs.lemmas.List.Elements.{recursion_from_All, All-more}
 use Rattle.net_addr.specs.Address.{Address, IsAddress}
 use Rattle.net_addr.specs.OldForm.{address, from_v1, v1_bytes}
-use Rattle.net_addr.specs.declared.entry.Entry.{Entry}
+use Rattle.net_addr.specs.declared.peer.Entry.{Entry}
 use Rattle.net_addr.specs.declared.net.Net.{Net}
 use Rattle.net_addr.specs.declared.net.Net.TheVariants.{Unroutable, Ipv4, Ipv6, Onion, I2p, Cjdns, Internal}
 use Rattle.wire_num.specs.CompactSize.{compact_size}

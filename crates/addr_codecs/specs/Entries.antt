@@ -1,7 +1,7 @@
 -- What an entry of a message is.
 use Rattle.std.specs.Prelude.{◌<◌, ◌^◌}
 use Rattle.net_addr.specs.Address.{IsAddress}
-use Rattle.net_addr.specs.declared.entry.Entry.{Entry}
+use Rattle.net_addr.specs.declared.peer.Entry.{Entry}
 
 -- the parts of an entry fit their fields
 pub record IsEntry (e : Entry) : Type 0 where

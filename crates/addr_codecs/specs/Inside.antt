@@ -2,7 +2,7 @@
 use Rattle.std.specs.Prelude.{◌≡◌, ◌≢◌, ◌⊎◌, ℕ, List, Option, Some, Result, Ok, Err, option_map, nat_le, if◌then◌else◌}
 use Rattle.std.specs.Int.{w16, w32, w64}
 use Rattle.net_addr.specs.OldForm.{from_v1}
-use Rattle.net_addr.specs.declared.entry.Entry.{Entry}
+use Rattle.net_addr.specs.declared.peer.Entry.{Entry}
 use Rattle.net_addr.specs.declared.net.Net.TheVariants.{Ipv4, Ipv6}
 use Rattle.wire_num.specs.Readings.{◌>>=◌, fault_as, bytes_at, le_at, be_at, compact_at, times_at}
 use Rattle.addr_codecs.specs.Faults.{of_wire, of_address}

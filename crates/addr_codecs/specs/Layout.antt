@@ -4,7 +4,7 @@ use Rattle.std.specs.Prelude.{ℕ, List, Option, Some, option_map, nat_le}
 use Rattle.std.specs.Int.{w16, w32, w64}
 use Rattle.net_addr.specs.Address.{Address}
 use Rattle.net_addr.specs.OldForm.{from_v1}
-use Rattle.net_addr.specs.declared.entry.Entry.{Entry}
+use Rattle.net_addr.specs.declared.peer.Entry.{Entry}
 use Rattle.net_addr.specs.declared.net.Net.{Net}
 use Rattle.wire_num.specs.declared.fault.WireFault.{WireFault}
 use Rattle.wire_num.specs.Format.{Format, ◌>>=◌, value, check, times, map_fault, HasFault}

@@ -26,8 +26,8 @@ fn network(id: u8) -> Option<Net>
     }
 }
 
-/// Returns whether addresses of the network have this length. Those of an unknown network may have
-/// any length.
+/// Returns `true` if addresses of the network have this length. Those of an unknown network may
+/// have any length.
 fn fits(network: Option<Net>, length: u64) -> bool
     ensures { result ≡ is_length network length }
 {

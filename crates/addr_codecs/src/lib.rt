@@ -15,7 +15,6 @@
 
 mod address;
 mod address_fault;
-mod entries;
 mod entry;
 mod fault;
 mod form;
@@ -26,10 +25,9 @@ mod writing;
 
 pub use address::take_address;
 pub use address_fault::AddressFault;
-pub use entries::Entries;
 pub use fault::MsgFault;
 pub use form::Form;
 pub use law::{limits, messages_have_one_meaning};
 pub use memory::Memory;
-pub use message::{MAX_ENTRIES, read_addr, read_addrv2, read_message};
+pub use message::{Entries, MAX_ENTRIES, read_addr, read_addrv2, read_message};
 pub use writing::{put_address, write_addr, write_addrv2};

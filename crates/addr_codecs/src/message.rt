@@ -1,5 +1,5 @@
 ghost use Rattle.std.specs.Prelude.{◌≡◌, ◌≢◌, ◌≤◌, List, Option, length, vec_len, IfOk, IfErr, Ok, Err};
-ghost use Rattle.net_addr.specs.declared.entry.Entry.{Entry};
+ghost use Rattle.net_addr.specs.declared.peer.Entry.{Entry};
 ghost use Rattle.wire_num.specs.Readings.{times_at, all_of};
 ghost use Rattle.addr_codecs.specs.Faults.{UnlessMemory};
 ghost use Rattle.addr_codecs.specs.Layout.{IsAddrMessage, IsAddrv2Message, IsMessage, HasAddrFault, HasAddrv2Fault, HasMessageFault};
@@ -8,12 +8,15 @@ ghost use Rattle.addr_codecs.specs.declared.fault.MsgFault.{MsgFault};
 ghost use Rattle.addr_codecs.specs.declared.fault.MsgFault.TheVariants.{Memory, Trailing};
 ghost use Rattle.addr_codecs.specs.declared.message.TheConstants.{MAX_ENTRIES};
 
-use crate::entries::Entries;
 use crate::fault::MsgFault;
 use crate::form::Form;
+use host_io::ListOf;
 use net_addr::Entry;
 use std::alloc::Global;
 use wire_num::take_compact;
+
+/// The entries of a message in their order, `None` for one that is skipped.
+pub type Entries = ListOf<Option<Entry>>;
 
 /// The entries of a message, at most (`MAX_ADDR_TO_SEND` in net_processing.cpp of Bitcoin Core).
 pub const MAX_ENTRIES: u64 = 1000;

@@ -7,11 +7,11 @@ use Rattle.std.proofs.lemmas.Bool.{eqb-true}
 use Rattle.std.proofs.lemmas.Bool.Decides.{nat_tests}
 use Rattle.std.proofs.lemmas.Slice.Zip.{length-zip}
 use Rattle.net_addr.specs.Address.{Address}
-use Rattle.net_addr.specs.declared.entry.Entry.{Entry}
+use Rattle.net_addr.specs.declared.peer.Entry.{Entry}
 use Rattle.addr_codecs.specs.declared.fault.MsgFault.{MsgFault}
 use Rattle.limiter.specs.declared.conn.Conn.{Conn}
-use Rattle.addr_limit.specs.declared.request.Request.{Request}
-use Rattle.addr_limit.specs.declared.request.Request.TheVariants.{Open, Close, GetAddr, Message, Stat}
+use Rattle.addr_limit.specs.declared.command.LimitCommand.{LimitCommand}
+use Rattle.addr_limit.specs.declared.command.LimitCommand.TheVariants.{Open, Close, GetAddr, Message, Stat}
 use Rattle.limiter.specs.State.{find_conn, with_conn, without_conn, set_conn, AreRising}
 use Rattle.limiter.specs.Tokens.{refill, after_entry, after_entries}
 use Rattle.limiter.specs.State.{new_conn}
@@ -43,7 +43,7 @@ pub enough_words : (m n : ℕ) → m ≤ n → nat_lt n m ≡ false
 enough_words m n h = grind (arith, nat_tests, h)
 
 module _ (now number : ℕ) (conns : List Conn) (rising : AreRising conns) where
-  abbrev Next : Request → List Conn
+  abbrev Next : LimitCommand → List Conn
   Next request = set_conn number (serve now number (find_conn number conns) request).conn conns
 
   pub open-is : (addr : Address) (unlimited : Bool) → after_open (new_conn number addr unlimited now) conns ≡ Next (Open addr unlimited)

@@ -3,7 +3,7 @@ use Rattle.std.proofs.Common.{◌≡◌, ℕ, List, [], ◌∷◌, ◌++◌, tru
 use Rattle.std.specs.List.{last_or}
 use Rattle.addr_limit.specs.LogState.{LimitState}
 use Rattle.addr_limit.specs.Steps.{after_event, output}
-use Rattle.addr_limit.specs.declared.event.Event.{Event}
+use Rattle.addr_limit.specs.declared.command.Event.{Event}
 use Rattle.addr_limit.specs.Apart.{Steps, Outputs, IsLastOutput}
 use Rattle.addr_limit.proofs.Apart.{depends_on, last_output}
 use Rattle.addr_limit.proofs.Served.{part_of, concerns, others_leave, answers_alike}

@@ -1,7 +1,7 @@
 -- Worked examples, computed over the definitions.
 use Rattle.std.proofs.Common.{◌≡◌, ℕ, List, [], ◌∷◌, true, false, Some, Ok, codes, refl}
 use Rattle.net_addr.specs.Address.{Address}
-use Rattle.net_addr.specs.declared.entry.Entry.{Entry}
+use Rattle.net_addr.specs.declared.peer.Entry.{Entry}
 use Rattle.net_addr.specs.declared.net.Net.TheVariants.{Ipv4}
 use Rattle.std.specs.Fmt.{digits}
 use Rattle.hex.specs.Hex.{encode_with}
@@ -9,10 +9,10 @@ use Rattle.wire_num.specs.CompactSize.{compact_size}
 use Rattle.addr_codecs.specs.Texts.{addrv2_entry_text, address_text}
 use Rattle.addr_limit.specs.LogState.{LimitState, start}
 use Rattle.addr_limit.specs.Steps.{after_event, output}
-use Rattle.addr_limit.specs.declared.event.Event.{Event}
-use Rattle.addr_limit.specs.declared.event.Event.TheVariants.{Now, Of}
-use Rattle.addr_limit.specs.declared.request.Request.{Request}
-use Rattle.addr_limit.specs.declared.request.Request.TheVariants.{Open, GetAddr, Message, Stat}
+use Rattle.addr_limit.specs.declared.command.Event.{Event}
+use Rattle.addr_limit.specs.declared.command.Event.TheVariants.{Now, Of}
+use Rattle.addr_limit.specs.declared.command.LimitCommand.{LimitCommand}
+use Rattle.addr_limit.specs.declared.command.LimitCommand.TheVariants.{Open, GetAddr, Message, Stat}
 
 -- the outputs for events; a line that sets the clock has no text here
 abbrev outputs : LimitState → List Event → List (List ℕ)
@@ -25,7 +25,7 @@ us = record { net = Ipv4; bytes = 1 ∷ 2 ∷ 3 ∷ 4 ∷ [] }
 abbrev entry : Entry
 entry = record { time = 1700000000; services = 1; peer = record { addr = record { net = Ipv4; bytes = 8 ∷ 8 ∷ 8 ∷ 8 ∷ [] }; port = 8333 } }
 
-abbrev message : Request
+abbrev message : LimitCommand
 message = Message (Ok (Some entry ∷ [])) (0 ∷ [])
 
 a_token_is_spent : outputs start (Now 1700000000 ∷ Of 7 (Open us false) ∷ Of 7 message ∷ Of 7 message ∷ Of 7 Stat ∷ [])

@@ -2,17 +2,17 @@
 use Rattle.std.proofs.Common.{◌≡◌, ℕ, ◌+◌, ◌≤◌, List, [], ◌∷◌, length, Option, Some, None, IfSome, not, nat_lt, if◌then◌else◌, ◌==◌, Bool, true, false, Result, Ok, Err, refl, sym, subst, arith}
 use Rattle.std.specs.List.{zip}
 use Rattle.std.proofs.lemmas.Bool.Decides.{nat_tests}
-use Rattle.net_addr.specs.declared.entry.Entry.{Entry}
+use Rattle.net_addr.specs.declared.peer.Entry.{Entry}
 use Rattle.addr_codecs.specs.declared.fault.MsgFault.{MsgFault}
 use Rattle.limiter.specs.declared.conn.Conn.{Conn}
 use Rattle.limiter.specs.Tokens.{refill, after_entry, after_entries, after_getaddr}
 use Rattle.limiter.specs.State.{find_conn, with_conn, without_conn, set_conn, IsBounded, AreBounded}
 use Rattle.addr_limit.specs.LogState.{LimitState}
 use Rattle.addr_limit.specs.Steps.{Outcome, serve, limit_message, limit_entries, after_event}
-use Rattle.addr_limit.specs.declared.event.Event.{Event}
-use Rattle.addr_limit.specs.declared.event.Event.TheVariants.{Now, Of, Nothing}
-use Rattle.addr_limit.specs.declared.request.Request.{Request}
-use Rattle.addr_limit.specs.declared.request.Request.TheVariants.{Open, Close, GetAddr, Message, Stat}
+use Rattle.addr_limit.specs.declared.command.Event.{Event}
+use Rattle.addr_limit.specs.declared.command.Event.TheVariants.{Now, Of, Nothing}
+use Rattle.addr_limit.specs.declared.command.LimitCommand.{LimitCommand}
+use Rattle.addr_limit.specs.declared.command.LimitCommand.TheVariants.{Open, Close, GetAddr, Message, Stat}
 use Rattle.limiter.proofs.Tokens.{refill-most}
 
 refill-bounded : (now : ℕ) (c : Conn) → IsBounded c → IsBounded (refill now c)
@@ -44,7 +44,7 @@ message-bounded now c (Ok entries) words h = by (nat_lt (length words) (length e
     by true o is = subst IsBoundedIn (sym is) h
     by false o is = entries-bounded (refill now c) (zip entries words) (refill-bounded now c h)
 
-serve-bounded : (now number : ℕ) (o : Option Conn) (request : Request) → IsBoundedIn o → IsBoundedIn (serve now number o request).conn
+serve-bounded : (now number : ℕ) (o : Option Conn) (request : LimitCommand) → IsBoundedIn o → IsBoundedIn (serve now number o request).conn
 serve-bounded now number None (Open addr unlimited) h = omega arith
 serve-bounded now number None Close h = tt
 serve-bounded now number None GetAddr h = tt

@@ -9,12 +9,12 @@ use Rattle.grammar.specs.Contents.{number_in}
 use Rattle.grammar.specs.Fields.{Kind, OfAddr, Hex, Random, Either, Value, TheNumber, TheAddr, TheBytes, TheWords, TheChoice, AllMean, u32_field}
 use Rattle.addr_limit.specs.LogState.{LimitState}
 use Rattle.addr_limit.specs.Steps.{after_event}
-use Rattle.addr_limit.specs.declared.event.Event.{Event}
-use Rattle.addr_limit.specs.declared.request.Request.{Request}
-use Rattle.addr_limit.specs.declared.request.Request.TheVariants.{Close, GetAddr, Stat}
+use Rattle.addr_limit.specs.declared.command.Event.{Event}
+use Rattle.addr_limit.specs.declared.command.LimitCommand.{LimitCommand}
+use Rattle.addr_limit.specs.declared.command.LimitCommand.TheVariants.{Close, GetAddr, Stat}
 use Rattle.addr_limit.specs.Apart.{DependsOn, IsLastOutput}
-use Rattle.addr_limit.specs.declared.verb.Verb.{Verb}
-use Rattle.addr_limit.specs.declared.verb.Verb.TheVariants as v
+use Rattle.addr_limit.specs.declared.word.LimitWord.{LimitWord}
+use Rattle.addr_limit.specs.declared.word.LimitWord.TheVariants as v
 use Rattle.addr_limit.specs.Lines.{limit_kinds, message_kinds, verb_at, SaysEvent, SaysBy, SaysMessage, SaysOf, SaysRequest, LimitStep, are_about, is_about, is_about_by}
 use Rattle.addr_limit.proofs.Apart.{depends_on, last_output}
 use Rattle.addr_limit.proofs.Served.{part_of, concerns, others_leave, answers_alike}
@@ -53,7 +53,7 @@ about_is number line e low (word, texts, is, says) = ap (are_about number) is �
     open_line values means (n, addr, unlimited, h, said) =
         named number n texts (OfAddr ∷ Either (codes "unlimited") (codes "limited") ∷ []) (TheAddr addr ∷ TheChoice unlimited ∷ []) (is_about_by number (Some v.Open)) (λ t ts. refl) low (subst (λ vs. AllMean (limit_kinds v.Open) texts vs) h means) ∙ sym (ap (concerns number) said)
 
-    request_line : (request : Request) (about : List (List ℕ) → Bool) → ((text : List ℕ) (rest : List (List ℕ)) → about (text ∷ rest) ≡ bytes_eq text (decimal number))
+    request_line : (request : LimitCommand) (about : List (List ℕ) → Bool) → ((text : List ℕ) (rest : List (List ℕ)) → about (text ∷ rest) ≡ bytes_eq text (decimal number))
         → (values : List Value) → AllMean (u32_field ∷ []) texts values → SaysRequest request values e → about texts ≡ concerns number e
     request_line request about tests values means (n, h, said) =
         named number n texts [] [] about tests low (subst (λ vs. AllMean (u32_field ∷ []) texts vs) h means) ∙ sym (ap (concerns number) said)
@@ -63,7 +63,7 @@ about_is number line e low (word, texts, is, says) = ap (are_about number) is �
     message_line form about tests values means (n, payload, words, read, h, bytes, reads, said) =
         named number n texts (Hex ∷ Random ∷ []) (TheBytes payload ∷ TheWords words ∷ []) about tests low (subst (λ vs. AllMean message_kinds texts vs) h means) ∙ sym (ap (concerns number) said)
 
-    by : (o : Option Verb) → SaysBy o texts e → is_about_by number o texts ≡ concerns number e
+    by : (o : Option LimitWord) → SaysBy o texts e → is_about_by number o texts ≡ concerns number e
     by None said = sym (ap (concerns number) said)
     by (Some v.Now) (values, means, (t, h, said)) = sym (ap (concerns number) said)
     by (Some v.Open) (values, means, said) = open_line values means said

@@ -2,17 +2,17 @@
 use Rattle.std.proofs.Common.{◌≡◌, ℕ, ◌+◌, List, [], ◌∷◌, length, Option, Some, None, if◌then◌else◌, ◌==◌, Bool, true, false, true≢false, Result, Ok, Err, nat_lt, refl, sym, ◌∙◌, ap, subst}
 use Rattle.std.specs.List.{zip}
 use Rattle.std.proofs.lemmas.Bool.{eqb-true, eqb-false}
-use Rattle.net_addr.specs.declared.entry.Entry.{Entry}
+use Rattle.net_addr.specs.declared.peer.Entry.{Entry}
 use Rattle.addr_codecs.specs.declared.fault.MsgFault.{MsgFault}
 use Rattle.limiter.specs.declared.conn.Conn.{Conn}
 use Rattle.limiter.specs.Tokens.{refill, after_entries, after_entry}
 use Rattle.limiter.specs.State.{find_conn}
 use Rattle.addr_limit.specs.LogState.{LimitState}
 use Rattle.addr_limit.specs.Steps.{Outcome, serve, serve_in, limit_message, limit_entries, after_event, output}
-use Rattle.addr_limit.specs.declared.event.Event.{Event}
-use Rattle.addr_limit.specs.declared.event.Event.TheVariants.{Now, Of, Nothing}
-use Rattle.addr_limit.specs.declared.request.Request.{Request}
-use Rattle.addr_limit.specs.declared.request.Request.TheVariants.{Open, Close, GetAddr, Message, Stat}
+use Rattle.addr_limit.specs.declared.command.Event.{Event}
+use Rattle.addr_limit.specs.declared.command.Event.TheVariants.{Now, Of, Nothing}
+use Rattle.addr_limit.specs.declared.command.LimitCommand.{LimitCommand}
+use Rattle.addr_limit.specs.declared.command.LimitCommand.TheVariants.{Open, Close, GetAddr, Message, Stat}
 use Rattle.limiter.proofs.Conns.{HasNumber, find_conn-number, find-set_conn, find_other-set_conn}
 
 pub after_entries-number : {E : Type 0} (c : Conn) (es : List E) → (after_entries c es).number ≡ c.number
@@ -29,7 +29,7 @@ module _ (now number : ℕ) where
       by true o is = subst (HasNumber number) (sym is) h
       by false o is = after_entries-number (refill now c) (zip entries words) ∙ h
 
-  pub serve-number : (o : Option Conn) (request : Request) → HasNumber number o → HasNumber number (serve now number o request).conn
+  pub serve-number : (o : Option Conn) (request : LimitCommand) → HasNumber number o → HasNumber number (serve now number o request).conn
   serve-number None (Open addr unlimited) h = refl
   serve-number None Close h = tt
   serve-number None GetAddr h = tt
@@ -55,7 +55,7 @@ concerns number (Now time) = true
 concerns number (Of other request) = other == number
 concerns number Nothing = false
 
-served-number : (st : LimitState) (number : ℕ) (request : Request) → HasNumber number (serve_in st number request).conn
+served-number : (st : LimitState) (number : ℕ) (request : LimitCommand) → HasNumber number (serve_in st number request).conn
 served-number st number request = serve-number st.clock number (find_conn number st.conns) request (find_conn-number number st.conns)
 
 pub others_leave : (number : ℕ) (st : LimitState) (e : Event) → concerns number e ≡ false → part_of number (after_event st e) ≡ part_of number st
@@ -64,10 +64,10 @@ others_leave number st (Of other request) h =
     ap (λ o. (st.clock, o)) (find_other-set_conn number other (serve_in st other request).conn st.conns (served-number st other request) (λ e. eqb-false other number h (sym e)))
 others_leave number st Nothing h = refl
 
-served_alike : (number : ℕ) (s u : LimitState) (request : Request) → part_of number u ≡ part_of number s → serve_in u number request ≡ serve_in s number request
+served_alike : (number : ℕ) (s u : LimitState) (request : LimitCommand) → part_of number u ≡ part_of number s → serve_in u number request ≡ serve_in s number request
 served_alike number s u request same = ap (λ p. serve p.0 number p.1 request) same
 
-found_after : (number : ℕ) (st : LimitState) (request : Request) → part_of number (after_event st (Of number request)) ≡ (st.clock, (serve_in st number request).conn)
+found_after : (number : ℕ) (st : LimitState) (request : LimitCommand) → part_of number (after_event st (Of number request)) ≡ (st.clock, (serve_in st number request).conn)
 found_after number st request = ap (λ o. (st.clock, o)) (find-set_conn number (serve_in st number request).conn st.conns (served-number st number request))
 
 pub answers_alike : (number : ℕ) (s u : LimitState) (line : List ℕ) (e : Event) → concerns number e ≡ true → part_of number u ≡ part_of number s →

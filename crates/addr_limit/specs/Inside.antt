@@ -1,19 +1,19 @@
 -- Definitions for private contracts: short messages, and entries that are passed on.
 use Rattle.std.specs.Prelude.{◌≢◌, ℕ, ◌≤◌, List, length, All, Option, Result, Ok, Err}
-use Rattle.net_addr.specs.declared.entry.Entry.{Entry}
+use Rattle.net_addr.specs.declared.peer.Entry.{Entry}
 use Rattle.net_addr.specs.declared.net.Net.TheVariants.{Internal}
 use Rattle.addr_codecs.specs.declared.fault.MsgFault.{MsgFault}
-use Rattle.addr_limit.specs.declared.event.Event.{Event}
-use Rattle.addr_limit.specs.declared.event.Event.TheVariants.{Of}
-use Rattle.addr_limit.specs.declared.request.Request.{Request}
-use Rattle.addr_limit.specs.declared.request.Request.TheVariants.{Message}
+use Rattle.addr_limit.specs.declared.command.Event.{Event}
+use Rattle.addr_limit.specs.declared.command.Event.TheVariants.{Of}
+use Rattle.addr_limit.specs.declared.command.LimitCommand.{LimitCommand}
+use Rattle.addr_limit.specs.declared.command.LimitCommand.TheVariants.{Message}
 
 -- a message has at most 1000 entries
 abbrev pub IsShortRead : Result (List (Option Entry)) MsgFault → Type 0
 IsShortRead (Ok entries) = length entries ≤ 1000
 IsShortRead (Err fault) = Unit {0}
 
-abbrev pub IsShort : Request → Type 0
+abbrev pub IsShort : LimitCommand → Type 0
 IsShort (Message read words) = IsShortRead read
 IsShort other = Unit {0}
 

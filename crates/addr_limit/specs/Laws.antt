@@ -1,7 +1,7 @@
 -- Why a line has one meaning.
 use Rattle.std.proofs.Common.{◌≡◌, ℕ, ◌<◌, Bool, true, false, List, [], Option, Some, None, Result, Ok, Err, codes, get_or, refl, sym, ap, subst, ◌∙◌, ◌==◌}
 use Rattle.net_addr.specs.Address.{Address}
-use Rattle.net_addr.specs.declared.entry.Entry.{Entry}
+use Rattle.net_addr.specs.declared.peer.Entry.{Entry}
 use Rattle.wire_num.proofs.ReadingLaws.{one_meaning}
 use Rattle.addr_codecs.specs.Inside.{message_at, addr_entry_at, addrv2_entry_at}
 use Rattle.addr_codecs.specs.Layout.{message, addr_entry, addrv2_entry, IsMessage, HasMessageFault}
@@ -16,12 +16,12 @@ use Rattle.grammar.specs.Table.{all_definite}
 use Rattle.grammar.specs.declared.fault.LineFault.{LineFault}
 use Rattle.grammar.proofs.TableLemmas.{one_list, one_fault_after, no_fault_after}
 use Rattle.addr_limit.specs.Lines.{limit_kinds, verb_at, IsRead, SaysMessage, SaysRequest, SaysOf, SaysBy, SaysAfter, FaultBy, FaultAfter}
-use Rattle.addr_limit.specs.declared.event.Event.{Event}
-use Rattle.addr_limit.specs.declared.event.Event.TheVariants.{Now, Of}
-use Rattle.addr_limit.specs.declared.request.Request.{Request}
-use Rattle.addr_limit.specs.declared.request.Request.TheVariants.{Open, Close, GetAddr, Message, Stat}
-use Rattle.addr_limit.specs.declared.verb.Verb.{Verb}
-use Rattle.addr_limit.specs.declared.verb.Verb.TheVariants as v
+use Rattle.addr_limit.specs.declared.command.Event.{Event}
+use Rattle.addr_limit.specs.declared.command.Event.TheVariants.{Now, Of}
+use Rattle.addr_limit.specs.declared.command.LimitCommand.{LimitCommand}
+use Rattle.addr_limit.specs.declared.command.LimitCommand.TheVariants.{Open, Close, GetAddr, Message, Stat}
+use Rattle.addr_limit.specs.declared.word.LimitWord.{LimitWord}
+use Rattle.addr_limit.specs.declared.word.LimitWord.TheVariants as v
 
 abbrev Holds : Bool → Type 0
 Holds true = Unit {0}
@@ -49,7 +49,7 @@ abbrev choice_in : Value → Bool
 choice_in (TheChoice b) = b
 choice_in other = false
 
-definite : (verb : Verb) → all_definite (limit_kinds verb) ≡ true
+definite : (verb : LimitWord) → all_definite (limit_kinds verb) ≡ true
 definite v.Now = refl
 definite v.Open = refl
 definite v.Close = refl
@@ -98,12 +98,12 @@ one_message form values a b (m, p, ps, x, h, bytes, reads, is)
 
 -- ---- events
 
-one_request : (request : Request) (values : List Value) (a b : Event)
+one_request : (request : LimitCommand) (values : List Value) (a b : Event)
     → SaysRequest request values a → SaysRequest request values b → a ≡ b
 one_request request values a b (m, h, is) (n, k, is') =
     is ∙ ap (λ vs. Of (number_in (at vs 0)) request) (sym h ∙ k) ∙ sym is'
 
-one_of : (verb : Verb) (values : List Value) (a b : Event)
+one_of : (verb : LimitWord) (values : List Value) (a b : Event)
     → SaysOf verb values a → SaysOf verb values b → a ≡ b
 one_of v.Now values a b (t, h, is) (u, k, is') =
     is ∙ ap (λ vs. Now (number_in (at vs 0))) (sym h ∙ k) ∙ sym is'
@@ -122,7 +122,7 @@ pub one_event : (word : List ℕ) (texts : List (List ℕ)) (a b : Event)
     → SaysAfter word texts a → SaysAfter word texts b → a ≡ b
 one_event word texts a b = by (verb_at word)
   where
-    by : (o : Option Verb) → SaysBy o texts a → SaysBy o texts b → a ≡ b
+    by : (o : Option LimitWord) → SaysBy o texts a → SaysBy o texts b → a ≡ b
     by None h k = h ∙ sym k
     by (Some verb) h k =
         one_of verb h.0 a b h.2
@@ -135,7 +135,7 @@ pub one_fault : (word : List ℕ) (texts : List (List ℕ)) (f g : LineFault)
     → FaultAfter word texts f → FaultAfter word texts g → f ≡ g
 one_fault word texts f g = by (verb_at word)
   where
-    by : (o : Option Verb) → FaultBy o texts f → FaultBy o texts g → f ≡ g
+    by : (o : Option LimitWord) → FaultBy o texts f → FaultBy o texts g → f ≡ g
     by None h k = absurd h
     by (Some verb) h k = one_fault_after (Some (limit_kinds verb)) texts f g h k
 
@@ -143,6 +143,6 @@ pub no_fault : (word : List ℕ) (texts : List (List ℕ)) (a : Event) (f : Line
     → SaysAfter word texts a → FaultAfter word texts f → ⊥
 no_fault word texts a f = by (verb_at word)
   where
-    by : (o : Option Verb) → SaysBy o texts a → FaultBy o texts f → ⊥
+    by : (o : Option LimitWord) → SaysBy o texts a → FaultBy o texts f → ⊥
     by None h k = k
     by (Some verb) h k = no_fault_after (Some (limit_kinds verb)) texts h.0 f h.1 k

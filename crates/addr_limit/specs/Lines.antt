@@ -1,7 +1,7 @@
 -- Which line says what, and what is wrong in a line that says nothing.
 use Rattle.std.specs.Prelude.{◌≡◌, ◌<◌, ◌≤◌, ℕ, List, [], ◌∷◌, ◌++◌, Bool, true, false, Result, Ok, Err, Option, Some, None, codes, decimal, bytes_eq, find, length, slice_index}
 use Rattle.net_addr.specs.Address.{Address}
-use Rattle.net_addr.specs.declared.entry.Entry.{Entry}
+use Rattle.net_addr.specs.declared.peer.Entry.{Entry}
 use Rattle.addr_codecs.specs.Layout.{IsMessage, HasMessageFault}
 use Rattle.addr_codecs.specs.declared.form.Form.{Form}
 use Rattle.addr_codecs.specs.declared.form.Form.TheVariants.{Addr, Addrv2}
@@ -12,15 +12,15 @@ use Rattle.grammar.specs.Words.{fields_of}
 use Rattle.grammar.specs.declared.fault.LineFault.{LineFault}
 use Rattle.addr_limit.specs.LogState.{LimitState}
 use Rattle.addr_limit.specs.Steps.{after_event, output}
-use Rattle.addr_limit.specs.declared.event.Event.{Event}
-use Rattle.addr_limit.specs.declared.event.Event.TheVariants.{Now, Of, Nothing}
-use Rattle.addr_limit.specs.declared.request.Request.{Request}
-use Rattle.addr_limit.specs.declared.request.Request.TheVariants.{Open, Close, GetAddr, Message, Stat}
-use Rattle.addr_limit.specs.declared.verb.Verb.{Verb}
-use Rattle.addr_limit.specs.declared.verb.Verb.TheVariants as v
+use Rattle.addr_limit.specs.declared.command.Event.{Event}
+use Rattle.addr_limit.specs.declared.command.Event.TheVariants.{Now, Of, Nothing}
+use Rattle.addr_limit.specs.declared.command.LimitCommand.{LimitCommand}
+use Rattle.addr_limit.specs.declared.command.LimitCommand.TheVariants.{Open, Close, GetAddr, Message, Stat}
+use Rattle.addr_limit.specs.declared.word.LimitWord.{LimitWord}
+use Rattle.addr_limit.specs.declared.word.LimitWord.TheVariants as v
 
 -- the first word of a line
-abbrev pub limit_word : Verb → List ℕ
+abbrev pub limit_word : LimitWord → List ℕ
 limit_word v.Now = codes "now"
 limit_word v.Open = codes "open"
 limit_word v.Close = codes "close"
@@ -33,7 +33,7 @@ abbrev pub message_kinds : List Kind
 message_kinds = u32_field ∷ Hex ∷ Random ∷ []
 
 -- the kinds of the fields after it
-abbrev pub limit_kinds : Verb → List Kind
+abbrev pub limit_kinds : LimitWord → List Kind
 limit_kinds v.Now = u32_field ∷ []
 limit_kinds v.Open = u32_field ∷ OfAddr ∷ Either (codes "unlimited") (codes "limited") ∷ []
 limit_kinds v.Close = u32_field ∷ []
@@ -42,8 +42,8 @@ limit_kinds v.From = message_kinds
 limit_kinds v.From2 = message_kinds
 limit_kinds v.Stat = u32_field ∷ []
 
--- the verb of a first word, if it is a keyword
-abbrev pub verb_at : List ℕ → Option Verb
+-- the keyword of a first word, if it is a keyword
+abbrev pub verb_at : List ℕ → Option LimitWord
 verb_at word =
     find (λ verb. bytes_eq (limit_word verb) word)
     (v.Now ∷ v.Open ∷ v.Close ∷ v.GetAddr ∷ v.From ∷ v.From2 ∷ v.Stat ∷ [])
@@ -63,12 +63,12 @@ SaysMessage form values event =
     × (event ≡ Of number (Message read words))
 
 -- the number of a connection says a request about it
-abbrev pub SaysRequest : Request → List Value → Event → Type 0
+abbrev pub SaysRequest : LimitCommand → List Value → Event → Type 0
 SaysRequest request values event =
     (number : ℕ) × (values ≡ TheNumber number ∷ []) × (event ≡ Of number request)
 
--- the values of the fields after a verb say the event
-abbrev pub SaysOf : Verb → List Value → Event → Type 0
+-- the values of the fields after a keyword say the event
+abbrev pub SaysOf : LimitWord → List Value → Event → Type 0
 SaysOf v.Now values event = (time : ℕ) × (values ≡ TheNumber time ∷ []) × (event ≡ Now time)
 SaysOf v.Open values event =
     (number : ℕ) × (addr : Address) × (unlimited : Bool)
@@ -80,8 +80,8 @@ SaysOf v.From values event = SaysMessage Addr values event
 SaysOf v.From2 values event = SaysMessage Addrv2 values event
 SaysOf v.Stat values event = SaysRequest Stat values event
 
--- the texts after a verb say the event; without a verb they say nothing
-abbrev pub SaysBy : Option Verb → List (List ℕ) → Event → Type 0
+-- the texts after a keyword say the event; without a keyword they say nothing
+abbrev pub SaysBy : Option LimitWord → List (List ℕ) → Event → Type 0
 SaysBy None texts event = event ≡ Nothing
 SaysBy (Some verb) texts event =
     (values : List Value) × AllMean (limit_kinds verb) texts values × SaysOf verb values event
@@ -90,8 +90,8 @@ SaysBy (Some verb) texts event =
 abbrev pub SaysAfter : List ℕ → List (List ℕ) → Event → Type 0
 SaysAfter word texts event = SaysBy (verb_at word) texts event
 
--- what is wrong in the texts after a verb: their number, or the first that is not of its kind
-abbrev pub FaultBy : Option Verb → List (List ℕ) → LineFault → Type 0
+-- what is wrong in the texts after a keyword: their number, or the first that is not of its kind
+abbrev pub FaultBy : Option LimitWord → List (List ℕ) → LineFault → Type 0
 FaultBy None texts f = ⊥
 FaultBy (Some verb) texts f = AreAtFault (limit_kinds verb) texts f
 
@@ -113,7 +113,7 @@ LimitStep old line text new =
     × (new ≡ after_event old event)
 
 -- a `now` line, or one with a number that is this one
-abbrev pub is_about_by : ℕ → Option Verb → List (List ℕ) → Bool
+abbrev pub is_about_by : ℕ → Option LimitWord → List (List ℕ) → Bool
 is_about_by number None texts = false
 is_about_by number (Some v.Now) texts = true
 is_about_by number (Some verb) [] = false

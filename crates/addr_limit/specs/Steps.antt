@@ -7,7 +7,7 @@ use Rattle.net_addr.specs.Address.{Address}
 use Rattle.net_addr.specs.declared.net.Net.{Net}
 use Rattle.net_addr.specs.declared.net.Net.TheVariants.{Internal}
 use Rattle.net_addr.specs.Text.{addr_text}
-use Rattle.net_addr.specs.declared.entry.Entry.{Entry}
+use Rattle.net_addr.specs.declared.peer.Entry.{Entry}
 use Rattle.addr_codecs.specs.Texts.{message_text, addrv2_entry_text}
 use Rattle.addr_codecs.specs.declared.fault.MsgFault.{MsgFault}
 use Rattle.log_lines.specs.Replies.{fault_text, numbers_text}
@@ -15,10 +15,10 @@ use Rattle.limiter.specs.declared.conn.Conn.{Conn}
 use Rattle.limiter.specs.Tokens.{refill, after_entries, intake, after_getaddr}
 use Rattle.limiter.specs.State.{find_conn, new_conn, set_conn}
 use Rattle.addr_limit.specs.LogState.{LimitState}
-use Rattle.addr_limit.specs.declared.request.Request.{Request}
-use Rattle.addr_limit.specs.declared.request.Request.TheVariants.{Open, Close, GetAddr, Message, Stat}
-use Rattle.addr_limit.specs.declared.event.Event.{Event}
-use Rattle.addr_limit.specs.declared.event.Event.TheVariants.{Now, Of, Nothing}
+use Rattle.addr_limit.specs.declared.command.LimitCommand.{LimitCommand}
+use Rattle.addr_limit.specs.declared.command.LimitCommand.TheVariants.{Open, Close, GetAddr, Message, Stat}
+use Rattle.addr_limit.specs.declared.command.Event.{Event}
+use Rattle.addr_limit.specs.declared.command.Event.TheVariants.{Now, Of, Nothing}
 
 -- the text of the output line, and the connection of the number afterwards, if there is one
 pub record Outcome : Type 0 where
@@ -79,7 +79,7 @@ stat_text c =
     ++ codes " tenths " ++ decimal c.tenths
 
 -- a request about a number that has a connection
-abbrev pub serve_conn : ℕ → Conn → Request → Outcome
+abbrev pub serve_conn : ℕ → Conn → LimitCommand → Outcome
 serve_conn now c (Open addr unlimited) =
     with_output (comment (codes "open") c.number (codes " already")) (Some c)
 serve_conn now c Close = with_output (comment (codes "close") c.number []) None
@@ -90,7 +90,7 @@ serve_conn now c (Message read words) = limit_message now c read words
 serve_conn now c Stat = with_output (comment (codes "stat") c.number (stat_text c)) (Some c)
 
 -- a request about a number that has none
-abbrev pub serve_none : ℕ → ℕ → Request → Outcome
+abbrev pub serve_none : ℕ → ℕ → LimitCommand → Outcome
 serve_none now number (Open addr unlimited) =
     with_output (comment (codes "open") number []) (Some (new_conn number addr unlimited now))
 serve_none now number Close = with_output (comment (codes "close") number (codes " unknown")) None
@@ -101,11 +101,11 @@ serve_none now number (Message read words) =
 serve_none now number Stat = with_output (comment (codes "stat") number (codes " unknown")) None
 
 -- the answer to a request, by what is found at its number
-abbrev pub serve : ℕ → ℕ → Option Conn → Request → Outcome
+abbrev pub serve : ℕ → ℕ → Option Conn → LimitCommand → Outcome
 serve now number None request = serve_none now number request
 serve now number (Some c) request = serve_conn now c request
 
-abbrev pub serve_in : LimitState → ℕ → Request → Outcome
+abbrev pub serve_in : LimitState → ℕ → LimitCommand → Outcome
 serve_in st number request = serve st.clock number (find_conn number st.conns) request
 
 -- the state after a line

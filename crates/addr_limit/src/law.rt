@@ -1,15 +1,15 @@
 ghost use Rattle.std.specs.Prelude.{◌≡◌, ℕ, ◌<◌, ◌≤◌, ◌^◌, Bool, List, length, Option, Ok};
 ghost use Rattle.net_addr.specs.Address.{Address};
-ghost use Rattle.net_addr.specs.declared.entry.Entry.{Entry};
+ghost use Rattle.net_addr.specs.declared.peer.Entry.{Entry};
 ghost use Rattle.limiter.specs.State.{find_conn, without_conn, AreBounded, AreRising};
 ghost use Rattle.addr_limit.specs.LogState.{LimitState, start};
 ghost use Rattle.limiter.specs.State.{new_conn};
 ghost use Rattle.addr_limit.specs.Steps.{after_event};
 ghost use Rattle.limiter.specs.Calls.{after_open, after_asking, after_message};
 ghost use Rattle.addr_limit.specs.Lines.{LimitStep, SaysEvent, HasEventFault, is_about};
-ghost use Rattle.addr_limit.specs.declared.event.Event.{Event};
-ghost use Rattle.addr_limit.specs.declared.event.Event.TheVariants.{Of};
-ghost use Rattle.addr_limit.specs.declared.request.Request.TheVariants.{Open, Close, GetAddr, Message};
+ghost use Rattle.addr_limit.specs.declared.command.Event.{Event};
+ghost use Rattle.addr_limit.specs.declared.command.Event.TheVariants.{Of};
+ghost use Rattle.addr_limit.specs.declared.command.LimitCommand.TheVariants.{Open, Close, GetAddr, Message};
 ghost use Rattle.grammar.specs.declared.fault.LineFault.{LineFault};
 ghost use Rattle.addr_limit.specs.Apart.{IsLastOutput};
 

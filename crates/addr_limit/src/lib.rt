@@ -8,22 +8,20 @@
 //! (`calls_are_events`).
 #![tactic(auto)]
 
-mod event;
+mod command;
 mod law;
 mod limit_log;
 mod passing;
 mod payload;
 mod print;
 mod read;
-mod request;
 mod serving;
-mod verb;
+mod word;
 
-pub use event::Event;
+pub use command::{Event, LimitCommand};
 pub use law::{
     calls_are_events, connections_are_apart, lines_have_one_meaning, tokens_are_bounded,
 };
 pub use limit_log::LimitLog;
 pub use limiter::{Asked, Conn, Limiter, Memory};
-pub use request::Request;
-pub use verb::Verb;
+pub use word::LimitWord;

@@ -2,7 +2,7 @@ ghost use Rattle.std.specs.Prelude.{◌≡◌, ◌++◌, [], ◌∷◌, OnOk, On
 
 use crate::read::LimitLines;
 use crate::serving::serve;
-use crate::{Event, Request};
+use crate::{Event, LimitCommand};
 use grammar::{LineFault, read_said};
 use host_io::LINE_FEED;
 use limiter::{Limiter, Memory};
@@ -33,7 +33,7 @@ impl<H: BuildHasher> LimitLog<H> {
     ghost use Rattle.std.specs.Prelude.{◌≡◌, ◌≢◌, ◌++◌, ◌⊎◌, [], ◌∷◌, ℕ, List, length, Err, OnOk, OnErr};
     ghost use Rattle.addr_limit.specs.LogState.{start};
     ghost use Rattle.addr_limit.specs.Steps.{after_event, output, serve_in};
-    ghost use Rattle.addr_limit.specs.declared.event.Event.TheVariants.{Of};
+    ghost use Rattle.addr_limit.specs.declared.command.Event.TheVariants.{Of};
     ghost use Rattle.addr_limit.specs.Lines.{HasEventFault, LimitStep};
     ghost use Rattle.addr_limit.specs.Inside.{IsShort, IsShortEvent};
 
@@ -110,7 +110,7 @@ impl<H: BuildHasher> LimitLog<H> {
         &mut self,
         alloc: Global,
         number: u32,
-        request: &Request,
+        request: &LimitCommand,
         out: &mut Vec<u8>,
     ) -> Result<(), Memory>
         requires { IsShort request.now }

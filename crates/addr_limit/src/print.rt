@@ -1,10 +1,10 @@
 ghost use Rattle.std.specs.Prelude.{◌≡◌, ◌++◌, [], ◌∷◌, codes, map, ℕ, List, if◌then◌else◌, IfOk, OnOk};
-ghost use Rattle.net_addr.specs.declared.entry.Entry.{Entry};
+ghost use Rattle.net_addr.specs.declared.peer.Entry.{Entry};
 ghost use Rattle.log_lines.specs.Replies.{reply_line, numbers_text};
 ghost use Rattle.addr_limit.specs.Steps.{comment, stat_text, addrv2_line, message_line, limit_message, serve_none, serve_conn};
 ghost use Rattle.addr_limit.specs.Inside.{IsShort, IsShortRead, ArePassing};
 
-use crate::Request;
+use crate::LimitCommand;
 use crate::passing::{Passing, count_of, passing_entries};
 use addr_codecs::{Entries, MsgFault, write_addrv2};
 use grammar::Words;
@@ -18,16 +18,20 @@ use std::alloc::Global;
 const LINE_ROOM: usize = 160;
 
 /// Returns the output line of a request about a number that has no connection, at any time.
-pub(crate) fn unknown_line(alloc: Global, number: u32, request: &Request) -> Result<Vec<u8>, Memory>
+pub(crate) fn unknown_line(
+    alloc: Global,
+    number: u32,
+    request: &LimitCommand,
+) -> Result<Vec<u8>, Memory>
     ensures { (clock : ℕ) → IfOk result (λ text. text.items
         ≡ (serve_none clock number request.now).text ++ 10 ∷ []) }
 {
     match request {
-        Request::Open { .. } => comment_line(alloc, b"open", number, b""),
-        Request::Close => comment_line(alloc, b"close", number, b" unknown"),
-        Request::GetAddr => comment_line(alloc, b"getaddr", number, b" unknown"),
-        Request::Message { .. } => comment_line(alloc, b"from", number, b" unknown"),
-        Request::Stat => comment_line(alloc, b"stat", number, b" unknown"),
+        LimitCommand::Open { .. } => comment_line(alloc, b"open", number, b""),
+        LimitCommand::Close => comment_line(alloc, b"close", number, b" unknown"),
+        LimitCommand::GetAddr => comment_line(alloc, b"getaddr", number, b" unknown"),
+        LimitCommand::Message { .. } => comment_line(alloc, b"from", number, b" unknown"),
+        LimitCommand::Stat => comment_line(alloc, b"stat", number, b" unknown"),
     }
 }
 
@@ -36,18 +40,18 @@ pub(crate) fn known_line(
     alloc: Global,
     clock: u32,
     conn: &Conn,
-    request: &Request,
+    request: &LimitCommand,
 ) -> Result<Vec<u8>, Memory>
     requires { IsShort request.now }
     ensures { IfOk result (λ text. text.items
         ≡ (serve_conn clock conn.now request.now).text ++ 10 ∷ []) }
 {
     match request {
-        Request::Open { .. } => comment_line(alloc, b"open", conn.number, b" already"),
-        Request::Close => comment_line(alloc, b"close", conn.number, b""),
-        Request::GetAddr => getaddr_line(alloc, conn),
-        Request::Message { read, words } => read_line(alloc, clock, conn, read, words),
-        Request::Stat => stat_line(alloc, conn),
+        LimitCommand::Open { .. } => comment_line(alloc, b"open", conn.number, b" already"),
+        LimitCommand::Close => comment_line(alloc, b"close", conn.number, b""),
+        LimitCommand::GetAddr => getaddr_line(alloc, conn),
+        LimitCommand::Message { read, words } => read_line(alloc, clock, conn, read, words),
+        LimitCommand::Stat => stat_line(alloc, conn),
     }
 }
 

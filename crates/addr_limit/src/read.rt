@@ -5,8 +5,8 @@ ghost use Rattle.addr_limit.specs.Laws.{no_fault, one_event, one_fault};
 ghost use Rattle.addr_limit.specs.Lines.{FaultAfter, SaysAfter, SaysBy, SaysMessage, SaysRequest, limit_kinds, message_kinds};
 
 use crate::payload::read_entries;
-use crate::verb::VERBS;
-use crate::{Event, Request, Verb};
+use crate::word::KEYWORDS;
+use crate::{Event, LimitCommand, LimitWord};
 use addr_codecs::Form;
 use grammar::{
     Between, Choice, Grammar, LineFault, OneOf, Payload, Random, Source, Texts, find_keyword,
@@ -58,42 +58,42 @@ impl<T: Texts> Grammar<T> for LimitLines {
     ghost right = { no_fault };
 
     fn read_after(alloc: Global, word: &[u8], rest: T) -> Result<Event, LineFault> {
-        match find_keyword(&VERBS, word) {
+        match find_keyword(&KEYWORDS, word) {
             Some(verb) => read_event(alloc, verb, rest),
             None => Ok(Event::Nothing),
         }
     }
 }
 
-/// Reads the fields after a verb.
-fn read_event<T: Texts>(alloc: Global, verb: Verb, rest: T) -> Result<Event, LineFault>
+/// Reads the fields after a keyword.
+fn read_event<T: Texts>(alloc: Global, verb: LimitWord, rest: T) -> Result<Event, LineFault>
     ensures found { IfOk result (SaysBy (Some verb) (T.texts rest)) }
     ensures fault { (f : LineFault) → result ≡ Err f → f ≢ LineFault.Memory →
         AreAtFault (limit_kinds verb) (T.texts rest) f }
 {
     match verb {
-        Verb::Now => {
+        LimitWord::Now => {
             let (time, ()) = read_fields::<T, (Number, ())>(alloc, rest)?;
             Ok(Event::Now { time })
         }
-        Verb::Open => {
+        LimitWord::Open => {
             let (number, (addr, (unlimited, ()))) = read_fields::<
                 T,
                 (Number, (Source, (OneOf<Unlimited>, ()))),
             >(alloc, rest)?;
-            let request = Request::Open { addr, unlimited };
+            let request = LimitCommand::Open { addr, unlimited };
             Ok(Event::Of { number, request })
         }
-        Verb::Close => read_about(alloc, Request::Close, rest),
-        Verb::GetAddr => read_about(alloc, Request::GetAddr, rest),
-        Verb::From => read_sent(alloc, Form::Addr, rest),
-        Verb::From2 => read_sent(alloc, Form::Addrv2, rest),
-        Verb::Stat => read_about(alloc, Request::Stat, rest),
+        LimitWord::Close => read_about(alloc, LimitCommand::Close, rest),
+        LimitWord::GetAddr => read_about(alloc, LimitCommand::GetAddr, rest),
+        LimitWord::From => read_sent(alloc, Form::Addr, rest),
+        LimitWord::From2 => read_sent(alloc, Form::Addrv2, rest),
+        LimitWord::Stat => read_about(alloc, LimitCommand::Stat, rest),
     }
 }
 
 /// Reads the only field, the number of the connection that the request is about.
-fn read_about<T: Texts>(alloc: Global, request: Request, rest: T) -> Result<Event, LineFault>
+fn read_about<T: Texts>(alloc: Global, request: LimitCommand, rest: T) -> Result<Event, LineFault>
     ensures found { IfOk result (λ event. (values : List Value)
         × AllMean (u32_field ∷ []) (T.texts rest) values
         × SaysRequest request values event) }
@@ -116,6 +116,6 @@ fn read_sent<T: Texts>(alloc: Global, form: Form, rest: T) -> Result<Event, Line
         alloc, rest,
     )?;
     let read = read_entries(alloc, form, payload.items())?;
-    let request = Request::Message { read, words };
+    let request = LimitCommand::Message { read, words };
     Ok(Event::Of { number, request })
 }

@@ -2,9 +2,9 @@ ghost use Rattle.std.specs.Prelude.{◌≡◌, ◌++◌, [], ◌∷◌, IfOk, On
 ghost use Rattle.limiter.specs.State.{find_conn, set_conn, AreRising};
 ghost use Rattle.addr_limit.specs.Steps.{serve};
 ghost use Rattle.addr_limit.specs.Inside.{IsShort, IsShortRead};
-ghost use Rattle.addr_limit.specs.declared.request.Request.TheVariants.{Message};
+ghost use Rattle.addr_limit.specs.declared.command.LimitCommand.TheVariants.{Message};
 
-use crate::Request;
+use crate::LimitCommand;
 use crate::passing::count_of;
 use crate::print::{known_line, unknown_line};
 use addr_codecs::{Entries, MsgFault};
@@ -21,7 +21,7 @@ pub(crate) fn serve<H: BuildHasher>(
     alloc: Global,
     clock: u32,
     number: u32,
-    request: &Request,
+    request: &LimitCommand,
     out: &mut Vec<u8>,
 ) -> Result<(), Memory>
     requires { IsShort request.now }
@@ -50,7 +50,7 @@ fn line_of<H: BuildHasher>(
     alloc: Global,
     clock: u32,
     number: u32,
-    request: &Request,
+    request: &LimitCommand,
 ) -> Result<Vec<u8>, Memory>
     requires { IsShort request.now }
     ensures text { IfOk result (λ text. text.items
@@ -68,7 +68,7 @@ fn change<H: BuildHasher>(
     limiter: &mut Limiter<H>,
     clock: u32,
     number: u32,
-    request: &Request,
+    request: &LimitCommand,
 ) -> Result<(), Memory>
     requires short { IsShort request.now }
     requires rising { AreRising limiter.old }
@@ -77,17 +77,17 @@ fn change<H: BuildHasher>(
     ensures err { OnErr result (limiter.new ≡ limiter.old) }
 {
     match request {
-        Request::Open { addr, unlimited } => {
+        LimitCommand::Open { addr, unlimited } => {
             limiter.add_conn(number, *addr, *unlimited, clock)?;
         }
-        Request::Close => {
+        LimitCommand::Close => {
             limiter.close_conn(number);
         }
-        Request::GetAddr => {
+        LimitCommand::GetAddr => {
             limiter.getaddr(number);
         }
-        Request::Message { read, words } => take_message(limiter, clock, number, read, words),
-        Request::Stat => {}
+        LimitCommand::Message { read, words } => take_message(limiter, clock, number, read, words),
+        LimitCommand::Stat => {}
     }
     Ok(())
 }

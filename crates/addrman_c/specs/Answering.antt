@@ -9,7 +9,7 @@ use Rattle.getaddr.specs.Messages.{fits}
 use Rattle.getaddr.specs.Requests.{request, tables_after_request, lacks_room, wants_answer}
 use Rattle.getaddr.specs.declared.times.Times.{Times}
 use Rattle.getaddr.specs.declared.times.Times.TheVariants.{Hidden, Own}
-use Rattle.net_addr.specs.declared.entry.Entry.{Entry}
+use Rattle.net_addr.specs.declared.peer.Entry.{Entry}
 use Rattle.net_addr.specs.declared.net.Net.{Net}
 use Rattle.table_machine.specs.State.{State}
 use Rattle.c_handles.specs.declared.answers_handle.KeptAnswers.{KeptAnswers}

@@ -9,8 +9,8 @@ use Rattle.prefix_table.specs.Print.{table_text}
 use Rattle.prefix_table.specs.Rows.{best}
 use Rattle.prefix_table.specs.Text.{IsTableText, IsFault}
 use Rattle.prefix_table.specs.declared.read.TheConstants.{MAX_TEXT}
-use Rattle.prefix_table.specs.declared.row.Row.{Row}
-use Rattle.prefix_table.specs.declared.row.TheConstants.{MAX_ROWS}
+use Rattle.prefix_table.specs.declared.rows.Row.{Row}
+use Rattle.prefix_table.specs.declared.rows.TheConstants.{MAX_ROWS}
 use Rattle.prefix_table.specs.declared.fault.TableFault.{TableFault}
 use Rattle.prefix_table.specs.declared.fault.TableFault.TheVariants as table
 use Rattle.addrman_c.specs.declared.asmaps.NoAsmap.{NoAsmap}

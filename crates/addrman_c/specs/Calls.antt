@@ -2,22 +2,22 @@
 -- before, the code, the outputs and the state after.
 use Rattle.std.specs.Prelude.{◌≡◌, ◌⊎◌, ℕ, ◌<◌, ◌≤◌, ◌^◌, List, drop, length, Bool, true, false, Option, Some, None, Result, Ok, Err, MatchOption, MatchResult}
 use Rattle.net_addr.specs.Address.{Address}
-use Rattle.net_addr.specs.declared.entry.Entry.{Entry}
+use Rattle.net_addr.specs.declared.peer.Entry.{Entry}
 use Rattle.net_addr.specs.declared.peer.Peer.{Peer}
 use Rattle.addr_codecs.specs.declared.form.Form.{Form}
 use Rattle.ban_list.specs.declared.ban.Ban.{Ban}
 use Rattle.addr_codecs.specs.declared.form.Form.TheVariants.{Addr, Addrv2}
 use Rattle.peer_rec.specs.declared.rec.Rec.{Rec}
-use Rattle.peer_rec.specs.declared.good.Good.{Good}
-use Rattle.peer_rec.specs.declared.good.Good.TheVariants.{Unknown, Already, Clash, Moved}
-use Rattle.peer_rec.specs.declared.picked.Picked.{Picked}
-use Rattle.peer_rec.specs.declared.picked.Picked.TheVariants.{One, Nothing, Exhausted}
+use Rattle.peer_rec.specs.declared.answers.Good.{Good}
+use Rattle.peer_rec.specs.declared.answers.Good.TheVariants.{Unknown, Already, Clash, Moved}
+use Rattle.peer_rec.specs.declared.answers.Picked.{Picked}
+use Rattle.peer_rec.specs.declared.answers.Picked.TheVariants.{One, Nothing, Exhausted}
 use Rattle.table_machine.specs.State.{State, After, find_peer}
 use Rattle.table_machine.specs.Entries.{add}
 use Rattle.table_machine.specs.Tried.{good}
 use Rattle.taking.specs.Taking.{IsAdded, IsMessageFault}
-use Rattle.uncounted.specs.Chosen.{IsChosenAdded, IsChosenFault}
-use Rattle.uncounted.specs.First.{IsFirstAdded, IsFirstFault}
+use Rattle.node_calls.specs.Chosen.{IsChosenAdded, IsChosenFault}
+use Rattle.node_calls.specs.First.{IsFirstAdded, IsFirstFault}
 use Rattle.taking.specs.declared.messages.Added.{Added}
 use Rattle.taking.specs.declared.messages.MessageFault.{MessageFault}
 use Rattle.taking.specs.declared.messages.MessageFault.TheVariants.{Memory, Refused, ShortWords}

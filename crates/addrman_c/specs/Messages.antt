@@ -10,7 +10,7 @@ use Rattle.c_values.specs.declared.structs.AddrmanEntry.{AddrmanEntry}
 use Rattle.c_values.specs.declared.structs.AddrmanFault.{AddrmanFault}
 use Rattle.c_values.specs.Entries.{EntriesPut, entries_in}
 use Rattle.c_values.specs.Faults.{fault_at, fault_number}
-use Rattle.net_addr.specs.declared.entry.Entry.{Entry}
+use Rattle.net_addr.specs.declared.peer.Entry.{Entry}
 use Rattle.addrman_c.specs.Answering.{IsWritten}
 
 -- the payload is no message, and the output says its first fault

@@ -4,8 +4,8 @@ use Rattle.net_addr.specs.declared.peer.Peer.{Peer}
 use Rattle.placing.specs.Places.{group}
 use Rattle.peer_open.specs.Groups.{Outbound, groups, peers, with_peer, without_peer, is_open}
 use Rattle.peer_open.specs.Verdicts.{judge}
-use Rattle.peer_open.specs.declared.verdict.Verdict.{Verdict}
-use Rattle.peer_open.specs.declared.verdict.Verdict.TheVariants.{Take, SameGroup, Recent}
+use Rattle.peer_open.specs.declared.outbound.Verdict.{Verdict}
+use Rattle.peer_open.specs.declared.outbound.Verdict.TheVariants.{Take, SameGroup, Recent}
 use Rattle.peer_open.specs.declared.opener.TheConstants.{MAX_OUTBOUND}
 use Rattle.c_values.specs.declared.code.TheConstants.{OK, MEMORY, ARGUMENT, FULL}
 use Rattle.c_values.specs.declared.values.AddrmanPeer.{AddrmanPeer}

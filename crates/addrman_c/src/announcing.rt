@@ -16,7 +16,7 @@ use tables::Tables;
 fn entry_of(tables: &Tables<'_, Keyed>, peer: &Peer) -> Option<Entry>
     ensures { result ≡ option_map entry (find_peer tables.now peer.now) }
 {
-    let rec = uncounted::find(tables, peer)?;
+    let rec = node_calls::find(tables, peer)?;
     Some(Entry {
         time: rec.time,
         services: rec.services,
@@ -83,7 +83,7 @@ fn sample_on(
     if words.len() > 0xffff_ffff {
         return ARGUMENT;
     }
-    match uncounted::sample(alloc, tables, max, percent, classes, words, now) {
+    match node_calls::sample(alloc, tables, max, percent, classes, words, now) {
         Ok(peers) => put_entries_of(alloc, tables, peers.items(), out, length),
         Err(SampleFault::ShortWords { need, .. }) => {
             *length = need as usize;

@@ -43,7 +43,7 @@ fn chosen_on(
         return FULL;
     }
     let most = most as usize;
-    let answer = uncounted::take_unbanned(
+    let answer = node_calls::take_unbanned(
         alloc, tables, bans, form, payload, &source, most, services, nets, words, now,
     );
     tell(answer, added, fault)

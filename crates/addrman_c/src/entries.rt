@@ -47,7 +47,7 @@ fn add_on(
         services,
         peer,
     };
-    match uncounted::add(tables, &entry, &source, penalty, word, now) {
+    match node_calls::add(tables, &entry, &source, penalty, word, now) {
         Ok(answer) => {
             *accepted = bit(answer);
             OK
@@ -152,7 +152,7 @@ fn message_on(
     if tables.next_number() >= MOST_RECORDS {
         return FULL;
     }
-    let answer = uncounted::take_message(alloc, tables, form, payload, &source, words, now);
+    let answer = node_calls::take_message(alloc, tables, form, payload, &source, words, now);
     tell(answer, added, fault)
 }
 
@@ -225,7 +225,7 @@ fn first_on(
         return FULL;
     }
     let most = most as usize;
-    let answer = uncounted::take_first(alloc, tables, form, payload, &source, most, words, now);
+    let answer = node_calls::take_first(alloc, tables, form, payload, &source, most, words, now);
     tell(answer, added, fault)
 }
 

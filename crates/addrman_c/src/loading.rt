@@ -68,7 +68,7 @@ fn loaded(
     let Some(placer) = placer_of(alloc, snap.key(), map, rule) else {
         return Err(LoadFault::Memory);
     };
-    match uncounted::restore(alloc, &snap, placer, hasher) {
+    match node_calls::restore(alloc, &snap, placer, hasher) {
         Ok(tables) => match boxed(alloc, tables) {
             Some(kept) => Ok(kept),
             None => Err(LoadFault::Memory),
@@ -99,8 +99,8 @@ fn tell(why: LoadFault, fault: &mut AddrmanFault) -> u32
     }
 }
 
-/// Opens the tables that the bytes of a `peers.dat` have, with a rule for the checksum of the asmap.
-/// What the handle had is dropped.
+/// Opens the tables that the bytes of a `peers.dat` have, with a rule for the checksum of the
+/// asmap. What the handle had is dropped.
 fn open_by(
     alloc: Global,
     handle: &mut Handle,

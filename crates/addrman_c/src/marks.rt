@@ -38,7 +38,7 @@ fn good_on(
     let Some(peer) = peer else {
         return ARGUMENT;
     };
-    *outcome = good_number(uncounted::good(tables, &peer, testing, now));
+    *outcome = good_number(node_calls::good(tables, &peer, testing, now));
     OK
 }
 
@@ -79,7 +79,7 @@ fn attempt_on(
     let Some(peer) = peer else {
         return ARGUMENT;
     };
-    *known = bit(uncounted::attempt(tables, &peer, counted, now));
+    *known = bit(node_calls::attempt(tables, &peer, counted, now));
     OK
 }
 
@@ -120,7 +120,7 @@ fn connected_on(
     let Some(peer) = peer else {
         return ARGUMENT;
     };
-    *known = bit(uncounted::connected(tables, &peer, now));
+    *known = bit(node_calls::connected(tables, &peer, now));
     OK
 }
 
@@ -160,7 +160,7 @@ fn services_on(
     let Some(peer) = peer else {
         return ARGUMENT;
     };
-    *known = bit(uncounted::services(tables, &peer, services));
+    *known = bit(node_calls::services(tables, &peer, services));
     OK
 }
 

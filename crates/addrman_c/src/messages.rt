@@ -38,7 +38,7 @@ fn count_of(
     }
 }
 
-/// Writes how many entries a message has, or why the payload is none.
+/// Writes how many entries a message has, or why the payload is not one.
 #[unsafe(no_mangle)]
 pub extern "C" fn addrman_message_count(
     alloc: Global,
@@ -111,7 +111,7 @@ fn read_on(
     }
 }
 
-/// Writes the entries of a message, without those that are skipped, or why the payload is none.
+/// Writes the entries of a message, without those that are skipped, or why the payload is not one.
 #[unsafe(no_mangle)]
 pub extern "C" fn addrman_read_message(
     alloc: Global,

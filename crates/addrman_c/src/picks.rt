@@ -44,7 +44,7 @@ fn select_on(
     ensures call { PickCall (select tables.now new_only nets words.now now) result picked.new }
     ensures same { result ≢ OK → picked.new ≡ picked.old }
 {
-    let pick = uncounted::select(tables, new_only, nets, words, now);
+    let pick = node_calls::select(tables, new_only, nets, words, now);
     put_pick(&pick, picked)
 }
 
@@ -85,7 +85,7 @@ fn select_record_on(
         out.new }
     ensures same { result ≢ OK → out.new ≡ out.old }
 {
-    match uncounted::select(tables, new_only, nets, words, now) {
+    match node_calls::select(tables, new_only, nets, words, now) {
         Picked::One(peer, _) => find_on(tables, Some(peer), out),
         Picked::Nothing => NONE,
         Picked::Exhausted => EXHAUSTED,
@@ -149,7 +149,7 @@ pub extern "C" fn addrman_select_collision(
     let Some(mut kept) = handle.take(alloc) else {
         return CLOSED;
     };
-    let found = uncounted::clash_pick(&mut kept.tables, word);
+    let found = node_calls::clash_pick(&mut kept.tables, word);
     handle.put(kept);
     put_occupant(found, occupant)
 }
@@ -172,7 +172,7 @@ pub extern "C" fn addrman_resolve_collisions(
     let Some(mut kept) = handle.take(alloc) else {
         return CLOSED;
     };
-    let fates = uncounted::resolve(&mut kept.tables, now);
+    let fates = node_calls::resolve(&mut kept.tables, now);
     handle.put(kept);
     *resolved = AddrmanResolved {
         erased: fates.erased,

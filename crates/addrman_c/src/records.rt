@@ -27,7 +27,7 @@ pub(crate) fn find_on(
     let Some(peer) = peer else {
         return ARGUMENT;
     };
-    match uncounted::find(tables, &peer) {
+    match node_calls::find(tables, &peer) {
         Some(rec) => {
             *out = write_record(&rec);
             OK
@@ -61,7 +61,7 @@ fn records_on(tables: &Tables<'_, Keyed>, out: &mut [AddrmanRecord], length: &mu
     ensures call { RecordsCall tables.now.records result out.old out.new length.new }
     ensures length { result ≢ OK → result ≢ SHORT_BUFFER → length.new ≡ length.old }
 {
-    let Ok(recs) = uncounted::recs(tables) else {
+    let Ok(recs) = node_calls::recs(tables) else {
         return MEMORY;
     };
     let recs = recs.items();

@@ -35,7 +35,7 @@ fn sample_on(
     if words.len() > 0xffff_ffff {
         return ARGUMENT;
     }
-    match uncounted::sample(alloc, tables, max, percent, classes, words, now) {
+    match node_calls::sample(alloc, tables, max, percent, classes, words, now) {
         Ok(peers) => put_peers(out, peers.items(), length),
         Err(SampleFault::ShortWords { need, .. }) => {
             *length = need as usize;

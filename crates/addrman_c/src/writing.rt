@@ -17,7 +17,7 @@ use tables::Tables;
 pub(crate) fn file_of(alloc: Global, tables: &Tables<'_, Keyed>, chain: Chain) -> Option<Bytes>
     ensures { IfSome result (λ bytes. bytes ≡ file_text chain (snapshot_of tables.now)) }
 {
-    let Ok(snap) = uncounted::snapshot(tables) else {
+    let Ok(snap) = node_calls::snapshot(tables) else {
         return None;
     };
     match write_file(alloc, &snap, chain) {

@@ -47,8 +47,8 @@ pub(crate) struct Given<'a> {
     pub words: Vec<String>,
     /// The files that are read in the place of those of the current folder.
     pub paths: Paths<'a>,
-    /// What is said of an option that the program takes itself, if its value is wrong. `run` refuses
-    /// the arguments then.
+    /// What is said of an option that the program takes itself, if its value is wrong. `run`
+    /// refuses the arguments then.
     pub hint: String,
 }
 
@@ -81,9 +81,9 @@ pub(crate) fn folder_of(words: &[String]) -> Option<(&str, usize)> {
 
 impl<'a> Given<'a> {
     /// Makes the arguments of a run: `help COMMAND` if an option asks for it, `version` for `-V`,
-    /// and for `--key-file FILE` the key in the file, so that the list of processes doesn't have it.
-    /// `--core` comes first among the arguments, wherever it was. Options that name a file to be read
-    /// are left out.
+    /// and for `--key-file FILE` the key in the file, so that the list of processes doesn't have
+    /// it. `--core` comes first among the arguments, wherever it was. Options that name a file to
+    /// be read are left out.
     pub(crate) fn of<R: Files>(
         alloc: Global,
         rt: &R,
@@ -262,7 +262,7 @@ impl<'a> Given<'a> {
     }
 }
 
-/// Returns whether a command is one of these.
+/// Returns `true` if a command is one of these.
 fn is_among(names: &[&'static str], command: &str) -> bool {
     for name in names {
         if *name == command {
@@ -296,7 +296,7 @@ fn file_option(command: &str, flag: &str) -> Option<Name> {
     }
 }
 
-/// Returns whether one of the arguments is `--core`.
+/// Returns `true` if one of the arguments is `--core`.
 fn has_core(words: &[String]) -> bool {
     for word in words {
         if word.as_str() == "--core" {
@@ -306,7 +306,7 @@ fn has_core(words: &[String]) -> bool {
     false
 }
 
-/// Returns whether an option asks for the page of the command.
+/// Returns `true` if an option asks for the page of the command.
 fn asks_help(words: &[String]) -> bool {
     for word in words {
         if word.as_str() == "--help" || word.as_str() == "-h" {
@@ -316,7 +316,7 @@ fn asks_help(words: &[String]) -> bool {
     false
 }
 
-/// Returns whether these are the digits of a key.
+/// Returns `true` if these are the digits of a key.
 fn is_key(text: &[u8]) -> bool {
     for byte in text {
         if !byte.is_ascii_hexdigit() {

@@ -30,7 +30,7 @@ pub(crate) struct Facts<'a> {
 }
 
 impl Facts<'_> {
-    /// Returns whether the output failed because nobody reads its pipe any more, as after `head`.
+    /// Returns `true` if the output failed because nobody reads its pipe any more, as after `head`.
     pub(crate) fn is_reader_gone(&self) -> bool {
         self.output
             .is_some_and(|error| error.kind() == ErrorKind::BrokenPipe)

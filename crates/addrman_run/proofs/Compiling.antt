@@ -8,7 +8,7 @@ use Rattle.host_io.specs.Writing.{Appended, AppendedPart}
 use Rattle.host_io.specs.declared.name.Name.{Name}
 use Rattle.host_io.specs.declared.name.Name.TheVariants as name
 use Rattle.host_io.proofs.Moments.{begun, joined}
-use Rattle.prefix_table.specs.declared.row.Row.{Row}
+use Rattle.prefix_table.specs.declared.rows.Row.{Row}
 use Rattle.asmap_vm.specs.Code.{code}
 use Rattle.asmap_compile.specs.Compiled.{compiled}
 use Rattle.save_store.specs.Saves.{IsStored, PublishesOrNot}

@@ -4,7 +4,7 @@ use Rattle.std.specs.Prelude.{All, Option, Some, None, codes}
 use Rattle.std.proofs.lemmas.List.Elements.{All-from_recursion}
 use Rattle.host_io.specs.Lines.{lines_of}
 use Rattle.log_lines.specs.declared.command.Command.TheVariants.{Size}
-use Rattle.log_run.specs.declared.limits.TheConstants.{MAX_LINE}
+use Rattle.log_run.specs.declared.sizes.TheConstants.{MAX_LINE}
 use Rattle.peers_file.specs.declared.chain.Chain.TheVariants.{Main}
 use Rattle.addrman_run.specs.Complete.{IsGoodLog, IsReplayLine, NoRefusal}
 use Rattle.addrman_run.specs.Opening.{ReportsOpening}

@@ -23,7 +23,7 @@ use Rattle.log_run.specs.Log.{HasNoFeed}
 use Rattle.log_run.specs.Run.{Ran, Steps, Streams}
 use Rattle.log_run.specs.declared.end.LogEnd.TheVariants as end
 use Rattle.log_run.specs.declared.end.LogEnd.{LogEnd}
-use Rattle.log_run.specs.declared.limits.TheConstants.{MAX_LINE, MAX_LOG}
+use Rattle.log_run.specs.declared.sizes.TheConstants.{MAX_LINE, MAX_LOG}
 use Rattle.opener_lines.proofs.OneMeaning.{asked_no_fault}
 use Rattle.opener_lines.specs.Grammar.{HasRequestFault}
 use Rattle.peers_file.specs.declared.chain.Chain.{Chain}

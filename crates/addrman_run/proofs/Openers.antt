@@ -15,8 +15,8 @@ use Rattle.opener_lines.specs.State.{Answer, RequestStep, peers_after}
 use Rattle.opener_lines.specs.declared.tries.Outcome.{Outcome}
 use Rattle.opener_lines.specs.declared.tries.Outcome.TheVariants.{GaveUp, Taken}
 use Rattle.opener_lines.specs.declared.tries.Outcome.TheVariants as outcome
-use Rattle.opener_lines.specs.declared.request.Request.{Request}
-use Rattle.opener_lines.specs.declared.request.Request.TheVariants as request
+use Rattle.opener_lines.specs.declared.command.OpenerCommand.{OpenerCommand}
+use Rattle.opener_lines.specs.declared.command.OpenerCommand.TheVariants as request
 use Rattle.peer_open.specs.Groups.{AreApart, Outbound, outbound}
 use Rattle.peer_open.specs.declared.opener.TheConstants.{MAX_OUTBOUND}
 use Rattle.arguments.specs.declared.file_kind.FileKind.{FileKind}

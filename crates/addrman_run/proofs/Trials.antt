@@ -9,7 +9,7 @@ use Rattle.peers_file.specs.declared.chain.Chain.TheVariants.{Main}
 use Rattle.placing.specs.declared.sum.SumRule.TheVariants.{Bytes}
 use Rattle.placing.specs.Places.{Places}
 use Rattle.peer_rec.specs.Rec.{is_tried}
-use Rattle.peer_rec.specs.declared.counts.Counts.{Counts}
+use Rattle.peer_rec.specs.declared.answers.Counts.{Counts}
 use Rattle.table_machine.specs.State.{State, empty_state}
 use Rattle.std.proofs.lemmas.List.{append-nil, length-append}
 use Rattle.sha2.specs.Hashers.{Holds256}

@@ -7,7 +7,7 @@ use Rattle.host_io.specs.PerName.{under}
 use Rattle.host_io.specs.Writing.{Appended, AppendedPart}
 use Rattle.host_io.specs.declared.name.Name.{Name}
 use Rattle.host_io.specs.declared.name.Name.TheVariants as name
-use Rattle.prefix_table.specs.declared.row.Row.{Row}
+use Rattle.prefix_table.specs.declared.rows.Row.{Row}
 use Rattle.asmap_vm.specs.Code.{code, IsSaneFile}
 use Rattle.asmap_compile.specs.Compiled.{compiled}
 use Rattle.asmap_compile.specs.declared.compiling.TheConstants.{MAX_BITS}

@@ -2,7 +2,7 @@
 -- nothing fails.
 use Rattle.std.specs.Prelude.{◌≡◌, ◌⊎◌, ◌≤◌, ℕ, List, All, length, Option, Some, ⊤, option_map}
 use Rattle.addr_limit.specs.Lines.{SaysEvent}
-use Rattle.addr_limit.specs.declared.event.Event.{Event}
+use Rattle.addr_limit.specs.declared.command.Event.{Event}
 use Rattle.arguments.specs.declared.grouping.Grouping.{Grouping}
 use Rattle.arguments.specs.declared.grouping.Grouping.TheVariants.{Sets}
 use Rattle.host_io.specs.Faults.{Rose}
@@ -14,12 +14,12 @@ use Rattle.host_io.specs.declared.name.Name.TheVariants as name
 use Rattle.log_lines.specs.Spelling.{SpellsCommand}
 use Rattle.log_lines.specs.declared.command.Command.{Command}
 use Rattle.log_run.specs.declared.end.LogEnd.{LogEnd}
-use Rattle.log_run.specs.declared.limits.TheConstants.{MAX_LINE, MAX_LOG}
+use Rattle.log_run.specs.declared.sizes.TheConstants.{MAX_LINE, MAX_LOG}
 use Rattle.names.specs.Text.{IsTextOf}
 use Rattle.net_addr.specs.Address as net
 use Rattle.net_addr.specs.declared.peer.Peer.{Peer}
 use Rattle.opener_lines.specs.Grammar.{LineAsks}
-use Rattle.opener_lines.specs.declared.request.Request as opener
+use Rattle.opener_lines.specs.declared.command.OpenerCommand as opener
 use Rattle.risk_parts.specs.Sets.{IsSetText}
 use Rattle.risk_parts.specs.declared.addr_set.AddrSet.{AddrSet}
 use Rattle.session.specs.History.{failed}

@@ -9,8 +9,8 @@ use Rattle.asmap_vm.specs.Asmap.{Asmap}
 use Rattle.asmap_vm.specs.Code.{Tree, meaning}
 use Rattle.prefix_table.specs.Print.{table_text}
 use Rattle.prefix_table.specs.Rows.{best}
-use Rattle.prefix_table.specs.declared.row.Row.{Row}
-use Rattle.prefix_table.specs.declared.row.TheConstants.{MAX_ROWS}
+use Rattle.prefix_table.specs.declared.rows.Row.{Row}
+use Rattle.prefix_table.specs.declared.rows.TheConstants.{MAX_ROWS}
 use Rattle.addrman_run.specs.Asmaps.{IsMapIn, ReportsAsmap}
 use Rattle.addrman_run.specs.FileLine.{FileLineEnds}
 use Rattle.addrman_run.specs.declared.status.Status.{Status}

@@ -10,7 +10,7 @@ use Rattle.map_diff.specs.Diff.{AreChanges, Change, changed_prefixes, changes, f
 use Rattle.map_diff.specs.Text.{difference_text}
 use Rattle.peer_rec.specs.Snapshot.{Snapshot}
 use Rattle.peers_file.specs.declared.chain.Chain.{Chain}
-use Rattle.prefix_table.specs.declared.row.TheConstants.{MAX_ROWS}
+use Rattle.prefix_table.specs.declared.rows.TheConstants.{MAX_ROWS}
 use Rattle.addrman_run.specs.Asmaps.{IsMapAt, RefusesAsmap, RefusesMapAt}
 use Rattle.addrman_run.specs.GroupChanges.{group_changes_text}
 use Rattle.addrman_run.specs.InFolder.{IsAbsent, ReportsAbsence}

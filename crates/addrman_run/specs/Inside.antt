@@ -5,7 +5,7 @@ use Rattle.host_io.specs.Writing.{Appended, AppendedPart}
 use Rattle.host_io.specs.declared.name.Name.{Name}
 use Rattle.host_io.specs.declared.name.Name.TheVariants as name
 use Rattle.prefix_table.specs.declared.fault.TableFault.TheVariants as table
-use Rattle.prefix_table.specs.declared.row.Row.{Row}
+use Rattle.prefix_table.specs.declared.rows.Row.{Row}
 use Rattle.asmap_vm.specs.Asmap.{Asmap, IsAsmap}
 use Rattle.asmap_vm.specs.declared.fault.CodeFault.TheVariants as code
 use Rattle.bit_code.specs.declared.bits.TheConstants.{MAX_ASMAP}

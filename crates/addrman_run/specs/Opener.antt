@@ -4,7 +4,7 @@ use Rattle.host_io.specs.Outside.{Outside}
 use Rattle.host_io.specs.Reading.{TakesAtMost}
 use Rattle.log_run.specs.Run.{Ran, Run}
 use Rattle.log_run.specs.declared.end.LogEnd.{LogEnd}
-use Rattle.log_run.specs.declared.limits.TheConstants.{MAX_LOG}
+use Rattle.log_run.specs.declared.sizes.TheConstants.{MAX_LOG}
 use Rattle.peer_open.specs.Groups.{AreApart}
 use Rattle.peer_open.specs.declared.opener.TheConstants.{MAX_OUTBOUND}
 use Rattle.opener_lines.specs.Fair.{IsFair}
@@ -12,7 +12,7 @@ use Rattle.opener_lines.specs.Grammar.{HasRequestFault}
 use Rattle.opener_lines.specs.Lines.{LineStep}
 use Rattle.opener_lines.specs.State as opener
 use Rattle.opener_lines.specs.State.{Answer, RequestStep}
-use Rattle.opener_lines.specs.declared.request.Request.{Request}
+use Rattle.opener_lines.specs.declared.command.OpenerCommand.{OpenerCommand}
 use Rattle.arguments.specs.declared.file_kind.FileKind.{FileKind}
 use Rattle.table_machine.specs.State as tables
 use Rattle.addrman_run.specs.Log.{LogOutcome, streams_of}

@@ -16,7 +16,7 @@ use Rattle.log_laws.specs.Shares.{KeepsShares}
 use Rattle.log_lines.specs.Spelling.{HasCommandFault}
 use Rattle.log_run.specs.Run.{Ran, Run}
 use Rattle.log_run.specs.declared.end.LogEnd.{LogEnd}
-use Rattle.log_run.specs.declared.limits.TheConstants.{MAX_LOG}
+use Rattle.log_run.specs.declared.sizes.TheConstants.{MAX_LOG}
 use Rattle.peers_file.specs.declared.chain.Chain.{Chain}
 use Rattle.arguments.specs.declared.file_kind.FileKind.{FileKind}
 use Rattle.session_saves.specs.Files.{file_of}

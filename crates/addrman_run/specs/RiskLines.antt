@@ -11,7 +11,7 @@ use Rattle.host_io.specs.Writing.{Appended, AppendedPart}
 use Rattle.log_run.specs.Run.{Ran, Steps, Streams}
 use Rattle.log_run.specs.declared.end.LogEnd.{LogEnd}
 use Rattle.log_run.specs.declared.end.LogEnd.TheVariants as end
-use Rattle.log_run.specs.declared.limits.TheConstants.{MAX_LOG}
+use Rattle.log_run.specs.declared.sizes.TheConstants.{MAX_LOG}
 use Rattle.arguments.specs.declared.file_kind.FileKind.{FileKind}
 use Rattle.risk_parts.specs.Sets.{IsSetText}
 use Rattle.risk_parts.specs.declared.addr_set.AddrSet.{AddrSet}

@@ -4,7 +4,7 @@ use Rattle.host_io.specs.Past.{Past}
 use Rattle.host_io.specs.declared.name.Name.TheVariants as name
 use Rattle.prefix_table.specs.Text.{IsTableText, IsFault}
 use Rattle.prefix_table.specs.declared.read.TheConstants.{MAX_TEXT}
-use Rattle.prefix_table.specs.declared.row.Row.{Row}
+use Rattle.prefix_table.specs.declared.rows.Row.{Row}
 use Rattle.prefix_table.specs.declared.fault.TableFault.TheVariants as table
 use Rattle.asmap_vm.specs.Code.{code}
 use Rattle.asmap_compile.specs.Compiled.{compiled}

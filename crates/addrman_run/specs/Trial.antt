@@ -8,7 +8,7 @@ use Rattle.host_io.specs.Outside.{Outside}
 use Rattle.gen_load.specs.Log.{log}
 use Rattle.log_run.specs.Run.{Run}
 use Rattle.manager.specs.Step.{counts_of}
-use Rattle.peer_rec.specs.declared.counts.Counts.{Counts}
+use Rattle.peer_rec.specs.declared.answers.Counts.{Counts}
 use Rattle.peers_file.specs.declared.chain.Chain.TheVariants.{Main}
 use Rattle.placing.specs.declared.sum.SumRule.TheVariants.{Bytes}
 use Rattle.session.specs.History.{History, HistoryStep, fresh}

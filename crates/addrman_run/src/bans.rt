@@ -110,7 +110,7 @@ fn reply_line(reply: BanReply) -> &'static [u8]
     }
 }
 
-/// Returns whether the list is saved after a reply.
+/// Returns `true` if the list is saved after a reply.
 fn is_saved(reply: BanReply) -> bool
     ensures { (bans : List Ban) → saved_by reply bans ≡ saved_if result bans }
 {

@@ -4,7 +4,7 @@ ghost use Rattle.asmap_compile.specs.Compiled.{compiled};
 ghost use Rattle.host_io.specs.Past.{Past, Always};
 ghost use Rattle.host_io.specs.declared.name.Name.TheVariants as name;
 ghost use Rattle.prefix_table.specs.declared.read.TheConstants.{MAX_TEXT};
-ghost use Rattle.prefix_table.specs.declared.row.Row.{Row};
+ghost use Rattle.prefix_table.specs.declared.rows.Row.{Row};
 ghost use Rattle.addrman_run.specs.Compile.{CompileText, IsOldOrNew, compile_text};
 ghost use Rattle.addrman_run.specs.InFolder.{ReportsAbsence};
 ghost use Rattle.addrman_run.specs.Inside.{IsLoaded, IsNewAsmap, IsNotCompiled};

@@ -6,7 +6,7 @@ ghost use Rattle.host_io.specs.declared.name.Name.TheVariants as name;
 ghost use Rattle.log_run.specs.Counts.{IsCounted};
 ghost use Rattle.map_diff.specs.Diff.{changed_prefixes};
 ghost use Rattle.placing.specs.Inside.{asmap_of};
-ghost use Rattle.prefix_table.specs.declared.row.TheConstants.{MAX_ROWS};
+ghost use Rattle.prefix_table.specs.declared.rows.TheConstants.{MAX_ROWS};
 ghost use Rattle.addrman_run.specs.Asmaps.{IsMapAt};
 ghost use Rattle.addrman_run.specs.Diff.{AreChangeLines, AreRecordLines, IsDifference, ReportsDiff};
 ghost use Rattle.addrman_run.specs.InFolder.{ReportsAbsence};

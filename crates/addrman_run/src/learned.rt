@@ -58,8 +58,8 @@ impl Learned {
         self.line.as_slice()
     }
 
-    /// Returns the first bytes of the peers.dat or the asmap that was read: of peers.dat those up to
-    /// the end of its key.
+    /// Returns the first bytes of the peers.dat or the asmap that was read: of peers.dat those up
+    /// to the end of its key.
     pub fn head(&self) -> &[u8] {
         self.head.as_slice()
     }
@@ -77,7 +77,7 @@ impl Learned {
         self.passed_over
     }
 
-    /// Returns whether the elements of banlist.json that were passed over stay in it.
+    /// Returns `true` if the elements of banlist.json that were passed over stay in it.
     pub fn is_rest_kept(&self) -> bool {
         match self.ban_rule {
             BanRule::Labels => false,
@@ -85,7 +85,7 @@ impl Learned {
         }
     }
 
-    /// Returns whether the arguments have a key and peers.dat another one, which is the tables'.
+    /// Returns `true` if the arguments have a key and peers.dat another one, which is the tables'.
     pub fn is_key_unused(&self) -> bool {
         self.is_key_unused
     }

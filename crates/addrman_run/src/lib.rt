@@ -8,7 +8,7 @@
 //! failure has a cause, the outcome of each request, and that a request is done if nothing is wrong
 //! and nothing fails. docs/PROMISES.md has a chapter for each command.
 //!
-//! Tested only, in `run_cases`: which calls of the folder a command makes, and that nothing is read
+//! Tested only, in `test_runs`: which calls of the folder a command makes, and that nothing is read
 //! while a whole line waits.
 #![tactic(auto)]
 

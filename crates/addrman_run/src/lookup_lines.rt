@@ -2,7 +2,7 @@ ghost use Rattle.std.specs.Prelude.{◌≡◌, ◌+◌};
 ghost use Rattle.host_io.specs.Outside.{outside};
 ghost use Rattle.host_io.specs.Reading.{TakesAtMost};
 ghost use Rattle.host_io.specs.declared.name.Name.TheVariants as name;
-ghost use Rattle.log_run.specs.declared.limits.TheConstants.{MAX_LOG};
+ghost use Rattle.log_run.specs.declared.sizes.TheConstants.{MAX_LOG};
 ghost use Rattle.addrman_run.specs.InFolder.{ReportsAbsence};
 ghost use Rattle.addrman_run.specs.LookupLines.{LookupLinesOutcome};
 ghost use Rattle.log_run.specs.Counts.{IsCounted};

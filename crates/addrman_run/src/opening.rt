@@ -49,7 +49,7 @@ pub(crate) fn read_peers(
     }
 }
 
-/// Returns whether there is a key, and it is another one than that of peers.dat.
+/// Returns `true` if there is a key, and it is another one than that of peers.dat.
 fn is_unused(key: Option<[u8; 32]>, own: [u8; 32]) -> bool {
     match key {
         Some(key) => key != own,

@@ -1,7 +1,7 @@
 ghost use Rattle.host_io.specs.Outside.{outside};
 ghost use Rattle.host_io.specs.Reading.{TakesAtMost};
 ghost use Rattle.std.specs.Prelude.{◌+◌};
-ghost use Rattle.log_run.specs.declared.limits.TheConstants.{MAX_LOG};
+ghost use Rattle.log_run.specs.declared.sizes.TheConstants.{MAX_LOG};
 ghost use Rattle.log_run.specs.Counts.{IsCounted};
 ghost use Rattle.addrman_run.specs.Replay.{ReplayOutcome};
 

@@ -24,8 +24,8 @@ use table_risk::{By, risk_text};
 use tables::Tables;
 
 /// The time of the picks, in seconds since 1970. The tables of a file know of no try, as after a
-/// restart, and so the text is the same at any later time (`parts_last` of `risk_parts`, and `later`
-/// of `rows_are_bounds`).
+/// restart, and so the text is the same at any later time (`parts_last` of `risk_parts`, and
+/// `later` of `rows_are_bounds`).
 pub const AFTER_RESTART: u32 = 600;
 
 /// Returns which part of the picks from the tables falls to each group. The steps are counted, and

@@ -2,7 +2,7 @@ ghost use Rattle.std.specs.Prelude.{◌≡◌, ◌≢◌, ◌+◌, [], All, IfOk
 ghost use Rattle.host_io.specs.Outside.{outside};
 ghost use Rattle.host_io.specs.Reading.{TakesAtMost};
 ghost use Rattle.log_run.specs.Counts.{IsCounted};
-ghost use Rattle.log_run.specs.declared.limits.TheConstants.{MAX_LOG};
+ghost use Rattle.log_run.specs.declared.sizes.TheConstants.{MAX_LOG};
 ghost use Rattle.risk_parts.specs.Sets.{IsProperSet};
 ghost use Rattle.table_risk.specs.SetTexts.{sets_text};
 ghost use Rattle.addrman_run.specs.InFolder.{ReportsNoPeers};
@@ -193,7 +193,7 @@ fn over_tables<L: Source, K: Sink, H: BuildHasher>(
     status_of(read)
 }
 
-/// Returns whether a log was read to its end.
+/// Returns `true` if a log was read to its end.
 fn is_done(read: LogEnd) -> bool
     ensures yes { result ≡ true → read ≡ LogEnd.Done }
     ensures no { result ≡ false → read ≢ LogEnd.Done }

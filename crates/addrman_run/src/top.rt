@@ -42,21 +42,20 @@ use std::hash::BuildHasher;
 /// `decompile` writes the table of prefixes that it encodes, and `lookup PEER` writes the AS number
 /// and the group that it gives the peer's address, `lookup -` those of each peer of the log.
 /// `address TEXT` writes what is known of an address, `address -` that of each address of the log.
-/// `diff` writes the prefixes whose number
-/// differs between asmap.old and asmap.dat, and `diff --peers --net CHAIN` also which records of
-/// peers.dat change their group. `limit` carries out the lines of the log under the limit on
-/// received addresses, and writes the log that is left. `show --net CHAIN` lists what peers.dat
-/// has, and `picture --net CHAIN` draws its tables. As JSON, `raw --net CHAIN` prints its records
-/// by their slots, `info --net CHAIN` how many each network has, and `groups --net CHAIN` how many
-/// each group. `risk source --net CHAIN` writes which part of the picks falls to each source group,
-/// at most; `risk peer` and `risk network` do so for other groups, and `risk -` for the sets of
-/// addresses that the lines of the log name. `ban SUBNET NOW UNTIL` and
-/// `unban SUBNET` change the list of bans in banlist.json, `banned PEER NOW` writes which ban covers
-/// the peer's address, and `bans NOW` the bans that are not over, as JSON; after `--core` all four
-/// read and write banlist.json as Bitcoin Core does. `gen START LINES` writes a generated log, and
-/// `trial START LINES` carries it out from empty tables and writes one line about the replies.
-/// `help COMMAND` writes the page of a command, and `help` the list of all; `version` writes the
-/// version and the toolchain.
+/// `diff` writes the prefixes whose number differs between asmap.old and asmap.dat, and `diff
+/// --peers --net CHAIN` also which records of peers.dat change their group. `limit` carries out the
+/// lines of the log under the limit on received addresses, and writes the log that is left. `show
+/// --net CHAIN` lists what peers.dat has, and `picture --net CHAIN` draws its tables. As JSON, `raw
+/// --net CHAIN` prints its records by their slots, `info --net CHAIN` how many each network has,
+/// and `groups --net CHAIN` how many each group. `risk source --net CHAIN` writes which part of the
+/// picks falls to each source group, at most; `risk peer` and `risk network` do so for other
+/// groups, and `risk -` for the sets of addresses that the lines of the log name. `ban SUBNET NOW
+/// UNTIL` and `unban SUBNET` change the list of bans in banlist.json, `banned PEER NOW` writes
+/// which ban covers the peer's address, and `bans NOW` the bans that are not over, as JSON; after
+/// `--core` all four read and write banlist.json as Bitcoin Core does. `gen START LINES` writes a
+/// generated log, and `trial START LINES` carries it out from empty tables and writes one line
+/// about the replies. `help COMMAND` writes the page of a command, and `help` the list of all;
+/// `version` writes the version and the toolchain.
 pub fn run<L: Source, F: Folder, K: Sink, H: BuildHasher + Drop>(
     alloc: Global,
     hasher: H,

@@ -1,5 +1,5 @@
 ghost use Rattle.std.specs.Prelude.{◌≡◌, IfOk, OnOk};
-ghost use Rattle.peer_rec.specs.declared.counts.Counts.{Counts};
+ghost use Rattle.peer_rec.specs.declared.answers.Counts.{Counts};
 ghost use Rattle.addrman_run.specs.Trial.{sizes_text, with_counts, with_sum};
 
 use crate::Memory;

@@ -3,7 +3,7 @@ use Rattle.std.proofs.Common.{◌≡◌, ℕ, ◌-◌, ◌≢◌, List, length, 
 use Rattle.std.proofs.lemmas.List.{take-append-drop}
 use Rattle.std.specs.Prelude.{IfOk, IfErr}
 use Rattle.std.specs.Int.{w16, w32, to_le_bytes, to_be_bytes, from_le_bytes, from_be_bytes}
-use Rattle.net_addr.specs.declared.entry.Entry.{Entry}
+use Rattle.net_addr.specs.declared.peer.Entry.{Entry}
 use Rattle.wire_num.specs.Format as wire
 use Rattle.wire_num.specs.Format.{map_fault}
 use Rattle.wire_num.specs.Fields.{le, be, compact}

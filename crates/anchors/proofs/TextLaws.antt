@@ -6,7 +6,7 @@ use Rattle.std.proofs.lemmas.Bool.{le-leb}
 use Rattle.std.proofs.lemmas.List.{append-nil, take_more, take_all, flat_map_more}
 use Rattle.std.proofs.lemmas.List.Elements.{All-head, All-more, All-tail}
 use Rattle.net_addr.specs.Address.{Address, IsAddress}
-use Rattle.net_addr.specs.declared.entry.Entry.{Entry}
+use Rattle.net_addr.specs.declared.peer.Entry.{Entry}
 use Rattle.wire_num.specs.CompactSize.{compact_size}
 use Rattle.wire_num.specs.Format.{Format, sequence, value, check, times, map_fault}
 use Rattle.wire_num.specs.Fields.{le, be, compact}

@@ -2,7 +2,7 @@
 use Rattle.std.specs.Prelude.{ℕ, List, ◌++◌, length, codes, decimal}
 use Rattle.std.specs.List.{flat_map, enumerate_from}
 use Rattle.net_addr.specs.Text.{peer_text}
-use Rattle.net_addr.specs.declared.entry.Entry.{Entry}
+use Rattle.net_addr.specs.declared.peer.Entry.{Entry}
 
 -- an anchor and its index: the peer, when it was last seen, and which services it offers
 abbrev pub anchor_line : ℕ → Entry → List ℕ

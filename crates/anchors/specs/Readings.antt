@@ -1,7 +1,7 @@
 -- What reading a file from the start gives, field by field.
 use Rattle.std.specs.Prelude.{◌≡◌, ◌≢◌, ℕ, ◌/◌, ◌^◌, List, Result, Ok, Err, ◌==◌, nat_le}
 use Rattle.std.specs.Int.{w16, w32}
-use Rattle.net_addr.specs.declared.entry.Entry.{Entry}
+use Rattle.net_addr.specs.declared.peer.Entry.{Entry}
 use Rattle.wire_num.specs.Readings.{then_at, value_at, check_at, times_at, map_fault_at, le_at, be_at, compact_at}
 use Rattle.addr_codecs.specs.Layout.{entry}
 use Rattle.addr_codecs.specs.Readings.{address_at}

@@ -2,7 +2,7 @@
 use Rattle.std.specs.Prelude.{ℕ, List, ◌++◌, length}
 use Rattle.std.specs.List.{flat_map}
 use Rattle.std.specs.Int.{w16, w32, to_le_bytes, to_be_bytes}
-use Rattle.net_addr.specs.declared.entry.Entry.{Entry}
+use Rattle.net_addr.specs.declared.peer.Entry.{Entry}
 use Rattle.wire_num.specs.CompactSize.{compact_size}
 use Rattle.addr_codecs.specs.Texts.{address_text}
 use Rattle.placing.specs.Places.{double_sha256}

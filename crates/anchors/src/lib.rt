@@ -1,4 +1,4 @@
-//! Bitcoin Core's `anchors.dat`: the peers of its connections for blocks alone, to which a node
+//! Bitcoin Core's `anchors.dat`: the peers of its block-relay-only connections, to which a node
 //! that starts again connects first.
 //!
 //! Contracts see a file as the list of its anchors, each with the time when it was last seen, its

@@ -1,7 +1,7 @@
 ghost use Rattle.std.specs.Prelude.{◌≡◌, ◌≢◌, ◌≤◌, List, length, vec_len, bytes_eq, IfOk, IfErr, Ok, Err, MatchResult, None, Some};
 ghost use Rattle.std.specs.Int.{w16, w32};
 ghost use Rattle.net_addr.specs.OldForm.{from_v1};
-ghost use Rattle.net_addr.specs.declared.entry.Entry.{Entry};
+ghost use Rattle.net_addr.specs.declared.peer.Entry.{Entry};
 ghost use Rattle.wire_num.specs.Readings.{Gives, all_of, be_at, compact_at, le_at, map_fault_at, times_at};
 ghost use Rattle.addr_codecs.specs.Readings.{address_at};
 ghost use Rattle.anchors.specs.Faults.{UnlessMemory, of_address, of_number};
@@ -176,7 +176,7 @@ fn read_body(alloc: Global, bytes: &[u8]) -> Result<Anchors, AnchorsFault>
     }
 }
 
-/// Returns whether both are the same bytes.
+/// Returns `true` if both are the same bytes.
 fn are_same(bytes: &[u8], others: &[u8]) -> bool
     ensures { result ≡ bytes_eq bytes.now others.now }
 {

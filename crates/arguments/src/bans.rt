@@ -47,8 +47,8 @@ pub(crate) fn read_subnet(words: &[String]) -> Option<(BanRule, Subnet)>
     }
 }
 
-/// Reads the arguments after `ban`: `--core`, if the list is Bitcoin Core's, a subnet and two times,
-/// the earlier one first.
+/// Reads the arguments after `ban`: `--core`, if the list is Bitcoin Core's, a subnet and two
+/// times, the earlier one first.
 pub(crate) fn read_period(words: &[String]) -> Option<(BanRule, Subnet, u32, u32)>
     ensures found { IfSome result (λ ban.
         Reads Period (map string_bytes words.now) (ThePeriod ban.0 ban.1 ban.2 ban.3)) }

@@ -69,9 +69,10 @@ pub enum Request {
     Groups {
         kind: FileKind,
     },
-    /// `risk source --net CHAIN`, `risk peer` and `risk network`: print which part of the picks from
-    /// the tables of peers.dat, a file of this chain, falls to each group, at most. `risk -`: print
-    /// which part falls to each set of addresses that a line of the log names, and to all of them.
+    /// `risk source --net CHAIN`, `risk peer` and `risk network`: print which part of the picks
+    /// from the tables of peers.dat, a file of this chain, falls to each group, at most. `risk -`:
+    /// print which part falls to each set of addresses that a line of the log names, and to all of
+    /// them.
     Risk {
         by: Grouping,
         kind: FileKind,

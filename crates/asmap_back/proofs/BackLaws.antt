@@ -7,7 +7,7 @@ use Rattle.bit_code.specs.Coder.{digits, number_of}
 use Rattle.bit_code.proofs.DigitLaws.{length-digits, digits-number_of, number_of-lt}
 use Rattle.bit_code.specs.Prefixes.{begins_with}
 use Rattle.asmap_vm.specs.Code.{Tree, Return, Jump, Match, Default, meaning, asn_of, IsSaneWithin, IsSane}
-use Rattle.prefix_table.specs.declared.row.TheConstants.{MAX_ROWS}
+use Rattle.prefix_table.specs.declared.rows.TheConstants.{MAX_ROWS}
 use Rattle.prefix_table.specs.Rows.{path, best, IsRow}
 use Rattle.prefix_table.proofs.PathLaws.{number_best}
 use Rattle.bit_code.proofs.PrefixLaws.{begins_self, begins_cut, begins_from, begins_both, false_true}

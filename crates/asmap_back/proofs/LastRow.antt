@@ -5,7 +5,7 @@ use Rattle.std.specs.Prelude.{if◌then◌else◌, Option}
 use Rattle.std.specs.Option.{option_map_or}
 use Rattle.std.proofs.lemmas.Bool.{cases_lt, lt-ltb}
 use Rattle.bit_code.specs.Prefixes.{begins_with}
-use Rattle.prefix_table.specs.declared.row.Row.{Row}
+use Rattle.prefix_table.specs.declared.rows.Row.{Row}
 use Rattle.prefix_table.specs.Rows.{path, longest, longer, IsRow, Precedes}
 use Rattle.prefix_table.specs.Rows.{number_at}
 use Rattle.bit_code.proofs.PrefixLaws.{begins_cut, begins_within}

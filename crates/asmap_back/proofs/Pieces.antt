@@ -4,7 +4,7 @@ use Rattle.std.specs.Prelude.{Option, flat_map}
 use Rattle.host_io.specs.Writing.{Appended, AppendedPart}
 use Rattle.host_io.proofs.Appending.{append_both, append_none, append_part}
 use Rattle.prefix_table.specs.Print.{row_text, table_text}
-use Rattle.prefix_table.specs.declared.row.Row.{Row}
+use Rattle.prefix_table.specs.declared.rows.Row.{Row}
 
 -- the text so far, the piece that waits to be written, and the rows that are still to come
 pub record Waits (all : List ℕ) (left : List Row) (piece : List ℕ) (old new : Option (List ℕ)) : Type 0 where

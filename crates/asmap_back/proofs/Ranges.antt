@@ -7,8 +7,8 @@ use Rattle.bit_code.specs.Coder.{HasValue}
 use Rattle.bit_code.specs.declared.coder.Coder.TheVariants as coders
 use Rattle.bit_code.specs.Prefixes.{begins_with}
 use Rattle.asmap_vm.specs.Code.{Tree, Return, Jump, Match, Default, IsSaneWithin, IsSane}
-use Rattle.prefix_table.specs.declared.row.Row.{Row}
-use Rattle.prefix_table.specs.declared.row.TheConstants.{MAX_ROWS}
+use Rattle.prefix_table.specs.declared.rows.Row.{Row}
+use Rattle.prefix_table.specs.declared.rows.TheConstants.{MAX_ROWS}
 use Rattle.prefix_table.specs.Rows.{path, IsRow, IsTable, Precedes}
 use Rattle.bit_code.proofs.PrefixLaws.{begins_from, begins_start}
 use Rattle.prefix_table.proofs.Items.{contains_cons, contains_head, cons_cases}

@@ -11,7 +11,7 @@ use Rattle.asmap_vm.specs.declared.instruction.Instruction.{Instruction}
 use Rattle.asmap_vm.specs.declared.instruction.Instruction.TheVariants as instructions
 use Rattle.asmap_vm.proofs.PartLaws.{HasHead, has_head}
 use Rattle.asmap_vm.proofs.MatchLaws.{match_size-wanted, match_value, match_range, number_of_wanted}
-use Rattle.prefix_table.specs.declared.row.Row.{Row}
+use Rattle.prefix_table.specs.declared.rows.Row.{Row}
 use Rattle.asmap_back.specs.Back.{first_at, row_at, unless_same, rows_of, rows_back}
 use Rattle.asmap_back.specs.Ahead.{Ahead, part_of, IsSaneAhead, AreSane, AreDeep, rows_ahead, code_ahead, AreAhead}
 use Rattle.asmap_back.specs.Inside.{Gives, whole_part, zero_side, one_side, after_match, row_of}

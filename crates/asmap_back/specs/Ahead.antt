@@ -2,7 +2,7 @@
 -- the jumps that are open.
 use Rattle.std.specs.Prelude.{◌≡◌, ℕ, ◌-◌, ◌≤◌, Bool, List, [], ◌∷◌, ◌++◌, length, drop, map, ⊤}
 use Rattle.asmap_vm.specs.Code.{Tree, code, IsSaneWithin}
-use Rattle.prefix_table.specs.declared.row.Row.{Row}
+use Rattle.prefix_table.specs.declared.rows.Row.{Row}
 use Rattle.asmap_back.specs.Back.{first_at, rows_of}
 use Rattle.asmap_back.specs.declared.part.Part.{Part}
 use Rattle.asmap_back.specs.declared.back_rows.BackRows.{BackRows}

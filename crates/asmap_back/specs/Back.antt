@@ -2,7 +2,7 @@
 use Rattle.std.specs.Prelude.{◌==◌, ℕ, ◌*◌, ◌-◌, ◌^◌, Bool, true, false, List, [], ◌∷◌, ◌++◌, length, if◌then◌else◌}
 use Rattle.bit_code.specs.Coder.{number_of}
 use Rattle.asmap_vm.specs.Code.{Tree, Return, Jump, Match, Default}
-use Rattle.prefix_table.specs.declared.row.Row.{Row}
+use Rattle.prefix_table.specs.declared.rows.Row.{Row}
 
 -- the first address that begins with a path: its bits, and then zeros
 abbrev pub first_at : List Bool → ℕ

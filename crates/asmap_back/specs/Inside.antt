@@ -1,9 +1,9 @@
 -- Words of private contracts.
 use Rattle.std.specs.Prelude.{◌≡◌, ℕ, ◌+◌, ◌-◌, ◌*◌, ◌^◌, ◌<◌, Bool, List, ◌++◌, length, ⊤}
 use Rattle.asmap_vm.specs.Matches.{match_size}
-use Rattle.prefix_table.specs.declared.row.Row.{Row}
+use Rattle.prefix_table.specs.declared.rows.Row.{Row}
 use Rattle.asmap_back.specs.Ahead.{AreAhead}
-use Rattle.prefix_table.specs.declared.row.TheConstants.{MAX_ROWS}
+use Rattle.prefix_table.specs.declared.rows.TheConstants.{MAX_ROWS}
 use Rattle.asmap_back.specs.declared.part.Part.{Part}
 use Rattle.asmap_back.specs.declared.fault.BackFault.{BackFault}
 use Rattle.asmap_back.specs.declared.fault.BackFault.TheVariants.{TooMany, Memory}

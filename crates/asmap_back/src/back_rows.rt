@@ -1,6 +1,6 @@
 ghost use Rattle.std.specs.Prelude.{◌≡◌, ◌<◌, ◌∷◌, [], List, MatchOption, OnSome};
 ghost use Rattle.asmap_vm.specs.Held.{tree_held};
-ghost use Rattle.prefix_table.specs.declared.row.Row.{Row};
+ghost use Rattle.prefix_table.specs.declared.rows.Row.{Row};
 ghost use Rattle.asmap_back.specs.Back.{rows_back};
 ghost use Rattle.asmap_back.specs.Ahead.{HasLeft, bits_left};
 

@@ -3,7 +3,7 @@ ghost use Rattle.bit_code.specs.Coder.{number_of};
 ghost use Rattle.asmap_vm.specs.Code.{meaning, asn_of};
 ghost use Rattle.asmap_vm.specs.Held.{tree_held};
 ghost use Rattle.prefix_table.specs.Rows.{best};
-ghost use Rattle.prefix_table.specs.declared.row.TheConstants.{MAX_ROWS};
+ghost use Rattle.prefix_table.specs.declared.rows.TheConstants.{MAX_ROWS};
 ghost use Rattle.asmap_back.specs.Back.{rows_back};
 ghost use Rattle.asmap_back.specs.Inside.{HasCause};
 

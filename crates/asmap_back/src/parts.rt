@@ -11,12 +11,12 @@ pub(crate) const DEPTH: usize = 129;
 
 /// The parts that are still to be read, the next one first.
 #[derive(Drop)]
-pub(crate) struct Parts {
+pub(crate) struct PartsLeft {
     items: [Part; DEPTH],
     len: usize,
 }
 
-impl Model for Parts {
+impl Model for PartsLeft {
     ghost use Rattle.std.specs.Prelude.{List, reverse, take, ◌≤◌};
     ghost use Rattle.asmap_back.specs.declared.part.Part.{Part};
     ghost use Rattle.asmap_back.specs.declared.parts.TheConstants.{DEPTH};
@@ -28,12 +28,12 @@ impl Model for Parts {
     ghost invariant = { λ s. s.len ≤ DEPTH };
 }
 
-impl Parts {
+impl PartsLeft {
     /// Makes the list of the whole tree's part.
-    pub fn new() -> Parts
+    pub fn new() -> PartsLeft
         ensures { result ≡ whole_part ∷ [] }
     {
-        Parts {
+        PartsLeft {
             items: [whole(); DEPTH],
             len: 1,
         }

@@ -1,11 +1,11 @@
 ghost use Rattle.std.specs.Prelude.{◌≡◌, ◌<◌, ◌≤◌, ◌∷◌, [], List, length, option_to_list};
-ghost use Rattle.prefix_table.specs.declared.row.Row.{Row};
+ghost use Rattle.prefix_table.specs.declared.rows.Row.{Row};
 ghost use Rattle.asmap_back.specs.Back.{unless_same};
 ghost use Rattle.asmap_back.specs.Ahead.{AreAhead};
 ghost use Rattle.asmap_back.specs.Inside.{Gives, row_of, whole_part};
 
 use crate::part::{Part, after_match, row_of, sides};
-use crate::parts::Parts;
+use crate::parts::PartsLeft;
 use asmap_vm::{Instruction, first_instruction};
 use bit_code::Bits;
 use prefix_table::Row;
@@ -17,7 +17,7 @@ pub(crate) struct Reading {
     pub offset: usize,
     /// The part that begins there, and after it the right parts of the jumps that are open. Each
     /// begins where the part before it ends.
-    pub parts: Parts,
+    pub parts: PartsLeft,
 }
 
 /// Returns the row of the part's path with this number, unless the longest row above has the same
@@ -39,7 +39,7 @@ impl Reading {
     {
         Reading {
             offset: 0,
-            parts: Parts::new(),
+            parts: PartsLeft::new(),
         }
     }
 

@@ -7,7 +7,7 @@ use Rattle.std.proofs.lemmas.List.Elements.{Contains-get_or, All-contains, filte
 use Rattle.std.proofs.lemmas.Nat.{pow_pos}
 use Rattle.bit_code.specs.Coder.{digits}
 use Rattle.bit_code.specs.Prefixes.{begins_with}
-use Rattle.prefix_table.specs.declared.row.Row.{Row}
+use Rattle.prefix_table.specs.declared.rows.Row.{Row}
 use Rattle.prefix_table.specs.Rows.{path, longest, first_bits, row_covers, IsRow, IsTable, Precedes, number_at}
 use Rattle.asmap_compile.specs.Compiled.{shorter_than, stays}
 use Rattle.bit_code.proofs.PrefixLaws.{begins_from, begins_within, begins_more, false_true}

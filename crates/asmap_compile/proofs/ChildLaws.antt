@@ -6,7 +6,7 @@ use Rattle.bit_code.specs.Coder.{HasValue}
 use Rattle.bit_code.specs.declared.coder.Coder.TheVariants as coders
 use Rattle.bit_code.specs.Prefixes.{begins_with}
 use Rattle.asmap_vm.specs.Code.{Return, Jump, code}
-use Rattle.prefix_table.specs.declared.row.Row.{Row}
+use Rattle.prefix_table.specs.declared.rows.Row.{Row}
 use Rattle.prefix_table.specs.Rows.{path, number_at}
 use Rattle.asmap_compile.specs.Compiled.{rows_kept, is_row, goes_on, Forked, onward, matches, under_default, tree_at}
 use Rattle.asmap_compile.specs.Inside.{bit_of, is_low, IsPart}

@@ -3,7 +3,7 @@ use Rattle.std.proofs.Common.{◌≡◌, ◌+◌, ◌*◌, ◌^◌, true, false,
 use Rattle.bit_code.specs.Coder.{digits, low_digits, file_bits, sizes, values_of, spelling, spelling_by, number_of}
 use Rattle.bit_code.specs.Prefixes.{begins_with}
 use Rattle.asmap_vm.specs.Code.{Return, Jump, Match, Default, code}
-use Rattle.prefix_table.specs.declared.row.Row.{Row}
+use Rattle.prefix_table.specs.declared.rows.Row.{Row}
 use Rattle.prefix_table.specs.Rows.{path, longest, number_at}
 use Rattle.asmap_compile.specs.Compiled.{stays, is_row, goes_on, stretch, matches, under_default, tree_at, compiled}
 

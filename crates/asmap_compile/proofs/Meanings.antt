@@ -4,7 +4,7 @@ use Rattle.std.proofs.lemmas.Bool.{cases_Bool, cases_eq, cond-true, cond-false}
 use Rattle.std.proofs.lemmas.List.{take-append-drop, drop-drop, length-drop, drop_at}
 use Rattle.bit_code.specs.Prefixes.{begins_with}
 use Rattle.asmap_vm.specs.Code.{Tree, Return, Jump, meaning}
-use Rattle.prefix_table.specs.declared.row.Row.{Row}
+use Rattle.prefix_table.specs.declared.rows.Row.{Row}
 use Rattle.prefix_table.specs.Rows.{number_at}
 use Rattle.asmap_compile.specs.Compiled.{matches, under_default, tree_at}
 use Rattle.bit_code.proofs.PrefixLaws.{begins_cut, begins_long}

@@ -6,7 +6,7 @@ use Rattle.std.proofs.lemmas.Nat.{shr-shr, pow_pos}
 use Rattle.bit_code.specs.Coder.{digits, number_of}
 use Rattle.bit_code.proofs.DigitLaws.{number_of-digits}
 use Rattle.bit_code.specs.Prefixes.{begins_with}
-use Rattle.prefix_table.specs.declared.row.Row.{Row}
+use Rattle.prefix_table.specs.declared.rows.Row.{Row}
 use Rattle.prefix_table.specs.Rows.{path, first_bits, Precedes}
 use Rattle.asmap_compile.specs.Inside.{bits_between, bit_of}
 use Rattle.asmap_compile.proofs.BetweenLaws.{between_long, between_split}

@@ -3,7 +3,7 @@ use Rattle.std.proofs.Common.{◌≡◌, ℕ, suc, ◌-◌, Bool, true, false, �
 use Rattle.std.proofs.lemmas.Bool.{lt-ltb, le-ltb, false_from_ne_true}
 use Rattle.std.proofs.lemmas.List.{take_all}
 use Rattle.bit_code.specs.Prefixes.{begins_with}
-use Rattle.prefix_table.specs.declared.row.Row.{Row}
+use Rattle.prefix_table.specs.declared.rows.Row.{Row}
 use Rattle.prefix_table.specs.Rows.{path, IsRow, IsTable, Precedes, number_at}
 use Rattle.asmap_compile.specs.Compiled.{rows_kept, stays, is_row}
 use Rattle.asmap_compile.specs.Inside.{IsPart, IsLonger}

@@ -5,7 +5,7 @@ use Rattle.std.proofs.lemmas.Bool.{ltb-true, eqb-true, eqb-false, and_parts, and
 use Rattle.bit_code.specs.Coder.{HasValue, values_of, sizes}
 use Rattle.bit_code.specs.declared.coder.Coder.TheVariants as coders
 use Rattle.bit_code.specs.Prefixes.{begins_with}
-use Rattle.prefix_table.specs.declared.row.Row.{Row}
+use Rattle.prefix_table.specs.declared.rows.Row.{Row}
 use Rattle.prefix_table.specs.Rows.{path, longest, IsRow, number_at}
 use Rattle.asmap_compile.specs.Compiled.{shorter_than, stays, rows_kept, is_row}
 use Rattle.bit_code.proofs.PrefixLaws.{begins_cut, begins_from, begins_long, nil_from, begins_equal, begins_within, begins_more, same_tests, begins_step}

@@ -9,7 +9,7 @@ use Rattle.bit_code.specs.declared.coder.Coder.TheVariants as coders
 use Rattle.bit_code.specs.Prefixes.{begins_with}
 use Rattle.asmap_vm.specs.Code.{Tree, Return, Jump, Default, code, IsSaneWithin, TakesDefault, IsNoShortMatch, IsMatch}
 use Rattle.prefix_table.specs.Rows.{path, number_at}
-use Rattle.prefix_table.specs.declared.row.Row.{Row}
+use Rattle.prefix_table.specs.declared.rows.Row.{Row}
 use Rattle.asmap_compile.specs.Compiled.{is_row, goes_on, matches, under_default, tree_at}
 use Rattle.bit_code.proofs.PrefixLaws.{begins_long, nil_from}
 use Rattle.prefix_table.proofs.PathLaws.{AreRows}

@@ -11,7 +11,7 @@ use Rattle.bit_code.proofs.DigitLaws.{length-digits}
 use Rattle.bit_code.proofs.SpellingLaws.{length-spelling_asn}
 use Rattle.bit_code.specs.Prefixes.{begins_with}
 use Rattle.asmap_vm.specs.Code.{Tree, Return, Jump, Match, Default, code, return_kind, jump_kind, match_kind, default_kind}
-use Rattle.prefix_table.specs.declared.row.Row.{Row}
+use Rattle.prefix_table.specs.declared.rows.Row.{Row}
 use Rattle.prefix_table.specs.Rows.{path, number_at}
 use Rattle.asmap_compile.specs.Compiled.{is_row, Single, Forked, onward, matches, under_default, tree_at}
 use Rattle.bit_code.proofs.PrefixLaws.{begins_start, begins_long, nil_from, sides_same, false_true}

@@ -6,7 +6,7 @@ use Rattle.std.proofs.lemmas.List.{get_or_default}
 use Rattle.std.proofs.lemmas.List.Elements.{Contains-get_or}
 use Rattle.asmap_compile.proofs.PartLaws.{path_of_row}
 use Rattle.bit_code.specs.Prefixes.{begins_with}
-use Rattle.prefix_table.specs.declared.row.Row.{Row}
+use Rattle.prefix_table.specs.declared.rows.Row.{Row}
 use Rattle.prefix_table.specs.Rows.{path, first_bits, Precedes}
 use Rattle.asmap_compile.specs.Compiled.{rows_kept, is_row, goes_on, Forked, onward}
 use Rattle.asmap_compile.specs.Inside.{bits_between, bit_of}

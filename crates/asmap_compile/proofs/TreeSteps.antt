@@ -6,7 +6,7 @@ use Rattle.std.specs.List.Sorted.{IsPartitionPoint, IsPartitionedBy}
 use Rattle.bit_code.specs.Coder.{HasValue}
 use Rattle.bit_code.specs.declared.coder.Coder.TheVariants as coders
 use Rattle.asmap_vm.specs.Code.{Tree, Return}
-use Rattle.prefix_table.specs.declared.row.Row.{Row}
+use Rattle.prefix_table.specs.declared.rows.Row.{Row}
 use Rattle.prefix_table.specs.Rows.{first_bits, number_at}
 use Rattle.asmap_compile.specs.Compiled.{rows_kept, Forked, onward, matches, under_default, tree_at}
 use Rattle.asmap_compile.specs.Inside.{bits_between, bit_of, is_low, IsPart, IsLonger}

@@ -2,7 +2,7 @@
 use Rattle.std.proofs.Common.{◌≡◌, ℕ, suc, ◌≤◌, Bool, true, false, List, [], ◌∷◌, ◌++◌, length, refl, arith, length-append}
 use Rattle.std.proofs.lemmas.Bool.{false_from_ne_true, eq-eqb, ne_eqb}
 use Rattle.asmap_vm.specs.Code.{Tree, Return, Jump, Default}
-use Rattle.prefix_table.specs.declared.row.Row.{Row}
+use Rattle.prefix_table.specs.declared.rows.Row.{Row}
 use Rattle.prefix_table.specs.Rows.{number_at}
 use Rattle.asmap_compile.specs.Compiled.{goes_on, End, Single, Forked, onward, stretch, matches, under_default, tree_at}
 use Rattle.prefix_table.proofs.PathLaws.{AreRows}

@@ -6,7 +6,7 @@ use Rattle.std.proofs.lemmas.List.{get_or_default}
 use Rattle.std.proofs.lemmas.List.Elements.{Contains-get_or}
 use Rattle.std.specs.List.Sorted.{IsPartitionedBy}
 use Rattle.bit_code.specs.Prefixes.{begins_with}
-use Rattle.prefix_table.specs.declared.row.Row.{Row}
+use Rattle.prefix_table.specs.declared.rows.Row.{Row}
 use Rattle.prefix_table.specs.Rows.{path, IsRow, IsTable, Precedes}
 use Rattle.asmap_compile.specs.Compiled.{rows_kept, stays, goes_on, Single, Forked, onward}
 use Rattle.asmap_compile.specs.Inside.{bit_of, is_low, IsLonger}

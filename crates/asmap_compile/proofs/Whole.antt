@@ -6,7 +6,7 @@ use Rattle.bit_code.proofs.DigitLaws.{length-digits, digits-number_of, number_of
 use Rattle.bit_code.specs.Files as bit_file
 use Rattle.bit_code.specs.Prefixes.{begins_with}
 use Rattle.asmap_vm.specs.Code.{Tree, code, meaning, asn_of, IsSane, IsTreeFile}
-use Rattle.prefix_table.specs.declared.row.Row.{Row}
+use Rattle.prefix_table.specs.declared.rows.Row.{Row}
 use Rattle.prefix_table.specs.Rows.{best, path, longest, IsTable, number_at}
 use Rattle.asmap_compile.specs.Compiled.{rows_kept, stays, compiled, tree_at}
 use Rattle.asmap_compile.specs.Inside.{IsPart}

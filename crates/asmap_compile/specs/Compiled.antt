@@ -6,7 +6,7 @@ use Rattle.std.specs.Prelude.{◌==◌, ℕ, Bool, true, false, not, ◌&&◌, L
 use Rattle.std.specs.List.{list_any}
 use Rattle.bit_code.specs.Prefixes.{begins_with}
 use Rattle.asmap_vm.specs.Code.{Tree, Return, Jump, Match, Default}
-use Rattle.prefix_table.specs.declared.row.Row.{Row}
+use Rattle.prefix_table.specs.declared.rows.Row.{Row}
 use Rattle.prefix_table.specs.Rows.{path, number_at}
 
 -- the rows that are shorter than this many bits

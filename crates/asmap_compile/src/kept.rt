@@ -1,6 +1,6 @@
 ghost use Rattle.std.specs.Prelude.{◌≡◌, ℕ, ◌-◌, ◌<◌, ◌≤◌, true, false, length, IfOk, slice_index_or};
 ghost use Rattle.prefix_table.specs.Rows.{IsTable, row_covers, first_bits};
-ghost use Rattle.prefix_table.specs.declared.row.Row.{Row};
+ghost use Rattle.prefix_table.specs.declared.rows.Row.{Row};
 ghost use Rattle.asmap_compile.specs.Compiled.{rows_kept};
 
 use prefix_table::Row;
@@ -14,7 +14,7 @@ fn first_bits(bits: u128, len: u8) -> u128
     if len == 0 { 0 } else { bits >> (128 - len) }
 }
 
-/// Returns whether the row is a prefix of the address.
+/// Returns `true` if the row is a prefix of the address.
 fn row_covers(row: &Row, address: u128) -> bool
     requires { row.now.len ≤ 128 }
     ensures { result ≡ row_covers row.now address }

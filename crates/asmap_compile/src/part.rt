@@ -1,7 +1,7 @@
 ghost use Rattle.std.specs.Prelude.{◌≡◌, ℕ, ◌<◌, ◌≤◌, Bool, true, false, List, length};
 ghost use Rattle.std.specs.List.Sorted.{IsPartitionPoint, IsPartitionedBy};
 ghost use Rattle.bit_code.specs.Coder.{has_bit};
-ghost use Rattle.prefix_table.specs.declared.row.Row.{Row};
+ghost use Rattle.prefix_table.specs.declared.rows.Row.{Row};
 ghost use Rattle.prefix_table.specs.Rows.{number_at};
 ghost use Rattle.asmap_compile.specs.Compiled.{rows_kept};
 ghost use Rattle.asmap_compile.specs.Inside.{IsPart, IsLonger, bit_of, is_low};

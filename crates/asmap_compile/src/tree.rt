@@ -1,6 +1,6 @@
 ghost use Rattle.std.specs.Prelude.{◌≡◌, ℕ, ◌+◌, ◌-◌, ◌<◌, Bool, List, ◌++◌, OnOk};
 ghost use Rattle.asmap_vm.specs.Code.{code};
-ghost use Rattle.prefix_table.specs.declared.row.Row.{Row};
+ghost use Rattle.prefix_table.specs.declared.rows.Row.{Row};
 ghost use Rattle.asmap_compile.specs.Compiled.{rows_kept, tree_at};
 ghost use Rattle.asmap_compile.specs.Inside.{IsPart};
 

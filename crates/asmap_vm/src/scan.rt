@@ -19,7 +19,7 @@ pub(crate) enum Before {
 }
 
 impl Before {
-    /// Returns whether it is a default.
+    /// Returns `true` if it is a default.
     fn is_default(self) -> bool
         ensures { IsTrue result ↔ (self ≡ Before.Default) }
     {
@@ -62,7 +62,7 @@ fn after_match(size: u8) -> Before
     }
 }
 
-/// Returns whether there are few enough bits for padding, which ends within a byte.
+/// Returns `true` if there are few enough bits for padding, which ends within a byte.
 fn is_few(count: usize) -> bool
     ensures few { result ≡ true → count ≤ 7 }
     ensures many { result ≡ false → 7 < count }
@@ -70,7 +70,7 @@ fn is_few(count: usize) -> bool
     count <= 7
 }
 
-/// Returns whether the bits from an offset on are padding: at most seven, all zero.
+/// Returns `true` if the bits from an offset on are padding: at most seven, all zero.
 fn is_padding(bits: &Bits<'_>, at: usize) -> bool
     requires { at ≤ length bits.now }
     ensures { IsTrue result ↔ IsPadding (drop at bits.now) }
@@ -221,7 +221,7 @@ impl Scan {
         true
     }
 
-    /// Returns whether the bits are the code of a sane tree and padding, in one pass over them.
+    /// Returns `true` if the bits are the code of a sane tree and padding, in one pass over them.
     pub fn is_sane(bits: &Bits<'_>) -> bool
         requires { length bits.now < 2 ^ 32 }
         ensures { IsTrue result ↔ Completes bits.now start }

@@ -18,7 +18,7 @@ pub(crate) struct Walk {
     pub default: u32,
 }
 
-/// Returns whether bit `k` of the address, counted from the low one, is one.
+/// Returns `true` if bit `k` of the address, counted from the low one, is one.
 #[inline]
 fn has_bit(address: u128, k: u8) -> bool
     requires { k < 128 }
@@ -27,7 +27,7 @@ fn has_bit(address: u128, k: u8) -> bool
     (address >> k) & 1 == 1
 }
 
-/// Returns whether the address bits above the `left` lowest begin with the bits of a match.
+/// Returns `true` if the address bits above the `left` lowest begin with the bits of a match.
 #[inline]
 fn is_matched(address: u128, left: u8, number: u32) -> bool
     requires low { 2 ≤ number }

@@ -3,7 +3,7 @@ use Rattle.std.specs.Prelude.{◌≡◌, ℕ, ◌+◌, ◌*◌, ◌<◌, ◌≤�
 use Prim.Native.Nat.{zero, suc}
 use Rattle.std.specs.List.{range_with_len}
 use Rattle.bit_code.specs.Coder.{has_bit, low_digits, file_bits, least, sizes}
-use Rattle.bit_code.specs.declared.classes.Classes.{Classes}
+use Rattle.bit_code.specs.declared.coder.Classes.{Classes}
 use Rattle.bit_code.specs.declared.coder.Coder.{Coder}
 use Rattle.bit_code.specs.declared.coder.Coder.TheVariants.{Kind, Asn, Match, Jump}
 

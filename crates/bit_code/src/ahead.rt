@@ -3,8 +3,7 @@ ghost use Rattle.bit_code.specs.Coder.{low_digits, coder_after};
 ghost use Rattle.bit_code.specs.Reading.{read_value};
 ghost use Rattle.bit_code.specs.Inside.{longest, class_head, IsClass, HasClasses};
 
-use crate::classes::{Classes, classes_after, classes_of};
-use crate::coder::Coder;
+use crate::coder::{Classes, Coder, classes_after, classes_of};
 use crate::reversal::front_digits;
 
 /// A number that some bits begin with.

@@ -12,7 +12,6 @@ mod ahead;
 mod bit_front;
 mod bit_out;
 mod bits;
-mod classes;
 mod coder;
 mod memory;
 mod number;

@@ -3,8 +3,7 @@ ghost use Rattle.std.specs.List.{range_with_len};
 ghost use Rattle.bit_code.specs.Coder.{HasValue, spelling, spelling_by, low_digits};
 
 use crate::ahead::head_len;
-use crate::classes::{Classes, classes_of};
-use crate::coder::Coder;
+use crate::coder::{Classes, Coder, classes_of};
 use crate::packing::cat_bits;
 use crate::reversal::front_digits;
 

@@ -1,6 +1,6 @@
 -- What the structs of entries mean, one and many.
 use Rattle.std.specs.Prelude.{◌≡◌, ◌⊎◌, ℕ, ◌<◌, ◌≤◌, List, drop, length, slice_get, flat_map, option_to_list, option_map, Option, Some}
-use Rattle.net_addr.specs.declared.entry.Entry.{Entry}
+use Rattle.net_addr.specs.declared.peer.Entry.{Entry}
 use Rattle.c_values.specs.declared.code.TheConstants.{OK, SHORT_BUFFER}
 use Rattle.c_values.specs.declared.structs.AddrmanEntry.{AddrmanEntry}
 use Rattle.c_values.specs.Values.{peer_in}

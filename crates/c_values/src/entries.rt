@@ -42,7 +42,7 @@ pub fn put_entries(out: &mut [AddrmanEntry], entries: &[Entry], length: &mut usi
     OK
 }
 
-/// Reads an entry, or `None` if its address is none.
+/// Reads an entry, or `None` if its address is not valid.
 fn read_entry(entry: &AddrmanEntry) -> Option<Entry>
     ensures { result ≡ entry_in entry.now }
 {
@@ -54,7 +54,7 @@ fn read_entry(entry: &AddrmanEntry) -> Option<Entry>
     })
 }
 
-/// Reads entries, without those whose address is none.
+/// Reads entries, without those whose address is not valid.
 pub fn read_entries(alloc: Global, structs: &[AddrmanEntry]) -> Result<Vec<Entry>, Memory>
     ensures found { IfOk result (λ es. es.items ≡ entries_in structs.now) }
     ensures few { IfOk result (λ es. length es.items ≤ length structs.now) }

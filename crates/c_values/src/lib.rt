@@ -4,7 +4,7 @@
 //! `peer_in`, `IsRecord`).
 //!
 //! Proved: what is written reads as what it was written of, outputs are written whole or not at
-//! all, and nothing is written after their end. The library for C stands on this crate, and has the
+//! all, and nothing is written after their end. The library for C uses this crate, and has the
 //! calls themselves.
 #![tactic(auto)]
 

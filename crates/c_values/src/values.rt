@@ -54,7 +54,7 @@ fn address_by(net: Option<Net>, bytes: &[u8]) -> Option<NetAddr>
     NetAddr::of(net?, bytes)
 }
 
-/// Reads an address, or `None` if these bytes are none.
+/// Reads an address, or `None` if these bytes are not one.
 pub fn read_addr(addr: &AddrmanAddr) -> Option<NetAddr>
     ensures { result ≡ address_in addr.now }
 {
@@ -67,7 +67,7 @@ pub fn read_addr(addr: &AddrmanAddr) -> Option<NetAddr>
     )
 }
 
-/// Reads a peer, or `None` if its address is none.
+/// Reads a peer, or `None` if its address is not valid.
 pub fn read_peer(peer: &AddrmanPeer) -> Option<Peer>
     ensures { result ≡ peer_in peer.now }
 {

@@ -3,12 +3,12 @@ use Rattle.std.specs.Prelude.{◌≡◌, ℕ, List, false}
 use Rattle.net_addr.specs.NetSet.{all}
 use Rattle.net_addr.specs.declared.peer.Peer.{Peer}
 use Rattle.placing.specs.Places.{Places, group}
-use Rattle.peer_rec.specs.declared.picked.Picked.TheVariants.{One}
+use Rattle.peer_rec.specs.declared.answers.Picked.TheVariants.{One}
 use Rattle.table_machine.specs.State.{State}
 use Rattle.table_machine.specs.Picks.{select}
 use Rattle.peer_open.specs.Groups.{Outbound}
 use Rattle.peer_open.specs.Verdicts.{judge}
-use Rattle.peer_open.specs.declared.verdict.Verdict.TheVariants.{Take}
+use Rattle.peer_open.specs.declared.outbound.Verdict.TheVariants.{Take}
 
 -- the random words pick the peer, and the rules take it in the try of this number
 pub record IsTaken (st : State) (places : Places) (open_peers : List Outbound) (words : List ℕ)

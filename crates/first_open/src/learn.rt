@@ -1,7 +1,7 @@
 use net_addr::{Entry, NetAddr, Peer};
+use node_calls::add;
 use std::hash::BuildHasher;
 use tables::{Memory, Tables};
-use uncounted::add;
 
 /// Returns the peer of this IPv4 address with the port 8333.
 pub(crate) fn peer(octets: [u8; 4]) -> Peer {

@@ -1,10 +1,10 @@
 use net_addr::{Entry, NetAddr, NetSet, Peer};
+use node_calls::{add, select};
 use picking::Picked;
 use placing::Placer;
 use std::alloc::Global;
 use std::hash::BuildHasher;
 use tables::{Memory, Tables};
-use uncounted::{add, select};
 
 /// Learns of 8.8.8.8:8333 from 1.2.3.4, and picks a peer to connect to.
 pub(crate) fn first_pick<H: BuildHasher + Drop>(

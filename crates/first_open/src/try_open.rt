@@ -4,12 +4,12 @@ ghost use Rattle.peer_open.specs.Groups.{AreApart, with_peer};
 ghost use Rattle.first_open.specs.Taken.{IsTaken};
 
 use net_addr::{NetSet, Peer};
+use node_calls::select;
 use peer_open::{MAX_OUTBOUND, Opener, Verdict};
 use picking::Picked;
 use placing::Placer;
 use std::hash::BuildHasher;
 use tables::Tables;
-use uncounted::select;
 
 /// Makes one try for an outbound connection, at a time in seconds since 1970: picks a peer by the
 /// random words, and adds it to the open ones if the rules take it in the try of this number, the

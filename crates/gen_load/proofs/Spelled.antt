@@ -17,7 +17,7 @@ use Rattle.net_addr.specs.Ranges.{in_range, is_routable}
 use Rattle.net_addr.specs.Address.{mapped_prefix}
 use Rattle.net_addr.specs.OldForm.{address}
 use Rattle.net_addr.specs.Text.{addr_text, peer_text, ipv4_text, IsAddrText, IsPeerText, dotted}
-use Rattle.net_addr.specs.declared.entry.Entry.{Entry}
+use Rattle.net_addr.specs.declared.peer.Entry.{Entry}
 use Rattle.net_addr.specs.declared.net.Net.TheVariants.{Ipv4}
 use Rattle.net_addr.proofs.Texts.{bits_of_bytes}
 use Rattle.addr_codecs.specs.Inside.{addr_entry_at, message_at}

@@ -1,7 +1,7 @@
 -- Definitions for private contracts.
 use Rattle.std.specs.Prelude.{ℕ, ◌≤◌, ◌+◌, ◌*◌, List, Bool, true, false, ◌++◌, [], ◌∷◌, codes, decimal}
 use Rattle.hex.specs.Hex.{encode_lower}
-use Rattle.net_addr.specs.declared.entry.Entry.{Entry}
+use Rattle.net_addr.specs.declared.peer.Entry.{Entry}
 use Rattle.addr_codecs.specs.Texts.{message_text, addr_entry_text}
 use Rattle.gen_load.specs.declared.position.Position.{Position}
 use Rattle.gen_load.specs.Log.{drawn_line, drawn_lines, whole_log}

@@ -1,7 +1,7 @@
 -- What it means that a log can be replayed: what each of its lines parses as.
 use Rattle.std.specs.Prelude.{◌≡◌, ◌≢◌, ℕ, ◌-◌, ◌≤◌, List, [], ◌∷◌, ◌++◌, length, take, All, true, Contains, Option, Some, ⊤}
 use Rattle.net_addr.specs.Ranges.{is_routable}
-use Rattle.net_addr.specs.declared.entry.Entry.{Entry}
+use Rattle.net_addr.specs.declared.peer.Entry.{Entry}
 use Rattle.addr_codecs.specs.Layout.{IsAddrMessage}
 use Rattle.log_lines.specs.Spelling.{SpellsCommand}
 use Rattle.log_lines.specs.declared.command.Command.{Command}

@@ -4,7 +4,7 @@ use Rattle.std.specs.Prelude.{◌&&◌, ◌==◌, find, swap, slice_get, flat_ma
 use Rattle.net_addr.specs.NetSet.{has}
 use Rattle.net_addr.specs.Ranges.{net_class}
 use Rattle.net_addr.specs.Same.{same_peer}
-use Rattle.net_addr.specs.declared.entry.Entry.{Entry}
+use Rattle.net_addr.specs.declared.peer.Entry.{Entry}
 use Rattle.net_addr.specs.declared.peer.Peer.{Peer}
 use Rattle.peer_rec.specs.declared.rec.Rec.{Rec}
 use Rattle.ban_list.specs.Bans.{stops}

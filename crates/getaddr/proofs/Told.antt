@@ -5,7 +5,7 @@ use Rattle.std.specs.List.{AllByRecursion}
 use Rattle.std.proofs.lemmas.List.{length-append}
 use Rattle.std.proofs.lemmas.List.Elements.{All-contains_itself, recursion_from_All}
 use Rattle.net_addr.specs.Same.{same_peer, same_peer-Decides}
-use Rattle.net_addr.specs.declared.entry.Entry.{Entry}
+use Rattle.net_addr.specs.declared.peer.Entry.{Entry}
 use Rattle.net_addr.specs.declared.peer.Peer.{Peer}
 use Rattle.peer_rec.specs.declared.rec.Rec.{Rec}
 use Rattle.ban_list.specs.Bans.{stops}

@@ -2,7 +2,7 @@
 -- of the tables without banned addresses.
 use Rattle.std.specs.Prelude.{◌≡◌, ℕ, List, length, Contains, false, find, is_some, flat_map, option_to_list, option_map, Option, Some, None, if◌then◌else◌}
 use Rattle.net_addr.specs.NetSet.{none, with_net}
-use Rattle.net_addr.specs.declared.entry.Entry.{Entry}
+use Rattle.net_addr.specs.declared.peer.Entry.{Entry}
 use Rattle.net_addr.specs.declared.net.Net.TheVariants.{Ipv4, Ipv6, Onion, I2p, Cjdns}
 use Rattle.net_addr.specs.declared.peer.Peer.{Peer}
 use Rattle.peer_rec.specs.declared.rec.Rec.{Rec}

@@ -120,7 +120,7 @@ fn other_count(
     )
 }
 
-/// Returns whether a field is empty.
+/// Returns `true` if a field is empty.
 fn has_empty(fields: &[&[u8]]) -> bool {
     for field in fields {
         if field.is_empty() {

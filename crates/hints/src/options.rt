@@ -56,7 +56,7 @@ impl Name {
         }
     }
 
-    /// Returns whether a value comes after it.
+    /// Returns `true` if a value comes after it.
     fn has_value(self) -> bool {
         self != Name::Core
     }
@@ -164,7 +164,7 @@ fn explain_chain(alloc: Global, name: Name, value: &str) -> Result<Option<String
     Ok(Some(format!(in alloc; "{}: {}", name.text(), said.as_str())?))
 }
 
-/// Returns whether a text is the name of a chain.
+/// Returns `true` if a text is the name of a chain.
 fn is_chain(value: &str) -> bool {
     for (_, name) in &CHAINS {
         if *name == value {
@@ -174,7 +174,7 @@ fn is_chain(value: &str) -> bool {
     false
 }
 
-/// Returns whether all of a text is hexadecimal digits.
+/// Returns `true` if all of a text is hexadecimal digits.
 fn is_hex(text: &str) -> bool {
     for byte in text.as_bytes() {
         if !byte.is_ascii_hexdigit() {
@@ -219,7 +219,7 @@ fn no_option(alloc: Global, form: &'static str, word: &str) -> Result<String, Al
     format!(in alloc; "{shown} is no option of {command}{file}; expected \"{form}\"")
 }
 
-/// Returns whether an argument looks like the path of a file.
+/// Returns `true` if an argument looks like the path of a file.
 fn is_path(word: &str) -> bool {
     !word.starts_with("-") && (word.contains(".") || word.contains("/"))
 }

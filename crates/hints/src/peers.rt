@@ -83,7 +83,7 @@ fn fault_text(alloc: Global, fault: &FileFault, head: &[u8]) -> Result<String, A
     }
 }
 
-/// Returns whether what comes after the first bytes of a file is as in a peers.dat: a format that
+/// Returns `true` if what comes after the first bytes of a file is as in a peers.dat: a format that
 /// there is, or a newer one, and a compat byte.
 fn is_as_peers(head: &[u8]) -> bool {
     match head {

@@ -71,7 +71,7 @@ fn asn_hint(alloc: Global, space: usize, asn: &[u8]) -> Result<String, AllocErro
     format!(in alloc; "column {column}: expected AS1 to AS{MAX_ASN}; got {shown}")
 }
 
-/// Returns whether two texts together are a row, or have bits after their prefix.
+/// Returns `true` if two texts together are a row, or have bits after their prefix.
 fn is_row(alloc: Global, first: &[u8], second: &[u8]) -> Result<bool, AllocError> {
     if first.len() > MAX_ROW || second.len() > MAX_ROW {
         return Ok(false);
@@ -125,7 +125,7 @@ fn repeated_hint(alloc: Global, number: u32, text: &[u8]) -> Result<String, Allo
     String::from_str(alloc, "an earlier line has the same prefix")
 }
 
-/// Returns whether two lines have one prefix.
+/// Returns `true` if two lines have one prefix.
 fn is_repeated(alloc: Global, first: &[u8], second: &[u8]) -> Result<bool, AllocError> {
     if first.len() > MAX_ROW || second.len() > MAX_ROW {
         return Ok(false);

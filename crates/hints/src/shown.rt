@@ -30,7 +30,7 @@ fn push_byte(alloc: Global, shown: &mut String, byte: u8) -> Result<(), AllocErr
 /// What is said of a file that gzip packed.
 pub(crate) const PACKED: &str = "it is a gzip file: unpack it first";
 
-/// Returns whether a file begins as one that gzip packed (RFC 1952).
+/// Returns `true` if a file begins as one that gzip packed (RFC 1952).
 pub(crate) fn is_packed(bytes: &[u8]) -> bool {
     bytes.starts_with(b"\x1f\x8b")
 }
@@ -38,7 +38,7 @@ pub(crate) fn is_packed(bytes: &[u8]) -> bool {
 /// What is said of a text that begins with a byte order mark.
 pub(crate) const MARKED: &str = "the file begins with a byte order mark";
 
-/// Returns whether a text begins with a byte order mark, of UTF-8 or UTF-16.
+/// Returns `true` if a text begins with a byte order mark, of UTF-8 or UTF-16.
 pub(crate) fn is_marked(text: &[u8]) -> bool {
     text.starts_with(b"\xef\xbb\xbf")
         || text.starts_with(b"\xff\xfe")

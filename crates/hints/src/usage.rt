@@ -16,13 +16,13 @@ fn after_flag<'a>(form: &str, words: &'a [String]) -> &'a [String] {
     }
 }
 
-/// Returns whether an argument is an option of the form without a value.
+/// Returns `true` if an argument is an option of the form without a value.
 fn is_flag(form: &str, word: &str) -> bool {
     (word == "--peers" || word == "--no-key") && form.contains(word)
 }
 
 /// Says which argument of `risk` is wrong: what makes records one group, or an option after it.
-/// `--core` stands before it.
+/// `--core` is before it.
 fn risk_hint(alloc: Global, form: &'static str, words: &[String]) -> Result<String, AllocError> {
     let rest = match words {
         [first, rest @ ..] if first.as_str() == "--core" => rest,

@@ -72,7 +72,7 @@ pub(crate) fn usual_error(kind: &str, text: &[u8]) -> Option<&'static str> {
 }
 
 impl Usual {
-    /// Returns whether a text looks as if it had this error.
+    /// Returns `true` if a text looks as if it had this error.
     fn is_in(self, text: &[u8]) -> bool {
         let host = host_of(text);
         match self {
@@ -149,7 +149,7 @@ fn next_number(number: u32, digit: u8) -> u32 {
         .saturating_add(u32::from(digit.saturating_sub(b'0')))
 }
 
-/// Returns whether a text of digits and points has a number above 255.
+/// Returns `true` if a text of digits and points has a number above 255.
 fn has_large_part(text: &[u8]) -> bool {
     let mut number = 0u32;
     let mut is_large = false;

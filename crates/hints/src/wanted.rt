@@ -146,7 +146,7 @@ pub(crate) fn find_wanted(name: &str) -> Option<&'static Wanted> {
 }
 
 impl Wanted {
-    /// Returns whether this text is one of those, a subnet by the rule of a list of bans.
+    /// Returns `true` if this text is one of those, a subnet by the rule of a list of bans.
     pub(crate) fn has(&self, alloc: Global, rule: BanRule, text: &[u8]) -> bool {
         match self.kind {
             Kind::Addr => parse_addr(text).is_some(),

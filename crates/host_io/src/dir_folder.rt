@@ -2,8 +2,7 @@ ghost use Rattle.std.specs.Prelude.{◌≡◌, ◌≢◌, ℕ, ◌<◌, ◌≤�
 ghost use Rattle.host_io.specs.declared.name.Name.{Name};
 ghost use Rattle.host_io.specs.Faults.{Rose, raised};
 
-use crate::failed::{Failed, fault};
-use crate::failure::{Failure, Tried};
+use crate::failed::{Failed, Failure, Tried, fault};
 use crate::folder::Folder;
 use crate::name::Name;
 use std::fs::{File, OpenFile, OpenOptions};
@@ -83,7 +82,7 @@ impl<'a, R: Files + Alloc> DirFolder<'a, R> {
         }
     }
 
-    /// Returns whether the last `create` failed because another program was saving in the folder.
+    /// Returns `true` if the last `create` failed because another program was saving in the folder.
     pub fn is_in_use(&self) -> bool {
         self.is_in_use
     }

@@ -43,14 +43,14 @@ impl Fate {
 
 /// What a folder in memory has at a name: the file as it reads, and all that a crash may leave.
 #[derive(Drop)]
-pub struct Entry {
+pub struct DirEntry {
     file: Option<Bytes>,
     is_torn: bool,
     is_loose: bool,
     others: Vec<Fate>,
 }
 
-impl Model for Entry {
+impl Model for DirEntry {
     ghost use Rattle.host_io.specs.Disk.{Entry as DiskEntry};
 
     ghost Value = { DiskEntry };
@@ -63,12 +63,12 @@ impl Model for Entry {
     } };
 }
 
-impl Entry {
+impl DirEntry {
     /// Makes the entry of this file, or of none, whose bytes and name are safe.
-    pub fn safe(alloc: Global, file: Option<Bytes>) -> Entry
+    pub fn safe(alloc: Global, file: Option<Bytes>) -> DirEntry
         ensures { result ≡ safe file }
     {
-        Entry {
+        DirEntry {
             file,
             is_torn: false,
             is_loose: false,
@@ -77,10 +77,10 @@ impl Entry {
     }
 
     /// Makes the entry of a file that was created.
-    pub fn created(alloc: Global) -> Entry
+    pub fn created(alloc: Global) -> DirEntry
         ensures { result ≡ created }
     {
-        Entry {
+        DirEntry {
             file: Some(Bytes::of(Vec::new(alloc))),
             is_torn: true,
             is_loose: true,
@@ -99,10 +99,10 @@ impl Entry {
     }
 
     /// Returns the entry after `bytes` were appended to the file.
-    pub fn appended(&self, alloc: Global, bytes: &[u8]) -> Result<Entry, AllocError>
+    pub fn appended(&self, alloc: Global, bytes: &[u8]) -> Result<DirEntry, AllocError>
         ensures { IfOk result (λ entry. entry ≡ appended bytes.now self.now) }
     {
-        Ok(Entry {
+        Ok(DirEntry {
             file: joined(alloc, &self.file, bytes)?,
             is_torn: true,
             is_loose: self.is_loose,
@@ -111,7 +111,7 @@ impl Entry {
     }
 
     /// Returns the entry after the file was synced.
-    pub fn synced(&self, alloc: Global) -> Result<Entry, AllocError>
+    pub fn synced(&self, alloc: Global) -> Result<DirEntry, AllocError>
         ensures { IfOk result (λ entry. entry ≡ synced self.now) }
     {
         let mut entry = self.copy(alloc)?;
@@ -120,10 +120,10 @@ impl Entry {
     }
 
     /// Copies the entry.
-    fn copy(&self, alloc: Global) -> Result<Entry, AllocError>
+    fn copy(&self, alloc: Global) -> Result<DirEntry, AllocError>
         ensures { IfOk result (λ copy. copy ≡ self.now) }
     {
-        Ok(Entry {
+        Ok(DirEntry {
             file: copy_file(alloc, &self.file)?,
             is_torn: self.is_torn,
             is_loose: self.is_loose,
@@ -140,13 +140,13 @@ impl Entry {
     }
 
     /// Returns the entry of this name after the file of `source` was renamed to it.
-    pub fn target(&self, alloc: Global, source: &Entry) -> Result<Entry, AllocError>
+    pub fn target(&self, alloc: Global, source: &DirEntry) -> Result<DirEntry, AllocError>
         ensures { IfOk result (λ entry. entry ≡ target source.now self.now) }
     {
         let mut others = Vec::new(alloc);
         source.put_file_fates(alloc, &mut others)?;
         self.put_fates(alloc, &mut others)?;
-        Ok(Entry {
+        Ok(DirEntry {
             file: copy_file(alloc, &source.file)?,
             is_torn: source.is_torn,
             is_loose: false,
@@ -155,13 +155,13 @@ impl Entry {
     }
 
     /// Returns the entry of this name after its file was renamed to another.
-    pub fn left(&self, alloc: Global) -> Result<Entry, AllocError>
+    pub fn left(&self, alloc: Global) -> Result<DirEntry, AllocError>
         ensures { IfOk result (λ entry. entry ≡ left self.now) }
     {
         let mut others = Vec::new(alloc);
         self.put_file_fates(alloc, &mut others)?;
         append_fates(alloc, &mut others, &self.others)?;
-        Ok(Entry {
+        Ok(DirEntry {
             file: None,
             is_torn: false,
             is_loose: false,
@@ -169,12 +169,12 @@ impl Entry {
         })
     }
 
-    /// Returns whether the file was created or appended to since it was synced.
+    /// Returns `true` if the file was created or appended to since it was synced.
     pub fn is_torn(&self) -> bool {
         self.is_torn
     }
 
-    /// Returns whether the file was created since the folder was synced.
+    /// Returns `true` if the file was created since the folder was synced.
     pub fn is_loose(&self) -> bool {
         self.is_loose
     }

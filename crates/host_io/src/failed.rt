@@ -2,7 +2,9 @@ ghost use Rattle.host_io.specs.declared.failed.ReadFault.TheVariants as fault;
 ghost use Rattle.std.specs.Prelude.{◌≡◌, ◌≤◌, ◌↔◌, Contains, IsErr, IfOk, OnOk, OnErr};
 ghost use Rattle.host_io.specs.Faults.{Rose, StillCountHasNotRisen, raised};
 
+use crate::name::Name;
 use std::alloc::{AllocError, Global};
+use std::io;
 
 /// The outside failed a call. The object's count of faults rose in it.
 #[derive(Clone, Copy, PartialEq, Eq, Debug)]
@@ -101,4 +103,26 @@ impl FailingCalls {
         }
         Ok(())
     }
+}
+
+/// What was tried when a call on a file failed.
+#[derive(Clone, Copy, Debug, PartialEq, Eq)]
+pub enum Tried {
+    Lock,
+    Read,
+    Create,
+    Write,
+    Sync,
+    Rename,
+}
+
+/// A call on a file, or on the folder itself, that failed.
+#[derive(Clone, Copy)]
+pub struct Failure {
+    /// The file; `None` for the folder.
+    pub name: Option<Name>,
+    /// What was tried.
+    pub tried: Tried,
+    /// The system's error; `InvalidInput` if what has the name is no regular file.
+    pub error: io::Error,
 }

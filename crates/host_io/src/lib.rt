@@ -14,7 +14,7 @@
 //!   `MemFolder::crash` gives is a folder that a crash may leave (`image`). `SureSource`,
 //!   `SureSink` and `SureFolder` never fail.
 //!
-//! Tested only, in `rows_outside`: what the adapters `StdSource`, `StdSink` and `DirFolder` do with
+//! Tested only, in `test_outside`: what the adapters `StdSource`, `StdSink` and `DirFolder` do with
 //! the system, and which image `crash` gives for a choice.
 #![tactic(auto)]
 
@@ -22,7 +22,6 @@ mod call;
 mod dir_folder;
 mod entry;
 mod failed;
-mod failure;
 mod folder;
 mod lines;
 mod list;
@@ -35,8 +34,7 @@ mod source;
 
 pub use call::{Action, Call};
 pub use dir_folder::{DirFolder, Lock};
-pub use failed::{Failed, Memory, ReadFault, still_count_has_not_risen};
-pub use failure::{Failure, Tried};
+pub use failed::{Failed, Failure, Memory, ReadFault, Tried, still_count_has_not_risen};
 pub use folder::{Folder, SureFolder};
 pub use lines::{LINE_FEED, is_passed_over, split_line};
 pub use list::{Bytes, ListOf};

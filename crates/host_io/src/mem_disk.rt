@@ -5,7 +5,7 @@ ghost use Rattle.host_io.specs.PerName.{each, under};
 ghost use Rattle.host_io.specs.declared.call.Change.TheVariants as change;
 
 use crate::call::Change;
-use crate::entry::{Entry, Fate, copy_file};
+use crate::entry::{DirEntry, Fate, copy_file};
 use crate::list::Bytes;
 use crate::name::{Name, PerName};
 use std::alloc::{AllocError, Global};
@@ -23,7 +23,7 @@ pub struct MemDisk {
     alloc: Global,
     first: PerName<Option<Bytes>>,
     changes: Vec<Change>,
-    entries: PerName<Entry>,
+    entries: PerName<DirEntry>,
 }
 
 impl Model for MemDisk {
@@ -116,8 +116,8 @@ impl MemDisk {
         found_at(self.alloc, &fates, index, any)
     }
 
-    /// Returns whether the name was the target of a rename since the folder was synced and since it
-    /// was created.
+    /// Returns `true` if the name was the target of a rename since the folder was synced and since
+    /// it was created.
     fn is_target(&self, name: Name) -> bool {
         for change in self.changes.iter().rev() {
             match change {
@@ -135,7 +135,7 @@ impl MemDisk {
     }
 
     /// Returns what the disk has at a name.
-    pub fn entry(&self, name: Name) -> &Entry
+    pub fn entry(&self, name: Name) -> &DirEntry
         ensures { result.now ≡ under (disk_of self.now) name }
     {
         self.entries.get(name)
@@ -143,18 +143,21 @@ impl MemDisk {
 }
 
 /// Makes names with these files, all of them safe.
-fn safe_entries(alloc: Global, files: &PerName<Option<Bytes>>) -> Result<PerName<Entry>, AllocError>
+fn safe_entries(
+    alloc: Global,
+    files: &PerName<Option<Bytes>>,
+) -> Result<PerName<DirEntry>, AllocError>
     ensures { IfOk result (λ entries. entries ≡ each safe files.now) }
 {
     let mut entries = PerName {
-        peers: Entry::safe(alloc, None),
-        peers_temp: Entry::safe(alloc, None),
-        asmap: Entry::safe(alloc, None),
-        asmap_temp: Entry::safe(alloc, None),
-        asmap_old: Entry::safe(alloc, None),
-        prefixes: Entry::safe(alloc, None),
-        bans: Entry::safe(alloc, None),
-        bans_temp: Entry::safe(alloc, None),
+        peers: DirEntry::safe(alloc, None),
+        peers_temp: DirEntry::safe(alloc, None),
+        asmap: DirEntry::safe(alloc, None),
+        asmap_temp: DirEntry::safe(alloc, None),
+        asmap_old: DirEntry::safe(alloc, None),
+        prefixes: DirEntry::safe(alloc, None),
+        bans: DirEntry::safe(alloc, None),
+        bans_temp: DirEntry::safe(alloc, None),
     };
     copy_files(alloc, files, &mut entries)?;
     Ok(entries)
@@ -164,7 +167,7 @@ fn safe_entries(alloc: Global, files: &PerName<Option<Bytes>>) -> Result<PerName
 fn copy_files(
     alloc: Global,
     files: &PerName<Option<Bytes>>,
-    entries: &mut PerName<Entry>,
+    entries: &mut PerName<DirEntry>,
 ) -> Result<(), AllocError>
     ensures { OnOk result (entries.new ≡ each safe files.now) }
 {
@@ -180,16 +183,16 @@ fn copy_files(
 }
 
 /// Makes a name with a copy of this file, or with none, that is safe.
-fn safe_entry(alloc: Global, file: &Option<Bytes>) -> Result<Entry, AllocError>
+fn safe_entry(alloc: Global, file: &Option<Bytes>) -> Result<DirEntry, AllocError>
     ensures { IfOk result (λ entry. entry ≡ safe file.now) }
 {
-    Ok(Entry::safe(alloc, copy_file(alloc, file)?))
+    Ok(DirEntry::safe(alloc, copy_file(alloc, file)?))
 }
 
 /// Makes a change of the names.
 fn make_change(
     alloc: Global,
-    entries: &mut PerName<Entry>,
+    entries: &mut PerName<DirEntry>,
     change: &Change,
 ) -> Result<(), AllocError>
     ensures ok { OnOk result (entries.new ≡ after_change change.now entries.old) }
@@ -198,11 +201,11 @@ fn make_change(
     match change {
         Change::Put { name, bytes } => {
             let copy = Bytes::of(bytes.items().to_vec(alloc)?);
-            entries.set(*name, Entry::safe(alloc, Some(copy)));
+            entries.set(*name, DirEntry::safe(alloc, Some(copy)));
             Ok(())
         }
         Change::Created { name } => {
-            entries.set(*name, Entry::created(alloc));
+            entries.set(*name, DirEntry::created(alloc));
             Ok(())
         }
         Change::Appended { name, bytes } => {
@@ -226,7 +229,7 @@ fn make_change(
 /// Renames a file.
 fn rename(
     alloc: Global,
-    entries: &mut PerName<Entry>,
+    entries: &mut PerName<DirEntry>,
     from: Name,
     to: Name,
 ) -> Result<(), AllocError>
@@ -241,7 +244,7 @@ fn rename(
 }
 
 /// Changes the names to what they are after the folder was synced.
-fn settle(entries: &mut PerName<Entry>)
+fn settle(entries: &mut PerName<DirEntry>)
     ensures { entries.new ≡ after_sync_dir entries.old }
 {
     entries.peers.settle();

@@ -20,3 +20,14 @@ pub struct Conn {
     /// How many entries were dropped; a count at its maximum stays there.
     pub limited: u32,
 }
+
+/// What `getaddr` found.
+#[derive(Clone, Copy, Debug, PartialEq, Eq)]
+pub enum Asked {
+    /// The number has no connection.
+    Unknown,
+    /// The connection was sent getaddr before.
+    Already,
+    /// The connection has its thousand tokens now.
+    Granted,
+}

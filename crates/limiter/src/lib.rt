@@ -8,14 +8,12 @@
 //! `Limiter` has is above 2,000 tokens, or 1,000 before getaddr (`bounded` of `find`).
 #![tactic(auto)]
 
-mod asked;
 mod by_number;
 mod conn;
 mod limiter;
 mod spending;
 
-pub use asked::Asked;
-pub use conn::Conn;
+pub use conn::{Asked, Conn};
 pub use limiter::Limiter;
 pub use net_addr::Memory;
 pub use spending::admitted;

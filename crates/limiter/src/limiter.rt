@@ -29,7 +29,7 @@ impl<H: BuildHasher> Model for Limiter<H> {
 
 impl<H: BuildHasher> Limiter<H> {
     ghost use Rattle.std.specs.Prelude.{◌≡◌, ◌≤◌, [], Option, Some, List, length, take, is_some, is_none, IfSome, IfOk, OnOk, OnErr, option_map, option_copied};
-    ghost use Rattle.net_addr.specs.declared.entry.Entry.{Entry};
+    ghost use Rattle.net_addr.specs.declared.peer.Entry.{Entry};
     ghost use Rattle.limiter.specs.declared.conn.Conn.{Conn};
     ghost use Rattle.limiter.specs.State.{new_conn, find_conn, without_conn, IsBounded, AreRising};
     ghost use Rattle.limiter.specs.Tokens.{refill, intake, intake_count};

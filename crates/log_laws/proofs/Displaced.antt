@@ -4,7 +4,7 @@ use Rattle.net_addr.specs.declared.peer.Peer.{Peer}
 use Rattle.peer_rec.specs.Buckets.{with_bucket}
 use Rattle.peer_rec.specs.Rec.{is_tried}
 use Rattle.peer_rec.specs.declared.rec.Rec.{Rec}
-use Rattle.peer_rec.specs.declared.good.Good.TheVariants.{Already, Clash, Moved}
+use Rattle.peer_rec.specs.declared.answers.Good.TheVariants.{Already, Clash, Moved}
 use Rattle.peer_rec.specs.declared.place.Place.TheVariants.{Tried}
 use Rattle.table_machine.specs.State.{State, outcome, find_peer, tried_occupant}
 use Rattle.table_machine.specs.Entries.{with_record}

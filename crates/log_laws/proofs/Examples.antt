@@ -12,7 +12,7 @@ use Rattle.net_addr.specs.Ranges.{in_range}
 use Rattle.net_addr.specs.Same.{same_address}
 use Rattle.net_addr.specs.Text.{IsAddrText}
 use Rattle.net_addr.specs.Text.IsAddrText.{dotted}
-use Rattle.net_addr.specs.declared.entry.Entry.{Entry}
+use Rattle.net_addr.specs.declared.peer.Entry.{Entry}
 use Rattle.net_addr.specs.declared.net.Net.TheVariants.{Ipv4}
 use Rattle.net_addr.specs.declared.peer.Peer.{Peer}
 use Rattle.net_addr.proofs.Bytes.{IsAddress-plain}

@@ -6,7 +6,7 @@ use Rattle.std.specs.Int.{w32, w128, to_be_bytes}
 use Rattle.net_addr.specs.Address.{Address, IsAddress}
 use Rattle.net_addr.specs.Text.{IsAddrText}
 use Rattle.net_addr.specs.Text.IsAddrText.{bracketed, cjdns, dotted, i2p, internal, onion}
-use Rattle.net_addr.specs.declared.entry.Entry.{Entry}
+use Rattle.net_addr.specs.declared.peer.Entry.{Entry}
 use Rattle.net_addr.specs.declared.net.Net.TheVariants.{Unroutable, Ipv4, Cjdns, I2p, Internal, Onion}
 use Rattle.net_addr.proofs.Bytes.{All_bytes, IsAddress-from_v1, IsAddress-plain}
 use Rattle.net_addr.proofs.Digits.{IsAddress-hex}

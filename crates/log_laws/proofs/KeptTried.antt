@@ -4,7 +4,7 @@ use Rattle.std.specs.Bool.{⊤}
 use Rattle.std.proofs.lemmas.Bool.{ltb-false}
 use Rattle.std.proofs.lemmas.List.Elements.{All-contains}
 use Rattle.net_addr.specs.Address.{Address}
-use Rattle.net_addr.specs.declared.entry.Entry.{Entry}
+use Rattle.net_addr.specs.declared.peer.Entry.{Entry}
 use Rattle.net_addr.specs.declared.peer.Peer.{Peer}
 use Rattle.placing.specs.Places.{Places, tried_bucket, tried_slot}
 use Rattle.peer_rec.specs.Rec.{is_tried, tried_by}
@@ -17,9 +17,9 @@ use Rattle.log_lines.specs.declared.reply.Reply.{Reply}
 use Rattle.table_machine.specs.State.{State, by_number, tried_occupant}
 use Rattle.table_machine.specs.Sound.{IsSound}
 use Rattle.table_machine.specs.Tried.{after_success, good}
-use Rattle.peer_rec.specs.declared.fate.Fate.{Fate}
+use Rattle.peer_rec.specs.declared.answers.Fate.{Fate}
 use Rattle.table_machine.specs.Clashes.{after_fate, erase_clash, fate_against, fate_by, fate_of, resolve, resolve_all}
-use Rattle.peer_rec.specs.declared.fate.Fate.TheVariants.{Erased, Kept, Moved}
+use Rattle.peer_rec.specs.declared.answers.Fate.TheVariants.{Erased, Kept, Moved}
 use Rattle.table_machine.proofs.Buckets.{placed}
 use Rattle.table_machine.proofs.Exchanged.{erase_clash-sound}
 use Rattle.table_machine.proofs.Lists.{find_only}

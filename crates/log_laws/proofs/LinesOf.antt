@@ -1,11 +1,11 @@
 -- Over each line of a log, records stay or are lost with a cause.
 use Rattle.std.proofs.Common.{ℕ, ◌+◌, ◌<◌, ◌≤◌, ◌^◌, false, List, [], ◌∷◌, length, Contains, Option, Some, None, ap, subst, inl, inr, ⊎_elim, ◌⊎◌, arith}
 use Rattle.net_addr.specs.Address.{Address, IsAddress}
-use Rattle.net_addr.specs.declared.entry.Entry.{Entry}
+use Rattle.net_addr.specs.declared.peer.Entry.{Entry}
 use Rattle.addr_codecs.specs.Entries.{IsEntry}
 use Rattle.peer_rec.specs.declared.rec.Rec.{Rec}
-use Rattle.peer_rec.specs.declared.fate.Fate.{Fate}
-use Rattle.peer_rec.specs.declared.fate.Fate.TheVariants.{Erased, Kept, Moved}
+use Rattle.peer_rec.specs.declared.answers.Fate.{Fate}
+use Rattle.peer_rec.specs.declared.answers.Fate.TheVariants.{Erased, Kept, Moved}
 use Rattle.log_lines.specs.declared.command.Command.{Command}
 use Rattle.log_lines.specs.declared.reply.Reply.{Reply}
 use Rattle.manager.specs.Machine.{Machine}

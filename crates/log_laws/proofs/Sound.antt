@@ -1,7 +1,7 @@
 -- Each step keeps a state sound.
 use Rattle.std.proofs.Common.{◌≡◌, ℕ, ◌+◌, ◌-◌, ◌<◌, ◌≤◌, ◌^◌, ◌||◌, nat_lt, nat_le, true, false, List, [], ◌∷◌, length, Contains, Option, Some, None, refl, subst, arith, if◌then◌else◌}
 use Rattle.net_addr.specs.Address.{Address, IsAddress}
-use Rattle.net_addr.specs.declared.entry.Entry.{Entry}
+use Rattle.net_addr.specs.declared.peer.Entry.{Entry}
 use Rattle.addr_codecs.specs.Entries.{IsEntry}
 use Rattle.log_lines.specs.declared.command.Command.{Command}
 use Rattle.log_lines.specs.declared.reply.Reply.{Reply}

@@ -1,7 +1,7 @@
 -- Which entries of messages were accepted in a run.
 use Rattle.std.specs.Prelude.{◌≡◌, ◌≤◌, ℕ, List, [], ◌∷◌, ◌++◌, length, Bool, Contains, Option, Some, None, if◌then◌else◌}
 use Rattle.net_addr.specs.Address.{Address}
-use Rattle.net_addr.specs.declared.entry.Entry.{Entry}
+use Rattle.net_addr.specs.declared.peer.Entry.{Entry}
 use Rattle.net_addr.specs.declared.peer.Peer.{Peer}
 use Rattle.addr_codecs.specs.Layout.{IsAddrMessage, IsAddrv2Message}
 use Rattle.log_lines.specs.Spelling.{SpellsCommand}

@@ -3,6 +3,9 @@ ghost use Rattle.placing.specs.Places.{Places};
 ghost use Rattle.peer_rec.specs.Snapshot.{Snapshot};
 ghost use Rattle.session.specs.State.{SessionState};
 ghost use Rattle.log_laws.specs.Kept.{IsOpening, KeepsCauses};
+ghost use Rattle.log_laws.specs.LostLines.{KeepsLosses};
+ghost use Rattle.session.specs.State as session;
+ghost use Rattle.log_laws.specs.Shares.{KeepsShares};
 
 /// Whatever lines are carried out, after each of them: the tables are sound; each bucket of the new
 /// table that a record is in has a cause; and sources of some groups reach 64 buckets a group at
@@ -11,4 +14,18 @@ ghost use Rattle.log_laws.specs.Kept.{IsOpening, KeepsCauses};
 pub fn runs_keep_causes()
     ensures { (file : Option Snapshot) (places : Places) (st : SessionState)
         (lines : List (List ℕ)) → IsOpening file places st → KeepsCauses file places st lines }
+{}
+
+/// Whatever lines are carried out, over each of them: each record stays, or is lost in it with a
+/// cause, and the counts agree. Over the next lines, however many, it stays or is lost in one.
+pub fn runs_lose_with_causes()
+    ensures { (file : Option Snapshot) (places : Places) (st : session.SessionState)
+        (lines : List (List ℕ)) → IsOpening file places st → KeepsLosses st lines }
+{}
+
+/// Whatever lines are carried out, after each of them: of the words that select a bucket, few lead
+/// to records that sources of some groups put there, or to records of these groups.
+pub fn groups_reach_few()
+    ensures { (file : Option Snapshot) (places : Places) (st : SessionState)
+        (lines : List (List ℕ)) → IsOpening file places st → KeepsShares file places st lines }
 {}

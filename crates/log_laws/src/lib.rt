@@ -15,9 +15,5 @@
 #![tactic(auto)]
 
 mod causes;
-mod groups;
-mod losses;
 
-pub use causes::runs_keep_causes;
-pub use groups::groups_reach_few;
-pub use losses::runs_lose_with_causes;
+pub use causes::{groups_reach_few, runs_keep_causes, runs_lose_with_causes};

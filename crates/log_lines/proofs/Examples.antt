@@ -12,7 +12,7 @@ use Rattle.random_words.specs.Seeded.{seeded_words}
 use Rattle.log_lines.specs.Spelling.{kinds_of, SpellsAfter}
 use Rattle.log_lines.specs.declared.command.Command.TheVariants as c
 use Rattle.grammar.specs.declared.fault.LineFault.TheVariants as fault
-use Rattle.log_lines.specs.declared.verb.Verb.TheVariants as v
+use Rattle.log_lines.specs.declared.word.CommandWord.TheVariants as v
 use Rattle.log_lines.specs.Replies.{reply_text, place_text, numbers_text}
 use Rattle.log_lines.specs.declared.reply.Reply.TheVariants.{Now, Added, Found, Dump, Sample}
 

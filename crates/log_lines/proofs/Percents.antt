@@ -4,7 +4,7 @@ use Rattle.grammar.specs.Contents.{number_in}
 use Rattle.grammar.specs.Fields.{AllMean}
 use Rattle.log_lines.specs.Spelling.{kinds_of, command_values}
 use Rattle.log_lines.specs.declared.command.Command.TheVariants as c
-use Rattle.log_lines.specs.declared.verb.Verb.TheVariants as v
+use Rattle.log_lines.specs.declared.word.CommandWord.TheVariants as v
 
 pub percent : (texts : List (List ℕ)) (max pct : ℕ) (classes words : List ℕ)
     → AllMean (kinds_of v.Sample) texts (command_values (c.Sample max pct classes words)) → pct ≤ 100

@@ -8,11 +8,11 @@ use Rattle.grammar.proofs.TableLemmas.{one_list, one_values_after, one_fault_aft
 use Rattle.log_lines.specs.Spelling.{word_of, kinds_of, verb_of, command_values, verbs, table, SpellsBy, SpellsAfter, HasFaultAfter}
 use Rattle.log_lines.specs.declared.command.Command.{Command}
 use Rattle.log_lines.specs.declared.command.Command.TheVariants as c
-use Rattle.log_lines.specs.declared.verb.Verb.{Verb}
-use Rattle.log_lines.specs.declared.verb.Verb.TheVariants as v
+use Rattle.log_lines.specs.declared.word.CommandWord.{CommandWord}
+use Rattle.log_lines.specs.declared.word.CommandWord.TheVariants as v
 
 -- the command of a keyword and its values
-command_by : Option Verb → List Value → Command
+command_by : Option CommandWord → List Value → Command
 command_by (Some v.Now) (TheNumber time ∷ []) = c.Now time
 command_by (Some v.Addr) (TheAddr source ∷ TheBytes payload ∷ TheWords words ∷ []) =
     c.Addr source payload words
@@ -36,10 +36,10 @@ command_by (Some v.SaveStep) (TheNumber count ∷ []) = c.SaveStep count
 command_by (Some v.SaveEnd) values = c.SaveEnd
 command_by other values = c.Size
 
-verb_with : List ℕ → Option Verb
+verb_with : List ℕ → Option CommandWord
 verb_with word = find (λ verb. bytes_eq (word_of verb) word) verbs
 
-verb_back : (verb : Verb) → verb_with (word_of verb) ≡ Some verb
+verb_back : (verb : CommandWord) → verb_with (word_of verb) ≡ Some verb
 unfolding verb_with
 verb_back v.Now = refl
 verb_back other = refl
@@ -55,12 +55,12 @@ same_command : (a b : Command) →
 same_command a b same values =
     sym (command_back a) ∙ (λ i. command_by (same i) (values i)) ∙ command_back b
 
-definite : (verb : Verb) → all_definite (kinds_of verb) ≡ true
+definite : (verb : CommandWord) → all_definite (kinds_of verb) ≡ true
 definite v.Now = refl
 definite other = refl
 
--- the fields after a verb parse as one command
-pub one_by : (verb : Verb) (texts : List (List ℕ)) (a b : Command) →
+-- the fields after a keyword parse as one command
+pub one_by : (verb : CommandWord) (texts : List (List ℕ)) (a b : Command) →
     SpellsBy verb texts a → SpellsBy verb texts b → a ≡ b
 one_by verb texts a b h k =
     same_command a b (ap Some (h.0 ∙ sym k.0))
@@ -94,6 +94,6 @@ pub letters : (word : List ℕ) (texts : List (List ℕ)) (a : Command) →
 letters word texts a h = letter_of_values table word texts (command_values a) refl h.1
 
 -- the word of a verb begins with a letter
-pub letter : (verb : Verb) → 96 < get_or (word_of verb) 0 0
+pub letter : (verb : CommandWord) → 96 < get_or (word_of verb) 0 0
 letter v.Now = lit< tt
 letter other = lit< tt

@@ -5,10 +5,10 @@ use Rattle.net_addr.specs.Text.{addr_text, peer_text}
 use Rattle.net_addr.specs.declared.peer.Peer.{Peer}
 use Rattle.addr_codecs.specs.declared.fault.MsgFault.{MsgFault}
 use Rattle.addr_codecs.specs.declared.fault.MsgFault.TheVariants as msg
-use Rattle.peer_rec.specs.declared.good.Good as good
-use Rattle.peer_rec.specs.declared.counts.Counts.{Counts}
-use Rattle.peer_rec.specs.declared.picked.Picked as picked
-use Rattle.peer_rec.specs.declared.resolved.Resolved.{Resolved}
+use Rattle.peer_rec.specs.declared.answers.Good as good
+use Rattle.peer_rec.specs.declared.answers.Counts.{Counts}
+use Rattle.peer_rec.specs.declared.answers.Picked as picked
+use Rattle.peer_rec.specs.declared.answers.Resolved.{Resolved}
 use Rattle.peer_rec.specs.declared.rec.Rec.{Rec}
 use Rattle.peer_rec.specs.declared.place.Place.{Place}
 use Rattle.peer_rec.specs.declared.place.Place.TheVariants.{New, Tried}

@@ -8,11 +8,11 @@ use Rattle.host_io.specs.Lines.{IsPassedOver}
 use Rattle.log_lines.specs.declared.command.Command.{Command}
 use Rattle.log_lines.specs.declared.command.Command.TheVariants as c
 use Rattle.grammar.specs.declared.fault.LineFault.{LineFault}
-use Rattle.log_lines.specs.declared.verb.Verb.{Verb}
-use Rattle.log_lines.specs.declared.verb.Verb.TheVariants as v
+use Rattle.log_lines.specs.declared.word.CommandWord.{CommandWord}
+use Rattle.log_lines.specs.declared.word.CommandWord.TheVariants as v
 
 -- the first word of a line
-abbrev pub word_of : Verb → List ℕ
+abbrev pub word_of : CommandWord → List ℕ
 word_of v.Now = codes "now"
 word_of v.Addr = codes "addr"
 word_of v.Addr2 = codes "addrv2"
@@ -33,7 +33,7 @@ word_of v.SaveStep = codes "save-step"
 word_of v.SaveEnd = codes "save-end"
 
 -- the kinds of the fields after the first word
-abbrev pub kinds_of : Verb → List Kind
+abbrev pub kinds_of : CommandWord → List Kind
 kinds_of v.Now = u32_field ∷ []
 kinds_of v.Addr = OfAddr ∷ Hex ∷ Random ∷ []
 kinds_of v.Addr2 = OfAddr ∷ Hex ∷ Random ∷ []
@@ -54,7 +54,7 @@ kinds_of v.SaveStep = Number 1 (2 ^ 32 - 1) ∷ []
 kinds_of v.SaveEnd = []
 
 -- the first word of the lines that parse as a command
-abbrev pub verb_of : Command → Verb
+abbrev pub verb_of : Command → CommandWord
 verb_of (c.Now time) = v.Now
 verb_of (c.Addr source payload words) = v.Addr
 verb_of (c.Addr2 source payload words) = v.Addr2
@@ -100,7 +100,7 @@ command_values (c.SaveStep count) = TheNumber count ∷ []
 command_values c.SaveEnd = []
 
 -- the table of the log: each keyword, and the kinds of the fields after it
-abbrev pub verbs : List Verb
+abbrev pub verbs : List CommandWord
 verbs =
     v.Now ∷ v.Addr ∷ v.Addr2 ∷ v.Good ∷ v.Attempt ∷ v.Connected ∷ v.Services ∷ v.Find ∷ v.Size
     ∷ v.Select ∷ v.Sample ∷ v.Resolve ∷ v.Clash ∷ v.Dump ∷ v.Save ∷ v.SaveBegin ∷ v.SaveStep
@@ -109,8 +109,8 @@ verbs =
 abbrev pub table : Table
 table = map (λ verb. (word_of verb, kinds_of verb)) verbs
 
--- the fields after a verb parse as the command
-abbrev pub SpellsBy : Verb → List (List ℕ) → Command → Type 0
+-- the fields after a keyword parse as the command
+abbrev pub SpellsBy : CommandWord → List (List ℕ) → Command → Type 0
 SpellsBy verb texts command =
     (verb_of command ≡ verb) × AllMean (kinds_of verb) texts (command_values command)
 

@@ -5,11 +5,11 @@ ghost use Rattle.grammar.specs.declared.fault.LineFault.{LineFault};
 ghost use Rattle.log_lines.specs.Laws.{one_after, one_fault, no_fault};
 ghost use Rattle.log_lines.specs.Spelling.{kinds_of, SpellsBy, SpellsAfter, HasFaultAfter, SpellsCommand, HasCommandFault};
 ghost use Rattle.log_lines.specs.declared.command.Command.{Command};
-ghost use Rattle.log_lines.specs.declared.verb.Verb.TheVariants as verbs;
+ghost use Rattle.log_lines.specs.declared.word.CommandWord.TheVariants as verbs;
 
 use crate::choices::{Counting, NewOnly, Testing};
-use crate::verb::VERBS;
-use crate::{Command, Verb};
+use crate::word::KEYWORDS;
+use crate::{Command, CommandWord};
 use grammar::{
     AddrClasses, Between, Grammar, LineFault, LongBetween, Networks, OneOf, OnePeer, Payload,
     Random, RandomSource, Source, Texts, find_keyword, read_fields,
@@ -47,7 +47,7 @@ impl<T: Texts> Grammar<T> for LogLines {
     ghost right = { no_fault };
 
     fn read_after(alloc: Global, word: &[u8], rest: T) -> Result<Command, LineFault> {
-        match find_keyword(&VERBS, word) {
+        match find_keyword(&KEYWORDS, word) {
             Some(verb) => read_command(alloc, verb, rest),
             None => Err(LineFault::Word),
         }
@@ -69,19 +69,23 @@ pub fn read_line(alloc: Global, line: &[u8]) -> Result<Option<Command>, LineFaul
     grammar::read_line::<LogLines>(alloc, line)
 }
 
-/// Reads the fields after a verb. A grammar that has these verbs among others calls it once it has
-/// found one.
-pub fn read_command<T: Texts>(alloc: Global, verb: Verb, rest: T) -> Result<Command, LineFault>
+/// Reads the fields after a keyword. A grammar that has these keywords among others calls it once
+/// it has found one.
+pub fn read_command<T: Texts>(
+    alloc: Global,
+    verb: CommandWord,
+    rest: T,
+) -> Result<Command, LineFault>
     ensures found { IfOk result (λ c. SpellsBy verb (T.texts rest) c) }
     ensures fault { (f : LineFault) → result ≡ Err f → f ≢ LineFault.Memory →
         AreAtFault (kinds_of verb) (T.texts rest) f }
 {
     match verb {
-        Verb::Now => {
+        CommandWord::Now => {
             let (time, ()) = read_fields::<T, (Number, ())>(alloc, rest)?;
             Ok(Command::Now { time })
         }
-        Verb::Addr => {
+        CommandWord::Addr => {
             let (source, (payload, (words, ()))) = read_fields::<T, Message>(alloc, rest)?;
             Ok(Command::Addr {
                 source,
@@ -89,7 +93,7 @@ pub fn read_command<T: Texts>(alloc: Global, verb: Verb, rest: T) -> Result<Comm
                 words,
             })
         }
-        Verb::Addr2 => {
+        CommandWord::Addr2 => {
             let (source, (payload, (words, ()))) = read_fields::<T, Message>(alloc, rest)?;
             Ok(Command::Addr2 {
                 source,
@@ -97,42 +101,42 @@ pub fn read_command<T: Texts>(alloc: Global, verb: Verb, rest: T) -> Result<Comm
                 words,
             })
         }
-        Verb::Good => {
+        CommandWord::Good => {
             let (peer, (testing, ())) = read_fields::<T, PeerAnd<OneOf<Testing>>>(alloc, rest)?;
             Ok(Command::Good { peer, testing })
         }
-        Verb::Attempt => {
+        CommandWord::Attempt => {
             let (peer, (count, ())) = read_fields::<T, PeerAnd<OneOf<Counting>>>(alloc, rest)?;
             Ok(Command::Attempt { peer, count })
         }
-        Verb::Connected => {
+        CommandWord::Connected => {
             let (peer, ()) = read_fields::<T, (OnePeer, ())>(alloc, rest)?;
             Ok(Command::Connected { peer })
         }
-        Verb::Services => {
+        CommandWord::Services => {
             let (peer, (services, ())) = read_fields::<T, PeerAnd<LongNumber>>(alloc, rest)?;
             Ok(Command::Services { peer, services })
         }
-        Verb::Find => {
+        CommandWord::Find => {
             let (peer, ()) = read_fields::<T, (OnePeer, ())>(alloc, rest)?;
             Ok(Command::Find { peer })
         }
-        Verb::Size => read_nothing(alloc, Command::Size, rest),
-        Verb::Select => read_select(alloc, rest),
-        Verb::Sample => read_sample(alloc, rest),
-        Verb::Resolve => read_nothing(alloc, Command::Resolve, rest),
-        Verb::Clash => {
+        CommandWord::Size => read_nothing(alloc, Command::Size, rest),
+        CommandWord::Select => read_select(alloc, rest),
+        CommandWord::Sample => read_sample(alloc, rest),
+        CommandWord::Resolve => read_nothing(alloc, Command::Resolve, rest),
+        CommandWord::Clash => {
             let (word, ()) = read_fields::<T, (LongNumber, ())>(alloc, rest)?;
             Ok(Command::Clash { word })
         }
-        Verb::Dump => read_nothing(alloc, Command::Dump, rest),
-        Verb::Save => read_nothing(alloc, Command::Save, rest),
-        Verb::SaveBegin => read_nothing(alloc, Command::SaveBegin, rest),
-        Verb::SaveStep => {
+        CommandWord::Dump => read_nothing(alloc, Command::Dump, rest),
+        CommandWord::Save => read_nothing(alloc, Command::Save, rest),
+        CommandWord::SaveBegin => read_nothing(alloc, Command::SaveBegin, rest),
+        CommandWord::SaveStep => {
             let (count, ()) = read_fields::<T, (Between<1, { u32::MAX }>, ())>(alloc, rest)?;
             Ok(Command::SaveStep { count })
         }
-        Verb::SaveEnd => read_nothing(alloc, Command::SaveEnd, rest),
+        CommandWord::SaveEnd => read_nothing(alloc, Command::SaveEnd, rest),
     }
 }
 

@@ -16,7 +16,7 @@ use Rattle.log_run.specs.declared.end.LogEnd.{LogEnd}
 use Rattle.log_run.specs.declared.end.LogEnd.TheVariants.{Done, Fault, LineTooLong, LogTooLong, ReadFault, WriteFault, Memory}
 use Rattle.log_run.specs.declared.line_steps.Stop.{Stop}
 use Rattle.log_run.specs.declared.line_steps.Stop.TheVariants as stop
-use Rattle.log_run.specs.declared.limits.TheConstants.{MAX_LOG}
+use Rattle.log_run.specs.declared.sizes.TheConstants.{MAX_LOG}
 use Rattle.log_run.proofs.OneMore.{Run-more, last-more}
 use Rattle.log_run.proofs.Runs.{Kept, Read, begins, is_near, kept_line, kept_start, left_is, log_known, log_length, log_of, long_line, moved_read, next_line, no_line, rest_of, taken_all}
 

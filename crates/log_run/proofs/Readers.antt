@@ -10,7 +10,7 @@ use Rattle.host_io.specs.Reading.{MovesBytes}
 use Rattle.log_run.specs.Log.{HasNoFeed, IsAtEnd}
 use Rattle.log_run.specs.Reading.{HasMore, HasRead, IsLine, IsLong, IsRecent, Reading}
 use Rattle.log_run.specs.Reading.IsNext.{fed, last}
-use Rattle.log_run.specs.declared.limits.TheConstants.{MAX_LINE, MAX_LOG, MAX_READ}
+use Rattle.log_run.specs.declared.sizes.TheConstants.{MAX_LINE, MAX_LOG, MAX_READ}
 
 -- more bytes without a line feed
 pub no_feed_on : (xs : List ℕ) (s n : ℕ) → HasNoFeed (take s xs) → HasNoFeed (take n (drop s xs)) → HasNoFeed (take (s + n) xs)

@@ -11,7 +11,7 @@ use Rattle.log_run.specs.Log.{BeginsWith, HasNoFeed, IsAtEnd, IsNear}
 use Rattle.log_run.specs.Reading.{HasRead, IsLine, IsLong, IsNext, Reading}
 use Rattle.log_run.specs.Reading.IsNext.{fed, last}
 use Rattle.log_run.specs.Run.{NextLine, NoLine}
-use Rattle.log_run.specs.declared.limits.TheConstants.{MAX_LINE, MAX_LOG, MAX_READ}
+use Rattle.log_run.specs.declared.sizes.TheConstants.{MAX_LINE, MAX_LOG, MAX_READ}
 
 -- a byte that ends no line is added to the first line
 lines-cons : (b : ℕ) (bytes : List ℕ) → (b ≡ 10 → ⊥) → lines_of (b ∷ bytes) ≡ onto_first b (lines_of bytes)

@@ -2,7 +2,7 @@
 use Rattle.std.specs.Prelude.{ℕ, ◌+◌, ◌≤◌, Bool, IsTrue, List, length, take}
 use Rattle.log_run.specs.Log.{HasNoFeed}
 use Rattle.log_run.specs.Reading.{IsRecent}
-use Rattle.log_run.specs.declared.limits.TheConstants.{MAX_LINE, MAX_LOG, MAX_READ}
+use Rattle.log_run.specs.declared.sizes.TheConstants.{MAX_LINE, MAX_LOG, MAX_READ}
 
 -- The parts of a reader: the bytes that wait, how many of them are known to have no line feed, how
 -- many bytes were read in all, and whether the log has ended.

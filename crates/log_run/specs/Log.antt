@@ -1,7 +1,7 @@
 -- The lines of a log that is read in pieces, and its limits.
 use Rattle.std.specs.Prelude.{◌≡◌, ◌≢◌, ℕ, ◌≤◌, ◌<◌, List, ◌++◌, [], length, All, drop, Option, Some, IfSome}
 use Rattle.host_io.specs.Lines.{lines_of}
-use Rattle.log_run.specs.declared.limits.TheConstants.{MAX_LINE, MAX_LOG, MAX_READ}
+use Rattle.log_run.specs.declared.sizes.TheConstants.{MAX_LINE, MAX_LOG, MAX_READ}
 
 -- no line ends in these bytes
 abbrev pub HasNoFeed : List ℕ → Type 0

@@ -1,7 +1,7 @@
 -- What a reader of a log has read.
 use Rattle.std.specs.Prelude.{◌≡◌, ◌≢◌, ℕ, ◌+◌, ◌≤◌, ◌<◌, Bool, IsTrue, List, [], ◌∷◌, ◌++◌, false, length, take, drop, Option, Some}
 use Rattle.log_run.specs.Log.{HasNoFeed}
-use Rattle.log_run.specs.declared.limits.TheConstants.{MAX_LINE, MAX_READ}
+use Rattle.log_run.specs.declared.sizes.TheConstants.{MAX_LINE, MAX_READ}
 
 -- The bytes that wait to be used, how many were read in all, and whether the log has ended.
 pub record Reading : Type 0 where

@@ -7,7 +7,7 @@ use Rattle.grammar.specs.declared.fault.LineFault.{LineFault}
 use Rattle.log_run.specs.Log.{BeginsWith, HasNoFeed, IsNear}
 use Rattle.log_run.specs.declared.end.LogEnd.{LogEnd}
 use Rattle.log_run.specs.declared.end.LogEnd.TheVariants.{Done, Fault, LineTooLong, LogTooLong, ReadFault, WriteFault, Memory}
-use Rattle.log_run.specs.declared.limits.TheConstants.{MAX_LINE, MAX_LOG}
+use Rattle.log_run.specs.declared.sizes.TheConstants.{MAX_LINE, MAX_LOG}
 
 -- what a step is
 abbrev pub Steps : Type 0 → Type 1

@@ -1,5 +1,5 @@
-use crate::limits::MAX_READ;
 use crate::room::{make_room, read_after};
+use crate::sizes::MAX_READ;
 use host_io::{ReadFault, Source};
 use std::alloc::Global;
 use std::marker::Model;

@@ -11,17 +11,16 @@
 
 mod buffer;
 mod end;
-mod fault;
 mod feed;
 mod law;
-mod limits;
 mod line_steps;
 mod reader;
 mod room;
 mod run;
+mod sizes;
 
 pub use end::LogEnd;
-pub use law::limits_are_numbers;
-pub use limits::{MAX_LINE, MAX_LOG, MAX_READ};
+pub use law::limits;
 pub use line_steps::{LineSteps, Stop};
 pub use run::run_log;
+pub use sizes::{MAX_LINE, MAX_LOG, MAX_READ};

@@ -1,7 +1,7 @@
 ghost use Rattle.std.specs.Prelude.{◌≡◌, ◌≢◌, ◌+◌, ◌≤◌, ◌++◌, ℕ, List, length, Err, OnOk, IsErrOf};
 ghost use Rattle.grammar.specs.declared.fault.LineFault.{LineFault};
 ghost use Rattle.log_run.specs.Worlds.{WorldStops};
-ghost use Rattle.log_run.specs.declared.limits.TheConstants.{MAX_LINE};
+ghost use Rattle.log_run.specs.declared.sizes.TheConstants.{MAX_LINE};
 
 use log_lines::LineFault;
 use std::alloc::Global;

@@ -1,7 +1,7 @@
 use crate::buffer::Buffer;
-use crate::fault::LogFault;
+use crate::end::LogFault;
 use crate::feed::find_feed;
-use crate::limits::{MAX_LINE, MAX_LOG, MAX_READ};
+use crate::sizes::{MAX_LINE, MAX_LOG, MAX_READ};
 use host_io::{ReadFault, Source};
 use std::alloc::Global;
 use std::marker::Model;

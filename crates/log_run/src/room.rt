@@ -2,7 +2,7 @@ ghost use Rattle.std.specs.Prelude.{◌≡◌, ◌+◌, ◌<◌, ◌≤◌, ◌�
 ghost use Rattle.host_io.specs.Faults.{Rose};
 ghost use Rattle.log_run.specs.Parts.{between};
 
-use crate::limits::MAX_READ;
+use crate::sizes::MAX_READ;
 use host_io::{Failed, Source};
 use std::alloc::AllocError;
 

@@ -4,11 +4,10 @@ ghost use Rattle.grammar.specs.declared.fault.LineFault.{LineFault};
 ghost use Rattle.log_run.specs.Counts.{IsCounted};
 ghost use Rattle.log_run.specs.Worlds.{RanIn};
 
-use crate::end::LogEnd;
-use crate::fault::LogFault;
-use crate::limits::MAX_LOG;
+use crate::end::{LogEnd, LogFault};
 use crate::line_steps::{LineSteps, Stop};
 use crate::reader::LogReader;
+use crate::sizes::MAX_LOG;
 use host_io::{Sink, Source, write_all};
 use std::alloc::Global;
 

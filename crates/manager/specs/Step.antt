@@ -1,12 +1,12 @@
 -- What a command is answered, and what it leaves.
 use Rattle.std.specs.Prelude.{◌≡◌, ◌≢◌, ◌⊎◌, ℕ, ◌<◌, ◌≤◌, List, length, take, count_by, not, Option, ⊤}
 use Rattle.net_addr.specs.Address.{Address}
-use Rattle.net_addr.specs.declared.entry.Entry.{Entry}
+use Rattle.net_addr.specs.declared.peer.Entry.{Entry}
 use Rattle.addr_codecs.specs.Layout.{IsAddrMessage, IsAddrv2Message, HasAddrFault, HasAddrv2Fault}
 use Rattle.addr_codecs.specs.declared.fault.MsgFault.{MsgFault}
 use Rattle.addr_codecs.specs.declared.fault.MsgFault.TheVariants as msg
 use Rattle.peer_rec.specs.Rec.{is_tried}
-use Rattle.peer_rec.specs.declared.counts.Counts.{Counts}
+use Rattle.peer_rec.specs.declared.answers.Counts.{Counts}
 use Rattle.table_machine.specs.State.{State, After, find_peer}
 use Rattle.table_machine.specs.Tried.{good, attempt, connected, set_services}
 use Rattle.table_machine.specs.Clashes.{resolve, clash_pick}

@@ -7,7 +7,7 @@ use Rattle.std.specs.Prelude.{not}
 use Rattle.asmap_vm.specs.Code.{Tree}
 use Rattle.map_diff.specs.Diff.{Change, Part, Same, Mixed, after_bit, under_bit, unless_equal, changes_of, same_pair, both, joined, part, changes, span_of, differing, map_of, changed_at, changed_prefixes}
 use Rattle.map_diff.specs.Text.{is_ipv4, is_counted, span, count_of}
-use Rattle.map_diff.specs.declared.change.ChangedPrefix.{ChangedPrefix}
+use Rattle.map_diff.specs.declared.changed.ChangedPrefix.{ChangedPrefix}
 use Rattle.map_diff.proofs.DiffLaws.{same_first, same_second}
 
 span_under : (n : ℕ) (b : Bool) (c : Change) → span_of (suc n) (under_bit b c) ≡ span_of n c

@@ -4,7 +4,7 @@ use Rattle.std.specs.Fmt.{digits}
 use Rattle.bit_code.specs.Prefixes.{begins_with}
 use Rattle.map_diff.specs.Diff.{part, joined, changes_of, unless_equal, changes, first_over, differing}
 use Rattle.map_diff.specs.Text.{change_text, count_of}
-use Rattle.map_diff.specs.declared.change.ChangedPrefix.{ChangedPrefix}
+use Rattle.map_diff.specs.declared.changed.ChangedPrefix.{ChangedPrefix}
 
 -- the addresses 10 and 11 have another number
 old_map : List Bool → ℕ

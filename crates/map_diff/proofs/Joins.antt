@@ -3,7 +3,7 @@ use Rattle.std.proofs.Common.{◌≡◌, ℕ, suc, ◌==◌, ◌+◌, ◌≤◌,
 use Rattle.asmap_back.specs.Back.{first_at}
 use Rattle.map_diff.specs.Diff.{Change, Part, Same, Mixed, under_bit, unless_equal, changes_of, same_pair, both, joined, changed_at}
 use Rattle.map_diff.specs.Inside.{rows_at, IsRead, HasCause, Sides, is_one_pair, AreSides}
-use Rattle.map_diff.specs.declared.change.ChangedPrefix.{ChangedPrefix}
+use Rattle.map_diff.specs.declared.changed.ChangedPrefix.{ChangedPrefix}
 use Rattle.map_diff.specs.declared.walk.Pair.{Pair}
 use Rattle.map_diff.specs.declared.walk.Prefix.{Prefix}
 use Rattle.map_diff.specs.declared.fault.DiffFault.{DiffFault}

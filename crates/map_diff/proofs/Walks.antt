@@ -3,7 +3,7 @@ use Rattle.std.proofs.Common.{◌≡◌, ℕ, suc, ◌+◌, ◌-◌, ◌<◌, �
 use Rattle.asmap_back.specs.Back.{first_at}
 use Rattle.map_diff.specs.Diff.{Part, Same, after_bit, part, joined, changes_of}
 use Rattle.map_diff.specs.Inside.{IsMap, AreMaps, part_at, rows_at, IsRead, IsPair, HasCause, Sides, AreSides}
-use Rattle.map_diff.specs.declared.change.ChangedPrefix.{ChangedPrefix}
+use Rattle.map_diff.specs.declared.changed.ChangedPrefix.{ChangedPrefix}
 use Rattle.map_diff.specs.declared.cursor.Cursor.{Cursor}
 use Rattle.map_diff.specs.declared.cursor.Cursor.TheVariants as cursors
 use Rattle.map_diff.specs.declared.walk.Pair.{Pair}

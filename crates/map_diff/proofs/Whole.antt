@@ -4,7 +4,7 @@ use Rattle.bit_code.specs.Coder.{file_bits}
 use Rattle.asmap_vm.specs.Code.{Tree, code, IsSaneFile}
 use Rattle.asmap_vm.specs.Held.{bytes_held, tree_held}
 use Rattle.asmap_vm.specs.declared.sane.Sane.{Sane}
-use Rattle.prefix_table.specs.declared.row.TheConstants.{MAX_ROWS}
+use Rattle.prefix_table.specs.declared.rows.TheConstants.{MAX_ROWS}
 use Rattle.map_diff.specs.Diff.{Change, changes_of, map_of, changed_at, changed_prefixes}
 use Rattle.map_diff.specs.Inside.{IsTree, IsMap, AreMaps, part_at, rows_at, HasCause}
 use Rattle.map_diff.specs.declared.cursor.Cursor.{Cursor}

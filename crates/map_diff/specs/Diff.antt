@@ -5,7 +5,7 @@ use Rattle.std.specs.Prelude.{◌≡◌, ◌==◌, ◌&&◌, ℕ, zero, suc, ◌
 use Rattle.bit_code.specs.Prefixes.{begins_with}
 use Rattle.asmap_vm.specs.Code.{Tree, meaning}
 use Rattle.asmap_back.specs.Back.{first_at}
-use Rattle.map_diff.specs.declared.change.ChangedPrefix.{ChangedPrefix}
+use Rattle.map_diff.specs.declared.changed.ChangedPrefix.{ChangedPrefix}
 
 -- a prefix, and the two numbers that all its addresses have
 pub record Change : Type 0 where

@@ -5,9 +5,9 @@ use Rattle.bit_code.specs.Prefixes.{begins_with}
 use Rattle.asmap_vm.specs.Code.{Tree, meaning}
 use Rattle.asmap_vm.specs.Instructions.{HasTree}
 use Rattle.asmap_back.specs.Back.{first_at}
-use Rattle.prefix_table.specs.declared.row.TheConstants.{MAX_ROWS}
+use Rattle.prefix_table.specs.declared.rows.TheConstants.{MAX_ROWS}
 use Rattle.map_diff.specs.Diff.{Change, Part, Same, Mixed, after_bit, changes_of, same_pair, part, changed_at}
-use Rattle.map_diff.specs.declared.change.ChangedPrefix.{ChangedPrefix}
+use Rattle.map_diff.specs.declared.changed.ChangedPrefix.{ChangedPrefix}
 use Rattle.map_diff.specs.declared.cursor.Cursor.{Cursor}
 use Rattle.map_diff.specs.declared.cursor.Cursor.TheVariants.{Fixed, Fork, Match}
 use Rattle.map_diff.specs.declared.walk.Prefix.{Prefix}

@@ -1,8 +1,8 @@
 -- How a difference is printed: the lines of `diff` of contrib/asmap/asmap-tool.py in Bitcoin Core.
 use Rattle.std.specs.Prelude.{◌==◌, ℕ, ◌-◌, ◌^◌, Bool, true, false, List, [], ◌∷◌, ◌++◌, codes, decimal, flat_map, not, sum_by, if◌then◌else◌}
 use Rattle.prefix_table.specs.Print.{is_mapped, prefix_text}
-use Rattle.prefix_table.specs.declared.row.Row.{Row}
-use Rattle.map_diff.specs.declared.change.ChangedPrefix.{ChangedPrefix}
+use Rattle.prefix_table.specs.declared.rows.Row.{Row}
+use Rattle.map_diff.specs.declared.changed.ChangedPrefix.{ChangedPrefix}
 
 -- the row of the prefix, with the new number
 abbrev pub new_row : ChangedPrefix → Row

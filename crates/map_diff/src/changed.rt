@@ -1,10 +1,9 @@
 ghost use Rattle.std.specs.Prelude.{◌≡◌, ◌⊎◌, ◌+◌, ◌<◌, ◌≤◌, ◌^◌, Bool, true, false, length, IfOk, IsErrAnd, Err};
 ghost use Rattle.asmap_vm.specs.Held.{tree_held};
-ghost use Rattle.prefix_table.specs.declared.row.TheConstants.{MAX_ROWS};
+ghost use Rattle.prefix_table.specs.declared.rows.TheConstants.{MAX_ROWS};
 ghost use Rattle.map_diff.specs.Diff.{map_of, differing, changed_prefixes};
 ghost use Rattle.map_diff.specs.Text.{count_of};
 
-use crate::change::ChangedPrefix;
 use crate::cursor::cursor_at;
 use crate::fault::DiffFault;
 use crate::walk::{Maps, Prefix, put_pair};
@@ -12,6 +11,19 @@ use asmap_vm::Sane;
 use bit_code::Bits;
 use prefix_table::MAX_ROWS;
 use std::alloc::Global;
+
+/// A prefix of which two asmaps give all addresses the same two numbers, which differ.
+#[derive(Clone, Copy, Debug, PartialEq, Eq)]
+pub struct ChangedPrefix {
+    /// The bits of the prefix as the high bits of an address; the others are zero.
+    pub bits: u128,
+    /// The number of bits of the prefix.
+    pub len: u8,
+    /// The number in the old asmap, or 0 for none.
+    pub old: u32,
+    /// The number in the new asmap, or 0 for none.
+    pub new: u32,
+}
 
 /// Returns the largest prefixes on which both asmaps are constant and differ, in the order of their
 /// bits. This is `diff` of contrib/asmap/asmap-tool.py in Bitcoin Core.

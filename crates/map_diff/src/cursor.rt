@@ -52,7 +52,7 @@ pub(crate) fn cursor_at(bits: &Bits<'_>, offset: usize, default: u32) -> Cursor
     }
 }
 
-/// Returns whether bit `k` of the number, counted from the low one, is one.
+/// Returns `true` if bit `k` of the number, counted from the low one, is one.
 fn has_bit(number: u32, k: u8) -> bool
     requires { k < 32 }
     ensures { result ≡ has_bit number k }

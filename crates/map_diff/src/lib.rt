@@ -14,7 +14,6 @@
 //!   differ covers these addresses with fewer (`fewest`).
 #![tactic(auto)]
 
-mod change;
 mod changed;
 mod cursor;
 mod fault;
@@ -22,8 +21,7 @@ mod law;
 mod text;
 mod walk;
 
-pub use change::ChangedPrefix;
-pub use changed::difference;
+pub use changed::{ChangedPrefix, difference};
 pub use fault::DiffFault;
 pub use law::changes_are_the_differences;
 pub use prefix_table::Memory;

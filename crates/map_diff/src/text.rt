@@ -2,7 +2,7 @@ ghost use Rattle.std.specs.Prelude.{◌≡◌, ◌<◌, ◌≤◌, ◌+◌, ◌-
 ghost use Rattle.map_diff.specs.Text.{new_row, is_counted, number_text, change_text, given_text, taken_text, count_of, counts_text, difference_text};
 
 use crate::Memory;
-use crate::change::ChangedPrefix;
+use crate::changed::ChangedPrefix;
 use itoa::Buffer;
 use prefix_table::{Row, put_prefix};
 
@@ -162,8 +162,8 @@ fn count_of(rows: &[ChangedPrefix], ipv4: bool) -> Count
     count
 }
 
-/// Returns whether the addresses of the prefix are IPv4 addresses in their IPv6 form, if these are
-/// counted, or are not, if the others are.
+/// Returns `true` if the addresses of the prefix are IPv4 addresses in their IPv6 form, if these
+/// are counted, or are not, if the others are.
 fn is_counted(change: ChangedPrefix, ipv4: bool) -> bool
     ensures { result ≡ is_counted ipv4 change }
 {

@@ -1,12 +1,12 @@
 ghost use Rattle.std.specs.Prelude.{◌≡◌, ℕ, ◌+◌, ◌-◌, ◌<◌, ◌^◌, Bool, false, List, ◌++◌, Some, None, length, IfOk, IfErr, IfSome, IfNone, OnOk};
 ghost use Rattle.asmap_back.specs.Back.{first_at};
-ghost use Rattle.prefix_table.specs.declared.row.TheConstants.{MAX_ROWS};
+ghost use Rattle.prefix_table.specs.declared.rows.TheConstants.{MAX_ROWS};
 ghost use Rattle.map_diff.specs.Diff.{Part, Same, unless_equal, changes_of, joined};
 ghost use Rattle.map_diff.specs.Inside.{IsMap, AreMaps, part_at, rows_at, IsRead, is_one_pair, HasCause, Sides, AreSides};
-ghost use Rattle.map_diff.specs.declared.change.ChangedPrefix.{ChangedPrefix};
+ghost use Rattle.map_diff.specs.declared.changed.ChangedPrefix.{ChangedPrefix};
 ghost use Rattle.map_diff.specs.declared.cursor.Cursor.TheVariants as Cursor;
 
-use crate::change::ChangedPrefix;
+use crate::changed::ChangedPrefix;
 use crate::cursor::{Cursor, sides};
 use crate::fault::DiffFault;
 use bit_code::Bits;
@@ -53,7 +53,7 @@ impl Prefix {
     }
 }
 
-/// Returns whether two sides are one pair.
+/// Returns `true` if two sides are one pair.
 fn is_one_pair(left: Option<Pair>, right: Option<Pair>) -> bool
     ensures { result ≡ is_one_pair left right }
 {

@@ -13,7 +13,6 @@
 
 mod address;
 mod address_traits;
-mod entry;
 mod law;
 mod memory;
 mod net;
@@ -26,13 +25,12 @@ mod read;
 mod text;
 
 pub use address::NetAddr;
-pub use entry::Entry;
 pub use law::texts_have_one_meaning;
 pub use memory::Memory;
 pub use net::Net;
 pub use net_set::NetSet;
 pub use old_form::{INTERNAL_PREFIX, MAPPED_PREFIX, TORV2_PREFIX, array_of};
-pub use peer::Peer;
+pub use peer::{Entry, Peer};
 pub use print::{
     IPV4_TEXT, IPV6_TEXT, ipv4_text, ipv6_text, put_addr, put_ipv4, put_ipv6, put_peer,
 };

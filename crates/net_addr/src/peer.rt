@@ -28,3 +28,12 @@ impl Peer {
         key
     }
 }
+
+/// One entry of an `addr` or `addrv2` message: when the peer was last seen, in seconds since 1970,
+/// the services that it offers, and the peer.
+#[derive(Clone, Copy, Debug)]
+pub struct Entry {
+    pub time: u32,
+    pub services: u64,
+    pub peer: Peer,
+}

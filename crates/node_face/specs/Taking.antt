@@ -1,14 +1,14 @@
 -- Why a message is not taken.
 use Rattle.std.specs.Prelude.{◌≡◌, ◌≢◌, ◌⊎◌, ℕ, ◌<◌, ◌≤◌, ◌^◌, List, length, Option}
 use Rattle.net_addr.specs.Address.{Address}
-use Rattle.net_addr.specs.declared.entry.Entry.{Entry}
+use Rattle.net_addr.specs.declared.peer.Entry.{Entry}
 use Rattle.addr_codecs.specs.Layout.{IsMessage, HasMessageFault}
 use Rattle.addr_codecs.specs.declared.form.Form.{Form}
 use Rattle.addr_codecs.specs.declared.fault.MsgFault.TheVariants as msg
 use Rattle.table_machine.specs.State.{State}
 use Rattle.taking.specs.Taking.{HasFirst}
-use Rattle.node_face.specs.declared.take_fault.TakeFault.{TakeFault}
-use Rattle.node_face.specs.declared.take_fault.TakeFault.TheVariants.{Full, Refused, ShortWords, Memory}
+use Rattle.node_face.specs.declared.entries.TakeFault.{TakeFault}
+use Rattle.node_face.specs.declared.entries.TakeFault.TheVariants.{Full, Refused, ShortWords, Memory}
 
 -- why a message is not taken, and what is left: the numbers of records are used up, the first fault
 -- of the payload, too few random words, or memory, which may have run out between two entries

@@ -3,13 +3,25 @@ ghost use Rattle.table_machine.specs.Entries.{add};
 ghost use Rattle.taking.specs.Taking.{IsAdded};
 ghost use Rattle.node_face.specs.Taking.{IsTakeFault};
 
-use crate::TakeFault;
-use addr_codecs::Form;
+use addr_codecs::{Form, MsgFault};
 use net_addr::{Entry, NetAddr};
 use std::alloc::Global;
 use std::hash::BuildHasher;
 use tables::Tables;
 use taking::{Added, MessageFault};
+
+/// Why a message is not taken.
+#[derive(Clone, Copy, Debug, PartialEq, Eq)]
+pub enum TakeFault {
+    /// The numbers of records are used up. Nothing changes.
+    Full,
+    /// The payload is no message. Nothing changes.
+    Refused(MsgFault),
+    /// There are fewer random words than entries. Nothing changes.
+    ShortWords { need: u32, have: u32 },
+    /// Out of memory. Some of the first entries may have been added.
+    Memory,
+}
 
 /// No call adds once this many numbers were given to records. A message that begins below it is
 /// taken whole.
@@ -45,7 +57,7 @@ pub fn add<H: BuildHasher>(
     if tables.next_number() >= MAX_RECORDS {
         return Err(AddFault::Full);
     }
-    match uncounted::add(tables, entry, source, penalty, word, now) {
+    match node_calls::add(tables, entry, source, penalty, word, now) {
         Ok(answer) => Ok(answer),
         Err(_) => Err(AddFault::Memory),
     }
@@ -71,7 +83,7 @@ pub fn take_message<H: BuildHasher>(
     if tables.next_number() >= MAX_RECORDS {
         return Err(TakeFault::Full);
     }
-    match uncounted::take_message(alloc, tables, form, payload, source, words, now) {
+    match node_calls::take_message(alloc, tables, form, payload, source, words, now) {
         Ok(added) => Ok(added),
         Err(MessageFault::Memory) => Err(TakeFault::Memory),
         Err(MessageFault::Refused(fault)) => Err(TakeFault::Refused(fault)),

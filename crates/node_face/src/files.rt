@@ -86,7 +86,7 @@ pub fn read<H: BuildHasher + Drop>(
     let Ok(placer) = placer_of(alloc, snap.key(), map, rule) else {
         return Err(OpenFault::Memory);
     };
-    match uncounted::restore(alloc, &snap, placer, hasher) {
+    match node_calls::restore(alloc, &snap, placer, hasher) {
         Ok(tables) => Ok(tables),
         Err(RestoreFault::Memory) => Err(OpenFault::Memory),
         Err(RestoreFault::Duplicate { index }) => Err(OpenFault::Duplicate { index }),

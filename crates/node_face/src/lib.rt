@@ -3,7 +3,7 @@
 //!
 //! A call whose condition may not hold says so by its result: the numbers of records are used up
 //! (`Full`), a message has too many entries, a group has an open peer. What has no condition is
-//! called where it is, most of it in `uncounted`.
+//! called where it is, most of it in `node_calls`.
 //!
 //! Proved: each call is safe, returns, and states its result by the words of the crate that it
 //! calls.
@@ -22,12 +22,11 @@ mod proper_ban;
 mod sampling;
 mod saving;
 mod subnet;
-mod take_fault;
 
 pub use answering::{AnswerFault, answer};
 pub use ban_files::{ListFault, load_bans, save_bans};
 pub use banning::ban;
-pub use entries::{AddFault, MAX_RECORDS, add, take_message};
+pub use entries::{AddFault, MAX_RECORDS, TakeFault, add, take_message};
 pub use files::{OpenFault, load, open, read};
 pub use limits::{AdmitFault, admit};
 pub use messages::{WriteFault, write_message};
@@ -37,4 +36,3 @@ pub use proper_ban::ProperBan;
 pub use sampling::sample;
 pub use saving::{SaveFault, save, write};
 pub use subnet::ProperSubnet;
-pub use take_fault::TakeFault;

@@ -40,7 +40,7 @@ pub fn sample<H: BuildHasher, R: Rng>(
     let counts = tables.counts();
     let words = words_of(alloc, counts.new_count + counts.tried_count, rng)?;
     let percent = percent.min(100);
-    match uncounted::sample(alloc, tables, max, percent, classes, words.as_slice(), now) {
+    match node_calls::sample(alloc, tables, max, percent, classes, words.as_slice(), now) {
         Ok(peers) => Ok(peers),
         Err(SampleFault::Memory) => Err(Memory),
         Err(SampleFault::ShortWords { .. }) => unreachable!(),

@@ -29,7 +29,7 @@ pub fn write<H: BuildHasher>(
 ) -> Result<Bytes, Memory>
     ensures found { IfOk result (λ bytes. bytes ≡ file_text chain (snapshot_of tables.now)) }
 {
-    let Ok(snap) = uncounted::snapshot(tables) else {
+    let Ok(snap) = node_calls::snapshot(tables) else {
         return Err(Memory);
     };
     match write_file(alloc, &snap, chain) {

@@ -23,10 +23,10 @@ use Rattle.opener_lines.specs.Texts.{answer_text}
 use Rattle.peer_open.specs.declared.opener.TheConstants.{MAX_OUTBOUND}
 use Rattle.opener_lines.specs.Tries.{HasOutcome, try_by, ToKeep, ToTest}
 use Rattle.opener_lines.specs.declared.tries.Outcome.{Outcome}
-use Rattle.opener_lines.specs.declared.request.Request.{Request}
-use Rattle.opener_lines.specs.declared.request.Request.TheVariants as request
-use Rattle.opener_lines.specs.declared.verb.Verb.{Verb}
-use Rattle.opener_lines.specs.declared.verb.Verb.TheVariants.{Outbound, Feeler, Close, Log}
+use Rattle.opener_lines.specs.declared.command.OpenerCommand.{OpenerCommand}
+use Rattle.opener_lines.specs.declared.command.OpenerCommand.TheVariants as request
+use Rattle.opener_lines.specs.declared.word.OpenerWord.{OpenerWord}
+use Rattle.opener_lines.specs.declared.word.OpenerWord.TheVariants.{Outbound, Feeler, Close, Log}
 use Rattle.opener_lines.proofs.Outcomes.{some_outcome}
 
 -- ---- of a result
@@ -42,7 +42,7 @@ on_err P Q (Err e) f h = f h
 -- ---- of a request
 
 -- the answer, the step and the text of a request
-abbrev pub HasDone : OpenerState → Request → OpenerState → List ℕ → List ℕ → Type 0
+abbrev pub HasDone : OpenerState → OpenerCommand → OpenerState → List ℕ → List ℕ → Type 0
 HasDone old asked new before after = (answer : Answer) × RequestStep old asked answer new × (after ≡ before ++ answer_text answer)
 
 pub closed : (machine : Machine) (old new : List groups.Outbound) (peer : Peer) (before after : List ℕ) → new ≡ without_peer peer old
@@ -96,11 +96,11 @@ found_passes {A = A} p q (y ∷ ys) x all e = by (p y) (and_parts (q y) (list_al
     by false here later found = later found
 
 -- what a line asks for can be done
-pub can_be_done : (line : List ℕ) (asked : Request) → LineAsks line asked → CanBeDone asked
+pub can_be_done : (line : List ℕ) (asked : OpenerCommand) → LineAsks line asked → CanBeDone asked
 unfolding keeps
 can_be_done line asked (word, texts, is, asks) = by (verb_at word) refl asks
   where
-    by : (o : Option Verb) → verb_at word ≡ o → AsksBy o texts asked → CanBeDone asked
+    by : (o : Option OpenerWord) → verb_at word ≡ o → AsksBy o texts asked → CanBeDone asked
     by None found h = absurd h
     by (Some Outbound) found (seed, h, said) = subst CanBeDone (sym said) tt
     by (Some Feeler) found (seed, number, h, said) = subst CanBeDone (sym said) tt
@@ -115,12 +115,12 @@ pub passed : (old : OpenerState) (line items : List ℕ) → IsPassedOver line �
 passed old line items is = ([], inl (is, refl, refl), sym (append-nil items))
 
 -- a request that was carried out
-pub carried : (old new : OpenerState) (line before after : List ℕ) (asked : Request) → LineAsks line asked → HasDone old asked new before after
+pub carried : (old new : OpenerState) (line before after : List ℕ) (asked : OpenerCommand) → LineAsks line asked → HasDone old asked new before after
     → (text : List ℕ) × LineStep old line text new × (after ≡ before ++ text)
 carried old new line before after asked asks done = (answer_text done.0, inr (asked, done.0, asks, done.1, refl), done.2)
 
 -- memory ran out after it
-pub left : (old new : OpenerState) (line : List ℕ) (asked : Request) → LineAsks line asked → Leaves old asked new → OpenerLeavesPart old line new
+pub left : (old new : OpenerState) (line : List ℕ) (asked : OpenerCommand) → LineAsks line asked → Leaves old asked new → OpenerLeavesPart old line new
 left old new line asked asks (inl same) = inl same
 left old new line asked asks (inr (inl done)) = inr (inl (answer_text done.0, inr (asked, done.0, asks, done.1, refl)))
 left old new line (request.Machine command) asks (inr (inr part)) = inr (inr (command, part.0, asks, part.1, part.2))

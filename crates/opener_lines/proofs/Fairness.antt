@@ -2,21 +2,21 @@
 use Rattle.std.proofs.Common.{◌≡◌, ℕ, List, inl, inr, refl, sym, ap, subst, ◌∙◌, Contains}
 use Rattle.net_addr.specs.declared.peer.Peer.{Peer}
 use Rattle.placing.specs.Places.{group}
-use Rattle.peer_rec.specs.declared.picked.Picked.{Picked}
-use Rattle.peer_rec.specs.declared.picked.Picked.TheVariants as picked
+use Rattle.peer_rec.specs.declared.answers.Picked.{Picked}
+use Rattle.peer_rec.specs.declared.answers.Picked.TheVariants as picked
 use Rattle.table_machine.specs.Clashes.{clash_pick}
 use Rattle.manager.specs.Machine.{Machine}
 use Rattle.peer_open.specs.Groups.{Outbound, AreApart, groups}
-use Rattle.peer_open.specs.declared.verdict.Verdict.{Verdict}
-use Rattle.peer_open.specs.declared.verdict.Verdict.TheVariants as verdict
+use Rattle.peer_open.specs.declared.outbound.Verdict.{Verdict}
+use Rattle.peer_open.specs.declared.outbound.Verdict.TheVariants as verdict
 use Rattle.peer_open.proofs.Apart.{apart-with_peer, apart-without_peer}
 use Rattle.peer_open.proofs.Judged.{taken_apart, taken_late, feeler_late}
 use Rattle.opener_lines.specs.Fair.{IsFair}
 use Rattle.opener_lines.specs.Lines.{LineStep}
 use Rattle.opener_lines.specs.State.{Answer, OpenerState, RequestStep, after_clash, answer_to_feeler, answer_to_outbound, peers_after}
 use Rattle.opener_lines.specs.Tries.{HasOutcome, pick_by, try_by, try_of_pick, try_of_verdict, verdict_by, Aim, ToKeep, ToTest, Try, Take, NoneLeft, Next}
-use Rattle.opener_lines.specs.declared.request.Request.{Request}
-use Rattle.opener_lines.specs.declared.request.Request.TheVariants as request
+use Rattle.opener_lines.specs.declared.command.OpenerCommand.{OpenerCommand}
+use Rattle.opener_lines.specs.declared.command.OpenerCommand.TheVariants as request
 use Rattle.opener_lines.specs.declared.tries.Outcome.{Outcome}
 use Rattle.opener_lines.specs.declared.tries.Outcome.TheVariants as outcome
 
@@ -67,7 +67,7 @@ outbound_apart m open_peers seed (outcome.Taken peer i) h apart =
 outbound_apart m open_peers seed outcome.Nothing h apart = apart
 outbound_apart m open_peers seed outcome.GaveUp h apart = apart
 
-step_apart : (old new : OpenerState) (asked : Request) (answer : Answer) → RequestStep old asked answer new → AreApart old.open_peers → AreApart new.open_peers
+step_apart : (old new : OpenerState) (asked : OpenerCommand) (answer : Answer) → RequestStep old asked answer new → AreApart old.open_peers → AreApart new.open_peers
 step_apart old new (request.Outbound seed) answer (inl full) apart = subst (λ st. AreApart st.open_peers) (sym full.2) apart
 step_apart old new (request.Outbound seed) answer (inr step) apart =
     subst (λ st. AreApart st.open_peers) (sym step.1.3) (outbound_apart old.machine old.open_peers seed step.1.0 step.1.1 apart)
@@ -109,7 +109,7 @@ fair_feeler old seed word outcome.GaveUp h = tt
 fair_close : (old : OpenerState) (peer : Peer) (answer : Answer) → IsFair old (request.Close peer) answer
 fair_close old peer answer = tt
 
-pub step_fair : (old new : OpenerState) (asked : Request) (answer : Answer) → RequestStep old asked answer new → IsFair old asked answer
+pub step_fair : (old new : OpenerState) (asked : OpenerCommand) (answer : Answer) → RequestStep old asked answer new → IsFair old asked answer
 step_fair old new (request.Outbound seed) answer (inl full) = subst (IsFair old (request.Outbound seed)) (sym full.1) tt
 step_fair old new (request.Outbound seed) answer (inr step) =
     subst (IsFair old (request.Outbound seed)) (sym step.1.2) (fair_outbound old seed step.1.0 step.1.1)

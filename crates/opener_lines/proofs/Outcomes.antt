@@ -2,12 +2,12 @@
 use Rattle.std.proofs.Common.{◌≡◌, ◌≢◌, ◌⊎◌, ℕ, zero, suc, ◌+◌, ◌≤◌, List, inl, inr, refl, sym, ap, subst, ◌∙◌, arith}
 use Rattle.std.proofs.lemmas.Bool.Decides.{leb_tells}
 use Rattle.net_addr.specs.declared.peer.Peer.{Peer}
-use Rattle.peer_rec.specs.declared.picked.Picked.{Picked}
-use Rattle.peer_rec.specs.declared.picked.Picked.TheVariants as picked
+use Rattle.peer_rec.specs.declared.answers.Picked.{Picked}
+use Rattle.peer_rec.specs.declared.answers.Picked.TheVariants as picked
 use Rattle.manager.specs.Machine.{Machine}
 use Rattle.peer_open.specs.Groups.{Outbound}
 use Rattle.peer_open.specs.declared.opener.TheConstants.{MAX_TRIES}
-use Rattle.peer_open.specs.declared.verdict.Verdict.{Verdict}
+use Rattle.peer_open.specs.declared.outbound.Verdict.{Verdict}
 use Rattle.opener_lines.specs.Tries.{Aim, HasOutcome, IsFirst, NoneBefore, pick_by, try_by, try_of_pick, try_of_verdict, verdict_by, Try, Take, NoneLeft, Next}
 use Rattle.opener_lines.specs.declared.tries.Outcome.{Outcome}
 use Rattle.opener_lines.specs.declared.tries.Outcome.TheVariants as outcome

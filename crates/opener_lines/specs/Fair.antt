@@ -1,13 +1,13 @@
 -- What holds of the peers that an opener takes.
 use Rattle.std.specs.Prelude.{◌≡◌, ℕ, ◌-◌, ◌<◌, ◌≤◌}
 use Rattle.net_addr.specs.declared.peer.Peer.{Peer}
-use Rattle.peer_rec.specs.declared.picked.Picked.TheVariants as picked
+use Rattle.peer_rec.specs.declared.answers.Picked.TheVariants as picked
 use Rattle.manager.specs.Machine.{Machine}
 use Rattle.peer_open.specs.declared.opener.TheConstants.{MAX_TRIES}
 use Rattle.opener_lines.specs.State.{Answer, OpenerState, Opened, Tested, after_clash}
 use Rattle.opener_lines.specs.Tries.{pick_by, Aim, ToKeep, ToTest}
-use Rattle.opener_lines.specs.declared.request.Request.{Request}
-use Rattle.opener_lines.specs.declared.request.Request.TheVariants as request
+use Rattle.opener_lines.specs.declared.command.OpenerCommand.{OpenerCommand}
+use Rattle.opener_lines.specs.declared.command.OpenerCommand.TheVariants as request
 use Rattle.table_machine.specs.Clashes.{clash_pick}
 
 -- Try i picked the peer; it is the 31st or a later one if the peer was tried less than ten minutes
@@ -22,7 +22,7 @@ abbrev pub IsTry : ℕ → Type 0
 IsTry i = (1 ≤ i) × (i ≤ MAX_TRIES)
 
 -- the peer that an answer names was taken by the rules
-abbrev pub IsFair : OpenerState → Request → Answer → Type 0
+abbrev pub IsFair : OpenerState → OpenerCommand → Answer → Type 0
 IsFair old (request.Outbound seed) (Opened peer group i) =
     IsTry i × IsLateIfRecent old.machine ToKeep seed peer i
 IsFair old (request.Feeler seed word) (Tested peer i) =

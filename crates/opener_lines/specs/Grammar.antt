@@ -9,32 +9,32 @@ use Rattle.grammar.specs.declared.fault.LineFault.{LineFault}
 use Rattle.grammar.specs.declared.fault.LineFault.TheVariants as fault
 use Rattle.log_lines.specs.Spelling as log
 use Rattle.log_lines.specs.declared.command.Command.{Command}
-use Rattle.log_lines.specs.declared.verb.Verb.TheVariants as v
-use Rattle.opener_lines.specs.declared.request.Request.{Request}
-use Rattle.opener_lines.specs.declared.request.Request.TheVariants as request
-use Rattle.opener_lines.specs.declared.verb.Verb.{Verb}
-use Rattle.opener_lines.specs.declared.verb.Verb.TheVariants.{Outbound, Feeler, Close, Log}
+use Rattle.log_lines.specs.declared.word.CommandWord.TheVariants as v
+use Rattle.opener_lines.specs.declared.command.OpenerCommand.{OpenerCommand}
+use Rattle.opener_lines.specs.declared.command.OpenerCommand.TheVariants as request
+use Rattle.opener_lines.specs.declared.word.OpenerWord.{OpenerWord}
+use Rattle.opener_lines.specs.declared.word.OpenerWord.TheVariants.{Outbound, Feeler, Close, Log}
 
 -- the first word of a line
-abbrev pub opener_word : Verb → List ℕ
+abbrev pub opener_word : OpenerWord → List ℕ
 opener_word Outbound = codes "outbound"
 opener_word Feeler = codes "feeler"
 opener_word Close = codes "close"
 opener_word (Log verb) = log.word_of verb
 
 -- the opener's own verbs, and those of the address manager's log that do not save
-abbrev pub verbs : List Verb
+abbrev pub verbs : List OpenerWord
 verbs =
     Outbound ∷ Feeler ∷ Close ∷ Log v.Now ∷ Log v.Addr ∷ Log v.Addr2 ∷ Log v.Good ∷ Log v.Attempt
     ∷ Log v.Connected ∷ Log v.Services ∷ Log v.Find ∷ Log v.Size ∷ Log v.Select ∷ Log v.Sample
     ∷ Log v.Resolve ∷ Log v.Clash ∷ Log v.Dump ∷ []
 
--- the verb of a first word, if it is a keyword
-abbrev pub verb_at : List ℕ → Option Verb
+-- the keyword of a first word, if it is a keyword
+abbrev pub verb_at : List ℕ → Option OpenerWord
 verb_at word = find (λ verb. bytes_eq (opener_word verb) word) verbs
 
--- the texts after a verb ask for the request
-abbrev pub AsksBy : Option Verb → List (List ℕ) → Request → Type 0
+-- the texts after a keyword ask for the request
+abbrev pub AsksBy : Option OpenerWord → List (List ℕ) → OpenerCommand → Type 0
 AsksBy None texts asked = ⊥
 AsksBy (Some Outbound) texts asked =
     (seed : ℕ) × AllMean (u32_field ∷ []) texts (TheNumber seed ∷ [])
@@ -49,11 +49,11 @@ AsksBy (Some (Log verb)) texts asked =
     (command : Command) × log.SpellsBy verb texts command × (asked ≡ request.Machine command)
 
 -- the same by the first word
-abbrev pub AsksAfter : List ℕ → List (List ℕ) → Request → Type 0
+abbrev pub AsksAfter : List ℕ → List (List ℕ) → OpenerCommand → Type 0
 AsksAfter word texts asked = AsksBy (verb_at word) texts asked
 
 -- what is wrong: the first word is no keyword, or else in the texts after it
-abbrev pub FaultBy : Option Verb → List (List ℕ) → LineFault → Type 0
+abbrev pub FaultBy : Option OpenerWord → List (List ℕ) → LineFault → Type 0
 FaultBy None texts f = f ≡ fault.Word
 FaultBy (Some Outbound) texts f = AreAtFault (u32_field ∷ []) texts f
 FaultBy (Some Feeler) texts f = AreAtFault (u32_field ∷ u64_field ∷ []) texts f
@@ -64,7 +64,7 @@ abbrev pub FaultAfter : List ℕ → List (List ℕ) → LineFault → Type 0
 FaultAfter word texts f = FaultBy (verb_at word) texts f
 
 -- the line asks for the request
-abbrev pub LineAsks : List ℕ → Request → Type 0
+abbrev pub LineAsks : List ℕ → OpenerCommand → Type 0
 LineAsks line asked = Says AsksAfter (fields_of line) asked
 
 -- what is wrong in a line that is not passed over

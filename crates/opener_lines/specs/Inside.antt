@@ -10,23 +10,23 @@ use Rattle.opener_lines.specs.declared.tries.Found.{Found}
 use Rattle.opener_lines.specs.declared.tries.Found.TheVariants as found
 use Rattle.opener_lines.specs.declared.tries.Outcome.{Outcome}
 use Rattle.opener_lines.specs.declared.tries.Outcome.TheVariants as outcome
-use Rattle.opener_lines.specs.declared.request.Request.{Request}
-use Rattle.opener_lines.specs.declared.request.Request.TheVariants as request
+use Rattle.opener_lines.specs.declared.command.OpenerCommand.{OpenerCommand}
+use Rattle.opener_lines.specs.declared.command.OpenerCommand.TheVariants as request
 
 -- a command that does not save, and a sample of at most 100 percent
-abbrev pub CanBeDone : Request → Type 0
+abbrev pub CanBeDone : OpenerCommand → Type 0
 CanBeDone (request.Machine command) = manager.SavesNothing command × manager.HasPercent command
 CanBeDone other = ⊤
 
 -- what a message leaves that ran out of memory
-abbrev pub LeavesMessage : OpenerState → Request → OpenerState → Type 0
+abbrev pub LeavesMessage : OpenerState → OpenerCommand → OpenerState → Type 0
 LeavesMessage old (request.Machine command) new =
     (machine : Machine) × manager.LeavesPart old.machine command machine
     × (new ≡ record old { machine = machine })
 LeavesMessage old other new = ⊥
 
 -- what a request leaves that ran out of memory
-abbrev pub Leaves : OpenerState → Request → OpenerState → Type 0
+abbrev pub Leaves : OpenerState → OpenerCommand → OpenerState → Type 0
 Leaves old asked new =
     (new ≡ old)
     ⊎ (((answer : Answer) × RequestStep old asked answer new) ⊎ LeavesMessage old asked new)

@@ -8,10 +8,10 @@ use Rattle.grammar.proofs.TableLemmas.{found_word, no_fault_after, one_fault_aft
 use Rattle.log_lines.specs.Laws as log
 use Rattle.log_lines.specs.Spelling.{command_values, kinds_of}
 use Rattle.opener_lines.specs.Grammar.{AsksAfter, AsksBy, FaultAfter, FaultBy, verb_at, verbs, opener_word}
-use Rattle.opener_lines.specs.declared.request.Request.{Request}
-use Rattle.opener_lines.specs.declared.request.Request.TheVariants as request
-use Rattle.opener_lines.specs.declared.verb.Verb.{Verb}
-use Rattle.opener_lines.specs.declared.verb.Verb.TheVariants.{Outbound, Feeler, Close, Log}
+use Rattle.opener_lines.specs.declared.command.OpenerCommand.{OpenerCommand}
+use Rattle.opener_lines.specs.declared.command.OpenerCommand.TheVariants as request
+use Rattle.opener_lines.specs.declared.word.OpenerWord.{OpenerWord}
+use Rattle.opener_lines.specs.declared.word.OpenerWord.TheVariants.{Outbound, Feeler, Close, Log}
 
 abbrev peer_in : Peer → Value → Peer
 peer_in p (ThePeer q) = q
@@ -26,11 +26,11 @@ pairs = u32_field ∷ u64_field ∷ []
 abbrev one_peer : List Kind
 one_peer = OfPeer ∷ []
 
-pub one_asked : (word : List ℕ) (texts : List (List ℕ)) (a b : Request) →
+pub one_asked : (word : List ℕ) (texts : List (List ℕ)) (a b : OpenerCommand) →
     AsksAfter word texts a → AsksAfter word texts b → a ≡ b
 one_asked word texts a b = by (verb_at word)
   where
-    by : (o : Option Verb) → AsksBy o texts a → AsksBy o texts b → a ≡ b
+    by : (o : Option OpenerWord) → AsksBy o texts a → AsksBy o texts b → a ≡ b
     by None h k = absurd h
     by (Some Outbound) (s, h, is) (t, k, is') =
         is
@@ -55,18 +55,18 @@ pub one_fault : (word : List ℕ) (texts : List (List ℕ)) (f g : LineFault) �
     FaultAfter word texts f → FaultAfter word texts g → f ≡ g
 one_fault word texts f g = by (verb_at word)
   where
-    by : (o : Option Verb) → FaultBy o texts f → FaultBy o texts g → f ≡ g
+    by : (o : Option OpenerWord) → FaultBy o texts f → FaultBy o texts g → f ≡ g
     by None h k = h ∙ sym k
     by (Some Outbound) h k = one_fault_after (Some seeds) texts f g h k
     by (Some Feeler) h k = one_fault_after (Some pairs) texts f g h k
     by (Some Close) h k = one_fault_after (Some one_peer) texts f g h k
     by (Some (Log verb)) h k = one_fault_after (Some (kinds_of verb)) texts f g h k
 
-pub no_fault : (word : List ℕ) (texts : List (List ℕ)) (a : Request) (f : LineFault) →
+pub no_fault : (word : List ℕ) (texts : List (List ℕ)) (a : OpenerCommand) (f : LineFault) →
     AsksAfter word texts a → FaultAfter word texts f → ⊥
 no_fault word texts a f = by (verb_at word)
   where
-    by : (o : Option Verb) → AsksBy o texts a → FaultBy o texts f → ⊥
+    by : (o : Option OpenerWord) → AsksBy o texts a → FaultBy o texts f → ⊥
     by None h k = h
     by (Some Outbound) (s, h, is) k = no_fault_after (Some seeds) texts (TheNumber s ∷ []) f h k
     by (Some Feeler) (s, m, h, is) k =
@@ -76,18 +76,18 @@ no_fault word texts a f = by (verb_at word)
         no_fault_after (Some (kinds_of verb)) texts (command_values c) f h.1 k
 
 -- the word of a verb begins with a letter
-letter : (verb : Verb) → 96 < get_or (opener_word verb) 0 0
+letter : (verb : OpenerWord) → 96 < get_or (opener_word verb) 0 0
 letter Outbound = lit< tt
 letter Feeler = lit< tt
 letter Close = lit< tt
 letter (Log verb) = log.letter verb
 
 -- a line that asks for something begins with a letter
-pub letters : (word : List ℕ) (texts : List (List ℕ)) (a : Request) →
+pub letters : (word : List ℕ) (texts : List (List ℕ)) (a : OpenerCommand) →
     AsksAfter word texts a → 96 < get_or word 0 0
 letters word texts a = by (verb_at word) refl
   where
-    by : (o : Option Verb) → verb_at word ≡ o → AsksBy o texts a → 96 < get_or word 0 0
+    by : (o : Option OpenerWord) → verb_at word ≡ o → AsksBy o texts a → 96 < get_or word 0 0
     by None is h = absurd h
     by (Some verb) is h =
         subst (λ w. 96 < get_or w 0 0) (sym (found_word opener_word verbs word verb is))

@@ -7,14 +7,14 @@ use Rattle.manager.specs.Step as manager
 use Rattle.opener_lines.specs.Grammar.{LineAsks}
 use Rattle.opener_lines.specs.State.{Answer, OpenerState, RequestStep}
 use Rattle.opener_lines.specs.Texts.{answer_text}
-use Rattle.opener_lines.specs.declared.request.Request.{Request}
-use Rattle.opener_lines.specs.declared.request.Request.TheVariants as request
+use Rattle.opener_lines.specs.declared.command.OpenerCommand.{OpenerCommand}
+use Rattle.opener_lines.specs.declared.command.OpenerCommand.TheVariants as request
 
 -- a line that is passed over has no reply; one that asks for something has the answer to that
 abbrev pub LineStep : OpenerState → List ℕ → List ℕ → OpenerState → Type 0
 LineStep old line text new =
     (IsPassedOver line × (text ≡ []) × (new ≡ old))
-    ⊎ ((asked : Request) × (answer : Answer) × LineAsks line asked
+    ⊎ ((asked : OpenerCommand) × (answer : Answer) × LineAsks line asked
     × RequestStep old asked answer new × (text ≡ answer_text answer))
 
 -- What a line leaves that ran out of memory: the state before it, that after it, or a message of

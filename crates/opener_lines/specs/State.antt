@@ -9,8 +9,8 @@ use Rattle.manager.specs.Step as manager
 use Rattle.peer_open.specs.Groups.{Outbound, is_open, with_peer, without_peer}
 use Rattle.peer_open.specs.declared.opener.TheConstants.{MAX_OUTBOUND}
 use Rattle.opener_lines.specs.Tries.{HasOutcome, try_by, ToKeep, ToTest}
-use Rattle.opener_lines.specs.declared.request.Request.{Request}
-use Rattle.opener_lines.specs.declared.request.Request.TheVariants as request
+use Rattle.opener_lines.specs.declared.command.OpenerCommand.{OpenerCommand}
+use Rattle.opener_lines.specs.declared.command.OpenerCommand.TheVariants as request
 use Rattle.opener_lines.specs.declared.tries.Outcome.{Outcome}
 use Rattle.opener_lines.specs.declared.tries.Outcome.TheVariants as outcome
 
@@ -72,7 +72,7 @@ FeelerStep old seed word answer new =
     × (new ≡ record old { machine = after_clash old.machine word })
 
 -- what a request is answered, and the state after it
-abbrev pub RequestStep : OpenerState → Request → Answer → OpenerState → Type 0
+abbrev pub RequestStep : OpenerState → OpenerCommand → Answer → OpenerState → Type 0
 RequestStep old (request.Outbound seed) answer new = OutboundStep old seed answer new
 RequestStep old (request.Feeler seed word) answer new = FeelerStep old seed word answer new
 RequestStep old (request.Close peer) answer new =

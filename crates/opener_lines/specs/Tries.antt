@@ -4,16 +4,16 @@ use Rattle.std.specs.Prelude.{◌≡◌, ℕ, suc, ◌+◌, ◌<◌, ◌≤◌, 
 use Rattle.net_addr.specs.NetSet.{all}
 use Rattle.net_addr.specs.declared.peer.Peer.{Peer}
 use Rattle.placing.specs.Places.{Places, group}
-use Rattle.peer_rec.specs.declared.picked.Picked.{Picked}
-use Rattle.peer_rec.specs.declared.picked.Picked.TheVariants as picked
+use Rattle.peer_rec.specs.declared.answers.Picked.{Picked}
+use Rattle.peer_rec.specs.declared.answers.Picked.TheVariants as picked
 use Rattle.table_machine.specs.Picks.{select}
 use Rattle.random_words.specs.Seeded.{seeded_words}
 use Rattle.manager.specs.Machine.{Machine}
 use Rattle.peer_open.specs.Groups.{Outbound}
 use Rattle.peer_open.specs.Verdicts.{judge, judge_feeler}
 use Rattle.peer_open.specs.declared.opener.TheConstants.{MAX_TRIES}
-use Rattle.peer_open.specs.declared.verdict.Verdict.{Verdict}
-use Rattle.peer_open.specs.declared.verdict.Verdict.TheVariants as verdict
+use Rattle.peer_open.specs.declared.outbound.Verdict.{Verdict}
+use Rattle.peer_open.specs.declared.outbound.Verdict.TheVariants as verdict
 use Rattle.opener_lines.specs.declared.pick.TheConstants.{TRY_WORDS}
 use Rattle.opener_lines.specs.declared.tries.Outcome.{Outcome}
 use Rattle.opener_lines.specs.declared.tries.Outcome.TheVariants.{Taken, GaveUp}

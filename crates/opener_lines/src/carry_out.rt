@@ -11,7 +11,7 @@ ghost use Rattle.opener_lines.specs.Texts.{answer_text, closed_text};
 
 use crate::print::{closed_text, opened_text, tested_text};
 use crate::tries::{Found, find_feeler, find_outbound};
-use crate::{Outcome, Request};
+use crate::{OpenerCommand, Outcome};
 use log_lines::{Command, Reply, put_reply};
 use manager::Manager;
 use net_addr::{Memory, Peer, put_text};
@@ -26,7 +26,7 @@ pub(crate) fn carry_out<H: BuildHasher, L: Ledger>(
     alloc: Global,
     manager: &mut Manager<'_, H>,
     opener: &mut Opener,
-    request: &Request,
+    request: &OpenerCommand,
     out: &mut Vec<u8>,
     steps: &mut Steps<L>,
 ) -> Result<(), Memory>
@@ -42,12 +42,12 @@ pub(crate) fn carry_out<H: BuildHasher, L: Ledger>(
     ensures numbers { manager.new.tables.next_number ≤ manager.old.tables.next_number + 1000 }
 {
     match request {
-        Request::Outbound { seed } => outbound(alloc, manager, opener, *seed, out, steps),
-        Request::Feeler { seed, word } => {
+        OpenerCommand::Outbound { seed } => outbound(alloc, manager, opener, *seed, out, steps),
+        OpenerCommand::Feeler { seed, word } => {
             feeler(alloc, manager, opener, *seed, *word, out, steps)
         }
-        Request::Close { peer } => close(opener, peer, out),
-        Request::Machine(command) => tell(alloc, manager, command, out, steps),
+        OpenerCommand::Close { peer } => close(opener, peer, out),
+        OpenerCommand::Machine(command) => tell(alloc, manager, command, out, steps),
     }
 }
 

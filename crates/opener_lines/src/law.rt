@@ -8,7 +8,7 @@ ghost use Rattle.opener_lines.specs.Grammar.{LineAsks, HasRequestFault};
 ghost use Rattle.opener_lines.specs.Lines.{LineStep};
 ghost use Rattle.opener_lines.specs.State.{Answer, OpenerState, RequestStep};
 ghost use Rattle.opener_lines.specs.Tries.{HasOutcome, Try};
-ghost use Rattle.opener_lines.specs.declared.request.Request.{Request};
+ghost use Rattle.opener_lines.specs.declared.command.OpenerCommand.{OpenerCommand};
 ghost use Rattle.opener_lines.specs.declared.tries.Outcome.{Outcome};
 ghost use Rattle.opener_lines.specs.declared.pick.TheConstants.{TRY_WORDS};
 
@@ -17,12 +17,12 @@ use crate::TRY_WORDS;
 /// A line of an opener's log that is passed over asks for nothing and has no fault. Any other asks
 /// for at most one thing or has at most one fault, and never both.
 pub fn opener_lines_have_one_meaning()
-    ensures request { (line : List ℕ) (a b : Request) → LineAsks line a → LineAsks line b → a ≡ b }
+    ensures request { (line : List ℕ) (a b : OpenerCommand) → LineAsks line a → LineAsks line b → a ≡ b }
     ensures fault { (line : List ℕ) (f g : LineFault) → HasRequestFault line f →
         HasRequestFault line g → f ≡ g }
-    ensures right { (line : List ℕ) (a : Request) (f : LineFault) → LineAsks line a →
+    ensures right { (line : List ℕ) (a : OpenerCommand) (f : LineFault) → LineAsks line a →
         ¬ HasRequestFault line f }
-    ensures passed { (line : List ℕ) (a : Request) → IsPassedOver line → ¬ LineAsks line a }
+    ensures passed { (line : List ℕ) (a : OpenerCommand) → IsPassedOver line → ¬ LineAsks line a }
 {}
 
 /// Whatever a line does, no two open peers are in one group afterwards if none were before.
@@ -34,7 +34,7 @@ pub fn groups_stay_apart()
 /// A peer that is taken was picked by a try from 1 to 100, and by the 31st or a later one if it was
 /// tried less than ten minutes before.
 pub fn tries_are_fair()
-    ensures { (old new : OpenerState) (asked : Request) (answer : Answer) →
+    ensures { (old new : OpenerState) (asked : OpenerCommand) (answer : Answer) →
         RequestStep old asked answer new → IsFair old asked answer }
 {}
 

@@ -9,16 +9,17 @@
 #![tactic(auto)]
 
 mod carry_out;
+mod command;
 mod law;
 mod line;
 mod opener_log;
 mod pick;
 mod print;
 mod read;
-mod request;
 mod tries;
-mod verb;
+mod word;
 
+pub use command::OpenerCommand;
 pub use law::{
     groups_stay_apart, limits, opener_lines_have_one_meaning, tries_are_fair, tries_end_once,
 };
@@ -26,6 +27,5 @@ pub use line::opener_line;
 pub use opener_log::OpenerLog;
 pub use pick::TRY_WORDS;
 pub use read::read_request;
-pub use request::Request;
 pub use tries::Outcome;
-pub use verb::Verb;
+pub use word::OpenerWord;

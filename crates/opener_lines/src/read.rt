@@ -3,10 +3,10 @@ ghost use Rattle.host_io.specs.Lines.{IsPassedOver};
 ghost use Rattle.grammar.specs.declared.fault.LineFault.{LineFault};
 ghost use Rattle.opener_lines.specs.Grammar.{LineAsks, AsksAfter, AsksBy, FaultAfter, FaultBy, HasRequestFault};
 ghost use Rattle.opener_lines.specs.Laws.{no_fault, one_asked, one_fault};
-ghost use Rattle.opener_lines.specs.declared.request.Request.{Request};
+ghost use Rattle.opener_lines.specs.declared.command.OpenerCommand.{OpenerCommand};
 
-use crate::verb::VERBS;
-use crate::{Request, Verb};
+use crate::word::KEYWORDS;
+use crate::{OpenerCommand, OpenerWord};
 use grammar::{
     Between, Grammar, LineFault, LongBetween, OnePeer, Texts, find_keyword, read_fields, read_line,
 };
@@ -17,7 +17,7 @@ use std::alloc::Global;
 pub(crate) struct OpenerLines;
 
 impl<T: Texts> Grammar<T> for OpenerLines {
-    type Said = Request;
+    type Said = OpenerCommand;
 
     ghost says = { AsksAfter };
 
@@ -31,8 +31,8 @@ impl<T: Texts> Grammar<T> for OpenerLines {
 
     ghost right = { no_fault };
 
-    fn read_after(alloc: Global, word: &[u8], rest: T) -> Result<Request, LineFault> {
-        match find_keyword(&VERBS, word) {
+    fn read_after(alloc: Global, word: &[u8], rest: T) -> Result<OpenerCommand, LineFault> {
+        match find_keyword(&KEYWORDS, word) {
             Some(verb) => read_asked(alloc, verb, rest),
             None => Err(LineFault::Word),
         }
@@ -41,10 +41,10 @@ impl<T: Texts> Grammar<T> for OpenerLines {
 
 /// Reads what a line of an opener's log asks for, or returns `None` for a line that is passed over.
 /// The line has no line feed.
-pub fn read_request(alloc: Global, line: &[u8]) -> Result<Option<Request>, LineFault>
+pub fn read_request(alloc: Global, line: &[u8]) -> Result<Option<OpenerCommand>, LineFault>
     ensures passed { result ≡ Ok None ↔ IsPassedOver line.now }
     ensures found { IfOk result (λ read. IfSome read (λ asked. LineAsks line.now asked)) }
-    ensures only { (asked : Request) → LineAsks line.now asked →
+    ensures only { (asked : OpenerCommand) → LineAsks line.now asked →
         (result ≡ Ok (Some asked)) ⊎ (result ≡ Err LineFault.Memory) }
     ensures fault { (f : LineFault) → result ≡ Err f → f ≢ LineFault.Memory →
         HasRequestFault line.now f }
@@ -54,31 +54,35 @@ pub fn read_request(alloc: Global, line: &[u8]) -> Result<Option<Request>, LineF
     read_line::<OpenerLines>(alloc, line)
 }
 
-/// Reads the fields after a verb.
-fn read_asked<T: Texts>(alloc: Global, verb: Verb, rest: T) -> Result<Request, LineFault>
+/// Reads the fields after a keyword.
+fn read_asked<T: Texts>(
+    alloc: Global,
+    verb: OpenerWord,
+    rest: T,
+) -> Result<OpenerCommand, LineFault>
     ensures found { IfOk result (AsksBy (Some verb) (T.texts rest)) }
     ensures fault { (f : LineFault) → result ≡ Err f → f ≢ LineFault.Memory →
         FaultBy (Some verb) (T.texts rest) f }
 {
     match verb {
-        Verb::Outbound => {
+        OpenerWord::Outbound => {
             let (seed, ()) = read_fields::<T, (Between<0, { u32::MAX }>, ())>(alloc, rest)?;
-            Ok(Request::Outbound { seed })
+            Ok(OpenerCommand::Outbound { seed })
         }
-        Verb::Feeler => {
+        OpenerWord::Feeler => {
             let (seed, (word, ())) = read_fields::<
                 T,
                 (Between<0, { u32::MAX }>, (LongBetween<0, { u64::MAX }>, ())),
             >(alloc, rest)?;
-            Ok(Request::Feeler { seed, word })
+            Ok(OpenerCommand::Feeler { seed, word })
         }
-        Verb::Close => {
+        OpenerWord::Close => {
             let (peer, ()) = read_fields::<T, (OnePeer, ())>(alloc, rest)?;
-            Ok(Request::Close { peer })
+            Ok(OpenerCommand::Close { peer })
         }
-        Verb::Log(verb) => {
+        OpenerWord::Log(verb) => {
             let command = read_command(alloc, verb, rest)?;
-            Ok(Request::Machine(command))
+            Ok(OpenerCommand::Machine(command))
         }
     }
 }

@@ -6,7 +6,7 @@ use Rattle.net_addr.specs.declared.net.Net.TheVariants.{Ipv4}
 use Rattle.net_addr.specs.declared.peer.Peer.{Peer}
 use Rattle.peer_open.specs.Groups.{Outbound, groups, has_group, is_open, with_peer, without_peer}
 use Rattle.peer_open.specs.Verdicts.{judge, judge_feeler}
-use Rattle.peer_open.specs.declared.verdict.Verdict.TheVariants.{Take, SameGroup, Recent}
+use Rattle.peer_open.specs.declared.outbound.Verdict.TheVariants.{Take, SameGroup, Recent}
 
 abbrev peer : ℕ → ℕ → Peer
 peer first port = record { addr = address Ipv4 (first ∷ 8 ∷ 8 ∷ 8 ∷ []); port = port }

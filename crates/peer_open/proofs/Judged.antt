@@ -5,8 +5,8 @@ use Rattle.std.proofs.lemmas.Bool.{le-leb, leb-true}
 use Rattle.std.proofs.lemmas.Bool.Decides.{Decides-and, Decides-ltb, leb_tells}
 use Rattle.peer_open.specs.Groups.{Outbound, groups, has_group}
 use Rattle.peer_open.specs.Verdicts.{IsTooSoon, is_recent, judge, judge_feeler}
-use Rattle.peer_open.specs.declared.verdict.Verdict.{Verdict}
-use Rattle.peer_open.specs.declared.verdict.Verdict.TheVariants.{Take, SameGroup, Recent}
+use Rattle.peer_open.specs.declared.outbound.Verdict.{Verdict}
+use Rattle.peer_open.specs.declared.outbound.Verdict.TheVariants.{Take, SameGroup, Recent}
 use Rattle.peer_open.proofs.Apart.{has_group-Decides}
 
 is_recent-Decides : (last_try now tries : ℕ) → Decides (is_recent last_try now tries) (IsTooSoon last_try now tries)

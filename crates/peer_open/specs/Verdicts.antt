@@ -3,8 +3,8 @@
 -- are in seconds since 1970; tries are numbered from 1.
 use Rattle.std.specs.Prelude.{ℕ, ◌-◌, ◌<◌, ◌≤◌, List, Bool, ◌&&◌, nat_lt, nat_le, if◌then◌else◌}
 use Rattle.peer_open.specs.Groups.{Outbound, has_group}
-use Rattle.peer_open.specs.declared.verdict.Verdict.{Verdict}
-use Rattle.peer_open.specs.declared.verdict.Verdict.TheVariants.{Take, SameGroup, Recent}
+use Rattle.peer_open.specs.declared.outbound.Verdict.{Verdict}
+use Rattle.peer_open.specs.declared.outbound.Verdict.TheVariants.{Take, SameGroup, Recent}
 
 -- in the first thirty tries, a peer is ruled out if it was last tried less than ten minutes ago; a
 -- last try ahead of the clock counts as one of now

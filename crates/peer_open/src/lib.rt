@@ -10,8 +10,7 @@
 mod law;
 mod opener;
 mod outbound;
-mod verdict;
 
 pub use law::limits;
 pub use opener::{MAX_OUTBOUND, MAX_TRIES, Opener};
-pub use verdict::Verdict;
+pub use outbound::Verdict;

@@ -1,7 +1,7 @@
 ghost use Rattle.std.specs.Prelude.{◌≡◌, ◌<◌, ◌≤◌, ◌↔◌, [], length, Contains, IfOk, IsTrue};
 ghost use Rattle.peer_open.specs.Groups.{AreApart, groups, peers, has_group, is_open, with_peer, without_peer};
 ghost use Rattle.peer_open.specs.Verdicts.{IsTooSoon, judge, judge_feeler, is_recent};
-ghost use Rattle.peer_open.specs.declared.verdict.Verdict as verdict;
+ghost use Rattle.peer_open.specs.declared.outbound.Verdict as verdict;
 
 use crate::Verdict;
 use crate::outbound::Outbound;

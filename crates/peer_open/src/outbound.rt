@@ -6,6 +6,17 @@ use arrayvec::ArrayVec;
 use net_addr::{NetAddr, Peer};
 use std::marker::Model;
 
+/// Whether a node connects to the peer of a try.
+#[derive(Clone, Copy, Debug, PartialEq, Eq)]
+pub enum Verdict {
+    /// Connect to it.
+    Take,
+    /// An open peer has its network group.
+    SameGroup,
+    /// It was tried too recently for an early try.
+    Recent,
+}
+
 /// An open outbound peer, and its network group.
 #[derive(Drop)]
 pub(crate) struct Outbound {

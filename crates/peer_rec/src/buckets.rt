@@ -79,7 +79,7 @@ impl Buckets {
         }
     }
 
-    /// Returns whether there is no bucket.
+    /// Returns `true` if there is no bucket.
     pub fn is_empty(&self) -> bool
         ensures { result ≡ (length self.now == 0) }
     {

@@ -7,26 +7,18 @@
 //! in parts of 2^30.
 #![tactic(auto)]
 
+mod answers;
 mod buckets;
-mod counts;
-mod fate;
 mod file_rec;
-mod good;
 mod law;
-mod picked;
 mod place;
 mod rec;
-mod resolved;
 mod snapshot;
 
+pub use answers::{Counts, Fate, Good, Peers, Picked, Resolved};
 pub use buckets::{Buckets, MAX_LISTS};
-pub use counts::Counts;
-pub use fate::Fate;
 pub use file_rec::{FileRec, FileRecs, MAX_ATTEMPTS};
-pub use good::Good;
 pub use law::limits;
-pub use picked::{Peers, Picked};
 pub use place::Place;
 pub use rec::{Rec, Recs};
-pub use resolved::Resolved;
 pub use snapshot::{MAX_BUCKETS, MAX_NEW, MAX_TRIED, Pairs, Snapshot};

@@ -24,7 +24,7 @@ impl Place {
         }
     }
 
-    /// Returns whether the record is in the tried table.
+    /// Returns `true` if the record is in the tried table.
     pub fn is_tried(&self) -> bool
         ensures { result ≡ tried_by self.now }
     {

@@ -105,7 +105,7 @@ impl Rec {
         }
     }
 
-    /// Returns whether the record is not worth keeping at the time `now`, in seconds since 1970
+    /// Returns `true` if the record is not worth keeping at the time `now`, in seconds since 1970
     /// (`AddrInfo::IsTerrible`).
     pub fn terrible(&self, now: u32) -> bool
         ensures { result ≡ is_terrible self.now now }

@@ -21,7 +21,7 @@ use std::alloc::Global;
 /// Bytes of a file, at most.
 pub const MAX_FILE: usize = 33_554_432;
 
-/// Returns whether both are the same bytes.
+/// Returns `true` if both are the same bytes.
 fn are_same(bytes: &[u8], others: &[u8]) -> bool
     ensures { result ≡ bytes_eq bytes.now others.now }
 {

@@ -1,6 +1,6 @@
 ghost use Rattle.std.specs.Prelude.{◌≡◌, ◌+◌, ◌*◌, ◌≤◌, ◌^◌, length, option_map, ◌/◌};
 ghost use Rattle.table_machine.specs.Picks.{candidate, candidates, first_accepted, first_factor, is_accepted, next_factor, candidates_of, candidates_of_either, select};
-ghost use Rattle.peer_rec.specs.declared.picked.Picked.TheVariants.{Exhausted};
+ghost use Rattle.peer_rec.specs.declared.answers.Picked.TheVariants.{Exhausted};
 
 use crate::bucket::first_candidate;
 use net_addr::NetSet;

@@ -1,4 +1,5 @@
-//! The picture of the tables, an SVG, from the marks of their slots and the groups of their sources.
+//! The picture of the tables, an SVG, from the marks of their slots and the groups of their
+//! sources.
 #![tactic(auto)]
 
 mod head;

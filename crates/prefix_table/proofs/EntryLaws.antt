@@ -7,7 +7,7 @@ use Rattle.std.proofs.lemmas.List.Elements.{All-cons, All-head, All-tail, All-ap
 use Rattle.net_addr.specs.Text.{ipv4_text}
 use Rattle.host_io.specs.Lines.{IsPassedOver}
 use Rattle.prefix_table.specs.Text.{IsRowAddress, IsNumber, IsRowEntry}
-use Rattle.prefix_table.specs.declared.entry.Entry.{Entry}
+use Rattle.prefix_table.specs.declared.line.RowEntry.{RowEntry}
 
 -- a byte that is there is found
 pub not_without : (s : ℕ) (front back : List ℕ) → All (λ c. c ≢ s) (front ++ s ∷ back) → ⊥
@@ -37,7 +37,7 @@ pub has_dot : (address : ℕ) → All (λ c. c ≢ 46) (ipv4_text (to_be_bytes w
 has_dot address none = not_without 46 (decimal (get_or (to_be_bytes w32 address) 0 0)) _ none
 
 -- the parts of a line round its last slash
-pub parts_at_slash : (line before after : List ℕ) (entry : Entry) → line ≡ before ++ 47 ∷ after → All (λ c. c ≢ 47) after → IsRowEntry line entry → IsRowAddress entry.family before entry.address × (after ≡ decimal entry.len ++ 32 ∷ 65 ∷ 83 ∷ decimal entry.asn)
+pub parts_at_slash : (line before after : List ℕ) (entry : RowEntry) → line ≡ before ++ 47 ∷ after → All (λ c. c ≢ 47) after → IsRowEntry line entry → IsRowAddress entry.family before entry.address × (after ≡ decimal entry.len ++ 32 ∷ 65 ∷ 83 ∷ decimal entry.asn)
 parts_at_slash line before after entry cut last is =
     let numbers = decimal entry.len ++ 32 ∷ 65 ∷ 83 ∷ decimal entry.asn in
     let whole : line ≡ is.address ++ 47 ∷ numbers =
@@ -58,20 +58,20 @@ parts_at_space after x y len asn small cut last is =
     around_last-unique 32 x (decimal len) y (65 ∷ 83 ∷ decimal asn) (sym cut ∙ is) last no_space
 
 -- a row's line has a space after its slash
-pub has_space : (line before after : List ℕ) (entry : Entry) → line ≡ before ++ 47 ∷ after → All (λ c. c ≢ 47) after → IsRowEntry line entry → All (λ c. c ≢ 32) after → ⊥
+pub has_space : (line before after : List ℕ) (entry : RowEntry) → line ≡ before ++ 47 ∷ after → All (λ c. c ≢ 47) after → IsRowEntry line entry → All (λ c. c ≢ 32) after → ⊥
 has_space line before after entry cut last is none =
     let parts = parts_at_slash line before after entry cut last is in
     not_without 32 (decimal entry.len) (65 ∷ 83 ∷ decimal entry.asn) (subst (All (λ c. c ≢ 32)) parts.1 none)
 
 -- what the parts of a row's line are
-pub record AreParts (address len asn : List ℕ) (entry : Entry) : Type 0 where
+pub record AreParts (address len asn : List ℕ) (entry : RowEntry) : Type 0 where
   pub is_address : IsRowAddress entry.family address entry.address
   pub is_len : len ≡ decimal entry.len
   pub small_len : entry.len ≤ 9999999999
   pub is_asn : asn ≡ codes "AS" ++ decimal entry.asn
   pub small_asn : entry.asn ≤ 9999999999
 
-pub parts_of : (line address numbers len asn : List ℕ) (entry : Entry) → line ≡ address ++ 47 ∷ numbers → All (λ c. c ≢ 47) numbers → numbers ≡ len ++ 32 ∷ asn → All (λ c. c ≢ 32) asn → IsRowEntry line entry → AreParts address len asn entry
+pub parts_of : (line address numbers len asn : List ℕ) (entry : RowEntry) → line ≡ address ++ 47 ∷ numbers → All (λ c. c ≢ 47) numbers → numbers ≡ len ++ 32 ∷ asn → All (λ c. c ≢ 32) asn → IsRowEntry line entry → AreParts address len asn entry
 parts_of line address numbers len asn entry cut last cut' last' is =
     let at_slash = parts_at_slash line address numbers entry cut last is in
     let at_space = parts_at_space numbers len asn entry.len entry.asn (omega (arith, is.is_asn.0)) cut' last' at_slash.1 in
@@ -84,7 +84,7 @@ parts_of line address numbers len asn entry cut last cut' last' is =
     }
 
 -- parts of this form are a row's line
-pub entry_from : (line address numbers len asn digits : List ℕ) (entry : Entry) → (IsPassedOver line → ⊥) → line ≡ address ++ 47 ∷ numbers → numbers ≡ len ++ 32 ∷ asn → asn ≡ codes "AS" ++ digits → IsRowAddress entry.family address entry.address → IsNumber len entry.len → IsNumber digits entry.asn → IsRowEntry line entry
+pub entry_from : (line address numbers len asn digits : List ℕ) (entry : RowEntry) → (IsPassedOver line → ⊥) → line ≡ address ++ 47 ∷ numbers → numbers ≡ len ++ 32 ∷ asn → asn ≡ codes "AS" ++ digits → IsRowAddress entry.family address entry.address → IsNumber len entry.len → IsNumber digits entry.asn → IsRowEntry line entry
 entry_from line address numbers len asn digits entry not_passed cut cut' tag is_address is_len is_asn = record {
   not_passed_over = not_passed;
   address = address;

@@ -3,8 +3,8 @@ use Rattle.std.proofs.Common.{◌≡◌, true, false, List, [], ◌∷◌, refl}
 use Rattle.prefix_table.specs.Rows.{row_covers, longest, best}
 use Rattle.prefix_table.specs.Text.{row_of}
 use Rattle.prefix_table.specs.Print.{is_mapped, entry_of}
-use Rattle.prefix_table.specs.declared.row.Row.{Row}
-use Rattle.prefix_table.specs.declared.entry.Family.TheVariants.{Ipv4}
+use Rattle.prefix_table.specs.declared.rows.Row.{Row}
+use Rattle.prefix_table.specs.declared.line.Family.TheVariants.{Ipv4}
 
 -- 1.0.0.0/8, 1.2.0.0/16 and ::/0
 abbrev wide : Row

@@ -5,7 +5,7 @@ use Rattle.std.proofs.lemmas.Bool.Decides.{nat_tests}
 use Rattle.std.proofs.Math.Nat.{eq-or-lt_of_le}
 use Rattle.prefix_table.specs.Rows.{Precedes}
 use Rattle.prefix_table.specs.Inside.{precedes}
-use Rattle.prefix_table.specs.declared.row.Row.{Row}
+use Rattle.prefix_table.specs.declared.rows.Row.{Row}
 
 precedes_by : (ab al bb bl : ℕ) → nat_lt ab bb || (nat_eq ab bb && nat_lt al bl) ≡ true → (ab < bb) ⊎ ((ab ≡ bb) × (al < bl))
 precedes_by ab al bb bl h = grind (arith, nat_tests)

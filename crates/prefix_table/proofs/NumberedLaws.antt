@@ -9,9 +9,9 @@ use Rattle.prefix_table.specs.Rows.{IsRow}
 use Rattle.host_io.specs.Lines.{IsPassedOver}
 use Rattle.prefix_table.specs.Text.{IsRowLine, IsRowAddress, AreLines, width, address_bits}
 use Rattle.prefix_table.specs.Numbered.{row_in, AreNumbered}
-use Rattle.prefix_table.specs.declared.row.Row.{Row}
-use Rattle.prefix_table.specs.declared.entry.Family.{Family}
-use Rattle.prefix_table.specs.declared.entry.Family.TheVariants.{Ipv4, Ipv6}
+use Rattle.prefix_table.specs.declared.rows.Row.{Row}
+use Rattle.prefix_table.specs.declared.line.Family.{Family}
+use Rattle.prefix_table.specs.declared.line.Family.TheVariants.{Ipv4, Ipv6}
 use Rattle.prefix_table.specs.declared.numbered.NumberedRow.{NumberedRow}
 
 pub Contains-nil : {X : Type 0} (y : X) → Contains [] y → ⊥

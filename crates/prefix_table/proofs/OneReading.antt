@@ -11,8 +11,8 @@ use Rattle.prefix_table.specs.Rows.{IsTable, Precedes, SamePrefix}
 use Rattle.host_io.specs.Lines.{IsPassedOver, lines_of}
 use Rattle.prefix_table.specs.Text.{IsRowLine, IsInRange, IsClear, AreLines, IsTableText, IsFault, HasRowFault, row_of}
 use Rattle.prefix_table.specs.Numbered.{IsSettled}
-use Rattle.prefix_table.specs.declared.row.Row.{Row}
-use Rattle.prefix_table.specs.declared.row.TheConstants.{MAX_ROWS}
+use Rattle.prefix_table.specs.declared.rows.Row.{Row}
+use Rattle.prefix_table.specs.declared.rows.TheConstants.{MAX_ROWS}
 use Rattle.prefix_table.specs.declared.fault.TableFault.{TableFault}
 use Rattle.prefix_table.specs.declared.fault.TableFault.TheVariants.{Form, Number, HostBits, Repeated, TooMany, TooLarge, Memory}
 use Rattle.prefix_table.proofs.NumberedLaws.{Contains-nil, Contains-one}

@@ -8,7 +8,7 @@ use Rattle.std.proofs.lemmas.List.{get_or_default}
 use Rattle.std.proofs.lemmas.Bool.Decides.{nat_tests}
 use Rattle.prefix_table.specs.Rows.{Precedes}
 use Rattle.prefix_table.specs.Inside.{is_up_to}
-use Rattle.prefix_table.specs.declared.row.Row.{Row}
+use Rattle.prefix_table.specs.declared.rows.Row.{Row}
 
 -- a row before one that is up to these bits and this length is so too
 up_to_before : (ab al bb bl bits len : ℕ) → (ab < bb) ⊎ ((ab ≡ bb) × (al < bl)) → nat_lt bb bits || (nat_eq bb bits && nat_le bl len) ≡ true → nat_lt ab bits || (nat_eq ab bits && nat_le al len) ≡ true

@@ -10,7 +10,7 @@ use Rattle.bit_code.specs.Coder.{digits, number_of}
 use Rattle.bit_code.specs.Prefixes.{begins_with}
 use Rattle.bit_code.proofs.DigitLaws.{length-digits, digits_above, number_of-digits}
 use Rattle.bit_code.proofs.PrefixLaws.{begins_cut, begins_self, begins_more, begins_long, same_tests}
-use Rattle.prefix_table.specs.declared.row.Row.{Row}
+use Rattle.prefix_table.specs.declared.rows.Row.{Row}
 use Rattle.prefix_table.specs.Rows.{path, first_bits, row_covers, longest, best, number_at, IsRow, IsTable, Precedes}
 use Rattle.prefix_table.proofs.Items.{contains_cons, contains_head, cons_cases, filter_same}
 

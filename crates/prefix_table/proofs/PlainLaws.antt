@@ -13,8 +13,8 @@ use Rattle.prefix_table.specs.Rows.{IsRow, SamePrefix, Precedes}
 use Rattle.host_io.specs.Lines.{IsPassedOver, lines_of}
 use Rattle.prefix_table.specs.Text.{IsTableText, IsRowLine, AreLines, HasRowFault, HasNoTable}
 use Rattle.prefix_table.specs.Numbered.{IsSettled, row_in, with_line, AreAllRows, StopsAt, Overflows}
-use Rattle.prefix_table.specs.declared.row.Row.{Row}
-use Rattle.prefix_table.specs.declared.row.TheConstants.{MAX_ROWS}
+use Rattle.prefix_table.specs.declared.rows.Row.{Row}
+use Rattle.prefix_table.specs.declared.rows.TheConstants.{MAX_ROWS}
 use Rattle.prefix_table.specs.declared.numbered.NumberedRow.{NumberedRow}
 use Rattle.prefix_table.specs.declared.fault.TableFault.{TableFault}
 use Rattle.prefix_table.proofs.NumberedLaws.{numbered_lines, numbered_rows}

@@ -16,11 +16,11 @@ use Rattle.prefix_table.specs.Rows.{IsRow, IsTable}
 use Rattle.host_io.specs.Lines.{IsPassedOver, lines_of, onto_first}
 use Rattle.prefix_table.specs.Text.{IsRowAddress, IsInRange, IsRowLine, AreLines, IsTableText, row_of, width}
 use Rattle.prefix_table.specs.Print.{is_mapped, ipv4_entry, ipv6_entry, entry_of, text_by, address_text, entry_text, row_text, table_text}
-use Rattle.prefix_table.specs.declared.row.Row.{Row}
-use Rattle.prefix_table.specs.declared.row.TheConstants.{MAX_ASN}
-use Rattle.prefix_table.specs.declared.entry.Entry.{Entry}
-use Rattle.prefix_table.specs.declared.entry.Family.{Family}
-use Rattle.prefix_table.specs.declared.entry.Family.TheVariants.{Ipv4, Ipv6}
+use Rattle.prefix_table.specs.declared.rows.Row.{Row}
+use Rattle.prefix_table.specs.declared.rows.TheConstants.{MAX_ASN}
+use Rattle.prefix_table.specs.declared.line.RowEntry.{RowEntry}
+use Rattle.prefix_table.specs.declared.line.Family.{Family}
+use Rattle.prefix_table.specs.declared.line.Family.TheVariants.{Ipv4, Ipv6}
 
 -- a line and its line feed before other text
 lines-line : (line rest : List ℕ) → All (λ b. b ≢ 10) line → lines_of (line ++ 10 ∷ rest) ≡ line ∷ lines_of rest
@@ -74,7 +74,7 @@ regroup : (a l n : List ℕ) → a ++ codes "/" ++ l ++ codes " AS" ++ n ≡ a +
 regroup a l n = simp append_assoc
 
 -- a printed entry is one line, and no comment
-entry-line : (entry : Entry) → entry.len < 2 ^ 64 → entry.asn < 2 ^ 64 → All (λ b. b ≢ 10) (entry_text entry) × (IsPassedOver (entry_text entry) → ⊥)
+entry-line : (entry : RowEntry) → entry.len < 2 ^ 64 → entry.asn < 2 ^ 64 → All (λ b. b ≢ 10) (entry_text entry) × (IsPassedOver (entry_text entry) → ⊥)
 entry-line entry hl ha =
     let address = address_text entry in
     let high = address-high entry.family entry.address in
@@ -87,7 +87,7 @@ entry-line entry hl ha =
     (subst (All (λ b. b ≢ 10)) (sym e) whole, λ passed. not_comment address numbers high (subst IsPassedOver e passed))
 
 -- what holds of the row in either form
-abbrev EntryFits : Row → Entry → Type 0
+abbrev EntryFits : Row → RowEntry → Type 0
 EntryFits row entry = IsInRange entry × (row ≡ row_of entry)
 
 abbrev pub row_with : ℕ → ℕ → ℕ → Row
@@ -116,7 +116,7 @@ len_small Ipv4 len h = omega arith
 len_small Ipv6 len h = h
 
 -- how long the prefix and how large the number of a printed row are
-pub record SmallEntry (entry : Entry) : Type 0 where
+pub record SmallEntry (entry : RowEntry) : Type 0 where
   pub len : entry.len ≤ 128
   pub most : entry.asn ≤ MAX_ASN
 

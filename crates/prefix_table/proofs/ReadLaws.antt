@@ -10,8 +10,8 @@ use Rattle.prefix_table.specs.Rows.{IsRow, SamePrefix, Precedes}
 use Rattle.host_io.specs.Lines.{lines_of}
 use Rattle.prefix_table.specs.Text.{IsTableText, IsFault, HasRowFault}
 use Rattle.prefix_table.specs.Numbered.{IsSettled, row_in, AreNumbered, NotAfter, IsRepeatAt, IsWhole, StopsAt, Overflows, IsReadingOf}
-use Rattle.prefix_table.specs.declared.row.Row.{Row}
-use Rattle.prefix_table.specs.declared.row.TheConstants.{MAX_ROWS}
+use Rattle.prefix_table.specs.declared.rows.Row.{Row}
+use Rattle.prefix_table.specs.declared.rows.TheConstants.{MAX_ROWS}
 use Rattle.prefix_table.specs.declared.numbered.NumberedRow.{NumberedRow}
 use Rattle.prefix_table.specs.declared.fault.TableFault.{TableFault}
 use Rattle.prefix_table.specs.declared.fault.TableFault.TheVariants.{Form, Number, HostBits, Repeated, TooMany, TooLarge, Memory}

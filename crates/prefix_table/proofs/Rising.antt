@@ -2,7 +2,7 @@
 use Rattle.std.proofs.Common.{zero, suc, Bool, true, false, List, [], ◌∷◌, filter, cond, get_or, subst, arith, Contains}
 use Rattle.std.specs.Prelude.{AllPairs}
 use Rattle.std.proofs.lemmas.List.Elements.{Contains-get_or}
-use Rattle.prefix_table.specs.declared.row.Row.{Row}
+use Rattle.prefix_table.specs.declared.rows.Row.{Row}
 use Rattle.prefix_table.specs.Rows.{Precedes}
 use Rattle.prefix_table.proofs.Items.{filter_item}
 

@@ -4,8 +4,8 @@ use Rattle.std.proofs.lemmas.List.Elements.{All-nil, All-push}
 use Rattle.host_io.specs.Lines.{IsPassedOver, lines_of}
 use Rattle.prefix_table.specs.Text.{IsRowLine, HasRowFault}
 use Rattle.prefix_table.specs.Numbered.{IsSettled, row_in, with_line, AreNumbered, IsWhole, StopsAt, Overflows}
-use Rattle.prefix_table.specs.declared.row.Row.{Row}
-use Rattle.prefix_table.specs.declared.row.TheConstants.{MAX_ROWS}
+use Rattle.prefix_table.specs.declared.rows.Row.{Row}
+use Rattle.prefix_table.specs.declared.rows.TheConstants.{MAX_ROWS}
 use Rattle.prefix_table.specs.declared.numbered.NumberedRow.{NumberedRow}
 use Rattle.prefix_table.specs.declared.fault.TableFault.{TableFault}
 

@@ -10,9 +10,9 @@ use Rattle.net_addr.proofs.Words.{from_be_bytes-to_be_bytes_16, AllBytes-high_fi
 use Rattle.net_addr.specs.Text.{IsIpv4Text, IsIpv6Text}
 use Rattle.prefix_table.specs.Text.{IsRowAddress, IsRowEntry}
 use Rattle.prefix_table.specs.Numbered.{IsSettled}
-use Rattle.prefix_table.specs.declared.entry.Entry.{Entry}
-use Rattle.prefix_table.specs.declared.entry.Family.{Family}
-use Rattle.prefix_table.specs.declared.entry.Family.TheVariants.{Ipv4, Ipv6}
+use Rattle.prefix_table.specs.declared.line.RowEntry.{RowEntry}
+use Rattle.prefix_table.specs.declared.line.Family.{Family}
+use Rattle.prefix_table.specs.declared.line.Family.TheVariants.{Ipv4, Ipv6}
 use Rattle.prefix_table.proofs.EntryLaws.{has_dot, decimal-no, parts_at_slash, parts_at_space}
 
 own_bits : (n : ℕ) → n < 2 ^ 32 → n ≡ ipv4_bits (octets_of_bits n)
@@ -35,14 +35,14 @@ address_one text Ipv6 Ipv4 a b is it = absurd (has_dot b (subst (All (λ c. c �
 address_one text Ipv6 Ipv6 a b is it = (refl, ipv6_one text a b is it)
 
 -- a line round its last slash
-record Cut (line : List ℕ) (entry : Entry) (address numbers : List ℕ) : Type 0 where
+record Cut (line : List ℕ) (entry : RowEntry) (address numbers : List ℕ) : Type 0 where
   whole : line ≡ address ++ 47 ∷ numbers
   last : All (λ c. c ≢ 47) numbers
 
-abbrev numbers_of : Entry → List ℕ
+abbrev numbers_of : RowEntry → List ℕ
 numbers_of entry = decimal entry.len ++ 32 ∷ 65 ∷ 83 ∷ decimal entry.asn
 
-cut_of : (line : List ℕ) (entry : Entry) (is : IsRowEntry line entry) → Cut line entry is.address (numbers_of entry)
+cut_of : (line : List ℕ) (entry : RowEntry) (is : IsRowEntry line entry) → Cut line entry is.address (numbers_of entry)
 cut_of line entry is = record {
   whole =
       is.spelled ∙ ap (λ (a : List ℕ). is.address ++ codes "/" ++ is.len ++ codes " AS" ++ a) is.is_asn.1
@@ -54,7 +54,7 @@ cut_of line entry is = record {
     regroup : (a l n : List ℕ) → a ++ codes "/" ++ l ++ codes " AS" ++ n ≡ a ++ 47 ∷ (l ++ 32 ∷ 65 ∷ 83 ∷ n)
     regroup a l n = simp append_assoc
 
-abbrev made : Family → ℕ → ℕ → ℕ → Entry
+abbrev made : Family → ℕ → ℕ → ℕ → RowEntry
 made family address len asn = record { family = family; address = address; len = len; asn = asn }
 
 -- a line is read as one entry at most

@@ -10,11 +10,11 @@ use Rattle.std.proofs.lemmas.List.Elements.{All-head, All-tail}
 use Rattle.prefix_table.specs.Rows.{IsRow, IsTable}
 use Rattle.prefix_table.specs.Print.{text_by, entry_of, entry_text, row_text, table_text}
 use Rattle.prefix_table.specs.declared.read.TheConstants.{MAX_TEXT}
-use Rattle.prefix_table.specs.declared.row.Row.{Row}
-use Rattle.prefix_table.specs.declared.row.TheConstants.{MAX_ASN}
-use Rattle.prefix_table.specs.declared.entry.Entry.{Entry}
-use Rattle.prefix_table.specs.declared.entry.Family.{Family}
-use Rattle.prefix_table.specs.declared.entry.Family.TheVariants.{Ipv4, Ipv6}
+use Rattle.prefix_table.specs.declared.rows.Row.{Row}
+use Rattle.prefix_table.specs.declared.rows.TheConstants.{MAX_ASN}
+use Rattle.prefix_table.specs.declared.line.RowEntry.{RowEntry}
+use Rattle.prefix_table.specs.declared.line.Family.{Family}
+use Rattle.prefix_table.specs.declared.line.Family.TheVariants.{Ipv4, Ipv6}
 use Rattle.prefix_table.proofs.PrintLaws.{row_in_range}
 
 length-hex : (n : ℕ) → length (hex n) ≤ 4
@@ -59,7 +59,7 @@ length-address Ipv6 n =
     let eight : length (segments_of (to_be_bytes w128 n)) ≡ 8 = refl in
     omega (arith, length-hex_groups (segments_of (to_be_bytes w128 n)), eight)
 
-length-entry : (entry : Entry) → entry.len ≤ 128 → entry.asn ≤ MAX_ASN → length (entry_text entry) ≤ 57
+length-entry : (entry : RowEntry) → entry.len ≤ 128 → entry.asn ≤ MAX_ASN → length (entry_text entry) ≤ 57
 length-entry entry len asn =
     let address = text_by entry.family entry.address in
     omega (arith, length-append (address ++ codes "/" ++ decimal entry.len ++ codes " AS") (decimal entry.asn), length-append (address ++ codes "/" ++ decimal entry.len) (codes " AS"), length-append (address ++ codes "/") (decimal entry.len), length-append address (codes "/"), length-address entry.family entry.address, length-decimal-le 3 entry.len (omega arith) (omega (arith, len)) (omega (arith, len)), length-decimal-le 8 entry.asn (omega arith) (omega (arith, asn)) (omega (arith, asn)))

@@ -1,7 +1,7 @@
 -- What only private contracts cite.
 use Rattle.std.specs.Prelude.{◌==◌, ℕ, ◌*◌, ◌-◌, ◌^◌, Bool, nat_lt, nat_le, ◌&&◌, ◌||◌}
 use Rattle.prefix_table.specs.Rows.{first_bits}
-use Rattle.prefix_table.specs.declared.row.Row.{Row}
+use Rattle.prefix_table.specs.declared.rows.Row.{Row}
 
 -- the first `len` of 128 bits, and zeros
 abbrev pub cut : ℕ → ℕ → ℕ

@@ -3,9 +3,9 @@ use Rattle.std.specs.Prelude.{◌≡◌, ◌⊎◌, ℕ, ◌+◌, ◌<◌, ◌�
 use Rattle.prefix_table.specs.Rows.{SamePrefix, Precedes}
 use Rattle.host_io.specs.Lines.{IsPassedOver, lines_of}
 use Rattle.prefix_table.specs.Text.{IsRowEntry, IsRowLine, HasRowFault}
-use Rattle.prefix_table.specs.declared.row.Row.{Row}
-use Rattle.prefix_table.specs.declared.entry.Entry.{Entry}
-use Rattle.prefix_table.specs.declared.row.TheConstants.{MAX_ROWS}
+use Rattle.prefix_table.specs.declared.rows.Row.{Row}
+use Rattle.prefix_table.specs.declared.line.RowEntry.{RowEntry}
+use Rattle.prefix_table.specs.declared.rows.TheConstants.{MAX_ROWS}
 use Rattle.prefix_table.specs.declared.numbered.NumberedRow.{NumberedRow}
 use Rattle.prefix_table.specs.declared.rows.Reading.{Reading}
 use Rattle.prefix_table.specs.declared.fault.TableFault.{TableFault}
@@ -19,7 +19,7 @@ with_line row line = record { bits = row.bits; len = row.len; line = line; asn =
 
 -- the line is read as one entry at most
 abbrev pub IsSettled : List ℕ → Type 0
-IsSettled line = (a b : Entry) → IsRowEntry line a → IsRowEntry line b → a ≡ b
+IsSettled line = (a b : RowEntry) → IsRowEntry line a → IsRowEntry line b → a ≡ b
 
 -- each line is passed over, or is that of a row; these are the rows, if the first line has number n
 unfoldable pub AreNumbered : ℕ → List (List ℕ) → List NumberedRow → Type 0

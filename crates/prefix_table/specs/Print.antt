@@ -2,35 +2,35 @@
 use Rattle.std.specs.Prelude.{◌==◌, ℕ, ◌-◌, ◌/◌, ◌%◌, ◌^◌, Bool, List, [], ◌∷◌, ◌++◌, decimal, codes, flat_map, nat_le, ◌&&◌, if◌then◌else◌}
 use Rattle.std.specs.Int.{w32, w128, to_be_bytes}
 use Rattle.net_addr.specs.Text.{ipv4_text, ipv6_text}
-use Rattle.prefix_table.specs.declared.row.Row.{Row}
-use Rattle.prefix_table.specs.declared.entry.Entry.{Entry}
-use Rattle.prefix_table.specs.declared.entry.Family.{Family}
-use Rattle.prefix_table.specs.declared.entry.Family.TheVariants.{Ipv4, Ipv6}
+use Rattle.prefix_table.specs.declared.rows.Row.{Row}
+use Rattle.prefix_table.specs.declared.line.RowEntry.{RowEntry}
+use Rattle.prefix_table.specs.declared.line.Family.{Family}
+use Rattle.prefix_table.specs.declared.line.Family.TheVariants.{Ipv4, Ipv6}
 
 -- the row is one of mapped addresses, `::ffff:0:0/96` or a part of it
 abbrev pub is_mapped : Row → Bool
 is_mapped row = nat_le 96 row.len && (row.bits / 2 ^ 32 == 65535)
 
-abbrev pub ipv4_entry : Row → Entry
+abbrev pub ipv4_entry : Row → RowEntry
 ipv4_entry row =
     record { family = Ipv4; address = row.bits % 2 ^ 32; len = row.len - 96; asn = row.asn }
 
-abbrev pub ipv6_entry : Row → Entry
+abbrev pub ipv6_entry : Row → RowEntry
 ipv6_entry row = record { family = Ipv6; address = row.bits; len = row.len; asn = row.asn }
 
 -- what is printed of a row: the IPv4 form if it has one
-abbrev pub entry_of : Row → Entry
+abbrev pub entry_of : Row → RowEntry
 entry_of row = if is_mapped row then ipv4_entry row else ipv6_entry row
 
 abbrev pub text_by : Family → ℕ → List ℕ
 text_by Ipv4 address = ipv4_text (to_be_bytes w32 address)
 text_by Ipv6 address = ipv6_text (to_be_bytes w128 address)
 
-abbrev pub address_text : Entry → List ℕ
+abbrev pub address_text : RowEntry → List ℕ
 address_text entry = text_by entry.family entry.address
 
 -- an address, a slash, the length, a space, `AS` and the number
-abbrev pub entry_text : Entry → List ℕ
+abbrev pub entry_text : RowEntry → List ℕ
 entry_text entry =
     address_text entry ++ codes "/" ++ decimal entry.len ++ codes " AS" ++ decimal entry.asn
 

@@ -3,8 +3,8 @@ use Rattle.std.specs.Prelude.{◌≡◌, ◌==◌, ◌⊎◌, ℕ, ◌-◌, ◌/
 use Rattle.std.specs.Option.{option_map_or}
 use Rattle.bit_code.specs.Coder.{digits}
 use Rattle.bit_code.specs.Prefixes.{begins_with}
-use Rattle.prefix_table.specs.declared.row.Row.{Row}
-use Rattle.prefix_table.specs.declared.row.TheConstants.{MAX_ASN, MAX_ROWS}
+use Rattle.prefix_table.specs.declared.rows.Row.{Row}
+use Rattle.prefix_table.specs.declared.rows.TheConstants.{MAX_ASN, MAX_ROWS}
 
 -- the first `len` of 128 bits, as a number (RFC 4291, section 2.3, and RFC 4632, section 3.1)
 abbrev pub first_bits : ℕ → ℕ → ℕ

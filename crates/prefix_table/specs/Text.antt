@@ -3,11 +3,11 @@ use Rattle.std.specs.Prelude.{◌≡◌, ◌⊎◌, ℕ, ◌+◌, ◌-◌, ◌*�
 use Rattle.host_io.specs.Lines.{IsPassedOver, lines_of}
 use Rattle.net_addr.specs.Text.{IsIpv4Text, IsIpv6Text}
 use Rattle.prefix_table.specs.Rows.{IsTable, SamePrefix}
-use Rattle.prefix_table.specs.declared.row.Row.{Row}
-use Rattle.prefix_table.specs.declared.row.TheConstants.{MAX_ASN, MAX_ROWS}
-use Rattle.prefix_table.specs.declared.entry.Entry.{Entry}
-use Rattle.prefix_table.specs.declared.entry.Family.{Family}
-use Rattle.prefix_table.specs.declared.entry.Family.TheVariants.{Ipv4, Ipv6}
+use Rattle.prefix_table.specs.declared.rows.Row.{Row}
+use Rattle.prefix_table.specs.declared.rows.TheConstants.{MAX_ASN, MAX_ROWS}
+use Rattle.prefix_table.specs.declared.line.RowEntry.{RowEntry}
+use Rattle.prefix_table.specs.declared.line.Family.{Family}
+use Rattle.prefix_table.specs.declared.line.Family.TheVariants.{Ipv4, Ipv6}
 use Rattle.prefix_table.specs.declared.fault.TableFault.{TableFault}
 use Rattle.prefix_table.specs.declared.fault.TableFault.TheVariants.{Form, Number, HostBits, Repeated, TooMany, TooLarge, Memory}
 
@@ -33,7 +33,7 @@ IsNumber text n = (n < 10 ^ 10) × (text ≡ decimal n)
 
 -- the line is not passed over and has the form of a row: an address, a slash, a length, a space,
 -- `AS` and a number
-pub record IsRowEntry (line : List ℕ) (entry : Entry) : Type 0 where
+pub record IsRowEntry (line : List ℕ) (entry : RowEntry) : Type 0 where
   pub not_passed_over : IsPassedOver line → ⊥
   pub address : List ℕ
   pub len : List ℕ
@@ -44,13 +44,13 @@ pub record IsRowEntry (line : List ℕ) (entry : Entry) : Type 0 where
   pub spelled : line ≡ address ++ codes "/" ++ len ++ codes " AS" ++ asn
 
 -- its numbers are in their ranges
-pub record IsInRange (entry : Entry) : Type 0 where
+pub record IsInRange (entry : RowEntry) : Type 0 where
   pub len : entry.len ≤ width entry.family
   pub some : 1 ≤ entry.asn
   pub most : entry.asn ≤ MAX_ASN
 
 -- the row of a line
-abbrev pub row_of : Entry → Row
+abbrev pub row_of : RowEntry → Row
 row_of entry =
     record {
       bits = address_bits entry.family entry.address;
@@ -64,7 +64,7 @@ IsClear row = row.bits % 2 ^ (128 - row.len) ≡ 0
 
 -- the line is that of the row
 pub record IsRowLine (line : List ℕ) (row : Row) : Type 0 where
-  pub entry : Entry
+  pub entry : RowEntry
   pub is_entry : IsRowEntry line entry
   pub in_range : IsInRange entry
   pub clear : IsClear row
@@ -97,17 +97,17 @@ HasNoTable text = (rows : List Row) → IsTableText text rows → ⊥
 -- the line is neither passed over nor of the form of a row
 pub record HasNoForm (line : List ℕ) : Type 0 where
   pub not_passed_over : IsPassedOver line → ⊥
-  pub no_entry : (entry : Entry) → IsRowEntry line entry → ⊥
+  pub no_entry : (entry : RowEntry) → IsRowEntry line entry → ⊥
 
 -- the line has the form of a row, and a number is out of range
 pub record IsOutOfRange (line : List ℕ) : Type 0 where
-  pub entry : Entry
+  pub entry : RowEntry
   pub is_entry : IsRowEntry line entry
   pub out : IsInRange entry → ⊥
 
 -- a bit is set after the prefix
 pub record HasHostBits (line : List ℕ) : Type 0 where
-  pub entry : Entry
+  pub entry : RowEntry
   pub is_entry : IsRowEntry line entry
   pub in_range : IsInRange entry
   pub set : IsClear (row_of entry) → ⊥

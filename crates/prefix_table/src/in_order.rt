@@ -5,21 +5,21 @@ ghost use Rattle.prefix_table.specs.Inside.{precedes};
 use crate::line::is_clear;
 use crate::{MAX_ASN, MAX_ROWS, Row};
 
-/// Returns whether the rows are those of a table.
+/// Returns `true` if the rows are those of a table.
 pub(crate) fn is_table(rows: &[Row]) -> bool
     ensures { IsTrue result ↔ IsTable rows.now }
 {
     rows.len() <= MAX_ROWS && each_is_row(rows) && rises(rows)
 }
 
-/// Returns whether a table may have each of the rows.
+/// Returns `true` if a table may have each of the rows.
 fn each_is_row(rows: &[Row]) -> bool
     ensures { IsTrue result ↔ All IsRow rows.now }
 {
     rows.iter().all(|row| is_row(*row))
 }
 
-/// Returns whether a table may have the row.
+/// Returns `true` if a table may have the row.
 fn is_row(row: Row) -> bool
     ensures { IsTrue result ↔ IsRow row }
 {
@@ -29,7 +29,7 @@ fn is_row(row: Row) -> bool
     is_clear(&row)
 }
 
-/// Returns whether the rows rise strictly by bits and then by length.
+/// Returns `true` if the rows rise strictly by bits and then by length.
 pub(crate) fn rises(rows: &[Row]) -> bool
     ensures { IsTrue result ↔ AllPairs Precedes rows.now }
 {
@@ -41,7 +41,7 @@ pub(crate) fn rises(rows: &[Row]) -> bool
     true
 }
 
-/// Returns whether row `a` comes before row `b` in a table.
+/// Returns `true` if row `a` comes before row `b` in a table.
 fn precedes(a: Row, b: Row) -> bool
     ensures { result ≡ precedes a b }
 {

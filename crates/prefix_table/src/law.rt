@@ -1,6 +1,6 @@
 ghost use Rattle.std.specs.Prelude.{◌≡◌, ℕ, List};
 ghost use Rattle.prefix_table.specs.Text.{IsTableText, IsFault};
-ghost use Rattle.prefix_table.specs.declared.row.Row.{Row};
+ghost use Rattle.prefix_table.specs.declared.rows.Row.{Row};
 ghost use Rattle.prefix_table.specs.declared.fault.TableFault.{TableFault};
 
 /// No text is that of two tables or has two faults, and the text of a table has none.

@@ -17,7 +17,6 @@
 //! by one row.
 #![tactic(auto)]
 
-mod entry;
 mod fault;
 mod in_order;
 mod law;
@@ -27,7 +26,6 @@ mod numbered;
 mod print;
 mod read;
 mod repeats;
-mod row;
 mod rows;
 mod search;
 mod table;
@@ -37,6 +35,6 @@ pub use law::texts_have_one_meaning;
 pub use memory::Memory;
 pub use print::{ROW_ROOM, put_prefix, put_table, row_text};
 pub use read::{MAX_TEXT, read_table};
-pub use row::{MAX_ASN, MAX_ROWS, Row};
+pub use rows::{MAX_ASN, MAX_ROWS, Row};
 pub use search::common_bits;
 pub use table::Table;

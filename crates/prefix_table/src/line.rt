@@ -2,14 +2,33 @@ ghost use Rattle.std.specs.Prelude.{◌≡◌, ℕ, ◌+◌, ◌<◌, ◌≤◌,
 ghost use Rattle.host_io.specs.Lines.{IsPassedOver};
 ghost use Rattle.prefix_table.specs.Text.{HasRowFault, IsRowAddress, IsRowEntry, IsInRange, IsClear, IsRowLine, row_of, width};
 ghost use Rattle.prefix_table.specs.Numbered.{IsSettled};
-ghost use Rattle.prefix_table.specs.declared.entry.Entry.{Entry};
-ghost use Rattle.prefix_table.specs.declared.entry.Family.{Family};
+ghost use Rattle.prefix_table.specs.declared.line.RowEntry.{RowEntry};
+ghost use Rattle.prefix_table.specs.declared.line.Family.{Family};
 
-use crate::entry::{Entry, Family};
 use crate::search::cut;
 use crate::{MAX_ASN, Row, TableFault};
 use host_io::is_passed_over;
 use net_addr::{around_last, parse_ipv4, parse_ipv6, parse_number};
+
+/// The family of an address in a row's line.
+#[derive(Clone, Copy)]
+pub enum Family {
+    Ipv4,
+    Ipv6,
+}
+
+/// What a row's line says, before its numbers are tested.
+#[derive(Clone, Copy)]
+pub struct RowEntry {
+    /// The family of the address.
+    pub family: Family,
+    /// The address as a number, an IPv4 address below 2^32.
+    pub address: u128,
+    /// The length of the prefix in bits.
+    pub len: u64,
+    /// The number of the AS.
+    pub asn: u64,
+}
 
 /// The largest number of ten digits.
 const MAX_NUMBER: u64 = 9_999_999_999;
@@ -38,17 +57,17 @@ pub(crate) fn read_line(text: &[u8], line: u32) -> Result<Option<Row>, TableFaul
 }
 
 /// Returns what the line says, or `None` if it does not have the form of a row.
-fn read_entry(line: &[u8]) -> Option<Entry>
+fn read_entry(line: &[u8]) -> Option<RowEntry>
     requires { IsPassedOver line.now → ⊥ }
     ensures found { IfSome result (IsRowEntry line.now) }
     ensures address { IfSome result (λ entry. entry.address < 2 ^ width entry.family) }
-    ensures only { (entry : Entry) → IsRowEntry line.now entry → result ≡ Some entry }
+    ensures only { (entry : RowEntry) → IsRowEntry line.now entry → result ≡ Some entry }
 {
     let (address, numbers) = around_last(line, b'/')?;
     let (len, asn) = around_last(numbers, b' ')?;
     let digits = asn.strip_prefix(b"AS")?;
     let (family, address) = read_address(address)?;
-    Some(Entry {
+    Some(RowEntry {
         family,
         address,
         len: parse_number(len, MAX_NUMBER)?,
@@ -69,8 +88,8 @@ fn read_address(text: &[u8]) -> Option<(Family, u128)>
     Some((Family::Ipv6, parse_ipv6(text)?))
 }
 
-/// Returns whether the length fits the family and an asmap can encode the AS number.
-fn is_in_range(entry: &Entry) -> bool
+/// Returns `true` if the length fits the family and an asmap can encode the AS number.
+fn is_in_range(entry: &RowEntry) -> bool
     ensures { IsTrue result ↔ IsInRange entry.now }
 {
     let width = match entry.family {
@@ -81,7 +100,7 @@ fn is_in_range(entry: &Entry) -> bool
 }
 
 /// Returns the row of an entry. IPv4 is mapped to IPv6, so its length grows by 96.
-fn row_of(entry: &Entry) -> Row
+fn row_of(entry: &RowEntry) -> Row
     requires address { entry.now.address < 2 ^ width entry.now.family }
     requires in_range { IsInRange entry.now }
     ensures { result ≡ row_of entry.now }
@@ -97,7 +116,7 @@ fn row_of(entry: &Entry) -> Row
     }
 }
 
-/// Returns whether no bit is set after the prefix.
+/// Returns `true` if no bit is set after the prefix.
 pub(crate) fn is_clear(row: &Row) -> bool
     requires { row.now.len ≤ 128 }
     ensures { IsTrue result ↔ IsClear row.now }

@@ -31,7 +31,7 @@ impl NumberedRow {
         }
     }
 
-    /// Returns whether the two rows have the same prefix.
+    /// Returns `true` if the two rows have the same prefix.
     pub(crate) fn is_same_prefix(&self, other: &NumberedRow) -> bool
         ensures { IsTrue result ↔ SamePrefix (row_in self.now) (row_in other.now) }
     {

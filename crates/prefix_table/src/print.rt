@@ -5,7 +5,7 @@ ghost use Rattle.prefix_table.specs.Text.{IsTableText, IsRowAddress, width};
 ghost use Rattle.prefix_table.specs.declared.read.TheConstants.{MAX_TEXT};
 ghost use Rattle.prefix_table.specs.Print.{entry_of, address_text, prefix_text, row_text, table_text};
 
-use crate::entry::{Entry, Family};
+use crate::line::{Family, RowEntry};
 use crate::{Memory, Row, Table};
 use arrayvec::ArrayVec;
 use itoa::Buffer;
@@ -100,7 +100,7 @@ fn prefix_text(row: &Row) -> ArrayVec<u8, ROW_ROOM>
 }
 
 /// Returns the address of an entry.
-fn address_text(entry: &Entry) -> ArrayVec<u8, ROW_ROOM>
+fn address_text(entry: &RowEntry) -> ArrayVec<u8, ROW_ROOM>
     requires { entry.now.address < 2 ^ width entry.now.family }
     ensures text { result.items ≡ address_text entry.now }
     ensures short { array_vec_len result ≤ 39 }
@@ -115,21 +115,21 @@ fn address_text(entry: &Entry) -> ArrayVec<u8, ROW_ROOM>
 }
 
 /// Returns how the row is printed.
-fn entry_of(row: &Row) -> Entry
+fn entry_of(row: &Row) -> RowEntry
     requires { row.now.bits < 2 ^ 128 }
     ensures value { result ≡ entry_of row.now }
     ensures address { result.address < 2 ^ width result.family }
 {
     let asn = u64::from(row.asn);
     if row.len >= 96 && row.bits >> 32 == 0xffff {
-        Entry {
+        RowEntry {
             family: Family::Ipv4,
             address: row.bits & 0xffff_ffff,
             len: u64::from(row.len - 96),
             asn,
         }
     } else {
-        Entry {
+        RowEntry {
             family: Family::Ipv6,
             address: row.bits,
             len: u64::from(row.len),

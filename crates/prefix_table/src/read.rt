@@ -1,7 +1,7 @@
 ghost use Rattle.std.specs.Prelude.{◌≡◌, ◌≤◌, ◌⊎◌, List, length, IfOk, IfErr, IfSome, IfNone, IsErrAnd, MatchResult};
 ghost use Rattle.prefix_table.specs.Text.{IsTableText, IsFault, HasNoTable};
-ghost use Rattle.prefix_table.specs.declared.row.Row.{Row};
-ghost use Rattle.prefix_table.specs.declared.row.TheConstants.{MAX_ASN, MAX_ROWS};
+ghost use Rattle.prefix_table.specs.declared.rows.Row.{Row};
+ghost use Rattle.prefix_table.specs.declared.rows.TheConstants.{MAX_ASN, MAX_ROWS};
 ghost use Rattle.prefix_table.specs.declared.fault.TableFault.{TableFault};
 ghost use Rattle.prefix_table.specs.declared.fault.TableFault.TheVariants as faults;
 

@@ -2,13 +2,32 @@ ghost use Rattle.std.specs.Prelude.{◌≡◌, ◌<◌, ◌≤◌, true, false, 
 ghost use Rattle.prefix_table.specs.Numbered.{IsReading, AreAllRows};
 ghost use Rattle.prefix_table.specs.Text.{HasNoTable};
 ghost use Rattle.prefix_table.specs.declared.read.TheConstants.{MAX_TEXT};
-ghost use Rattle.prefix_table.specs.declared.row.TheConstants.{MAX_ROWS};
+ghost use Rattle.prefix_table.specs.declared.rows.TheConstants.{MAX_ROWS};
 
+use crate::TableFault;
 use crate::line::read_line;
 use crate::numbered::NumberedRow;
-use crate::{MAX_ROWS, Row, TableFault};
 use host_io::split_line;
 use std::alloc::{AllocError, Global};
+
+/// The largest AS number that an asmap can encode (`ASN_BIT_SIZES` in util/asmap.cpp of Bitcoin
+/// Core).
+pub const MAX_ASN: u32 = 33_521_664;
+
+/// The maximum number of rows of a table. This limit is our own.
+pub const MAX_ROWS: usize = 2_000_000;
+
+/// The addresses that begin with a prefix belong to an AS. An IPv4 prefix is one of mapped
+/// addresses, `::ffff:0:0/96`. The order is that of the rows of a table.
+#[derive(Clone, Copy, Debug, PartialEq, Eq, PartialOrd, Ord)]
+pub struct Row {
+    /// The bits of the prefix as the high bits of an address; the others are zero.
+    pub bits: u128,
+    /// The length of the prefix in bits, at most 128.
+    pub len: u8,
+    /// The number of the AS, from 1 to `MAX_ASN`.
+    pub asn: u32,
+}
 
 /// The rows of a text in the order of its lines, up to the first line with a fault of its own,
 /// or up to one row more than a table has. Prefixes may repeat.
@@ -78,7 +97,7 @@ pub(crate) fn read_rows(alloc: Global, text: &[u8]) -> Result<Reading, AllocErro
     Ok(Reading { rows, fault: None })
 }
 
-/// Returns whether there are more rows than a table has.
+/// Returns `true` if there are more rows than a table has.
 fn is_too_many(count: usize) -> bool
     ensures many { result ≡ true → MAX_ROWS < count }
     ensures few { result ≡ false → count ≤ MAX_ROWS }

@@ -2,7 +2,7 @@ ghost use Rattle.std.specs.Prelude.{◌≡◌, ℕ, ◌<◌, ◌≤◌, ◌^◌,
 ghost use Rattle.std.specs.List.Sorted.{IsPartitionPoint};
 ghost use Rattle.prefix_table.specs.Rows.{IsTable, IsLongest, Precedes, row_covers, first_bits};
 ghost use Rattle.prefix_table.specs.Inside.{cut, is_up_to};
-ghost use Rattle.prefix_table.specs.declared.row.Row.{Row};
+ghost use Rattle.prefix_table.specs.declared.rows.Row.{Row};
 
 use crate::Row;
 
@@ -61,7 +61,7 @@ fn count_up_to(rows: &[Row], bits: u128, len: u8) -> usize
     rows.partition_point(|row| is_up_to(row, bits, len))
 }
 
-/// Returns whether the row is not after one of these bits and this length.
+/// Returns `true` if the row is not after one of these bits and this length.
 fn is_up_to(row: &Row, bits: u128, len: u8) -> bool
     ensures { result ≡ is_up_to bits len row.now }
 {

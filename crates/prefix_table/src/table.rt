@@ -1,6 +1,6 @@
 ghost use Rattle.std.specs.Prelude.{◌≡◌, IfOk, IfSome, IfNone, OnSome, Contains, true};
 ghost use Rattle.prefix_table.specs.Rows.{IsTable, IsLongest, best, row_covers};
-ghost use Rattle.prefix_table.specs.declared.row.Row.{Row};
+ghost use Rattle.prefix_table.specs.declared.rows.Row.{Row};
 
 use crate::in_order::is_table;
 use crate::search::longest_match;
@@ -16,7 +16,7 @@ pub struct Table {
 
 impl Model for Table {
     ghost use Rattle.std.specs.Prelude.{List};
-    ghost use Rattle.prefix_table.specs.declared.row.Row.{Row};
+    ghost use Rattle.prefix_table.specs.declared.rows.Row.{Row};
     ghost use Rattle.prefix_table.specs.Rows.{IsTable};
 
     ghost Value = { List Row };

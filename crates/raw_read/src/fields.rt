@@ -25,7 +25,7 @@ fn number_at(value: &Value<'_>, name: &str, most: u64) -> Option<u64>
     parse_number(digits.as_bytes(), most)
 }
 
-/// Returns whether the network of an address says that it is not routable.
+/// Returns `true` if the network of an address says that it is not routable.
 fn is_local(network: Option<&str>) -> bool
     ensures { result ≡ is_local (option_map (λ text. text.now) network.entry) }
 {

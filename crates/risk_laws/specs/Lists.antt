@@ -2,8 +2,8 @@
 use Rattle.std.specs.Prelude.{ℕ, zero, suc, ◌^◌, List, [], ◌∷◌, Bool, false, sum_by}
 use Rattle.std.specs.List.{range_with_len}
 use Rattle.net_addr.specs.declared.peer.Peer.{Peer}
-use Rattle.peer_rec.specs.declared.picked.Picked.{Picked}
-use Rattle.peer_rec.specs.declared.picked.Picked.TheVariants.{One}
+use Rattle.peer_rec.specs.declared.answers.Picked.{Picked}
+use Rattle.peer_rec.specs.declared.answers.Picked.TheVariants.{One}
 use Rattle.table_laws.specs.Searches.{one_if}
 use Rattle.table_machine.specs.Picks.{candidates, first_accepted, select}
 use Rattle.table_machine.specs.State.{State}

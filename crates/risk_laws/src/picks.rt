@@ -9,7 +9,7 @@ ghost use Rattle.risk_laws.specs.Enclosures.{most_of};
 ghost use Rattle.risk_laws.specs.Lists.{searching_lists, selecting_lists, word_lists};
 
 /// Of the lists of n random words of 64 bits, for each n, at most this part selects a peer of a
-/// set: in a search of one table, and in a pick from both, from the new table alone, and from the
+/// set: in a search of one table, and in a pick from both, from the new table only, and from the
 /// tried table alone. Of the rounds of a table, `busy`, `new` or `tried` have a candidate.
 pub fn picks_are_enclosed()
     ensures search { (st : State) (in_new : Bool) (nets : List ℕ)

@@ -10,7 +10,7 @@ use Rattle.net_addr.specs.declared.net.Net.{Net}
 use Rattle.net_addr.specs.declared.net.Net.TheVariants.{Unroutable, Ipv4, Ipv6, Onion, I2p, Cjdns, Internal}
 use Rattle.net_addr.specs.declared.peer.Peer.{Peer}
 use Rattle.peer_rec.specs.Rec.{chance, is_tried, network}
-use Rattle.peer_rec.specs.declared.picked.Picked.TheVariants.{Nothing, Exhausted}
+use Rattle.peer_rec.specs.declared.answers.Picked.TheVariants.{Nothing, Exhausted}
 use Rattle.peer_rec.specs.declared.rec.Rec.{Rec}
 use Rattle.placing.specs.Places.{tried_bucket, tried_slot}
 use Rattle.risk_laws.specs.Classes.{chances, kind_of, kinds_of, starts_for}

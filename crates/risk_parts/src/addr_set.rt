@@ -16,7 +16,7 @@ pub enum AddrSet {
 }
 
 impl AddrSet {
-    /// Returns whether the set has an address that the autonomous system of the number announces.
+    /// Returns `true` if the set has an address that the autonomous system of the number announces.
     pub fn has(&self, addr: &NetAddr, number: u32) -> bool
         ensures { result ≡ set_by self.now addr.now number }
     {

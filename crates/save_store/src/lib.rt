@@ -12,7 +12,7 @@
 //!   the old file or the whole new one, and after `Ok` the new one (`any_moment`, `stored`). A
 //!   `SaveJob` does the same in pieces.
 //!
-//! Tested besides, in `rows_outside`: saves in which each call of the folder fails in turn.
+//! Tested besides, in `test_outside`: saves in which each call of the folder fails in turn.
 #![tactic(auto)]
 
 mod loading;

@@ -5,7 +5,7 @@ use Rattle.std.proofs.lemmas.List.{append_cancel_left}
 use Rattle.std.specs.Prelude.{Option, Some, None, IfSome, IsSomeAnd}
 use Rattle.hex.proofs.HexLemmas.{decode_of-ok}
 use Rattle.net_addr.specs.Address.{Address}
-use Rattle.net_addr.specs.declared.entry.Entry.{Entry}
+use Rattle.net_addr.specs.declared.peer.Entry.{Entry}
 use Rattle.wire_num.specs.Format.{Format, HasFault, HasOneMeaning}
 use Rattle.wire_num.proofs.ReadingLaws.{AreBytes, one_meaning}
 use Rattle.addr_codecs.specs.Inside.{addr_entry_at, addrv2_entry_at, message_at}

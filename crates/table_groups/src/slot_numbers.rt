@@ -1,5 +1,5 @@
-/// How many slots and buckets of the new table a group has, how many slots of the tried one, and the
-/// last bucket of the new table that was counted.
+/// How many slots and buckets of the new table a group has, how many slots of the tried one, and
+/// the last bucket of the new table that was counted.
 #[derive(Clone, Copy)]
 pub(crate) struct SlotNumbers {
     pub(crate) slots: u32,

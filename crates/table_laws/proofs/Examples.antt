@@ -5,7 +5,7 @@ use Rattle.std.specs.List.{range_with_len}
 use Rattle.net_addr.specs.NetSet.{all}
 use Rattle.net_addr.specs.Ranges.{in_range}
 use Rattle.peer_rec.specs.Rec.{buckets_of, is_terrible}
-use Rattle.peer_rec.specs.declared.picked.Picked.TheVariants.{One}
+use Rattle.peer_rec.specs.declared.answers.Picked.TheVariants.{One}
 use Rattle.peer_rec.specs.declared.place.Place.TheVariants.{New, Tried}
 use Rattle.peer_rec.specs.declared.rec.Rec.{Rec}
 use Rattle.table_machine.specs.Entries.{enter_occupied, with_last, with_record}

@@ -6,7 +6,7 @@ use Rattle.std.proofs.lemmas.List.Elements.{All-contains, Contains-push_cases, C
 use Rattle.std.proofs.lemmas.List.Kept.{AllPairs-from_increasing}
 use Rattle.net_addr.specs.Address.{Address}
 use Rattle.net_addr.specs.Ranges.{is_routable}
-use Rattle.net_addr.specs.declared.entry.Entry.{Entry}
+use Rattle.net_addr.specs.declared.peer.Entry.{Entry}
 use Rattle.net_addr.specs.declared.peer.Peer.{Peer}
 use Rattle.placing.specs.Places.{new_bucket, new_slot}
 use Rattle.peer_rec.specs.Buckets.{with_bucket, without_bucket}
@@ -20,7 +20,7 @@ use Rattle.peer_rec.specs.Rec.{tried_by}
 use Rattle.placing.specs.Places.{tried_bucket, tried_slot}
 use Rattle.table_machine.specs.State.{is_tried_at, outcome, tried_occupant}
 use Rattle.table_machine.specs.Tried.{after_success, back_to_new, clear_new, displace, good, good_by, move_to_tried, wait}
-use Rattle.peer_rec.specs.declared.good.Good.TheVariants.{Already, Clash, Moved}
+use Rattle.peer_rec.specs.declared.answers.Good.TheVariants.{Already, Clash, Moved}
 use Rattle.table_machine.specs.Entries.{add, add_by, clear_slot, delete, enter_bucket, enter_slot, give_bucket, makes_way, new_record, no, penalty_of, refresh, take_bucket, with_last, with_record, yes}
 use Rattle.table_machine.proofs.Buckets.{placed}
 use Rattle.table_machine.proofs.Lists.{Contains-cases, Contains-head, find-Some, none_in_nil}

@@ -1,6 +1,6 @@
 -- A pick that ends keeps its answer if more random words follow.
 use Rattle.std.proofs.Common.{◌≡◌, ◌≢◌, ℕ, ◌%◌, List, [], ◌∷◌, ◌++◌, Bool, true, false, ◌&&◌, ◌||◌, ◌==◌, Option, None, Some, if◌then◌else◌, refl}
-use Rattle.peer_rec.specs.declared.picked.Picked.TheVariants.{One, Nothing, Exhausted}
+use Rattle.peer_rec.specs.declared.answers.Picked.TheVariants.{One, Nothing, Exhausted}
 use Rattle.peer_rec.specs.declared.rec.Rec.{Rec}
 use Rattle.table_machine.specs.State.{State}
 use Rattle.table_machine.specs.Picks.{candidate, candidates, candidates_of, candidates_of_either, first_accepted, first_factor, is_accepted, next_factor, select, wanted_new, wanted_tried, with_candidate}

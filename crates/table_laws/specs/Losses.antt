@@ -1,7 +1,7 @@
 -- Why a record is lost: it is there before a step, and not after it.
 use Rattle.std.specs.Prelude.{◌≡◌, ◌≢◌, ◌⊎◌, ℕ, [], ◌∷◌, Bool, true, Contains, count_by, not, is_some, nat_le}
 use Rattle.net_addr.specs.Address.{Address}
-use Rattle.net_addr.specs.declared.entry.Entry.{Entry}
+use Rattle.net_addr.specs.declared.peer.Entry.{Entry}
 use Rattle.net_addr.specs.declared.peer.Peer.{Peer}
 use Rattle.placing.specs.Places.{new_slot}
 use Rattle.peer_rec.specs.Rec.{buckets_of, is_terrible, is_tried}

@@ -4,18 +4,14 @@
 
 mod losses;
 mod odds;
-mod openings;
 mod picks;
-mod restarts;
 mod samples;
 mod searches;
 mod words;
 
-pub use losses::losses_have_causes;
+pub use losses::{losses_have_causes, openings_lose_with_causes, restarts_keep_records};
 pub use odds::odds_are_bounded;
-pub use openings::openings_lose_with_causes;
 pub use picks::{picks_are_counted, rounds_are_counted};
-pub use restarts::restarts_keep_records;
 pub use samples::{samples_are_shuffles, shuffles_are_fair};
 pub use searches::{rounds_are_of_three_kinds, searches_are_counted, searches_share_alike};
 pub use words::{first_words_decide, residues_decide};

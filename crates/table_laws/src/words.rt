@@ -1,6 +1,6 @@
 ghost use Rattle.std.specs.List.{range_with_len};
 ghost use Rattle.std.specs.Prelude.{ℕ, Bool, List, ◌≡◌, ◌≢◌, ◌==◌, ◌<◌, ◌++◌, ◌*◌, ◌%◌, ◌^◌, count_by, map};
-ghost use Rattle.peer_rec.specs.declared.picked.Picked.TheVariants.{Exhausted};
+ghost use Rattle.peer_rec.specs.declared.answers.Picked.TheVariants.{Exhausted};
 ghost use Rattle.peer_rec.specs.declared.rec.Rec.{Rec};
 ghost use Rattle.slot_grid.specs.declared.sizes.TheConstants.{SLOTS};
 ghost use Rattle.table_machine.specs.Picks.{bucket_count, candidate, is_accepted, select};

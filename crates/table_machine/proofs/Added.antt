@@ -6,7 +6,7 @@ use Rattle.std.proofs.lemmas.List.Sorted.{IsPermutation-refl}
 use Rattle.std.proofs.lemmas.Nat.{or_lt}
 use Rattle.net_addr.specs.Address.{Address, IsAddress}
 use Rattle.net_addr.specs.Ranges.{is_valid, is_local, is_routable, reserved_by}
-use Rattle.net_addr.specs.declared.entry.Entry.{Entry}
+use Rattle.net_addr.specs.declared.peer.Entry.{Entry}
 use Rattle.placing.specs.Places.{IsPlaces, Places}
 use Rattle.peer_rec.specs.Rec.{IsRec, buckets_of, is_tried}
 use Rattle.peer_rec.specs.declared.rec.Rec.{Rec}

@@ -4,13 +4,13 @@ use Rattle.std.proofs.Common.{◌≡◌, ℕ, ◌%◌, ◌^◌, ◌==◌, ◌||�
 use Rattle.std.proofs.lemmas.List.Elements.{Contains-push_cases}
 use Rattle.net_addr.specs.Address.{Address}
 use Rattle.net_addr.specs.Ranges.{is_routable}
-use Rattle.net_addr.specs.declared.entry.Entry.{Entry}
+use Rattle.net_addr.specs.declared.peer.Entry.{Entry}
 use Rattle.net_addr.specs.declared.peer.Peer.{Peer}
 use Rattle.placing.specs.Places.{new_bucket, new_slot, tried_bucket, tried_slot}
 use Rattle.peer_rec.specs.Buckets.{with_bucket, without_bucket}
 use Rattle.peer_rec.specs.Rec.{buckets_of, is_tried}
 use Rattle.peer_rec.specs.declared.rec.Rec.{Rec}
-use Rattle.peer_rec.specs.declared.good.Good.TheVariants.{Already, Clash, Moved}
+use Rattle.peer_rec.specs.declared.answers.Good.TheVariants.{Already, Clash, Moved}
 use Rattle.peer_rec.specs.declared.place.Place.TheVariants.{New, Tried}
 use Rattle.table_machine.specs.State.{State, find_peer, is_new_at, is_tried_at, new_rec_at, tried_occupant, outcome}
 use Rattle.table_machine.specs.Entries.{add, add_by, clear_slot, delete, enter_bucket, enter_slot, give_bucket, makes_way, new_record, no, penalty_of, refresh, take_bucket, with_last, with_record, yes}

@@ -9,8 +9,8 @@ use Rattle.peer_rec.specs.declared.rec.Rec.{Rec}
 use Rattle.table_machine.specs.State.{State, by_number, tried_occupant, After, outcome}
 use Rattle.table_machine.specs.Tried.{good}
 use Rattle.table_machine.specs.Clashes.{after_fate, clash_pick, erase_clash, fate_of, pick_newcomer, pick_occupant, resolve, resolve_all}
-use Rattle.peer_rec.specs.declared.fate.Fate.{Fate}
-use Rattle.peer_rec.specs.declared.fate.Fate.TheVariants.{Erased, Kept, Moved}
+use Rattle.peer_rec.specs.declared.answers.Fate.{Fate}
+use Rattle.peer_rec.specs.declared.answers.Fate.TheVariants.{Erased, Kept, Moved}
 use Rattle.table_machine.specs.Picks.{order_swap, sample, sample_from, sample_limit, eligible_at, with_peers}
 use Rattle.table_machine.specs.Sound.{IsSound}
 use Rattle.table_machine.proofs.Exchanged.{erase_clash-sound, order_swap-sound}

@@ -6,7 +6,7 @@ use Rattle.net_addr.specs.declared.peer.Peer.{Peer}
 use Rattle.peer_rec.specs.Rec.{IsRec, is_tried}
 use Rattle.peer_rec.specs.Buckets.{with_bucket}
 use Rattle.peer_rec.specs.declared.rec.Rec.{Rec}
-use Rattle.peer_rec.specs.declared.good.Good.TheVariants.{Already, Clash, Moved}
+use Rattle.peer_rec.specs.declared.answers.Good.TheVariants.{Already, Clash, Moved}
 use Rattle.table_machine.specs.State.{State, by_number, find_peer, tried_occupant, outcome}
 use Rattle.table_machine.specs.Entries.{with_record}
 use Rattle.table_machine.specs.Sound.{IsSound}

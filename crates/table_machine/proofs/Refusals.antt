@@ -4,7 +4,7 @@ use Rattle.std.proofs.Common.{◌≡◌, ℕ, zero, suc, ◌+◌, ◌*◌, ◌/�
 use Rattle.std.proofs.lemmas.Bool.{both_ways, lt-ltb, cases_order}
 use Rattle.std.proofs.lemmas.Nat.{mod_below, mul-le}
 use Rattle.peer_rec.specs.Rec.{chance}
-use Rattle.peer_rec.specs.declared.picked.Picked.TheVariants.{One, Exhausted}
+use Rattle.peer_rec.specs.declared.answers.Picked.TheVariants.{One, Exhausted}
 use Rattle.peer_rec.specs.declared.rec.Rec.{Rec}
 use Rattle.table_machine.specs.Picks.{first_accepted, first_factor, is_accepted, next_factor}
 

@@ -4,7 +4,7 @@ use Rattle.std.proofs.lemmas.List.Elements.{All-from_recursion, All-replicate}
 use Rattle.std.proofs.lemmas.List.Sorted.{length_permutation}
 use Rattle.net_addr.specs.Address.{IsAddress}
 use Rattle.net_addr.specs.OldForm.{address}
-use Rattle.net_addr.specs.declared.entry.Entry.{Entry}
+use Rattle.net_addr.specs.declared.peer.Entry.{Entry}
 use Rattle.net_addr.specs.declared.net.Net.TheVariants.{Internal}
 use Rattle.placing.specs.Places.{IsPlaces, new_slot}
 use Rattle.peer_rec.specs.Rec.{buckets_of}

@@ -4,7 +4,7 @@ use Rattle.std.proofs.Common.{◌≡◌, ℕ, ◌-◌, true, false, List, [], �
 use Rattle.net_addr.specs.Same.{same_address}
 use Rattle.placing.specs.Places.{new_bucket, new_slot}
 use Rattle.peer_rec.specs.Rec.{is_tried}
-use Rattle.peer_rec.specs.declared.good.Good.TheVariants.{Already, Clash, Moved, Unknown}
+use Rattle.peer_rec.specs.declared.answers.Good.TheVariants.{Already, Clash, Moved, Unknown}
 use Rattle.peer_rec.specs.declared.rec.Rec.{Rec}
 use Rattle.peer_rec.specs.declared.place.Place.{Place}
 use Rattle.peer_rec.specs.declared.place.Place.TheVariants.{New, Tried}
@@ -12,7 +12,7 @@ use Rattle.table_machine.specs.State.{State, new_rec_at, tried_occupant, outcome
 use Rattle.table_machine.specs.Entries.{with_record}
 use Rattle.table_machine.specs.Tried.{after_try, attempt, back_to_new, clear_new, displace, good, good_known, move_to_tried, still_connected, wait, with_services}
 use Rattle.table_machine.specs.Clashes.{clash_pick, fate_against, resolve}
-use Rattle.peer_rec.specs.declared.fate.Fate.TheVariants.{Erased, Kept, Moved as MovesIn}
+use Rattle.peer_rec.specs.declared.answers.Fate.TheVariants.{Erased, Kept, Moved as MovesIn}
 use Rattle.table_machine.proofs.ExampleStates.{now, peer, rec, state}
 
 -- the number and the place of each record

@@ -5,9 +5,9 @@
 use Rattle.std.specs.Prelude.{ℕ, ◌+◌, ◌%◌, List, [], ◌∷◌, length, filter, get_or, not, ◌==◌, nat_lt, false, Option, Some, None, if◌then◌else◌}
 use Rattle.net_addr.specs.declared.peer.Peer.{Peer}
 use Rattle.peer_rec.specs.declared.rec.Rec.{Rec}
-use Rattle.peer_rec.specs.declared.resolved.Resolved.{Resolved}
-use Rattle.peer_rec.specs.declared.fate.Fate.{Fate}
-use Rattle.peer_rec.specs.declared.fate.Fate.TheVariants.{Erased, Kept, Moved}
+use Rattle.peer_rec.specs.declared.answers.Resolved.{Resolved}
+use Rattle.peer_rec.specs.declared.answers.Fate.{Fate}
+use Rattle.peer_rec.specs.declared.answers.Fate.TheVariants.{Erased, Kept, Moved}
 use Rattle.table_machine.specs.State.{State, by_number, tried_occupant, After, outcome}
 use Rattle.table_machine.specs.Tried.{good}
 

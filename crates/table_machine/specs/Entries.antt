@@ -4,7 +4,7 @@ use Rattle.std.specs.Prelude.{ℕ, ◌+◌, ◌-◌, ◌%◌, ◌^◌, List, [],
 use Rattle.net_addr.specs.Address.{Address}
 use Rattle.net_addr.specs.Same.{same_address}
 use Rattle.net_addr.specs.Ranges.{is_routable}
-use Rattle.net_addr.specs.declared.entry.Entry.{Entry}
+use Rattle.net_addr.specs.declared.peer.Entry.{Entry}
 use Rattle.placing.specs.Places.{new_bucket, new_slot}
 use Rattle.peer_rec.specs.Rec.{buckets_of, is_tried, is_terrible}
 use Rattle.peer_rec.specs.Buckets.{with_bucket, without_bucket}

@@ -6,8 +6,8 @@ use Rattle.net_addr.specs.NetSet.{has}
 use Rattle.net_addr.specs.Ranges.{net_class}
 use Rattle.net_addr.specs.declared.peer.Peer.{Peer}
 use Rattle.peer_rec.specs.Rec.{chance, is_terrible, is_tried, network}
-use Rattle.peer_rec.specs.declared.picked.Picked.{Picked}
-use Rattle.peer_rec.specs.declared.picked.Picked.TheVariants.{One, Nothing, Exhausted}
+use Rattle.peer_rec.specs.declared.answers.Picked.{Picked}
+use Rattle.peer_rec.specs.declared.answers.Picked.TheVariants.{One, Nothing, Exhausted}
 use Rattle.peer_rec.specs.declared.rec.Rec.{Rec}
 use Rattle.slot_grid.specs.declared.sizes.TheConstants.{NEW_BUCKETS, TRIED_BUCKETS, SLOTS}
 use Rattle.table_machine.specs.State.{State, by_number, new_rec_at, tried_rec_at, After, outcome}

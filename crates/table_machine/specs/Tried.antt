@@ -6,8 +6,8 @@ use Rattle.net_addr.specs.declared.peer.Peer.{Peer}
 use Rattle.placing.specs.Places.{new_bucket, new_slot}
 use Rattle.peer_rec.specs.Rec.{is_tried}
 use Rattle.peer_rec.specs.Buckets.{with_bucket}
-use Rattle.peer_rec.specs.declared.good.Good.{Good}
-use Rattle.peer_rec.specs.declared.good.Good.TheVariants.{Unknown, Already, Clash, Moved}
+use Rattle.peer_rec.specs.declared.answers.Good.{Good}
+use Rattle.peer_rec.specs.declared.answers.Good.TheVariants.{Unknown, Already, Clash, Moved}
 use Rattle.peer_rec.specs.declared.file_rec.TheConstants.{MAX_ATTEMPTS}
 use Rattle.peer_rec.specs.declared.rec.Rec.{Rec}
 use Rattle.peer_rec.specs.declared.place.Place.TheVariants.{New, Tried}

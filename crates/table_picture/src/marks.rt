@@ -68,9 +68,9 @@ fn put_table<T: TableView, L: Ledger>(
     Ok(())
 }
 
-/// Returns the marks of all slots, by rising bucket, those of the new table first: 0 is a free slot,
-/// 1 to 6 the listed group at this position, counted from 1, that the source of its record is in,
-/// and 7 any other group.
+/// Returns the marks of all slots, by rising bucket, those of the new table first: 0 is a free
+/// slot, 1 to 6 the listed group at this position, counted from 1, that the source of its record is
+/// in, and 7 any other group.
 #[tactic(auto, unfolding(crate::specs::Marks::marks_by))]
 pub(crate) fn marks_by<T: TableView, L: Ledger>(
     alloc: Global,

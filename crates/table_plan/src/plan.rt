@@ -238,7 +238,7 @@ impl<'a, 's> Plan<'a, 's> {
     }
 
     /// Gives the record at an index the bucket that lists it in the file, if the buckets of the
-    /// file count (`are_used`) and the slot there is empty. Returns whether that is so.
+    /// file count (`are_used`) and the slot there is empty. Returns `true` if that is so.
     fn give_listed<L: Ledger>(
         &mut self,
         are_used: bool,

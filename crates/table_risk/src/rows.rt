@@ -23,7 +23,7 @@ use table_groups::{Group, Tally, copy_of, value_of};
 use tables::Tables;
 
 /// A group, the index of its first record, and which part falls to it, at most, of the picks from
-/// both tables, of those from the new table alone, and of a search of the tried table, in parts of a
+/// both tables, of those from the new table only, and of a search of the tried table, in parts of a
 /// million.
 #[derive(Drop)]
 pub struct Row {

@@ -165,14 +165,14 @@ fn put_rows(
     Ok(())
 }
 
-/// Returns whether a slot of a bucket is in the mask.
+/// Returns `true` if a slot of a bucket is in the mask.
 fn has_slot(mask: u64) -> bool
     ensures { result ≡ list_any (in_mask mask) (range_with_len 0 SLOTS) }
 {
     mask != 0
 }
 
-/// Returns whether a bucket of the new table has a record.
+/// Returns `true` if a bucket of the new table has a record.
 fn is_used_new<H: BuildHasher, L: Ledger>(
     tables: &Tables<'_, H>,
     bucket: u16,
@@ -184,7 +184,7 @@ fn is_used_new<H: BuildHasher, L: Ledger>(
     has_slot(tables.new_mask(bucket, steps))
 }
 
-/// Returns whether a bucket of the tried table has a record.
+/// Returns `true` if a bucket of the tried table has a record.
 fn is_used_tried<H: BuildHasher, L: Ledger>(
     tables: &Tables<'_, H>,
     bucket: u16,

@@ -24,7 +24,7 @@ use table_plan::{Draft, Plan};
 /// What tables are made of: the key and the asmap, the slots, the records in their order, and the
 /// number of the next record.
 #[derive(Drop)]
-pub(crate) struct Parts<'a, H: BuildHasher> {
+pub(crate) struct TableParts<'a, H: BuildHasher> {
     pub(crate) placer: Placer<'a>,
     pub(crate) grid: Grid,
     pub(crate) index: PeerIndex<H>,
@@ -39,7 +39,7 @@ pub(crate) fn restore<'a, H: BuildHasher + Drop, L: Ledger>(
     placer: Placer<'a>,
     hasher: H,
     steps: &mut Steps<L>,
-) -> Result<Parts<'a, H>, RestoreFault>
+) -> Result<TableParts<'a, H>, RestoreFault>
     ensures sound { IfOk result (λ parts. IsSound (restored snap.now placer.entry)) }
     ensures parts { IfOk result (λ parts. ArePartsOf (restored snap.now placer.entry)
         parts.placer parts.grid parts.index parts.next_number) }
@@ -51,7 +51,7 @@ pub(crate) fn restore<'a, H: BuildHasher + Drop, L: Ledger>(
     let mut index = empty_index(alloc, snap, hasher, steps)?;
     let plan = final_plan(alloc, snap, placer, &mut index, steps)?;
     let next_number = plan.recs.len() as u64;
-    Ok(Parts {
+    Ok(TableParts {
         placer: plan.placer,
         grid: plan.grid,
         index,

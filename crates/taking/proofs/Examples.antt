@@ -4,7 +4,7 @@ use Rattle.net_addr.specs.Address.{Address}
 use Rattle.net_addr.specs.OldForm.{address}
 use Rattle.net_addr.specs.Same.{same_address}
 use Rattle.net_addr.specs.declared.net.Net.TheVariants.{Ipv4}
-use Rattle.net_addr.specs.declared.entry.Entry.{Entry}
+use Rattle.net_addr.specs.declared.peer.Entry.{Entry}
 use Rattle.table_machine.specs.Entries.{penalty_of}
 use Rattle.taking.specs.Messages.{clamp_time}
 

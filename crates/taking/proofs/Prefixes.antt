@@ -1,7 +1,7 @@
 -- The first entries of a message, and one more.
 use Rattle.std.proofs.Common.{◌≡◌, ℕ, zero, suc, ◌+◌, ◌<◌, ◌≤◌, List, [], ◌∷◌, length, get_or, take, Option, None, Bool, cond, refl, sym, ap, ◌∙◌, arith}
 use Rattle.net_addr.specs.Address.{Address}
-use Rattle.net_addr.specs.declared.entry.Entry.{Entry}
+use Rattle.net_addr.specs.declared.peer.Entry.{Entry}
 use Rattle.table_machine.specs.State.{State, After}
 use Rattle.taking.specs.Messages.{take_entry, take_entries}
 

@@ -2,7 +2,7 @@
 -- Core).
 use Rattle.std.specs.Prelude.{ℕ, ◌+◌, ◌-◌, List, [], ◌∷◌, ◌||◌, nat_lt, nat_le, Option, Some, None, if◌then◌else◌, Bool}
 use Rattle.net_addr.specs.Address.{Address}
-use Rattle.net_addr.specs.declared.entry.Entry.{Entry}
+use Rattle.net_addr.specs.declared.peer.Entry.{Entry}
 use Rattle.table_machine.specs.State.{State, After, outcome}
 use Rattle.table_machine.specs.Entries.{add, no}
 

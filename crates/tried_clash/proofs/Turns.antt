@@ -6,14 +6,14 @@ use Rattle.std.proofs.lemmas.Bool.{true≢false}
 use Rattle.std.proofs.lemmas.Bool.Decides.{nat_tests}
 use Rattle.std.proofs.lemmas.List.Kept.{AllPairs-from_increasing}
 use Rattle.peer_rec.specs.declared.rec.Rec.{Rec}
-use Rattle.peer_rec.specs.declared.resolved.Resolved.{Resolved}
+use Rattle.peer_rec.specs.declared.answers.Resolved.{Resolved}
 use Rattle.table_machine.specs.State.{State, by_number, After}
 use Rattle.net_addr.specs.declared.peer.Peer.{Peer}
 use Rattle.table_machine.specs.Sound.{IsSound}
 use Rattle.table_machine.specs.Tried.{good}
 use Rattle.table_machine.specs.Clashes.{after_fate, fate_of, move_in, one_more, resolve, resolve_all, with_fate}
-use Rattle.peer_rec.specs.declared.fate.Fate.{Fate}
-use Rattle.peer_rec.specs.declared.fate.Fate.TheVariants.{Erased, Kept, Moved}
+use Rattle.peer_rec.specs.declared.answers.Fate.{Fate}
+use Rattle.peer_rec.specs.declared.answers.Fate.TheVariants.{Erased, Kept, Moved}
 use Rattle.table_machine.proofs.Lists.{Contains-filter, increasing_from_pairs}
 use Rattle.table_machine.proofs.Unchanged.{good-rest}
 

@@ -63,7 +63,7 @@ fn add_one(tables: &mut Tables<'_, Keyed>, index: u64) -> Result<u64, Refusal> {
             port: 8333,
         },
     };
-    match uncounted::add(tables, &entry, &source(index), 7200, index, NOW) {
+    match node_calls::add(tables, &entry, &source(index), 7200, index, NOW) {
         Ok(true) => Ok(1),
         Ok(false) => Ok(0),
         Err(_) => Err(Refusal::NoMemory),
@@ -99,7 +99,7 @@ fn take_one(
         return Err(Refusal::NotAdded);
     }
     let payload = message(alloc, first)?;
-    match uncounted::take_message(
+    match node_calls::take_message(
         alloc,
         tables,
         Form::Addr,
@@ -131,7 +131,7 @@ fn select_one(tables: &Tables<'_, Keyed>, nets: NetSet, index: u64, words: &[u64
         return 0;
     }
     let some = &words[from..from + 300];
-    match uncounted::select(tables, false, nets, some, NOW) {
+    match node_calls::select(tables, false, nets, some, NOW) {
         Picked::One(peer, _) => {
             let mut sum: u64 = 0;
             for byte in peer.addr.bytes() {

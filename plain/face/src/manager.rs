@@ -254,7 +254,7 @@ impl AddrMan {
     /// assert_eq!(peers.good(&stranger, true, 1_700_000_000), Good::Unknown);
     /// ```
     pub fn good(&mut self, peer: &Peer, test_before_evict: bool, now: u32) -> Good {
-        uncounted::good(&mut self.tables, &peer.0, test_before_evict, now)
+        node_calls::good(&mut self.tables, &peer.0, test_before_evict, now)
     }
 
     /// Notes a try to connect, and whether it counts as a failure unless the peer is reached.
@@ -265,7 +265,7 @@ impl AddrMan {
     /// assert!(!peers.attempt(&"8.8.8.8:8333".parse().unwrap(), true, 1_700_000_000));
     /// ```
     pub fn attempt(&mut self, peer: &Peer, count_failure: bool, now: u32) -> bool {
-        uncounted::attempt(&mut self.tables, &peer.0, count_failure, now)
+        node_calls::attempt(&mut self.tables, &peer.0, count_failure, now)
     }
 
     /// Notes that a peer was connected until now. Returns `false` if it is unknown.
@@ -275,7 +275,7 @@ impl AddrMan {
     /// assert!(!peers.connected(&"8.8.8.8:8333".parse().unwrap(), 1_700_000_000));
     /// ```
     pub fn connected(&mut self, peer: &Peer, now: u32) -> bool {
-        uncounted::connected(&mut self.tables, &peer.0, now)
+        node_calls::connected(&mut self.tables, &peer.0, now)
     }
 
     /// Sets the services that a peer offers. Returns `false` if it is unknown.
@@ -285,7 +285,7 @@ impl AddrMan {
     /// assert!(!peers.set_services(&"8.8.8.8:8333".parse().unwrap(), 1));
     /// ```
     pub fn set_services(&mut self, peer: &Peer, services: u64) -> bool {
-        uncounted::services(&mut self.tables, &peer.0, services)
+        node_calls::services(&mut self.tables, &peer.0, services)
     }
 
     /// Selects a peer to connect to, of these networks and perhaps of the new table only. Returns
@@ -313,7 +313,7 @@ impl AddrMan {
     ) -> Result<Option<Pick>, SelectError> {
         let nets = networks.set();
         let search =
-            |words: &[u64]| match uncounted::select(&self.tables, new_only, nets, words, now) {
+            |words: &[u64]| match node_calls::select(&self.tables, new_only, nets, words, now) {
                 Picked::One(peer, last_try) => Some(Some(Pick::of(peer, last_try))),
                 Picked::Nothing => Some(None),
                 Picked::Exhausted => None,
@@ -386,7 +386,7 @@ impl AddrMan {
     /// assert_eq!(peers.resolve_collisions(1_700_000_000).moved, 0);
     /// ```
     pub fn resolve_collisions(&mut self, now: u32) -> Resolved {
-        uncounted::resolve(&mut self.tables, now)
+        node_calls::resolve(&mut self.tables, now)
     }
 
     /// Selects a collision, and returns the occupant of its slot, which a node tests by a short
@@ -399,7 +399,7 @@ impl AddrMan {
     /// assert_eq!(AddrMan::new(&mut rng).unwrap().select_collision(&mut rng), None);
     /// ```
     pub fn select_collision<R: RngCore + ?Sized>(&mut self, rng: &mut R) -> Option<Pick> {
-        let (peer, last_try) = uncounted::clash_pick(&mut self.tables, rng.next_u64())?;
+        let (peer, last_try) = node_calls::clash_pick(&mut self.tables, rng.next_u64())?;
         Some(Pick::of(peer, last_try))
     }
 
@@ -410,7 +410,7 @@ impl AddrMan {
     /// assert_eq!(peers.find(&"8.8.8.8:8333".parse().unwrap()), None);
     /// ```
     pub fn find(&self, peer: &Peer) -> Option<Record> {
-        Some(Record::of(&uncounted::find(&self.tables, &peer.0)?))
+        Some(Record::of(&node_calls::find(&self.tables, &peer.0)?))
     }
 
     /// Returns all records, in the order in which they were made.
@@ -424,7 +424,7 @@ impl AddrMan {
     /// assert_eq!(peers.entries(), Ok(vec![]));
     /// ```
     pub fn entries(&self) -> Result<Vec<Record>, Memory> {
-        let found = uncounted::recs(&self.tables)?;
+        let found = node_calls::recs(&self.tables)?;
         let mut records = Vec::new();
         records.try_reserve_exact(found.items().len())?;
         records.extend(found.items().iter().map(Record::of));

@@ -1,8 +1,8 @@
 use Rattle.std.proofs.Common.{[], ◌∷◌, Some, refl, sym, subst}
 use Rattle.grammar.specs.Fields.{TheNumber, TheAddr, TheChoice}
 use Rattle.addr_limit.specs.Lines.{SaysBy}
-use Rattle.addr_limit.specs.declared.event.Event.TheVariants.{Now, Of}
-use Rattle.addr_limit.specs.declared.request.Request.TheVariants.{Open}
+use Rattle.addr_limit.specs.declared.command.Event.TheVariants.{Now, Of}
+use Rattle.addr_limit.specs.declared.command.LimitCommand.TheVariants.{Open}
 use Rattle.addr_limit.proofs.read.read_event.Goals as goal
 
 pub returns-in_ok-time-in-Now-clause-found : goal.returns-in_ok-time-in-Now-clause-found

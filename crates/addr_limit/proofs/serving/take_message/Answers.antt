@@ -2,7 +2,7 @@ use Rattle.std.proofs.Common.{◌≡◌, length, nat_lt, true, false, arith, sym
 use Rattle.std.proofs.lemmas.Bool.Decides.{nat_tests}
 use Rattle.limiter.specs.State.{find_conn, set_conn}
 use Rattle.addr_limit.specs.Steps.{serve}
-use Rattle.addr_limit.specs.declared.request.Request.TheVariants.{Message}
+use Rattle.addr_limit.specs.declared.command.LimitCommand.TheVariants.{Message}
 use Rattle.addr_limit.proofs.Changes.{refused-is, short-is, taken-is}
 use Rattle.addr_limit.proofs.serving.take_message.Goals as goal
 

@@ -1,5 +1,5 @@
 use Rattle.std.proofs.Common.{◌∙◌, List, inr, subst}
-use Rattle.net_addr.specs.declared.entry.Entry.{Entry}
+use Rattle.net_addr.specs.declared.peer.Entry.{Entry}
 use Rattle.c_values.specs.Entries.{EntriesPut}
 use Rattle.addrman_c.proofs.messages.put_known.Goals as goal
 

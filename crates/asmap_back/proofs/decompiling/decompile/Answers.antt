@@ -3,8 +3,8 @@ use Rattle.std.specs.Prelude.{◌⊎◌, IsErrAnd}
 use Rattle.std.proofs.lemmas.Result.{err_from_is_err_and}
 use Rattle.bit_code.specs.Coder.{number_of}
 use Rattle.prefix_table.specs.Rows.{best, IsTable}
-use Rattle.prefix_table.specs.declared.row.Row.{Row}
-use Rattle.prefix_table.specs.declared.row.TheConstants.{MAX_ROWS}
+use Rattle.prefix_table.specs.declared.rows.Row.{Row}
+use Rattle.prefix_table.specs.declared.rows.TheConstants.{MAX_ROWS}
 use Rattle.prefix_table.specs.declared.table.Table.{Table}
 use Rattle.asmap_back.specs.Inside.{HasCause}
 use Rattle.asmap_back.specs.declared.fault.BackFault.{BackFault}

@@ -1,7 +1,7 @@
 use Rattle.std.proofs.Common.{◌≡◌, ◌+◌, ◌-◌, ◌≤◌, List, length}
 use Rattle.asmap_vm.specs.Held.{tree_held}
-use Rattle.prefix_table.specs.declared.row.Row.{Row}
-use Rattle.prefix_table.specs.declared.row.TheConstants.{MAX_ROWS}
+use Rattle.prefix_table.specs.declared.rows.Row.{Row}
+use Rattle.prefix_table.specs.declared.rows.TheConstants.{MAX_ROWS}
 use Rattle.asmap_back.specs.Back.{rows_back}
 use Rattle.asmap_back.specs.Ahead.{HasLeft}
 use Rattle.asmap_back.proofs.decompiling.fits_table.Given as goal

@@ -1,7 +1,7 @@
 use Rattle.std.proofs.Common.{◌≤◌, List}
 use Rattle.asmap_vm.specs.Held.{tree_held}
 use Rattle.prefix_table.specs.Print.{table_text}
-use Rattle.prefix_table.specs.declared.row.Row.{Row}
+use Rattle.prefix_table.specs.declared.rows.Row.{Row}
 use Rattle.asmap_back.specs.Back.{rows_back}
 use Rattle.asmap_back.specs.Ahead.{HasLeft, bits_left}
 use Rattle.asmap_back.proofs.Pieces.{Waits}

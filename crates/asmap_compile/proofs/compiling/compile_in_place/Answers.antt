@@ -1,7 +1,7 @@
 use Rattle.std.proofs.Common.{◌≡◌, ℕ, ◌==◌, ◌<◌, Bool, false, List, [], ◌++◌, length, subst, sym, ap, ◌∙◌, arith, append-nil}
 use Rattle.std.proofs.lemmas.Bool.{eqb-false}
 use Rattle.asmap_vm.specs.Code.{code}
-use Rattle.prefix_table.specs.declared.row.Row.{Row}
+use Rattle.prefix_table.specs.declared.rows.Row.{Row}
 use Rattle.prefix_table.specs.Rows.{IsTable}
 use Rattle.asmap_compile.specs.Compiled.{compiled, rows_kept, tree_at}
 use Rattle.asmap_compile.specs.Inside.{IsPart}

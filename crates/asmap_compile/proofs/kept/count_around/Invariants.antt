@@ -1,6 +1,6 @@
 use Rattle.std.proofs.Common.{◌≡◌, ℕ, ◌<◌, ◌≤◌, false, length, get_or}
 use Rattle.prefix_table.specs.Rows.{row_covers}
-use Rattle.prefix_table.specs.declared.row.Row.{Row}
+use Rattle.prefix_table.specs.declared.rows.Row.{Row}
 use Rattle.asmap_compile.proofs.kept.count_around.Given as goal
 
 abbrev pub invariant-loop-count : goal.invariant-loop-count

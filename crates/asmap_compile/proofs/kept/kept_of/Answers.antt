@@ -1,6 +1,6 @@
 use Rattle.std.proofs.Common.{◌≡◌, ◌==◌, ℕ, ◌+◌, ◌-◌, ◌<◌, ◌≤◌, not, length, List, [], ◌∷◌, ◌++◌, get_or, take, filter, subst, sym, ap, ◌∙◌, arith}
 use Rattle.std.proofs.lemmas.List.{get_or_read, get_or-take, length-take-le}
-use Rattle.prefix_table.specs.declared.row.Row.{Row}
+use Rattle.prefix_table.specs.declared.rows.Row.{Row}
 use Rattle.asmap_compile.specs.Compiled.{stays}
 use Rattle.asmap_compile.proofs.AroundLaws.{IsAround, IsLeft, around_len, around_next, number_last, kept_yes, kept_no}
 use Rattle.asmap_compile.proofs.KeptLaws.{keeps_row, leaves_row}

@@ -2,7 +2,7 @@ use Rattle.std.proofs.Common.{◌≡◌, ℕ, ◌+◌, ◌-◌, ◌<◌, Bool, t
 use Rattle.std.proofs.lemmas.Bool.{eqb-true, eqb-false}
 use Rattle.bit_code.specs.Coder.{HasValue}
 use Rattle.bit_code.specs.declared.coder.Coder.TheVariants as coders
-use Rattle.prefix_table.specs.declared.row.Row.{Row}
+use Rattle.prefix_table.specs.declared.rows.Row.{Row}
 use Rattle.asmap_vm.specs.Code.{Tree, code}
 use Rattle.asmap_compile.specs.Compiled.{rows_kept, tree_at, matches, onward, Forked}
 use Rattle.asmap_compile.specs.Inside.{bits_between, IsPart}

@@ -2,11 +2,11 @@ use Rattle.std.proofs.Common.{rules, ◌≡◌, ◌∙◌, Contains, ap, sym, su
 use Rattle.std.specs.Prelude.{false}
 use Rattle.net_addr.specs.NetSet.{all}
 use Rattle.placing.specs.Places.{group}
-use Rattle.peer_rec.specs.declared.picked.Picked.TheVariants.{One}
+use Rattle.peer_rec.specs.declared.answers.Picked.TheVariants.{One}
 use Rattle.table_machine.specs.Picks.{select}
 use Rattle.peer_open.specs.Groups.{AreApart, groups, with_peer}
 use Rattle.peer_open.specs.Verdicts.{judge}
-use Rattle.peer_open.specs.declared.verdict.Verdict.TheVariants.{Take}
+use Rattle.peer_open.specs.declared.outbound.Verdict.TheVariants.{Take}
 use Rattle.peer_open.proofs.Apart.{apart-with_peer}
 use Rattle.first_open.proofs.try_open.try_open.Goals as goal
 

@@ -3,11 +3,11 @@ use Rattle.std.specs.Prelude.{IfNone, IfSome, IsTrue, Option, Some, Result, Ok, 
 use Rattle.host_io.specs.Writing.{Appended, AppendedPart}
 use Rattle.log_run.specs.Reading.{IsLine, Reading}
 use Rattle.log_run.specs.Worlds.{WorldStops}
-use Rattle.log_run.specs.declared.fault.LogFault.{LogFault}
-use Rattle.log_run.specs.declared.fault.LogFault.TheVariants as fault
+use Rattle.log_run.specs.declared.end.LogFault.{LogFault}
+use Rattle.log_run.specs.declared.end.LogFault.TheVariants as fault
 use Rattle.log_run.specs.declared.line_steps.Stop.{Stop}
 use Rattle.log_run.specs.declared.line_steps.Stop.TheVariants as stop
-use Rattle.log_run.specs.declared.limits.TheConstants.{MAX_LOG}
+use Rattle.log_run.specs.declared.sizes.TheConstants.{MAX_LOG}
 use Rattle.log_run.proofs.Loops.{at_done, at_failed, at_long, at_memory, at_stop, at_too_long, at_write_fault, fewer_left, fewer_waits, looped_more, looped_start, takes_more, takes_read}
 use Rattle.log_run.proofs.run.run_log.Goals as goal
 

@@ -1,5 +1,5 @@
 use Rattle.std.proofs.Common.{◌-◌, ◌≤◌}
-use Rattle.log_run.specs.declared.limits.TheConstants.{MAX_LOG}
+use Rattle.log_run.specs.declared.sizes.TheConstants.{MAX_LOG}
 use Rattle.log_run.proofs.Loops.{Looped, left_of}
 use Rattle.log_run.proofs.run.run_log.Given as goal
 

@@ -2,10 +2,10 @@ use Rattle.std.proofs.Common.{rules, ◌≡◌, ℕ, ◌<◌, ◌≤◌, ◌+◌
 use Rattle.asmap_vm.specs.Code.{Tree}
 use Rattle.std.proofs.lemmas.Result.{err_from_is_err_and}
 use Rattle.asmap_vm.specs.Held.{tree_held}
-use Rattle.prefix_table.specs.declared.row.TheConstants.{MAX_ROWS}
+use Rattle.prefix_table.specs.declared.rows.TheConstants.{MAX_ROWS}
 use Rattle.map_diff.specs.Diff.{changes_of, map_of, changed_prefixes}
 use Rattle.map_diff.specs.Inside.{AreMaps, part_at, rows_at, HasCause}
-use Rattle.map_diff.specs.declared.change.ChangedPrefix.{ChangedPrefix}
+use Rattle.map_diff.specs.declared.changed.ChangedPrefix.{ChangedPrefix}
 use Rattle.map_diff.specs.declared.fault.DiffFault.{DiffFault}
 use Rattle.map_diff.specs.declared.fault.DiffFault.TheVariants.{TooMany}
 use Rattle.map_diff.specs.Text.{count_of}

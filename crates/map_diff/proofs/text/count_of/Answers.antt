@@ -2,7 +2,7 @@ use Rattle.std.proofs.Common.{◌≡◌, ℕ, ◌+◌, ◌<◌, ◌≤◌, Bool,
 use Rattle.std.proofs.lemmas.List.Sums.{sum_by-append, sum_by-cons, sum_by-take-le}
 use Rattle.std.proofs.lemmas.Grind.{take_at_read}
 use Rattle.map_diff.specs.Text.{is_counted, span, count_of}
-use Rattle.map_diff.specs.declared.change.ChangedPrefix.{ChangedPrefix}
+use Rattle.map_diff.specs.declared.changed.ChangedPrefix.{ChangedPrefix}
 use Rattle.map_diff.specs.declared.text.Count.{Count}
 use Rattle.map_diff.proofs.Texts.{blank}
 use Rattle.map_diff.proofs.text.count_of.Goals.{then-is_counted, else-is_counted}

@@ -1,7 +1,7 @@
 use Rattle.std.proofs.Common.{◌≡◌, ◌++◌, OnOk, cond, ap, sym, eq-eqb, subst}
 use Rattle.std.proofs.lemmas.Bool.{ne_eqb}
 use Rattle.map_diff.specs.Text.{change_text, given_text, taken_text}
-use Rattle.map_diff.specs.declared.change.ChangedPrefix.{ChangedPrefix}
+use Rattle.map_diff.specs.declared.changed.ChangedPrefix.{ChangedPrefix}
 use Rattle.map_diff.proofs.text.put_change.Goals as goal
 
 taken : (change : ChangedPrefix) → change.new ≡ 0 → taken_text change ≡ change_text change

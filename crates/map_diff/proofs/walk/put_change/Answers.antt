@@ -1,10 +1,10 @@
 use Rattle.std.proofs.Common.{rules, ◌≡◌, ℕ, ◌+◌, ◌<◌, ◌≤◌, Bool, List, [], ◌∷◌, ◌++◌, length, cond, map, ap, sym, ◌∙◌, arith, append-nil, eq-eqb}
 use Rattle.std.proofs.lemmas.Bool.{ne_eqb}
-use Rattle.prefix_table.specs.declared.row.TheConstants.{MAX_ROWS}
+use Rattle.prefix_table.specs.declared.rows.TheConstants.{MAX_ROWS}
 use Rattle.asmap_back.specs.Back.{first_at}
 use Rattle.map_diff.specs.Diff.{Change, Same, unless_equal, changes_of, changed_at}
 use Rattle.map_diff.specs.Inside.{rows_at}
-use Rattle.map_diff.specs.declared.change.ChangedPrefix.{ChangedPrefix}
+use Rattle.map_diff.specs.declared.changed.ChangedPrefix.{ChangedPrefix}
 use Rattle.map_diff.proofs.walk.put_change.Goals as goal
 
 -- a pair of equal numbers has no row

@@ -1,7 +1,7 @@
 use Rattle.std.proofs.Common.{◌≡◌, List, Bool, Option, Some, None, subst}
 use Rattle.map_diff.specs.Diff.{Part}
 use Rattle.map_diff.specs.Inside.{IsRead}
-use Rattle.map_diff.specs.declared.change.ChangedPrefix.{ChangedPrefix}
+use Rattle.map_diff.specs.declared.changed.ChangedPrefix.{ChangedPrefix}
 use Rattle.map_diff.specs.declared.walk.Pair.{Pair}
 use Rattle.map_diff.proofs.Results.{on_ok}
 use Rattle.map_diff.proofs.Joins.{mixed_put, pair_put}

@@ -1,6 +1,6 @@
 use Rattle.std.proofs.Common.{Some, refl, sym, subst}
 use Rattle.opener_lines.specs.Grammar.{AsksBy}
-use Rattle.opener_lines.specs.declared.request.Request.TheVariants as request
+use Rattle.opener_lines.specs.declared.command.OpenerCommand.TheVariants as request
 use Rattle.opener_lines.proofs.read.read_asked.Goals as goal
 
 pub returns-in_ok-seed-in-Outbound-clause-found : goal.returns-in_ok-seed-in-Outbound-clause-found

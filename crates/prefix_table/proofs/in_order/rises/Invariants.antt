@@ -1,6 +1,6 @@
 use Rattle.std.proofs.Common.{◌≡◌, ℕ, ◌+◌, ◌<◌, true, get_or}
 use Rattle.prefix_table.specs.Inside.{precedes}
-use Rattle.prefix_table.specs.declared.row.Row.{Row}
+use Rattle.prefix_table.specs.declared.rows.Row.{Row}
 use Rattle.prefix_table.proofs.in_order.rises.Given as goal
 
 abbrev pub invariant-loop-i : goal.invariant-loop-i

@@ -1,8 +1,8 @@
 use Rattle.std.proofs.Common.{◌≡◌, ℕ, Some, None, Option, All, ◌≢◌, List, subst, ap, ◌∙◌}
 use Rattle.std.specs.Prelude.{unwrap_or}
 use Rattle.prefix_table.specs.Text.{IsRowAddress}
-use Rattle.prefix_table.specs.declared.entry.Family.{Family}
-use Rattle.prefix_table.specs.declared.entry.Family.TheVariants.{Ipv4, Ipv6}
+use Rattle.prefix_table.specs.declared.line.Family.{Family}
+use Rattle.prefix_table.specs.declared.line.Family.TheVariants.{Ipv4, Ipv6}
 use Rattle.prefix_table.proofs.EntryLaws.{has_dot}
 use Rattle.prefix_table.proofs.line.read_address.Goals as goal
 

@@ -2,12 +2,12 @@ use Rattle.std.proofs.Common.{◌≡◌, ℕ, List, ◌++◌, drop, Option, Some
 use Rattle.std.specs.Prelude.{unwrap_or}
 use Rattle.std.proofs.lemmas.Bool.Decides.{Decides-eqb}
 use Rattle.std.proofs.lemmas.Slice.Eq.{strip_prefix_is}
-use Rattle.prefix_table.specs.declared.entry.Entry.{Entry}
-use Rattle.prefix_table.specs.declared.entry.Family.{Family}
+use Rattle.prefix_table.specs.declared.line.RowEntry.{RowEntry}
+use Rattle.prefix_table.specs.declared.line.Family.{Family}
 use Rattle.prefix_table.proofs.EntryLaws.{parts_of, entry_from, has_space}
 use Rattle.prefix_table.proofs.line.read_entry.Goals as goal
 
-abbrev made : Family → ℕ → ℕ → ℕ → Entry
+abbrev made : Family → ℕ → ℕ → ℕ → RowEntry
 made family address len asn = record { family = family; address = address; len = len; asn = asn }
 
 abbrev read : Family → ℕ → Option (Family × ℕ)

@@ -3,10 +3,10 @@ use Rattle.std.specs.Prelude.{unwrap_or}
 use Rattle.prefix_table.specs.Text.{IsRowEntry}
 use Rattle.prefix_table.specs.Numbered.{IsSettled}
 use Rattle.std.proofs.lemmas.Bool.{false≢true}
-use Rattle.prefix_table.specs.declared.entry.Entry.{Entry}
+use Rattle.prefix_table.specs.declared.line.RowEntry.{RowEntry}
 use Rattle.prefix_table.proofs.line.read_line.Goals as goal
 
-differ : (entry : Entry) → None ≡ Some entry → ⊥
+differ : (entry : RowEntry) → None ≡ Some entry → ⊥
 differ entry e = cc
 
 pub returns-in_default-clause-cause : goal.returns-in_default-clause-cause
@@ -18,8 +18,8 @@ returns-in_default-clause-cause c = (
   },
 )
 
-settled_by : (text : List ℕ) (o : Option Entry) → ((entry : Entry) → IsRowEntry text entry → o ≡ Some entry) → IsSettled text
-settled_by text o only a b is it = ap (λ (p : Option Entry). unwrap_or p a) (sym (only a is) ∙ only b it)
+settled_by : (text : List ℕ) (o : Option RowEntry) → ((entry : RowEntry) → IsRowEntry text entry → o ≡ Some entry) → IsSettled text
+settled_by text o only a b is it = ap (λ (p : Option RowEntry). unwrap_or p a) (sym (only a is) ∙ only b it)
 
 pub returns-in_default-clause-settled : goal.returns-in_default-clause-settled
 returns-in_default-clause-settled c = settled_by c.args.text.now None c.in_default.ensures.only

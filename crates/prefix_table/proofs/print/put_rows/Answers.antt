@@ -5,7 +5,7 @@ use Rattle.std.proofs.lemmas.List.Elements.{All-more}
 use Rattle.std.proofs.lemmas.Grind.{take_at_read, flat_map-append}
 use Rattle.prefix_table.specs.Text.{IsRowAddress}
 use Rattle.prefix_table.specs.Print.{entry_of, address_text, row_text}
-use Rattle.prefix_table.specs.declared.row.Row.{Row}
+use Rattle.prefix_table.specs.declared.rows.Row.{Row}
 use Rattle.prefix_table.proofs.print.put_rows.Goals as goal
 
 abbrev blank : Row

@@ -2,7 +2,7 @@ use Rattle.std.proofs.Common.{List, ◌++◌, All, Result, Ok, Err, ap, ◌∙�
 use Rattle.std.specs.Prelude.{OnOk, flat_map}
 use Rattle.prefix_table.specs.Text.{IsRowAddress}
 use Rattle.prefix_table.specs.Print.{entry_of, address_text, row_text, table_text}
-use Rattle.prefix_table.specs.declared.row.Row.{Row}
+use Rattle.prefix_table.specs.declared.rows.Row.{Row}
 use Rattle.prefix_table.proofs.PrintLaws.{printed_is_read}
 use Rattle.prefix_table.proofs.TextSizes.{length-table}
 use Rattle.prefix_table.proofs.print.put_table.Goals as goal

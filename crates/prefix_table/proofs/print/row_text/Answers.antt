@@ -1,6 +1,6 @@
 use Rattle.std.proofs.Common.{◌≡◌, List, [], ◌∷◌, ◌++◌, ℕ, decimal, codes, true, false, cond, refl, ap, sym, ◌∙◌}
 use Rattle.prefix_table.specs.Print.{is_mapped, ipv4_entry, ipv6_entry, entry_of, row_text}
-use Rattle.prefix_table.specs.declared.row.Row.{Row}
+use Rattle.prefix_table.specs.declared.rows.Row.{Row}
 use Rattle.prefix_table.proofs.print.row_text.Goals as goal
 
 -- an entry has the number of its row

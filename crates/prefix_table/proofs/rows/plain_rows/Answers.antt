@@ -4,7 +4,7 @@ use Rattle.std.proofs.lemmas.List.{nil_from_length}
 use Rattle.std.proofs.lemmas.Bool.{eqb-true}
 use Rattle.host_io.specs.Lines.{IsPassedOver}
 use Rattle.prefix_table.specs.Text.{IsRowLine}
-use Rattle.prefix_table.specs.declared.row.Row.{Row}
+use Rattle.prefix_table.specs.declared.rows.Row.{Row}
 use Rattle.prefix_table.proofs.PlainLaws.{PlainSoFar, plain_so_far_none, plain_passed, plain_row, plain_full, plain_stops, plain_whole}
 use Rattle.prefix_table.proofs.rows.plain_rows.Goals as goal
 

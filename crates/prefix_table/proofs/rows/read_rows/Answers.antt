@@ -5,7 +5,7 @@ use Rattle.std.proofs.lemmas.Bool.{eqb-true}
 use Rattle.prefix_table.specs.declared.numbered.NumberedRow.{NumberedRow}
 use Rattle.host_io.specs.Lines.{IsPassedOver}
 use Rattle.prefix_table.specs.Text.{IsRowLine}
-use Rattle.prefix_table.specs.declared.row.Row.{Row}
+use Rattle.prefix_table.specs.declared.rows.Row.{Row}
 use Rattle.prefix_table.proofs.ReadLaws.{reading_stops}
 use Rattle.prefix_table.proofs.RowsLaws.{overflows, stops_at, SoFar, so_far_none, so_far_passed, so_far_row, whole}
 use Rattle.prefix_table.specs.Numbered.{with_line, Overflows}

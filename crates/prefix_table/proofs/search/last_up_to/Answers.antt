@@ -1,5 +1,5 @@
 use Rattle.std.proofs.Common.{arith}
-use Rattle.prefix_table.specs.declared.row.Row.{Row}
+use Rattle.prefix_table.specs.declared.rows.Row.{Row}
 use Rattle.prefix_table.proofs.OrderLaws.{not_after_last}
 use Rattle.prefix_table.proofs.search.last_up_to.Goals as goal
 

@@ -2,7 +2,7 @@ use Rattle.std.proofs.Common.{arith}
 use Rattle.std.specs.Prelude.{IfNone, Option, Some, None}
 use Rattle.std.proofs.lemmas.List.Elements.{All-contains}
 use Rattle.prefix_table.specs.Rows.{IsRow}
-use Rattle.prefix_table.specs.declared.row.Row.{Row}
+use Rattle.prefix_table.specs.declared.rows.Row.{Row}
 use Rattle.prefix_table.proofs.SearchLaws.{IsLast, IsLast-from, AreCommon, left_after, fewer_left, longest_found, none_covers}
 use Rattle.prefix_table.proofs.search.longest_match.Goals as goal
 use Rattle.prefix_table.proofs.search.longest_match.Goals.{After-common_bits-common}

@@ -1,5 +1,5 @@
 use Rattle.std.proofs.Common.{◌≤◌, List}
-use Rattle.prefix_table.specs.declared.row.Row.{Row}
+use Rattle.prefix_table.specs.declared.rows.Row.{Row}
 use Rattle.asmap_back.specs.Ahead.{HasLeft, bits_left}
 use Rattle.asmap_back.proofs.back_rows.BackRows.next.Given as goal
 

@@ -1,6 +1,6 @@
 use Rattle.std.proofs.Common.{◌<◌, ◌∷◌, List, length, refl, ap, sym, ◌∙◌, arith}
 use Rattle.asmap_vm.specs.declared.instruction.Instruction.TheVariants as instructions
-use Rattle.prefix_table.specs.declared.row.Row.{Row}
+use Rattle.prefix_table.specs.declared.rows.Row.{Row}
 use Rattle.asmap_back.specs.Ahead.{AreAhead}
 use Rattle.asmap_back.specs.declared.part.Part.{Part}
 use Rattle.asmap_back.proofs.Steps.{Opened, first_ahead, opened, reads_as, after_return, after_default, after_jump, after_match_bits, jump_fits, match_fits, JumpFits, MatchFits, part_fits, given_as, sides_first}

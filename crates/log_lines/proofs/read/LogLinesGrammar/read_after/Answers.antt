@@ -8,26 +8,26 @@ use Rattle.grammar.specs.declared.fault.LineFault.TheVariants as fault
 use Rattle.grammar.proofs.TableLemmas.{kinds_of_found, found_word}
 use Rattle.log_lines.specs.Spelling.{word_of, kinds_of, command_values, table, SpellsBy, SpellsAfter, HasFaultAfter}
 use Rattle.log_lines.specs.declared.command.Command.{Command}
-use Rattle.log_lines.specs.declared.verb.TheConstants.{VERBS}
-use Rattle.log_lines.specs.declared.verb.Verb.{Verb}
+use Rattle.log_lines.specs.declared.word.TheConstants.{KEYWORDS}
+use Rattle.log_lines.specs.declared.word.CommandWord.{CommandWord}
 use Rattle.log_lines.proofs.read.LogLinesGrammar.read_after.Goals as goal
 
 -- the kinds after a word are those of the keyword that is found, if one is
-kinds_found : (word : List ℕ) (found : Option Verb) → found ≡ find (λ verb. bytes_eq (word_of verb) word) VERBS → kinds_after table word ≡ option_map kinds_of found
-kinds_found word found is = kinds_of_found word_of kinds_of VERBS word ∙ ap (option_map kinds_of) (sym is)
+kinds_found : (word : List ℕ) (found : Option CommandWord) → found ≡ find (λ verb. bytes_eq (word_of verb) word) KEYWORDS → kinds_after table word ≡ option_map kinds_of found
+kinds_found word found is = kinds_of_found word_of kinds_of KEYWORDS word ∙ ap (option_map kinds_of) (sym is)
 
-spelled : (word : List ℕ) (texts : List (List ℕ)) (verb : Verb) (read : Result Command LineFault) → Some verb ≡ find (λ v. bytes_eq (word_of v) word) VERBS →
+spelled : (word : List ℕ) (texts : List (List ℕ)) (verb : CommandWord) (read : Result Command LineFault) → Some verb ≡ find (λ v. bytes_eq (word_of v) word) KEYWORDS →
     IfOk read (λ c. SpellsBy verb texts c) → IfOk read (λ c. SpellsAfter word texts c)
 spelled word texts verb (Ok c) is h = (
-  found_word word_of VERBS word verb (sym is) ∙ ap word_of (sym h.0),
+  found_word word_of KEYWORDS word verb (sym is) ∙ ap word_of (sym h.0),
   subst (λ o. ValuesAfter o texts (command_values c)) (sym (kinds_found word (Some verb) is)) h.1,
 )
 spelled word texts verb (Err f) is h = h
 
-faulty : (word : List ℕ) (texts : List (List ℕ)) (verb : Verb) (f : LineFault) → Some verb ≡ find (λ v. bytes_eq (word_of v) word) VERBS → AreAtFault (kinds_of verb) texts f → HasFaultAfter word texts f
+faulty : (word : List ℕ) (texts : List (List ℕ)) (verb : CommandWord) (f : LineFault) → Some verb ≡ find (λ v. bytes_eq (word_of v) word) KEYWORDS → AreAtFault (kinds_of verb) texts f → HasFaultAfter word texts f
 faulty word texts verb f is h = subst (λ o. FaultAfter o texts f) (sym (kinds_found word (Some verb) is)) h
 
-no_keyword : (word : List ℕ) (texts : List (List ℕ)) (f : LineFault) → None ≡ find (λ v. bytes_eq (word_of v) word) VERBS → fault.Word ≡ f → HasFaultAfter word texts f
+no_keyword : (word : List ℕ) (texts : List (List ℕ)) (f : LineFault) → None ≡ find (λ v. bytes_eq (word_of v) word) KEYWORDS → fault.Word ≡ f → HasFaultAfter word texts f
 no_keyword word texts f is e = subst (λ o. FaultAfter o texts f) (sym (kinds_found word None is)) (sym e)
 
 pub returns-in-Some-clause-found : goal.returns-in-Some-clause-found

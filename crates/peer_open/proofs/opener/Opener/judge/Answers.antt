@@ -1,5 +1,5 @@
 use Rattle.std.proofs.Common.{rules}
-use Rattle.peer_open.specs.declared.verdict.Verdict.TheVariants.{SameGroup}
+use Rattle.peer_open.specs.declared.outbound.Verdict.TheVariants.{SameGroup}
 use Rattle.peer_open.proofs.Judged.{judged_so}
 use Rattle.peer_open.proofs.opener.Opener.judge.Goals as goal
 

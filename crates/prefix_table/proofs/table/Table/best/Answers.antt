@@ -1,7 +1,7 @@
 use Rattle.std.proofs.Common.{◌≡◌, ◌∙◌, ℕ, List, sym, subst}
 use Rattle.std.specs.Prelude.{Contains, true}
 use Rattle.prefix_table.specs.Rows.{IsTable, IsLongest, best, row_covers}
-use Rattle.prefix_table.specs.declared.row.Row.{Row}
+use Rattle.prefix_table.specs.declared.rows.Row.{Row}
 use Rattle.prefix_table.proofs.BestLaws.{best_found, best_none}
 use Rattle.prefix_table.proofs.table.Table.best.Goals as goal
 

@@ -1,5 +1,0 @@
-use Rattle.log_laws.proofs.SharesOf.{keeps_shares}
-use Rattle.log_laws.proofs.groups.groups_reach_few.Goals as goal
-
-pub returns : goal.returns
-returns c = keeps_shares
