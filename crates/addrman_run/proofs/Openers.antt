@@ -48,7 +48,7 @@ few_tried places GaveUp open_peers few = omega (arith, few)
 abbrev AreFew : opener.OpenerState → Type 0
 AreFew s = length s.open_peers ≤ MAX_OUTBOUND
 
-step_few : (old new : opener.OpenerState) (asked : Request) (answer : Answer) → RequestStep old asked answer new → AreFew old → AreFew new
+step_few : (old new : opener.OpenerState) (asked : OpenerCommand) (answer : Answer) → RequestStep old asked answer new → AreFew old → AreFew new
 step_few old new (request.Outbound seed) answer (inl full) few = subst AreFew (sym full.2) few
 step_few old new (request.Outbound seed) answer (inr tried) few =
     subst AreFew (sym tried.1.3) (few_tried old.machine.tables.places tried.1.0 old.open_peers tried.0)
@@ -72,7 +72,7 @@ none_open i j d le lt = absurd (omega (arith, lt))
 pub ran_by : {W : Type 0} (key : Option (List ℕ)) (kind : FileKind) (st : tables.State) (start : opener.OpenerState) (w : W) (old new : Outside) (how : LogEnd)
     → Opened key kind old.past st → start ≡ opener_start st
     → ((old new : opener.OpenerState) (line text : List ℕ) → LineStep old line text new → AreApart old.open_peers → AreApart new.open_peers)
-    → ((old new : opener.OpenerState) (asked : Request) (answer : Answer) → RequestStep old asked answer new → IsFair old asked answer)
+    → ((old new : opener.OpenerState) (asked : OpenerCommand) (answer : Answer) → RequestStep old asked answer new → IsFair old asked answer)
     → Ran (Seen {S = opener.OpenerState × W} (λ p. p.0) LineStep HasRequestFault) HasRequestFault (start, w) (streams_of old) (streams_of new) how
     → OpenerRan key kind old new how
 ran_by {W = W} key kind st start w old new how opened begins apart fair r = record {

@@ -49,7 +49,7 @@ IsReplayLine line = IsPassedOver line ⊎ ((command : Command) × SpellsCommand 
 
 -- a line that an opener carries out
 abbrev pub IsOpenerLine : List ℕ → Type 0
-IsOpenerLine line = IsPassedOver line ⊎ ((asked : opener.Request) × LineAsks line asked)
+IsOpenerLine line = IsPassedOver line ⊎ ((asked : opener.OpenerCommand) × LineAsks line asked)
 
 -- a line that the limit carries out
 abbrev pub IsLimitLine : List ℕ → Type 0

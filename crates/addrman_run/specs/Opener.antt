@@ -33,7 +33,7 @@ pub record KeepsRules (start : opener.OpenerState) : Type 0 where
       → Run LineStep start lines text now → length now.open_peers ≤ MAX_OUTBOUND
   pub fair : (lines : List (List ℕ)) (text : List ℕ) (now : opener.OpenerState)
       → Run LineStep start lines text now
-      → (asked : Request) (answer : Answer) (next : opener.OpenerState)
+      → (asked : OpenerCommand) (answer : Answer) (next : opener.OpenerState)
       → RequestStep now asked answer next → IsFair now asked answer
 
 -- An opener that got past its opening, by the end of its run over the log.
