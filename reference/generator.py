@@ -20,12 +20,12 @@ class Generator:
     """The random words and the clock of a log."""
 
     def __init__(self, start: int):
-        self.words = Xoshiro(start)
+        self.words = Xoshiro(start).words()
         self.time = START_TIME
 
     def draw(self, limit: int) -> int:
         """The next random word modulo a number."""
-        return self.words.next() % limit
+        return next(self.words) % limit
 
     def message(self) -> str:
         """A line with a message."""

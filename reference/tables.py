@@ -297,8 +297,10 @@ class Tables:
         buckets = places.TRIED_BUCKETS if in_tried else places.NEW_BUCKETS
         factor = ONE
         while True:
-            slots = table.get(next(words) % buckets, {})
+            slots = table.get(next(words) % buckets)
             start = next(words) % places.SLOTS
+            if not slots:
+                continue
             in_turn = sorted(slots, key=lambda slot: (slot - start) % places.SLOTS)
             found = (self.records[slots[slot]] for slot in in_turn)
             first = next((record for record in found if candidate(record)), None)

@@ -54,20 +54,19 @@ class Xoshiro:
             words.append(word ^ word >> 31)
         self.state = tuple(words)
 
-    def next(self) -> int:
-        """The next word of 64 bits."""
+    def words(self) -> Iterator[int]:
+        """The words of 64 bits, one after another."""
         first, second, third, fourth = self.state
-        sum_of_ends = first + fourth & MASK
-        word = ((sum_of_ends << 23 | sum_of_ends >> 41) + first) & MASK
-        shifted = second << 17 & MASK
-        third ^= first
-        fourth ^= second
-        second ^= third
-        first ^= fourth
-        third ^= shifted
-        fourth = (fourth << 45 | fourth >> 19) & MASK
-        self.state = (first, second, third, fourth)
-        return word
+        while True:
+            sum_of_ends = first + fourth & MASK
+            yield ((sum_of_ends << 23 | sum_of_ends >> 41) + first) & MASK
+            shifted = second << 17 & MASK
+            third ^= first
+            fourth ^= second
+            second ^= third
+            first ^= fourth
+            third ^= shifted
+            fourth = (fourth << 45 | fourth >> 19) & MASK
 
 
 class Words(NamedTuple):
@@ -79,7 +78,7 @@ class Words(NamedTuple):
 
 def seeded_words(seed: int, count: int) -> Words:
     """The first `count` words of a seed."""
-    return Words(count, islice(iter(Xoshiro(seed).next, None), count))
+    return Words(count, islice(Xoshiro(seed).words(), count))
 
 
 def read_words(text: bytes) -> Words | None:
