@@ -21,16 +21,18 @@ use Rattle.net_addr.specs.declared.peer.Peer.{Peer}
 use Rattle.peers_file.specs.declared.chain.Chain.{Chain}
 use Rattle.placing.specs.declared.sum.SumRule.{SumRule}
 use Rattle.placing.specs.declared.sum.SumRule.TheVariants.{Bytes}
-use Rattle.arguments.specs.Options.{HasRule, IsAfterGrouping, IsAfterPeers, IsListingOptions, IsNet, IsOpeningOptions}
-use Rattle.arguments.specs.Table.{AddressOrLines, Asks, Fields, ForBans, Form, Grouped, HasNoValues, IsAddressIn, IsProperRequest, Listing, Network, OfCommand, OfSubnet, Opening, PeerOrLines, Period, Reads, Records, TheAddress, TheBanFields, TheKind, TheCommand, TheFields, TheGroups, TheListing, TheOpening, ThePeriod, TheRecords, TheSubnet, Values, form_of, name_of, plain_word, request_values, command_word}
+use Rattle.arguments.specs.Options.{HasRule, IsAfterGrouping, IsAfterPeers, IsFileOptions, IsListingOptions, IsNet, IsOpeningOptions}
+use Rattle.arguments.specs.Table.{AddressOrLines, Asks, Fields, ForBans, Form, Grouped, HasNoValues, IsAddressIn, IsProperRequest, Listing, Network, OfCommand, OfSubnet, Opening, PeerOrLines, Period, Reads, Records, TheAddress, TheAnchors, TheBanFields, TheKind, TheCommand, TheFields, TheGroups, TheListing, TheOpening, ThePeriod, TheRecords, TheSubnet, Values, form_of, name_of, plain_word, request_values, command_word}
+use Rattle.arguments.specs.declared.file_kind.FileKind.{FileKind}
 use Rattle.arguments.specs.declared.grouping.Grouping.{Grouping}
 use Rattle.arguments.specs.declared.name.CommandName.{CommandName}
 use Rattle.arguments.specs.declared.name.CommandName.TheVariants as name
 use Rattle.arguments.specs.declared.name.TheConstants.{NAMES}
 use Rattle.arguments.specs.declared.request.Request.{Request}
-use Rattle.arguments.specs.declared.request.Request.TheVariants.{Replay, Opener, Compile, Check, Decompile, Diff, Limit, Lookup, LookupLines, Address, AddressLines, Show, Picture, Raw, Info, Groups, Risk, Ban, Unban, Banned, Bans, Gen, Trial, Help, Version}
+use Rattle.arguments.specs.declared.request.Request.TheVariants.{Replay, Opener, Compile, Check, Decompile, Diff, Limit, Lookup, LookupLines, Address, AddressLines, Show, Anchors, Picture, Raw, Info, Groups, Risk, Ban, Unban, Banned, Bans, Gen, Trial, Help, Version}
+use Rattle.arguments.proofs.BesideAnchors.{one_show}
 use Rattle.arguments.proofs.BanForms.{one_ban_fields, one_period, one_subnet_in}
-use Rattle.arguments.proofs.WithCore.{no_file_kind, no_listing_kind, no_opening_kind, no_peers, one_file_kind, one_listing_kind, one_opening_kind, one_peers}
+use Rattle.arguments.proofs.WithCore.{no_file_kind, no_listing_kind, no_opening_kind, no_peers, one_file_kind, one_opening_kind, one_peers}
 use Rattle.arguments.proofs.Groupings.{no_grouping_kind, one_grouping_kind}
 use Rattle.arguments.proofs.Names.{name_found, one_command}
 
@@ -77,9 +79,7 @@ one_values Opening texts v w is h k =
     let same = one_opening_kind texts h.0 k.0 h.1 k.1 h.3 k.3 in
     h.2 ∙ (λ i. TheOpening (same.0 i) (same.1 i)) ∙ sym k.2
 one_values Network texts v w is h k = h.1 ∙ ap TheKind (one_file_kind texts h.0 k.0 h.2 k.2) ∙ sym k.1
-one_values Listing texts v w is h k =
-    let same = one_listing_kind texts h.0 k.0 h.1 k.1 h.3 k.3 in
-    h.2 ∙ (λ i. TheListing (same.0 i) (same.1 i)) ∙ sym k.2
+one_values Listing texts v w is h k = one_show texts v w h k
 one_values Records texts v w is h k = h.1 ∙ ap TheRecords (one_peers texts h.0 k.0 h.2 k.2) ∙ sym k.1
 one_values Grouped texts v w is h k =
     let same = one_grouping_kind texts h.0 k.0 h.1 k.1 h.3 k.3 in
@@ -109,6 +109,7 @@ request_by name.Lookup (TheFields []) = LookupLines
 request_by name.Address (TheAddress addr) = Address addr
 request_by name.Address (TheFields []) = AddressLines
 request_by name.Show (TheListing keyed kind) = Show keyed kind
+request_by name.Show (TheAnchors chain) = Anchors chain
 request_by name.Picture (TheKind kind) = Picture kind
 request_by name.Raw (TheKind kind) = Raw kind
 request_by name.Info (TheKind kind) = Info kind
@@ -270,9 +271,9 @@ module _ (texts rest : List (List ℕ)) (rule : SumRule) (has : HasRule rule res
   unfolding HasNoValues
   no_net r is only v reads = no_file_kind texts rest rule has none (λ chain chosen. none-some chain (sym is ∙ only chain chosen)) reads.0 reads.2
 
-  pub no_listing : (r : Option (Bool × Chain)) → r ≡ None → ((keyed : Bool) (chain : Chain) → IsListingOptions keyed rest chain → r ≡ Some (keyed, chain)) → HasNoValues Listing texts
-  unfolding HasNoValues
-  no_listing r is only v reads = no_listing_kind texts rest rule has none (λ keyed chain chosen. none-some (keyed, chain) (sym is ∙ only keyed chain chosen)) reads.0 reads.1 reads.3
+  pub no_listing : (r : Option (Bool × Chain)) → r ≡ None → ((keyed : Bool) (chain : Chain) → IsListingOptions keyed rest chain → r ≡ Some (keyed, chain)) →
+      (keyed : Bool) (kind : FileKind) → IsFileOptions (IsListingOptions keyed) texts kind → ⊥
+  no_listing r is only keyed kind chosen = no_listing_kind texts rest rule has none (λ keyed chain chosen. none-some (keyed, chain) (sym is ∙ only keyed chain chosen)) keyed kind chosen
 
   pub no_grouping : (r : Option (Grouping × Chain)) → r ≡ None → ((by : Grouping) (chain : Chain) → IsAfterGrouping by rest chain → r ≡ Some (by, chain)) → HasNoValues Grouped texts
   unfolding HasNoValues

@@ -83,11 +83,11 @@ third_of_key : (digits : List ℕ) (rest words : List (List ℕ)) → Begins (co
 third_of_key digits rest words (inl is) = ap (λ ws. get_or (get_or ws 0 []) 2 0) is
 third_of_key digits rest words (inr is) = ap (λ ws. get_or (get_or ws 0 []) 2 0) is
 
-third : ChainOption → ℕ
+unfoldable pub third : ChainOption → ℕ
 third Net = 110
 third Magic = 109
 
-third_is : (by : ChainOption) (value : List ℕ) (rest words : List (List ℕ)) → Begins (chain_option by) value rest words → get_or (get_or words 0 []) 2 0 ≡ third by
+pub third_is : (by : ChainOption) (value : List ℕ) (rest words : List (List ℕ)) → Begins (chain_option by) value rest words → get_or (get_or words 0 []) 2 0 ≡ third by
 unfolding third
 third_is Net value rest words (inl is) = ap (λ ws. get_or (get_or ws 0 []) 2 0) is
 third_is Net value rest words (inr is) = ap (λ ws. get_or (get_or ws 0 []) 2 0) is

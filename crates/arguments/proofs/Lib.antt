@@ -1,6 +1,7 @@
 pub mod Choosing
 pub mod WithCore
 pub mod Groupings
+pub mod BesideAnchors
 pub mod BanForms
 pub mod Asking
 pub mod Names

@@ -81,6 +81,11 @@ abbrev pub IsAfterPeers : List (List ℕ) → Chain → Type 0
 IsAfterPeers options chain =
     (rest : List (List ℕ)) × (options ≡ codes "--peers" ∷ rest) × IsNet rest chain
 
+-- the arguments ask for the anchors in a file of this chain
+abbrev pub IsAfterAnchors : List (List ℕ) → Chain → Type 0
+IsAfterAnchors options chain =
+    (rest : List (List ℕ)) × (options ≡ codes "--anchors" ∷ rest) × IsNet rest chain
+
 -- what makes records one group, as people write it
 abbrev pub grouping_word : Grouping → List ℕ
 grouping_word Source = codes "source"

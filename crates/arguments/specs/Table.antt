@@ -10,13 +10,14 @@ use Rattle.grammar.specs.Fields.{AllMean, Kind, Number, OfPeer, Value, TheNumber
 use Rattle.names.specs.Text.{IsTextOf}
 use Rattle.net_addr.specs.Address.{Address as NetAddress}
 use Rattle.net_addr.specs.declared.peer.Peer.{Peer}
-use Rattle.arguments.specs.Options.{HasBanRule, IsAfterGrouping, IsFileOptions, IsListingOptions, IsNet, IsOpeningOptions, IsPeersOption}
+use Rattle.peers_file.specs.declared.chain.Chain.{Chain}
+use Rattle.arguments.specs.Options.{HasBanRule, IsAfterAnchors, IsAfterGrouping, IsFileOptions, IsListingOptions, IsNet, IsOpeningOptions, IsPeersOption}
 use Rattle.arguments.specs.declared.file_kind.FileKind.{FileKind}
 use Rattle.arguments.specs.declared.grouping.Grouping.{Grouping}
 use Rattle.arguments.specs.declared.name.CommandName.{CommandName}
 use Rattle.arguments.specs.declared.name.CommandName.TheVariants as name
 use Rattle.arguments.specs.declared.request.Request.{Request}
-use Rattle.arguments.specs.declared.request.Request.TheVariants.{Replay, Opener, Compile, Check, Decompile, Diff, Limit, Lookup, LookupLines, Address, AddressLines, Show, Picture, Raw, Info, Groups, Risk, Ban, Unban, Banned, Bans, Gen, Trial, Help, Version}
+use Rattle.arguments.specs.declared.request.Request.TheVariants.{Replay, Opener, Compile, Check, Decompile, Diff, Limit, Lookup, LookupLines, Address, AddressLines, Show, Anchors, Picture, Raw, Info, Groups, Risk, Ban, Unban, Banned, Bans, Gen, Trial, Help, Version}
 
 -- THE NAME
 
@@ -63,7 +64,7 @@ NameCommand texts None = texts ≡ []
 NameCommand texts (Some name) = texts ≡ command_word name ∷ []
 
 -- What comes after the name of a command: fields of these kinds; the options `--key` and `--net`;
--- only `--net`; `--net` and `--no-key`; `--peers` and `--net`, or nothing; what makes records one
+-- only `--net`; `--net` and `--no-key`, or `--anchors` and `--net`; `--peers` and `--net`, or nothing; what makes records one
 -- group, and `--net`; a subnet; a subnet and two times, the earlier one first; fields of these kinds
 -- for a list of bans; the name of a command or nothing; `-` or a peer; or `-`, or else what people
 -- write for an address. `--magic` with digits may be in the place of `--net`, and `--core` before
@@ -88,6 +89,7 @@ pub data Values : Type 0 where
   TheOpening : Option (List ℕ) → FileKind → Values
   TheKind : FileKind → Values
   TheListing : Bool → FileKind → Values
+  TheAnchors : Chain → Values
   TheRecords : Option FileKind → Values
   TheGroups : Grouping → FileKind → Values
   TheSubnet : BanRule → Subnet → Values
@@ -120,8 +122,9 @@ Reads Opening texts v =
     × IsFileOptions (IsOpeningOptions key) texts kind
 Reads Network texts v = (kind : FileKind) × (v ≡ TheKind kind) × IsFileOptions IsNet texts kind
 Reads Listing texts v =
-    (keyed : Bool) × (kind : FileKind) × (v ≡ TheListing keyed kind)
-    × IsFileOptions (IsListingOptions keyed) texts kind
+    ((keyed : Bool) × (kind : FileKind) × (v ≡ TheListing keyed kind)
+    × IsFileOptions (IsListingOptions keyed) texts kind)
+    ⊎ ((chain : Chain) × (v ≡ TheAnchors chain) × IsAfterAnchors texts chain)
 Reads Records texts v =
     (peers : Option FileKind) × (v ≡ TheRecords peers) × IsPeersOption texts peers
 Reads Grouped texts v =
@@ -189,6 +192,7 @@ name_of LookupLines = name.Lookup
 name_of (Address addr) = name.Address
 name_of AddressLines = name.Address
 name_of (Show keyed kind) = name.Show
+name_of (Anchors chain) = name.Show
 name_of (Picture kind) = name.Picture
 name_of (Raw kind) = name.Raw
 name_of (Info kind) = name.Info
@@ -210,6 +214,7 @@ request_values (Opener key kind) = TheOpening key kind
 request_values (Lookup peer) = TheFields (ThePeer peer ∷ [])
 request_values (Address addr) = TheAddress addr
 request_values (Show keyed kind) = TheListing keyed kind
+request_values (Anchors chain) = TheAnchors chain
 request_values (Picture kind) = TheKind kind
 request_values (Raw kind) = TheKind kind
 request_values (Info kind) = TheKind kind

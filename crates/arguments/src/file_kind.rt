@@ -1,6 +1,7 @@
-ghost use Rattle.std.specs.Prelude.{◌≡◌, ◌≢◌, ℕ, List, ◌∷◌, codes, map, string_bytes, IfSome, IfNone};
+ghost use Rattle.std.specs.Prelude.{◌≡◌, ◌≢◌, ℕ, Bool, List, ◌∷◌, codes, map, string_bytes, IfSome, IfNone};
 ghost use Rattle.arguments.specs.Options.{HasRule, IsAfterGrouping, IsFileOptions, IsListingOptions, IsNet, IsOpeningOptions, IsPeersOption};
-ghost use Rattle.arguments.specs.Table.{Grouped, HasNoValues, Listing, Network, Opening, Records};
+ghost use Rattle.arguments.specs.Table.{Grouped, HasNoValues, Network, Opening, Records};
+ghost use Rattle.arguments.specs.declared.file_kind.FileKind.{FileKind};
 ghost use Rattle.placing.specs.declared.sum.SumRule.TheVariants.{Bytes};
 
 use crate::Grouping;
@@ -59,12 +60,13 @@ pub(crate) fn read_file_kind(words: &[String]) -> Option<FileKind>
     }
 }
 
-/// Reads the arguments after `show`: `--core`, and after it those that choose a chain, and whether
-/// the key is listed.
+/// Reads the arguments after `show` that list peers.dat: `--core`, and after it those that choose a
+/// chain, and whether the key is listed.
 pub(crate) fn read_listing_kind(words: &[String]) -> Option<(bool, FileKind)>
     ensures found { IfSome result (λ o.
         IsFileOptions (IsListingOptions o.0) (map string_bytes words.now) o.1) }
-    ensures none { IfNone result (HasNoValues Listing (map string_bytes words.now)) }
+    ensures none { IfNone result ((keyed : Bool) (kind : FileKind) →
+        ¬ IsFileOptions (IsListingOptions keyed) (map string_bytes words.now) kind) }
 {
     let (rule, rest) = cut_rule(words);
     match read_listing(rest) {

@@ -60,18 +60,20 @@ Codes    0 done, 2 bad usage, 3 a line has an error, 7 the log cannot be read,
 );
 
 pub(crate) const SHOW: Page = (
-    "show [--net CHAIN] [--no-key] [--core]",
+    "show [--anchors] [--net CHAIN] [--no-key] [--core]",
     "lists the key and the records of peers.dat",
     "\
-Reads    peers.dat.
+Reads    peers.dat; with --anchors only anchors.dat.
 Writes   a line for the file, with its key unless --no-key is given, and one for each
-         record.
+         record; of anchors.dat how many anchors it has, and a line for each.
 CHAIN    main, test, testnet4, signet or regtest; main if it is left out. In place of
          --net may be --magic and the 8 hexadecimal digits that its files begin with.
-FILE     --peers FILE is read in the place of peers.dat.
+FILE     --peers FILE is read in the place of peers.dat, and --anchors FILE in that of
+         anchors.dat. Beside --anchors may be a chain, and nothing else.
 --core   changes nothing here: no checksum of asmap.dat is compared.
 Codes    0 done, 2 bad usage, 4 peers.dat is refused, 8 the output cannot be written,
-         9 the folder failed, 12 out of memory, 14 peers.dat is missing.
+         9 the folder failed, 12 out of memory, 14 peers.dat or anchors.dat is missing,
+         21 anchors.dat is refused.
 ",
 );
 

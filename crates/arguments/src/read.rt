@@ -1,5 +1,5 @@
 ghost use Rattle.std.specs.Prelude.{◌≡◌, ◌↔◌, [], ◌∷◌, codes, length, map, string_bytes, Some, IfSome, IfNone, IsTrue};
-ghost use Rattle.arguments.specs.Table.{AddressOrLines, Asks, Fields, HasNoValues, IsProperRequest, PeerOrLines, Reads, ForBans, TheBanFields, TheFields, form_of, name_of, request_values};
+ghost use Rattle.arguments.specs.Table.{AddressOrLines, Asks, Fields, HasNoValues, IsProperRequest, Listing, PeerOrLines, Reads, ForBans, TheBanFields, TheFields, form_of, name_of, request_values};
 ghost use Rattle.arguments.specs.declared.name.CommandName.TheVariants as name;
 ghost use Rattle.arguments.specs.declared.request.Request.{Request};
 
@@ -11,7 +11,7 @@ use crate::file_kind::{
     read_file_kind, read_grouping_kind, read_listing_kind, read_opening_kind, read_records,
 };
 use crate::name::{CommandName, NAMES};
-use crate::options::{first_word, only_word};
+use crate::options::{first_word, only_word, read_after_anchors};
 use ban_list::{BanRule, texts_have_one_meaning};
 use gen_load::MAX_LINES;
 use grammar::{Between, Fields, LongBetween, OnePeer, find_keyword, read_fields};
@@ -74,10 +74,7 @@ fn read_after(alloc: Global, name: CommandName, rest: &[String]) -> Option<Reque
         CommandName::Limit => only_name(rest, Request::Limit),
         CommandName::Lookup => read_lookup(alloc, rest),
         CommandName::Address => read_addresses(rest),
-        CommandName::Show => {
-            let (keyed, kind) = read_listing_kind(rest)?;
-            Some(Request::Show { keyed, kind })
-        }
+        CommandName::Show => read_show(rest),
         CommandName::Picture => Some(Request::Picture {
             kind: read_file_kind(rest)?,
         }),
@@ -142,6 +139,21 @@ fn read_lookup(alloc: Global, rest: &[String]) -> Option<Request>
     }
     match read_values::<(OnePeer, ())>(alloc, rest) {
         Some((peer, ())) => Some(Request::Lookup { peer }),
+        None => None,
+    }
+}
+
+/// Reads the arguments after `show`, which ask for anchors, or else for what peers.dat has.
+fn read_show(rest: &[String]) -> Option<Request>
+    ensures found { IfSome result (λ request. (name_of request ≡ name.Show)
+        × Reads Listing (map string_bytes rest.now) (request_values request)) }
+    ensures none { IfNone result (HasNoValues Listing (map string_bytes rest.now)) }
+{
+    if let Some(chain) = read_after_anchors(rest) {
+        return Some(Request::Anchors { chain });
+    }
+    match read_listing_kind(rest) {
+        Some((keyed, kind)) => Some(Request::Show { keyed, kind }),
         None => None,
     }
 }

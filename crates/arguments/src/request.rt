@@ -1,6 +1,7 @@
 use crate::{CommandName, FileKind, Grouping};
 use ban_list::{BanRule, Subnet};
 use net_addr::{NetAddr, Peer};
+use peers_file::Chain;
 
 /// What the arguments ask for.
 #[derive(Clone, Copy)]
@@ -48,6 +49,11 @@ pub enum Request {
     Show {
         keyed: bool,
         kind: FileKind,
+    },
+    /// `show --anchors --net CHAIN`: list the anchors in the file that stands in the place of
+    /// peers.dat, an anchors.dat of this chain.
+    Anchors {
+        chain: Chain,
     },
     /// `picture --net CHAIN`: write a picture of the tables that peers.dat, a file of this chain,
     /// opens with asmap.dat.
