@@ -351,6 +351,7 @@ done request.LookupLines old new answer ends cause fine calm = lookup_lines_done
 done (request.Address addr) old new answer ends cause fine calm = text_done _ _ old new answer ends cause fine calm
 done request.AddressLines old new answer ends cause fine calm = address_lines_done old new answer ends cause fine calm
 done (request.Show keyed kind) old new answer ends cause fine calm = file_line_done _ _ _ old new answer ends cause fine calm
+done (request.Anchors chain) old new answer ends cause fine calm = file_line_done _ _ _ old new answer ends cause fine calm
 done (request.Picture kind) old new answer ends cause fine calm = text_done _ _ old new answer ends.ends cause fine calm
 done (request.Raw kind) old new answer ends cause fine calm = text_done _ _ old new answer ends.ends cause fine calm
 done (request.Info kind) old new answer ends cause fine calm = text_done _ _ old new answer ends.ends cause fine calm

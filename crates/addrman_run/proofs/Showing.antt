@@ -19,7 +19,7 @@ unfolding whole_fault
 larger chain bytes more = rw (lt-ltb MAX_FILE (length bytes) more) refl
 
 -- the bytes of a file of this size
-of_size : (o : Option (List ℕ)) (size : ℕ) → option_map length o ≡ Some size → (bytes : List ℕ) × (o ≡ Some bytes) × (length bytes ≡ size)
+pub of_size : (o : Option (List ℕ)) (size : ℕ) → option_map length o ≡ Some size → (bytes : List ℕ) × (o ≡ Some bytes) × (length bytes ≡ size)
 of_size None size is = absurd (cc)
 of_size (Some bytes) size is = (bytes, refl, cc)
 

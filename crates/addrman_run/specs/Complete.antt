@@ -23,6 +23,7 @@ use Rattle.opener_lines.specs.declared.command.OpenerCommand as opener
 use Rattle.risk_parts.specs.Sets.{IsSetText}
 use Rattle.risk_parts.specs.declared.addr_set.AddrSet.{AddrSet}
 use Rattle.session.specs.History.{failed}
+use Rattle.addrman_run.specs.Anchors.{ReportsAnchors}
 use Rattle.addrman_run.specs.Asmaps.{ReportsAsmap}
 use Rattle.addrman_run.specs.Bans.{ReportsBans}
 use Rattle.addrman_run.specs.Decompile.{ReportsDecompile}
@@ -34,7 +35,7 @@ use Rattle.addrman_run.specs.Replay.{Replayed}
 use Rattle.addrman_run.specs.Show.{ReportsPeers}
 use Rattle.addrman_run.specs.Tables.{ReportsTable}
 use Rattle.arguments.specs.declared.request.Request.{Request}
-use Rattle.arguments.specs.declared.request.Request.TheVariants.{Show, Picture, Raw, Info, Groups, Risk}
+use Rattle.arguments.specs.declared.request.Request.TheVariants.{Show, Anchors, Picture, Raw, Info, Groups, Risk}
 use Rattle.arguments.specs.declared.request.Request.TheVariants.{Replay, Opener, Compile, Check, Lookup, LookupLines, Address, AddressLines}
 use Rattle.arguments.specs.declared.request.Request.TheVariants.{Decompile, Diff, Limit}
 use Rattle.arguments.specs.declared.request.Request.TheVariants.{Ban, Unban, Banned, Bans}
@@ -112,6 +113,7 @@ NothingIsWrong (Address addr) at = NoRefusal (ReportsAsmap at.past)
 NothingIsWrong AddressLines at =
     IsGoodLog IsAddressLine at.left × NoRefusal (ReportsAsmap at.past)
 NothingIsWrong (Show keyed kind) at = IsUsable name.Peers (ReportsPeers kind.chain) at.past
+NothingIsWrong (Anchors chain) at = IsUsable name.Peers (ReportsAnchors chain) at.past
 NothingIsWrong (Picture kind) at = NoRefusal (ReportsTables kind.chain at.past)
 NothingIsWrong (Raw kind) at = NoRefusal (ReportsTables kind.chain at.past)
 NothingIsWrong (Info kind) at = NoRefusal (ReportsTables kind.chain at.past)

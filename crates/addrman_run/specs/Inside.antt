@@ -15,6 +15,8 @@ use Rattle.ban_list.specs.BanFile.{HasListFault}
 use Rattle.ban_list.specs.NewFile.{IsWritten}
 use Rattle.ban_list.specs.declared.ban.Ban.{Ban}
 use Rattle.ban_list.specs.declared.fault.BanFault.{BanFault}
+use Rattle.anchors.specs.declared.fault.AnchorsFault.TheVariants as anchors_fault
+use Rattle.anchors.specs.declared.read.TheConstants as anchors
 use Rattle.ban_list.specs.declared.fault.BanFault.TheVariants as ban
 use Rattle.ban_list.specs.declared.read_file.TheConstants as bans
 use Rattle.ban_list.specs.declared.rule.BanRule.{BanRule}
@@ -45,7 +47,7 @@ use Rattle.arguments.specs.declared.file_kind.FileKind.{FileKind}
 use Rattle.table_machine.specs.State.{State, empty_state}
 use Rattle.table_machine.specs.Restoring.{duplicate}
 use Rattle.addrman_run.specs.declared.status.Status.{Status}
-use Rattle.addrman_run.specs.declared.status.Status.TheVariants.{PeersRefused, BansRefused, OldAsmapRefused}
+use Rattle.addrman_run.specs.declared.status.Status.TheVariants.{PeersRefused, BansRefused, OldAsmapRefused, AnchorsRefused}
 use Rattle.addrman_run.specs.declared.status.Status.TheVariants.{Done, LogLine, LineTooLong, LogTooLong, AsmapRefused, TableRefused, ReadFault, WriteFault, DiskFault, Memory, NoFile, NoKey}
 
 -- the name of a file that commands load
@@ -55,6 +57,7 @@ name_of input.AsmapOld = name.AsmapOld
 name_of input.Prefixes = name.Prefixes
 name_of input.Peers = name.Peers
 name_of input.Bans = name.Bans
+name_of input.Anchors = name.Peers
 
 -- the maximum size of it in bytes
 abbrev pub max_of : Input → ℕ
@@ -63,6 +66,7 @@ max_of input.AsmapOld = MAX_ASMAP
 max_of input.Prefixes = MAX_TEXT
 max_of input.Peers = MAX_FILE
 max_of input.Bans = bans.MAX_FILE
+max_of input.Anchors = anchors.MAX_FILE
 
 -- the status for a file of more bytes
 abbrev pub too_large_of : Input → ℕ → Status
@@ -71,6 +75,7 @@ too_large_of input.AsmapOld size = OldAsmapRefused (code.TooLarge size)
 too_large_of input.Prefixes size = TableRefused (Rows (table.TooLarge size))
 too_large_of input.Peers size = PeersRefused (File (peers.TooLarge size))
 too_large_of input.Bans size = BansRefused (ban.TooLarge size)
+too_large_of input.Anchors size = AnchorsRefused (anchors_fault.TooLarge size)
 
 -- the file has these bytes, within its limit
 abbrev pub IsLoaded : Input → Option Past → List ℕ → Type 0

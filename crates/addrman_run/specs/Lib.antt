@@ -21,6 +21,7 @@ pub mod Diff
 pub mod Compile
 pub mod Bans
 pub mod Show
+pub mod Anchors
 pub mod Picture
 pub mod Risk
 pub mod RiskLines

@@ -15,6 +15,7 @@ use Rattle.addrman_run.specs.Compile.{CompileEnds}
 use Rattle.addrman_run.specs.Limit.{LimitEnds}
 use Rattle.addrman_run.specs.Opener.{OpenerEnds}
 use Rattle.addrman_run.specs.Show.{ShowEnds}
+use Rattle.addrman_run.specs.Anchors.{AnchorsEnds}
 use Rattle.addrman_run.specs.Picture.{PictureEnds}
 use Rattle.addrman_run.specs.Risk.{RiskEnds}
 use Rattle.addrman_run.specs.TablesJson.{TablesJsonEnds}
@@ -24,7 +25,7 @@ use Rattle.addrman_run.specs.Help.{HelpEnds, VersionEnds}
 use Rattle.addrman_run.specs.Trial.{TrialEnds}
 use Rattle.addrman_run.specs.Bans.{BansEnds, ListEnds, ban_change, unban_change, banned_change}
 use Rattle.arguments.specs.declared.request.Request.{Request}
-use Rattle.arguments.specs.declared.request.Request.TheVariants.{Show, Picture, Raw, Info, Groups, Risk}
+use Rattle.arguments.specs.declared.request.Request.TheVariants.{Show, Anchors, Picture, Raw, Info, Groups, Risk}
 use Rattle.arguments.specs.declared.request.Request.TheVariants.{Replay, Opener, Compile, Check, Lookup, LookupLines, Address, AddressLines}
 use Rattle.arguments.specs.declared.request.Request.TheVariants.{Decompile, Diff, Limit}
 use Rattle.arguments.specs.declared.request.Request.TheVariants.{Ban, Unban, Banned, Bans}
@@ -46,6 +47,7 @@ Ends LookupLines old new answer = LookupLinesEnds old new answer
 Ends (Address addr) old new answer = AddressEnds addr old new answer
 Ends AddressLines old new answer = AddressLinesEnds old new answer
 Ends (Show keyed kind) old new answer = ShowEnds keyed kind.chain old new answer
+Ends (Anchors chain) old new answer = AnchorsEnds chain old new answer
 Ends (Picture kind) old new answer = PictureEnds kind old new answer
 Ends (Raw kind) old new answer = TablesJsonEnds json.Raw kind old new answer
 Ends (Info kind) old new answer = TablesJsonEnds json.Info kind old new answer

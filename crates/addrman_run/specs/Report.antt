@@ -1,6 +1,7 @@
 -- The exit code of a run, and its line on standard error.
 use Rattle.std.specs.Prelude.{ℕ, List, [], ◌++◌, codes, decimal}
 use Rattle.host_io.specs.Name.{file_name_of}
+use Rattle.anchors.specs.FaultTexts.{anchors_fault_text}
 use Rattle.ban_list.specs.FaultTexts.{ban_fault_text}
 use Rattle.grammar.specs.FaultTexts.{line_fault_text}
 use Rattle.asmap_vm.specs.FaultTexts.{code_fault_text}
@@ -9,7 +10,7 @@ use Rattle.addrman_run.specs.declared.status.Status.{Status}
 use Rattle.addrman_run.specs.declared.status.Status.TheVariants.{PeersRefused}
 use Rattle.addrman_run.specs.declared.status.Status.TheVariants.{Done, Usage, LogLine, AsmapRefused, TableRefused, ReadFault, WriteFault, DiskFault, LogTooLong, NoKey, Memory, LineTooLong, NoFile}
 use Rattle.addrman_run.specs.declared.status.Status.TheVariants.{TooManyRows}
-use Rattle.addrman_run.specs.declared.status.Status.TheVariants.{BansRefused, OldAsmapRefused, TooManyChanges}
+use Rattle.addrman_run.specs.declared.status.Status.TheVariants.{BansRefused, OldAsmapRefused, TooManyChanges, AnchorsRefused, NoAnchors}
 
 -- the exit code of the process
 abbrev pub code_of : Status → ℕ
@@ -31,6 +32,8 @@ code_of (BansRefused fault) = 16
 code_of TooManyRows = 17
 code_of (OldAsmapRefused fault) = 18
 code_of TooManyChanges = 19
+code_of (AnchorsRefused fault) = 21
+code_of NoAnchors = 14
 
 -- the reason, between the program's name and the line feed
 abbrev pub reason_of : Status → List ℕ
@@ -52,6 +55,8 @@ reason_of (BansRefused fault) = codes "banlist.json refused: " ++ ban_fault_text
 reason_of TooManyRows = codes "asmap.dat has more than 2000000 rows"
 reason_of (OldAsmapRefused fault) = codes "asmap.old refused: " ++ code_fault_text fault
 reason_of TooManyChanges = codes "asmap.old and asmap.dat differ in more than 2000000 prefixes"
+reason_of (AnchorsRefused fault) = codes "anchors.dat refused: " ++ anchors_fault_text fault
+reason_of NoAnchors = codes "anchors.dat is missing"
 
 abbrev pub line_of : List ℕ → List ℕ
 line_of reason = codes "addrman: " ++ reason ++ codes "\n"

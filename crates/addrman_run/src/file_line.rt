@@ -1,4 +1,5 @@
 ghost use Rattle.std.specs.Prelude.{◌≡◌, ◌≤◌, ℕ, List, Option, length, IfOk, Err};
+ghost use Rattle.anchors.specs.declared.fault.AnchorsFault.{AnchorsFault};
 ghost use Rattle.asmap_vm.specs.declared.fault.CodeFault.{CodeFault};
 ghost use Rattle.host_io.specs.Past.{Past};
 ghost use Rattle.addrman_run.specs.FileLine.{FileLineText};
@@ -12,6 +13,7 @@ ghost use Rattle.addrman_run.specs.declared.status.Status.{Status};
 use crate::input::{Input, load_present};
 use crate::output::write_line;
 use crate::{Learned, PeersFault, Status};
+use anchors::AnchorsFault;
 use asmap_vm::CodeFault;
 use host_io::{Folder, Sink};
 use std::alloc::Global;
@@ -23,6 +25,8 @@ pub(crate) enum Refusal {
     Asmap(CodeFault),
     /// It is no file of peers.
     Peers(PeersFault),
+    /// It is no file of anchors.
+    Anchors(AnchorsFault),
     /// Out of memory.
     Memory,
 }
@@ -55,7 +59,10 @@ pub(crate) trait FileLine {
             refuses self.now past (Status.AsmapRefused fault) }
         ensures peers { (fault : PeersFault) → result ≡ Err (Refusal.Peers fault) →
             (past : Option Past) → IsLoaded (file self.now) past bytes.now →
-            refuses self.now past (Status.PeersRefused fault) };
+            refuses self.now past (Status.PeersRefused fault) }
+        ensures anchors { (fault : AnchorsFault) → result ≡ Err (Refusal.Anchors fault) →
+            (past : Option Past) → IsLoaded (file self.now) past bytes.now →
+            refuses self.now past (Status.AnchorsRefused fault) };
 }
 
 /// Loads the command's file, and writes the line about it.
@@ -83,6 +90,7 @@ pub(crate) fn write_file_line<F: Folder, K: Sink, C: FileLine>(
         Ok(line) => write_line(line.as_slice(), out),
         Err(Refusal::Asmap(fault)) => Status::AsmapRefused(fault),
         Err(Refusal::Peers(fault)) => Status::PeersRefused(fault),
+        Err(Refusal::Anchors(fault)) => Status::AnchorsRefused(fault),
         Err(Refusal::Memory) => Status::Memory,
     }
 }

@@ -6,6 +6,7 @@ ghost use Rattle.addrman_run.specs.Inside.{name_of, max_of, too_large_of, IsLoad
 ghost use Rattle.addrman_run.specs.InFolder.{IsAbsent};
 
 use crate::{PeersFault, Status, TablesFault};
+use anchors::AnchorsFault;
 use asmap_vm::CodeFault;
 use ban_list::BanFault;
 use bit_code::MAX_ASMAP;
@@ -23,6 +24,8 @@ pub(crate) enum Input {
     Prefixes,
     Peers,
     Bans,
+    /// An anchors.dat, in the place of peers.dat.
+    Anchors,
 }
 
 impl Input {
@@ -36,6 +39,7 @@ impl Input {
             Input::Prefixes => Name::Prefixes,
             Input::Peers => Name::Peers,
             Input::Bans => Name::Bans,
+            Input::Anchors => Name::Peers,
         }
     }
 
@@ -49,6 +53,7 @@ impl Input {
             Input::Prefixes => MAX_TEXT as u64,
             Input::Peers => MAX_FILE as u64,
             Input::Bans => ban_list::MAX_FILE as u64,
+            Input::Anchors => anchors::MAX_FILE as u64,
         }
     }
 
@@ -64,6 +69,7 @@ impl Input {
             }
             Input::Peers => Status::PeersRefused(PeersFault::File(FileFault::TooLarge { size })),
             Input::Bans => Status::BansRefused(BanFault::TooLarge { size }),
+            Input::Anchors => Status::AnchorsRefused(AnchorsFault::TooLarge { size }),
         }
     }
 }

@@ -27,6 +27,7 @@ mod input;
 mod law;
 mod learned;
 mod limit;
+mod list_anchors;
 mod lookup;
 mod lookup_lines;
 mod opener;

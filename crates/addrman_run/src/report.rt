@@ -31,6 +31,8 @@ pub fn code(status: &Status) -> u8
         Status::TooManyRows => 17,
         Status::OldAsmapRefused(_) => 18,
         Status::TooManyChanges => 19,
+        Status::AnchorsRefused(_) => 21,
+        Status::NoAnchors => 14,
     }
 }
 
@@ -108,6 +110,8 @@ fn reason(alloc: Global, status: &Status) -> Result<Vec<u8>, Memory>
             alloc,
             b"asmap.old and asmap.dat differ in more than 2000000 prefixes",
         ),
+        Status::AnchorsRefused(fault) => joined(alloc, b"anchors.dat refused: ", fault.word()),
+        Status::NoAnchors => owned(alloc, b"anchors.dat is missing"),
     }
 }
 

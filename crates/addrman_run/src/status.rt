@@ -2,6 +2,7 @@ ghost use Rattle.std.specs.Prelude.{◌≡◌};
 ghost use Rattle.addrman_run.specs.Inside.{status_of};
 
 use crate::{PeersFault, TablesFault};
+use anchors::AnchorsFault;
 use asmap_vm::CodeFault;
 use ban_list::BanFault;
 use host_io::Name;
@@ -51,6 +52,11 @@ pub enum Status {
     /// More prefixes than a table may have rows have one number in asmap.old and another one in
     /// asmap.dat.
     TooManyChanges,
+    /// anchors.dat is too large, or no file of anchors of the chain.
+    AnchorsRefused(AnchorsFault),
+    /// There is no anchors.dat. `run` never returns this: the folder has the file in the place of
+    /// peers.dat, and who puts it there knows that it is missing.
+    NoAnchors,
 }
 
 /// Returns the status of a command that carries out the lines of the log, by the end of its run

@@ -17,6 +17,7 @@ use crate::file_line::write_file_line;
 use crate::generate::generate;
 use crate::help::{help, version};
 use crate::limit::limit;
+use crate::list_anchors::ListAnchors;
 use crate::lookup::Lookup;
 use crate::lookup_lines::lookup_lines;
 use crate::opener::opener;
@@ -45,17 +46,18 @@ use std::hash::BuildHasher;
 /// `diff` writes the prefixes whose number differs between asmap.old and asmap.dat, and `diff
 /// --peers --net CHAIN` also which records of peers.dat change their group. `limit` carries out the
 /// lines of the log under the limit on received addresses, and writes the log that is left. `show
-/// --net CHAIN` lists what peers.dat has, and `picture --net CHAIN` draws its tables. As JSON, `raw
-/// --net CHAIN` prints its records by their slots, `info --net CHAIN` how many each network has,
-/// and `groups --net CHAIN` how many each group. `risk source --net CHAIN` writes which part of the
-/// picks falls to each source group, at most; `risk peer` and `risk network` do so for other
-/// groups, and `risk -` for the sets of addresses that the lines of the log name. `ban SUBNET NOW
-/// UNTIL` and `unban SUBNET` change the list of bans in banlist.json, `banned PEER NOW` writes
-/// which ban covers the peer's address, and `bans NOW` the bans that are not over, as JSON; after
-/// `--core` all four read and write banlist.json as Bitcoin Core does. `gen START LINES` writes a
-/// generated log, and `trial START LINES` carries it out from empty tables and writes one line
-/// about the replies. `help COMMAND` writes the page of a command, and `help` the list of all;
-/// `version` writes the version and the toolchain.
+/// --net CHAIN` lists what peers.dat has, `show --anchors --net CHAIN` what an anchors.dat in its
+/// place has, and `picture --net CHAIN` draws its tables. As JSON, `raw --net CHAIN` prints its
+/// records by their slots, `info --net CHAIN` how many each network has, and `groups --net CHAIN`
+/// how many each group. `risk source --net CHAIN` writes which part of the picks falls to each
+/// source group, at most; `risk peer` and `risk network` do so for other groups, and `risk -` for
+/// the sets of addresses that the lines of the log name. `ban SUBNET NOW UNTIL` and `unban SUBNET`
+/// change the list of bans in banlist.json, `banned PEER NOW` writes which ban covers the peer's
+/// address, and `bans NOW` the bans that are not over, as JSON; after `--core` all four read and
+/// write banlist.json as Bitcoin Core does. `gen START LINES` writes a generated log, and `trial
+/// START LINES` carries it out from empty tables and writes one line about the replies. `help
+/// COMMAND` writes the page of a command, and `help` the list of all; `version` writes the version
+/// and the toolchain.
 pub fn run<L: Source, F: Folder, K: Sink, H: BuildHasher + Drop>(
     alloc: Global,
     hasher: H,
@@ -146,6 +148,9 @@ fn carry_out<L: Source, F: Folder, K: Sink, H: BuildHasher + Drop>(
         Request::Show { keyed, kind } => {
             let chain = kind.chain;
             write_file_line(alloc, &Show { keyed, chain }, folder, out, learned)
+        }
+        Request::Anchors { chain } => {
+            write_file_line(alloc, &ListAnchors { chain }, folder, out, learned)
         }
         Request::Picture { kind } => picture(alloc, hasher, kind, folder, out, learned),
         Request::Raw { kind } => {
