@@ -1,4 +1,4 @@
-use hints::{Paths, expected_text};
+use hints::{ANCHORS, Paths, expected_text};
 use host_io::Name;
 use std::alloc::{AllocError, Global};
 use std::fs::File;
@@ -37,6 +37,9 @@ static ASMAP_FILE: [&str; 10] = [
 
 /// The commands that take `--bans FILE`.
 static BANS_FILE: [&str; 2] = ["banned", "bans"];
+
+/// The commands that take `--anchors` and perhaps a file.
+static ANCHORS_FILE: [&str; 1] = ["show"];
 
 /// An argument that no command takes.
 const NO_ARGUMENT: &str = "--";
@@ -116,7 +119,12 @@ impl<'a> Given<'a> {
         command: &str,
         rest: &'a [String],
     ) -> Result<(), AllocError> {
-        let mut is_core = is_among(&CORE_COMMANDS, command) && has_core(rest);
+        if command == "show" && anchors_options(rest) > 0 {
+            self.add(alloc, "--anchors")?;
+            self.paths.has_anchors = true;
+        }
+        let is_read = !self.paths.has_anchors && is_among(&CORE_COMMANDS, command);
+        let mut is_core = is_read && has_core(rest);
         if is_core {
             self.add(alloc, "--core")?;
         }
@@ -136,8 +144,22 @@ impl<'a> Given<'a> {
                 Ok(())
             }
             Next::File(name) => self.refuse(alloc, name, "expected a file"),
-            _ => Ok(()),
+            _ => self.place_anchors(alloc, rest),
         }
+    }
+
+    /// Has the folder's anchors.dat read, if no option names another file. The option comes once.
+    fn place_anchors(&mut self, alloc: Global, rest: &[String]) -> Result<(), AllocError> {
+        if !self.paths.has_anchors {
+            return Ok(());
+        }
+        if anchors_options(rest) > 1 {
+            return self.refuse(alloc, Name::Peers, "it comes twice");
+        }
+        if self.paths.peers.is_none() {
+            self.paths.peers = Some(ANCHORS);
+        }
+        Ok(())
     }
 
     /// Adds an argument, or does what it asks for. Returns what comes after it.
@@ -164,6 +186,11 @@ impl<'a> Given<'a> {
             Some((flag, value)) => (flag, Some(value)),
             None => (word, None),
         };
+        if self.paths.has_anchors && flag == "--peers" {
+            self.hint = String::from_str(alloc, "--peers: --anchors reads another file")?;
+            self.add(alloc, NO_ARGUMENT)?;
+            return Ok(Next::Any);
+        }
         if let Some(name) = file_option(command, flag) {
             return self.take_file(alloc, command, name, value);
         }
@@ -181,7 +208,7 @@ impl<'a> Given<'a> {
     }
 
     /// Takes an option that names a file, perhaps with its value. `diff` has `--peers` without a
-    /// file, too, and knows by it that it reads one.
+    /// file, too, and knows by it that it reads one; `show` has `--anchors` without one.
     fn take_file(
         &mut self,
         alloc: Global,
@@ -195,7 +222,7 @@ impl<'a> Given<'a> {
         }
         match value {
             Some(path) => self.set_path(alloc, name, path),
-            None if is_flag => Ok(Next::FileOrOption(name)),
+            None if is_flag || self.paths.has_anchors => Ok(Next::FileOrOption(name)),
             None => Ok(Next::File(name)),
         }
     }
@@ -218,7 +245,12 @@ impl<'a> Given<'a> {
 
     /// Adds an argument that `run` refuses, and says why.
     fn refuse(&mut self, alloc: Global, name: Name, why: &str) -> Result<(), AllocError> {
-        self.hint = format!(in alloc; "{}: {why}", flag_of(name))?;
+        let flag = if self.paths.has_anchors {
+            "--anchors"
+        } else {
+            flag_of(name)
+        };
+        self.hint = format!(in alloc; "{flag}: {why}")?;
         self.add(alloc, NO_ARGUMENT)
     }
 
@@ -287,6 +319,7 @@ fn file_option(command: &str, flag: &str) -> Option<Name> {
         "--peers" => (Name::Peers, PEERS_FILE.as_slice()),
         "--asmap" => (Name::Asmap, ASMAP_FILE.as_slice()),
         "--bans" => (Name::Bans, BANS_FILE.as_slice()),
+        "--anchors" => (Name::Peers, ANCHORS_FILE.as_slice()),
         _ => return None,
     };
     if is_among(commands, command) {
@@ -294,6 +327,18 @@ fn file_option(command: &str, flag: &str) -> Option<Name> {
     } else {
         None
     }
+}
+
+/// Returns how many of the arguments are `--anchors`, some with a file.
+fn anchors_options(words: &[String]) -> usize {
+    let mut count: usize = 0;
+    for word in words {
+        let word = word.as_str();
+        if word == "--anchors" || word.starts_with("--anchors=") {
+            count = count.saturating_add(1);
+        }
+    }
+    count
 }
 
 /// Returns `true` if one of the arguments is `--core`.

@@ -21,7 +21,7 @@ use addrman_run::{Learned, Status, run_learning, status_line};
 use arguments::help_text;
 pub use ended::Ended;
 use hints::NotedFolder;
-use host_io::{StdSink, StdSource};
+use host_io::{Name, StdSink, StdSource};
 use std::alloc::Global;
 use std::fs::File;
 use std::hash::RandomState;
@@ -94,7 +94,8 @@ fn without_folder(alloc: Global, folder: &str, error: io::Error) -> Ended {
 
 /// Runs the program, which reads standard input and writes standard output, and returns how it
 /// ended. `-C DIR` or `--dir=DIR` before the command is the folder of its files; `--peers FILE`,
-/// `--asmap FILE` and `--bans FILE` are read in the place of files of that folder.
+/// `--asmap FILE`, `--bans FILE` and `--anchors FILE` are read in the place of files of that
+/// folder. For `show --anchors` the file of anchors is in the place of peers.dat.
 pub fn run_program(rt: &HostRuntime) -> Ended {
     let Ok(_streams) = open_closed_streams(rt) else {
         return Ended::before_the_run("addrman: the standard streams cannot be opened\n");
@@ -150,6 +151,7 @@ fn run_over<I: Read + Drop, O: Write + Drop>(
         .failure_text(&given.paths)
         .unwrap_or(String::new(alloc));
     let status = match placed.missing() {
+        Some(Name::Peers) if given.paths.has_anchors => Status::NoAnchors,
         Some(name) => Status::NoFile { name },
         None => status,
     };

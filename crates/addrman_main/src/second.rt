@@ -1,7 +1,7 @@
 use addrman_run::{Learned, PeersFault, Status, SumFit, TablesFault};
 use hints::{
-    Paths, Saves, asmap_hint, bans_hint, compile_hint, duplicate_hint, line_hint, missing_hint,
-    peers_hint, place_hint, stream_hint, table_hint, usage_hint,
+    Paths, Saves, anchors_hint, asmap_hint, bans_hint, compile_hint, duplicate_hint, line_hint,
+    missing_hint, peers_hint, place_hint, stream_hint, table_hint, usage_hint,
 };
 use host_io::Name;
 use std::alloc::{AllocError, Global};
@@ -91,7 +91,7 @@ fn put_line(hint: &str, text: &mut String) -> Result<(), AllocError> {
 /// Returns the file that a status refuses, if it is one that may have another path.
 fn refused_name(status: &Status) -> Option<Name> {
     match status {
-        Status::PeersRefused(_) => Some(Name::Peers),
+        Status::PeersRefused(_) | Status::AnchorsRefused(_) => Some(Name::Peers),
         Status::AsmapRefused(_) => Some(Name::Asmap),
         Status::BansRefused(_) => Some(Name::Bans),
         _ => None,
@@ -111,6 +111,8 @@ fn hint_of(alloc: Global, status: &Status, facts: &Facts<'_>) -> Result<String, 
         Status::TableRefused(TablesFault::Rows(fault)) => table_hint(alloc, fault, learned.text()),
         Status::TableRefused(TablesFault::Compile(fault)) => compile_hint(alloc, fault),
         Status::BansRefused(fault) => bans_hint(alloc, fault, learned.text()),
+        Status::AnchorsRefused(fault) => anchors_hint(alloc, fault, learned.head()),
+        Status::NoAnchors => missing_hint(alloc, Name::Peers, facts.paths),
         Status::NoFile { name } => missing_hint(alloc, *name, facts.paths),
         Status::ReadFault => failed_hint(alloc, "input", facts.input),
         Status::WriteFault => failed_hint(alloc, "output", facts.output),

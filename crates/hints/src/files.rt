@@ -8,6 +8,10 @@ use host_io::Name;
 use serde_json::Value;
 use std::alloc::{AllocError, Global};
 
+/// Where a file of anchors comes from.
+const NO_ANCHORS: &str = "it has to be in the current folder: a node writes it when it stops, and \
+                          removes it when it starts; or --anchors FILE is read";
+
 /// Says why an asmap is refused, which begins with these bytes.
 pub fn asmap_hint(alloc: Global, fault: &CodeFault, head: &[u8]) -> Result<String, AllocError> {
     if is_packed(head) {
@@ -74,10 +78,11 @@ fn json_hint(alloc: Global, text: &[u8]) -> Result<String, AllocError> {
 /// Says where a file comes from that is missing; of one with a path, that it is the one.
 pub fn missing_hint(alloc: Global, name: Name, paths: &Paths<'_>) -> Result<String, AllocError> {
     if let Some(path) = paths.of(name) {
-        return format!(in alloc;
-            "{path} is missing: it is read in the place of {}",
-            name.file_name()
-        );
+        let replaced = paths.replaced(name);
+        if path == replaced {
+            return String::from_str(alloc, NO_ANCHORS);
+        }
+        return format!(in alloc; "{path} is missing: it is read in the place of {replaced}");
     }
     let text = match name {
         Name::Asmap =>
@@ -93,7 +98,9 @@ pub fn missing_hint(alloc: Global, name: Name, paths: &Paths<'_>) -> Result<Stri
 /// Says which file is read in the place of this one, if another is.
 pub fn place_hint(alloc: Global, name: Name, paths: &Paths<'_>) -> Result<String, AllocError> {
     match paths.of(name) {
-        Some(path) => format!(in alloc; "{path} is read in the place of {}", name.file_name()),
-        None => Ok(String::new(alloc)),
+        Some(path) if path != paths.replaced(name) => {
+            format!(in alloc; "{path} is read in the place of {}", paths.replaced(name))
+        }
+        _ => Ok(String::new(alloc)),
     }
 }

@@ -3,7 +3,7 @@ static COMMANDS: [&str; 23] = [
     "replay [--key HEX64] [--net CHAIN] [--core]",
     "opener [--key HEX64] [--net CHAIN] [--core]",
     "limit",
-    "show [--net CHAIN] [--no-key] [--core]",
+    "show [--anchors] [--net CHAIN] [--no-key] [--core]",
     "picture [--net CHAIN] [--core]",
     "raw [--net CHAIN] [--core]",
     "info [--net CHAIN] [--core]",

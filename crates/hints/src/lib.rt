@@ -5,6 +5,7 @@
 //! Tested only, by `tools/mistakes`: the texts.
 #![tactic(auto)]
 
+mod anchors_file;
 mod explain;
 mod failure;
 mod files;
@@ -22,11 +23,12 @@ mod usage;
 mod usual;
 mod wanted;
 
+pub use anchors_file::anchors_hint;
 pub use explain::expected_text;
 pub use files::{asmap_hint, bans_hint, compile_hint, missing_hint, place_hint};
 pub use line::line_hint;
 pub use noted_folder::{NotedFolder, Saves};
-pub use paths::Paths;
+pub use paths::{ANCHORS, Paths};
 pub use peers::{duplicate_hint, peers_hint};
 pub use row::table_hint;
 pub use stream::stream_hint;

@@ -1,5 +1,8 @@
 use host_io::Name;
 
+/// The file of a node's anchors.
+pub const ANCHORS: &str = "anchors.dat";
+
 /// The paths of files that are read in the place of those of the current folder.
 #[derive(Clone, Copy)]
 pub struct Paths<'a> {
@@ -9,6 +12,8 @@ pub struct Paths<'a> {
     pub asmap: Option<&'a str>,
     /// In the place of banlist.json.
     pub bans: Option<&'a str>,
+    /// Whether what is read in the place of peers.dat is a file of anchors.
+    pub has_anchors: bool,
 }
 
 impl<'a> Paths<'a> {
@@ -18,6 +23,7 @@ impl<'a> Paths<'a> {
             peers: None,
             asmap: None,
             bans: None,
+            has_anchors: false,
         }
     }
 
@@ -28,6 +34,15 @@ impl<'a> Paths<'a> {
             Name::Asmap => self.asmap,
             Name::Bans => self.bans,
             _ => None,
+        }
+    }
+
+    /// Returns the name of the file in whose place a file is read.
+    pub fn replaced(&self, name: Name) -> &'static str {
+        if self.has_anchors && name == Name::Peers {
+            ANCHORS
+        } else {
+            name.file_name()
         }
     }
 

@@ -34,7 +34,7 @@ pub fn duplicate_hint(alloc: Global, index: u32, head: &[u8]) -> Result<String, 
 }
 
 /// Returns the chain whose files begin with these bytes.
-fn chain_of(head: &[u8]) -> Option<&'static str> {
+pub(crate) fn chain_of(head: &[u8]) -> Option<&'static str> {
     for (magic, name) in &CHAINS {
         if head.starts_with(magic) {
             return Some(*name);

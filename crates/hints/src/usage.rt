@@ -21,6 +21,9 @@ fn is_flag(form: &str, word: &str) -> bool {
     (word == "--peers" || word == "--no-key") && form.contains(word)
 }
 
+/// The form of `show` for a file of anchors.
+const ANCHORS_FORM: &str = "show --anchors [--net CHAIN]";
+
 /// Says which argument of `risk` is wrong: what makes records one group, or an option after it.
 /// `--core` is before it.
 fn risk_hint(alloc: Global, form: &'static str, words: &[String]) -> Result<String, AllocError> {
@@ -44,7 +47,7 @@ struct FileOption {
 }
 
 /// The options that name a file to be read.
-static FILE_OPTIONS: [FileOption; 3] = [
+static FILE_OPTIONS: [FileOption; 4] = [
     FileOption {
         flag: "--peers",
         commands: "show, picture, raw, info, groups, risk and diff",
@@ -52,6 +55,10 @@ static FILE_OPTIONS: [FileOption; 3] = [
     FileOption {
         flag: "--asmap",
         commands: "picture, raw, info, groups, risk, diff, check, lookup, decompile and address",
+    },
+    FileOption {
+        flag: "--anchors",
+        commands: "show",
     },
     FileOption {
         flag: "--bans",
@@ -113,6 +120,11 @@ pub fn usage_hint(alloc: Global, words: &[String]) -> Result<String, AllocError>
         }
         if form.starts_with("risk ") {
             return risk_hint(alloc, form, rest);
+        }
+        if let [first, options @ ..] = rest
+            && first.as_str() == "--anchors"
+        {
+            return explain_options(alloc, ANCHORS_FORM, options);
         }
         if form.contains("--") {
             return explain_options(alloc, form, after_flag(form, rest));
