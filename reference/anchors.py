@@ -1,6 +1,6 @@
 """The file anchors.dat."""
 
-from addresses import UNSPECIFIED, Peer
+from addresses import UNSPECIFIED, Peer, peer_text
 from messages import Entry, Reader, compact_size
 from peers_file import HIGH_BITS, RECORD_FORMAT, RECORD_START, written_address
 from places import double_sha256
@@ -57,3 +57,10 @@ def written_anchors(anchors: list[Entry], start: bytes) -> bytes:
 def peer_of(entry: Entry) -> Peer:
     """The peer of an anchor."""
     return Peer(entry.address or UNSPECIFIED, entry.port)
+
+
+def shown(anchors: list[Entry]) -> list[str]:
+    """The lines of `show --anchors`."""
+    return [f"anchors {len(anchors)}"] + [
+        f"anchor {index} {peer_text(peer_of(entry))} time {entry.time} services {entry.services}"
+        for index, entry in enumerate(anchors)]

@@ -3,6 +3,7 @@
 import hashlib
 from typing import NamedTuple
 
+import anchors
 import bans
 import difference
 import help_texts
@@ -33,6 +34,7 @@ OPTIONS = {"replay": ("--key", *CHAIN), "opener": ("--key", *CHAIN), "picture": 
            "info": CHAIN, "groups": CHAIN}
 GROUPINGS = ("source", "peer", "network", "-")
 NO_KEY = b"--no-key"
+ANCHORS = b"--anchors"
 CORE = b"--core"
 BAN_COMMANDS = ("ban", "unban", "banned", "bans")
 
@@ -217,6 +219,9 @@ class Run:
         if name == "diff":
             self.diff(peers_option(arguments[1:]))
             return
+        if name == "show" and arguments[1:2] == [ANCHORS]:
+            self.show_anchors(chain_option(arguments[2:]))
+            return
         if name == "show":
             self.show(*listing_options(arguments[1:]))
             return
@@ -346,6 +351,11 @@ class Run:
 
     def show(self, chain: bytes, keyed: bool):
         for line in peers_file.shown(self.needed(self.peers(chain), "peers.dat"), keyed):
+            self.print(line)
+
+    def show_anchors(self, chain: bytes):
+        found = self.load("anchors.dat", anchors.MAXIMUM_BYTES, 21, lambda data: anchors.read_anchors(data, chain))
+        for line in anchors.shown(self.needed(found, "anchors.dat")):
             self.print(line)
 
     def picture(self, _key: None, kind: FileKind):

@@ -9,7 +9,10 @@ TAKE_CORE = "replay opener show picture raw info groups risk diff ban unban bann
 # The options that name a file: in whose place it is read, and the commands that take the option.
 OTHER_FILES = {"--peers": ("peers.dat", "show picture raw info groups risk diff".split()),
                "--asmap": ("asmap.dat", "picture raw info groups risk diff check lookup decompile address".split()),
-               "--bans": ("banlist.json", "banned bans".split())}
+               "--bans": ("banlist.json", "banned bans".split()),
+               "--anchors": ("anchors.dat", ["show"])}
+# The options of a command that may lack their file.
+MAY_LACK = {("diff", "--peers"), ("show", "--anchors")}
 NO_ARGUMENT = "--"
 
 
@@ -54,7 +57,7 @@ def with_key(words: list[str]) -> list[str]:
 
 
 def without_files(command: str, words: list[str], paths: dict[str, str]) -> list[str]:
-    """Arguments without the options that name a file; their paths go to `paths`. `diff` keeps `--peers`, which may lack its file."""
+    """Arguments without the options that name a file; their paths go to `paths`. An option that may lack its file stays."""
     found, rest = [], list(words)
     while rest:
         word = rest.pop(0)
@@ -63,7 +66,7 @@ def without_files(command: str, words: list[str], paths: dict[str, str]) -> list
         if command not in commands:
             found.append(word)
             continue
-        if command == "diff" and option == "--peers":
+        if (command, option) in MAY_LACK:
             found.append(option)
             if not equals and (not rest or rest[0].startswith("-")):
                 continue
@@ -85,9 +88,16 @@ def plain_words(arguments: list[str], paths: dict[str, str]) -> list[str]:
         return ["help", command]
     if command == "-V":
         command = "version"
-    if command in TAKE_CORE and "--core" in rest:
+    asks_anchors = command == "show" and any(word.partition("=")[0] == "--anchors" for word in rest)
+    if command in TAKE_CORE and "--core" in rest and not asks_anchors:
         at = rest.index("--core")
         rest = ["--core", *rest[:at], *rest[at + 1:]]
     if command in ("replay", "opener"):
         return [command, *with_key(rest)]
-    return [command, *without_files(command, rest, paths)]
+    words = without_files(command, rest, paths)
+    if asks_anchors and "--anchors" in words:
+        words.remove("--anchors")
+        words.insert(0, "--anchors")
+        if "peers.dat" in paths:
+            words.append(NO_ARGUMENT)
+    return [command, *words]

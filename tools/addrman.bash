@@ -31,13 +31,17 @@ _addrman() {
         mapfile -t COMPREPLY < <(compgen -f -- "$word")
         return
     fi
+    if [[ $before == --anchors && $word != -* ]]; then
+        mapfile -t COMPREPLY < <(compgen -f -W "--net --magic" -- "$word")
+        return
+    fi
     if [[ $before == --peers && $word != -* ]]; then
         mapfile -t COMPREPLY < <(compgen -f -W "--net --magic --core --asmap" -- "$word")
         return
     fi
     case ${COMP_WORDS[at]} in
         replay | opener) mapfile -t COMPREPLY < <(compgen -W "--key --key-file --net --magic --core" -- "$word") ;;
-        show) mapfile -t COMPREPLY < <(compgen -W "--net --magic --no-key --core --peers" -- "$word") ;;
+        show) mapfile -t COMPREPLY < <(compgen -W "--net --magic --no-key --core --peers --anchors" -- "$word") ;;
         risk)
             mapfile -t COMPREPLY < <(compgen -W "source peer network - --net --magic --core --peers --asmap" -- "$word")
             ;;
