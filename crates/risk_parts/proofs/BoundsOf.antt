@@ -284,28 +284,36 @@ module _ (st : State) (now : ℕ) (theirs : Peer → Bool) (sound : IsSound st) 
       (by_either_lists st all now n theirs has also) (one_more_word (2 ^ 64) n) refl
       (searched st true now n theirs sound has) (searched st false now n theirs sound also))
 
-  pub by_picks : (n : ℕ) → picked false n * 10 ^ 6
-      ≤ (2 ^ 64) ^ n * millionths (share_for st true now theirs + share_for st false now theirs) (if wanted_new st all == 0 || wanted_tried st all == 0 then 2 ^ 64 else 2 ^ 65)
-  by_picks n = cases (wanted_new st all == 0) refl (wanted_tried st all == 0) refl
+  -- of all picks, with both tables or the one that has records
+  pub by_share : (n : ℕ) → picked false n * (if wanted_new st all == 0 || wanted_tried st all == 0 then 2 ^ 64 else 2 ^ 65)
+      ≤ (2 ^ 64) ^ n * (share_for st true now theirs + share_for st false now theirs)
+  by_share n = cases (wanted_new st all == 0) refl (wanted_tried st all == 0) refl
     where
-      low : picked false n ≤ (2 ^ 64) ^ n
-      low = no_more st false all now n theirs
+      absent : (a w b : ℕ) → a ≡ 0 → a * w ≤ b
+      absent a w b is = let zero_is : a * w ≡ 0 * w = ap (λ k. k * w) is in omega (arith, zero_is)
 
       cases : (a : Bool) → (wanted_new st all == 0) ≡ a → (b : Bool) → (wanted_tried st all == 0) ≡ b
-          → picked false n * 10 ^ 6 ≤ (2 ^ 64) ^ n * millionths ((if a then 0 else new_share) + (if b then 0 else tried_share)) (if a || b then 2 ^ 64 else 2 ^ 65)
+          → picked false n * (if a || b then 2 ^ 64 else 2 ^ 65) ≤ (2 ^ 64) ^ n * ((if a then 0 else new_share) + (if b then 0 else tried_share))
       cases true one true two =
-          few_none (picked false n) ((2 ^ 64) ^ n) _ (nothing_selected st false all now n theirs (λ i. one i && (false || two i)))
+          absent (picked false n) (2 ^ 64) _ (nothing_selected st false all now n theirs (λ i. one i && (false || two i)))
       cases true one false two =
-          rounded (picked false n) ((2 ^ 64) ^ n) (0 + tried_share) (2 ^ 64) (omega arith) low
-          (subst (λ k. picked false n * 2 ^ 64 ≤ (2 ^ 64) ^ n * k) (none_plus tried_share)
-          (by_one false false n (is_old one two) (not_none (wanted_tried st all) two)))
+          subst (λ k. picked false n * 2 ^ 64 ≤ (2 ^ 64) ^ n * k) (none_plus tried_share)
+          (by_one false false n (is_old one two) (not_none (wanted_tried st all) two))
       cases false one true two =
-          rounded (picked false n) ((2 ^ 64) ^ n) (new_share + 0) (2 ^ 64) (omega arith) low
-          (subst (λ k. picked false n * 2 ^ 64 ≤ (2 ^ 64) ^ n * k) (plus_none new_share)
-          (by_one false true n (is_new false one two) (not_none (wanted_new st all) one)))
+          subst (λ k. picked false n * 2 ^ 64 ≤ (2 ^ 64) ^ n * k) (plus_none new_share)
+          (by_one false true n (is_new false one two) (not_none (wanted_new st all) one))
       cases false one false two =
-          rounded (picked false n) ((2 ^ 64) ^ n) (new_share + tried_share) (2 ^ 65) (omega arith) low
-          (doubled (picked false n) ((2 ^ 64) ^ n * (new_share + tried_share)) (by_two n (not_none (wanted_new st all) one) (not_none (wanted_tried st all) two)))
+          doubled (picked false n) ((2 ^ 64) ^ n * (new_share + tried_share)) (by_two n (not_none (wanted_new st all) one) (not_none (wanted_tried st all) two))
+
+  pub by_picks : (n : ℕ) → picked false n * 10 ^ 6
+      ≤ (2 ^ 64) ^ n * millionths (share_for st true now theirs + share_for st false now theirs) (if wanted_new st all == 0 || wanted_tried st all == 0 then 2 ^ 64 else 2 ^ 65)
+  by_picks n =
+      rounded (picked false n) ((2 ^ 64) ^ n) (share_for st true now theirs + share_for st false now theirs) _ (some (wanted_new st all == 0 || wanted_tried st all == 0))
+      (no_more st false all now n theirs) (by_share n)
+    where
+      some : (b : Bool) → 0 < (if b then 2 ^ 64 else 2 ^ 65)
+      some true = omega arith
+      some false = omega arith
 
   pub by_new : (n : ℕ) → picked true n * 10 ^ 6 ≤ (2 ^ 64) ^ n * millionths (share_for st true now theirs) (2 ^ 64)
   by_new n = cases (wanted_new st all == 0) refl

@@ -5,10 +5,20 @@ ghost use Rattle.peer_rec.specs.Snapshot.{Snapshot};
 ghost use Rattle.placing.specs.Places.{Places};
 ghost use Rattle.risk_laws.specs.Lists.{searching_lists, selecting_lists};
 ghost use Rattle.risk_parts.specs.Parts.{HasNoTries, parts_for};
+ghost use Rattle.risk_parts.specs.declared.parts.TheConstants.{AHEAD, MILLION, WHOLE};
 ghost use Rattle.table_machine.specs.Picks.{first_factor};
 ghost use Rattle.table_machine.specs.Restoring.{restored};
 ghost use Rattle.table_machine.specs.Sound.{IsSound};
 ghost use Rattle.table_machine.specs.State.{State};
+
+use crate::{AHEAD, MILLION, WHOLE};
+
+/// How many refusals of a search are looked ahead, and which parts are computed and printed.
+pub fn limits()
+    ensures ahead { AHEAD ≡ 48 }
+    ensures whole { WHOLE ≡ 2 ^ 64 }
+    ensures million { MILLION ≡ 10 ^ 6 }
+{}
 
 /// Of the (2^64)^n lists of n random words, for every n, `select` returns a peer of a set for at
 /// most the part that its parts say, in parts of a million: from both tables, or from the new one
