@@ -1,0 +1,5 @@
+mod Bounded
+mod Known
+mod Least
+mod Sums
+mod TriesOf
