@@ -138,6 +138,7 @@ const dot = paint => `<i class="dot" style="background:var(${paint})"></i>`;
 // What is said of the typed set beside its number of slots.
 function setText(one) {
   const buckets = `, in ${number(one.buckets)} of the 1,024 new buckets`;
+  if (setShare !== null) return `${buckets}, at most ${millionthsText(setShare)} of picks`;
   return buckets + (data.share ? `, ${shareText(one.share)} of picks` : "");
 }
 

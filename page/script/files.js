@@ -106,7 +106,7 @@ async function take(given) {
   if (found.peers.length) {
     snaps = found.peers;
     at = snaps.length - 1;
-    highlight = cursor = matched = setMask = null;
+    highlight = cursor = matched = setMask = setShare = null;
   }
   if (snaps.length) return show(at);
   const kept = joined([asmap, bans].filter(Boolean), file => `${fileName(file.name)} is kept. `);

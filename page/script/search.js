@@ -69,6 +69,13 @@ function goTo(rec) {
   if (i >= 0) moveTo(i);
 }
 
+// The part of the picks that falls to typed peers, at most, in millionths; null if the program does
+// not say it.
+async function shareOfSet(view, words) {
+  const { peers, asmap, isCore } = view, sets = words.map(word => word.replace(/[[\]]/g, ""));
+  return view.chain ? ask("riskOfSets", { peers, asmap, isCore, sets }) : null;
+}
+
 // Reads the typed set, and marks the records that it has.
 async function readSet() {
   const view = data, words = $("set").value.split(/[\s,;]+/).filter(Boolean),
@@ -79,14 +86,19 @@ async function readSet() {
         prefixes = words.filter(word => !isAs(word));
   const mask = new Uint8Array(view.count);
   setMask = mask;
+  setShare = null;
   if (numbers.size && !asmap)
     throw new Error("AS numbers come from an asmap: drop asmap.dat here to use them.");
   for (let r = 0; r < mask.length; r++)
     if (numbers.has(view.names[of[r]])) mask[r] = 1;
-  if (!prefixes.length) return;
-  const inside = await coverage(forms, prefixes);
-  for (let r = 0; r < mask.length; r++)
-    if (inside.get(forms[r])) mask[r] = 1;
+  if (prefixes.length) {
+    const inside = await coverage(forms, prefixes);
+    for (let r = 0; r < mask.length; r++)
+      if (inside.get(forms[r])) mask[r] = 1;
+  }
+  if (!isPeer || !words.length) return;
+  const share = await shareOfSet(view, [...numbers, ...prefixes]);
+  if (setMask === mask) setShare = share;
 }
 
 async function applySet() {
@@ -101,7 +113,7 @@ async function applySet() {
     setState("ready");
   } catch (error) {
     if (turn !== wanted) return;
-    setMask = null;
+    setMask = setShare = null;
     showMode();
     fail(prefixFault(error.message));
   }

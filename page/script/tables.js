@@ -1,7 +1,7 @@
 // The tables of one file: which is shown, and what is said of them as a whole.
 let at = 0, data = null, classes = null, cursor = null;
 // What is lit, the records that a search found, and those that the typed set has.
-let highlight = null, matched = null, setMask = null;
+let highlight = null, matched = null, setMask = null, setShare = null;
 // How often something was asked for: an answer is dropped if something else was meanwhile.
 let wanted = 0;
 const KEPT_VIEWS = 12;

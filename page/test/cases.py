@@ -10,6 +10,7 @@ import made
 TOP = os.path.dirname(os.path.dirname(os.path.dirname(os.path.abspath(__file__))))
 EXAMPLES = os.path.join(TOP, "examples")
 COUNTS = ("new_slots", "new_buckets", "new_records", "tried_records")
+UNION = re.compile(r"union: picks ([\d.]+) % new [\d.]+ % tried [\d.]+ %")
 RISK = re.compile(r"\w+ (.*): picks ([\d.]+) % new ([\d.]+) % tried ([\d.]+) %")
 SVG = "{http://www.w3.org/2000/svg}"
 NO_RAW = [
@@ -99,6 +100,17 @@ def same_shares(browser, program, folder, options=()):
     assert all(wanted[group] == "0.0000 %" for group in wanted.keys() - found.keys()), folder
 
 
+def same_set(browser, program, folder, options=()):
+    """Compares the share of typed peers with what `risk -` prints of all the sets."""
+    sets = ["0.0.0.0/2", "80.0.0.0/5", "2000::/4", "1.2.3.4"]
+    text = made.output(program, ["risk", "-", *options], folder, "\n".join(sets).encode()).decode()
+    wanted = UNION.fullmatch(text.splitlines()[-1]).group(1)
+    found = browser.js("return look.setShare(arguments[0])", " ".join(sets))
+    assert found == int(wanted.replace(".", "")), (folder, found, wanted)
+    assert f"at most {wanted} % of picks" in browser.js("return $('key').textContent"), folder
+    assert browser.js("return look.setShare('::ffff:102:300/120')") is None, folder
+
+
 def moves(then, now):
     """How many peers came, went, moved to the tried table and back, from one `raw` to another."""
     of = lambda raw: {made.text_of(rec): table for table in raw for rec in raw[table].values()}
@@ -149,6 +161,7 @@ class Cases:
             (b.drop if i % 3 else b.give)(path, *with_asmap)
             same_numbers(b, self.program, folder)
             same_shares(b, self.program, folder)
+            same_set(b, self.program, folder)
             assert not b.text("error"), name
         self.shot("made")
 
@@ -342,6 +355,7 @@ class Cases:
         b.begin("$('core').click()")
         same_slots(b, self.program, folder, words)
         same_shares(b, self.program, folder, words)
+        same_set(b, self.program, folder, words)
         assert counts_agree(b) and not b.text("note")
         b.js("look.keepDownloads(); $('save-picture').click()")
         b.wait("window.kept")

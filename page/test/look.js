@@ -31,6 +31,15 @@ window.look = {
     return found;
   },
 
+  // What is said of the picks of typed peers, in millionths.
+  async setShare(words) {
+    $("mode").value = "set";
+    $("set").value = words;
+    $("set-of").value = "peer";
+    await applySet();
+    return setShare;
+  },
+
   // Notes in `watched` how many milliseconds after the next drop tables are on the screen, all is
   // known, and the shares of picks are there.
   watch() {

@@ -3,6 +3,7 @@ const JOBS = {
   view,
   agrees,
   risk,
+  riskOfSets,
   covered,
   output,
   outputOfPeers,

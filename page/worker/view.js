@@ -83,6 +83,22 @@ function risk({ peers, asmap, isCore, by }) {
   return { shares, errors };
 }
 
+const UNION = /^union: picks ([\d.]+) % /m;
+
+// What `risk -` prints of all these subnets and AS numbers together: the part of the picks, in
+// millionths; null if one of them is no subnet of its.
+function riskOfSets({ peers, asmap, isCore, sets }) {
+  const engine = new Engine(), files = { "peers.dat": peers, "asmap.dat": asmap };
+  try {
+    const { text } =
+      engine.output(wordsOf(["risk", "-"], files, isCore), files, sets.join("\n"));
+    return Number(UNION.exec(text)[1].replace(".", ""));
+  } catch (error) {
+    if (error instanceof Refused && error.status === 3) return null;
+    throw error;
+  }
+}
+
 // What `lookup -` says of these addresses: an AS number each.
 function numbersOf(engine, forms, asmap) {
   let text;
