@@ -13,6 +13,7 @@ SLOTS = 64
 MILLION = 1_000_000
 WHOLE = 1 << 64
 AHEAD = 48  # how many refusals of a search are looked ahead
+CONNECTIONS = 10  # how many outbound connections a node opens
 RESTARTED = 600  # a time at which no try is of the last ten minutes, as after a restart
 
 
@@ -144,6 +145,26 @@ def risk(tables: Tables, by: str, now: int = RESTARTED) -> str:
         picks = millionths(new + tried, sides.searched * WHOLE)
         rows.append((-picks, own, f"{by} {name(tables, by, records[0])}: {parts_of(new, tried, sides.searched)}"))
     return "\n".join([heading(tables), *(line for _, _, line in sorted(rows, key=lambda row: row[:2]))])
+
+
+def groups_with(tables: Tables, theirs) -> list[int]:
+    """How many picks return a peer of each group that has one of theirs, at most, of all that `searched` tables have."""
+    members: dict[bytes, list[int]] = {}
+    for number, record in tables.records.items():
+        members.setdefault(group(record.peer.address, tables.asmap), []).append(number)
+    sides = Sides(tables, RESTARTED)
+    own = {group(record.peer.address, tables.asmap) for record in tables.records.values() if theirs(record.peer)}
+    return [sum(sides.searches(members[each])) for each in own]
+
+
+def all_theirs(shares: list[int], whole: int) -> int:
+    """Of 2^64 restarts, how many open all connections to these groups, at most, by what part of the picks each has."""
+    total, least = sum(shares), sorted(shares)
+    left = WHOLE
+    for opened in range(CONNECTIONS if total < whole else 0):
+        low = sum(least[:opened]) if opened <= len(least) else total
+        left = -(-left * (total - low) // (whole - low))
+    return left
 
 
 def read_set(line: bytes) -> Subnet | int | None:
