@@ -1,2 +1,3 @@
 mod Shuffled
 mod Found
+mod FileLengths

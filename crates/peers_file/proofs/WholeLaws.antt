@@ -1,6 +1,6 @@
 -- The written file as a whole: it is the file of its snapshot, has no fault, and is far below the
 -- limit.
-use Rattle.std.proofs.Common.{◌≡◌, ◌≢◌, ℕ, suc, ◌+◌, ◌-◌, ◌*◌, ◌≤◌, ◌<◌, ◌^◌, Bool, true, false, not, cond, ltb, List, [], ◌∷◌, ◌++◌, length, take, drop, map, All, Option, Some, None, Result, Ok, Err, refl, sym, ap, subst, ◌∙◌, ⊎_elim, arith, le-ltb}
+use Rattle.std.proofs.Common.{◌≡◌, ◌≢◌, ℕ, suc, ◌+◌, ◌-◌, ◌*◌, ◌≤◌, ◌<◌, ◌^◌, Bool, true, false, not, cond, ltb, List, [], ◌∷◌, ◌++◌, length, take, drop, map, All, AllPairs, Option, Some, None, Result, Ok, Err, refl, sym, ap, subst, ◌∙◌, ⊎_elim, arith, le-ltb, lt-ltb}
 use Rattle.std.proofs.lemmas.Bool.{eq-eqb}
 use Rattle.std.specs.Int.Bits.{bit_xor}
 use Rattle.std.proofs.lemmas.List.FromFn.{length-range_with_len}
@@ -31,7 +31,7 @@ use Rattle.peers_file.specs.Texts.{record_text, indexes_of, bucket_text, head_te
 use Rattle.peers_file.proofs.FileLaws.{Reads-body}
 use Rattle.peers_file.proofs.TextLaws.{of_body, pairs_of, regroup}
 
-length-sum : (bytes : List ℕ) → length (double_sha256 bytes) ≡ 32
+pub length-sum : (bytes : List ℕ) → length (double_sha256 bytes) ≡ 32
 unfolding double_sha256
 length-sum bytes = length-sha256 (sha256 bytes)
 
@@ -99,27 +99,40 @@ short_bytes I2p bytes own is = omega arith
 short_bytes Cjdns bytes own is = omega arith
 short_bytes Internal bytes own is = omega (arith, length-append internal_prefix bytes)
 
-short_address : (a : Address) → IsAddress a → length (address_text a) ≤ 42
+one_byte : (n : ℕ) → n ≤ 252 → length (compact_size n) ≡ 1
+unfolding compact_size
+one_byte n few = rw (lt-ltb n 253 (omega arith)) refl
+
+-- an address is written as the number of its network, a length in one byte, and that many bytes
+pub length-address : (a : Address) → IsAddress a → length (address_text a) ≡ 2 + length (prefix_of a.net) + length a.bytes
 unfolding address_text
-short_address a is =
+length-address a is =
     let bytes = prefix_of a.net ++ a.bytes in
     let few = short_bytes a.net a.bytes is.network is.length in
-    let number = short_compact (length bytes) in
     let parts : (id_of a.net ∷ []) ++ compact_size (length bytes) ++ prefix_of a.net ++ a.bytes ≡ id_of a.net ∷ (compact_size (length bytes) ++ bytes) = ap (λ t. id_of a.net ∷ t) (append_assoc (compact_size (length bytes)) (prefix_of a.net) a.bytes) in
-    let long = ap length parts in
-    omega (arith, long, length-append (compact_size (length bytes)) bytes)
+    omega (arith, ap length parts, length-append (compact_size (length bytes)) bytes, one_byte (length bytes) (omega arith), length-append (prefix_of a.net) a.bytes)
 
-short_record : (r : FileRec) → IsFileRec r → length (record_text r) ≤ 115
+pub short_address : (a : Address) → IsAddress a → length (address_text a) ≤ 34
+short_address a is =
+    let few = short_bytes a.net a.bytes is.network is.length in
+    omega (arith, length-address a is, length-append (prefix_of a.net) a.bytes)
+
+-- a record is written as 22 bytes, its services, and two addresses
+pub length-record : (r : FileRec) → length (record_text r) ≡ 22 + length (compact_size r.services) + length (address_text r.peer.addr) + length (address_text r.source)
 unfolding record_text
-short_record r is =
-    let services = short_compact r.services in
-    let addr = short_address r.peer.addr is.addr in
-    let source = short_address r.source is.source in
+length-record r =
     let marks = to_le_bytes w64 r.last_success ++ to_le_bytes w32 r.attempts in
     let from_source = address_text r.source ++ marks in
     let from_port = to_be_bytes w16 r.peer.port ++ from_source in
     let from_addr = address_text r.peer.addr ++ from_port in
     omega (arith, length-append (compact_size r.services) from_addr, length-append (address_text r.peer.addr) from_port, length-append (address_text r.source) marks)
+
+short_record : (r : FileRec) → IsFileRec r → length (record_text r) ≤ 115
+short_record r is =
+    let services = short_compact r.services in
+    let addr = short_address r.peer.addr is.addr in
+    let source = short_address r.source is.source in
+    omega (arith, length-record r)
 
 short_all : {X : Type 0} (text : X → List ℕ) (k : ℕ) (P : X → Type 0) → ((x : X) → P x → length (text x) ≤ k) → (xs : List X) → All P xs → length (flat_map text xs) ≤ k * length xs
 short_all text k P each [] all = omega arith
@@ -144,29 +157,26 @@ length-buckets listed (k ∷ ks) =
     let one = length-bucket listed k in
     omega (arith, length-append (bucket_text listed k) (flat_map (bucket_text listed) ks), length-append (pairs_of listed k) (flat_map (λ ps. ps) (map (pairs_of listed) ks)))
 
-short_buckets : (snap : Snapshot) → IsWritten snap → length (flat_map (bucket_text snap.listed) (range_with_len 0 snap.bucket_count)) ≡ 4 * 1024 + 4 * length snap.listed
-short_buckets snap written =
-    let is = written.snapshot in
-    let pairs = regroup 0 snap.bucket_count snap.listed (λ k d within. let h = is.buckets k d within in (omega arith, omega arith)) is.rising in
+length-all_buckets : (snap : Snapshot) → snap.bucket_count ≡ 1024 → All (λ p. p.0 < snap.bucket_count) snap.listed → AllPairs (λ p later. p.0 ≤ later.0) snap.listed
+    → length (flat_map (bucket_text snap.listed) (range_with_len 0 snap.bucket_count)) ≡ 4 * 1024 + 4 * length snap.listed
+length-all_buckets snap buckets below rising =
+    let pairs = regroup 0 snap.bucket_count snap.listed (λ k d within. let h = below k d within in (omega arith, omega arith)) rising in
     let all = length-buckets snap.listed (range_with_len 0 snap.bucket_count) in
-    let count : length (range_with_len 0 snap.bucket_count) ≡ 1024 = length-range_with_len 0 snap.bucket_count ∙ written.buckets in
+    let count : length (range_with_len 0 snap.bucket_count) ≡ 1024 = length-range_with_len 0 snap.bucket_count ∙ buckets in
     omega (arith, all, count, ap length pairs)
 
 length-head : (snap : Snapshot) → length snap.key ≡ 32 → length (head_text snap) ≡ 46
 unfolding head_text
 length-head snap is = omega (arith, length-append snap.key (to_le_bytes w32 (length snap.new_recs) ++ (to_le_bytes w32 (length snap.tried_recs) ++ to_le_bytes w32 (bit_xor snap.bucket_count (2 ^ 30)))))
 
-pub short_file : (chain : Chain) (snap : Snapshot) → IsWritten snap → length (file_text chain snap) < 33554432
+-- the length of a written file: what each file has, its records, and four bytes for each index
+pub length-file : (chain : Chain) (snap : Snapshot) → length snap.key ≡ 32 → length snap.sum ≡ 32 → snap.bucket_count ≡ 1024 → All (λ p. p.0 < snap.bucket_count) snap.listed
+    → AllPairs (λ p later. p.0 ≤ later.0) snap.listed
+    → length (file_text chain snap) ≡ 4210 + length (flat_map record_text snap.new_recs) + length (flat_map record_text snap.tried_recs) + 4 * length snap.listed
 unfolding file_text body_text
-short_file chain snap written =
-    let is = written.snapshot in
-    let few_new = is.few_new in
-    let few_tried = is.few_tried in
-    let few_listed = written.few_listed in
-    let buckets = short_buckets snap written in
-    let new = short_all record_text 115 IsFileRec short_record snap.new_recs written.new_recs in
-    let tried = short_all record_text 115 IsFileRec short_record snap.tried_recs written.tried_recs in
-    let front = length-head snap is.key_length in
+length-file chain snap key sum buckets below rising =
+    let all_buckets = length-all_buckets snap buckets below rising in
+    let front = length-head snap key in
     let buckets_part = flat_map (bucket_text snap.listed) (range_with_len 0 snap.bucket_count) in
     let last = buckets_part ++ snap.sum in
     let tried_part = flat_map record_text snap.tried_recs in
@@ -174,10 +184,8 @@ short_file chain snap written =
     omega (
       arith,
       front,
-      new,
-      tried,
-      buckets,
-      is.sum_length,
+      all_buckets,
+      sum,
       length-magic chain,
       length-sum (magic_of chain ++ (head_text snap ++ (new_part ++ (tried_part ++ last)))),
       length-append (magic_of chain ++ (head_text snap ++ (new_part ++ (tried_part ++ last)))) (double_sha256 (magic_of chain ++ (head_text snap ++ (new_part ++ (tried_part ++ last))))),
@@ -187,6 +195,16 @@ short_file chain snap written =
       length-append tried_part last,
       length-append buckets_part snap.sum,
     )
+
+pub short_file : (chain : Chain) (snap : Snapshot) → IsWritten snap → length (file_text chain snap) < 33554432
+short_file chain snap written =
+    let is = written.snapshot in
+    let few_new = is.few_new in
+    let few_tried = is.few_tried in
+    let few_listed = written.few_listed in
+    let new = short_all record_text 115 IsFileRec short_record snap.new_recs written.new_recs in
+    let tried = short_all record_text 115 IsFileRec short_record snap.tried_recs written.tried_recs in
+    omega (arith, new, tried, length-file chain snap is.key_length is.sum_length written.buckets is.buckets is.rising)
 
 whole_file : (chain : Chain) (snap : Snapshot) → IsWritten snap → Whole chain (file_text chain snap) (body_text snap)
 whole_file chain snap written =

@@ -9,6 +9,8 @@
 //!   bytes (`files_have_one_meaning`).
 //! - `write_file` writes format 4; what it writes has no fault, is read as the same snapshot, and
 //!   is shorter than the limit.
+//! - `record_length` is the length of a record in a file, so that the length of a file is known
+//!   before it is written.
 //! - `snapshot_text` is exactly the text that lists a snapshot: a line for the file and one for
 //!   each record.
 //!
@@ -19,6 +21,7 @@ mod chain;
 mod fault;
 mod head;
 mod law;
+mod length;
 mod listing;
 mod read;
 mod record;
@@ -28,6 +31,7 @@ mod write;
 pub use chain::Chain;
 pub use fault::{FileFault, RecordCause, Which};
 pub use law::files_have_one_meaning;
+pub use length::{EMPTY_FILE, record_length};
 pub use listing::snapshot_text;
 pub use read::{MAX_FILE, read_file};
 pub use write::write_file;

@@ -12,24 +12,17 @@ ghost use Rattle.peers_file.specs.declared.read.TheConstants.{MAX_FILE};
 ghost use Rattle.slot_grid.specs.declared.sizes.TheConstants.{NEW_BUCKETS, SLOTS};
 
 use crate::chain::Chain;
+use crate::length::{EMPTY_FILE, RECORD_ROOM};
 use addr_codecs::{Memory, put_address};
 use host_io::Bytes;
 use peer_rec::{FileRec, Snapshot};
 use placing::double_sha256;
-use slot_grid::NEW_BUCKETS;
 use std::alloc::Global;
 use wire_num::put_compact;
 
 /// The first field of a record: the bit of addresses as `addrv2` has them, and in the low 19 bits
 /// the version of Bitcoin Core that wrote such records first, which readers ignore.
 const LAYOUT: u32 = 0x2003_5b60;
-
-/// The maximum length of a record in bytes: two addresses have at most 34 each.
-const RECORD_ROOM: usize = 99;
-
-/// The maximum length in bytes of what is beside the records, but for the indexes that the buckets
-/// list: what comes before the records, the number of pairs of each bucket, and both sums.
-const OTHER_ROOM: usize = 50 + 4 * NEW_BUCKETS as usize + 64;
 
 /// Appends a number of four bytes, low byte first.
 fn put_number(out: &mut Vec<u8>, number: u32) -> Result<(), Memory>
@@ -193,7 +186,7 @@ pub fn write_file(alloc: Global, snap: &Snapshot, chain: Chain) -> Result<Bytes,
     ensures short { IfOk result (λ bytes. length bytes < MAX_FILE) }
 {
     let records = snap.new_recs().len() + snap.tried_recs().len();
-    let room = OTHER_ROOM + RECORD_ROOM * records + 4 * snap.listed().len();
+    let room = EMPTY_FILE + RECORD_ROOM * records + 4 * snap.listed().len();
     let mut out = Vec::with_capacity(alloc, room)?;
     out.extend_from_slice(&chain.magic())?;
     put_body(&mut out, snap)?;
