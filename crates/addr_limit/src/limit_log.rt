@@ -137,6 +137,10 @@ impl<H: BuildHasher> LineSteps<()> for LimitLog<H> {
 
     ghost has_room = { λ l n. ⊤ };
 
+    fn keeps_world(&self) -> bool {
+        true
+    }
+
     fn carry_out(
         &mut self,
         alloc: Global,

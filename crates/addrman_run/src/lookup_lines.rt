@@ -39,6 +39,10 @@ impl<'a> LineSteps<()> for LookupLines<'a> {
 
     ghost has_room = { λ l n. ⊤ };
 
+    fn keeps_world(&self) -> bool {
+        true
+    }
+
     fn carry_out(
         &mut self,
         alloc: Global,

@@ -90,6 +90,10 @@ impl LineSteps<SetList> for SetLines {
 
     ghost has_room = { λ l n. ⊤ };
 
+    fn keeps_world(&self) -> bool {
+        false
+    }
+
     fn carry_out(
         &mut self,
         alloc: Global,

@@ -1,3 +1,4 @@
+pub mod Batches
 pub mod Loops
 pub mod OneMore
 pub mod Parts

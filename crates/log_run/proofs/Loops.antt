@@ -39,7 +39,7 @@ more_left : (old : Option (List ℕ)) (n : ℕ) (reply : List ℕ) → IfSome ol
 more_left None n reply short = tt
 more_left (Some b) n reply short = λ none. omega (arith, short, length-drop n reply, ap length none)
 
-abbrev streams : Option (List ℕ) → Option (List ℕ) → Streams
+abbrev pub streams : Option (List ℕ) → Option (List ℕ) → Streams
 streams left written = record { left = left; written = written }
 
 -- what holds between two lines
@@ -267,7 +267,7 @@ next_of step start left mid after out written reader next state world line count
     next_line left mid after reader next l.answered l.given (rest_of after) count l.kept r is
 
 -- the line has a fault
-at_fault : {S W : Type 0} (step : StepsIn S W) (has_fault : List ℕ → LineFault → Type 0) (start : S × W)
+pub at_fault : {S W : Type 0} (step : StepsIn S W) (has_fault : List ℕ → LineFault → Type 0) (start : S × W)
     (left mid after out written : Option (List ℕ)) (reader next : Reading) (state : S) (world later : W) (line count : ℕ) (fault : LineFault)
     → Looped step start left mid out written reader state world line → NextRead reader next mid after → MovesBytes mid after reader.waiting next.waiting
     → IsLine next count → has_fault (take count next.waiting) fault → later ≡ world

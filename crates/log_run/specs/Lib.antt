@@ -4,4 +4,5 @@ pub mod Log
 pub mod Parts
 pub mod Reading
 pub mod Run
+pub mod Waiting
 pub mod Worlds

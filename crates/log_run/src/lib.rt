@@ -6,7 +6,8 @@
 //! Proved: how `run_log` ends, which replies are written then, and how much of the log is taken
 //! (`ran`, `taken`). It keeps at most a line and one read in memory.
 //!
-//! Tested only: that no byte is read while a whole line is there to be carried out.
+//! Tested only: that no byte is read while a whole line is there to be carried out, nor before the
+//! replies to the lines so far are written.
 #![tactic(auto)]
 
 mod buffer;

@@ -1,5 +1,6 @@
-ghost use Rattle.std.specs.Prelude.{◌≡◌, ◌≢◌, ◌+◌, ◌≤◌, ◌++◌, ℕ, List, length, Err, OnOk, IsErrOf};
+ghost use Rattle.std.specs.Prelude.{◌≡◌, ◌≢◌, ◌+◌, ◌≤◌, ◌++◌, ℕ, List, length, Err, IsTrue, OnOk, IsErrOf};
 ghost use Rattle.grammar.specs.declared.fault.LineFault.{LineFault};
+ghost use Rattle.log_run.specs.Waiting.{KeepsWorld};
 ghost use Rattle.log_run.specs.Worlds.{WorldStops};
 ghost use Rattle.log_run.specs.declared.sizes.TheConstants.{MAX_LINE};
 
@@ -47,6 +48,11 @@ pub trait LineSteps<W> {
 
     /// There is room for this many more lines.
     ghost has_room: { Self → ℕ → Type 0 };
+
+    /// Returns `true` only if no line changes the world, so that no reply acknowledges anything.
+    /// Replies to lines that wait are written together then.
+    fn keeps_world(&self) -> bool
+        ensures { IsTrue result → KeepsWorld step };
 
     /// Carries out a line, and appends the text of its reply.
     fn carry_out(

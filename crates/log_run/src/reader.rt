@@ -136,6 +136,21 @@ impl LogReader {
         Err(LogFault::LineTooLong)
     }
 
+    /// Returns the number of bytes of the next line if a line feed ends it and it is not too long.
+    /// Nothing is read.
+    pub fn waiting_line(&mut self) -> Option<usize>
+        ensures found { IfSome result (λ n. IsLine self.new n) }
+        ensures same { self.new ≡ self.old }
+    {
+        if self.is_ended {
+            return None;
+        }
+        match self.find_line() {
+            Ok(found) => found,
+            Err(_) => None,
+        }
+    }
+
     /// Returns the number of bytes of the next line, or `None` at the end of the log. Reads until
     /// a whole line waits.
     pub fn next_line<L: Source>(&mut self, source: &mut L) -> Result<Option<usize>, LogFault>

@@ -1,14 +1,16 @@
-ghost use Rattle.std.specs.Prelude.{◌≡◌, ◌≢◌, ◌+◌};
+ghost use Rattle.std.specs.Prelude.{◌≡◌, ◌≢◌, ◌+◌, ◌-◌, ◌≤◌, length, IfNone};
 ghost use Rattle.host_io.specs.Reading.{TakesAtMost};
 ghost use Rattle.grammar.specs.declared.fault.LineFault.{LineFault};
 ghost use Rattle.log_run.specs.Counts.{IsCounted};
+ghost use Rattle.log_run.specs.Waiting.{Batch, KeepsWorld};
 ghost use Rattle.log_run.specs.Worlds.{RanIn};
+ghost use Rattle.log_run.specs.declared.sizes.TheConstants.{MAX_LOG};
 
 use crate::end::{LogEnd, LogFault};
 use crate::line_steps::{LineSteps, Stop};
 use crate::reader::LogReader;
 use crate::sizes::MAX_LOG;
-use host_io::{Sink, Source, write_all};
+use host_io::{PIECE, Sink, Source, write_all};
 use std::alloc::Global;
 
 /// Returns how a run ends at the line with this number, which is not carried out.
@@ -31,9 +33,79 @@ fn keep(line: &[u8], refused: &mut Vec<u8>) {
     let _ = refused.extend_from_slice(line);
 }
 
+/// Carries out the lines that wait, if no line changes the world, and appends their replies.
+/// Returns why the next line is not carried out, if it has a fault or memory runs out.
+fn carry_out_waiting<W, S: LineSteps<W>>(
+    alloc: Global,
+    reader: &mut LogReader,
+    state: &mut S,
+    world: &mut W,
+    line: &mut u64,
+    text: &mut Vec<u8>,
+    refused: &mut Vec<u8>,
+) -> Option<Stop>
+    requires within { line.old + length reader.old.waiting ≤ MAX_LOG }
+    requires room { S.has_room state.old (MAX_LOG - line.old) }
+    requires ready { S.ready state.old world.old }
+    ensures batch { Batch S.step S.has_fault reader.old reader.new state.old state.new world.old
+        world.new text.old.items text.new.items line.old line.new result }
+    ensures room { IfNone result (S.has_room state.new (MAX_LOG - line.new)) }
+    ensures ready { IfNone result (S.ready state.new world.new) }
+{
+    if state.keeps_world() {
+        carry_out_batch(alloc, reader, state, world, line, text, refused)
+    } else {
+        None
+    }
+}
+
+/// Carries out lines that wait until none does, or their replies are long enough to be written, and
+/// appends the replies. No line changes the world.
+fn carry_out_batch<W, S: LineSteps<W>>(
+    alloc: Global,
+    reader: &mut LogReader,
+    state: &mut S,
+    world: &mut W,
+    line: &mut u64,
+    text: &mut Vec<u8>,
+    refused: &mut Vec<u8>,
+) -> Option<Stop>
+    requires keeps { KeepsWorld S.step }
+    requires within { line.old + length reader.old.waiting ≤ MAX_LOG }
+    requires room { S.has_room state.old (MAX_LOG - line.old) }
+    requires ready { S.ready state.old world.old }
+    ensures batch { Batch S.step S.has_fault reader.old reader.new state.old state.new world.old
+        world.new text.old.items text.new.items line.old line.new result }
+    ensures room { IfNone result (S.has_room state.new (MAX_LOG - line.new)) }
+    ensures ready { IfNone result (S.ready state.new world.new) }
+{
+    let mut reply = Vec::new(alloc);
+    while text.len() < PIECE {
+        let Some(count) = reader.waiting_line() else {
+            return None;
+        };
+        reply.clear();
+        match state.carry_out(alloc, reader.line(count), world, &mut reply) {
+            Ok(()) => {}
+            Err(stop) => {
+                keep(reader.line(count), refused);
+                return Some(stop);
+            }
+        }
+        match text.extend_from_slice(reply.as_slice()) {
+            Ok(()) => {}
+            Err(_) => return Some(Stop::Memory),
+        }
+        reader.advance(count);
+        *line += 1;
+    }
+    None
+}
+
 /// Carries out the lines of a log in order, each as soon as it was read, and writes the reply to
-/// each before the next line is read. `refused` gets the bytes of the line that is not carried out,
-/// if there is one, for a message about it.
+/// each before the next line is carried out; if no line changes the world, before more of the log
+/// is read. `refused` gets the bytes of the line that is not carried out, if there is one, for a
+/// message about it.
 pub fn run_log<W, S: LineSteps<W>, L: Source, K: Sink>(
     alloc: Global,
     log: &mut L,
@@ -72,10 +144,22 @@ pub fn run_log<W, S: LineSteps<W>, L: Source, K: Sink>(
                 return end_at(stop, line);
             }
         }
+        reader.advance(count);
+        let stop = carry_out_waiting(
+            alloc,
+            &mut reader,
+            state,
+            world,
+            &mut line,
+            &mut text,
+            refused,
+        );
         match write_all(out, text.as_slice()) {
             Ok(()) => {}
             Err(_) => return LogEnd::WriteFault,
         }
-        reader.advance(count);
+        if let Some(stop) = stop {
+            return end_at(stop, line + 1);
+        }
     }
 }

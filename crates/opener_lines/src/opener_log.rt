@@ -92,6 +92,10 @@ impl<'a, H: BuildHasher> LineSteps<()> for OpenerLog<'a, H> {
     // Each line takes at most a thousand numbers.
     ghost has_room = { λ l n. l.machine.tables.next_number + 1000 * n < 2 ^ 62 };
 
+    fn keeps_world(&self) -> bool {
+        false
+    }
+
     fn carry_out(
         &mut self,
         alloc: Global,

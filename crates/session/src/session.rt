@@ -158,6 +158,10 @@ impl<'a, F: Folder, H: BuildHasher> LineSteps<F> for Session<'a, H> {
     // A line takes a number for each entry of a message, at most.
     ghost has_room = { λ s n. s.machine.tables.next_number + MAX_ENTRIES * n < 2 ^ 62 };
 
+    fn keeps_world(&self) -> bool {
+        false
+    }
+
     fn carry_out(
         &mut self,
         alloc: Global,

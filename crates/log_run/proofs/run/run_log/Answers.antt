@@ -1,14 +1,16 @@
-use Rattle.std.proofs.Common.{◌≡◌, ◌≢◌, ◌-◌, ℕ, [], ◌++◌, sym, ap, ◌∙◌, subst, arith}
+use Rattle.std.proofs.Common.{◌≡◌, ◌≢◌, ◌+◌, ◌-◌, ℕ, [], ◌++◌, refl, sym, ap, ◌∙◌, subst, arith}
 use Rattle.std.specs.Prelude.{IfNone, IfSome, IsTrue, Option, Some, Result, Ok, Err}
 use Rattle.host_io.specs.Writing.{Appended, AppendedPart}
 use Rattle.log_run.specs.Reading.{IsLine, Reading}
+use Rattle.log_run.specs.Waiting.{Batch, StopsAt}
 use Rattle.log_run.specs.Worlds.{WorldStops}
 use Rattle.log_run.specs.declared.end.LogFault.{LogFault}
 use Rattle.log_run.specs.declared.end.LogFault.TheVariants as fault
 use Rattle.log_run.specs.declared.line_steps.Stop.{Stop}
 use Rattle.log_run.specs.declared.line_steps.Stop.TheVariants as stop
 use Rattle.log_run.specs.declared.sizes.TheConstants.{MAX_LOG}
-use Rattle.log_run.proofs.Loops.{at_done, at_failed, at_long, at_memory, at_stop, at_too_long, at_write_fault, fewer_left, fewer_waits, looped_more, looped_start, takes_more, takes_read}
+use Rattle.log_run.proofs.Batches.{at_batch_fault, at_batch_stop, fewer_wait, looped_batch, waits_within}
+use Rattle.log_run.proofs.Loops.{Looped, at_done, at_failed, at_long, at_memory, at_stop, at_too_long, fewer_left, fewer_waits, looped_start, takes_more, takes_read}
 use Rattle.log_run.proofs.run.run_log.Goals as goal
 
 line_of : (next : Reading) (found : Option ℕ) (count : ℕ) → found ≡ Some count → IfSome found (λ n. IsLine next n) → IsLine next count
@@ -121,23 +123,72 @@ returns-in-Err-clause-taken g c =
 
 pub returns-in-Err-write_all-clause-ran : goal.returns-in-Err-write_all-clause-ran
 returns-in-Err-write_all-clause-ran g c =
-    at_write_fault g.S.LineSteps.step g.S.LineSteps.has_fault (c.args.state.now, c.args.world.now) (g.L.Source.left c.args.log.now) (g.L.Source.left c.loop-count.log) (g.L.Source.left c.next_line.new.source) (g.K.Sink.written c.args.out.now) (g.K.Sink.written c.loop-count.out) (g.K.Sink.written c.write_all.new.sink) c.loop-count.reader c.next_line.new.self c.loop-count.state c.carry_out.new.self c.loop-count.world c.carry_out.new.world c.loop-count.line c.in-Ok-Some.count c.in-Ok.ensures.step.0
-    c.loop-count.invariant.looped (record { read = c.next_line.ensures.read; still = c.next_line.ensures.still; end = c.next_line.ensures.end; within = c.next_line.ensures.within }) (ok_moves c.in-Ok-Some.field-0 c.in-Ok-Some.ensures.moved) (line_of c.next_line.new.self c.in-Ok-Some.field-0 c.in-Ok-Some.count c.in-Ok-Some.field-0-is c.in-Ok-Some.ensures.found) (subst (λ l. g.S.LineSteps.step c.loop-count.state c.loop-count.world l c.in-Ok.ensures.step.0 c.carry_out.new.self c.carry_out.new.world) c.line.ensures c.in-Ok.ensures.step.2) (subst (AppendedPart (g.K.Sink.written c.loop-count.out) (g.K.Sink.written c.write_all.new.sink)) (c.as_slice.ensures.value ∙ c.in-Ok.ensures.step.1 ∙ ap (λ x. x ++ c.in-Ok.ensures.step.0) c.clear.ensures.items) c.in-Err-write_all.ensures.err)
+    at_batch_fault g.S.LineSteps.step g.S.LineSteps.has_fault (c.args.state.now, c.args.world.now) (g.L.Source.left c.args.log.now) (g.L.Source.left c.next_line.new.source) (g.K.Sink.written c.args.out.now) (g.L.Source.left c.loop-count.log) (g.K.Sink.written c.loop-count.out) (g.K.Sink.written c.write_all.new.sink)
+    c.loop-count.reader c.next_line.new.self c.advance.new.self c.carry_out_waiting-stop.new.reader c.loop-count.state c.carry_out.new.self c.carry_out_waiting-stop.new.state c.loop-count.world c.carry_out.new.world c.carry_out_waiting-stop.new.world
+    c.loop-count.line c.in-Ok-Some.count (c.loop-count.line + 1) c.carry_out_waiting-stop.new.line
+    c.in-Ok.ensures.step.0 c.carry_out_waiting-stop.new.text.items c.carry_out_waiting-stop.result c.loop-count.invariant.looped (record { read = c.next_line.ensures.read; still = c.next_line.ensures.still; end = c.next_line.ensures.end; within = c.next_line.ensures.within }) (ok_moves c.in-Ok-Some.field-0 c.in-Ok-Some.ensures.moved) (line_of c.next_line.new.self c.in-Ok-Some.field-0 c.in-Ok-Some.count c.in-Ok-Some.field-0-is c.in-Ok-Some.ensures.found) (subst (λ l. g.S.LineSteps.step c.loop-count.state c.loop-count.world l c.in-Ok.ensures.step.0 c.carry_out.new.self c.carry_out.new.world) c.line.ensures c.in-Ok.ensures.step.2) c.advance.ensures
+    (subst (λ t. Batch g.S.LineSteps.step g.S.LineSteps.has_fault c.advance.new.self c.carry_out_waiting-stop.new.reader c.carry_out.new.self c.carry_out_waiting-stop.new.state c.carry_out.new.world c.carry_out_waiting-stop.new.world t c.carry_out_waiting-stop.new.text.items (c.loop-count.line + 1) c.carry_out_waiting-stop.new.line c.carry_out_waiting-stop.result) (c.in-Ok.ensures.step.1 ∙ ap (λ x. x ++ c.in-Ok.ensures.step.0) c.clear.ensures.items) c.carry_out_waiting-stop.ensures.batch)
+    (subst (AppendedPart (g.K.Sink.written c.loop-count.out) (g.K.Sink.written c.write_all.new.sink)) c.as_slice.ensures.value c.in-Err-write_all.ensures.err)
 
 pub returns-in-Err-write_all-clause-taken : goal.returns-in-Err-write_all-clause-taken
 returns-in-Err-write_all-clause-taken g c =
     takes_read g.S.LineSteps.step (c.args.state.now, c.args.world.now) (g.L.Source.left c.args.log.now) (g.L.Source.left c.loop-count.log) (g.L.Source.left c.next_line.new.source) (g.K.Sink.written c.args.out.now) (g.K.Sink.written c.loop-count.out) c.loop-count.reader c.next_line.new.self c.loop-count.state c.loop-count.world c.loop-count.line
     c.loop-count.invariant.looped (record { read = c.next_line.ensures.read; still = c.next_line.ensures.still; end = c.next_line.ensures.end; within = c.next_line.ensures.within }) (ok_moves c.in-Ok-Some.field-0 c.in-Ok-Some.ensures.moved)
 
+pub overflow_add-line-in-Some : goal.overflow_add-line-in-Some
+overflow_add-line-in-Some g c =
+    let looped = looped_batch g.S.LineSteps.step g.S.LineSteps.has_fault (c.args.state.now, c.args.world.now) (g.L.Source.left c.args.log.now) (g.L.Source.left c.next_line.new.source) (g.K.Sink.written c.args.out.now) (g.L.Source.left c.loop-count.log) (g.K.Sink.written c.loop-count.out) (g.K.Sink.written c.write_all.new.sink)
+    c.loop-count.reader c.next_line.new.self c.advance.new.self c.carry_out_waiting-stop.new.reader c.loop-count.state c.carry_out.new.self c.carry_out_waiting-stop.new.state c.loop-count.world c.carry_out.new.world c.carry_out_waiting-stop.new.world
+    c.loop-count.line c.in-Ok-Some.count (c.loop-count.line + 1) c.carry_out_waiting-stop.new.line
+    c.in-Ok.ensures.step.0 c.carry_out_waiting-stop.new.text.items c.carry_out_waiting-stop.result c.loop-count.invariant.looped (record { read = c.next_line.ensures.read; still = c.next_line.ensures.still; end = c.next_line.ensures.end; within = c.next_line.ensures.within }) (ok_moves c.in-Ok-Some.field-0 c.in-Ok-Some.ensures.moved) (line_of c.next_line.new.self c.in-Ok-Some.field-0 c.in-Ok-Some.count c.in-Ok-Some.field-0-is c.in-Ok-Some.ensures.found) (subst (λ l. g.S.LineSteps.step c.loop-count.state c.loop-count.world l c.in-Ok.ensures.step.0 c.carry_out.new.self c.carry_out.new.world) c.line.ensures c.in-Ok.ensures.step.2) c.advance.ensures refl
+    (subst (λ t. Batch g.S.LineSteps.step g.S.LineSteps.has_fault c.advance.new.self c.carry_out_waiting-stop.new.reader c.carry_out.new.self c.carry_out_waiting-stop.new.state c.carry_out.new.world c.carry_out_waiting-stop.new.world t c.carry_out_waiting-stop.new.text.items (c.loop-count.line + 1) c.carry_out_waiting-stop.new.line c.carry_out_waiting-stop.result) (c.in-Ok.ensures.step.1 ∙ ap (λ x. x ++ c.in-Ok.ensures.step.0) c.clear.ensures.items) c.carry_out_waiting-stop.ensures.batch)
+    (subst (Appended (g.K.Sink.written c.loop-count.out) (g.K.Sink.written c.write_all.new.sink)) c.as_slice.ensures.value c.in-Ok-write_all.ensures.all) in
+    omega (arith, looped.bounded)
+
+pub returns-in-Some-clause-ran : goal.returns-in-Some-clause-ran
+returns-in-Some-clause-ran g c =
+    let batch = subst (λ t. Batch g.S.LineSteps.step g.S.LineSteps.has_fault c.advance.new.self c.carry_out_waiting-stop.new.reader c.carry_out.new.self c.carry_out_waiting-stop.new.state c.carry_out.new.world c.carry_out_waiting-stop.new.world t c.carry_out_waiting-stop.new.text.items (c.loop-count.line + 1) c.carry_out_waiting-stop.new.line c.carry_out_waiting-stop.result) (c.in-Ok.ensures.step.1 ∙ ap (λ x. x ++ c.in-Ok.ensures.step.0) c.clear.ensures.items) c.carry_out_waiting-stop.ensures.batch in
+    at_batch_stop g.S.LineSteps.step g.S.LineSteps.has_fault (c.args.state.now, c.args.world.now) (g.L.Source.left c.args.log.now) (g.L.Source.left c.next_line.new.source) (g.K.Sink.written c.args.out.now) (g.K.Sink.written c.write_all.new.sink) c.carry_out_waiting-stop.new.reader batch.state c.carry_out_waiting-stop.new.state c.carry_out.new.world c.carry_out_waiting-stop.new.world c.carry_out_waiting-stop.new.line c.in-Some.stop c.end_at-in-Some.result
+    (looped_batch g.S.LineSteps.step g.S.LineSteps.has_fault (c.args.state.now, c.args.world.now) (g.L.Source.left c.args.log.now) (g.L.Source.left c.next_line.new.source) (g.K.Sink.written c.args.out.now) (g.L.Source.left c.loop-count.log) (g.K.Sink.written c.loop-count.out) (g.K.Sink.written c.write_all.new.sink)
+    c.loop-count.reader c.next_line.new.self c.advance.new.self c.carry_out_waiting-stop.new.reader c.loop-count.state c.carry_out.new.self c.carry_out_waiting-stop.new.state c.loop-count.world c.carry_out.new.world c.carry_out_waiting-stop.new.world
+    c.loop-count.line c.in-Ok-Some.count (c.loop-count.line + 1) c.carry_out_waiting-stop.new.line
+    c.in-Ok.ensures.step.0 c.carry_out_waiting-stop.new.text.items c.carry_out_waiting-stop.result c.loop-count.invariant.looped (record { read = c.next_line.ensures.read; still = c.next_line.ensures.still; end = c.next_line.ensures.end; within = c.next_line.ensures.within }) (ok_moves c.in-Ok-Some.field-0 c.in-Ok-Some.ensures.moved) (line_of c.next_line.new.self c.in-Ok-Some.field-0 c.in-Ok-Some.count c.in-Ok-Some.field-0-is c.in-Ok-Some.ensures.found) (subst (λ l. g.S.LineSteps.step c.loop-count.state c.loop-count.world l c.in-Ok.ensures.step.0 c.carry_out.new.self c.carry_out.new.world) c.line.ensures c.in-Ok.ensures.step.2) c.advance.ensures refl
+    batch
+    (subst (Appended (g.K.Sink.written c.loop-count.out) (g.K.Sink.written c.write_all.new.sink)) c.as_slice.ensures.value c.in-Ok-write_all.ensures.all))
+    (subst (StopsAt g.S.LineSteps.has_fault c.carry_out_waiting-stop.new.reader batch.state c.carry_out_waiting-stop.new.state) c.in-Some.is batch.ends) batch.same_world c.end_at-in-Some.ensures.fault c.end_at-in-Some.ensures.memory
+
+pub returns-in-Some-clause-taken : goal.returns-in-Some-clause-taken
+returns-in-Some-clause-taken g c =
+    takes_read g.S.LineSteps.step (c.args.state.now, c.args.world.now) (g.L.Source.left c.args.log.now) (g.L.Source.left c.loop-count.log) (g.L.Source.left c.next_line.new.source) (g.K.Sink.written c.args.out.now) (g.K.Sink.written c.loop-count.out) c.loop-count.reader c.next_line.new.self c.loop-count.state c.loop-count.world c.loop-count.line
+    c.loop-count.invariant.looped (record { read = c.next_line.ensures.read; still = c.next_line.ensures.still; end = c.next_line.ensures.end; within = c.next_line.ensures.within }) (ok_moves c.in-Ok-Some.field-0 c.in-Ok-Some.ensures.moved)
+
+pub carry_out_waiting-stop-requires-clause-within : goal.carry_out_waiting-stop-requires-clause-within
+carry_out_waiting-stop-requires-clause-within g c =
+    waits_within g.S.LineSteps.step g.S.LineSteps.has_fault (c.args.state.now, c.args.world.now) (g.L.Source.left c.args.log.now) (g.L.Source.left c.next_line.new.source) (g.K.Sink.written c.args.out.now) (g.L.Source.left c.loop-count.log) (g.K.Sink.written c.loop-count.out) c.loop-count.reader c.next_line.new.self c.advance.new.self c.loop-count.state c.loop-count.world c.loop-count.line c.in-Ok-Some.count
+    c.loop-count.invariant.looped (record { read = c.next_line.ensures.read; still = c.next_line.ensures.still; end = c.next_line.ensures.end; within = c.next_line.ensures.within }) (ok_moves c.in-Ok-Some.field-0 c.in-Ok-Some.ensures.moved) (line_of c.next_line.new.self c.in-Ok-Some.field-0 c.in-Ok-Some.count c.in-Ok-Some.field-0-is c.in-Ok-Some.ensures.found) c.advance.ensures
+
+pub carry_out_waiting-stop-requires-clause-room : goal.carry_out_waiting-stop-requires-clause-room
+carry_out_waiting-stop-requires-clause-room g c =
+    let waits = fewer_waits g.S.LineSteps.step (c.args.state.now, c.args.world.now) (g.L.Source.left c.args.log.now) (g.L.Source.left c.loop-count.log) (g.L.Source.left c.next_line.new.source) (g.K.Sink.written c.args.out.now) (g.K.Sink.written c.loop-count.out) c.loop-count.reader c.next_line.new.self c.loop-count.state c.loop-count.world c.loop-count.line c.in-Ok-Some.count c.loop-count.invariant.looped (record { read = c.next_line.ensures.read; still = c.next_line.ensures.still; end = c.next_line.ensures.end; within = c.next_line.ensures.within }) (ok_moves c.in-Ok-Some.field-0 c.in-Ok-Some.ensures.moved) (line_of c.next_line.new.self c.in-Ok-Some.field-0 c.in-Ok-Some.count c.in-Ok-Some.field-0-is c.in-Ok-Some.ensures.found) in
+    subst (g.S.LineSteps.has_room c.carry_out.new.self) (omega (arith, waits)) (c.in-Ok.ensures.room (MAX_LOG - c.loop-count.line - 1)
+    (subst (g.S.LineSteps.has_room c.loop-count.state) (omega (arith, waits)) c.loop-count.invariant.room))
+
 pub loop-count-preserved : goal.loop-count-preserved
 loop-count-preserved g c =
-    let waits = fewer_waits g.S.LineSteps.step (c.args.state.now, c.args.world.now) (g.L.Source.left c.args.log.now) (g.L.Source.left c.loop-count.log) (g.L.Source.left c.next_line.new.source) (g.K.Sink.written c.args.out.now) (g.K.Sink.written c.loop-count.out) c.loop-count.reader c.next_line.new.self c.loop-count.state c.loop-count.world c.loop-count.line c.in-Ok-Some.count c.loop-count.invariant.looped (record { read = c.next_line.ensures.read; still = c.next_line.ensures.still; end = c.next_line.ensures.end; within = c.next_line.ensures.within }) (ok_moves c.in-Ok-Some.field-0 c.in-Ok-Some.ensures.moved) (line_of c.next_line.new.self c.in-Ok-Some.field-0 c.in-Ok-Some.count c.in-Ok-Some.field-0-is c.in-Ok-Some.ensures.found) in
+    let batch = subst (λ t. Batch g.S.LineSteps.step g.S.LineSteps.has_fault c.advance.new.self c.carry_out_waiting-stop.new.reader c.carry_out.new.self c.carry_out_waiting-stop.new.state c.carry_out.new.world c.carry_out_waiting-stop.new.world t c.carry_out_waiting-stop.new.text.items (c.loop-count.line + 1) c.carry_out_waiting-stop.new.line c.carry_out_waiting-stop.result) (c.in-Ok.ensures.step.1 ∙ ap (λ x. x ++ c.in-Ok.ensures.step.0) c.clear.ensures.items) c.carry_out_waiting-stop.ensures.batch in
+    let none = c.in_default.is in
     record {
-      looped = looped_more g.S.LineSteps.step (c.args.state.now, c.args.world.now) (g.L.Source.left c.args.log.now) (g.L.Source.left c.loop-count.log) (g.L.Source.left c.next_line.new.source) (g.K.Sink.written c.args.out.now) (g.K.Sink.written c.loop-count.out) (g.K.Sink.written c.write_all.new.sink) c.loop-count.reader c.next_line.new.self c.advance.new.self c.loop-count.state c.carry_out.new.self c.loop-count.world c.carry_out.new.world c.loop-count.line c.in-Ok-Some.count c.in-Ok.ensures.step.0
-          c.loop-count.invariant.looped (record { read = c.next_line.ensures.read; still = c.next_line.ensures.still; end = c.next_line.ensures.end; within = c.next_line.ensures.within }) (ok_moves c.in-Ok-Some.field-0 c.in-Ok-Some.ensures.moved) (line_of c.next_line.new.self c.in-Ok-Some.field-0 c.in-Ok-Some.count c.in-Ok-Some.field-0-is c.in-Ok-Some.ensures.found) (subst (λ l. g.S.LineSteps.step c.loop-count.state c.loop-count.world l c.in-Ok.ensures.step.0 c.carry_out.new.self c.carry_out.new.world) c.line.ensures c.in-Ok.ensures.step.2) (subst (Appended (g.K.Sink.written c.loop-count.out) (g.K.Sink.written c.write_all.new.sink)) (c.as_slice.ensures.value ∙ c.in-Ok.ensures.step.1 ∙ ap (λ x. x ++ c.in-Ok.ensures.step.0) c.clear.ensures.items) c.in-Ok-write_all.ensures.all) c.advance.ensures;
-      ready = c.in-Ok.ensures.ready;
-      room = subst (g.S.LineSteps.has_room c.carry_out.new.self) (omega (arith, waits)) (c.in-Ok.ensures.room (MAX_LOG - c.loop-count.line - 1)
-          (subst (g.S.LineSteps.has_room c.loop-count.state) (omega (arith, waits)) c.loop-count.invariant.room));
+      looped = subst (λ s. Looped g.S.LineSteps.step (c.args.state.now, c.args.world.now) (g.L.Source.left c.args.log.now) (g.L.Source.left c.next_line.new.source) (g.K.Sink.written c.args.out.now) (g.K.Sink.written c.write_all.new.sink) c.carry_out_waiting-stop.new.reader s c.carry_out_waiting-stop.new.world c.carry_out_waiting-stop.new.line)
+          (sym (subst (StopsAt g.S.LineSteps.has_fault c.carry_out_waiting-stop.new.reader batch.state c.carry_out_waiting-stop.new.state) none batch.ends))
+          (subst (λ w. Looped g.S.LineSteps.step (c.args.state.now, c.args.world.now) (g.L.Source.left c.args.log.now) (g.L.Source.left c.next_line.new.source) (g.K.Sink.written c.args.out.now) (g.K.Sink.written c.write_all.new.sink) c.carry_out_waiting-stop.new.reader batch.state w c.carry_out_waiting-stop.new.line)
+          (sym batch.same_world) (looped_batch g.S.LineSteps.step g.S.LineSteps.has_fault (c.args.state.now, c.args.world.now) (g.L.Source.left c.args.log.now) (g.L.Source.left c.next_line.new.source) (g.K.Sink.written c.args.out.now) (g.L.Source.left c.loop-count.log) (g.K.Sink.written c.loop-count.out) (g.K.Sink.written c.write_all.new.sink)
+          c.loop-count.reader c.next_line.new.self c.advance.new.self c.carry_out_waiting-stop.new.reader c.loop-count.state c.carry_out.new.self c.carry_out_waiting-stop.new.state c.loop-count.world c.carry_out.new.world c.carry_out_waiting-stop.new.world
+          c.loop-count.line c.in-Ok-Some.count (c.loop-count.line + 1) c.carry_out_waiting-stop.new.line
+          c.in-Ok.ensures.step.0 c.carry_out_waiting-stop.new.text.items c.carry_out_waiting-stop.result c.loop-count.invariant.looped (record { read = c.next_line.ensures.read; still = c.next_line.ensures.still; end = c.next_line.ensures.end; within = c.next_line.ensures.within }) (ok_moves c.in-Ok-Some.field-0 c.in-Ok-Some.ensures.moved) (line_of c.next_line.new.self c.in-Ok-Some.field-0 c.in-Ok-Some.count c.in-Ok-Some.field-0-is c.in-Ok-Some.ensures.found) (subst (λ l. g.S.LineSteps.step c.loop-count.state c.loop-count.world l c.in-Ok.ensures.step.0 c.carry_out.new.self c.carry_out.new.world) c.line.ensures c.in-Ok.ensures.step.2) c.advance.ensures refl
+          batch
+          (subst (Appended (g.K.Sink.written c.loop-count.out) (g.K.Sink.written c.write_all.new.sink)) c.as_slice.ensures.value c.in-Ok-write_all.ensures.all)));
+      ready = subst (λ o. IfNone o (g.S.LineSteps.ready c.carry_out_waiting-stop.new.state c.carry_out_waiting-stop.new.world)) none c.carry_out_waiting-stop.ensures.ready;
+      room = subst (λ o. IfNone o (g.S.LineSteps.has_room c.carry_out_waiting-stop.new.state (MAX_LOG - c.carry_out_waiting-stop.new.line))) none c.carry_out_waiting-stop.ensures.room;
       log_never_falls = omega (arith, c.loop-count.invariant.log_never_falls, c.next_line.ensures.never_falls);
       out_never_falls = omega (arith, c.loop-count.invariant.out_never_falls, c.write_all.ensures.never_falls);
     }
@@ -146,6 +197,7 @@ pub loop-count-smaller : goal.loop-count-smaller
 loop-count-smaller g c =
     omega (
       arith,
+      fewer_wait c.advance.new.self c.carry_out_waiting-stop.new.reader c.carry_out_waiting-stop.ensures.batch.lines c.carry_out_waiting-stop.ensures.batch.taken,
       fewer_left g.S.LineSteps.step (c.args.state.now, c.args.world.now) (g.L.Source.left c.args.log.now) (g.L.Source.left c.loop-count.log) (g.L.Source.left c.next_line.new.source) (g.K.Sink.written c.args.out.now) (g.K.Sink.written c.loop-count.out) c.loop-count.reader c.next_line.new.self c.advance.new.self c.loop-count.state c.loop-count.world c.loop-count.line c.in-Ok-Some.count
           c.loop-count.invariant.looped (record { read = c.next_line.ensures.read; still = c.next_line.ensures.still; end = c.next_line.ensures.end; within = c.next_line.ensures.within }) (ok_moves c.in-Ok-Some.field-0 c.in-Ok-Some.ensures.moved) (line_of c.next_line.new.self c.in-Ok-Some.field-0 c.in-Ok-Some.count c.in-Ok-Some.field-0-is c.in-Ok-Some.ensures.found) c.advance.ensures,
     )
