@@ -261,15 +261,36 @@ class Run:
             usage()
         method(*given)
 
-    def each_line(self, answer):
-        """Prints the answer to each line of the log."""
-        for count, line in read_lines(self.read):
-            try:
-                output = answer(line)
-            except Fault as fault:
-                raise Stop(3, f"log line {count}: {fault}")
-            if output is not None:
-                self.print(output)
+    def each_line(self, answer, at_once=False):
+        """Prints the answer to each line of the log; with `at_once` those to all lines that wait together, before more
+        of the log is read.
+        """
+        piece = b""
+
+        def flush():
+            nonlocal piece
+            written, piece = piece, b""
+            if written:
+                self.emit(written)
+
+        def read():
+            flush()
+            return self.read()
+
+        try:
+            for count, line in read_lines(read):
+                try:
+                    output = answer(line)
+                except Fault as fault:
+                    raise Stop(3, f"log line {count}: {fault}")
+                if output is not None:
+                    piece += (output if isinstance(output, bytes) else output.encode()) + b"\n"
+                if not at_once or len(piece) >= MAXIMUM_PIECE:
+                    flush()
+        except Stop:
+            flush()
+            raise
+        flush()
 
     def replay(self, key: bytes | None, kind: FileKind):
         self.each_line(ReplayLog(self.tables(key, kind), kind.start, self.folder).answer)
@@ -278,7 +299,7 @@ class Run:
         self.each_line(OpenerLog(self.tables(key, kind)).answer)
 
     def limit(self):
-        self.each_line(Limit().output)
+        self.each_line(Limit().output, at_once=True)
 
     def gen(self, start: bytes, lines: bytes):
         piece = b""
@@ -439,7 +460,7 @@ class Run:
     def lookup(self, argument: bytes):
         if argument == b"-":
             asmap = self.needed(self.asmap(), "asmap.dat")
-            self.each_line(lambda line: looked_up_line(line, asmap))
+            self.each_line(lambda line: looked_up_line(line, asmap), at_once=True)
             return
         peer = usage(read_peer(argument))
         self.print(looked_up(peer, self.needed(self.asmap(), "asmap.dat")))
@@ -447,7 +468,7 @@ class Run:
     def address(self, argument: bytes):
         if argument == b"-":
             asmap = self.asmap() or NO_ASMAP
-            self.each_line(lambda line: described_line(line, asmap))
+            self.each_line(lambda line: described_line(line, asmap), at_once=True)
             return
         address = usage(read_text(argument))
         asmap = self.asmap() or NO_ASMAP
