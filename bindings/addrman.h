@@ -207,9 +207,9 @@ ADDRMAN_CALL_OF(1, 4) addrman_result addrman_peer_text(const addrman_peer *peer,
 ADDRMAN_CALL_OF(3) addrman_result addrman_name_parse(const char *text, size_t length,
     addrman_addr *addr);
 
-/* Write the name, which has no zero at its end, and its length: at most 62 bytes. Proved: NameCall
- * (`name_text`).
- * Codes: ARGUMENT, MEMORY, SHORT_BUFFER. */
+/* Write the name, which has no zero at its end, and its length: at most 62 bytes. It takes no
+ * memory. Proved: TextCall (`name_text`).
+ * Codes: ARGUMENT, SHORT_BUFFER. */
 ADDRMAN_CALL_OF(1, 4) addrman_result addrman_name_text(const addrman_addr *addr, char *out,
     size_t capacity, size_t *length);
 

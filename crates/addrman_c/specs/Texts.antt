@@ -2,21 +2,14 @@
 use Rattle.std.specs.Prelude.{◌≡◌, ◌⊎◌, ℕ, List, Option, Some, None, MatchOption}
 use Rattle.net_addr.specs.Address.{Address, net_number}
 use Rattle.net_addr.specs.OldForm.{v1_bytes}
-use Rattle.names.specs.Name.{name_text}
 use Rattle.net_addr.specs.Ranges.{is_routable, net_class}
-use Rattle.c_values.specs.declared.code.TheConstants.{OK, MEMORY, ARGUMENT, NONE}
+use Rattle.c_values.specs.declared.code.TheConstants.{OK, ARGUMENT, NONE}
 use Rattle.c_values.specs.Values.{IsPut, bit}
 
 -- The text of a value; None is no value, and then the output is as it was.
 abbrev pub TextCall : {A : Type 0} → (A → List ℕ) → Option A → ℕ → List ℕ → List ℕ → ℕ → Type 0
 TextCall text_of None code old new count = (code ≡ ARGUMENT) × (new ≡ old)
 TextCall text_of (Some value) code old new count = IsPut (text_of value) old code count new
-
--- The name of an address. If memory runs out, the output is as it was.
-abbrev pub NameCall : Option Address → ℕ → List ℕ → List ℕ → ℕ → Type 0
-NameCall None code old new count = (code ≡ ARGUMENT) × (new ≡ old)
-NameCall (Some addr) code old new count =
-    ((code ≡ MEMORY) × (new ≡ old)) ⊎ IsPut (name_text addr) old code count new
 
 -- whether an address is routable; None is no address
 abbrev pub RoutableCall : Option Address → ℕ → ℕ → Type 0

@@ -4,10 +4,12 @@ ghost use Rattle.arrayvec.specs.ArrayVec.{array_vec_len};
 ghost use Rattle.hex.specs.Hex.{encode_lower};
 ghost use Rattle.net_addr.specs.Address.{IsAddress};
 ghost use Rattle.net_addr.specs.Text.{addr_text, ipv4_text, ipv6_text, peer_text};
+ghost use Rattle.names.specs.Name.{letters_of, name_text};
 ghost use Rattle.addrman_c.specs.declared.printing.TheConstants.{ADDR_TEXT, TEXT};
 
 use arrayvec::ArrayVec;
 use itoa::Buffer;
+use names::letters_of;
 use net_addr::{Net, NetAddr, Peer, append, array_of, ipv6_text};
 
 /// The maximum number of bytes of an address in text: the label of an onion address, and two digits
@@ -44,6 +46,32 @@ pub(crate) fn addr_text(addr: &NetAddr) -> ArrayVec<u8, TEXT>
         Net::Internal => labelled(b"internal:", bytes),
         Net::Unroutable => ArrayVec::new(),
     }
+}
+
+/// Returns the name of an address as people write it. It takes no memory.
+pub(crate) fn name_text(addr: &NetAddr) -> ArrayVec<u8, TEXT>
+    ensures { result.items ≡ name_text addr.now }
+{
+    let bytes = addr.bytes();
+    match addr.net() {
+        Net::Ipv4 => dotted(array_of(bytes)),
+        Net::Ipv6 | Net::Cjdns => groups(&array_of(bytes)),
+        Net::Onion => with_suffix(addr, b".onion"),
+        Net::I2p => with_suffix(addr, b".b32.i2p"),
+        Net::Internal => with_suffix(addr, b".internal"),
+        Net::Unroutable => ArrayVec::new(),
+    }
+}
+
+/// Returns the letters of an address's name and a suffix.
+fn with_suffix(addr: &NetAddr, suffix: &[u8]) -> ArrayVec<u8, TEXT>
+    requires { length suffix.now ≤ 9 }
+    ensures { result.items ≡ letters_of addr.now.net addr.now.bytes ++ suffix.now }
+{
+    let mut text = ArrayVec::new();
+    append(&mut text, letters_of(addr).as_slice());
+    append(&mut text, suffix);
+    text
 }
 
 /// Returns four decimal numbers with dots between them.
@@ -88,6 +116,15 @@ fn bracketed(bytes: &[u8; 16]) -> ArrayVec<u8, TEXT>
     text.push(b'[');
     append(&mut text, ipv6_text(bits_of(bytes)).as_slice());
     text.push(b']');
+    text
+}
+
+/// Returns the text of an IPv6 address.
+fn groups(bytes: &[u8; 16]) -> ArrayVec<u8, TEXT>
+    ensures { result.items ≡ ipv6_text bytes.now }
+{
+    let mut text = ArrayVec::new();
+    append(&mut text, ipv6_text(bits_of(bytes)).as_slice());
     text
 }
 

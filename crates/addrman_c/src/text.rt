@@ -3,15 +3,14 @@ ghost use Rattle.net_addr.specs.Address.{Address};
 ghost use Rattle.net_addr.specs.Text.{IsAddrText, IsPeerText, addr_text, peer_text};
 ghost use Rattle.net_addr.specs.declared.peer.Peer.{Peer};
 ghost use Rattle.c_values.specs.Values.{address_in, peer_in};
-ghost use Rattle.names.specs.Name.{IsName};
-ghost use Rattle.addrman_c.specs.Texts.{NameCall, TextCall};
+ghost use Rattle.names.specs.Name.{IsName, name_text};
+ghost use Rattle.addrman_c.specs.Texts.{TextCall};
 
-use crate::printing::{addr_text, peer_text};
-use c_values::code::{ARGUMENT, MEMORY, OK, SHORT_BUFFER};
+use crate::printing::{addr_text, name_text, peer_text};
+use c_values::code::{ARGUMENT, OK, SHORT_BUFFER};
 use c_values::{AddrmanAddr, AddrmanPeer, put_all, read_addr, read_peer, write_addr, write_peer};
-use names::{name_of, parse_name};
+use names::parse_name;
 use net_addr::{NetAddr, Peer, parse_addr, parse_peer};
-use std::alloc::Global;
 
 /// Parses the text of an address.
 #[unsafe(no_mangle)]
@@ -105,29 +104,21 @@ pub extern "C" fn addrman_name_parse(text: &[u8], out: &mut AddrmanAddr) -> u32
 }
 
 /// Writes the name of an address, whole or not at all, and its length.
-fn put_name(alloc: Global, addr: Option<NetAddr>, out: &mut [u8], length: &mut usize) -> u32
-    ensures call { NameCall addr result out.old out.new length.new }
+fn put_name(addr: Option<NetAddr>, out: &mut [u8], length: &mut usize) -> u32
+    ensures call { TextCall name_text addr result out.old out.new length.new }
     ensures length { result ≢ OK → result ≢ SHORT_BUFFER → length.new ≡ length.old }
 {
-    let Some(addr) = addr else {
-        return ARGUMENT;
-    };
-    match name_of(alloc, &addr) {
-        Ok(name) => put_all(out, name.as_bytes(), length),
-        Err(_) => MEMORY,
+    match addr {
+        Some(addr) => put_all(out, name_text(&addr).as_slice(), length),
+        None => ARGUMENT,
     }
 }
 
 /// Writes the name of an address as people write it, and its length.
 #[unsafe(no_mangle)]
-pub extern "C" fn addrman_name_text(
-    alloc: Global,
-    addr: &AddrmanAddr,
-    out: &mut [u8],
-    length: &mut usize,
-) -> u32
-    ensures call { NameCall (address_in addr.now) result out.old out.new length.new }
+pub extern "C" fn addrman_name_text(addr: &AddrmanAddr, out: &mut [u8], length: &mut usize) -> u32
+    ensures call { TextCall name_text (address_in addr.now) result out.old out.new length.new }
     ensures length { result ≢ OK → result ≢ SHORT_BUFFER → length.new ≡ length.old }
 {
-    put_name(alloc, read_addr(addr), out, length)
+    put_name(read_addr(addr), out, length)
 }

@@ -21,6 +21,7 @@ mod sha3;
 mod text;
 
 pub use law::{checksums_are_determined, texts_have_one_meaning};
+pub use name::letters_of;
 pub use print::name_of;
 pub use read::parse_name;
 pub use text::parse_text;

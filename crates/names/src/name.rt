@@ -44,9 +44,10 @@ fn with_checksum(key: &[u8]) -> ArrayVec<u8, 35>
     whole
 }
 
-/// Returns the letters of an address's name.
+/// Returns the letters of an address's name, which come before a suffix such as `.onion`. It takes
+/// no memory.
 #[tactic(auto, using(crate::proofs::Lower::base32_ascii), unfolding(crate::specs::Name::encoded))]
-pub(crate) fn letters_of(addr: &NetAddr) -> ArrayVec<u8, 56>
+pub fn letters_of(addr: &NetAddr) -> ArrayVec<u8, 56>
     ensures letters { result.items ≡ letters_of addr.now.net addr.now.bytes }
     ensures ascii { IsAscii (letters_of addr.now.net addr.now.bytes) }
     ensures address { IsAddress addr.now }
