@@ -282,14 +282,15 @@ ADDRMAN_CALL_OF(1, 5, 8) addrman_result addrman_open_file_core(addrman *am, cons
 /* Frees all memory of the object, and closes it. Proved: the object is closed. */
 ADDRMAN_API void addrman_close(addrman *am);
 
-/* How many bytes the file of so many records has at most: room for it, so that it is made once. */
+/* How many bytes the file of so many records has at most: room for it before it is known. */
 #define ADDRMAN_FILE_ROOM(records) ((size_t)4210 + (size_t)131 * (records))
 
 /* Writes the file that keeps the tables (format 4) and how many bytes it has. addrman_save_begin
  * says how a node puts them in the place of its peers.dat.
- *   ADDRMAN_ERR_SHORT_BUFFER  nothing is written but *length, which costs as much as the file does
+ *   ADDRMAN_ERR_SHORT_BUFFER  nothing is written but *length, for which no file is made and no
+ *                             memory is taken: call it without room to know the length
  * Proved: WriteCall (`file_text` of `snapshot_of`); the tables are as they were.
- * Codes: CLOSED, ARGUMENT (there is no such chain), MEMORY, SHORT_BUFFER. */
+ * Codes: CLOSED, ARGUMENT (there is no such chain), SHORT_BUFFER, MEMORY. */
 ADDRMAN_CALL_OF(1, 5) addrman_result addrman_write_file(addrman *am, addrman_chain chain,
     uint8_t *out, size_t capacity, size_t *length);
 

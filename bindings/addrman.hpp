@@ -409,9 +409,7 @@ public:
     // The bytes of the peers.dat that keeps the tables.
     bytes file(addrman_chain chain)
     {
-        auto counts = size();
-        std::size_t records = std::size_t(counts.new_count) + counts.tried_count;
-        return detail::filled<bytes>(ADDRMAN_FILE_ROOM(records), [&](auto *p, auto n, auto *l) {
+        return detail::filled<bytes>(0, [&](auto *p, auto n, auto *l) {
             return addrman_write_file(am_.get(), chain, p, n, l);
         });
     }

@@ -466,9 +466,7 @@ class AddrMan(_Object):
 
     def file(self, chain: int = MAIN) -> bytes:
         """The bytes of the peers.dat that keeps the tables."""
-        with self._lock:
-            size = self.size()
-            return bytes(self._filled(c.c_uint8, 4210 + 131 * (size.new + size.tried), "write_file", _number("chain", chain)))
+        return bytes(self._filled(c.c_uint8, 0, "write_file", _number("chain", chain)))
 
     def take_message(self, is_v2: bool, payload: BytesLike, source: str, words: Sequence[int], now: int) -> tuple[int, int]:
         """Takes a message that `source` sent. Returns how many entries got a slot, and how many there are."""

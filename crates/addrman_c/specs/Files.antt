@@ -54,10 +54,10 @@ chain_of number =
     else if nat_lt number 256 then None
     else Some (Other number)
 
--- The bytes of the file that keeps the tables; None is no chain. If memory runs out or there is
--- no such chain, the output is as it was.
+-- The bytes of the file that keeps the tables; None is no chain. If there is no such chain, or
+-- memory runs out, which it can only where there is room for the file, the output is as it was.
 abbrev pub WriteCall : Option Chain → State → ℕ → List ℕ → List ℕ → ℕ → Type 0
 WriteCall None st code old new count = (code ≡ ARGUMENT) × (new ≡ old)
 WriteCall (Some chain) st code old new count =
-    ((code ≡ MEMORY) × (new ≡ old))
+    ((code ≡ MEMORY) × (length (file_text chain (snapshot_of st)) ≤ length old) × (new ≡ old))
     ⊎ IsPut (file_text chain (snapshot_of st)) old code count new

@@ -9,6 +9,7 @@ use c_handles::{Handle, Keyed};
 use c_values::code::{ARGUMENT, CLOSED, MEMORY, OK, SHORT_BUFFER};
 use c_values::put_all;
 use host_io::Bytes;
+use node_calls::{file_length, snapshot};
 use peers_file::{Chain, write_file};
 use std::alloc::Global;
 use tables::Tables;
@@ -17,7 +18,7 @@ use tables::Tables;
 pub(crate) fn file_of(alloc: Global, tables: &Tables<'_, Keyed>, chain: Chain) -> Option<Bytes>
     ensures { IfSome result (λ bytes. bytes ≡ file_text chain (snapshot_of tables.now)) }
 {
-    let Ok(snap) = node_calls::snapshot(tables) else {
+    let Ok(snap) = snapshot(tables) else {
         return None;
     };
     match write_file(alloc, &snap, chain) {
@@ -26,7 +27,7 @@ pub(crate) fn file_of(alloc: Global, tables: &Tables<'_, Keyed>, chain: Chain) -
     }
 }
 
-/// Writes the file that keeps the tables.
+/// Writes the file that keeps the tables. If there is too little room, none is made.
 fn write_on(
     alloc: Global,
     tables: &Tables<'_, Keyed>,
@@ -40,6 +41,11 @@ fn write_on(
     let Some(chain) = chain else {
         return ARGUMENT;
     };
+    let needed = file_length(tables);
+    if out.len() < needed {
+        *length = needed;
+        return SHORT_BUFFER;
+    }
     match file_of(alloc, tables, chain) {
         Some(bytes) => put_all(out, bytes.items(), length),
         None => MEMORY,
