@@ -1,4 +1,4 @@
-ghost use Rattle.std.specs.Prelude.{◌<◌, ℕ, List, All, Option, IfSome};
+ghost use Rattle.std.specs.Prelude.{◌≡◌, ◌<◌, ℕ, List, All, Option, IfSome};
 ghost use Rattle.host_io.specs.Disk.{files_on};
 ghost use Rattle.host_io.specs.Past.{Past};
 ghost use Rattle.host_io.specs.PerName.{under};
@@ -9,8 +9,14 @@ ghost use Rattle.peers_file.specs.declared.chain.Chain.{Chain};
 ghost use Rattle.addrman_run.specs.Diff.{HaveTooMany, RefusesRecords};
 ghost use Rattle.addrman_run.specs.Opening.{OpensOnce};
 ghost use Rattle.addrman_run.specs.declared.peers_fault.PeersFault.{PeersFault};
+ghost use Rattle.addrman_run.specs.declared.risk.TheConstants.{AFTER_RESTART};
 
 use peers_file::files_have_one_meaning;
+
+/// The time of the picks that `risk` counts, in seconds since 1970.
+pub fn times_are_numbers()
+    ensures restart { AFTER_RESTART ≡ 600 }
+{}
 
 /// Whatever key and kind of file the arguments give, and whatever bytes peers.dat has, if there is
 /// such a file: exactly one of three things holds. The tables open, and only in one state; the file

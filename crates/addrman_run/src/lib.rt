@@ -47,7 +47,7 @@ mod top;
 mod trial;
 mod trial_line;
 
-pub use law::{changes_are_counted_last, folders_open_once};
+pub use law::{changes_are_counted_last, folders_open_once, times_are_numbers};
 pub use learned::{Learned, SumFit};
 pub use net_addr::Memory;
 pub use peers_fault::PeersFault;
