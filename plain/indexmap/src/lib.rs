@@ -220,9 +220,47 @@ impl<K, V, S> Index<usize> for IndexMap<K, V, S> {
     }
 }
 
+/// Values, each once, in an order.
+pub struct IndexSet<T, S = FixedHasher> {
+    map: IndexMap<T, (), S>,
+}
+
+impl<T: Hash + Eq> IndexSet<T> {
+    /// Returns an empty set, which takes no memory.
+    pub fn new(alloc: Global) -> Self {
+        IndexSet {
+            map: IndexMap::new(alloc),
+        }
+    }
+}
+
+impl<T: Hash + Eq, S: BuildHasher> IndexSet<T, S> {
+    /// Puts a value in at the end, unless it is there. Returns its position, and whether it is new.
+    /// If memory runs out, the value is given back.
+    pub fn insert_full(&mut self, value: T) -> Result<(usize, bool), AllocFailed<T>> {
+        if let Some(at) = self.map.get_index_of(&value) {
+            return Ok((at, false));
+        }
+        match self.map.insert(value, ()) {
+            Ok(_) => Ok((self.map.len() - 1, true)),
+            Err(failed) => Err(AllocFailed {
+                value: failed.value.0,
+            }),
+        }
+    }
+
+    /// Returns the position of a value.
+    pub fn get_index_of<Q: ?Sized + Hash + Eq>(&self, value: &Q) -> Option<usize>
+    where
+        T: Borrow<Q>,
+    {
+        self.map.get_index_of(value)
+    }
+}
+
 #[cfg(test)]
 mod tests {
-    use super::IndexMap;
+    use super::{IndexMap, IndexSet};
     use plain_std::alloc::Global;
 
     fn map_of(keys: &[u32]) -> IndexMap<u32, u32> {
@@ -267,6 +305,15 @@ mod tests {
         assert_eq!(pairs(&map), [(1, 7), (2, 21)]);
         map.clear();
         assert!(map.is_empty() && !map.contains_key(&1));
+    }
+
+    #[test]
+    fn a_value_of_a_set_keeps_its_position() {
+        let mut set = IndexSet::new(Global);
+        assert_eq!(set.insert_full(7).unwrap(), (0, true));
+        assert_eq!(set.insert_full(5).unwrap(), (1, true));
+        assert_eq!(set.insert_full(7).unwrap(), (0, false));
+        assert_eq!((set.get_index_of(&5), set.get_index_of(&6)), (Some(1), None));
     }
 
     #[test]

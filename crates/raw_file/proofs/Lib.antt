@@ -1,0 +1,3 @@
+mod Agains
+mod Facts
+mod Inputs

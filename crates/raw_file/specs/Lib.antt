@@ -1,0 +1,5 @@
+pub mod FaultTexts
+pub mod Input
+pub mod Listing
+pub mod Faults
+pub mod Inside
