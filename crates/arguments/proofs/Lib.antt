@@ -1,6 +1,5 @@
 pub mod Choosing
 pub mod WithCore
-pub mod Colourings
 pub mod Groupings
 pub mod BesideAnchors
 pub mod BanForms

@@ -1,3 +1,2 @@
-pub mod By
 pub mod Marks
 pub mod Picture
