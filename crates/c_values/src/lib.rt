@@ -11,6 +11,7 @@
 pub mod code;
 mod entries;
 mod faults;
+mod law;
 mod output;
 mod peers;
 mod records;
@@ -19,6 +20,7 @@ mod values;
 
 pub use entries::{put_entries, read_entries};
 pub use faults::fault_number;
+pub use law::codes_are_numbers;
 pub use output::put_all;
 pub use peers::put_peers;
 pub use records::{put_records, write_record};
