@@ -1,5 +1,5 @@
 -- What the calls on addresses and their texts return and write.
-use Rattle.std.specs.Prelude.{◌≡◌, ◌⊎◌, ℕ, List, Option, Some, None, MatchOption}
+use Rattle.std.specs.Prelude.{◌≡◌, ℕ, List, Option, Some, None, MatchOption}
 use Rattle.net_addr.specs.Address.{Address, net_number}
 use Rattle.net_addr.specs.OldForm.{v1_bytes}
 use Rattle.net_addr.specs.Ranges.{is_routable, net_class}

@@ -1,11 +1,9 @@
 -- How long the file is that keeps the tables: what each record adds, summed in any order.
-use Rattle.std.proofs.Common.{◌≡◌, ◌≢◌, ℕ, suc, ◌+◌, ◌*◌, ◌<◌, ◌≤◌, Bool, true, false, not, ◌&&◌, ◌==◌, List, [], ◌∷◌, ◌++◌, map, filter, length, take, get_or, All, AllPairs, Contains, sum_by, Option, Some, None, refl, sym, ap, subst, ◌∙◌, inl, inr, ◌⊎◌, ⊎_elim, arith, length-append}
+use Rattle.std.proofs.Common.{◌≡◌, ◌≢◌, ℕ, suc, ◌+◌, ◌*◌, ◌<◌, ◌≤◌, Bool, not, ◌&&◌, ◌==◌, List, [], ◌∷◌, ◌++◌, map, length, take, All, AllPairs, Contains, sum_by, Option, Some, None, refl, sym, ap, subst, ◌∙◌, inl, inr, ⊎_elim, arith, length-append}
 use Rattle.std.specs.Prelude.{IsPermutation, slice_get}
 use Rattle.std.specs.Bool.{Decides}
 use Rattle.std.specs.Cmp.{IsEquivalence}
 use Rattle.std.specs.List.{flat_map}
-use Rattle.std.specs.Set.{is_member}
-use Rattle.std.proofs.lemmas.Bool.{eq-eqb}
 use Rattle.std.proofs.lemmas.Bool.Decides.{Decides-and, Decides-eqb, Decides-like, same_from_decides}
 use Rattle.std.proofs.lemmas.List.{length-map, take_more}
 use Rattle.std.proofs.lemmas.List.Elements.{All-contains, Contains-append_cases, Contains-append_left, Contains-append_right}
@@ -30,7 +28,7 @@ use Rattle.table_machine.proofs.Buckets.{AreBuckets-of}
 use Rattle.table_machine.proofs.Grown.{all_of, all_of-from}
 use Rattle.table_machine.proofs.Listed.{listed-all, listed-apart, listed-from}
 use Rattle.table_machine.proofs.Lists.{All-from_Contains, AllPairs-map, Contains-cases, Contains-head, Contains-tail, none_in_nil, pairs_append_by}
-use Rattle.table_machine.proofs.Part.{At, at-Contains, at_from}
+use Rattle.table_machine.proofs.Part.{At, at_from}
 use Rattle.table_machine.proofs.SnapshotFits.{snapshot_fits}
 
 -- what a record adds to the file: its text, and an index in each of its buckets
