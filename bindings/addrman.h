@@ -597,6 +597,35 @@ ADDRMAN_CALL addrman_result addrman_new_slot(addrman *am, const addrman_peer *pe
 ADDRMAN_CALL addrman_result addrman_tried_slot(addrman *am, const addrman_peer *peer,
     uint32_t *bucket, uint32_t *slot);
 
+/* ------------------------------------------------------------------------------------- risk */
+
+/* A set of addresses: those that the autonomous system `asn` announces by the object's asmap, or if
+ * that is 0, those of a subnet, as addrman_subnet_parse writes it: the address `base`, of whose bits
+ * `prefix` count. */
+typedef struct {
+    addrman_addr base;
+    uint32_t prefix;
+    uint32_t asn;
+} addrman_set;
+ADDRMAN_SIZE(addrman_set, 44);
+
+/* Parts of a million. */
+typedef struct {
+    uint32_t picks;    /* of the picks from both tables */
+    uint32_t new_only; /* of those from the new table alone */
+    uint32_t tried;    /* of the searches of the tried table */
+} addrman_shares;
+ADDRMAN_SIZE(addrman_shares, 12);
+
+/* Writes which part of the picks at a time falls to the peers whose addresses are in one of the
+ * sets, at most. A peer in two of them counts once.
+ *   ADDRMAN_ERR_ARGUMENT  a set is none: its address is none, or more than 256 bits count
+ * Proved: RiskCall (`parts_for`, `is_among`); the parts are bounds (`parts_are_bounds` of the crate
+ * risk_parts), and the tables are as they were.
+ * Codes: CLOSED, MEMORY, ARGUMENT, MEMORY. */
+ADDRMAN_CALL_OF(1, 5) addrman_result addrman_risk(addrman *am, const addrman_set *sets,
+    size_t count, uint32_t now, addrman_shares *shares);
+
 /* ------------------------------------------------------------------- outbound connections */
 
 /* The object keeps which outbound peers are open: at most ten, no two of them in one network group.

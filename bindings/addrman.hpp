@@ -189,6 +189,18 @@ inline std::pair<addrman_addr, std::uint32_t> parse_subnet(std::string_view text
     return out;
 }
 
+// A set of addresses: those of the subnet of a text, or those that an autonomous system announces.
+inline addrman_set subnet_set(std::string_view text)
+{
+    const auto [base, prefix] = parse_subnet(text);
+    return {base, prefix, 0};
+}
+
+inline addrman_set asn_set(std::uint32_t asn)
+{
+    return {{}, 0, asn};
+}
+
 // Whether bytes are a sane asmap.
 inline bool is_asmap(view<std::uint8_t> asmap)
 {
@@ -412,6 +424,14 @@ public:
         return detail::filled<bytes>(0, [&](auto *p, auto n, auto *l) {
             return addrman_write_file(am_.get(), chain, p, n, l);
         });
+    }
+
+    // Which part of the picks falls to the peers of some sets, at most, in parts of a million.
+    addrman_shares risk(view<addrman_set> sets, std::uint32_t now)
+    {
+        addrman_shares out{};
+        detail::check(addrman_risk(am_.get(), sets.data(), sets.size(), now, &out));
+        return out;
     }
 
     std::uint32_t asn(const addrman_addr &addr)

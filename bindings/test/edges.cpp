@@ -77,6 +77,8 @@ int main()
     want(is_asmap(map) && !is_asmap({}) && decompile_asmap(map) == "1.2.3.0/24 AS5\n1.2.4.0/24 AS6\n", "an asmap is another");
     tables mapped(key{}, s, map);
     want(mapped.asn(source) == 5 && mapped.group(source).size() == 5, "a number is another");
+    want(two.risk({subnet_set("8.8.0.0/16"), asn_set(5)}, 1700000000).picks == 1000000, "the part of a subnet is another");
+    want(two.risk({asn_set(5)}, 1700000000).picks == 0 && two.risk({}, 1700000000).new_only == 0, "a part of nobody is another");
     want(two.judge({peer, 0}, 1700000000, 1) == ADDRMAN_TAKE, "a peer is not taken");
     want(limits.getaddr(1) == ADDRMAN_GETADDR_GRANTED && limits.admit(1, 1000, 1000) == 1000u && !limits.admit(2, 1, 1000), "a limit is another");
     want(other.remove("1.2.3.0/24") && !other.remove("1.2.3.0/24"), "a ban is not removed");

@@ -44,7 +44,8 @@ def others():
                  limiter.admit(1, 1000, NOW) == 1000, limiter.admit(2, 1, NOW) is None, limiter.stat(1).processed == 1000, limiter.remove(1),
                  am.judge(PEER, 0, NOW, 1) == "take", am.add(PEER, SOURCE, NOW, 1, 0, 0, NOW), am.attempt(PEER, True, NOW),
                  am.connected(PEER, NOW), am.set_services(PEER, 9), am.find(PEER).services == 9, am.resolve_collisions(NOW) == (0, 0, 0),
-                 am.select_collision(1) is None]
+                 am.select_collision(1) is None, am.risk(["8.8.0.0/16", 5], NOW) == (1_000_000, 1_000_000, 0), am.risk([5], NOW).picks == 0,
+                 am.risk([], NOW) == (0, 0, 0)]
     if not all(found):
         raise SystemExit(f"answer {found.index(False)} is another")
 
@@ -80,6 +81,10 @@ def main():
     refuses(TypeError, lambda: am.select(False, addrman.ALL_NETS, b"12345678", NOW))
     refuses(ValueError, lambda: am.select(False, addrman.ALL_NETS, [1 << 64], NOW))
     refuses(ValueError, lambda: addrman.from_v1(bytes(15)))
+    for addresses in (0, "8.8.8.8/33", "AS5", 1 << 32, -1):
+        refuses(ValueError, lambda: am.risk([addresses], NOW))
+    for addresses in (b"8.8.8.8", True, 1.5, None):
+        refuses(TypeError, lambda: am.risk([addresses], NOW))
     accepted = [0] * 4
 
     def work(number):

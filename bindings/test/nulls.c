@@ -29,6 +29,7 @@ struct world {
     addrman_fault fault;
     addrman_ban ban;
     addrman_request request;
+    addrman_shares shares;
     uint32_t number;
     size_t length;
 };
@@ -115,6 +116,7 @@ static int carry_out(struct world *w, unsigned call, const void *in, void *out)
     case 37: return (int)addrman_bans_remove(&w->bans, in, 0, &w->number);
     case 38: return (int)addrman_answer(&w->answers, am, &w->bans, ADDRMAN_IPV4, 0, true, false, now, in, 0, out, 0, length);
     case 39: return (int)addrman_answer(&w->answers, am, &w->bans, ADDRMAN_IPV4, 0, true, false, now, seed, 0, out, 0, length);
+    case 40: return (int)addrman_risk(am, in, 0, now, &w->shares);
     default: return -1;
     }
 }
@@ -174,6 +176,15 @@ static void others(void)
     expect(bucket < 256 && slot < 64, "a place in the tried table");
     must(addrman_size_of(&am, ADDRMAN_NET(ADDRMAN_IPV4), &in_new, &in_tried), "size_of");
     expect(in_new == 1 && in_tried == 0, "a size");
+    addrman_set sets[2] = { { .asn = 5 }, { .prefix = 16 } };
+    addrman_shares shares;
+    must(addrman_subnet_parse("8.8.0.0/16", 10, &sets[1].base, &sets[1].prefix), "subnet_parse");
+    must(addrman_risk(&am, sets, 2, now, &shares), "risk");
+    expect(shares.picks == 1000000 && shares.new_only == 1000000 && shares.tried == 0, "the part of a subnet");
+    must(addrman_risk(&am, sets, 1, now, &shares), "risk");
+    expect(shares.picks == 0 && shares.new_only == 0 && shares.tried == 0, "the part of an AS without an asmap");
+    sets[1].prefix = 257;
+    expect(addrman_risk(&am, sets, 2, now, &shares) == ADDRMAN_ERR_ARGUMENT, "a set of too many bits");
     expect(addrman_judge_feeler(0, now, 1) == ADDRMAN_TAKE && addrman_judge_feeler(now, now, 1) == ADDRMAN_RECENT, "a verdict");
     addrman_close(&am);
     addrman_close(&am);

@@ -72,6 +72,10 @@ class _Ban(c.Structure):
     _fields_ = [("base", _Addr), ("prefix", c.c_uint32), ("created", c.c_uint32), ("until", c.c_uint32)]
 
 
+class _Set(c.Structure):
+    _fields_ = [("base", _Addr), ("prefix", c.c_uint32), ("asn", c.c_uint32)]
+
+
 class _Limits(c.Structure):
     _fields_ = [(name, c.c_uint32) for name in ("tenths", "moment", "processed", "limited", "asked", "unlimited")]
 
@@ -108,6 +112,14 @@ class Resolved(NamedTuple):
     erased: int
     moved: int
     kept: int
+
+
+class Shares(NamedTuple):
+    """Parts of a million: of the picks from both tables, of those from the new table alone, and of the searches of the
+    tried table."""
+    picks: int
+    new: int
+    tried: int
 
 
 class Ban(NamedTuple):
@@ -180,7 +192,7 @@ _SIGNATURES = {
     "resolve_collisions": [_P, _U32, _P], "select_collision": [_P, _U64, _P],
     "size": [_P, _P], "size_of": [_P, _U32, _P, _P], "find": [_P, _P, _P], "records": [_P, _P, _SIZE, _P],
     "asmap_check": [_P, _SIZE], "asn": [_P, _P, _P], "group": [_P, _P, _P, _SIZE, _P],
-    "new_slot": [_P, _P, c.c_uint16, _P], "tried_slot": [_P, _P, _P, _P],
+    "risk": [_P, _P, _SIZE, _U32, _P], "new_slot": [_P, _P, c.c_uint16, _P], "tried_slot": [_P, _P, _P, _P],
     "bans_open": [_P, _P, _SIZE, _P], "bans_close": [_P], "bans_write": [_P, _P, _SIZE, _P],
     "bans_add": [_P, _P, _SIZE, _U32, _U32, _P], "bans_remove": [_P, _P, _SIZE, _P], "bans_covering": [_P, _P, _U32, _P],
     "limiter_open": [_P], "limiter_close": [_P], "limiter_add": [_P, _U32, _P, _BOOL, _U32, _P],
@@ -356,6 +368,16 @@ def subnet(text: str) -> tuple[str, int]:
     base, prefix, raw = _Addr(), _U32(), _text("a subnet", text)
     _check(_lib.addrman_subnet_parse(raw, len(raw), c.byref(base), c.byref(prefix)))
     return _addr_text(base), prefix.value
+
+
+def _set(addresses: Union[str, int]) -> _Set:
+    if not isinstance(addresses, str):
+        if _number("an AS number", addresses) == 0:
+            raise ValueError("an AS number is not 0")
+        return _Set(asn=addresses)
+    base, prefix, raw = _Addr(), _U32(), addresses.encode()
+    _check(_lib.addrman_subnet_parse(raw, len(raw), c.byref(base), c.byref(prefix)))
+    return _Set(base, prefix.value)
 
 
 def judge_feeler(last_try: int, now: int, tries: int) -> str:
@@ -605,6 +627,13 @@ class AddrMan(_Object):
         with self._lock:
             size = self.size()
             return [_record(r) for r in self._filled(_Record, size.new + size.tried, "records")]
+
+    def risk(self, sets: Sequence[Union[str, int]], now: int) -> Shares:
+        """Which part of the picks falls to the peers of some sets of addresses, at most: the text of a subnet, or the
+        number of an autonomous system."""
+        listed, out = (_Set * max(len(sets), 1))(*map(_set, sets)), _Three()
+        _check(self._call("risk", listed, len(sets), _number("now", now), c.byref(out)))
+        return Shares(out.first, out.second, out.third)
 
     def asn(self, addr: str) -> int:
         """The number of the autonomous system of an address, 0 if none is known."""

@@ -9,6 +9,7 @@ pub mod Loading
 pub mod Messages
 pub mod OnHandle
 pub mod Outbound
+pub mod Risk
 pub mod Sampling
 pub mod Saving
 pub mod Texts

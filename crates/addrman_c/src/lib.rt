@@ -28,6 +28,7 @@ mod opening;
 mod picks;
 mod printing;
 mod records;
+mod risk;
 mod sampling;
 mod saves;
 mod slots;
@@ -65,6 +66,7 @@ pub use picks::{
     addrman_resolve_collisions, addrman_select, addrman_select_collision, addrman_select_record,
 };
 pub use records::{addrman_find, addrman_records, addrman_size, addrman_size_of};
+pub use risk::{AddrmanSet, AddrmanShares, addrman_risk};
 pub use sampling::addrman_sample;
 pub use saves::{addrman_save_begin, addrman_save_close, addrman_save_done, addrman_save_next};
 pub use slots::{addrman_new_slot, addrman_tried_slot};
