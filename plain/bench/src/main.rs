@@ -16,6 +16,7 @@ mod codecs_work;
 mod compile_work;
 mod index_work;
 mod lines_work;
+mod nodes_work;
 mod numbers;
 mod refusal;
 mod table_work;
@@ -59,6 +60,7 @@ where
         Task::Codecs(work) => work.run(rt.alloc()),
         Task::Index(work) => work.run(rt.alloc()),
         Task::Lines(work) => work.run(rt.alloc()),
+        Task::Nodes(work) => work.run(rt.alloc()),
         Task::Tables(records) => fill_tables(rt.alloc(), records),
     }
 }

@@ -33,7 +33,7 @@ impl Refusal {
             Refusal::Usage => {
                 "usage: bench asmap N, check TIMES, calls KIND TIMES, codecs KIND TIMES, \
                  table TIMES, matches N, compile TIMES, tables N, lines LENGTH TIMES, \
-                 index-adds N TIMES, index-removes N TIMES, \
+                 nodes N LINES, index-adds N TIMES, index-removes N TIMES, \
                  index-finds N SOME TIMES, or index-turns N SOME TIMES"
             }
             Refusal::NoAsmap => "asmap.dat is missing",

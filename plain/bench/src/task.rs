@@ -3,6 +3,7 @@ use crate::calls_work::{CallsWork, Kind as CallsKind};
 use crate::codecs_work::{CodecsWork, Kind as CodecsKind};
 use crate::index_work::{IndexWork, Kind};
 use crate::lines_work::LinesWork;
+use crate::nodes_work::NodesWork;
 use crate::refusal::Refusal;
 use crate::table_work::TableWork;
 use plain_std::string::String;
@@ -18,6 +19,8 @@ pub(crate) enum Task {
     Index(IndexWork),
     /// A log is split into lines.
     Lines(LinesWork),
+    /// Many nodes carry out a generated log.
+    Nodes(NodesWork),
     /// Work over prefixes.txt.
     Table(TableWork),
     /// Work on messages of 1000 entries.
@@ -60,10 +63,9 @@ fn calls_kind(word: &String) -> Result<CallsKind, Refusal> {
 
 impl Task {
     /// Returns the task that the arguments name: `asmap N`, `check N`, `calls KIND TIMES`,
-    /// `codecs KIND TIMES`,
-    /// `table N`, `matches N`, `compile TIMES`, `tables N`, `lines LENGTH TIMES`,
-    /// `index-adds N TIMES`, `index-removes N TIMES`, `index-finds N SOME TIMES` or
-    /// `index-turns N SOME TIMES`.
+    /// `codecs KIND TIMES`, `table N`, `matches N`, `compile TIMES`, `tables N`,
+    /// `lines LENGTH TIMES`, `nodes N LINES`, `index-adds N TIMES`, `index-removes N TIMES`,
+    /// `index-finds N SOME TIMES` or `index-turns N SOME TIMES`.
     pub fn of(words: &[String]) -> Result<Task, Refusal> {
         match words {
             [command, count] => Task::of_count(command.as_str(), count),
@@ -91,8 +93,8 @@ impl Task {
         }
     }
 
-    /// Returns the task of a command with a length, a kind or a number of records, which is done
-    /// that many times.
+    /// Returns the task of a command with a length, a kind, or a number of records or nodes, which
+    /// is done that many times.
     fn of_times(command: &str, what: &String, times: &String) -> Result<Task, Refusal> {
         let times = number(times)?;
         if command == "codecs" {
@@ -108,6 +110,10 @@ impl Task {
             "lines" => Ok(Task::Lines(LinesWork {
                 length: count,
                 times,
+            })),
+            "nodes" => Ok(Task::Nodes(NodesWork {
+                nodes: count,
+                lines: times,
             })),
             "index-adds" => Ok(Task::on_index(Kind::Adds, count, count, times)),
             "index-removes" => Ok(Task::on_index(Kind::Removes, count, count, times)),
