@@ -240,7 +240,7 @@ uninstall:
 
 # What README.md names by a link is packed too, and what the packed documents name.
 PACKED := LICENSE README.md CHANGELOG.md CONTRIBUTING.md SECURITY.md docs examples bindings vectors \
-	bench/README.md plain/face/README.md plain/face/examples/node.rs tools/addrman.bash
+	bench/README.md plain/README.md plain/face/README.md plain/face/examples/node.rs tools/addrman.bash
 
 dist: bin/addrman
 	rm -rf bin/$(DIST) && mkdir -p bin/$(DIST)
