@@ -57,7 +57,8 @@ def with_key(words: list[str]) -> list[str]:
 
 
 def without_files(command: str, words: list[str], paths: dict[str, str]) -> list[str]:
-    """Arguments without the options that name a file; their paths go to `paths`. An option that may lack its file stays."""
+    """Arguments without the options that name a file; their paths go to `paths`. An option that may lack its file stays, `--anchors` as the
+    first one."""
     found, rest = [], list(words)
     while rest:
         word = rest.pop(0)
@@ -67,7 +68,7 @@ def without_files(command: str, words: list[str], paths: dict[str, str]) -> list
             found.append(word)
             continue
         if (command, option) in MAY_LACK:
-            found.append(option)
+            found.insert(0 if option == "--anchors" else len(found), option)
             if not equals and (not rest or rest[0].startswith("-")):
                 continue
         if not equals:
