@@ -30,9 +30,10 @@ MAXIMUM_GENERATED_LINES = 100_000
 COMMANDS = "replay opener limit show picture raw info groups risk compile decompile diff check lookup address ban unban banned bans gen trial help version"
 IN_PLACE = {b"--help": b"help", b"-h": b"help", b"--version": b"version"}
 CHAIN = ("--net", "--magic")
-OPTIONS = {"replay": ("--key", *CHAIN), "opener": ("--key", *CHAIN), "picture": CHAIN, "raw": CHAIN,
+OPTIONS = {"replay": ("--key", *CHAIN), "opener": ("--key", *CHAIN), "raw": CHAIN,
            "info": CHAIN, "groups": CHAIN}
 GROUPINGS = ("source", "peer", "network", "-")
+COLOURINGS = ("network", "source", "group", "age")
 NO_KEY = b"--no-key"
 ANCHORS = b"--anchors"
 CORE = b"--core"
@@ -125,6 +126,22 @@ def grouping_options(arguments: list[bytes]) -> tuple[str, FileKind]:
     arguments, core = without_core(arguments)
     by = usage(next((own for own in GROUPINGS if arguments[:1] == [own.encode()]), None))
     return by, FileKind(chain_option(arguments[1:]), core)
+
+
+def colouring_options(arguments: list[bytes]) -> tuple[str | None, str, FileKind]:
+    """What the colours go by, if `--by` says it, the name of the chain, and the file of peers, by the
+    arguments of `picture`."""
+    arguments, core = without_core(arguments)
+    by = None
+    if arguments and arguments[0].partition(b"=")[0] == b"--by":
+        size = 1 if b"=" in arguments[0] else 2
+        value = read_options(arguments[:size], ("--by",))["--by"]
+        by = usage(next((own for own in COLOURINGS if value == own.encode()), None))
+        arguments = arguments[size:]
+    options = read_options(arguments, CHAIN)
+    _, start = key_and_chain(options)
+    name = "of other first bytes" if "--magic" in options else options.get("--net", b"main").decode()
+    return by, name, FileKind(start, core)
 
 
 def sum_said(file: peers_file.PeersFile, asmap: Asmap, core: bool) -> str:
@@ -224,6 +241,9 @@ class Run:
             return
         if name == "show":
             self.show(*listing_options(arguments[1:]))
+            return
+        if name == "picture":
+            self.picture(*colouring_options(arguments[1:]))
             return
         if name == "risk":
             self.risk(*grouping_options(arguments[1:]))
@@ -379,8 +399,8 @@ class Run:
         for line in anchors.shown(self.needed(found, "anchors.dat")):
             self.print(line)
 
-    def picture(self, _key: None, kind: FileKind):
-        self.print(picture(self.saved_tables(kind)).removesuffix("\n"))
+    def picture(self, by: str | None, chain: str, kind: FileKind):
+        self.print(picture(self.saved_tables(kind), by, chain).removesuffix("\n"))
 
     def raw(self, _key: None, kind: FileKind):
         self.print(node_json.raw(self.saved_tables(kind)))

@@ -26,6 +26,10 @@ _addrman() {
         mapfile -t COMPREPLY < <(compgen -W "$chains" -- "$word")
         return
     fi
+    if [[ $before == --by ]]; then
+        mapfile -t COMPREPLY < <(compgen -W "network source group age" -- "$word")
+        return
+    fi
     if [[ $before == --key-file || $before == --asmap || $before == --bans ]] ||
         [[ $before == --peers && ${COMP_WORDS[at]} != diff ]]; then
         mapfile -t COMPREPLY < <(compgen -f -- "$word")
@@ -45,7 +49,10 @@ _addrman() {
         risk)
             mapfile -t COMPREPLY < <(compgen -W "source peer network - --net --magic --core --peers --asmap" -- "$word")
             ;;
-        picture | raw | info | groups)
+        picture)
+            mapfile -t COMPREPLY < <(compgen -W "--by --net --magic --core --peers --asmap" -- "$word")
+            ;;
+        raw | info | groups)
             mapfile -t COMPREPLY < <(compgen -W "--net --magic --core --peers --asmap" -- "$word")
             ;;
         diff) mapfile -t COMPREPLY < <(compgen -W "--peers --net --magic --core --asmap" -- "$word") ;;

@@ -41,6 +41,7 @@ on("by", "change", () => {
 });
 on("mode", "change", () => {
   if (highlight && highlight.kind === "class") highlight = null;
+  showPicture();
   if (GROUPINGS[$("mode").value] && $("by").value !== $("mode").value) {
     $("by").value = $("mode").value;
     if (data) showFacts();
@@ -97,7 +98,7 @@ document.addEventListener("keydown", event => {
 on(
   "save-view", "click", () => data && download(stem() + "-view.svg", viewAsSvg(), "image/svg+xml")
 );
-on("save-picture", "click", () => saveOutput("picture", stem() + ".svg", "image/svg+xml"));
+on("save-picture", "click", savePicture);
 on("save-raw", "click", saveRaw);
 on("save-list", "click", saveList);
 on("picture-box", "toggle", showPicture);

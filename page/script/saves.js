@@ -11,10 +11,10 @@ function download(name, text, type) {
 const peersFiles = () => ({ "peers.dat": snaps[at].bytes, "asmap.dat": asmap && asmap.bytes });
 const stem = () => (fileName(snaps[at].name) || "peers").replace(/\.(dat|json)$/, "");
 
-async function saveOutput(command, name, type, more) {
+async function saveOutput(words, name, type, more) {
   try {
     const text = await ask("outputOfPeers", {
-      command, files: peersFiles(), isCore: isCore(), more
+      words, files: peersFiles(), isCore: isCore(), more
     });
     download(name, text, type);
   } catch (error) { fail(error.message); }
@@ -22,13 +22,20 @@ async function saveOutput(command, name, type, more) {
 
 function saveList() {
   const more = $("with-key").checked ? [] : ["--no-key"];
-  return saveOutput("show", stem() + "-list.txt", "text/plain", more);
+  return saveOutput(["show"], stem() + "-list.txt", "text/plain", more);
 }
 
 function saveRaw() {
   if (snaps[at].isJson) download(stem() + "-slots.json", snaps[at].bytes, "application/json");
-  else saveOutput("raw", stem() + "-slots.json", "application/json");
+  else saveOutput(["raw"], stem() + "-slots.json", "application/json");
 }
+
+// What the program is asked for: the picture in the colours of the page, if it has them, or else its
+// own.
+const COLOURINGS = ["network", "source", "group", "age"];
+const pictureWords = () =>
+  ["picture", ...COLOURINGS.includes($("mode").value) ? ["--by", $("mode").value] : []];
+const savePicture = () => saveOutput(pictureWords(), stem() + ".svg", "image/svg+xml");
 
 // The program's picture, if it is to be seen.
 async function showPicture() {
@@ -36,7 +43,7 @@ async function showPicture() {
   if (!$("picture-box").open || !data || !data.chain) return;
   try {
     const text = await ask("outputOfPeers", {
-      command: "picture", files: peersFiles(), isCore: isCore()
+      words: pictureWords(), files: peersFiles(), isCore: isCore()
     });
     if (snap !== snaps[at]) return;
     const before = $("picture").src;

@@ -376,6 +376,11 @@ class Cases:
 
         assert saved("save-raw") == made.output(self.program, ["raw"], folder)
         assert saved("save-picture") == made.output(self.program, ["picture"], folder)
+        for mode in ("network", "source", "group", "age"):
+            b.choose("mode", mode)
+            picture = made.output(self.program, ["picture", "--by", mode], folder)
+            assert saved("save-picture") == picture, mode
+        b.choose("mode", "placed")
         shown = made.output(self.program, ["show"], folder)
         assert saved("save-list") == made.output(self.program, ["show", "--no-key"], folder)
         b.js("$('with-key').click()")

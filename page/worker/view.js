@@ -123,6 +123,6 @@ function covered({ forms, rows }) {
 const output = ({ words, files }) => new Engine().text(words, files);
 
 // The same of a command that takes the options of peers.dat, and other arguments after them.
-function outputOfPeers({ command, files, isCore, more }) {
-  return new Engine().text([...wordsOf([command], files, isCore), ...(more || [])], files);
+function outputOfPeers({ words, files, isCore, more }) {
+  return new Engine().text([...wordsOf(words, files, isCore), ...(more || [])], files);
 }

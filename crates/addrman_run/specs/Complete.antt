@@ -114,7 +114,7 @@ NothingIsWrong AddressLines at =
     IsGoodLog IsAddressLine at.left × NoRefusal (ReportsAsmap at.past)
 NothingIsWrong (Show keyed kind) at = IsUsable name.Peers (ReportsPeers kind.chain) at.past
 NothingIsWrong (Anchors chain) at = IsUsable name.Peers (ReportsAnchors chain) at.past
-NothingIsWrong (Picture kind) at = NoRefusal (ReportsTables kind.chain at.past)
+NothingIsWrong (Picture by kind) at = NoRefusal (ReportsTables kind.chain at.past)
 NothingIsWrong (Raw kind) at = NoRefusal (ReportsTables kind.chain at.past)
 NothingIsWrong (Info kind) at = NoRefusal (ReportsTables kind.chain at.past)
 NothingIsWrong (Groups kind) at = NoRefusal (ReportsTables kind.chain at.past)

@@ -47,17 +47,17 @@ use std::hash::BuildHasher;
 /// --peers --net CHAIN` also which records of peers.dat change their group. `limit` carries out the
 /// lines of the log under the limit on received addresses, and writes the log that is left. `show
 /// --net CHAIN` lists what peers.dat has, `show --anchors --net CHAIN` what an anchors.dat in its
-/// place has, and `picture --net CHAIN` draws its tables. As JSON, `raw --net CHAIN` prints its
-/// records by their slots, `info --net CHAIN` how many each network has, and `groups --net CHAIN`
-/// how many each group. `risk source --net CHAIN` writes which part of the picks falls to each
-/// source group, at most; `risk peer` and `risk network` do so for other groups, and `risk -` for
-/// the sets of addresses that the lines of the log name. `ban SUBNET NOW UNTIL` and `unban SUBNET`
-/// change the list of bans in banlist.json, `banned PEER NOW` writes which ban covers the peer's
-/// address, and `bans NOW` the bans that are not over, as JSON; after `--core` all four read and
-/// write banlist.json as Bitcoin Core does. `gen START LINES` writes a generated log, and `trial
-/// START LINES` carries it out from empty tables and writes one line about the replies. `help
-/// COMMAND` writes the page of a command, and `help` the list of all; `version` writes the version
-/// and the toolchain.
+/// place has, and `picture --net CHAIN` draws its tables, with `--by` in other colours. As JSON,
+/// `raw --net CHAIN` prints its records by their slots, `info --net CHAIN` how many each network
+/// has, and `groups --net CHAIN` how many each group. `risk source --net CHAIN` writes which part
+/// of the picks falls to each source group, at most; `risk peer` and `risk network` do so for other
+/// groups, and `risk -` for the sets of addresses that the lines of the log name. `ban SUBNET NOW
+/// UNTIL` and `unban SUBNET` change the list of bans in banlist.json, `banned PEER NOW` writes
+/// which ban covers the peer's address, and `bans NOW` the bans that are not over, as JSON; after
+/// `--core` all four read and write banlist.json as Bitcoin Core does. `gen START LINES` writes a
+/// generated log, and `trial START LINES` carries it out from empty tables and writes one line
+/// about the replies. `help COMMAND` writes the page of a command, and `help` the list of all;
+/// `version` writes the version and the toolchain.
 pub fn run<L: Source, F: Folder, K: Sink, H: BuildHasher + Drop>(
     alloc: Global,
     hasher: H,
@@ -152,7 +152,7 @@ fn carry_out<L: Source, F: Folder, K: Sink, H: BuildHasher + Drop>(
         Request::Anchors { chain } => {
             write_file_line(alloc, &ListAnchors { chain }, folder, out, learned)
         }
-        Request::Picture { kind } => picture(alloc, hasher, kind, folder, out, learned),
+        Request::Picture { by, kind } => picture(alloc, hasher, by, kind, folder, out, learned),
         Request::Raw { kind } => {
             write_tables_json(alloc, hasher, TablesJson::Raw, kind, folder, out, learned)
         }

@@ -21,8 +21,9 @@ use Rattle.net_addr.specs.declared.peer.Peer.{Peer}
 use Rattle.peers_file.specs.declared.chain.Chain.{Chain}
 use Rattle.placing.specs.declared.sum.SumRule.{SumRule}
 use Rattle.placing.specs.declared.sum.SumRule.TheVariants.{Bytes}
-use Rattle.arguments.specs.Options.{HasRule, IsAfterGrouping, IsAfterPeers, IsFileOptions, IsListingOptions, IsNet, IsOpeningOptions}
-use Rattle.arguments.specs.Table.{AddressOrLines, Asks, Fields, ForBans, Form, Grouped, HasNoValues, IsAddressIn, IsProperRequest, Listing, Network, OfCommand, OfSubnet, Opening, PeerOrLines, Period, Reads, Records, TheAddress, TheAnchors, TheBanFields, TheKind, TheCommand, TheFields, TheGroups, TheListing, TheOpening, ThePeriod, TheRecords, TheSubnet, Values, form_of, name_of, plain_word, request_values, command_word}
+use Rattle.arguments.specs.Options.{HasRule, IsAfterColouring, IsAfterGrouping, IsAfterPeers, IsFileOptions, IsListingOptions, IsNet, IsOpeningOptions}
+use Rattle.arguments.specs.Table.{AddressOrLines, Asks, Coloured, Fields, ForBans, Form, Grouped, HasNoValues, IsAddressIn, IsProperRequest, Listing, Network, OfCommand, OfSubnet, Opening, PeerOrLines, Period, Reads, Records, TheAddress, TheAnchors, TheBanFields, TheColours, TheCommand, TheFields, TheGroups, TheKind, TheListing, TheOpening, ThePeriod, TheRecords, TheSubnet, Values, command_word, form_of, name_of, plain_word, request_values}
+use Rattle.arguments.specs.declared.colouring.Colouring.{Colouring}
 use Rattle.arguments.specs.declared.file_kind.FileKind.{FileKind}
 use Rattle.arguments.specs.declared.grouping.Grouping.{Grouping}
 use Rattle.arguments.specs.declared.name.CommandName.{CommandName}
@@ -33,6 +34,7 @@ use Rattle.arguments.specs.declared.request.Request.TheVariants.{Replay, Opener,
 use Rattle.arguments.proofs.BesideAnchors.{one_show}
 use Rattle.arguments.proofs.BanForms.{one_ban_fields, one_period, one_subnet_in}
 use Rattle.arguments.proofs.WithCore.{no_file_kind, no_listing_kind, no_opening_kind, no_peers, one_file_kind, one_opening_kind, one_peers}
+use Rattle.arguments.proofs.Colourings.{no_colouring_kind, one_colouring_kind}
 use Rattle.arguments.proofs.Groupings.{no_grouping_kind, one_grouping_kind}
 use Rattle.arguments.proofs.Names.{name_found, one_command}
 
@@ -79,6 +81,9 @@ one_values Opening texts v w is h k =
     let same = one_opening_kind texts h.0 k.0 h.1 k.1 h.3 k.3 in
     h.2 ∙ (λ i. TheOpening (same.0 i) (same.1 i)) ∙ sym k.2
 one_values Network texts v w is h k = h.1 ∙ ap TheKind (one_file_kind texts h.0 k.0 h.2 k.2) ∙ sym k.1
+one_values Coloured texts v w is h k =
+    let same = one_colouring_kind texts h.0 k.0 h.1 k.1 h.3 k.3 in
+    h.2 ∙ (λ i. TheColours (same.0 i) (same.1 i)) ∙ sym k.2
 one_values Listing texts v w is h k = one_show texts v w h k
 one_values Records texts v w is h k = h.1 ∙ ap TheRecords (one_peers texts h.0 k.0 h.2 k.2) ∙ sym k.1
 one_values Grouped texts v w is h k =
@@ -110,7 +115,7 @@ request_by name.Address (TheAddress addr) = Address addr
 request_by name.Address (TheFields []) = AddressLines
 request_by name.Show (TheListing keyed kind) = Show keyed kind
 request_by name.Show (TheAnchors chain) = Anchors chain
-request_by name.Picture (TheKind kind) = Picture kind
+request_by name.Picture (TheColours by kind) = Picture by kind
 request_by name.Raw (TheKind kind) = Raw kind
 request_by name.Info (TheKind kind) = Info kind
 request_by name.Groups (TheKind kind) = Groups kind
@@ -278,6 +283,10 @@ module _ (texts rest : List (List ℕ)) (rule : SumRule) (has : HasRule rule res
   pub no_grouping : (r : Option (Grouping × Chain)) → r ≡ None → ((by : Grouping) (chain : Chain) → IsAfterGrouping by rest chain → r ≡ Some (by, chain)) → HasNoValues Grouped texts
   unfolding HasNoValues
   no_grouping r is only v reads = no_grouping_kind texts rest rule has none (λ by chain chosen. none-some (by, chain) (sym is ∙ only by chain chosen)) reads.0 reads.1 reads.3
+
+  pub no_colouring : (r : Option (Option Colouring × Chain)) → r ≡ None → ((by : Option Colouring) (chain : Chain) → IsAfterColouring by rest chain → r ≡ Some (by, chain)) → HasNoValues Coloured texts
+  unfolding HasNoValues
+  no_colouring r is only v reads = no_colouring_kind texts rest rule has none (λ by chain chosen. none-some (by, chain) (sym is ∙ only by chain chosen)) reads.0 reads.1 reads.3
 
   pub no_records : (r : Option Chain) → (texts ≡ [] → ⊥) → r ≡ None → ((chain : Chain) → IsAfterPeers rest chain → r ≡ Some chain) → HasNoValues Records texts
   unfolding HasNoValues

@@ -71,7 +71,7 @@ longer : (name value : List ℕ) → name ≡ name ++ 61 ∷ value → ⊥
 longer name value e = omega (arith, ap length e, length-append name (61 ∷ value))
 
 -- words begin with an option of a name in one way
-same_start : (name value other : List ℕ) (rest left words : List (List ℕ)) → Begins name value rest words → Begins name other left words → (value ≡ other) × (rest ≡ left)
+pub same_start : (name value other : List ℕ) (rest left words : List (List ℕ)) → Begins name value rest words → Begins name other left words → (value ≡ other) × (rest ≡ left)
 same_start name value other rest left words (inl a) (inl b) = (ap (λ ws. get_or ws 1 []) (sym a ∙ b), ap (drop 2) (sym a ∙ b))
 same_start name value other rest left words (inl a) (inr b) = absurd (longer name other (ap (λ ws. get_or ws 0 []) (sym a ∙ b) ∙ append_assoc name (61 ∷ []) other))
 same_start name value other rest left words (inr a) (inl b) = absurd (longer name value (ap (λ ws. get_or ws 0 []) (sym b ∙ a) ∙ append_assoc name (61 ∷ []) value))

@@ -1,5 +1,6 @@
 pub mod Choosing
 pub mod WithCore
+pub mod Colourings
 pub mod Groupings
 pub mod BesideAnchors
 pub mod BanForms

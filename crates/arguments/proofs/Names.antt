@@ -12,7 +12,7 @@ found_name : (n : CommandName) → find (λ k. bytes_eq (command_word k) (comman
 found_name name.Replay = refl
 found_name other = refl
 
-passes : {X : Type 0} (p : X → Bool) (xs : List X) (x : X) → find p xs ≡ Some x → p x ≡ true
+pub passes : {X : Type 0} (p : X → Bool) (xs : List X) (x : X) → find p xs ≡ Some x → p x ≡ true
 passes p [] x is = absurd (cc)
 passes {X} p (y ∷ ys) x is = by (p y) refl (passes p ys x) is
   where

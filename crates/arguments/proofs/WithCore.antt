@@ -14,7 +14,7 @@ third_is texts rest is = ap (λ ts. get_or (get_or ts 0 []) 2 0) is
 
 -- THE OTHER OPTIONS
 
-apart_net : (texts rest : List (List ℕ)) (chain : Chain) → texts ≡ codes "--core" ∷ rest → IsNet texts chain → ⊥
+pub apart_net : (texts rest : List (List ℕ)) (chain : Chain) → texts ≡ codes "--core" ∷ rest → IsNet texts chain → ⊥
 apart_net texts rest chain is (inl none) = omega (arith, third_is texts rest is, third_of_none texts none.0)
 apart_net texts rest chain is (inr (by, value, means, option)) = omega (arith, third_is texts rest is, third_of_net by value [] texts option)
 

@@ -8,8 +8,11 @@ use Rattle.ban_list.specs.declared.rule.BanRule.TheVariants.{Labels, Names}
 use Rattle.placing.specs.declared.sum.SumRule.{SumRule}
 use Rattle.placing.specs.declared.sum.SumRule.TheVariants.{Bytes, Bits}
 use Rattle.peers_file.specs.declared.chain.Chain.TheVariants.{Main, Test, Testnet4, Signet, Regtest, Other}
+use Rattle.arguments.specs.Inside.{Begins}
 use Rattle.arguments.specs.declared.chain_option.ChainOption.{ChainOption}
 use Rattle.arguments.specs.declared.chain_option.ChainOption.TheVariants.{Net, Magic}
+use Rattle.arguments.specs.declared.colouring.Colouring.{Colouring}
+use Rattle.arguments.specs.declared.colouring.Colouring.TheVariants as colouring
 use Rattle.arguments.specs.declared.file_kind.FileKind.{FileKind}
 use Rattle.arguments.specs.declared.grouping.Grouping.{Grouping}
 use Rattle.arguments.specs.declared.grouping.Grouping.TheVariants.{Source, Peer, Network, Sets}
@@ -97,6 +100,21 @@ grouping_word Sets = codes "-"
 abbrev pub IsAfterGrouping : Grouping → List (List ℕ) → Chain → Type 0
 IsAfterGrouping by options chain =
     (rest : List (List ℕ)) × (options ≡ grouping_word by ∷ rest) × IsNet rest chain
+
+-- what the colours of a picture go by, as people write it
+abbrev pub colouring_word : Colouring → List ℕ
+colouring_word colouring.Network = codes "network"
+colouring_word colouring.Source = codes "source"
+colouring_word colouring.Group = codes "group"
+colouring_word colouring.Age = codes "age"
+
+-- the arguments ask for a picture of a file of this chain, and what its colours go by, if they
+-- begin with `--by`
+abbrev pub IsAfterColouring : Option Colouring → List (List ℕ) → Chain → Type 0
+IsAfterColouring None options chain = IsNet options chain
+IsAfterColouring (Some by) options chain =
+    (rest : List (List ℕ)) × Begins (codes "--by") (colouring_word by) rest options
+    × IsNet rest chain
 
 -- the arguments begin with `--core`, which chooses Bitcoin Core's checksum of an asmap, or do not;
 -- the others are the rest

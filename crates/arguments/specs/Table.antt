@@ -11,7 +11,8 @@ use Rattle.names.specs.Text.{IsTextOf}
 use Rattle.net_addr.specs.Address.{Address as NetAddress}
 use Rattle.net_addr.specs.declared.peer.Peer.{Peer}
 use Rattle.peers_file.specs.declared.chain.Chain.{Chain}
-use Rattle.arguments.specs.Options.{HasBanRule, IsAfterAnchors, IsAfterGrouping, IsFileOptions, IsListingOptions, IsNet, IsOpeningOptions, IsPeersOption}
+use Rattle.arguments.specs.Options.{HasBanRule, IsAfterAnchors, IsAfterColouring, IsAfterGrouping, IsFileOptions, IsListingOptions, IsNet, IsOpeningOptions, IsPeersOption}
+use Rattle.arguments.specs.declared.colouring.Colouring.{Colouring}
 use Rattle.arguments.specs.declared.file_kind.FileKind.{FileKind}
 use Rattle.arguments.specs.declared.grouping.Grouping.{Grouping}
 use Rattle.arguments.specs.declared.name.CommandName.{CommandName}
@@ -64,7 +65,7 @@ NameCommand texts None = texts ≡ []
 NameCommand texts (Some name) = texts ≡ command_word name ∷ []
 
 -- What comes after the name of a command: fields of these kinds; the options `--key` and `--net`;
--- only `--net`; `--net` and `--no-key`, or `--anchors` and `--net`; `--peers` and `--net`, or nothing; what makes records one
+-- only `--net`; `--by` and `--net`; `--net` and `--no-key`, or `--anchors` and `--net`; `--peers` and `--net`, or nothing; what makes records one
 -- group, and `--net`; a subnet; a subnet and two times, the earlier one first; fields of these kinds
 -- for a list of bans; the name of a command or nothing; `-` or a peer; or `-`, or else what people
 -- write for an address. `--magic` with digits may be in the place of `--net`, and `--core` before
@@ -73,6 +74,7 @@ pub data Form : Type 0 where
   Fields : List Kind → Form
   Opening : Form
   Network : Form
+  Coloured : Form
   Listing : Form
   Records : Form
   Grouped : Form
@@ -88,6 +90,7 @@ pub data Values : Type 0 where
   TheFields : List Value → Values
   TheOpening : Option (List ℕ) → FileKind → Values
   TheKind : FileKind → Values
+  TheColours : Option Colouring → FileKind → Values
   TheListing : Bool → FileKind → Values
   TheAnchors : Chain → Values
   TheRecords : Option FileKind → Values
@@ -121,6 +124,9 @@ Reads Opening texts v =
     (key : Option (List ℕ)) × (kind : FileKind) × (v ≡ TheOpening key kind)
     × IsFileOptions (IsOpeningOptions key) texts kind
 Reads Network texts v = (kind : FileKind) × (v ≡ TheKind kind) × IsFileOptions IsNet texts kind
+Reads Coloured texts v =
+    (by : Option Colouring) × (kind : FileKind) × (v ≡ TheColours by kind)
+    × IsFileOptions (IsAfterColouring by) texts kind
 Reads Listing texts v =
     ((keyed : Bool) × (kind : FileKind) × (v ≡ TheListing keyed kind)
     × IsFileOptions (IsListingOptions keyed) texts kind)
@@ -163,7 +169,7 @@ form_of name.Opener = Opening
 form_of name.Lookup = PeerOrLines
 form_of name.Address = AddressOrLines
 form_of name.Show = Listing
-form_of name.Picture = Network
+form_of name.Picture = Coloured
 form_of name.Raw = Network
 form_of name.Info = Network
 form_of name.Groups = Network
@@ -193,7 +199,7 @@ name_of (Address addr) = name.Address
 name_of AddressLines = name.Address
 name_of (Show keyed kind) = name.Show
 name_of (Anchors chain) = name.Show
-name_of (Picture kind) = name.Picture
+name_of (Picture by kind) = name.Picture
 name_of (Raw kind) = name.Raw
 name_of (Info kind) = name.Info
 name_of (Groups kind) = name.Groups
@@ -215,7 +221,7 @@ request_values (Lookup peer) = TheFields (ThePeer peer ∷ [])
 request_values (Address addr) = TheAddress addr
 request_values (Show keyed kind) = TheListing keyed kind
 request_values (Anchors chain) = TheAnchors chain
-request_values (Picture kind) = TheKind kind
+request_values (Picture by kind) = TheColours by kind
 request_values (Raw kind) = TheKind kind
 request_values (Info kind) = TheKind kind
 request_values (Groups kind) = TheKind kind

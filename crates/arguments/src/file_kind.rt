@@ -1,12 +1,13 @@
 ghost use Rattle.std.specs.Prelude.{◌≡◌, ◌≢◌, ℕ, Bool, List, ◌∷◌, codes, map, string_bytes, IfSome, IfNone};
-ghost use Rattle.arguments.specs.Options.{HasRule, IsAfterGrouping, IsFileOptions, IsListingOptions, IsNet, IsOpeningOptions, IsPeersOption};
-ghost use Rattle.arguments.specs.Table.{Grouped, HasNoValues, Network, Opening, Records};
+ghost use Rattle.arguments.specs.Options.{HasRule, IsAfterGrouping, IsFileOptions, IsListingOptions, IsNet, IsOpeningOptions, IsPeersOption, IsAfterColouring};
+ghost use Rattle.arguments.specs.Table.{Grouped, HasNoValues, Network, Opening, Records, Coloured};
 ghost use Rattle.arguments.specs.declared.file_kind.FileKind.{FileKind};
 ghost use Rattle.placing.specs.declared.sum.SumRule.TheVariants.{Bytes};
 
-use crate::Grouping;
+use crate::colouring::read_after_colouring;
 use crate::grouping::read_after_grouping;
 use crate::options::{after_flag, read_after_peers, read_listing, read_net, read_opening};
+use crate::{Colouring, Grouping};
 use peers_file::Chain;
 use placing::SumRule;
 
@@ -84,6 +85,20 @@ pub(crate) fn read_grouping_kind(words: &[String]) -> Option<(Grouping, FileKind
 {
     let (rule, rest) = cut_rule(words);
     match read_after_grouping(rest) {
+        Some((by, chain)) => Some((by, FileKind { chain, rule })),
+        None => None,
+    }
+}
+
+/// Reads the arguments after `picture`: `--core`, and after it what the colours go by, and the
+/// arguments that choose a chain.
+pub(crate) fn read_colouring_kind(words: &[String]) -> Option<(Option<Colouring>, FileKind)>
+    ensures found { IfSome result (λ o.
+        IsFileOptions (IsAfterColouring o.0) (map string_bytes words.now) o.1) }
+    ensures none { IfNone result (HasNoValues Coloured (map string_bytes words.now)) }
+{
+    let (rule, rest) = cut_rule(words);
+    match read_after_colouring(rest) {
         Some((by, chain)) => Some((by, FileKind { chain, rule })),
         None => None,
     }

@@ -12,6 +12,7 @@
 mod address;
 mod bans;
 mod chain_option;
+mod colouring;
 mod commands;
 mod file_kind;
 mod grouping;
@@ -22,6 +23,7 @@ mod pages;
 mod read;
 mod request;
 
+pub use colouring::Colouring;
 pub use file_kind::FileKind;
 pub use grouping::Grouping;
 pub use help::help_text;

@@ -205,7 +205,7 @@ fn cut_chain<'a>(words: &'a [String]) -> Option<(ChainOption, &'a [u8], &'a [Str
 }
 
 /// Cuts the option `name` off the arguments that begin with it, and returns its value and the rest.
-fn cut_option<'a>(words: &'a [String], name: &[u8]) -> Option<(&'a [u8], &'a [String])>
+pub(crate) fn cut_option<'a>(words: &'a [String], name: &[u8]) -> Option<(&'a [u8], &'a [String])>
     ensures found { IfSome result (λ parts. Begins name.now parts.0.now
         (map string_bytes parts.1.now) (map string_bytes words.now)) }
     ensures none { IfNone result ((value : List ℕ) (rest : List (List ℕ)) →

@@ -78,12 +78,14 @@ Codes    0 done, 2 bad usage, 4 peers.dat is refused, 8 the output cannot be wri
 );
 
 pub(crate) const PICTURE: Page = (
-    "picture [--net CHAIN] [--core]",
+    "picture [--by HOW] [--net CHAIN] [--core]",
     "draws the tables of peers.dat, an SVG",
     "\
 Reads    asmap.dat, if it is there, and peers.dat.
 Writes   one SVG: both tables, with the six source groups that have the most slots in
          colours, and a list of them.
+HOW      network, source, group or age: the colours go by the peer's network, the source's
+         group, the peer's group, or how much older the peer's time is than the newest one.
 CHAIN    main, test, testnet4, signet or regtest; main if it is left out. In place of
          --net may be --magic and the 8 hexadecimal digits that its files begin with.
 FILE     --peers FILE and --asmap FILE are read in the place of peers.dat and asmap.dat.

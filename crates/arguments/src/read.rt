@@ -8,7 +8,8 @@ use crate::address::read_address;
 use crate::bans::{cut_ban_rule, read_period, read_subnet};
 use crate::commands::{plain_word, read_command};
 use crate::file_kind::{
-    read_file_kind, read_grouping_kind, read_listing_kind, read_opening_kind, read_records,
+    read_colouring_kind, read_file_kind, read_grouping_kind, read_listing_kind, read_opening_kind,
+    read_records,
 };
 use crate::name::{CommandName, NAMES};
 use crate::options::{first_word, only_word, read_after_anchors};
@@ -75,9 +76,10 @@ fn read_after(alloc: Global, name: CommandName, rest: &[String]) -> Option<Reque
         CommandName::Lookup => read_lookup(alloc, rest),
         CommandName::Address => read_addresses(rest),
         CommandName::Show => read_show(rest),
-        CommandName::Picture => Some(Request::Picture {
-            kind: read_file_kind(rest)?,
-        }),
+        CommandName::Picture => {
+            let (by, kind) = read_colouring_kind(rest)?;
+            Some(Request::Picture { by, kind })
+        }
         CommandName::Raw => Some(Request::Raw {
             kind: read_file_kind(rest)?,
         }),

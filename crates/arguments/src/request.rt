@@ -1,4 +1,4 @@
-use crate::{CommandName, FileKind, Grouping};
+use crate::{Colouring, CommandName, FileKind, Grouping};
 use ban_list::{BanRule, Subnet};
 use net_addr::{NetAddr, Peer};
 use peers_file::Chain;
@@ -56,8 +56,10 @@ pub enum Request {
         chain: Chain,
     },
     /// `picture --net CHAIN`: write a picture of the tables that peers.dat, a file of this chain,
-    /// opens with asmap.dat.
+    /// opens with asmap.dat. With `--by network`, `source`, `group` or `age` its colours go by
+    /// that.
     Picture {
+        by: Option<Colouring>,
         kind: FileKind,
     },
     /// `raw --net CHAIN`: print the records of peers.dat, a file of this chain, by the slots that

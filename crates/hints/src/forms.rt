@@ -4,7 +4,7 @@ static COMMANDS: [&str; 23] = [
     "opener [--key HEX64] [--net CHAIN] [--core]",
     "limit",
     "show [--anchors] [--net CHAIN] [--no-key] [--core]",
-    "picture [--net CHAIN] [--core]",
+    "picture [--by network|source|group|age] [--net CHAIN] [--core]",
     "raw [--net CHAIN] [--core]",
     "info [--net CHAIN] [--core]",
     "groups [--net CHAIN] [--core]",

@@ -1,6 +1,7 @@
 pub mod Plain
 pub mod Contents
 pub mod Markups
+pub mod Coloured
 pub mod Listed
 pub mod Marks
 pub mod Parts

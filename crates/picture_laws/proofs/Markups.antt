@@ -46,7 +46,7 @@ feed = inr refl
 numbered : (before : List ℕ) (n : ℕ) (after rest : List ℕ) → IsPlain before → IsPlain after → IsContent (before ++ (decimal n ++ after))
 numbered before n after rest p q = characters (before ++ (decimal n ++ after)) (plain-numbered before n after p q)
 
-label-markup : (x y class text : List ℕ) → IsPlain x → IsPlain y → IsPlain class → IsPlain text → IsContent (label x y class text)
+pub label-markup : (x y class text : List ℕ) → IsPlain x → IsPlain y → IsPlain class → IsPlain text → IsContent (label x y class text)
 label-markup x y class text p q r s =
     nested (codes "text") ((codes "x", x) ∷ (codes "y", y) ∷ (codes "class", class) ∷ []) text (codes "\n") refl refl
     (three (codes "x", x) (codes "y", y) (codes "class", class) (refl, p) (refl, q) (refl, r)) (characters text s) feed
@@ -183,7 +183,7 @@ rows-markup listed marks names others each =
     beside _ _ (each-markup (λ index. group_row (source_at listed index) (name_at names index) index) 0 (length listed) (λ index. group-markup (source_at listed index) (name_at names index) index (plain-name names index each)))
     (beside _ _ (others-markup marks others) (free-markup marks (length names)))
 
-body-markup : (sources : List Source) (marks : List ℕ) (names : List (List ℕ)) → All IsPlain names → IsContent (body_text sources marks names)
+pub body-markup : (sources : List Source) (marks : List ℕ) (names : List (List ℕ)) → All IsPlain names → IsContent (body_text sources marks names)
 unfolding body_text titles_text maps_text
 body-markup sources marks names each =
     beside _ _ (beside _ _ (new-title-markup _) (tried-title-markup _))
@@ -202,10 +202,10 @@ head-markup =
     (empty (codes "path") ((codes "fill", codes "#eceff2") ∷ (codes "d", codes "M0 0h8v8h-8z") ∷ []) [] refl refl refl (inl refl)) feed)
     (empty (codes "rect") ((codes "width", codes "1080") ∷ (codes "height", codes "712") ∷ (codes "fill", codes "#fff") ∷ []) (codes "\n") refl refl refl feed))))
 
-abbrev is_plain_label : Label → Bool
+abbrev pub is_plain_label : Label → Bool
 is_plain_label l = list_all is_plain l.x && (list_all is_plain l.y && (list_all is_plain l.class && list_all is_plain l.text))
 
-each-label : (ls : List Label) → list_all is_plain_label ls ≡ true → IsContent (flat_map (λ l. label l.x l.y l.class l.text) ls)
+pub each-label : (ls : List Label) → list_all is_plain_label ls ≡ true → IsContent (flat_map (λ l. label l.x l.y l.class l.text) ls)
 each-label [] all = nothing
 each-label (l ∷ ls) all =
     let parts = and_parts (is_plain_label l) (list_all is_plain_label ls) all in
@@ -218,7 +218,7 @@ labels-markup : IsContent labels_text
 unfolding labels_text
 labels-markup = each-label labels refl
 
-plain-names : (others : ℕ) (names : List (List ℕ)) → All IsPlain names → All IsPlain (names_of others names)
+pub plain-names : (others : ℕ) (names : List (List ℕ)) → All IsPlain names → All IsPlain (names_of others names)
 plain-names others names each = All-append IsPlain names (cond (others == 0) [] (others_name others ∷ [])) each (by (others == 0))
   where
     by : (b : Bool) → All IsPlain (cond b [] (others_name others ∷ []))

@@ -28,3 +28,11 @@ is_unlisted view = is_other view.places (listed_groups view)
 abbrev pub HasSources : View → Type 0
 HasSources view = (in_new : Bool) (bucket slot : ℕ) →
     IfSome (occupant_at view in_new bucket slot) (λ r. IsAddress r.source)
+
+-- its source and its peer have addresses
+abbrev pub HasAddresses : Rec → Type 0
+HasAddresses r = IsAddress r.source × IsAddress r.peer.addr
+
+abbrev pub HasPeers : View → Type 0
+HasPeers view = (in_new : Bool) (bucket slot : ℕ) →
+    IfSome (occupant_at view in_new bucket slot) HasAddresses

@@ -11,7 +11,8 @@ ghost use Rattle.picture_text.specs.Picture.{picture_text};
 ghost use Rattle.placing.specs.Places.{group};
 ghost use Rattle.table_machine.specs.Sound.{IsSound};
 ghost use Rattle.table_machine.specs.State.{State};
-ghost use Rattle.table_picture.specs.Picture.{picture_of};
+ghost use Rattle.picture_text.specs.declared.by.By.{By};
+ghost use Rattle.table_picture.specs.Picture.{picture_by, picture_of};
 
 use dot_runs::one_dot;
 
@@ -27,6 +28,13 @@ pub fn picture_is_a_tree()
 pub fn pictures_are_trees()
     ensures views { (view : View) → HasSources view → IsTree (codes "svg") (picture_of view) }
     ensures tables { (st : State) → IsSound st → IsTree (codes "svg") (picture_of (view_of st)) }
+{}
+
+/// The same of a picture whose colours go by something, with the name of a chain in which nothing
+/// has to be escaped.
+pub fn coloured_pictures_are_trees()
+    ensures { (by : By) (chain : List ℕ) (st : State) → IsPlain chain → IsSound st →
+        IsTree (codes "svg") (picture_by by chain (view_of st)) }
 {}
 
 /// The numbers of the list and of the titles count slots and buckets of the tables by the groups of

@@ -6,6 +6,6 @@
 mod law;
 
 pub use law::{
-    listed_groups_have_most, picture_is_a_tree, pictures_are_trees, slots_are_counted,
-    slots_are_drawn, wide_groups_are_counted,
+    coloured_pictures_are_trees, listed_groups_have_most, picture_is_a_tree, pictures_are_trees,
+    slots_are_counted, slots_are_drawn, wide_groups_are_counted,
 };

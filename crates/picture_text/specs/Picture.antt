@@ -2,11 +2,13 @@
 -- and the names of the listed groups.
 use Rattle.std.specs.Prelude.{ℕ, ◌+◌, ◌-◌, ◌*◌, ◌==◌, nat_lt, List, [], ◌∷◌, ◌++◌, count_by, length, take, drop, codes, decimal, if◌then◌else◌, slice_index_or}
 use Rattle.std.specs.List.{flat_map, range_with_len}
+use Rattle.picture_text.specs.By.{head_by}
 use Rattle.picture_text.specs.Elements.{colour, ground, count_text, row_text, new_title, tried_title, wide_text}
 use Rattle.picture_text.specs.Head.{head_text, labels_text, opening_text}
 use Rattle.picture_text.specs.Maps.{map_text, name_at}
 use Rattle.picture_text.specs.Marks.{dots_of}
 use Rattle.slot_grid.specs.declared.sizes.TheConstants.{NEW_SLOTS}
+use Rattle.picture_text.specs.declared.by.By.{By}
 use Rattle.table_groups.specs.declared.sources.Source.{Source}
 
 -- the marks of the new table's slots, and those of the tried table's, which come after them
@@ -103,3 +105,10 @@ unfoldable pub picture_text : List Source → List ℕ → List (List ℕ) → L
 picture_text sources marks names =
     opening_text ++ (head_text ++ (labels_text
     ++ (body_text sources marks (names_of (others_of sources) names) ++ codes "</svg>\n")))
+
+-- the picture whose colours go by something, from the classes of the slots in order, with a line
+-- that says which tables they are
+unfoldable pub picture_by_text : By → List ℕ → List Source → List ℕ → List (List ℕ) → List ℕ
+picture_by_text by facts sources marks names =
+    opening_text ++ (head_by by facts
+    ++ (body_text sources marks (names_of (others_of sources) names) ++ codes "</svg>\n"))

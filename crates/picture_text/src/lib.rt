@@ -2,6 +2,7 @@
 //! sources.
 #![tactic(auto)]
 
+mod by;
 mod head;
 mod list;
 mod maps;
@@ -10,6 +11,7 @@ mod parts;
 mod picture;
 mod pieces;
 
+pub use by::By;
 pub use marks::group_mark;
 pub use net_addr::Memory;
-pub use picture::{listed_in, put_picture};
+pub use picture::{listed_in, put_picture, put_picture_by};

@@ -1,14 +1,15 @@
 ghost use Rattle.std.specs.Prelude.{◌≡◌, ◌+◌, ◌≤◌, ◌++◌, length, map, IfOk, OnOk};
 ghost use Rattle.picture_text.specs.Elements.{new_title, tried_title, wide_text};
-ghost use Rattle.picture_text.specs.Picture.{body_text, listed_in, maps_text, names_of, occupied, others_of, picture_text, titles_text, wide_of};
+ghost use Rattle.picture_text.specs.Picture.{body_text, listed_in, maps_text, names_of, occupied, others_of, picture_by_text, picture_text, titles_text, wide_of};
 ghost use Rattle.slot_grid.specs.declared.sizes.TheConstants.{ALL_SLOTS};
 
-use crate::Memory;
+use crate::by::put_head_by;
 use crate::head::{head_text, labels_text, opening_text};
 use crate::list::{others_name, put_rows};
 use crate::maps::put_map;
 use crate::marks::dots_of;
 use crate::parts::{new_marks, tried_marks};
+use crate::{By, Memory};
 use net_addr::{put_number, put_text};
 use std::alloc::Global;
 use table_groups::{Source, put_numbered};
@@ -174,6 +175,32 @@ pub fn put_picture(
     put_text(opening_text(), out)?;
     put_text(head_text(), out)?;
     put_text(labels_text(), out)?;
+    put_body(sources, marks, shown.as_slice(), out)?;
+    put_text(b"</svg>\n", out)?;
+    Ok(())
+}
+
+/// Appends the picture whose colours go by something, from the classes of the slots in order, the
+/// marks of the slots, and the names of the listed classes. `facts` says which tables they are.
+#[tactic(auto, unfolding(crate::specs::Picture::picture_by_text))]
+pub fn put_picture_by(
+    alloc: Global,
+    by: By,
+    facts: &[u8],
+    sources: &[Source],
+    marks: &[u8],
+    names: Vec<Vec<u8>>,
+    out: &mut Vec<u8>,
+) -> Result<(), Memory>
+    requires marks { length marks.now ≡ ALL_SLOTS }
+    requires names { length names.items ≡ length (listed_in sources.now) }
+    requires few { length names.items ≤ 6 }
+    ensures { OnOk result (out.new.items ≡ out.old.items
+        ++ picture_by_text by facts.now sources.now marks.now (map (λ v. v.items) names.items)) }
+{
+    let shown = names_of(alloc, others_of(sources), names)?;
+    put_text(opening_text(), out)?;
+    put_head_by(by, facts, out)?;
     put_body(sources, marks, shown.as_slice(), out)?;
     put_text(b"</svg>\n", out)?;
     Ok(())

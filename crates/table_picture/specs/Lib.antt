@@ -1,2 +1,3 @@
+pub mod By
 pub mod Marks
 pub mod Picture

@@ -1,35 +1,29 @@
 -- The picture of a view.
-use Rattle.std.specs.Prelude.{ℕ, ◌+◌, ◌-◌, ◌/◌, ◌%◌, ◌==◌, nat_lt, List, [], length, map, Option, Some, None, if◌then◌else◌}
+use Rattle.std.specs.Prelude.{ℕ, ◌+◌, ◌==◌, List, [], length, map, Option, Some, None}
 use Rattle.std.specs.List.{position_or_len, range_with_len}
 use Rattle.placing.specs.Places.{Places}
 use Rattle.peer_rec.specs.declared.rec.Rec.{Rec}
-use Rattle.picture_text.specs.Picture.{listed_in, picture_text}
-use Rattle.slot_grid.specs.declared.sizes.TheConstants.{ALL_SLOTS, NEW_SLOTS, SLOTS}
-use Rattle.table_groups.specs.Names.{name_of}
+use Rattle.picture_text.specs.Picture.{listed_in, picture_by_text, picture_text}
+use Rattle.picture_text.specs.declared.by.By.{By}
+use Rattle.picture_text.specs.declared.by.By.TheVariants.{Source as BySource}
 use Rattle.table_groups.specs.Sources.{sources_of}
 use Rattle.table_groups.specs.declared.sources.Source.{Source}
+use Rattle.table_picture.specs.By.{facts_text, name_by, newest_in, rec_in, view_by}
 use Rattle.table_picture.specs.Marks.{marks_by}
 use Rattle.table_groups.specs.View.{View}
 
--- the record in a slot; slots are counted by rising bucket, those of the new table first
-abbrev pub rec_in : View → ℕ → Option Rec
-rec_in view slot =
-    if nat_lt slot NEW_SLOTS then view.new (slot / SLOTS) (slot % SLOTS)
-    else if nat_lt slot ALL_SLOTS
-    then view.tried ((slot - NEW_SLOTS) / SLOTS) ((slot - NEW_SLOTS) % SLOTS)
-    else None
+abbrev pub rec_name : By → ℕ → Places → Option Rec → List ℕ
+rec_name by newest places None = []
+rec_name by newest places (Some r) = name_by by newest places r
 
-abbrev pub rec_name : Places → Option Rec → List ℕ
-rec_name places None = []
-rec_name places (Some r) = name_of places r.source
+-- the name of the listed group at an index: that of the record in the first slot with its mark
+abbrev pub mark_name : By → ℕ → View → List ℕ → ℕ → List ℕ
+mark_name by newest view marks index =
+    rec_name by newest view.places (rec_in view (position_or_len (λ m. m == index + 1) marks))
 
--- the name of the listed group at an index: that of the source in the first slot with its mark
-abbrev pub mark_name : View → List ℕ → ℕ → List ℕ
-mark_name view marks index =
-    rec_name view.places (rec_in view (position_or_len (λ m. m == index + 1) marks))
-
-abbrev pub names_in : View → List ℕ → ℕ → List (List ℕ)
-names_in view marks count = map (mark_name view marks) (range_with_len 0 count)
+abbrev pub names_in : By → ℕ → View → List ℕ → ℕ → List (List ℕ)
+names_in by newest view marks count =
+    map (mark_name by newest view marks) (range_with_len 0 count)
 
 -- the groups that are listed
 unfoldable pub listed_of : View → List Source
@@ -43,4 +37,16 @@ marks_of view = marks_by view (listed_of view)
 unfoldable pub picture_of : View → List ℕ
 picture_of view =
     picture_text (sources_of view) (marks_of view)
-    (names_in view (marks_of view) (length (listed_of view)))
+    (names_in BySource 0 view (marks_of view) (length (listed_of view)))
+
+-- the picture whose colours go by something: its groups are those of the view with other addresses
+-- in the place of sources
+unfoldable pub picture_with : By → List ℕ → ℕ → View → View → List ℕ
+picture_with by chain newest view other =
+    picture_by_text by (facts_text chain newest) (sources_of other) (marks_of other)
+    (names_in by newest view (marks_of other) (length (listed_of other)))
+
+abbrev pub picture_by : By → List ℕ → View → List ℕ
+picture_by by chain view =
+    picture_with by chain (newest_in view.records) view
+    (view_by by (newest_in view.records) view)

@@ -1,8 +1,10 @@
 //! The picture of the tables: the mark of each slot's group, and the names of the groups.
 #![tactic(auto)]
 
+mod classes;
 mod marks;
 mod picture;
+mod recoloured;
 
-pub use picture::put_picture;
-pub use picture_text::Memory;
+pub use picture::{put_picture, put_picture_by};
+pub use picture_text::{By, Memory};

@@ -1,13 +1,16 @@
-ghost use Rattle.std.specs.Prelude.{◌≡◌, ◌<◌, ◌≤◌, ◌==◌, ◌++◌, ◌+◌, length, map, IfOk, OnOk, option_map};
+ghost use Rattle.std.specs.Prelude.{◌≡◌, ◌≤◌, ◌==◌, ◌++◌, length, map, IfOk, OnOk, option_map};
 ghost use Rattle.std.specs.List.{position_or_len};
-ghost use Rattle.table_picture.specs.Picture.{names_in, picture_of, rec_in, rec_name};
+ghost use Rattle.table_picture.specs.By.{facts_text, newest_in, view_by};
+ghost use Rattle.table_picture.specs.Picture.{names_in, picture_by, picture_of, picture_with, rec_name};
 
 use crate::Memory;
+use crate::classes::{name_by, newest_of};
 use crate::marks::marks_by;
+use crate::recoloured::{Recoloured, rec_in};
+use net_addr::{put_number, put_text};
 use peer_rec::Rec;
-use picture_text::listed_in;
+use picture_text::{By, listed_in};
 use placing::Placer;
-use slot_grid::{ALL_SLOTS, NEW_SLOTS, SLOTS};
 use std::alloc::Global;
 use std::hash::BuildHasher;
 use std::sync::ledger::Ledger;
@@ -30,32 +33,19 @@ fn first_slot(marks: &[u8], mark: u8) -> usize
     at
 }
 
-/// Returns the record in a slot; slots are counted by rising bucket, those of the new table first.
-fn rec_in<'a, T: TableView, L: Ledger>(
-    tables: &'a T,
-    slot: usize,
-    steps: &mut Steps<L>,
-) -> Option<&'a Rec>
-    ensures { option_map (λ r. r.now) result ≡ rec_in (T.view tables.now) slot }
-{
-    let slots = usize::from(SLOTS);
-    if slot < NEW_SLOTS {
-        return tables.occupant(true, (slot / slots) as u16, (slot % slots) as u8, steps);
-    }
-    if slot < ALL_SLOTS {
-        let slot = slot - NEW_SLOTS;
-        return tables.occupant(false, (slot / slots) as u16, (slot % slots) as u8, steps);
-    }
-    None
-}
-
-/// Returns the name of the group of the source in a record.
-fn rec_name(alloc: Global, placer: &Placer<'_>, rec: Option<&Rec>) -> Result<Vec<u8>, Memory>
+/// Returns the name of the colour of a record.
+fn rec_name(
+    alloc: Global,
+    placer: &Placer<'_>,
+    by: By,
+    newest: u32,
+    rec: Option<&Rec>,
+) -> Result<Vec<u8>, Memory>
     ensures { IfOk result (λ name. name.items
-        ≡ rec_name placer.now (option_map (λ r. r.now) rec.entry)) }
+        ≡ rec_name by newest placer.now (option_map (λ r. r.now) rec.entry)) }
 {
     match rec {
-        Some(rec) => Ok(name_of(alloc, placer, &rec.source)?),
+        Some(rec) => name_by(alloc, placer, by, newest, rec),
         None => Ok(Vec::new(alloc)),
     }
 }
@@ -64,19 +54,21 @@ fn rec_name(alloc: Global, placer: &Placer<'_>, rec: Option<&Rec>) -> Result<Vec
 fn names_in<T: TableView, L: Ledger>(
     alloc: Global,
     tables: &T,
+    by: By,
+    newest: u32,
     marks: &[u8],
     count: u8,
     steps: &mut Steps<L>,
 ) -> Result<Vec<Vec<u8>>, Memory>
     requires { count ≤ 6 }
     ensures names { IfOk result (λ names. map (λ v. v.items) names.items
-        ≡ names_in (T.view tables.now) marks.now count) }
+        ≡ names_in by newest (T.view tables.now) marks.now count) }
     ensures long { IfOk result (λ names. length names.items ≡ count) }
 {
     let mut names = Vec::new(alloc);
     for index in 0..count {
         let rec = rec_in(tables, first_slot(marks, index + 1), steps);
-        names.push(rec_name(alloc, tables.places(), rec)?)?;
+        names.push(rec_name(alloc, tables.places(), by, newest, rec)?)?;
     }
     Ok(names)
 }
@@ -95,7 +87,87 @@ pub fn put_picture<T: TableView, G: BuildHasher, L: Ledger>(
     let sources = sources_of(alloc, hasher, tables, steps)?;
     let listed = listed_in(sources.as_slice());
     let marks = marks_by(alloc, tables, listed, steps)?;
-    let names = names_in(alloc, tables, marks.as_slice(), listed.len() as u8, steps)?;
+    let names = names_in(
+        alloc,
+        tables,
+        By::Source,
+        0,
+        marks.as_slice(),
+        listed.len() as u8,
+        steps,
+    )?;
     picture_text::put_picture(alloc, sources.as_slice(), marks.as_slice(), names, out)?;
     Ok(())
+}
+
+/// Returns which tables they are: those of a chain, with this newest time in seconds since 1970.
+#[tactic(auto, unfolding(crate::specs::By::facts_text))]
+fn facts_of(alloc: Global, chain: &[u8], newest: u32) -> Result<Vec<u8>, Memory>
+    ensures { IfOk result (λ facts. facts.items ≡ facts_text chain.now newest) }
+{
+    let mut facts = Vec::new(alloc);
+    put_text(b"chain ", &mut facts)?;
+    put_text(chain, &mut facts)?;
+    put_number(b", newest time ", u64::from(newest), &mut facts)?;
+    Ok(facts)
+}
+
+/// Appends the picture of some tables with the names that records of others have.
+#[tactic(auto, unfolding(crate::specs::Picture::picture_with, crate::specs::Picture::listed_of))]
+fn put_picture_with<T: TableView, U: TableView, G: BuildHasher, L: Ledger>(
+    alloc: Global,
+    hasher: &G,
+    by: By,
+    chain: &[u8],
+    newest: u32,
+    tables: &T,
+    other: &U,
+    out: &mut Vec<u8>,
+    steps: &mut Steps<L>,
+) -> Result<(), Memory>
+    ensures text { OnOk result (out.new.items ≡ out.old.items
+        ++ picture_with by chain.now newest (T.view tables.now) (U.view other.now)) }
+{
+    let sources = sources_of(alloc, hasher, other, steps)?;
+    let listed = listed_in(sources.as_slice());
+    let marks = marks_by(alloc, other, listed, steps)?;
+    let names = names_in(
+        alloc,
+        tables,
+        by,
+        newest,
+        marks.as_slice(),
+        listed.len() as u8,
+        steps,
+    )?;
+    let facts = facts_of(alloc, chain, newest)?;
+    picture_text::put_picture_by(
+        alloc,
+        by,
+        facts.as_slice(),
+        sources.as_slice(),
+        marks.as_slice(),
+        names,
+        out,
+    )
+}
+
+/// Appends the picture of the tables whose colours go by something. The file is of a chain of this
+/// name. Takes memory for a copy of the record in each slot.
+pub fn put_picture_by<T: TableView, G: BuildHasher, L: Ledger>(
+    alloc: Global,
+    hasher: &G,
+    tables: &T,
+    by: By,
+    chain: &[u8],
+    out: &mut Vec<u8>,
+    steps: &mut Steps<L>,
+) -> Result<(), Memory>
+    ensures text { OnOk result (out.new.items ≡ out.old.items
+        ++ picture_by by chain.now (T.view tables.now)) }
+{
+    let recs = tables.records(steps)?;
+    let newest = newest_of(recs.items());
+    let other = Recoloured::of(alloc, tables, by, newest, steps)?;
+    put_picture_with(alloc, hasher, by, chain, newest, tables, &other, out, steps)
 }

@@ -2,7 +2,8 @@ use Rattle.std.proofs.Common.{◌≡◌, ℕ, ◌+◌, List, [], ◌∷◌, ◌+
 use Rattle.std.specs.List.{range_with_len}
 use Rattle.std.proofs.lemmas.List.{map-append}
 use Rattle.std.proofs.lemmas.List.FromFn.{map-range_with_len_more}
-use Rattle.table_picture.specs.Picture.{mark_name, rec_in, rec_name}
+use Rattle.table_picture.specs.By.{rec_in}
+use Rattle.table_picture.specs.Picture.{mark_name, rec_name}
 use Rattle.table_picture.proofs.picture.names_in.Goals as goal
 
 more : (f : ℕ → List ℕ) (i : ℕ) (old new : List (Vec ℕ Global)) (name : Vec ℕ Global) → map (λ v. v.items) old ≡ map f (range_with_len 0 i)
@@ -15,9 +16,9 @@ more f i old new name so_far put is =
 
 pub loop-index-preserved : goal.loop-index-preserved
 loop-index-preserved g c = record {
-  names = more (mark_name (g.T.TableView.view c.args.tables.now) c.args.marks.now) c.loop-index.index c.loop-index.names.items c.push.new.self.items c.in_ok-rec_name.field-0
+  names = more (mark_name c.args.by c.args.newest (g.T.TableView.view c.args.tables.now) c.args.marks.now) c.loop-index.index c.loop-index.names.items c.push.new.self.items c.in_ok-rec_name.field-0
       c.loop-index.invariant.names c.in_ok-push.ensures.items
-      (c.in_ok-rec_name.ensures ∙ (λ i. rec_name (c.places.ensures i) (c.rec_in-rec.ensures i))
-      ∙ ap (λ (slot : ℕ). rec_name (g.T.TableView.view c.args.tables.now).places (rec_in (g.T.TableView.view c.args.tables.now) slot)) c.first_slot.ensures);
+      (c.in_ok-rec_name.ensures ∙ (λ i. rec_name c.args.by c.args.newest (c.places.ensures i) (c.rec_in-rec.ensures i))
+      ∙ ap (λ (slot : ℕ). rec_name c.args.by c.args.newest (g.T.TableView.view c.args.tables.now).places (rec_in (g.T.TableView.view c.args.tables.now) slot)) c.first_slot.ensures);
   long = search rules;
 }
