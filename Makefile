@@ -24,7 +24,7 @@
 # make ci-program-test  rows, endings, mistakes and examples with what rt ci has just proved and built in this clone
 # make ci-plain-test  what make and make check do, and its program beside that which rt ci has just built
 # make packed     tries make install, make uninstall and make dist
-# make figures    prints lines, words and the like, and checks the names that docs/DEFINITIONS.md lists
+# make figures    prints lines, words and the like, and checks what docs/DEFINITIONS.md and MAP.md list
 # make install    copies program, manual page, completion, docs/FORMATS.md, and the library for C if
 #                 it is built, below $(DESTDIR)$(PREFIX); BINDIR, LIBDIR, INCLUDEDIR, MANDIR, DATADIR
 #                 and DOCDIR name the single folders
