@@ -13,6 +13,23 @@ COUNTS = ("new_slots", "new_buckets", "new_records", "tried_records")
 UNION = re.compile(r"union: picks ([\d.]+) % new [\d.]+ % tried [\d.]+ %")
 RISK = re.compile(r"\w+ (.*): picks ([\d.]+) % new ([\d.]+) % tried ([\d.]+) %")
 SVG = "{http://www.w3.org/2000/svg}"
+# Parts of the page by role and name, as a screen reader has them.
+PARTS = [
+    ("button", "Choose files"),
+    ("button", "Show me an attack"),
+    ("combobox", "Colour by"),
+    ("searchbox", "Find"),
+    ("checkbox", "sort buckets by it"),
+    ("list", "Colours"),
+    ("region", "Files"),
+    ("region", "Groups"),
+    ("group", "Table of groups"),
+    ("group", "Table of peers"),
+    ("columnheader", "Share of picks"),
+    ("columnheader", "Buckets"),
+    ("columnheader", "Failed tries"),
+    ("button", "Slots (JSON)"),
+]
 NO_RAW = [
     (b'{"new": {}}', "form"),
     (b'{"new": {"1024/0": {}}, "tried": {}}', "new member 0: slot"),
@@ -223,6 +240,28 @@ class Cases:
         assert b.js("return highlight") is None
         b.key("/")
         assert b.js("return document.activeElement.id") == "search"
+
+    def test_screen_readers_have_tables_as_text(self):
+        b, folder = self.browser, os.path.join(self.folder, "large")
+        b.give(os.path.join(folder, "peers.dat"))
+        b.js("$('peers-box').open = true")
+        b.wait("$('peers').rows.length === 50")
+        for role, name in PARTS:
+            assert b.parts(role, name) == (2 if name == "Buckets" else 1), (role, name)
+        used = b.js("return data.used")
+        for table, size in (("New", "65,536"), ("Tried", "16,384")):
+            words = f"{table} table: {used[table.lower()]:,} of {size} slots"
+            assert b.parts("heading", words) == 1, words
+            assert b.parts("application", words + ". Arrows go through slots.") == 1, words
+        for row in b.js("return look.rows('placed')")[:5]:
+            assert b.parts("rowheader", row["group"]) == 1, row
+        for row in b.js("return look.cells('peers')")[:3]:
+            assert b.parts("rowheader", row[0]) == 1 and b.parts("cell", row[5]) > 0, row
+        b.js("$('peers-box').open = false; cursor = null; $('new').focus()")
+        b.key("n")
+        named = "$('new').getAttribute('aria-describedby')"
+        place = b.js(f"return [$({named}).ariaLive, $({named}).innerText, cursor]")
+        assert place[0] == "polite" and f"bucket {place[2] >> 6}, slot" in place[1], place
 
     def test_the_pointer_shows_a_slot(self):
         b, new = self.browser, self.raw_of("large")["new"]
