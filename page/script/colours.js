@@ -138,7 +138,11 @@ const dot = paint => `<i class="dot" style="background:var(${paint})"></i>`;
 // What is said of the typed set beside its number of slots.
 function setText(one) {
   const buckets = `, in ${number(one.buckets)} of the 1,024 new buckets`;
-  if (setShare !== null) return `${buckets}, at most ${millionthsText(setShare)} of picks`;
+  if (setShare !== null) {
+    const { union, ten } = setShare, picks = `at most ${millionthsText(union)} of picks`;
+    if (ten === null) return `${buckets}, ${picks}`;
+    return `${buckets}, ${picks}, all ten connections of ${millionthsText(ten)} of restarts`;
+  }
   return buckets + (data.share ? `, ${shareText(one.share)} of picks` : "");
 }
 

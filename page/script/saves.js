@@ -30,8 +30,8 @@ function saveRaw() {
   else saveOutput(["raw"], stem() + "-slots.json", "application/json");
 }
 
-// What the program is asked for: the picture in the colours of the page, if it has them, or else its
-// own.
+// What the program is asked for: the picture in the colours of the page, if it has them, or else in
+// its own.
 const COLOURINGS = ["network", "source", "group", "age"];
 const pictureWords = () =>
   ["picture", ...COLOURINGS.includes($("mode").value) ? ["--by", $("mode").value] : []];

@@ -10,7 +10,8 @@ import made
 TOP = os.path.dirname(os.path.dirname(os.path.dirname(os.path.abspath(__file__))))
 EXAMPLES = os.path.join(TOP, "examples")
 COUNTS = ("new_slots", "new_buckets", "new_records", "tried_records")
-UNION = re.compile(r"union: picks ([\d.]+) % new [\d.]+ % tried [\d.]+ %")
+UNION = re.compile(r"^union: picks ([\d.]+) % new [\d.]+ % tried [\d.]+ %$", re.M)
+TEN = re.compile(r"^all ten at most ([\d.]+) %$", re.M)
 RISK = re.compile(r"\w+ (.*): picks ([\d.]+) % new ([\d.]+) % tried ([\d.]+) %")
 SVG = "{http://www.w3.org/2000/svg}"
 # Parts of the page by role and name, as a screen reader has them.
@@ -118,13 +119,16 @@ def same_shares(browser, program, folder, options=()):
 
 
 def same_set(browser, program, folder, options=()):
-    """Compares the share of typed peers with what `risk -` prints of all the sets."""
+    """Compares what is said of typed peers with what `risk -` prints of all the sets."""
     sets = ["0.0.0.0/2", "80.0.0.0/5", "2000::/4", "1.2.3.4"]
     text = made.output(program, ["risk", "-", *options], folder, "\n".join(sets).encode()).decode()
-    wanted = UNION.fullmatch(text.splitlines()[-1]).group(1)
     found = browser.js("return look.setShare(arguments[0])", " ".join(sets))
-    assert found == int(wanted.replace(".", "")), (folder, found, wanted)
-    assert f"at most {wanted} % of picks" in browser.js("return $('key').textContent"), folder
+    wanted = {"union": UNION.search(text), "ten": TEN.search(text)}
+    shown = {name: one and one.group(1) for name, one in wanted.items()}
+    assert found == {name: one and int(one.replace(".", "")) for name, one in shown.items()}, folder
+    said = browser.js("return $('key').textContent")
+    assert f"at most {shown['union']} % of picks" in said, folder
+    assert not shown["ten"] or f"connections of {shown['ten']} % of restarts" in said, folder
     assert browser.js("return look.setShare('::ffff:102:300/120')") is None, folder
 
 
