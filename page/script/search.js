@@ -69,8 +69,8 @@ function goTo(rec) {
   if (i >= 0) moveTo(i);
 }
 
-// What falls to typed peers, at most, in millionths: picks, and restarts all of whose ten connections
-// are theirs; null if the program does not say it.
+// What falls to typed peers, at most, in millionths: picks, and restarts with ten connections to
+// them; null if the program does not say it.
 async function shareOfSet(view, words) {
   const { peers, asmap, isCore } = view, sets = words.map(word => word.replace(/[[\]]/g, ""));
   return view.chain ? ask("riskOfSets", { peers, asmap, isCore, sets }) : null;
