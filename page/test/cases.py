@@ -282,6 +282,23 @@ class Cases:
             assert lit == next(row["new_slots"] for row in rows if row["group"] == group)
             b.js("setHighlight(null)")
 
+    def test_a_click_in_the_list_lights_up_a_group(self):
+        b = self.browser
+        for by in ("placed", "source", "group", "network"):
+            b.choose("by", by)
+            b.js("$('groups').rows[1 % $('groups').rows.length].querySelector('button').click()")
+            name, where = b.js("return highlight.name"), "look.litByTile(arguments[0])"
+            lit = [
+                sum(b.js(f"return {where}.map(count => +!!count)", "new")),
+                *(sum(b.js(f"return {where}", table)) for table in ("new", "tried")),
+            ]
+            row = next(row for row in b.js("return look.rows(arguments[0])", by)
+                       if row["group"] == name)
+            wanted = [row[count] for count in ("new_buckets", "new_slots", "tried_records")]
+            assert lit == wanted, (by, name, lit, wanted)
+            b.js("setHighlight(null)")
+        b.choose("by", "placed")
+
     def test_a_folder_is_dropped(self):
         b = self.browser
         self.forget_asmap()
