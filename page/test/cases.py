@@ -440,6 +440,11 @@ class Cases:
             b.choose("mode", mode)
             picture = made.output(self.program, ["picture", "--by", mode], folder)
             assert saved("save-picture") == picture, mode
+        if b"--mark" in made.output(self.program, ["help", "picture"], folder):
+            sets = ["20.0.0.0/6", "1.2.3.4", "2000::/4"]
+            b.js("return look.setShare(arguments[0])", " ".join(sets))
+            picture = made.output(self.program, ["picture", "--mark", *sets], folder)
+            assert saved("save-picture") == picture
         b.choose("mode", "placed")
         shown = made.output(self.program, ["show"], folder)
         assert saved("save-list") == made.output(self.program, ["show", "--no-key"], folder)
