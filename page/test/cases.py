@@ -257,8 +257,8 @@ class Cases:
             words = f"{table} table: {used[table.lower()]:,} of {size} slots"
             assert b.parts("heading", words) == 1, words
             assert b.parts("application", words + ". Arrows go through slots.") == 1, words
-        for row in b.js("return look.rows('placed')")[:5]:
-            assert b.parts("rowheader", row["group"]) == 1, row
+        for name in b.js("return look.first(5)"):
+            assert b.parts("rowheader", name) == 1, name
         for row in b.js("return look.cells('peers')")[:3]:
             assert b.parts("rowheader", row[0]) == 1 and b.parts("cell", row[5]) > 0, row
         b.js("$('peers-box').open = false; cursor = null; $('new').focus()")
@@ -319,7 +319,7 @@ class Cases:
 
     def test_sorting_puts_the_chosen_first(self):
         b = self.browser
-        first = "{ kind: 'group', by: 'placed', name: look.rows('placed')[0].group }"
+        first = "{ kind: 'group', by: 'placed', name: look.first(1)[0] }"
         b.js(f"$('sort').click(); setHighlight({first})")
         for table in ("new", "tried"):
             counts = b.js("return look.litByTile(arguments[0])", table)

@@ -17,8 +17,9 @@ window.look = {
     return data.form.map((form, r) => [`${form}:${data.port[r]}`, ...of(r)]);
   },
 
-  // The rows of the list of groups by what it is of.
+  // The counts of groups by what they are of, and the names of those listed first.
   rows: by => rowsBy(data, by),
+  first: count => listedRows().slice(0, count).map(row => row.group),
 
   // What the list shows as shares of picks, by the names of the groups, once it is by this.
   async shares(by) {
