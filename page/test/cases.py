@@ -417,6 +417,7 @@ class Cases:
         same_shares(b, self.program, folder, words)
         same_set(b, self.program, folder, words)
         assert counts_agree(b) and not b.text("note")
+        b.choose("mode", "placed")
         b.js("look.keepDownloads(); $('save-picture').click()")
         b.wait("window.kept")
         picture = b.js("return window.kept.text()").encode()

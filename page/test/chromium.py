@@ -148,9 +148,10 @@ class Chromium(Browser):
 
     def parts(self, role, name):
         """How many parts of the page have this role and name for a screen reader."""
-        nodes = self.call("Accessibility.getFullAXTree")["nodes"]
-        of = lambda node: [node.get(what, {}).get("value") for what in ("role", "name")]
-        return sum(of(node) == [role, name] for node in nodes if not node["ignored"])
+        root = self.call("DOM.getDocument")["root"]["nodeId"]
+        named = {"nodeId": root, "accessibleName": name, "role": role}
+        nodes = self.call("Accessibility.queryAXTree", **named)["nodes"]
+        return sum(not node["ignored"] for node in nodes)
 
     def look(self, width, height, scale=1):
         size = {"width": width, "height": height, "deviceScaleFactor": scale, "mobile": False}
