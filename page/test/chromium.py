@@ -169,4 +169,7 @@ class Chromium(Browser):
         except (Ended, subprocess.TimeoutExpired, OSError):
             self.process.terminate()
             self.process.wait()
+        # A shell takes descriptors of one digit alone.
+        os.close(self.to)
+        os.close(self.back)
         shutil.rmtree(self.folder, ignore_errors=True)
