@@ -125,6 +125,7 @@ bin/page.html:
 
 page-test:
 	page/colours
+	page/casts
 	node page/test/same.mjs bin/page-work/addrman.wasm bin/addrman
 	node page/test/memory.mjs bin/page-work/addrman.wasm
 	page/test/test_page.py bin/addrman

@@ -8,10 +8,16 @@ const probe = document.createElement("i");
 probe.hidden = true;
 document.body.append(probe);
 
+// The colours that were read, until the reader's setting changes.
+const colours = new Map();
+
 // A colour of the style sheet as three numbers.
 function colour(name) {
-  probe.style.color = `var(${name})`;
-  return getComputedStyle(probe).color.match(/[\d.]+/g).slice(0, 3).map(Number);
+  if (!colours.has(name)) {
+    probe.style.color = `var(${name})`;
+    colours.set(name, getComputedStyle(probe).color.match(/[\d.]+/g).slice(0, 3).map(Number));
+  }
+  return colours.get(name);
 }
 
 // The groups of records: that which the place depends on, which is the source's in the new table
@@ -66,15 +72,27 @@ const MODES = {
   placed: () => groupClasses("placed"),
 };
 
+// The groups that come first by these counts, of as many by name, at most `LISTED`.
+function firstOf(counts, names) {
+  const isBefore = (a, b) =>
+    counts[a] > counts[b] || counts[a] === counts[b] && names[a] < names[b];
+  const most = [];
+  for (let g = 0; g < counts.length; g++) {
+    let k = counts[g] ? most.length : 0;
+    while (k > 0 && isBefore(g, most[k - 1])) k--;
+    if (counts[g]) most.splice(k, 0, g);
+    if (most.length > LISTED) most.pop();
+  }
+  return most;
+}
+
 // The six groups with most slots, and all others.
 function groupClasses(by) {
   const counts = new Uint32Array(data.names.length), groupOf = GROUPINGS[by];
   for (const r of data.slots)
     if (r >= 0) counts[groupOf(data, r)]++;
-  const used = Array.from(counts.keys()).filter(g => counts[g]), { names } = data;
-  used.sort((a, b) => counts[b] - counts[a] || (names[a] < names[b] ? -1 : 1));
-  const most = used.slice(0, LISTED);
-  const rank = new Uint8Array(counts.length).fill(most.length), rest = used.length - most.length;
+  const most = firstOf(counts, data.names), rest = counts.filter(Boolean).length - most.length;
+  const rank = new Uint8Array(counts.length).fill(most.length);
   most.forEach((g, k) => { rank[g] = k; });
   const list = most.map((g, k) => [data.names[g], `--c${k}`]);
   if (rest) list.push([`${number(rest)} other group${rest === 1 ? "" : "s"}`, "--other"]);
@@ -138,7 +156,11 @@ const dot = paint => `<i class="dot" style="background:var(${paint})"></i>`;
 // What is said of the typed set beside its number of slots.
 function setText(one) {
   const buckets = `, in ${number(one.buckets)} of the 1,024 new buckets`;
-  if (setShare !== null) return `${buckets}, at most ${millionthsText(setShare)} of picks`;
+  if (setShare !== null) {
+    const { union, ten } = setShare, picks = `at most ${millionthsText(union)} of picks`;
+    if (ten === null) return `${buckets}, ${picks}`;
+    return `${buckets}, ${picks}, all ten connections of ${millionthsText(ten)} of restarts`;
+  }
   return buckets + (data.share ? `, ${shareText(one.share)} of picks` : "");
 }
 

@@ -36,7 +36,7 @@ function rowsBy(view, by) {
   }
   for (let r = 0; r < view.count; r++)
     rowAt(groupOf(view, r))[view.table[r] ? "tried_records" : "new_records"]++;
-  return view.rows[by] = [...found.values()].sort(bySlots);
+  return view.rows[by] = [...found.values()];
 }
 
 // What `risk` calls a group of the list.
@@ -55,11 +55,12 @@ function shareOf(view, by, name) {
 }
 
 // The rows of the list with their shares, the largest share first; by slots, where these are not
-// known.
+// known. They are kept until more shares are.
 function listedRows() {
-  const by = $("by").value, rows = rowsBy(data, by);
-  const found = rows.map(row => ({ ...row, share: shareOf(data, by, row.group) }));
-  return found.sort((a, b) => (b.share || 0) - (a.share || 0) || bySlots(a, b));
+  const by = $("by").value, { listed } = data;
+  if (listed[by]) return listed[by];
+  const found = rowsBy(data, by).map(row => ({ ...row, share: shareOf(data, by, row.group) }));
+  return listed[by] = found.sort((a, b) => (b.share || 0) - (a.share || 0) || bySlots(a, b));
 }
 
 const millionthsText = share => share === undefined ? "…" : (share / 10000).toFixed(4) + " %";
@@ -79,17 +80,20 @@ function groupRow(row, most, paint) {
   ].join("");
 }
 
+// The rows that are in the list, as long as nothing else has changed them.
+let shownGroups = "";
+
 function showGroups() {
   if (!data.hasTexts) return;
   const part = $("filter").value.trim().toLowerCase(), by = $("by").value, rows = listedRows();
-  const all = rows.filter(row => row.group.toLowerCase().includes(part));
+  const all = part ? rows.filter(row => row.group.toLowerCase().includes(part)) : rows;
   const most = rows.reduce((max, row) => Math.max(max, slotsOf(row)), 1);
   const isSame = $("mode").value === by;
   const paints = new Map(isSame ? classes.list.map(c => [c.name, c.paint]) : []);
   const shown = all.slice(0, MAX_ROWS), left = all.length - shown.length;
   $("picks-head").hidden = !data.chain;
-  $("groups").innerHTML =
-    joined(shown, row => groupRow(row, most, paints.get(row.group) || "--other"));
+  const texts = joined(shown, row => groupRow(row, most, paints.get(row.group) || "--other"));
+  if (texts !== shownGroups) $("groups").innerHTML = shownGroups = texts;
   $("more").textContent = "";
   if (left) $("more").textContent = `${number(left)} more groups: type a part of a name above.`;
   if (!all.length) $("more").textContent = "No group has this in its name.";
@@ -112,6 +116,7 @@ function setHighlight(next) {
     button.setAttribute("aria-pressed", isOn);
     button.closest("tr").classList.toggle("on", isOn);
   }
+  shownGroups = "";
   firstPeer = 0;
   showPeers();
   drawMaps();

@@ -110,7 +110,10 @@ on("change-box", "toggle", () => {
 });
 on("peers-back", "click", () => turnPeers(-1));
 on("peers-on", "click", () => turnPeers(1));
-matchMedia("(prefers-color-scheme: dark)").addEventListener("change", () => data && drawMaps());
+matchMedia("(prefers-color-scheme: dark)").addEventListener("change", () => {
+  colours.clear();
+  if (data) drawMaps();
+});
 new ResizeObserver(fit).observe($("view"));
 engineReady = startEngine();
 engineReady.then(() => {

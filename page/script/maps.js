@@ -1,5 +1,7 @@
 // The two maps: a tile is a bucket, its 8 x 8 dots are the slots, row by row.
 const bitmaps = {}, scale = { new: 1, tried: 1 };
+// Whether the maps are as large as there is room.
+let isFitted = false;
 // The bucket of each tile, and the tile of each bucket.
 const order = {}, tileOf = {};
 const sizeOf = table => 9 * SIDE[table] - 1;
@@ -58,12 +60,18 @@ function drawMaps() {
   }
   $("new-title").textContent = `New table: ${number(data.used.new)} of 65,536 slots`;
   $("tried-title").textContent = `Tried table: ${number(data.used.tried)} of 16,384 slots`;
-  fit();
+  for (const table of TABLES) {
+    const label = `${$(table + "-title").textContent}. Arrows go through slots.`;
+    $(table).setAttribute("aria-label", label);
+    if (isFitted) paint(table);
+  }
+  if (!isFitted) fit();
 }
 
 // Makes the maps as large as there is room. A dot is a whole number of the screen's pixels wide.
 function fit() {
   if (!data) return;
+  isFitted = true;
   const ratio = window.devicePixelRatio || 1, width = $("maps").clientWidth;
   const columns = getComputedStyle($("maps")).gridTemplateColumns.split(" ").length;
   const both = sizeOf("new") + sizeOf("tried");
@@ -75,8 +83,6 @@ function fit() {
     scale[table] = k / ratio;
     canvas.width = canvas.height = k * size;
     canvas.style.width = canvas.style.height = k * size / ratio + "px";
-    const label = `${$(table + "-title").textContent}. Arrows go through slots.`;
-    canvas.setAttribute("aria-label", label);
     paint(table);
   }
 }

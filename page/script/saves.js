@@ -30,12 +30,24 @@ function saveRaw() {
   else saveOutput(["raw"], stem() + "-slots.json", "application/json");
 }
 
-// What the program is asked for: the picture in the colours of the page, if it has them, or else its
-// own.
 const COLOURINGS = ["network", "source", "group", "age"];
-const pictureWords = () =>
-  ["picture", ...COLOURINGS.includes($("mode").value) ? ["--by", $("mode").value] : []];
-const savePicture = () => saveOutput(pictureWords(), stem() + ".svg", "image/svg+xml");
+// So many sets the program marks at most.
+const MAX_MARKS = 6;
+
+// What the program is asked for: the picture in the colours of the page if it has them, with marks
+// of the typed prefixes of peers if they are not too many, or else in its own.
+function pictureAsked() {
+  const by = $("mode").value, isOfPeers = by === "set" && $("set-of").value === "peer";
+  const sets = isOfPeers ? typedSets() : [];
+  if (sets.length && sets.length <= MAX_MARKS)
+    return { words: ["picture"], more: ["--mark", ...sets] };
+  return { words: ["picture", ...COLOURINGS.includes(by) ? ["--by", by] : []] };
+}
+
+function savePicture() {
+  const { words, more } = pictureAsked();
+  return saveOutput(words, stem() + ".svg", "image/svg+xml", more);
+}
 
 // The program's picture, if it is to be seen.
 async function showPicture() {
@@ -43,7 +55,7 @@ async function showPicture() {
   if (!$("picture-box").open || !data || !data.chain) return;
   try {
     const text = await ask("outputOfPeers", {
-      words: pictureWords(), files: peersFiles(), isCore: isCore()
+      ...pictureAsked(), files: peersFiles(), isCore: isCore()
     });
     if (snap !== snaps[at]) return;
     const before = $("picture").src;

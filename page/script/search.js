@@ -69,19 +69,22 @@ function goTo(rec) {
   if (i >= 0) moveTo(i);
 }
 
-// The part of the picks that falls to typed peers, at most, in millionths; null if the program does
-// not say it.
-async function shareOfSet(view, words) {
-  const { peers, asmap, isCore } = view, sets = words.map(word => word.replace(/[[\]]/g, ""));
+// The typed sets as the program reads them.
+const isAs = word => /^AS\d+$/i.test(word);
+const typedSets = () => $("set").value.split(/[\s,;]+/).filter(Boolean)
+  .map(word => isAs(word) ? word.toUpperCase() : word.replace(/[[\]]/g, ""));
+
+// What falls to typed peers, at most, in millionths: picks, and restarts with ten connections to
+// them; null if the program does not say it.
+async function shareOfSet(view, sets) {
+  const { peers, asmap, isCore } = view;
   return view.chain ? ask("riskOfSets", { peers, asmap, isCore, sets }) : null;
 }
 
 // Reads the typed set, and marks the records that it has.
 async function readSet() {
-  const view = data, words = $("set").value.split(/[\s,;]+/).filter(Boolean),
-        isPeer = $("set-of").value === "peer";
-  const isAs = word => /^AS\d+$/i.test(word),
-        numbers = new Set(words.filter(isAs).map(word => word.toUpperCase()));
+  const view = data, words = typedSets(), isPeer = $("set-of").value === "peer";
+  const numbers = new Set(words.filter(isAs));
   const forms = isPeer ? view.form : view.sourceForm, of = isPeer ? view.group : view.sourceGroup,
         prefixes = words.filter(word => !isAs(word));
   const mask = new Uint8Array(view.count);
@@ -110,6 +113,7 @@ async function applySet() {
     if (turn !== wanted) return;
     $("error").hidden = true;
     showMode();
+    showPicture();
     setState("ready");
   } catch (error) {
     if (turn !== wanted) return;

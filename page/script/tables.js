@@ -30,6 +30,7 @@ function viewFrom(told, snap, map) {
     count: told.port.length,
     share: null,
     rows: {},
+    listed: {},
     shares: {},
     said: ""
   };
@@ -115,6 +116,7 @@ async function learnShares() {
       const { peers, asmap, isCore } = view;
       const { shares, errors } = await ask("risk", { peers, asmap, isCore, by });
       view.shares[by] = new Map(shares.map(([group, ...parts]) => [group, parts]));
+      view.listed = {};
       view.said = errors.trim();
       if (view !== data) return;
     }
@@ -159,6 +161,7 @@ async function show(i) {
     if (isOld()) return;
     data = null;
     $("view").hidden = true;
+    isFitted = false;
     fail((snaps[i].name === "peers.dat" ? "" : snaps[i].name + "\n") + error.message);
   }
 }

@@ -15,7 +15,8 @@ const SERVICES = {
   11: "P2P_V2"
 };
 const $ = id => document.getElementById(id);
-const number = n => n.toLocaleString("en-US");
+const numberFormat = new Intl.NumberFormat("en-US");
+const number = n => numberFormat.format(n);
 const percent = (part, whole) => whole ? (100 * part / whole).toFixed(1) + " %" : "none";
 const shareText = share => (100 * share).toFixed(4) + " %";
 const escape = text => String(text).replace(/[&<>"]/g, c => `&#${c.charCodeAt(0)};`);

@@ -10,9 +10,27 @@ import made
 TOP = os.path.dirname(os.path.dirname(os.path.dirname(os.path.abspath(__file__))))
 EXAMPLES = os.path.join(TOP, "examples")
 COUNTS = ("new_slots", "new_buckets", "new_records", "tried_records")
-UNION = re.compile(r"union: picks ([\d.]+) % new [\d.]+ % tried [\d.]+ %")
+UNION = re.compile(r"^union: picks ([\d.]+) % new [\d.]+ % tried [\d.]+ %$", re.M)
+TEN = re.compile(r"^all ten at most ([\d.]+) %$", re.M)
 RISK = re.compile(r"\w+ (.*): picks ([\d.]+) % new ([\d.]+) % tried ([\d.]+) %")
 SVG = "{http://www.w3.org/2000/svg}"
+# Parts of the page by role and name, as a screen reader has them.
+PARTS = [
+    ("button", "Choose files"),
+    ("button", "Show me an attack"),
+    ("combobox", "Colour by"),
+    ("searchbox", "Find"),
+    ("checkbox", "sort buckets by it"),
+    ("list", "Colours"),
+    ("region", "Files"),
+    ("region", "Groups"),
+    ("group", "Table of groups"),
+    ("group", "Table of peers"),
+    ("columnheader", "Share of picks"),
+    ("columnheader", "Buckets"),
+    ("columnheader", "Failed tries"),
+    ("button", "Slots (JSON)"),
+]
 NO_RAW = [
     (b'{"new": {}}', "form"),
     (b'{"new": {"1024/0": {}}, "tried": {}}', "new member 0: slot"),
@@ -101,13 +119,16 @@ def same_shares(browser, program, folder, options=()):
 
 
 def same_set(browser, program, folder, options=()):
-    """Compares the share of typed peers with what `risk -` prints of all the sets."""
+    """Compares what is said of typed peers with what `risk -` prints of all the sets."""
     sets = ["0.0.0.0/2", "80.0.0.0/5", "2000::/4", "1.2.3.4"]
     text = made.output(program, ["risk", "-", *options], folder, "\n".join(sets).encode()).decode()
-    wanted = UNION.fullmatch(text.splitlines()[-1]).group(1)
     found = browser.js("return look.setShare(arguments[0])", " ".join(sets))
-    assert found == int(wanted.replace(".", "")), (folder, found, wanted)
-    assert f"at most {wanted} % of picks" in browser.js("return $('key').textContent"), folder
+    wanted = {"union": UNION.search(text), "ten": TEN.search(text)}
+    shown = {name: one and one.group(1) for name, one in wanted.items()}
+    assert found == {name: one and int(one.replace(".", "")) for name, one in shown.items()}, folder
+    said = browser.js("return $('key').textContent")
+    assert f"at most {shown['union']} % of picks" in said, folder
+    assert not shown["ten"] or f"connections of {shown['ten']} % of restarts" in said, folder
     assert browser.js("return look.setShare('::ffff:102:300/120')") is None, folder
 
 
@@ -224,6 +245,28 @@ class Cases:
         b.key("/")
         assert b.js("return document.activeElement.id") == "search"
 
+    def test_screen_readers_have_tables_as_text(self):
+        b, folder = self.browser, os.path.join(self.folder, "large")
+        b.give(os.path.join(folder, "peers.dat"))
+        b.js("$('peers-box').open = true")
+        b.wait("$('peers').rows.length === 50")
+        for role, name in PARTS:
+            assert b.parts(role, name) == (2 if name == "Buckets" else 1), (role, name)
+        used = b.js("return data.used")
+        for table, size in (("New", "65,536"), ("Tried", "16,384")):
+            words = f"{table} table: {used[table.lower()]:,} of {size} slots"
+            assert b.parts("heading", words) == 1, words
+            assert b.parts("application", words + ". Arrows go through slots.") == 1, words
+        for name in b.js("return look.first(5)"):
+            assert b.parts("rowheader", name) == 1, name
+        for row in b.js("return look.cells('peers')")[:3]:
+            assert b.parts("rowheader", row[0]) == 1 and b.parts("cell", row[5]) > 0, row
+        b.js("$('peers-box').open = false; cursor = null; $('new').focus()")
+        b.key("n")
+        named = "$('new').getAttribute('aria-describedby')"
+        place = b.js(f"return [$({named}).ariaLive, $({named}).innerText, cursor]")
+        assert place[0] == "polite" and f"bucket {place[2] >> 6}, slot" in place[1], place
+
     def test_the_pointer_shows_a_slot(self):
         b, new = self.browser, self.raw_of("large")["new"]
         for place in sorted(new)[:3]:
@@ -238,6 +281,23 @@ class Cases:
             rows = b.js("return look.rows('placed')")
             assert lit == next(row["new_slots"] for row in rows if row["group"] == group)
             b.js("setHighlight(null)")
+
+    def test_a_click_in_the_list_lights_up_a_group(self):
+        b = self.browser
+        for by in ("placed", "source", "group", "network"):
+            b.choose("by", by)
+            b.js("$('groups').rows[1 % $('groups').rows.length].querySelector('button').click()")
+            name, where = b.js("return highlight.name"), "look.litByTile(arguments[0])"
+            lit = [
+                sum(b.js(f"return {where}.map(count => +!!count)", "new")),
+                *(sum(b.js(f"return {where}", table)) for table in ("new", "tried")),
+            ]
+            row = next(row for row in b.js("return look.rows(arguments[0])", by)
+                       if row["group"] == name)
+            wanted = [row[count] for count in ("new_buckets", "new_slots", "tried_records")]
+            assert lit == wanted, (by, name, lit, wanted)
+            b.js("setHighlight(null)")
+        b.choose("by", "placed")
 
     def test_a_folder_is_dropped(self):
         b = self.browser
@@ -259,7 +319,7 @@ class Cases:
 
     def test_sorting_puts_the_chosen_first(self):
         b = self.browser
-        first = "{ kind: 'group', by: 'placed', name: look.rows('placed')[0].group }"
+        first = "{ kind: 'group', by: 'placed', name: look.first(1)[0] }"
         b.js(f"$('sort').click(); setHighlight({first})")
         for table in ("new", "tried"):
             counts = b.js("return look.litByTile(arguments[0])", table)
@@ -357,6 +417,7 @@ class Cases:
         same_shares(b, self.program, folder, words)
         same_set(b, self.program, folder, words)
         assert counts_agree(b) and not b.text("note")
+        b.choose("mode", "placed")
         b.js("look.keepDownloads(); $('save-picture').click()")
         b.wait("window.kept")
         picture = b.js("return window.kept.text()").encode()
@@ -380,6 +441,11 @@ class Cases:
             b.choose("mode", mode)
             picture = made.output(self.program, ["picture", "--by", mode], folder)
             assert saved("save-picture") == picture, mode
+        if b"--mark" in made.output(self.program, ["help", "picture"], folder):
+            sets = ["20.0.0.0/6", "1.2.3.4", "2000::/4"]
+            b.js("return look.setShare(arguments[0])", " ".join(sets))
+            picture = made.output(self.program, ["picture", "--mark", *sets], folder)
+            assert saved("save-picture") == picture
         b.choose("mode", "placed")
         shown = made.output(self.program, ["show"], folder)
         assert saved("save-list") == made.output(self.program, ["show", "--no-key"], folder)

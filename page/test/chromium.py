@@ -37,13 +37,14 @@ class Chromium(Browser):
     name = "chromium"
     drops_folders = True
 
-    def __init__(self, dark=False):
+    def __init__(self, dark=False, options=()):
         self.folder = tempfile.mkdtemp(prefix="page-chromium-")
         to_browser, self.to = os.pipe()
         self.back, from_browser = os.pipe()
         # The browser reads descriptor 3 and writes 4.
         script = f'exec "$0" "$@" 3<&{to_browser} 4>&{from_browser}'
-        words = ["chromium", *OPTIONS, f"--user-data-dir={self.folder}", "about:blank"]
+        own = [*options, f"--user-data-dir={self.folder}"]
+        words = ["chromium", *OPTIONS, *own, "about:blank"]
         self.process = subprocess.Popen(
             ["sh", "-c", script, *words],
             pass_fds=(to_browser, from_browser),
@@ -56,8 +57,11 @@ class Chromium(Browser):
         target = self.call("Target.createTarget", url="about:blank")["targetId"]
         found = self.call("Target.attachToTarget", targetId=target, flatten=True)
         self.session = found["sessionId"]
-        for domain in ("Page", "Runtime", "Log", "Network", "DOM"):
+        for domain in ("Page", "Runtime", "Log", "Network", "DOM", "Accessibility"):
             self.call(domain + ".enable")
+        # The page's workers say what they ask for, too, and wait for that before they begin.
+        attach = {"autoAttach": True, "waitForDebuggerOnStart": True, "flatten": True}
+        self.call("Target.setAutoAttach", **attach)
         ground = {"name": "prefers-color-scheme", "value": "dark" if dark else "light"}
         self.call("Emulation.setEmulatedMedia", features=[ground])
 
@@ -73,17 +77,21 @@ class Chromium(Browser):
         text, self.rest = self.rest.split(b"\0", 1)
         return json.loads(text)
 
-    def call(self, method, **values):
+    def send(self, session, method, **values):
         self.number += 1
         message = {"id": self.number, "method": method, "params": values}
-        if self.session:
-            message["sessionId"] = self.session
+        if session:
+            message["sessionId"] = session
         data = json.dumps(message).encode() + b"\0"
         while data:
             data = data[os.write(self.to, data) :]
+        return self.number
+
+    def call(self, method, **values):
+        number = self.send(self.session, method, **values)
         while True:
             answer = self.receive()
-            if answer.get("id") == self.number:
+            if answer.get("id") == number:
                 if "error" in answer:
                     raise Ended(f"{method}: {answer['error']}")
                 return answer["result"]
@@ -98,6 +106,11 @@ class Chromium(Browser):
             self.messages.append(str(values["exceptionDetails"]))
         elif event == "Network.requestWillBeSent":
             self.note_request(values["request"]["url"])
+        elif event == "Network.webSocketCreated":
+            self.note_request(values["url"])
+        elif event == "Target.attachedToTarget" and values["targetInfo"]["type"] == "worker":
+            for method in ("Network.enable", "Runtime.enable", "Runtime.runIfWaitingForDebugger"):
+                self.send(values["sessionId"], method)
 
     def open(self, address):
         self.call("Page.navigate", url=address)
@@ -133,6 +146,13 @@ class Chromium(Browser):
         self.call("Input.dispatchKeyEvent", type="keyDown", **values, **text)
         self.call("Input.dispatchKeyEvent", type="keyUp", **values)
 
+    def parts(self, role, name):
+        """How many parts of the page have this role and name for a screen reader."""
+        root = self.call("DOM.getDocument")["root"]["nodeId"]
+        named = {"nodeId": root, "accessibleName": name, "role": role}
+        nodes = self.call("Accessibility.queryAXTree", **named)["nodes"]
+        return sum(not node["ignored"] for node in nodes)
+
     def look(self, width, height, scale=1):
         size = {"width": width, "height": height, "deviceScaleFactor": scale, "mobile": False}
         self.call("Emulation.setDeviceMetricsOverride", **size)
@@ -149,4 +169,7 @@ class Chromium(Browser):
         except (Ended, subprocess.TimeoutExpired, OSError):
             self.process.terminate()
             self.process.wait()
+        # A shell takes descriptors of one digit alone.
+        os.close(self.to)
+        os.close(self.back)
         shutil.rmtree(self.folder, ignore_errors=True)

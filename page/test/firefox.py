@@ -208,6 +208,12 @@ class Firefox(Browser):
         keyboard = {"type": "key", "id": "keyboard", "actions": actions}
         self.call("input.performActions", context=self.context, actions=[keyboard])
 
+    def parts(self, role, name):
+        """How many parts of the page have this role and name for a screen reader."""
+        where = {"type": "accessibility", "value": {"role": role, "name": name}}
+        found = self.call("browsingContext.locateNodes", context=self.context, locator=where)
+        return len(found["nodes"])
+
     def look(self, width, height, scale=1):
         size = {"width": width, "height": height}
         self.call(

@@ -17,8 +17,9 @@ window.look = {
     return data.form.map((form, r) => [`${form}:${data.port[r]}`, ...of(r)]);
   },
 
-  // The rows of the list of groups by what it is of.
+  // The counts of groups by what they are of, and the names of those listed first.
   rows: by => rowsBy(data, by),
+  first: count => listedRows().slice(0, count).map(row => row.group),
 
   // What the list shows as shares of picks, by the names of the groups, once it is by this.
   async shares(by) {
@@ -77,6 +78,36 @@ window.look = {
   redraw: () => look.middle(() => showMode(), 25),
   move: () => look.middle(() => moveTo((cursor || 0) + 4099 & 65535), 99),
 
+  // The times between so many frames, in milliseconds, if each one has its work.
+  frames: (work, count) => new Promise(done => {
+    const times = [];
+    let last = 0;
+    const next = now => {
+      if (last) times.push(now - last);
+      last = now;
+      if (times.length === count) return done(times);
+      work(times.length);
+      requestAnimationFrame(next);
+    };
+    requestAnimationFrame(next);
+  }),
+
+  // The pointer going over both maps; the slots by keys; and one colouring after another.
+  overSlots: k => {
+    const table = TABLES[k & 1], box = $(table).getBoundingClientRect();
+    const along = part => part * (k * 37 % 97) / 97;
+    const where = { clientX: box.left + along(box.width), clientY: box.top + along(box.height) };
+    $(table).dispatchEvent(new PointerEvent("pointermove", { ...where, bubbles: true }));
+  },
+  byKeys: k => {
+    const key = ["n", "ArrowRight", "ArrowDown", "PageDown"][k & 3];
+    $("new").dispatchEvent(new KeyboardEvent("keydown", { key, bubbles: true }));
+  },
+  recolour: k => {
+    $("mode").value = ["placed", "source", "group", "network", "age", "success", "tries"][k % 7];
+    $("mode").dispatchEvent(new Event("change"));
+  },
+
   slotsInUse: () => data.used.new + data.used.tried,
   slotsOfClasses: () => classes.list.reduce((sum, one) => sum + one.count, 0),
 
@@ -126,6 +157,11 @@ window.look = {
 
   // Whether the page may ask something of another machine.
   fetched: () => fetch("https://example.org/").then(() => "went out", () => "refused"),
+  fetchedByWorker: () => new Promise(done => {
+    const script = "fetch('https://example.org/').then(() => 'went out', () => 'refused')" +
+      ".then(postMessage)";
+    new Worker(URL.createObjectURL(new Blob([script]))).onmessage = ({ data }) => done(data);
+  }),
   loaded: () => new Promise(done => {
     const image = new Image();
     image.onload = () => done("went out");

@@ -84,7 +84,7 @@ def full_log():
                  for _ in range(400)]
         entries = [entry_of(now - draw.randrange(20 * 86400), peer) for peer in peers]
         lines.append(message_of(source, entries, draw.randrange(1 << 30)))
-        lines += [f"good {dotted(peer)}:8333 test\n" for peer in peers[:40]]
+        lines += [f"good {dotted(peer)}:8333 test\n" for peer in peers]
     return "".join(lines).encode()
 
 

@@ -1,10 +1,10 @@
 // memory.mjs ENGINE.wasm: what the engine of the page does where memory runs out.
 //
-// Opens a file of some thousand peers, and hands it to commands, with ever more memory that a module
-// may have. Each run has to end with the output that it has with much memory; with code 12, or with
-// code 8 where there is no room for the output; or by a trap, which ends the module's instance and
-// which the page reports. Ends with status 1 if one does anything else, or if none was done or
-// refused.
+// Opens a file of some thousand peers, and hands it to commands, with ever more memory that a
+// module may have. Each run has to end with the output that it has with much memory; with code 12,
+// or with code 8 where there is no room for the output; or by a trap, which ends the module's
+// instance and which the page reports. Ends with status 1 if one does anything else, or if none was
+// done or refused.
 import {spawnSync} from "child_process";
 import fs from "fs";
 import {fileURLToPath} from "url";

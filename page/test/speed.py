@@ -3,9 +3,11 @@
 
 Makes such a file, drops it on bin/page.html five times, and prints the middle one of each time in
 milliseconds: until the first picture is on the screen, until all is known, until the shares of
-picks are there; and for drawing both maps anew, and for moving the cursor to another slot. Ends
-with status 1 if the first picture takes more than a second, or if a move takes more than a frame of
-60 in a second.
+picks are there; and for drawing both maps anew, and for moving the cursor to another slot. Then 120
+frames each with a move of the pointer, with a key, and with other colours: the middle time from a
+frame to the next, and how many took more than one and a half of 1/60 s. Ends with status 1 if the
+first picture takes more than a second, or a middle one of the others more than a frame of 60 in a
+second.
 """
 import argparse
 import json
@@ -24,6 +26,8 @@ from test_page import PAGE  # noqa: E402
 
 NAMES = ("first picture", "all known", "shares of picks", "maps drawn anew", "cursor moved")
 MOST = {"first picture": 1000, "cursor moved": 1000 / 60}
+WORKS = {"pointer": "overSlots", "keys": "byKeys", "colours": "recolour"}
+FRAMES, FRAME = 120, 1000 / 60
 
 
 def full_file(program, folder):
@@ -44,6 +48,13 @@ def times_of(browser, path):
     return [*found, *browser.js("return [look.redraw(), look.move()]")]
 
 
+def frames_of(browser):
+    """The middle time of a frame with each kind of work, and how many frames took much longer."""
+    for name, work in WORKS.items():
+        times = browser.js(f"return look.frames(look.{work}, {FRAMES})")
+        yield name, statistics.median(times), sum(time > 1.5 * FRAME for time in times)
+
+
 def main():
     parser = argparse.ArgumentParser(
         description=__doc__, formatter_class=argparse.RawDescriptionHelpFormatter
@@ -61,12 +72,16 @@ def main():
             try:
                 browser.look(1280, 1000)
                 found = [times_of(browser, path) for _ in range(5)]
+                frames = list(frames_of(browser))
             finally:
                 browser.end()
             for name, times in zip(NAMES, zip(*found)):
                 middle = statistics.median(times)
                 slow += middle > MOST.get(name, middle)
                 print(f"{kind.name}: {name}: {middle:.0f} ms, {min(times):.0f} to {max(times):.0f}")
+            for name, middle, late in frames:
+                slow += middle > 1.1 * FRAME
+                print(f"{kind.name}: frames with {name}: {middle:.1f} ms, {late} of {FRAMES} late")
     return 1 if slow else 0
 
 

@@ -19,12 +19,16 @@ import time
 sys.dont_write_bytecode = True
 sys.path.insert(0, os.path.dirname(os.path.abspath(__file__)))
 
+import made  # noqa: E402
 from chromium import Chromium  # noqa: E402
 from firefox import Firefox  # noqa: E402
 from cases import EXAMPLES, TOP, Cases, counts_agree  # noqa: E402
 
 PAGE = "file://" + os.path.join(TOP, "bin", "page.html")
 FOLDER = os.path.join(TOP, "bin", "page")
+# So many pieces of 65,536 bytes are the engine's memory in the test of that.
+PAGES = 60
+NO_MEMORY = ("addrman: out of memory",)
 FILES = ["engine.js", "index.html", "page.css", "page.js"]
 
 
@@ -58,9 +62,29 @@ def try_file(kind, program, shots, words):
                 print(f"{kind.name}: {said}: {time.time() - started:.1f} s", flush=True)
         assert browser.said() == [], browser.said()
         assert browser.asked() == [], browser.asked()
-        # These two are refused, and the console says so.
-        for name in ("fetched", "loaded"):
+        # These are refused, and the console says so.
+        for name in ("fetched", "fetchedByWorker", "loaded"):
             assert browser.js(f"return look.{name}()") == "refused", name
+    finally:
+        browser.end()
+
+
+def try_little_memory(program):
+    """A page that has no memory for a file says so, and shows the next one. Chromium alone can be
+    told how much there is."""
+    browser = Chromium(options=[f"--js-flags=--wasm-max-mem-pages={PAGES}"])
+    try:
+        browser.open(PAGE)
+        with tempfile.TemporaryDirectory(prefix="page-memory-") as folder:
+            large = made.replayed(program, folder, made.log_of(3, 40, 1000))
+            small = os.path.join(EXAMPLES, "node", "peers.dat")
+            for _ in range(2):
+                browser.drop(small)
+                assert browser.js("return data.count") > 0 and not browser.text("error")
+                browser.drop(large, state="error")
+                said = browser.text("error")
+                assert said in NO_MEMORY or said.startswith("The engine stopped"), said
+        assert browser.said() == [], browser.said()
     finally:
         browser.end()
 
@@ -98,6 +122,9 @@ def main():
         if asked.only in (None, kind.name):
             try_file(kind, asked.program, asked.shots, asked.test)
             try_folder(kind, asked.shots)
+            if kind is Chromium:
+                try_little_memory(asked.program)
+                print("chromium: with little memory it says so, and goes on")
             print(f"{kind.name}: no word on the console, and no request to another machine")
 
 

@@ -71,28 +71,31 @@ function agrees({ peers, asmap, isCore, rows }) {
 
 const LINE = /^\w+ (.*): picks ([\d.]+) % new ([\d.]+) % tried ([\d.]+) %$/;
 
+const millionths = word => Number(word.replace(".", ""));
+
 // What `risk` prints: of each group the part of the picks, of those from the new table and of those
 // from the tried one, in millionths; and what standard error says besides.
 function risk({ peers, asmap, isCore, by }) {
   const engine = new Engine(), files = { "peers.dat": peers, "asmap.dat": asmap };
   const { text, errors } = engine.output(wordsOf(["risk", by], files, isCore), files);
-  const millionths = word => Number(word.replace(".", ""));
   const rows = text.split("\n").map(line => LINE.exec(line)).filter(Boolean);
   const shares =
     rows.map(([, group, ...words]) => [group, ...words.map(millionths)]);
   return { shares, errors };
 }
 
-const UNION = /^union: picks ([\d.]+) % /m;
+const UNION = /^union: picks ([\d.]+) % /m, TEN = /^all ten at most ([\d.]+) %$/m;
 
-// What `risk -` prints of all these subnets and AS numbers together: the part of the picks, in
-// millionths; null if one of them is no subnet of its.
+// What `risk -` prints of all these subnets and AS numbers together, in millionths: `union`, the
+// part of the picks, and `ten`, that of restarts all of whose ten connections are theirs, if the
+// program says it; null if one of them is no subnet of its.
 function riskOfSets({ peers, asmap, isCore, sets }) {
   const engine = new Engine(), files = { "peers.dat": peers, "asmap.dat": asmap };
   try {
     const { text } =
       engine.output(wordsOf(["risk", "-"], files, isCore), files, sets.join("\n"));
-    return Number(UNION.exec(text)[1].replace(".", ""));
+    const [union, ten] = [UNION, TEN].map(line => line.exec(text));
+    return { union: millionths(union[1]), ten: ten && millionths(ten[1]) };
   } catch (error) {
     if (error instanceof Refused && error.status === 3) return null;
     throw error;

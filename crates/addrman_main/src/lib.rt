@@ -16,12 +16,13 @@ mod second;
 
 use crate::given::{Given, folder_of};
 use crate::placed::Placed;
-use crate::second::{Facts, second_lines};
+use crate::second::second_lines;
 use addrman_run::{Learned, Status, run_learning, status_line};
 use arguments::help_text;
 pub use ended::Ended;
 use hints::NotedFolder;
 use host_io::{Name, StdSink, StdSource};
+pub use second::Facts;
 use std::alloc::Global;
 use std::fs::File;
 use std::hash::RandomState;
@@ -58,7 +59,7 @@ fn list_of_commands(alloc: Global) -> String {
 
 /// Returns the line that says why the run ended and those after it; nothing if the run is done and
 /// all is well, if nobody reads the output's pipe any more, or if there is no memory for the line.
-fn lines_of(alloc: Global, status: &Status, facts: &Facts<'_>) -> String {
+pub fn lines_of(alloc: Global, status: &Status, facts: &Facts<'_>) -> String {
     if *status == Status::WriteFault && facts.is_reader_gone() {
         return String::new(alloc);
     }

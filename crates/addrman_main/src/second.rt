@@ -10,7 +10,7 @@ use std::io::ErrorKind;
 
 /// What is known of a run besides its status.
 #[derive(Clone, Copy)]
-pub(crate) struct Facts<'a> {
+pub struct Facts<'a> {
     /// The arguments, without the program's name.
     pub words: &'a [String],
     /// What is said of arguments that the program refuses before the run.

@@ -9,6 +9,8 @@ use placing::Placer;
 use raw_read::{Raw, RawRows};
 use slot_grid::{NEW_BUCKETS, SLOTS, TRIED_BUCKETS};
 use std::collections::HashMap;
+use std::collections::hash_map::Entry;
+use std::hash::Hash;
 use tables::Tables;
 
 /// How many columns there are. The first ones, up to `GROUP_NAMES`, are known when tables are
@@ -81,7 +83,8 @@ impl Columns {
                 tables.new_rec_at(bucket, slot)
             };
             if let Some(rec) = rec {
-                found.put(at, &rec.peer, || Row {
+                // While the tables are borrowed, a record is where it is.
+                found.put(at, std::ptr::from_ref(rec), || Row {
                     peer: rec.peer,
                     source: rec.source,
                     time: rec.time,
@@ -126,15 +129,15 @@ fn place_of(at: usize) -> (u16, u8, bool) {
     ((k / slots) as u16, (k % slots) as u8, is_tried)
 }
 
-/// Records in the order of their first slots.
-struct Found {
+/// Records in the order of their first slots, each known by a key.
+struct Found<K> {
     slots: Vec<i32>,
     rows: Vec<Row>,
-    positions: HashMap<Peer, i32, Keyed>,
+    positions: HashMap<K, i32, Keyed>,
 }
 
-impl Found {
-    fn new(key: Keyed) -> Result<Found, NoMemory> {
+impl<K: Eq + Hash> Found<K> {
+    fn new(key: Keyed) -> Result<Found<K>, NoMemory> {
         let mut slots = Vec::new();
         slots.try_reserve_exact(ALL_SLOTS)?;
         slots.resize(ALL_SLOTS, -1);
@@ -145,37 +148,17 @@ impl Found {
         })
     }
 
-    /// Puts the record of a peer into a slot.
-    fn put(&mut self, at: usize, peer: &Peer, row: impl FnOnce() -> Row) -> Result<(), NoMemory> {
-        let position = match self.positions.get(peer) {
-            Some(position) => *position,
-            None => {
-                let position = self.rows.len() as i32;
+    /// Puts a record into a slot.
+    fn put(&mut self, at: usize, key: K, row: impl FnOnce() -> Row) -> Result<(), NoMemory> {
+        self.positions.try_reserve(1)?;
+        self.slots[at] = match self.positions.entry(key) {
+            Entry::Occupied(found) => *found.get(),
+            Entry::Vacant(free) => {
                 self.rows.try_reserve(1)?;
-                self.positions.try_reserve(1)?;
                 self.rows.push(row());
-                self.positions.insert(*peer, position);
-                position
+                *free.insert(self.rows.len() as i32 - 1)
             }
         };
-        self.slots[at] = position;
-        Ok(())
-    }
-
-    /// Puts the records of a table that begins at this position among all slots.
-    fn put_rows(&mut self, rows: &RawRows, first: usize, is_tried: bool) -> Result<(), NoMemory> {
-        for row in rows.items() {
-            let place = usize::from(row.bucket) * usize::from(SLOTS) + usize::from(row.position);
-            self.put(first + place, &row.rec.peer, || Row {
-                peer: row.rec.peer,
-                source: row.rec.source,
-                time: row.rec.time,
-                services: row.rec.services,
-                success: 0,
-                tries: 0,
-                is_tried,
-            })?;
-        }
         Ok(())
     }
 
@@ -201,6 +184,25 @@ impl Found {
         (columns[GROUP], columns[SOURCE_GROUP]) = (of_peers, of_sources);
         columns[GROUP_NAMES] = groups.names;
         Ok(Columns { rows, columns })
+    }
+}
+
+impl Found<Peer> {
+    /// Puts the records of a table that begins at this position among all slots.
+    fn put_rows(&mut self, rows: &RawRows, first: usize, is_tried: bool) -> Result<(), NoMemory> {
+        for row in rows.items() {
+            let place = usize::from(row.bucket) * usize::from(SLOTS) + usize::from(row.position);
+            self.put(first + place, row.rec.peer, || Row {
+                peer: row.rec.peer,
+                source: row.rec.source,
+                time: row.rec.time,
+                services: row.rec.services,
+                success: 0,
+                tries: 0,
+                is_tried,
+            })?;
+        }
+        Ok(())
     }
 }
 

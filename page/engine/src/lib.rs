@@ -13,11 +13,6 @@ mod folder;
 mod groups;
 mod keyed;
 mod open;
-// The program's own lines for standard error; the build puts the file there. What is in it of
-// output that nobody reads any more is of no use here.
-#[allow(dead_code)]
-#[path = "../second.rs"]
-mod second;
 mod state;
 mod texts;
 

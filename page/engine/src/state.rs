@@ -2,9 +2,8 @@ use crate::columns::Columns;
 use crate::folder::{Files, Output};
 use crate::keyed::Keyed;
 use crate::open::{open_peers, open_raw};
-use crate::second::{Facts, second_lines};
-use addrman_run::{Learned, code, run_learning, status_line};
-use arguments::help_text;
+use addrman_main::{Facts, lines_of};
+use addrman_run::{Learned, code, run_learning};
 use hints::{Paths, Saves};
 use host_io::StdSource;
 use placing::SumRule;
@@ -21,6 +20,9 @@ const NO_SAVES: Saves = Saves {
 
 /// The exit code of a run that there is no memory for.
 const MEMORY: u32 = 12;
+
+/// What is said of it if there is no memory for the program's own line.
+const NO_MEMORY: &[u8] = b"addrman: out of memory\n";
 
 /// What one instance of the module has.
 pub struct State {
@@ -67,13 +69,11 @@ impl State {
     pub fn run(&mut self) -> u32 {
         self.output = Vec::new();
         self.errors.clear();
-        match self.run_over() {
-            Ok(code) => code,
-            Err(AllocError) => {
-                self.errors = b"addrman: out of memory\n".to_vec();
-                MEMORY
-            }
+        let code = self.run_over().unwrap_or(MEMORY);
+        if code == MEMORY && self.errors.is_empty() {
+            self.errors.extend_from_slice(NO_MEMORY);
         }
+        code
     }
 
     /// Opens `peers.dat` as columns, and returns whether that was possible. If not, a run says why.
@@ -134,15 +134,8 @@ impl State {
             failure: "",
             saves: NO_SAVES,
         };
-        let mut said = Items::new(alloc);
-        status_line(&status, &mut said).map_err(|_| AllocError)?;
-        let after = if words.is_empty() {
-            help_text(alloc, None).map_err(|_| AllocError)?
-        } else {
-            second_lines(alloc, &status, &facts).into_bytes()
-        };
-        self.errors.extend_from_slice(&said);
-        self.errors.extend_from_slice(&after);
+        let lines = lines_of(alloc, &status, &facts);
+        self.errors.extend_from_slice(lines.as_bytes());
         Ok(code(&status).into())
     }
 }
