@@ -147,7 +147,7 @@ fn open_by(
         alloc,
         bytes,
         chain,
-        Keyed::make(seed[0], seed[1]),
+        Keyed::of(seed),
         map,
         rule,
     ) {
