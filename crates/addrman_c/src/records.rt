@@ -12,7 +12,6 @@ use c_values::{
     AddrmanCounts, AddrmanPeer, AddrmanRecord, put_records, read_nets, read_peer, write_record,
 };
 use net_addr::{NetSet, Peer};
-use peer_rec::Rec;
 use std::alloc::Global;
 use tables::Tables;
 
@@ -57,29 +56,13 @@ pub extern "C" fn addrman_find(
     code
 }
 
-/// Writes records, whole or not at all, and how many they are.
-pub(crate) fn put_all_records(
-    out: &mut [AddrmanRecord],
-    recs: &[Rec],
-    length: &mut usize,
-) -> u32
-    ensures { RecordsCall recs.now result out.old out.new length.new }
-{
-    *length = recs.len();
-    if recs.len() > out.len() {
-        return SHORT_BUFFER;
-    }
-    put_records(out, recs);
-    OK
-}
-
 /// Writes all records, whole or not at all, and how many they are.
 fn records_on(tables: &Tables<'_, Keyed>, out: &mut [AddrmanRecord], length: &mut usize) -> u32
     ensures call { RecordsCall tables.now.records result out.old out.new length.new }
     ensures length { result ≢ OK → result ≢ SHORT_BUFFER → length.new ≡ length.old }
 {
     match node_calls::recs(tables) {
-        Ok(recs) => put_all_records(out, recs.items(), length),
+        Ok(recs) => put_records(out, recs.items(), length),
         Err(_) => MEMORY,
     }
 }

@@ -4,10 +4,11 @@ ghost use Rattle.addrman_c.specs.Sampling.{SampleCall, PutEntries, SampleEntries
 ghost use Rattle.addrman_c.specs.OnHandle.{OnTables};
 ghost use Rattle.table_machine.specs.State.{find_peer};
 
-use crate::records::put_all_records;
 use c_handles::{Handle, Keyed};
 use c_values::code::{ARGUMENT, CLOSED, MEMORY, OK, SHORT_BUFFER, SHORT_WORDS};
-use c_values::{AddrmanEntry, AddrmanPeer, AddrmanRecord, put_entries, put_peers, read_nets};
+use c_values::{
+    AddrmanEntry, AddrmanPeer, AddrmanRecord, put_entries, put_peers, put_records, read_nets,
+};
 use net_addr::{Entry, Memory, NetSet, Peer};
 use node_calls::sample_unfiltered;
 use picking::SampleFault;
@@ -230,7 +231,7 @@ fn unfiltered_on(
         return ARGUMENT;
     }
     match sample_unfiltered(alloc, tables, max, percent, classes, words) {
-        Ok(recs) => put_all_records(out, recs.items(), length),
+        Ok(recs) => put_records(out, recs.items(), length),
         Err(SampleFault::ShortWords { need, .. }) => {
             *length = need as usize;
             SHORT_WORDS
